@@ -9,8 +9,9 @@ use Rattle.lpt_c_end.specs.Refusals.{ground_refusal, memories_refusal, sending_r
 use Rattle.lpt_c_end.specs.Words.{direction_from as direction_by}
 use Rattle.lpt_c_end.specs.declared.end.End.{End}
 use Rattle.lpt_c_pair.specs.Outboxes.{AllOnTheWay, NoneWaits}
-use Rattle.lpt_c_pair.specs.Pairs.{AreEndsOf, Call, Open, Part, Plain, Finish, LetGo, Packet, Expire, Tick, Read, Execute, Retire, Restart, freeing, moves, IsMoveOfGround, IsMoveOfCraft, CallsAreMoves}
+use Rattle.lpt_c_pair.specs.Pairs.{AreEndsOf, Call, Open, Part, Plain, Finish, LetGo, Packet, Expire, Tick, Read, Execute, Retire, Restart, Resume, freeing, moves, IsMoveOfGround, IsMoveOfCraft, CallsAreMoves}
 use Rattle.lpt_c_pair.proofs.Clockless.{refuses_open, refuses_send, sends, refuses_plain, asks, takes, refuses_expire, expires, reads, executes}
+use Rattle.lpt_c_pair.proofs.Resuming.{resumed_node}
 use Rattle.lpt_c_pair.proofs.GroundReports.{none_of_delivery, none_of_expiry}
 use Rattle.lpt_c_pair.proofs.Waiting.{stays, beside, adds, replaces, lets_go, freed_other, freed_this, as_listed, none_more}
 use Rattle.lpt_c_pair.proofs.Lemmas.{no_fault, not_refused, not_unsent, ground_becomes, craft_becomes, craft_fixed}
@@ -255,6 +256,24 @@ module _ (c : Config) (p : Pair) (g k : End) (are : AreEndsOf c p g k) where
         (quiet_ground (after_all c p (moves Ground Restart)).ends new.outbox.items refl
         done.outbox).1,
   )
+  on_ground (Resume config state ms content) new done vow =
+      let f : Ends = (after_all c p (moves Ground (Resume config state ms content))).ends in (
+        (tt, tt),
+        record {
+          ground = record {
+            side = done.side ∙ are.ground.side;
+            ticks = vow.ticks;
+            config = done.config ∙ vow.configured;
+            node = resumed_node c Ground p.ends.on_ground None g new config state ms content
+                are.ground vow done;
+            memories = done.memories ∙ vow.memories ∙ are.ground.memories;
+          };
+          craft = are.craft;
+          tickets = are.tickets;
+          upwards = subst (λ (xs : List (List ℕ)). AllOnTheWay f Up xs) (sym done.outbox) tt;
+          downwards = stays p.ends f Down k.outbox.items k.outbox.items refl refl are.downwards;
+        },
+      )
 
   -- ---- the spacecraft
 
@@ -464,6 +483,24 @@ module _ (c : Config) (p : Pair) (g k : End) (are : AreEndsOf c p g k) where
         (quiet_craft (after_all c p (moves Craft Restart)).ends new.outbox.items refl
         done.outbox).1,
   )
+  on_craft (Resume config state ms content) new done vow =
+      let f : Ends = (after_all c p (moves Craft (Resume config state ms content))).ends in (
+        (tt, tt),
+        record {
+          ground = are.ground;
+          craft = record {
+            side = done.side ∙ are.craft.side;
+            ticks = vow.ticks;
+            config = done.config ∙ vow.configured;
+            node = resumed_node c Craft p.ends.on_craft (Some p.ends.memories) k new config state
+                ms content are.craft vow done;
+            memories = done.memories ∙ vow.memories ∙ are.craft.memories;
+          };
+          tickets = are.tickets;
+          upwards = stays p.ends f Up g.outbox.items g.outbox.items refl refl are.upwards;
+          downwards = subst (λ (xs : List (List ℕ)). AllOnTheWay f Down xs) (sym done.outbox) tt;
+        },
+      )
 
 pub calls_are_moves : CallsAreMoves
 calls_are_moves c p g k are call = (on_ground c p g k are call, on_craft c p g k are call)

@@ -1,7 +1,9 @@
 pub mod Answering
 pub mod Calls
 pub mod Clockless
+pub mod Dropping
 pub mod GroundReports
 pub mod Lemmas
+pub mod Resuming
 pub mod Running
 pub mod Waiting

@@ -1,4 +1,5 @@
 pub mod Answers
+pub mod Drops
 pub mod Outboxes
 pub mod Pairs
 pub mod Runs

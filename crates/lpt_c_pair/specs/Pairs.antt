@@ -1,13 +1,16 @@
 -- Two ends behind handles of C as two ends apart.
-use Rattle.std.specs.Prelude.{◌≡◌, ℕ, List, [], ◌∷◌, Option, Some, None, ⊤}
+use Rattle.std.specs.Prelude.{◌≡◌, ℕ, ◌+◌, ◌<◌, ◌^◌, List, [], ◌∷◌, Option, Some, None, ⊤}
 use Rattle.lpt_apart.specs.Clocks.{later, after_all, CanAll}
 use Rattle.lpt_apart.specs.Moves.{Pair, Move, Do, Free, CanMove}
 use Rattle.lpt_apart.specs.Steps as step
 use Rattle.lpt_apart.specs.Steps.{MayCome}
 use Rattle.lpt_c_end.specs.Changes.{IsOpened, IsPartMade, IsPlainMade, IsFinished, IsLetGo, IsDelivered, IsExpired, IsTicked, IsRead, IsExecuted, IsRetired, IsRestarted}
+use Rattle.lpt_c_end.specs.Contents.{memories_of}
+use Rattle.lpt_c_end.specs.Keeping.{IsResumed, ReadsAsRestarted}
 use Rattle.lpt_c_end.specs.Refusals.{open_refusal, part_refusal, plain_refusal, finish_refusal, sent_refusal, expire_refusal, tick_refusal, read_refusal, execute_refusal}
 use Rattle.lpt_c_end.specs.Words.{direction_from as direction_by}
 use Rattle.lpt_c_end.specs.declared.end.End.{End}
+use Rattle.lpt_c_end.specs.declared.memories.LptMemory.{LptMemory}
 use Rattle.lpt_c_pair.specs.Outboxes.{AllOnTheWay, NoneWaits}
 use Rattle.lpt_packet.specs.declared.direction.Direction.{Direction}
 use Rattle.lpt_packet.specs.declared.direction.Direction.TheVariants.{Up, Down}
@@ -22,6 +25,7 @@ use Rattle.lpt_events.specs.declared.worker.Worker.TheVariants.{W1}
 use Rattle.lpt_memory.specs.Memories.{Contents}
 use Rattle.lpt_node.specs.Nodes.{NodeData, direction_from}
 use Rattle.lpt_model.specs.Tickets.{no_tickets}
+use Rattle.lpt_state.specs.Spellings.{spelled}
 
 -- ---- ends
 
@@ -46,7 +50,8 @@ pub record AreEndsOf (c : Config) (p : Pair) (on_ground on_craft : End) : Type 0
 
 -- ---- calls
 
--- a call of an end, as `include/lpt_end.h` has them; a name is freed in a direction, by its number
+-- A call of an end, as `include/lpt_end.h` has them; a name is freed in a direction, by its number.
+-- An end is made again of its state into an empty handle, in place of the one that its program had.
 pub data Call : Type 0 where
   Open : Name → (message : List ℕ) → Call
   Part : Name → (k : ℕ) → Call
@@ -60,6 +65,7 @@ pub data Call : Type 0 where
   Execute : Call
   Retire : (direction : ℕ) → Name → Call
   Restart : Call
+  Resume : Config → (state : List ℕ) → List LptMemory → (content : List ℕ) → Call
 
 -- a call has answered 0: its end didn't refuse it, and became this
 abbrev pub IsDone : Call → End → End → Type 0
@@ -77,6 +83,7 @@ IsDone Read e new = (read_refusal e ≡ None) × IsRead e new
 IsDone Execute e new = (execute_refusal e ≡ None) × IsExecuted e new
 IsDone (Retire direction name) e new = IsRetired direction name e new
 IsDone Restart e new = IsRestarted e new
+IsDone (Resume config state ms content) e new = IsResumed e.side config state ms content new
 
 -- ---- moves
 
@@ -102,12 +109,31 @@ moves side Read = Do (step.Commit W1) ∷ Do (step.Claim W1) ∷ []
 moves side Execute = Do step.Apply ∷ []
 moves side (Retire direction name) = freeing side (direction_by direction) name ∷ []
 moves side Restart = Do (step.Restart side) ∷ []
+moves side (Resume config state ms content) = Do (step.Restart side) ∷ []
 
 -- ---- what the program promises
 
+-- what was kept of an end is this state, which reads as its restart, and these memories; nothing
+-- happened at it since, and a number is left for a start
+pub record IsKept (c : Config) (e : End) (config : Config) (state : List ℕ)
+    (ms : List LptMemory) (content : List ℕ) : Type 0 where
+  pub ticks : ℕ
+  pub configured : config ≡ later ticks c
+  pub state_is : state ≡ spelled e.node
+  pub reads : ReadsAsRestarted e
+  pub number_left : e.node.at.boot + 1 < 2 ^ 64
+  pub memories : memories_of e.side ms content ≡ e.memories
+
+-- the end of a side
+abbrev pub end_of : Side → (on_ground on_craft : End) → End
+end_of Ground g k = g
+end_of Craft g k = k
+
 -- A name's numbers and octets are of their types. Octets that are handed over were put out by the
 -- other end and may come still, or are no part and no request. A name is freed at its receiver
--- where it is over, and at its sender after that, and none of its parts waits at its sender.
+-- where it is over, and at its sender after that, and none of its parts waits at its sender. An end
+-- is made again of what was kept of it, in a configuration that is the same but for the clock. What
+-- an end did and wasn't kept is no call: nothing of it was acted on or sent.
 abbrev pub Promises : Config → Pair → (on_ground on_craft : End) → Side → Call → Type 0
 Promises c p g k side (Open name m) = IsEvent (event.Open (direction_from side) name m)
 Promises c p g k side (Part name n) = IsEvent (event.Send (direction_from side) name n)
@@ -124,6 +150,8 @@ Promises c p g k side (Retire direction name) =
     CanMove c p (freeing side (direction_by direction) name)
     × NoneWaits p.ends (direction_by direction) name g k
 Promises c p g k side Restart = ⊤
+Promises c p g k side (Resume config state ms content) =
+    IsKept c (end_of side g k) config state ms content
 
 -- ---- the law
 

@@ -1,5 +1,6 @@
 pub mod FoldLemmas
 pub mod KeepingLemmas
+pub mod KeptLemmas
 pub mod ServingLemmas
 pub mod StreamLemmas
 pub mod WritingLemmas

@@ -1,9 +1,10 @@
 //! The octets of a spacecraft that is kept: its state, and its memories with it.
 
-ghost use Rattle.std.specs.Prelude.{◌≡◌, ◌++◌, IfOk, OnOk, option_map};
+ghost use Rattle.std.specs.Prelude.{◌≡◌, ℕ, ◌<◌, ◌≤◌, ◌++◌, length, IfOk, IfSome, OnOk, option_map};
 ghost use Rattle.lpt_events.specs.Configs.{IsConfig};
+ghost use Rattle.lpt_memory.specs.Memories.{content_of};
 ghost use Rattle.lpt_state.specs.Spellings.{spelled};
-ghost use Rattle.lpt_spacecraft.specs.Keeping.{kept_head, kept_memories, kept_memory, kept_octets, IsReadFrom};
+ghost use Rattle.lpt_spacecraft.specs.Keeping.{kept_head, kept_memories, kept_memory, kept_octets, HasLength, HaveLengths, IsKept, IsReadFrom};
 ghost use Rattle.lpt_spacecraft.specs.Streams.{IsIdle};
 
 use crate::Spacecraft;
@@ -31,8 +32,9 @@ pub enum KeptFault {
 impl Spacecraft {
     /// The octets that are kept of it. The only error is out of memory.
     pub fn kept(&self, alloc: Global) -> Result<Vec<u8>, AllocError>
-        ensures { IfOk result (λ v. v.items
+        ensures octets { IfOk result (λ v. v.items
             ≡ kept_octets (spelled self.now.node) self.now.memories) }
+        ensures whole { OnOk result (IsKept self.now) }
     {
         let mut state = Vec::new(alloc);
         self.write_state(&mut state)?;
@@ -51,9 +53,7 @@ impl Spacecraft {
         let Some((state, behind)) = parts_in(octets) else {
             return Err(KeptFault::Damaged);
         };
-        let Some(memories) = memories_in(alloc, behind) else {
-            return Err(KeptFault::Damaged);
-        };
+        let memories = memories_in(alloc, behind)?;
         let Ok(again) = octets_of(alloc, state, &memories) else {
             return Err(KeptFault::Memory);
         };
@@ -69,7 +69,8 @@ impl Spacecraft {
 
 // The octets of a state and memories. The only error is out of memory.
 fn octets_of(alloc: Global, state: &[u8], memories: &Memories) -> Result<Vec<u8>, AllocError>
-    ensures { IfOk result (λ v. v.items ≡ kept_octets state.now memories.now) }
+    ensures octets { IfOk result (λ v. v.items ≡ kept_octets state.now memories.now) }
+    ensures lengths { OnOk result (HaveLengths state.now memories.now) }
 {
     let mut octets = Vec::new(alloc);
     add_head(&mut octets, state.len())?;
@@ -92,8 +93,10 @@ fn add_head(octets: &mut Vec<u8>, len: usize) -> Result<(), AllocError>
 
 // Appends memories, by identifier. The only error is out of memory.
 fn add_memories(octets: &mut Vec<u8>, memories: &Memories) -> Result<(), AllocError>
-    ensures { OnOk result (octets.new.items
+    ensures octets { OnOk result (octets.new.items
         ≡ octets.old.items ++ kept_memories 256 memories.now) }
+    ensures lengths { OnOk result ((id : ℕ) → id < 256
+        → HasLength (content_of id memories.now)) }
 {
     for id in 0..256u16 {
         add_memory(octets, id as u8, memories.content(id as u8))?;
@@ -103,8 +106,9 @@ fn add_memories(octets: &mut Vec<u8>, memories: &Memories) -> Result<(), AllocEr
 
 // Appends a memory, where there is one of this identifier. The only error is out of memory.
 fn add_memory(octets: &mut Vec<u8>, id: u8, content: Option<&[u8]>) -> Result<(), AllocError>
-    ensures { OnOk result (octets.new.items
+    ensures octets { OnOk result (octets.new.items
         ≡ octets.old.items ++ kept_memory id (option_map (λ x. x.now) content.entry)) }
+    ensures length { OnOk result (HasLength (option_map (λ x. x.now) content.entry)) }
 {
     if let Some(content) = content {
         octets.push(id)?;
@@ -116,23 +120,37 @@ fn add_memory(octets: &mut Vec<u8>, id: u8, content: Option<&[u8]>) -> Result<()
 
 // The state, and the octets of the memories behind it.
 fn parts_in(octets: &[u8]) -> Option<(&[u8], &[u8])> {
-    let behind = octets.strip_prefix(b"LPTK\x01")?;
-    let (len, behind) = behind.split_first_chunk::<8>()?;
-    let (state, behind) = behind.split_at_checked(u64::from_be_bytes(*len) as usize)?;
+    let (state, behind) = counted(octets.strip_prefix(b"LPTK\x01")?)?;
     let (memories, _) = behind.split_last_chunk::<2>()?;
     Some((state, memories))
 }
 
+// The octets whose number stands in front of them, in 64 bits, and those behind.
+fn counted(octets: &[u8]) -> Option<(&[u8], &[u8])>
+    ensures { IfSome result (λ x. length x.1.now ≤ length octets.now) }
+{
+    let (len, behind) = octets.split_first_chunk::<8>()?;
+    behind.split_at_checked(u64::from_be_bytes(*len) as usize)
+}
+
 // The memories that these octets are, each with its identifier and length in front.
-fn memories_in(alloc: Global, octets: &[u8]) -> Option<Memories> {
+fn memories_in(alloc: Global, octets: &[u8]) -> Result<Memories, KeptFault> {
     let mut list = Vec::new(alloc);
     let mut left = octets;
     while let Some((id, behind)) = left.split_first() {
-        let (len, behind) = behind.split_first_chunk::<8>()?;
-        let (content, behind) = behind.split_at_checked(u64::from_be_bytes(*len) as usize)?;
-        let content = content.to_vec(alloc).ok()?;
-        list.push((*id, Octets::from_vec(content))).ok()?;
+        let Some((content, behind)) = counted(behind) else {
+            return Err(KeptFault::Damaged);
+        };
+        let Ok(content) = content.to_vec(alloc) else {
+            return Err(KeptFault::Memory);
+        };
+        if list.push((*id, Octets::from_vec(content))).is_err() {
+            return Err(KeptFault::Memory);
+        }
         left = behind;
     }
-    Memories::new(list).ok()
+    match Memories::new(list) {
+        Ok(memories) => Ok(memories),
+        Err(_) => Err(KeptFault::Damaged),
+    }
 }

@@ -9,6 +9,7 @@
 
 mod keeping;
 mod kept_file;
+pub mod laws;
 mod sending;
 mod serving;
 mod spacecraft;

@@ -6,6 +6,7 @@ ghost use Rattle.lpt_jobs.specs.declared.job.Job.TheVariants.{Waiting};
 ghost use Rattle.lpt_events.specs.Configs.{IsConfig};
 ghost use Rattle.lpt_events.specs.declared.side.Side.TheVariants.{Craft};
 ghost use Rattle.lpt_memory.specs.Memories.{content_of};
+ghost use Rattle.lpt_state.specs.Lastings.{IsEnd};
 ghost use Rattle.lpt_state.specs.Spellings.{spelled};
 ghost use Rattle.lpt_state.specs.Verdicts.{reading, StateRefusedBy};
 ghost use Rattle.lpt_text.specs.Streams.{WriteEnds};
@@ -69,6 +70,7 @@ impl Spacecraft {
     /// then nothing is appended.
     pub fn write_state(&self, out: &mut Vec<u8>) -> Result<(), AllocError>
         ensures ok { OnOk result (out.new.items ≡ out.old.items ++ spelled self.now.node) }
+        ensures end { OnOk result (IsEnd self.now.node) }
         ensures err { OnErr result (out.new.items ≡ out.old.items) }
     {
         write_state(&self.node, out)

@@ -25,11 +25,11 @@ use Rattle.lpt_packet.specs.Checksums.{checksum}
 use Rattle.lpt_packet.specs.Numbers.{IsOctets}
 use Rattle.lpt_state.specs.declared.fault.StateFault.{StateFault}
 use Rattle.lpt_state.specs.Lastings.{after, lasting_of, names_used, restarted_node, IsEnd, Lasting}
-use Rattle.lpt_state.specs.Spellings.{length_with, spelled, spelling}
+use Rattle.lpt_state.specs.Spellings.{front, length_with, spelled, spelling}
 use Rattle.lpt_state.specs.Verdicts.{end_after, lasting_at, reading, received_count, sent_count, told, verdict}
 use Rattle.lpt_state.proofs.NumberLemmas.{great_before}
 use Rattle.lpt_state.proofs.ReadingLemmas.{passed, spelled_again, Passed}
-use Rattle.lpt_state.proofs.SpellingLemmas.{front, length-spelling, written_again}
+use Rattle.lpt_state.proofs.SpellingLemmas.{length-spelling, written_again}
 
 -- ---- ledgers in which none is open
 

@@ -1,5 +1,6 @@
 pub mod LawLemmas
-mod NumberLemmas
+pub mod NumberLemmas
+mod PuttingLemmas
 mod ReadingLemmas
 mod RunLemmas
 mod SpellingLemmas

@@ -12,11 +12,11 @@ use Rattle.lpt_packet.specs.Numbers.{be, word_at, IsOctets}
 use Rattle.lpt_pus.specs.Numbers.{long_at}
 use Rattle.lpt_state.specs.declared.fault.StateFault.{StateFault}
 use Rattle.lpt_state.specs.Lastings.{Lasting}
-use Rattle.lpt_state.specs.Spellings.{around, config_octets, length_with, runs_octets, side_octet, spelling, tag, version}
+use Rattle.lpt_state.specs.Spellings.{around, config_octets, front, length_with, runs_octets, side_octet, spelling, tag, version}
 use Rattle.lpt_state.specs.Verdicts.{both_ascend, great_at, is_sealed, last_boot, lasting_at, received_count, runs_part, sent_count, stands_at, verdict}
 use Rattle.lpt_state.proofs.NumberLemmas.{great_cells, held, long_cells, one_cell}
 use Rattle.lpt_state.proofs.RunLemmas.{sixes_again}
-use Rattle.lpt_state.proofs.SpellingLemmas.{chain, front, length-front, runs_of_both, verdict_is}
+use Rattle.lpt_state.proofs.SpellingLemmas.{chain, length-front, runs_of_both, verdict_is}
 
 -- ---- the tests that octets have passed
 

@@ -14,16 +14,10 @@ use Rattle.lpt_pus.specs.Numbers.{long_at}
 use Rattle.lpt_state.specs.declared.fault.StateFault.{StateFault}
 use Rattle.lpt_state.specs.declared.fault.StateFault.TheVariants as fault
 use Rattle.lpt_state.specs.Lastings.{Fits, Lasting}
-use Rattle.lpt_state.specs.Spellings.{around, config_octets, head_octets, length_with, number_octets, runs_octets, side_octet, spelling, tag, version}
+use Rattle.lpt_state.specs.Spellings.{around, config_octets, front, head_octets, length_with, number_octets, runs_octets, side_octet, spelling, tag, version}
 use Rattle.lpt_state.specs.Verdicts.{both_ascend, great_at, is_sealed, last_boot, lasting_at, received_count, runs_in, runs_part, sent_count, stands_at, verdict}
 use Rattle.lpt_state.proofs.NumberLemmas.{great_back, long_back}
 use Rattle.lpt_state.proofs.RunLemmas.{length-runs_octets, runs_again}
-
--- the octets before the checksum
-abbrev pub front : Side → Config → Lasting → List ℕ
-front side c s =
-    head_octets side c ++ number_octets s.boot s.clock (length s.sent) (length s.received)
-    ++ runs_octets s.sent ++ runs_octets s.received
 
 -- the octets of all runs
 abbrev pub runs_of_both : Lasting → List ℕ

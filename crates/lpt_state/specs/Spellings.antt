@@ -53,15 +53,23 @@ run_octets r = be r.source 2 ++ be r.first 2 ++ be r.last 2
 abbrev pub runs_octets : List Run → List ℕ
 runs_octets rs = flat_map run_octets rs
 
+-- the octets of what outlasts, as far as the checksum
+abbrev pub front : Side → Config → Lasting → List ℕ
+front side c s =
+    head_octets side c ++ number_octets s.boot s.clock (length s.sent) (length s.received)
+    ++ runs_octets s.sent ++ runs_octets s.received
+
 -- the octets of what outlasts, with the checksum of all of them behind
 unfoldable pub spelling : Side → Config → Lasting → List ℕ
-spelling side c s =
-    sealed (head_octets side c ++ number_octets s.boot s.clock (length s.sent) (length s.received)
-    ++ runs_octets s.sent ++ runs_octets s.received)
+spelling side c s = sealed (front side c s)
 
 -- the octets of an end's state
 abbrev pub spelled : NodeView → List ℕ
 spelled v = spelling v.side v.config (lasting_of v.at)
+
+-- the same, as far as the checksum
+abbrev pub unsealed : NodeView → List ℕ
+unsealed v = front v.side v.config (lasting_of v.at)
 
 -- how many octets stand around the runs, and how many a state with so many runs has
 abbrev pub around : ℕ

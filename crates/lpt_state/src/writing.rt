@@ -1,15 +1,22 @@
 //! The state of an end as octets.
 
-ghost use Rattle.std.specs.Prelude.{◌≡◌, ◌<◌, ◌^◌, ◌++◌, length, IfOk, OnOk, OnErr};
-ghost use Rattle.lpt_state.specs.Lastings.{IsEnd};
-ghost use Rattle.lpt_state.specs.Spellings.{config_octets, head_octets, mode_octet, number_octets, run_octets, runs_octets, side_octet, spelled, spelling};
+ghost use Rattle.std.specs.Prelude.{◌≡◌, ◌+◌, ◌*◌, ◌≤◌, ◌^◌, ◌++◌, length, drop, OnOk, OnErr};
+ghost use Rattle.lpt_ledger.specs.Runs.{runs_of};
+ghost use Rattle.lpt_state.specs.Lastings.{lasting_of, IsEnd};
+ghost use Rattle.lpt_state.specs.Spellings.{config_octets, head_octets, mode_octet, number_octets, run_octets, runs_octets, side_octet, spelled, unsealed};
 
 use lpt_events::{Config, Side};
-use lpt_ledger::Run;
+use lpt_ledger::{Ledger, Run};
 use lpt_node::Node;
 use lpt_packet::crc16;
 use lpt_part::Mode;
-use std::alloc::{AllocError, Global};
+use std::alloc::AllocError;
+
+// How many octets stand before the runs of a state.
+const RUNS: usize = 55;
+
+// How many of these the side and the configuration have, with what is before them.
+const HEAD: usize = 27;
 
 /// Appends the state of an end: what of it outlasts a restart. The only error is out of memory, and
 /// then nothing is appended.
@@ -18,74 +25,90 @@ pub fn write_state(node: &Node, out: &mut Vec<u8>) -> Result<(), AllocError>
     ensures end { OnOk result (IsEnd node.now) }
     ensures err { OnErr result (out.new.items ≡ out.old.items) }
 {
-    let octets = state_octets(*out.allocator(), node)?;
-    out.extend_from_slice(&octets)?;
+    let before = out.len();
+    out.resize(before + state_len(node), 0)?;
+    let (_, state) = out.split_at_mut(before);
+    write_state_into(node, state);
     Ok(())
 }
 
-/// How many octets `write_state` appends. It takes memory for them, and the only error is that
-/// there is none.
-pub fn state_len(alloc: Global, node: &Node) -> Result<usize, AllocError>
-    ensures { IfOk result (λ n. n ≡ length (spelled node.now)) }
+/// How many octets the state of an end has. It takes no memory.
+pub fn state_len(node: &Node) -> usize
+    ensures len { result ≡ length (spelled node.now) }
+    ensures few { result ≤ 2 ^ 36 }
+    ensures end { IsEnd node.now }
 {
-    let octets = state_octets(alloc, node)?;
-    Ok(octets.len())
+    let (_boot, _clock) = (node.boot(), node.clock());
+    57 + 6 * (node.senders().run_count() + node.receivers().run_count())
 }
 
-// The octets of an end's state. The only error is out of memory.
-fn state_octets(alloc: Global, node: &Node) -> Result<Vec<u8>, AllocError>
-    ensures octets { IfOk result (λ v. v.items ≡ spelled node.now) }
-    ensures end { OnOk result (IsEnd node.now) }
+/// Writes the state of an end to the front of a buffer that has room for it. It takes no memory.
+pub fn write_state_into(node: &Node, out: &mut [u8])
+    requires { length (spelled node.now) ≤ length out.old }
+    ensures { out.new ≡ spelled node.now ++ drop (length (spelled node.now)) out.old }
 {
-    let sent = node.senders().runs(alloc)?;
-    let received = node.receivers().runs(alloc)?;
-    let (boot, clock) = (node.boot(), node.clock());
-    spell(
-        alloc,
-        node.side(),
-        node.config(),
-        boot,
-        clock,
-        &sent,
-        &received,
-    )
+    let end = put_unsealed(node, out);
+    let (before, behind) = out.split_at_mut(end);
+    let (seal, _) = behind.split_at_mut(2);
+    seal.copy_from_slice(&crc16(before).to_be_bytes());
 }
 
-// What outlasts, as octets. The only error is out of memory.
-#[tactic(auto, unfolding(crate::specs::Spellings::spelling))]
-fn spell(
-    alloc: Global,
-    side: Side,
-    config: &Config,
-    boot: u64,
-    clock: u32,
-    sent: &[Run],
-    received: &[Run],
-) -> Result<Vec<u8>, AllocError>
-    ensures octets { IfOk result (λ v. v.items ≡ spelling side config.now
-        (record { boot = boot; clock = clock; sent = sent.now; received = received.now })) }
-    ensures boot { boot < 2 ^ 64 }
-    ensures clock { clock < 2 ^ 32 }
-    ensures sent { length sent.now < 2 ^ 64 }
-    ensures received { length received.now < 2 ^ 64 }
+// Writes what stands before the checksum to the front of a buffer that has room for it, and answers
+// how many octets that is.
+fn put_unsealed(node: &Node, out: &mut [u8]) -> usize
+    requires { length (unsealed node.now) ≤ length out.old }
+    ensures len { result ≡ length (unsealed node.now) }
+    ensures octets { out.new ≡ unsealed node.now ++ drop (length (unsealed node.now)) out.old }
 {
-    let mut octets = Vec::new(alloc);
-    add_head(&mut octets, side, config)?;
-    add_numbers(&mut octets, boot, clock, sent.len(), received.len())?;
-    add_runs(&mut octets, sent)?;
-    add_runs(&mut octets, received)?;
-    let checksum = crc16(&octets);
-    octets.extend_from_slice(&checksum.to_be_bytes())?;
-    Ok(octets)
+    let (front, runs) = out.split_at_mut(RUNS);
+    let (sent, received) = put_both(node, runs);
+    let (head, numbers) = front.split_at_mut(HEAD);
+    put_head(head, node.side(), node.config());
+    put_numbers(numbers, node.boot(), node.clock(), sent, received);
+    RUNS + 6 * (sent + received)
 }
 
-// Appends what stands first in each state of such an end. The only error is out of memory.
-fn add_head(octets: &mut Vec<u8>, side: Side, config: &Config) -> Result<(), AllocError>
-    ensures { OnOk result (octets.new.items ≡ octets.old.items ++ head_octets side config.now) }
+// Writes the runs of both ledgers, and answers how many there are.
+fn put_both(node: &Node, out: &mut [u8]) -> (usize, usize)
+    requires { 6 * (length (lasting_of node.now.at).sent + length (lasting_of node.now.at).received)
+        ≤ length out.old }
+    ensures sent { result.0 ≡ length (lasting_of node.now.at).sent }
+    ensures received { result.1 ≡ length (lasting_of node.now.at).received }
+    ensures octets { out.new ≡ (runs_octets (lasting_of node.now.at).sent
+        ++ runs_octets (lasting_of node.now.at).received)
+        ++ drop (6 * (length (lasting_of node.now.at).sent
+        + length (lasting_of node.now.at).received)) out.old }
 {
-    octets.extend_from_slice(&[b'L', b'P', b'T', b'S', 1, side_octet(side)])?;
-    octets.extend_from_slice(&config_octets(config))?;
-    Ok(())
+    let sent = put_runs(node.senders(), out);
+    let (_, behind) = out.split_at_mut(6 * sent);
+    let received = put_runs(node.receivers(), behind);
+    (sent, received)
+}
+
+// Writes the runs of a ledger to the front of a buffer that has room for them, and answers how many
+// there are.
+fn put_runs(ledger: &Ledger, out: &mut [u8]) -> usize
+    requires { 6 * length (runs_of ledger.now) ≤ length out.old }
+    ensures count { result ≡ length (runs_of ledger.now) }
+    ensures octets { out.new ≡ runs_octets (runs_of ledger.now)
+        ++ drop (6 * length (runs_of ledger.now)) out.old }
+{
+    let mut count = 0;
+    for run in ledger.runs() {
+        out[6 * count..6 * count + 6].copy_from_slice(&run_octets(run));
+        count += 1;
+    }
+    count
+}
+
+// Writes what stands first in each state of such an end.
+fn put_head(out: &mut [u8], side: Side, config: &Config)
+    requires { length out.old ≡ 27 }
+    ensures { out.new ≡ head_octets side config.now }
+{
+    let (known, rest) = out.split_at_mut(6);
+    known.copy_from_slice(&[b'L', b'P', b'T', b'S', 1, side_octet(side)]);
+    rest.copy_from_slice(&config_octets(config));
 }
 
 /// The octets of a configuration, without its first clock.
@@ -124,40 +147,18 @@ fn mode_octet(mode: Mode) -> u8
     }
 }
 
-// Appends the numbers that stand behind the configuration. The only error is out of memory.
-fn add_numbers(
-    octets: &mut Vec<u8>,
-    boot: u64,
-    clock: u32,
-    sent: usize,
-    received: usize,
-) -> Result<(), AllocError>
-    ensures { OnOk result (octets.new.items
-        ≡ octets.old.items ++ number_octets boot clock sent received) }
+// Writes the numbers that stand behind the configuration.
+fn put_numbers(out: &mut [u8], boot: u64, clock: u32, sent: usize, received: usize)
+    requires { length out.old ≡ 28 }
+    ensures { out.new ≡ number_octets boot clock sent received }
 {
-    octets.extend_from_slice(&boot.to_be_bytes())?;
-    octets.extend_from_slice(&clock.to_be_bytes())?;
-    octets.extend_from_slice(&sent.to_be_bytes())?;
-    octets.extend_from_slice(&received.to_be_bytes())?;
-    Ok(())
-}
-
-// Appends runs. The only error is out of memory.
-fn add_runs(octets: &mut Vec<u8>, runs: &[Run]) -> Result<(), AllocError>
-    ensures { OnOk result (octets.new.items ≡ octets.old.items ++ runs_octets runs.now) }
-{
-    for run in runs {
-        add_run(octets, *run)?;
-    }
-    Ok(())
-}
-
-// Appends a run. The only error is out of memory.
-fn add_run(octets: &mut Vec<u8>, run: Run) -> Result<(), AllocError>
-    ensures { OnOk result (octets.new.items ≡ octets.old.items ++ run_octets run) }
-{
-    octets.extend_from_slice(&run_octets(run))?;
-    Ok(())
+    let (first, rest) = out.split_at_mut(8);
+    first.copy_from_slice(&boot.to_be_bytes());
+    let (second, rest) = rest.split_at_mut(4);
+    second.copy_from_slice(&clock.to_be_bytes());
+    let (third, fourth) = rest.split_at_mut(8);
+    third.copy_from_slice(&sent.to_be_bytes());
+    fourth.copy_from_slice(&received.to_be_bytes());
 }
 
 // The octets of a run.

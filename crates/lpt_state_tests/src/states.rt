@@ -6,7 +6,7 @@ use lpt_ledger::State;
 use lpt_node::Node;
 use lpt_packet::{Direction, Name};
 use lpt_part::Mode;
-use lpt_state::{StateFault, read_state, state_len, write_state};
+use lpt_state::{StateFault, read_state, state_len, write_state, write_state_into};
 use std::alloc::Global;
 use std::process::Abort;
 use std::test::Fail;
@@ -133,8 +133,14 @@ fn check(rt: &impl Abort, alloc: Global, row: &Row, node: &Node) -> Result<(), F
     let mut out = Vec::new(alloc);
     write_state(node, &mut out)?;
     assert!(rt; out.as_slice() == row.again);
-    let len = state_len(alloc, node)?;
-    assert!(rt; len == out.len());
+    let mut buffer = [9; 120];
+    let len = state_len(node);
+    assert!(rt; len == row.again.len());
+    if len <= buffer.len() {
+        write_state_into(node, &mut buffer);
+    }
+    assert!(rt; buffer.starts_with(row.again));
+    assert!(rt; buffer.get(len) == Some(&9), "an octet behind it");
     Ok(())
 }
 

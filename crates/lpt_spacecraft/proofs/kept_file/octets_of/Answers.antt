@@ -5,14 +5,14 @@ use Rattle.lpt_packet.specs.Numbers.{be}
 use Rattle.lpt_spacecraft.specs.Keeping.{kept_head, kept_memories, kept_octets}
 use Rattle.lpt_spacecraft.proofs.kept_file.octets_of.Goals as goal
 
-pub returns : goal.returns
+pub returns-clause-octets : goal.returns-clause-octets
 unfolding kept_octets
-returns c =
+returns-clause-octets c =
     let head : List ℕ = kept_head (length c.args.state.now) in
     let state : List ℕ = c.args.state.now in
     let memories : List ℕ = kept_memories 256 c.args.memories.now in
     let all : c.add_memories.new.octets.items ≡ head ++ state ++ memories =
-    c.in_ok-add_memories.ensures
+    c.in_ok-add_memories.ensures.octets
     ∙ ap (λ (xs : List ℕ). xs ++ memories) (c.in_ok-extend_from_slice.ensures.items
     ∙ ap (λ (xs : List ℕ). xs ++ state) (c.in_ok-add_head.ensures
     ∙ ap (λ (xs : List ℕ). xs ++ head) c.new-octets.ensures.items)) in

@@ -1,0 +1,141 @@
+-- What was dropped says nothing, and is passed over.
+use Rattle.std.proofs.Common.{◌≡◌, ◌∙◌, ap, sym, refl, ℕ, ◌+◌, ◌-◌, ◌==◌, nat_lt, Bool, true, false, if◌then◌else◌, List, [], Option, Some, None, is_some, set, arith}
+use Rattle.std.proofs.lemmas.List.{set-set}
+use Rattle.std.specs.FinMap as map
+use Rattle.std.specs.Option.{option_map, option_map_or}
+use Rattle.lpt_c_end.specs.Changes.{execution_by, execution_of, read_as_by, IsDropped, IsExecuted}
+use Rattle.lpt_c_end.specs.Codes.{node_code}
+use Rattle.lpt_c_end.specs.Refusals.{memories_refusal, read_refusal}
+use Rattle.lpt_c_end.specs.declared.end.End.{End}
+use Rattle.lpt_c_pair.specs.Drops.{emptied, nothing_for, DroppedIsPassedOver, DropsOldest, PassesOver}
+use Rattle.lpt_c_pair.proofs.Lemmas.{no_fault}
+use Rattle.lpt_events.specs.declared.applied.Applied.TheVariants.{Silent}
+use Rattle.lpt_events.specs.declared.config.Config.{Config}
+use Rattle.lpt_execution.specs.Endings.{ending}
+use Rattle.lpt_execution.specs.Reporting.{large_packets, message_reports, opened_of, reports_of, request_source}
+use Rattle.lpt_execution.specs.declared.ending.Ending.{Ending}
+use Rattle.lpt_execution.specs.declared.ending.Ending.TheVariants.{Silent as Ends}
+use Rattle.lpt_jobs.specs.Jobs.{after_claim, after_commit, claimed_in, head_of, next_claim, oldest, unclaimed, without_front, Head, Jobs, Ready}
+use Rattle.lpt_jobs.specs.declared.job.Job.{Job}
+use Rattle.lpt_jobs.specs.declared.job.Job.TheVariants.{Claimed, Committed}
+use Rattle.lpt_ledger.specs.LeastFree.{least_free_in}
+use Rattle.lpt_memory.specs.Effects.{answer}
+use Rattle.lpt_memory.specs.Meanings.{command_meaning, meaning, Meaning, Silent as Says}
+use Rattle.lpt_memory.specs.Memories.{effect, sizes_of, Contents}
+use Rattle.lpt_memory.specs.Readings.{meant, Source}
+use Rattle.lpt_node.specs.Jobs.{claimed_of, committed, ending_at, executed, executed_of, executed_with, refusal_claim, refusal_claim_of, report_packets, Execution}
+use Rattle.lpt_node.specs.Nodes.{NodeData}
+use Rattle.lpt_packet.proofs.Readings.{eq_true}
+use Rattle.lpt_packet.specs.Names.{Name}
+use Rattle.lpt_packet.specs.Packets.{seen, spelling}
+use Rattle.lpt_pus.specs.Commands.{command_in, Command}
+use Rattle.lpt_pus.specs.Numbers.{long_at}
+
+-- ---- a drop
+
+-- a claim and a commit of a reading put it in the place of the oldest that waits
+put_in_place : (q : Jobs) (r : Source)
+    → after_commit (after_claim q) (next_claim q) r
+    ≡ record { first = q.first; jobs = set q.jobs (claimed_in q.jobs) (Committed r) }
+put_in_place q r =
+    let k : ℕ = claimed_in q.jobs in
+    let at : next_claim q - q.first ≡ k = omega arith in
+    ap (λ (n : ℕ). record { first = q.first; jobs = set (set q.jobs k Claimed) n (Committed r) }) at
+    ∙ ap (λ (js : List Job). record { first = q.first; jobs = js })
+    (set-set q.jobs k Claimed (Committed r))
+
+-- what a reading of this message makes of an end in which that job waits longest
+handed_in : NodeData → Source → Option (ℕ × List ℕ) → NodeData
+handed_in d r o = (committed (claimed_of d o).0 (claimed_of d o).1.boot (claimed_of d o).1.job r).0
+
+waits : (d : NodeData) (r : Source) (o : Option (List ℕ))
+    → refusal_claim_of (option_map (λ m. (next_claim d.jobs, m)) o) ≡ None
+    → handed_in d r (option_map (λ m. (next_claim d.jobs, m)) o)
+    ≡ record d { jobs = after_commit (after_claim d.jobs) (next_claim d.jobs) r }
+unfolding handed_in
+waits d r None none = absurd cc
+waits d r (Some m) none =
+    let counts : NodeData × Bool =
+    (record d { jobs = after_commit (after_claim d.jobs) (next_claim d.jobs) r }, true) in
+    let stale : NodeData × Bool = (record d { jobs = after_claim d.jobs }, false) in
+    let chosen : Bool → NodeData × Bool = λ b. if b then counts else stale in
+    ap (λ (b : Bool). (chosen b).0) (eq_true d.boot d.boot refl)
+
+pub drops_oldest : DropsOldest
+unfolding handed_in
+drops_oldest e new ms some allowed done =
+    let d : NodeData = e.node.at in
+    let r : Source = nothing_for e.config.apid ms in
+    let here : node_code (refusal_claim d) ≡ None =
+    sym (ap (λ (o : Option Contents). memories_refusal o (node_code (refusal_claim d))) some)
+    ∙ allowed in
+    done.node
+    ∙ ap (λ (o : Option Contents). read_as_by [] e.config o d) some
+    ∙ waits d r (oldest d.jobs.jobs) (no_fault (refusal_claim d) here)
+    ∙ ap (λ (q : Jobs). record d { jobs = q }) (put_in_place d.jobs r)
+
+-- ---- its execution
+
+-- no octets are a telecommand
+no_command : (apid : ℕ) → command_in apid [] ≡ None
+unfolding command_in seen spelling
+no_command apid = refl
+
+means_nothing : (apid : ℕ) (ms : Contents) → meant (nothing_for apid ms) ≡ Says
+unfolding meaning
+means_nothing apid ms =
+    ap (λ (o : Option Command). command_meaning (sizes_of ms) o) (no_command apid)
+
+opens_nothing : (o : Option Name) → opened_of o [] ≡ None
+opens_nothing None = refl
+opens_nothing (Some name) = refl
+
+-- what becomes of an execution that says nothing
+abbrev quiet : Execution
+quiet = record { applied = Silent; packets = []; opened = None }
+
+module _ (c : Config) (d : NodeData) (now : Contents) (apid : ℕ) (ms : Contents) where
+  abbrev r : Source
+  r = nothing_for apid ms
+
+  ends_so : ending_at c d now r ≡ Ends
+  ends_so =
+      ap (λ (m : Meaning). ending c.part_size
+      (is_some (least_free_in d.sending.ledger (request_source apid [])))
+      (nat_lt (map.len d.sending.messages) c.outgoing) (answer m now)) (means_nothing apid ms)
+
+  no_reports : (end : Ending) → message_reports apid [] end ≡ []
+  no_reports end =
+      ap (λ (o : Option Command). option_map_or (λ x. reports_of (long_at [] 0) x.flags end) o [])
+      (no_command apid)
+
+  passes : executed_of c d now (Ready r)
+      ≡ ((record d { jobs = without_front d.jobs }, quiet), now)
+  passes =
+      let peer : ℕ = request_source apid [] in
+      let free : Option Name = least_free_in d.sending.ledger peer in
+      (λ i. (
+        executed_with c d peer (ends_so i) (no_reports (ends_so i) i)
+            (opened_of free (large_packets c.part_size
+            (report_packets c peer d.sending d.clock (no_reports (ends_so i) i)))),
+        effect (means_nothing apid ms i) now,
+      ))
+      ∙ ap (λ (o : Option (Name × List ℕ)). (executed_with c d peer Ends [] o, now))
+      (opens_nothing free)
+
+pub dropped_is_passed_over : DroppedIsPassedOver
+dropped_is_passed_over e new apid ms now some front done =
+    let d : NodeData = e.node.at in
+    let all : execution_of e ≡ ((record d { jobs = without_front d.jobs }, quiet), Some now) =
+    ap (λ (o : Option Contents). execution_by e.config o d) some
+    ∙ ap (λ (x : (NodeData × Execution) × Contents). (x.0, Some x.1))
+    (ap (λ (h : Head). executed_of e.config d now h) front
+    ∙ passes e.config d now apid ms) in
+    record {
+      node = done.node ∙ ap (λ (x : (NodeData × Execution) × Option Contents). x.0.0) all;
+      memories =
+          done.memories ∙ ap (λ (x : (NodeData × Execution) × Option Contents). x.1) all ∙ sym some;
+      outbox =
+          done.outbox ∙ ap (λ (x : (NodeData × Execution) × Option Contents). x.0.1.packets) all;
+      applied = ap (λ (x : (NodeData × Execution) × Option Contents). x.0.1.applied) all;
+    }

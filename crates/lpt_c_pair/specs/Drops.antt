@@ -1,0 +1,46 @@
+-- What becomes of a request that was dropped.
+use Rattle.std.specs.Prelude.{◌≡◌, ℕ, List, [], Some, None, set}
+use Rattle.lpt_c_end.specs.Changes.{execution_of, IsDropped, IsExecuted}
+use Rattle.lpt_c_end.specs.Refusals.{read_refusal}
+use Rattle.lpt_c_end.specs.declared.end.End.{End}
+use Rattle.lpt_events.specs.declared.applied.Applied.TheVariants.{Silent}
+use Rattle.lpt_jobs.specs.Jobs.{claimed_in, head_of, without_front, Jobs, Ready}
+use Rattle.lpt_jobs.specs.declared.job.Job.TheVariants.{Committed}
+use Rattle.lpt_memory.specs.Memories.{sizes_of, Contents}
+use Rattle.lpt_memory.specs.Readings.{Source}
+
+-- a message of no octets, read for these memories
+abbrev pub nothing_for : (apid : ℕ) → Contents → Source
+nothing_for apid ms = record { apid = apid; sizes = sizes_of ms; message = [] }
+
+-- in the place of the oldest request that waited it stands, and all others are as they were
+abbrev pub emptied : (apid : ℕ) → Contents → Jobs → Jobs
+emptied apid ms q = record {
+  first = q.first;
+  jobs = set q.jobs (claimed_in q.jobs) (Committed (nothing_for apid ms));
+}
+
+-- a drop changes this alone
+abbrev pub DropsOldest : Type 0
+DropsOldest =
+    (e new : End) (ms : Contents)
+    → e.memories ≡ Some ms
+    → read_refusal e ≡ None
+    → IsDropped e new
+    → new.node.at ≡ record e.node.at { jobs = emptied e.config.apid ms e.node.at.jobs }
+
+-- a request has left, and nothing else has changed: no memory, no packet, no message
+pub record PassesOver (e new : End) : Type 0 where
+  pub node : new.node.at ≡ record e.node.at { jobs = without_front e.node.at.jobs }
+  pub memories : new.memories ≡ e.memories
+  pub outbox : new.outbox.items ≡ []
+  pub applied : (execution_of e).0.1.applied ≡ Silent
+
+-- so does the execution of what was dropped, once it is the oldest of all
+abbrev pub DroppedIsPassedOver : Type 0
+DroppedIsPassedOver =
+    (e new : End) (apid : ℕ) (ms now : Contents)
+    → e.memories ≡ Some now
+    → head_of e.node.at.jobs.jobs ≡ Ready (nothing_for apid ms)
+    → IsExecuted e new
+    → PassesOver e new
