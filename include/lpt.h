@@ -1,7 +1,7 @@
 /*
- * Space packets (CCSDS 133.0-B), PUS headers, large packet transfer, request verification and
- * requests that read a memory (ECSS-E-ST-70-41C, services 13, 1 and 6), read from and written to
- * the caller's buffers.
+ * Space packets (CCSDS 133.0-B), PUS headers, large packet transfer, request verification and raw
+ * memory management (ECSS-E-ST-70-41C, services 13, 1 and 6), read from and written to the caller's
+ * buffers.
  *
  * No call takes memory. Each answers LPT_DONE, or the number of what is wrong; then nothing has
  * been written through a pointer but what the call's comment says. docs/FORMATS.md has the layouts
@@ -92,7 +92,9 @@ enum LptFault {
     /* Of an end: not 1 to 16 memories of 1 to 1,048,576 octets each, as lpt_end_new says. */
     LPT_E_MEMORIES = 25,
 
-    /* A request to a memory: no area, more than 255, or one without octets. */
+    /* A request to a memory: the load's packet would have more than 65,542 octets; no area, more
+       than 255, or one without octets. */
+    LPT_E_LONG_LOAD = 27,
     LPT_E_BAD_AREA = 28,
 
     /* Of an end: the transaction's name isn't free. */
@@ -195,6 +197,8 @@ static inline const char *lpt_fault_name(uint32_t fault) {
         return "abort body";
     case LPT_E_MEMORIES:
         return "memories";
+    case LPT_E_LONG_LOAD:
+        return "long load";
     case LPT_E_BAD_AREA:
         return "bad area";
     case LPT_E_IN_USE:
@@ -287,6 +291,10 @@ enum LptPartKind {
     LPT_PART_LAST = 3
 };
 
+/* What the front of a stream is: a packet or an idle packet; as many octets as a header says, which
+   are none, with a packet behind them or nothing; an octet with which none of these begins. */
+enum LptPieceKind { LPT_PIECE_WHOLE = 1, LPT_PIECE_DAMAGED = 2, LPT_PIECE_STRAY = 3 };
+
 /* Why a reception was aborted: no part came for as long as the time-out; in strict mode a part came
    that isn't the next; a part contradicts another. */
 enum LptReason { LPT_REASON_EXPIRED = 1, LPT_REASON_DISCONTINUITY = 2, LPT_REASON_CONFLICT = 3 };
@@ -303,8 +311,9 @@ enum LptFailure {
     LPT_FAILURE_TOO_MANY_OPEN = 8
 };
 
-/* The longest packet, and the longest message that is sent in parts, in octets. */
-enum { LPT_LONGEST_PACKET = 65542 };
+/* The longest packet, and the longest message that is sent in parts, in octets; and so many of a
+   stream as always show which piece is in front. */
+enum { LPT_LONGEST_PACKET = 65542, LPT_LOOKAHEAD = 131084 };
 
 /* ---- packets ---- */
 
@@ -319,6 +328,21 @@ uint16_t lpt_crc16(const uint8_t *octets, size_t octets_len);
  */
 LPT_MUST_USE
 uint32_t lpt_packet_length(const uint8_t *octets, size_t octets_len, size_t *length);
+
+/*
+ * Finds the piece in front of octets of a stream that may be damaged. `in_step` is 1 where the
+ * octets begin the stream, or come right behind a packet or a damaged one, and 0 behind an octet
+ * that is none; `is_end` is 1 where nothing comes behind them, and 0 where that isn't known. Any
+ * number but 0 is taken as 1.
+ *
+ * LPT_DONE, and *kind (LPT_PIECE_WHOLE, LPT_PIECE_DAMAGED or LPT_PIECE_STRAY) and *size, its
+ * octets, at least one, are written: whatever comes behind won't change them. LPT_E_MORE where
+ * there are no octets, or what is in front depends on those that may still come: never of
+ * LPT_LOOKAHEAD octets or more, nor of some with `is_end`.
+ */
+LPT_MUST_USE
+uint32_t lpt_find_piece(const uint8_t *octets, size_t octets_len, uint32_t in_step, uint32_t is_end,
+                        uint32_t *kind, size_t *size);
 
 /* A packet that was read: what stands at octets[at], len octets long, is its data field. */
 typedef struct LptPacket {
@@ -511,7 +535,18 @@ LPT_MUST_USE
 uint32_t lpt_write_report(uint8_t subtype, uint32_t request, uint16_t code, uint8_t *out,
                           size_t out_len, size_t *needed);
 
-/* ---- requests to a memory: bodies of telecommands of service 6 ---- */
+/* ---- requests to a memory, and what answers them: bodies of messages of service 6 ---- */
+
+/*
+ * Writes the body of a load of one area, subtype 2, to the front of a buffer, and leaves the rest
+ * of it as it was: that these octets go to this memory, from this address on. They get their
+ * checksum.
+ * LPT_DONE; LPT_E_BAD_AREA for no octets, LPT_E_LONG_LOAD for more than 65,519; LPT_E_ROOM. At
+ * LPT_DONE and LPT_E_ROOM *needed is the body's length, 10 more than theirs.
+ */
+LPT_MUST_USE
+uint32_t lpt_write_load(uint8_t memory, uint32_t address, const uint8_t *octets, size_t octets_len,
+                        uint8_t *out, size_t out_len, size_t *needed);
 
 /* Octets of a memory, by their place. */
 typedef struct LptRange {
@@ -533,6 +568,22 @@ uint32_t lpt_write_dump(uint8_t memory, const LptRange *ranges, size_t ranges_le
 LPT_MUST_USE
 uint32_t lpt_write_check(uint8_t memory, const LptRange *ranges, size_t ranges_len, uint8_t *out,
                          size_t out_len, size_t *needed);
+
+/* An area of the report that answers a dump: what stands at body[at], len octets long, are its
+   octets. */
+typedef struct LptDumped {
+    uint8_t memory;
+    uint8_t areas; /* how many the report has */
+    uint32_t address;
+    size_t at;
+    size_t len;
+} LptDumped;
+
+/* Reads one area of a message's body as the report of a dump, subtype 6, by its number from 0:
+   LPT_DONE, and *out is written; LPT_E_NO_REPORT; LPT_E_RANGE where it has no such area;
+   LPT_E_CHECKSUM where the area's checksum isn't that of its octets. */
+LPT_MUST_USE
+uint32_t lpt_read_dump(const uint8_t *body, size_t body_len, size_t number, LptDumped *out);
 
 /* An area of the report that answers a check. */
 typedef struct LptChecked {
@@ -604,6 +655,13 @@ LPT_FIELD(LptReport, code, 6);
 LPT_LAYOUT(LptRange, 8, 4);
 LPT_FIELD(LptRange, address, 0);
 LPT_FIELD(LptRange, len, 4);
+
+LPT_LAYOUT(LptDumped, 24, 8);
+LPT_FIELD(LptDumped, memory, 0);
+LPT_FIELD(LptDumped, areas, 1);
+LPT_FIELD(LptDumped, address, 4);
+LPT_FIELD(LptDumped, at, 8);
+LPT_FIELD(LptDumped, len, 16);
 
 LPT_LAYOUT(LptChecked, 12, 4);
 LPT_FIELD(LptChecked, memory, 0);

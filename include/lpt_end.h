@@ -299,6 +299,19 @@ enum LptNameState { LPT_NAME_FREE = 0, LPT_NAME_OPEN = 1, LPT_NAME_CLOSED = 2 };
 LPT_MUST_USE
 uint32_t lpt_end_name(LptEnd *end, uint32_t direction, const LptName *name, uint32_t *state);
 
+/* What an end has to do, in numbers. */
+typedef struct LptView {
+    uint32_t clock;  /* in ticks */
+    uint32_t due;    /* 1 where lpt_end_expire has a reception to give up, else 0 */
+    size_t outgoing; /* packets that are to be sent */
+    size_t unread;   /* requests that weren't read */
+    size_t requests; /* requests that weren't executed, read or not */
+} LptView;
+
+/* Tells what the end has to do, and changes nothing. LPT_DONE, and *view is written; LPT_E_EMPTY. */
+LPT_MUST_USE
+uint32_t lpt_end_view(LptEnd *end, LptView *view);
+
 /*
  * Restarts the end. Its open messages are closed and let go, its open receptions and what it
  * keeps of released requests are dropped, and it counts its packets from 0. It knows other names,
@@ -313,10 +326,9 @@ uint32_t lpt_end_restart(LptEnd *end);
 /*
  * Copies the state of the end to the front of a buffer, and leaves the rest of it as it was: the
  * names that it knows, its clock, and which start it is. Memories are copied by lpt_end_memory.
- * docs/FORMATS.md has the octets, and docs/C.md says when to keep them. It takes memory while it
- * runs. LPT_DONE; LPT_E_EMPTY; LPT_E_ROOM; LPT_E_ALLOCATION. At LPT_DONE and LPT_E_ROOM *needed is
- * the state's length: 57, and 6 for each run of names, of which there are at most as many as names
- * in use.
+ * docs/FORMATS.md has the octets, and docs/C.md says when to keep them. It takes no memory.
+ * LPT_DONE; LPT_E_EMPTY; LPT_E_ROOM. At LPT_DONE and LPT_E_ROOM *needed is the state's length: 57,
+ * and 6 for each run of names, of which there are at most as many as names in use.
  */
 LPT_MUST_USE
 uint32_t lpt_end_state(LptEnd *end, uint8_t *out, size_t out_len, size_t *needed);
@@ -390,6 +402,13 @@ LPT_LAYOUT(LptApplied, 12, 4);
 LPT_FIELD(LptApplied, kind, 0);
 LPT_FIELD(LptApplied, name, 4);
 LPT_FIELD(LptApplied, value, 8);
+
+LPT_LAYOUT(LptView, 32, 8);
+LPT_FIELD(LptView, clock, 0);
+LPT_FIELD(LptView, due, 4);
+LPT_FIELD(LptView, outgoing, 8);
+LPT_FIELD(LptView, unread, 16);
+LPT_FIELD(LptView, requests, 24);
 
 LPT_LAYOUT(LptTried, 16, 8);
 LPT_FIELD(LptTried, ok, 0);

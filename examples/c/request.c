@@ -17,23 +17,6 @@ static const LptName load_name = {SOURCE, 7};
 static LptEnd ground = LPT_END_EMPTY, spacecraft = LPT_END_EMPTY;
 static uint8_t image[OCTETS];
 
-/* Writes a number, the high octet first: how many octets. */
-static size_t put(uint8_t *to, uint32_t value, size_t octets) {
-    size_t i;
-    for (i = 0; i < octets; i++) {
-        to[i] = (uint8_t)(value >> (8 * (octets - 1 - i)));
-    }
-    return octets;
-}
-
-/* The front of a request's body: one area of the memory. */
-static size_t put_area(uint8_t *body) {
-    size_t at = put(body, MEMORY, 1);
-    at += put(body + at, 1, 1);
-    at += put(body + at, ADDRESS, 4);
-    return at + put(body + at, OCTETS, 2);
-}
-
 /* What telemetry says that ground has noted: a verification report. */
 static void print_report(const uint8_t *packet, size_t len) {
     LptTm tm = {{0, 0, 0, 0, 0, 0, 0, 0}, 0, 0};
@@ -49,11 +32,13 @@ static void print_report(const uint8_t *packet, size_t len) {
 static void print_dump(void) {
     static uint8_t message[LPT_LONGEST_PACKET];
     LptTm tm = {{0, 0, 0, 0, 0, 0, 0, 0}, 0, 0};
+    LptDumped area = {0, 0, 0, 0, 0};
     size_t len = 0;
     if (lpt_end_released(&ground, message, sizeof message, &len) == LPT_DONE &&
-        lpt_read_tm(message, len, &tm) == LPT_DONE && tm.len == 8 + OCTETS + 2) {
+        lpt_read_tm(message, len, &tm) == LPT_DONE &&
+        lpt_read_dump(message + tm.at, tm.len, 0, &area) == LPT_DONE && area.len == OCTETS) {
         printf("dump: %d octets, %s\n", OCTETS,
-               memcmp(message + tm.at + 8, image, OCTETS) == 0 ? "the same" : "others");
+               memcmp(message + tm.at + area.at, image, OCTETS) == 0 ? "the same" : "others");
     }
 }
 
@@ -119,14 +104,14 @@ static void send_up(void) {
    the reports of acceptance and of completion. No other request has the count 16,383. */
 static uint32_t load(void) {
     static const LptTcHead head = {APID, 16383, 1 + 8, 6, 2, SOURCE};
-    static uint8_t body[8 + OCTETS + 2], request[sizeof body + 13];
-    size_t at = put_area(body), len = 0;
+    static uint8_t body[OCTETS + 10], request[sizeof body + 13];
+    size_t body_len = 0, len = 0;
     uint16_t k;
-    uint32_t fault;
-    memcpy(body + at, image, OCTETS);
-    at += OCTETS;
-    at += put(body + at, lpt_crc16(image, OCTETS), 2);
-    fault = lpt_write_tc(&head, body, at, request, sizeof request, &len);
+    uint32_t fault =
+        lpt_write_load(MEMORY, ADDRESS, image, OCTETS, body, sizeof body, &body_len);
+    if (fault == LPT_DONE) {
+        fault = lpt_write_tc(&head, body, body_len, request, sizeof request, &len);
+    }
     if (fault == LPT_DONE) {
         fault = lpt_end_open(&ground, &load_name, request, len);
     }
@@ -140,8 +125,13 @@ static uint32_t load(void) {
 
 /* Asks for the same octets, by a plain request. */
 static uint32_t dump(void) {
+    static const LptRange range = {ADDRESS, OCTETS};
     uint8_t body[8] = {0};
-    uint32_t fault = lpt_end_plain(&ground, SOURCE, 1 + 8, 6, 5, body, put_area(body));
+    size_t len = 0;
+    uint32_t fault = lpt_write_dump(MEMORY, &range, 1, body, sizeof body, &len);
+    if (fault == LPT_DONE) {
+        fault = lpt_end_plain(&ground, SOURCE, 1 + 8, 6, 5, body, len);
+    }
     send_up();
     return fault;
 }

@@ -1,8 +1,12 @@
 /*
  * A message of 20 octets goes up in three parts, with an idle packet and a telecommand of another
- * service between them, as one stream of octets with noise at its end. The receiver cuts the stream
- * into packets, skips those two, and reads the parts. Where no packet begins it stops, and says so:
- * behind a damaged length the inside of a packet may follow, and a message may hold packets.
+ * service between them, as one stream of octets. On its way the second part was damaged, and a
+ * stray octet came between two packets. The reader cuts the stream into pieces, says which are
+ * damaged, skips what is no part, and reads the parts.
+ *
+ * What it finds behind damage was maybe sent by nobody, since a message may hold packets: that is
+ * right for somebody who looks through a recording. An end is given the packets in front of the
+ * first damage alone.
  *
  *   cc -Iinclude examples/c/stream.c build/liblpt.a -o stream && ./stream
  */
@@ -46,6 +50,10 @@ static void receive(const uint8_t *octets, size_t len) {
     LptTc tc = {{0, 0, 0, 0, 0, 0}, 0, 0};
     LptPart part = {0, 0, 0, 0, 0};
     uint32_t kind = LPT_PART_NONE, fault = lpt_read_tc(octets, len, &tc);
+    if (fault == LPT_E_IDLE) {
+        printf("idle: %u octets\n", (unsigned)len);
+        return;
+    }
     if (fault == LPT_DONE) {
         kind = lpt_part_kind(LPT_PACKET_TC, tc.head.service, tc.head.subtype);
     }
@@ -66,7 +74,8 @@ static void receive(const uint8_t *octets, size_t len) {
 int main(void) {
     static const uint8_t idle[] = {0x07, 0xff, 0xc0, 0x00, 0x00, 0x01, 0x00, 0x00};
     uint8_t message[MESSAGE] = {0}, stream[STREAM] = {0};
-    size_t len = 0, at = 0, packet = 0, k;
+    size_t len = 0, at = 0, size = 0, k;
+    uint32_t in_step = 1, kind = 0;
     for (k = 0; k < MESSAGE; k++) {
         message[k] = (uint8_t)k;
     }
@@ -76,27 +85,20 @@ int main(void) {
         stream[len++] = idle[k];
     }
     len = send_part(stream, len, message, 2);
-    len = send_other(stream, len, message);
-    len = send_part(stream, len, message, 3);
     stream[len - 1] ^= 1;
-    stream[len++] = 0xff; /* noise: no packet begins so */
+    len = send_other(stream, len, message);
+    stream[len++] = 0xff;
+    len = send_part(stream, len, message, 3);
 
-    while (at < len) {
-        uint32_t said = lpt_packet_length(stream + at, len - at, &packet);
-        if (said == LPT_E_VERSION) {
-            printf("octet %u: no packet begins here, and nothing more is read\n", (unsigned)at);
-            break;
-        }
-        if (said == LPT_E_MORE || packet > len - at) {
-            printf("octet %u: the packet hasn't come whole\n", (unsigned)at);
-            break;
-        }
-        if (said == LPT_E_IDLE) {
-            printf("idle: %u octets\n", (unsigned)packet);
+    while (lpt_find_piece(stream + at, len - at, in_step, 1, &kind, &size) == LPT_DONE) {
+        if (kind == LPT_PIECE_WHOLE) {
+            receive(stream + at, size);
         } else {
-            receive(stream + at, packet);
+            printf("octet %u: %u that %s\n", (unsigned)at, (unsigned)size,
+                   kind == LPT_PIECE_DAMAGED ? "are no packet, but as long as one" : "is none");
         }
-        at += packet;
+        in_step = kind != LPT_PIECE_STRAY;
+        at += size;
     }
     return 0;
 }

@@ -32,19 +32,21 @@ from __future__ import annotations
 
 from . import faults
 from ._library import VERSION as __version__
-from .end import Applied, Config, End, Outcome, WrongThread
+from .end import Applied, Config, End, Outcome, View, WrongThread
 from .faults import Fault
 from .joining import Joined, NotJoined, join, join_each
 from .kinds import (
     Acknowledge, AppliedKind, Direction, Failure, Mode, NameState, OutcomeKind, PacketKind,
-    PartKind, Reason, ReportKind, Side, Why,
+    PartKind, PieceKind, Reason, ReportKind, Side, Why,
 )
 from .memory import (
-    Area, Check, Checked, CheckReport, Dump, DumpReport, Load, Loaded, read_data_report,
+    Area, Check, Checked, CheckReport, Dump, DumpReport, Load, Loaded, read_check, read_data_report,
+    read_dump, write_load,
 )
 from .packets import (
-    LONGEST_PACKET, Packet, Telecommand, Telemetry, crc16, packet_length, packets_of, read_message,
-    read_packet, read_telecommand, read_telemetry, write_packet, write_telecommand, write_telemetry,
+    LONGEST_PACKET, Packet, Telecommand, Telemetry, crc16, find_piece, packet_length, packets_of,
+    read_message, read_packet, read_telecommand, read_telemetry, write_packet, write_telecommand,
+    write_telemetry,
 )
 from .parts import (
     AbortReport, Name, Part, part_count, part_kind, part_of, read_abort, read_part, split,
@@ -57,11 +59,14 @@ __all__ = [
     "Checked", "Config", "Direction", "Dump", "DumpReport", "End", "Failure", "Fault", "Joined",
     "LONGEST_PACKET", "Load", "Loaded", "Mode", "Name", "NameState", "NotJoined", "Outcome",
     "OutcomeKind",
-    "Packet", "PacketKind", "Part", "PartKind", "Reason", "ReportKind", "Side", "Telecommand",
-    "Telemetry", "VerificationReport", "Why", "WrongThread", "crc16", "faults", "join", "join_each",
-    "packet_length", "packets_of", "part_count", "part_kind", "part_of", "read_abort",
-    "read_data_report",
+    "Packet", "PacketKind", "Part", "PartKind", "PieceKind", "Reason", "ReportKind", "Side",
+    "Telecommand",
+    "Telemetry", "VerificationReport", "View", "Why", "WrongThread", "crc16", "faults",
+    "find_piece", "join", "join_each",
+    "packet_length", "packets_of", "part_count", "part_kind", "part_of", "read_abort", "read_check",
+    "read_data_report", "read_dump",
     "read_message", "read_packet", "read_part", "read_report", "read_telecommand",
-    "read_telemetry", "split", "verification_of", "write_abort", "write_packet", "write_part",
+    "read_telemetry", "split", "verification_of", "write_abort", "write_load", "write_packet",
+    "write_part",
     "write_report", "write_telecommand", "write_telemetry",
 ]

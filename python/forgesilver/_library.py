@@ -44,6 +44,9 @@ LptPart = _structure("LptPart", id=U16, number=U16, kind=U32, at=SIZE, len=SIZE)
 LptAbort = _structure("LptAbort", id=U16, reason=U16)
 LptReport = _structure("LptReport", request=U32, failed=U16, code=U16)
 LptRange = _structure("LptRange", address=U32, len=U16)
+LptDumped = _structure(
+    "LptDumped", memory=U8, areas=U8, address=U32, at=SIZE, len=SIZE
+)
 LptChecked = _structure(
     "LptChecked", memory=U8, areas=U8, address=U32, len=U16, checksum=U16
 )
@@ -59,12 +62,17 @@ LptMemory = _structure("LptMemory", id=U8, at=SIZE, len=SIZE)
 LptOutcome = _structure("LptOutcome", kind=U32, name=LptName, first=U32, second=U32)
 LptApplied = _structure("LptApplied", kind=U32, name=LptName, value=U32)
 
+LptView = _structure(
+    "LptView", clock=U32, due=U32, outgoing=SIZE, unread=SIZE, requests=SIZE
+)
+
 # What the calls take. A pointer is octets or an address, and in front of its length.
 _READ, _WRITE = (POINTER, SIZE), (POINTER, SIZE, POINTER)
 _OF_CODECS: dict[str, tuple[Any, ...]] = {
     "lpt_version": (),
     "lpt_crc16": _READ,
     "lpt_packet_length": (*_READ, POINTER),
+    "lpt_find_piece": (*_READ, U32, U32, POINTER, POINTER),
     "lpt_read_packet": (*_READ, POINTER),
     "lpt_write_packet": (U32, U16, U16, *_READ, *_WRITE),
     "lpt_read_tc": (*_READ, POINTER),
@@ -81,8 +89,10 @@ _OF_CODECS: dict[str, tuple[Any, ...]] = {
     "lpt_write_abort": (U16, U16, *_WRITE),
     "lpt_read_report": (U8, *_READ, POINTER),
     "lpt_write_report": (U8, U32, U16, *_WRITE),
+    "lpt_write_load": (U8, U32, *_READ, *_WRITE),
     "lpt_write_dump": (U8, POINTER, SIZE, *_WRITE),
     "lpt_write_check": (U8, POINTER, SIZE, *_WRITE),
+    "lpt_read_dump": (*_READ, SIZE, POINTER),
     "lpt_read_check": (*_READ, SIZE, POINTER),
 }
 _OF_END: dict[str, tuple[Any, ...]] = {
@@ -103,6 +113,7 @@ _OF_END: dict[str, tuple[Any, ...]] = {
     "lpt_end_tick": (POINTER,),
     "lpt_end_retire": (POINTER, U32, POINTER),
     "lpt_end_name": (POINTER, U32, POINTER, POINTER),
+    "lpt_end_view": (POINTER, POINTER),
     "lpt_end_restart": (POINTER,),
     "lpt_end_state": (POINTER, *_WRITE),
     "lpt_end_resume": (POINTER, U32, POINTER, *_READ, POINTER, SIZE, *_READ),

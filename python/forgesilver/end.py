@@ -87,6 +87,22 @@ class Applied:
     failure: Optional[Failure] = None
 
 
+@dataclass(frozen=True)
+class View:
+    """What an end has to do, in numbers."""
+
+    #: In ticks.
+    clock: int
+    #: Whether `expire` has a reception to give up.
+    is_due: bool
+    #: Packets that are to be sent.
+    outgoing: int
+    #: Requests that weren't read.
+    unread: int
+    #: Requests that weren't executed, read or not.
+    requests: int
+
+
 class WrongThread(RuntimeError):
     """An end is used by another thread than the one that made it, or within another of its
     calls."""
@@ -392,6 +408,12 @@ class End:
         self._done(_end.lpt_end_name, int(Direction(direction)), byref(named), byref(state))
         return NameState(state.value)
 
+    def view(self) -> View:
+        """What the end has to do, in numbers; nothing changes."""
+        told = _library.LptView()
+        self._done(_end.lpt_end_view, byref(told))
+        return View(told.clock, bool(told.due), told.outgoing, told.unread, told.requests)
+
     def restart(self) -> None:
         """Restarts the end. Its open messages and receptions are let go, and what it keeps of
         released requests; it counts its packets from 0. It knows other names, the clock and the
@@ -402,7 +424,7 @@ class End:
     def state(self) -> bytes:
         """What of the end outlasts its process, besides the memories: `End(.., state=..)` makes an
         end of it. Written before what a call answered is acted on or sent, it keeps the promise
-        through a stop at any place; docs/C.md says how."""
+        through a stop at any place; docs/C.md says how. The library takes no memory for it."""
         return self._copied(_end.lpt_end_state, Room(57)) or b""
 
     @staticmethod

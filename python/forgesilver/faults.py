@@ -120,6 +120,12 @@ class Memories(Fault, ValueError):
     number = 25
 
 
+class LongLoad(Fault, ValueError):
+    """The packet of a load would have more than 65,542 octets."""
+
+    number = 27
+
+
 class BadArea(Fault, ValueError):
     """A request of no area, of more than 255, or with an empty one."""
 

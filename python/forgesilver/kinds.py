@@ -30,6 +30,16 @@ class PartKind(IntEnum):
     LAST = 3
 
 
+class PieceKind(IntEnum):
+    """What the front of a stream is: a packet or an idle packet; as many octets as a header says,
+    which are none, with a packet behind them or nothing; an octet with which none of these
+    begins."""
+
+    WHOLE = 1
+    DAMAGED = 2
+    STRAY = 3
+
+
 class Reason(IntEnum):
     """Why a reception was aborted: no part came for as long as the time-out; in strict mode a part
     came that isn't the next; a part contradicts another."""

@@ -1,18 +1,22 @@
 """Requests to load, dump and check a memory, and their reports (ECSS-E-ST-70-41C, service 6).
 
-Their bodies are written and read here, in Python, as docs/FORMATS.md has them; the checksums are
-the library's.
+The library writes and reads their bodies, as docs/FORMATS.md has them; of a load of several areas
+it writes each, and they are put together here.
 """
 
 from __future__ import annotations
 
+from ctypes import addressof, byref
 from dataclasses import dataclass
-from typing import ClassVar, Sequence, Union
+from typing import Any, ClassVar, Sequence, Union
 
-from ._library import LONGEST_PACKET, Octets, number, view_of
-from .faults import BadArea, NoReport, TooLong
+from . import _library
+from ._library import LONGEST_PACKET, Given, Octets, Room, number, piece_of
+from .faults import BadArea, LongLoad, NoReport, raise_fault
 from .kinds import Acknowledge
-from .packets import Telecommand, Telemetry, crc16
+from .packets import Telecommand, Telemetry
+
+_codecs = _library.codecs
 
 #: The service type of raw memory management.
 SERVICE = 6
@@ -72,13 +76,18 @@ class Load(_Request):
     subtype: ClassVar[int] = 2
 
     def body(self) -> bytes:
-        """The body of the request's message. Raises `BadArea`, `Range`, or `TooLong` where its
+        """The body of the request's message. Raises `BadArea`, `Range`, or `LongLoad` where its
         packet would be too long: a load of one area has at most 65,519 octets."""
-        pieces = [_front(self.memory, self.areas)]
-        for area in self.areas:
-            view = view_of(area.octets)
-            pieces += [_place(area.start, view.nbytes), view, crc16(view).to_bytes(2, "big")]
-        return _fitting(b"".join(pieces))
+        if not 1 <= len(self.areas) <= 255:
+            raise BadArea(f"{len(self.areas)} areas")
+        bodies = [write_load(self.memory, it.start, it.octets) for it in self.areas]
+        if len(bodies) == 1:
+            return bodies[0]
+        # Each area stands behind a body's first two octets.
+        body = b"".join([bodies[0][:1], bytes([len(bodies)]), *(it[2:] for it in bodies)])
+        if 13 + len(body) > LONGEST_PACKET:
+            raise LongLoad(f"the packet would have {13 + len(body)} octets")
+        return body
 
 
 @dataclass(frozen=True)
@@ -87,11 +96,21 @@ class _OfAreas(_Request):
 
     memory: int
     areas: Sequence[Area]
+    _write: ClassVar[Any]
 
     def body(self) -> bytes:
         """The body of the request's message. Raises `BadArea` or `Range`."""
-        places = [_place(it.start, it.length) for it in self.areas]
-        return _fitting(b"".join([_front(self.memory, self.areas), *places]))
+        memory = number(self.memory, 255, "the memory")
+        places = [
+            (number(it.start, 0xFFFFFFFF, "the address"), number(it.length, 0xFFFF, "the length"))
+            for it in self.areas
+        ]
+        ranges = (_library.LptRange * (len(places) or 1))(*places)
+        room = Room(2 + 6 * len(places))
+        raise_fault(
+            self._write(memory, addressof(ranges), len(places), room.at, room.len, room.needs)
+        )
+        return room.octets()
 
 
 @dataclass(frozen=True)
@@ -99,6 +118,7 @@ class Dump(_OfAreas):
     """A dump: asks for octets of a memory. Of one area, for at most 65,513."""
 
     subtype: ClassVar[int] = 5
+    _write: ClassVar[Any] = staticmethod(_codecs.lpt_write_dump)
 
 
 @dataclass(frozen=True)
@@ -106,6 +126,7 @@ class Check(_OfAreas):
     """A check: asks for the checksums of areas of a memory."""
 
     subtype: ClassVar[int] = 9
+    _write: ClassVar[Any] = staticmethod(_codecs.lpt_write_check)
 
 
 #: A request of a memory.
@@ -128,57 +149,48 @@ class CheckReport:
     areas: Sequence[Checked]
 
 
-def read_data_report(telemetry: Telemetry) -> Union[DumpReport, CheckReport]:
-    """Reads telemetry as the report of a dump or a check. Raises `NoReport` where it has another
-    service or subtype, its areas don't fill its body, or an area's checksum isn't that of its
-    octets.
+def write_load(memory: int, start: int, octets: Octets) -> bytes:
+    """The body of a load of one area, 10 octets more than these: that they go to this memory, from
+    this address on. Raises `Range`, `BadArea` of no octets, or `LongLoad` of more than 65,519.
+
+    >>> write_load(1, 16, bytes(2)).hex()
+    '010100000010000200001d0f'
     """
+    given = Given(octets)
+    memory, start = number(memory, 255, "the memory"), number(start, 0xFFFFFFFF, "the address")
+    room = Room(given.len + 10)
+    raise_fault(
+        _codecs.lpt_write_load(
+            memory, start, given.at, given.len, room.at, room.len, room.needs
+        )
+    )
+    return room.octets()
+
+
+def read_dump(body: Octets) -> DumpReport:
+    """Reads a message's body as the report of a dump. Raises `NoReport`, or `Checksum` where an
+    area's checksum isn't that of its octets."""
+    given, out = Given(body), _library.LptDumped()
+    areas: list[Loaded] = []
+    while not areas or len(areas) < out.areas:
+        raise_fault(_codecs.lpt_read_dump(given.at, given.len, len(areas), byref(out)))
+        areas.append(Loaded(out.address, piece_of(body, out.at, out.len)))
+    return DumpReport(out.memory, tuple(areas))
+
+
+def read_check(body: Octets) -> CheckReport:
+    """Reads a message's body as the report of a check. Raises `NoReport`."""
+    given, out = Given(body), _library.LptChecked()
+    areas: list[Checked] = []
+    while not areas or len(areas) < out.areas:
+        raise_fault(_codecs.lpt_read_check(given.at, given.len, len(areas), byref(out)))
+        areas.append(Checked(out.address, out.len, out.checksum))
+    return CheckReport(out.memory, tuple(areas))
+
+
+def read_data_report(telemetry: Telemetry) -> Union[DumpReport, CheckReport]:
+    """Reads telemetry as the report of a dump or a check, whichever it is. Raises `NoReport` of
+    another service or subtype, and what `read_dump` and `read_check` do."""
     if telemetry.service != SERVICE or telemetry.subtype not in (DUMPED, CHECKED):
         raise NoReport(f"service {telemetry.service}, subtype {telemetry.subtype}")
-    body, is_dump, at = view_of(telemetry.body), telemetry.subtype == DUMPED, 2
-    if len(body) < 2 or body[1] == 0:
-        raise NoReport("the report has no area")
-    dumped: list[Loaded] = []
-    checked: list[Checked] = []
-    for _ in range(body[1]):
-        start = int.from_bytes(body[at : at + 4], "big")
-        length = int.from_bytes(body[at + 4 : at + 6], "big")
-        end = at + 6 + (length if is_dump else 0)
-        if length == 0 or end + 2 > len(body):
-            raise NoReport(f"the area of address {start} isn't whole")
-        octets, checksum = body[at + 6 : end], int.from_bytes(body[end : end + 2], "big")
-        if is_dump and crc16(octets) != checksum:
-            raise NoReport(f"the checksum of the area of address {start} is wrong")
-        dumped.append(Loaded(start, _as_given(telemetry.body, octets)))
-        checked.append(Checked(start, length, checksum))
-        at = end + 2
-    if at != len(body):
-        raise NoReport("octets are left over")
-    return DumpReport(body[0], tuple(dumped)) if is_dump else CheckReport(body[0], tuple(checked))
-
-
-def _as_given(body: Octets, piece: memoryview) -> Octets:
-    """A piece of a body: of a view a view, of all else a copy."""
-    return piece if isinstance(body, memoryview) else piece.tobytes()
-
-
-def _front(memory: int, areas: Sequence[object]) -> bytes:
-    """The octets in front of the areas."""
-    if not 1 <= len(areas) <= 255:
-        raise BadArea(f"{len(areas)} areas")
-    return bytes([number(memory, 255, "the memory"), len(areas)])
-
-
-def _place(start: int, length: int) -> bytes:
-    """Where an area is."""
-    if length == 0:
-        raise BadArea(f"the area of address {start} is empty")
-    length = number(length, 0xFFFF, "the length")
-    return number(start, 0xFFFFFFFF, "the address").to_bytes(4, "big") + length.to_bytes(2, "big")
-
-
-def _fitting(body: bytes) -> bytes:
-    """A body whose telecommand isn't too long."""
-    if 13 + len(body) > LONGEST_PACKET:
-        raise TooLong(f"the packet would have {13 + len(body)} octets")
-    return body
+    return read_dump(telemetry.body) if telemetry.subtype == DUMPED else read_check(telemetry.body)

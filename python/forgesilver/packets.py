@@ -8,12 +8,12 @@ from __future__ import annotations
 
 from ctypes import byref
 from dataclasses import dataclass
-from typing import Any, BinaryIO, Iterator, Union
+from typing import Any, BinaryIO, Iterator, Optional, Union
 
 from . import _library
 from ._library import SIZE, U32, Given, Octets, Room, number, piece_of
 from .faults import More, raise_fault
-from .kinds import Acknowledge, PacketKind
+from .kinds import Acknowledge, PacketKind, PieceKind
 
 LONGEST_PACKET = _library.LONGEST_PACKET
 #: The greatest application process identifier; 2047 marks an idle packet.
@@ -154,6 +154,26 @@ def _read_all(file: BinaryIO, size: int) -> bytes:
             break
         found += more
     return found or b""
+
+
+def find_piece(
+    octets: Octets, *, in_step: bool = True, is_end: bool = False
+) -> Optional[tuple[PieceKind, int]]:
+    """The piece in front of octets of a stream that may be damaged: what it is, and how many octets
+    it has; None where there are none, or it depends on octets that may still come.
+
+    `in_step` says that they begin the stream, or come right behind a packet or a damaged one;
+    `is_end` that nothing comes behind them.
+
+    >>> packet = write_packet(Packet(PacketKind.TC, 100, 0, b" 123"))
+    >>> find_piece(packet), find_piece(packet[1:], is_end=True)
+    ((<PieceKind.WHOLE: 1>, 12), (<PieceKind.STRAY: 3>, 1))
+    """
+    given, kind, size = Given(octets), U32(0), SIZE(0)
+    fault = _codecs.lpt_find_piece(
+        given.at, given.len, int(bool(in_step)), int(bool(is_end)), byref(kind), byref(size)
+    )
+    return None if fault else (PieceKind(kind.value), size.value)
 
 
 # ---- telecommands and telemetry ----

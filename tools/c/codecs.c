@@ -135,6 +135,51 @@ static void lengths(void) {
     EXPECT(lpt_packet_length(other, 1, &length) == LPT_E_VERSION && length == sizeof IDLE);
 }
 
+/* The piece in front of octets has to be of this kind and size; nothing is said where it is 0. */
+static void is_piece(int line, const uint8_t *octets, size_t len, uint32_t in_step, uint32_t is_end,
+                     uint32_t kind, size_t size) {
+    uint8_t *front = copied(octets, len);
+    uint32_t got = 9;
+    size_t has = 99999;
+    uint32_t said = lpt_find_piece(front, len, in_step, is_end, &got, &has);
+    look(said == (uint32_t)(kind == 0 ? LPT_E_MORE : LPT_DONE), line, "lpt_find_piece answers so");
+    look(got == (kind == 0 ? 9 : kind) && has == (kind == 0 ? 99999 : size), line,
+         "lpt_find_piece tells this kind and size");
+    free(front);
+}
+
+#define PIECE(OCTETS, LEN, IN_STEP, IS_END, KIND, SIZE)                                            \
+    is_piece(__LINE__, OCTETS, LEN, IN_STEP, IS_END, KIND, SIZE)
+
+static void pieces(void) {
+    uint8_t stream[sizeof FIRST + sizeof LAST];
+    const size_t first = sizeof FIRST;
+    size_t len;
+    memcpy(stream, FIRST, first);
+    memcpy(stream + first, LAST, sizeof LAST);
+    PIECE(FIRST, 0, 1, 0, 0, 0);
+    PIECE(FIRST, 0, 1, 1, 0, 0);
+    for (len = 1; len < first; len++) {
+        PIECE(FIRST, len, 1, 0, 0, 0);
+        PIECE(FIRST, len, 0, 0, 0, 0);
+        PIECE(FIRST, len, 1, 1, LPT_PIECE_STRAY, 1);
+    }
+    PIECE(stream, sizeof stream, 1, 0, LPT_PIECE_WHOLE, first);
+    PIECE(FIRST, first, 0, 7, LPT_PIECE_WHOLE, first);
+    PIECE(IDLE, sizeof IDLE, 1, 0, LPT_PIECE_WHOLE, sizeof IDLE);
+    PIECE(IDLE, sizeof IDLE, 0, 0, LPT_PIECE_STRAY, 1);
+    /* A damaged packet is passed over in step, where one stands behind it, or nothing. */
+    stream[first - 1] ^= 1;
+    PIECE(stream, sizeof stream, 1, 0, LPT_PIECE_DAMAGED, first);
+    PIECE(stream, sizeof stream, 0, 0, LPT_PIECE_STRAY, 1);
+    PIECE(stream, sizeof stream - 1, 1, 0, 0, 0);
+    PIECE(stream, sizeof stream - 1, 1, 1, LPT_PIECE_STRAY, 1);
+    PIECE(stream, first, 1, 0, 0, 0);
+    PIECE(stream, first, 1, 1, LPT_PIECE_DAMAGED, first);
+    stream[first] = 0x38;
+    PIECE(stream, sizeof stream, 1, 0, LPT_PIECE_STRAY, 1);
+}
+
 /* Reads octets of which some are changed: each pair in `changes` is a place and what stands
    there. */
 static uint32_t read_changed(const uint8_t *octets, size_t len, size_t place, uint8_t octet) {
@@ -395,7 +440,11 @@ static void requests(void) {
     static const LptRange empty[] = {{1, 2}, {3, 0}};
     static const uint8_t body[] = {9, 2, 1, 2, 3, 4, 5, 6, 0, 0, 0, 0, 0xff, 0xff};
     static const uint8_t told[] = {9, 2, 0, 0, 0, 0, 0, 1, 1, 1, 1, 2, 3, 4, 5, 6, 7, 8};
+    static const uint8_t dump[] = {9,    2,    0, 0, 0, 0x10, 0, 2, 0,    0,   0x1d,
+                                   0x0f, 0xff, 0, 0, 0, 0,    1, 0, 0xe1, 0xf1};
     static uint8_t most[2 + 6 * 255];
+    LptDumped dumped = {7, 7, 7, 7, 7};
+    uint8_t *long_load = buffer(65520);
     LptChecked area = {0, 0, 0, 0, 0};
     size_t k;
     most[0] = 7;
@@ -408,6 +457,23 @@ static void requests(void) {
         most[2 + 6 * k + 3] = (uint8_t)k;
         most[2 + 6 * k + 5] = 1;
     }
+    /* A load's body is that of the report which answers a dump. */
+    WRITES(lpt_write_load(1, 16, dump + 8, 2, out, out_len, &needed), DUMPED + 17, 12);
+    REFUSES(lpt_write_load(1, 16, dump, 0, out, out_len, &needed), LPT_E_BAD_AREA);
+    REFUSES(lpt_write_load(1, 16, long_load, 65520, out, out_len, &needed), LPT_E_LONG_LOAD);
+    k = 0;
+    EXPECT(lpt_write_load(1, 16, long_load, 65519, long_load, 0, &k) == LPT_E_ROOM && k == 65529);
+    free(long_load);
+    EXPECT(lpt_read_dump(dump, 21, 0, &dumped) == LPT_DONE && dumped.memory == 9);
+    EXPECT(dumped.areas == 2 && dumped.address == 16 && dumped.at == 8 && dumped.len == 2);
+    EXPECT(lpt_read_dump(dump, 21, 1, &dumped) == LPT_E_CHECKSUM && dumped.at == 8);
+    EXPECT(lpt_read_dump(dump, 21, 2, &dumped) == LPT_E_RANGE && dumped.at == 8);
+    EXPECT(lpt_read_dump(dump, 20, 0, &dumped) == LPT_E_NO_REPORT && dumped.at == 8);
+    EXPECT(lpt_read_dump(dump, 12, 0, &dumped) == LPT_E_NO_REPORT);
+    EXPECT(lpt_read_dump(dump, 1, 0, &dumped) == LPT_E_NO_REPORT);
+    EXPECT(lpt_read_dump(told + 2, 2, 0, &dumped) == LPT_E_NO_REPORT && dumped.at == 8);
+    EXPECT(lpt_read_dump(DUMPED + 17, 12, 0, &dumped) == LPT_DONE && dumped.memory == 1);
+    EXPECT(dumped.areas == 1 && lpt_read_dump(DUMPED + 17, 13, 0, &dumped) == LPT_E_NO_REPORT);
     WRITES(lpt_write_dump(9, two, 2, out, out_len, &needed), body, sizeof body);
     WRITES(lpt_write_check(9, two, 2, out, out_len, &needed), body, sizeof body);
     WRITES(lpt_write_dump(7, places, 255, out, out_len, &needed), most, sizeof most);
@@ -426,6 +492,7 @@ static void requests(void) {
 int main(void) {
     checksums();
     lengths();
+    pieces();
     packets();
     commands();
     telemetry();

@@ -25,7 +25,8 @@ from model.packets import (  # noqa: E402: it stands there
     write_command,
     write_packet,
 )
-from model.parts import part_count, read_part  # noqa: E402: so does this
+from model.memories import load_body  # noqa: E402: so does this
+from model.parts import part_count, read_part  # noqa: E402: and this
 
 TURNS = 10_000
 LONGEST = 65542
@@ -70,6 +71,7 @@ LptTmHead = structure(
 LptTm = structure(head=LptTmHead, at=SIZE, len=SIZE)
 LptPart = structure(id=U16, number=U16, kind=U32, at=SIZE, len=SIZE)
 LptAbort = structure(id=U16, reason=U16)
+LptDumped = structure(memory=U8, areas=U8, address=U32, at=SIZE, len=SIZE)
 LptReport = structure(request=U32, failed=U16, code=U16)
 
 
@@ -170,6 +172,42 @@ def told_length(octets):
     return (IDLE if number_of(octets[:2]) % 2048 == 2047 else 0), 7 + number_of(octets[4:6])
 
 
+def begins(octets, in_step):
+    """Whether a packet begins with these octets; in step an idle one counts."""
+    code, _ = seen(octets[: 7 + number_of(octets[4:6])] if len(octets) > 5 else octets)
+    return code == 0 or in_step and code == IDLE
+
+
+def may_begin(octets):
+    """Whether a packet that isn't idle may begin with these octets and others behind them."""
+    first = number_of(octets[:2]) if len(octets) > 1 else number_of(octets[:1]) << 8 | 0x0800
+    return (
+        not first >> 13 and first & 0x0800 != 0 and (len(octets) < 2 or first % 2048 < 2047)
+        and (len(octets) < 4 or octets[2] >> 6 == 3) and (len(octets) < 6 or any(octets[4:6]))
+    )
+
+
+def is_framed(octets):
+    """Whether as many octets are there as the header says."""
+    return len(octets) > 5 and len(octets) >= 7 + number_of(octets[4:6])
+
+
+def told_piece(octets, in_step, is_end):
+    """What lpt_find_piece has to tell: a kind and a size, or that more is wanted."""
+    size = 7 + number_of(octets[4:6]) if len(octets) > 5 else len(octets)
+    behind = octets[size:]
+    if octets and begins(octets, in_step):
+        return 0, 1, size
+    if is_framed(octets):
+        waits = in_step and may_begin(behind) and not is_framed(behind)
+    else:
+        waits = in_step or may_begin(octets)
+    if not octets or waits and not is_end:
+        return MORE, 0, 0
+    is_passed = in_step and is_framed(octets) and (not behind or begins(behind, False))
+    return (0, 2, size) if is_passed else (0, 3, 1)
+
+
 class Turns:
     """Cases of each kind, by random numbers that are the same each time."""
 
@@ -211,6 +249,53 @@ class Turns:
         length = SIZE(0)
         code = calls.call("lpt_packet_length", octets, length)
         calls.wants(name, (code, length.value), told_length(octets))
+
+    def piece(self, octets, in_step, is_end):
+        """The piece in front, which the library has to tell as well."""
+        kind, size = U32(0), SIZE(0)
+        code = self.calls.call("lpt_find_piece", octets, in_step, is_end, kind, size)
+        got, wanted = (code, kind.value, size.value), told_piece(octets, in_step, is_end)
+        self.calls.wants(f"piece {octets.hex()} {in_step} {is_end}", got, wanted)
+        return wanted
+
+    def stream(self):
+        """A stream of packets, whole or damaged, cut into pieces all at once and as it comes."""
+        stream = b"".join(self.packet() for _ in range(self.random.randrange(1, 6)))
+        at, in_step, came, pieces = 0, 1, 0, []
+        while at < len(stream):
+            _, kind, size = self.piece(stream[at:], in_step, 1)
+            code, *found = self.piece(stream[at:came], in_step, int(came == len(stream)))
+            while code == MORE and came < len(stream):
+                came = min(came + self.random.randrange(1, 30), len(stream))
+                code, *found = self.piece(stream[at:came], in_step, int(came == len(stream)))
+            self.calls.wants("the same piece", (code, *found), (0, kind, size))
+            pieces.append(stream[at : at + size])
+            at, in_step = at + size, int(kind != 3)
+        self.calls.wants("all of it", b"".join(pieces), stream)
+
+    def memories(self):
+        """Loads, and reports of dumps, whole or damaged."""
+        r, calls = self.random, self.calls
+        memory = r.randrange(256)
+        areas = [(r.randrange(1 << 32), r.randbytes(r.randrange(1, 40))) for _ in range(3)]
+        address, octets = areas[0]
+        text, room = load_body(memory, areas[:1]), len(octets) + r.choice([0, 9, 10, 300])
+        got = calls.write("lpt_write_load", memory, address, octets, room=room)
+        self.wants_text("write_load", got, text)
+        body, at = bytearray(load_body(memory, areas)), 2
+        wrong = r.choice([None, None, *range(len(areas))])
+        for number, (address, octets) in enumerate(areas):
+            wanted = 0, (memory, len(areas), address, at + 6, len(octets))
+            if wrong == number:
+                body[at + 6] ^= 1 << r.randrange(8)
+                wanted = 6, True
+            got = calls.read("lpt_read_dump", LptDumped, bytes(body), number)
+            calls.wants("read_dump", got, wanted)
+            at += 8 + len(octets)
+        other = r.choice([bytes(body[: r.randrange(len(body))]), bytes(body) + b"1"])
+        calls.wants("no dump", calls.read("lpt_read_dump", LptDumped, other, 0), (NO_REPORT, True))
+        got = calls.read("lpt_read_dump", LptDumped, bytes(body), len(areas))
+        calls.wants("no area", got, (RANGE, True))
 
     def wants_text(self, case, got, text):
         """What a writer left and told, where this is what it writes."""
@@ -323,6 +408,8 @@ def main(path):
         turns.writing()
         turns.splitting()
         turns.bodies()
+        turns.stream()
+        turns.memories()
     print(f"{calls.passed} passed, {calls.failed} failed")
     return calls.failed != 0
 

@@ -83,6 +83,14 @@ static int take_packet(LptEnd *end) {
            lpt_end_sent(end) == LPT_DONE;
 }
 
+/* Whether an end tells that so much is to be done. */
+static int has(LptEnd *end, uint32_t clock, uint32_t due, size_t outgoing, size_t unread,
+               size_t requests) {
+    LptView view = {9, 9, 9, 9, 9};
+    return lpt_end_view(end, &view) == LPT_DONE && view.clock == clock && view.due == due &&
+           view.outgoing == outgoing && view.unread == unread && view.requests == requests;
+}
+
 /* The packet of a part. */
 static int make_part(LptEnd *end, const LptName *name, uint16_t k) {
     return lpt_end_part(end, name, k) == LPT_DONE && take_packet(end);
@@ -171,9 +179,12 @@ static void lost_part(void) {
     EXPECT(told(carry(&ground, &craft, &NAME, 3), LPT_OUTCOME_KEPT, &NAME, 3, 0));
     for (tick = 0; tick < 19; tick++) {
         EXPECT(lpt_end_expire(&craft, &name) == LPT_E_NOTHING_DUE && same(name, &NONE));
+        EXPECT(has(&craft, CONFIG.clock + tick, 0, 0, 0, 0));
         DONE(lpt_end_tick(&craft));
     }
+    EXPECT(has(&craft, CONFIG.clock + 19, 1, 0, 0, 0));
     EXPECT(lpt_end_expire(&craft, &name) == LPT_DONE && same(name, &NAME));
+    EXPECT(has(&craft, CONFIG.clock + 19, 0, 1, 0, 0));
     EXPECT(take_packet(&craft) && packet_is(ABORTED, sizeof ABORTED));
     EXPECT(told(taken(&ground, ABORTED, sizeof ABORTED), LPT_OUTCOME_ABORT_NOTED, &NAME, 1, 0));
     EXPECT(lpt_end_part(&ground, &NAME, 2) == LPT_E_NOT_OPEN);
@@ -499,6 +510,7 @@ static void refused_calls(void) {
     LptConfig config = CONFIG;
     LptEnd end = LPT_END_EMPTY;
     LptOutcome said = {7, NAME, 7, 7};
+    LptView view = {9, 9, 9, 9, 9};
     size_t len = 99;
     uint32_t state = 9;
     LptName name = NAME;
@@ -513,6 +525,7 @@ static void refused_calls(void) {
            lpt_end_finish(&end, &NAME) == LPT_E_EMPTY);
     EXPECT(lpt_end_retire(&end, 2, &NAME) == LPT_E_EMPTY && lpt_end_restart(&end) == LPT_E_EMPTY);
     EXPECT(lpt_end_name(&end, 0, &NAME, &state) == LPT_E_EMPTY && state == 9);
+    EXPECT(lpt_end_view(&end, &view) == LPT_E_EMPTY && view.clock == 9 && view.requests == 9);
     EXPECT(lpt_end_read(&end) == LPT_E_EMPTY);
     EXPECT(lpt_end_plain(&end, 1, 16, 13, 9, got, 9) == LPT_E_EMPTY);
     EXPECT(lpt_end_memory(&end, 1, got, sizeof got, &len) == LPT_E_EMPTY && len == 99);
@@ -673,12 +686,14 @@ static void dropped(void) {
     EXPECT(command(&craft, head, check, sizeof check).kind == LPT_OUTCOME_PLAIN_RELEASED);
     EXPECT(command(&craft, head, check, sizeof check).kind == LPT_OUTCOME_PLAIN_RELEASED);
     DONE(lpt_end_asked(&craft, &service, &subtype));
-    EXPECT(service == 6 && subtype == 9);
+    EXPECT(service == 6 && subtype == 9 && has(&craft, CONFIG.clock, 0, 0, 2, 2));
     DONE(lpt_end_drop(&craft));
+    EXPECT(has(&craft, CONFIG.clock, 0, 0, 1, 2));
     DONE(lpt_end_read(&craft));
     EXPECT(lpt_end_drop(&craft) == LPT_E_NO_JOB);
     DONE(lpt_end_execute(&craft, &applied));
     EXPECT(applied.kind == LPT_APPLIED_SILENT && !take_packet(&craft));
+    EXPECT(has(&craft, CONFIG.clock, 0, 0, 0, 1));
     DONE(lpt_end_execute(&craft, &applied));
     EXPECT(applied.kind == LPT_APPLIED_CARRIED_OUT && take_packet(&craft));
     long_release(&craft);

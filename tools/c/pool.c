@@ -1,7 +1,7 @@
 /*
  * A link over the pool of examples/c/memory/pool.c. Each of its requests for memory is refused in
- * turn: the call says so, the end is as it was, and the same call, made again, goes on. And what a
- * pool of 256 KiB holds.
+ * turn: the call says so, the end is as it was, and the same call, made again, goes on. The ends are
+ * freed behind each call in turn, and all memory is given back. And what a pool of 256 KiB holds.
  *
  * It prints how many cases passed and failed. tests/c compiles it with the pool, once with 1 MiB,
  * and once with 256 KiB and SMALL.
@@ -61,6 +61,17 @@ static unsigned again;
     } while (0)
 
 #ifndef SMALL
+/* Behind so many calls both ends are freed; never where it is negative. */
+static long freed_behind = -1;
+
+#define STEP(call)                                                                                 \
+    do {                                                                                           \
+        TRY(call);                                                                                 \
+        if (freed_behind >= 0 && freed_behind-- == 0) {                                            \
+            goto freed;                                                                            \
+        }                                                                                          \
+    } while (0)
+
 /* A message up with a lost part, an expiry and its report; a message down; a request that is
    executed; all by calls that are made again. */
 static void link_pass(void) {
@@ -74,59 +85,97 @@ static void link_pass(void) {
     size_t len = 0;
     LptName name = {0, 0};
     uint16_t k;
-    TRY(lpt_end_new(&ground, LPT_SIDE_GROUND, &config, memories, 0, memory, 0));
-    TRY(lpt_end_new(&craft, LPT_SIDE_SPACECRAFT, &config, memories, 2, memory, 100));
-    TRY(lpt_end_open(&ground, &joined, message, 300));
-    TRY(lpt_end_open(&ground, &lost, message, 300));
-    TRY(lpt_end_open(&craft, &down, message, 100));
+    STEP(lpt_end_new(&ground, LPT_SIDE_GROUND, &config, memories, 0, memory, 0));
+    STEP(lpt_end_new(&craft, LPT_SIDE_SPACECRAFT, &config, memories, 2, memory, 100));
+    STEP(lpt_end_open(&ground, &joined, message, 300));
+    STEP(lpt_end_open(&ground, &lost, message, 300));
+    STEP(lpt_end_open(&craft, &down, message, 100));
     for (k = 1; k <= 5; k++) {
-        TRY(lpt_end_part(&ground, &joined, k));
+        STEP(lpt_end_part(&ground, &joined, k));
         EXPECT(lpt_end_outgoing(&ground, packet, sizeof packet, &len) == LPT_DONE);
         EXPECT(lpt_end_sent(&ground) == LPT_DONE);
-        TRY(lpt_end_packet(&craft, packet, len, &told));
+        STEP(lpt_end_packet(&craft, packet, len, &told));
         EXPECT(told.kind == (uint32_t)(k == 5 ? LPT_OUTCOME_RELEASED : LPT_OUTCOME_KEPT));
         EXPECT(told.name.source == 1 && told.name.id == 5);
     }
     EXPECT(lpt_end_released(&craft, got, sizeof got, &len) == LPT_DONE && len == 300);
     EXPECT(memcmp(got, message, 300) == 0);
-    TRY(lpt_end_part(&ground, &lost, 2));
+    STEP(lpt_end_part(&ground, &lost, 2));
     EXPECT(lpt_end_outgoing(&ground, packet, sizeof packet, &len) == LPT_DONE);
     EXPECT(lpt_end_sent(&ground) == LPT_DONE);
-    TRY(lpt_end_packet(&craft, packet, len, &told));
+    STEP(lpt_end_packet(&craft, packet, len, &told));
     EXPECT(lpt_end_tick(&craft) == LPT_DONE && lpt_end_tick(&craft) == LPT_DONE);
-    TRY(lpt_end_expire(&craft, &name));
+    STEP(lpt_end_expire(&craft, &name));
     EXPECT(name.source == 2 && name.id == 5);
     EXPECT(lpt_end_outgoing(&craft, packet, sizeof packet, &len) == LPT_DONE);
     EXPECT(lpt_end_sent(&craft) == LPT_DONE);
-    TRY(lpt_end_packet(&ground, packet, len, &told));
+    STEP(lpt_end_packet(&ground, packet, len, &told));
     EXPECT(told.kind == LPT_OUTCOME_ABORT_NOTED && told.name.source == 2 && told.first == 1);
-    TRY(lpt_end_part(&craft, &down, 1));
-    TRY(lpt_end_part(&craft, &down, 2));
+    STEP(lpt_end_part(&craft, &down, 1));
+    STEP(lpt_end_part(&craft, &down, 2));
     while (lpt_end_outgoing(&craft, packet, sizeof packet, &len) == LPT_DONE) {
-        TRY(lpt_end_packet(&ground, packet, len, &told));
+        STEP(lpt_end_packet(&ground, packet, len, &told));
         EXPECT(lpt_end_sent(&craft) == LPT_DONE);
     }
     EXPECT(told.kind == LPT_OUTCOME_RELEASED && told.name.id == 7 && told.first == 100);
-    TRY(lpt_end_read(&craft));
+    STEP(lpt_end_read(&craft));
     EXPECT(lpt_end_outgoing(&craft, packet, sizeof packet, &len) == LPT_E_NOTHING);
-    TRY(lpt_end_execute(&craft, &applied));
+    STEP(lpt_end_execute(&craft, &applied));
     EXPECT(applied.kind == LPT_APPLIED_SILENT);
-    TRY(lpt_end_plain(&ground, 1, 11, 6, 5, dump, sizeof dump));
+    STEP(lpt_end_plain(&ground, 1, 11, 6, 5, dump, sizeof dump));
     EXPECT(lpt_end_outgoing(&ground, packet, sizeof packet, &len) == LPT_DONE);
-    TRY(lpt_end_packet(&craft, packet, len, &told));
-    TRY(lpt_end_read(&craft));
-    TRY(lpt_end_execute(&craft, &applied));
+    STEP(lpt_end_packet(&craft, packet, len, &told));
+    STEP(lpt_end_read(&craft));
+    STEP(lpt_end_execute(&craft, &applied));
     EXPECT(applied.kind == LPT_APPLIED_CARRIED_OUT);
-    TRY(lpt_end_packet(&craft, packet, len, &told));
-    TRY(lpt_end_drop(&craft));
-    TRY(lpt_end_restart(&craft));
-    TRY(lpt_end_state(&craft, got, sizeof got, &len));
+    STEP(lpt_end_packet(&craft, packet, len, &told));
+    STEP(lpt_end_drop(&craft));
+    STEP(lpt_end_restart(&craft));
+    STEP(lpt_end_state(&craft, got, sizeof got, &len));
     lpt_end_free(&craft);
-    TRY(lpt_end_resume(&craft, LPT_SIDE_SPACECRAFT, &config, got, len, memories, 2, memory, 100));
-    TRY(lpt_end_state(&craft, packet, sizeof packet, &len));
+    STEP(lpt_end_resume(&craft, LPT_SIDE_SPACECRAFT, &config, got, len, memories, 2, memory, 100));
+    STEP(lpt_end_state(&craft, packet, sizeof packet, &len));
     EXPECT(packet[34] == got[34] + 1);
+freed:
     lpt_end_free(&ground);
     lpt_end_free(&craft);
+    EXPECT(lpt_pool_used() == 0);
+}
+
+/* Where no end is made, nothing is taken: of other memories, and of a state that is cut or in which
+   an octet is another. */
+static void refused_ends(void) {
+    static const LptConfig config = {100, 64, 2, 4, 4, 0, LPT_MODE_ANY};
+    static const LptMemory memories[] = {{1, 0, 60}, {2, 60, 40}, {1, 0, 4}};
+    static const LptName name = {1, 7};
+    LptEnd end = LPT_END_EMPTY;
+    size_t len = 0, at;
+    uint32_t said;
+    for (at = 0; at <= 3; at++) {
+        said = lpt_end_new(&end, LPT_SIDE_SPACECRAFT, &config, memories, at, memory, 60 + 40);
+        EXPECT(said == (uint32_t)(at == 0 || at == 3 ? LPT_E_MEMORIES : LPT_DONE));
+        lpt_end_free(&end);
+        EXPECT(lpt_pool_used() == 0);
+    }
+    EXPECT(lpt_end_new(&end, LPT_SIDE_SPACECRAFT, &config, memories, 2, memory, 99) ==
+           LPT_E_MEMORIES);
+    EXPECT(lpt_pool_used() == 0);
+    TRY(lpt_end_new(&end, LPT_SIDE_SPACECRAFT, &config, memories, 2, memory, 100));
+    TRY(lpt_end_open(&end, &name, message, 300));
+    TRY(lpt_end_state(&end, got, sizeof got, &len));
+    lpt_end_free(&end);
+    for (at = 0; at < len; at++) {
+        said =
+            lpt_end_resume(&end, LPT_SIDE_SPACECRAFT, &config, got, at, memories, 2, memory, 100);
+        EXPECT(said != LPT_DONE && said != LPT_E_ALLOCATION && lpt_pool_used() == 0);
+        got[at] ^= 1;
+        said =
+            lpt_end_resume(&end, LPT_SIDE_SPACECRAFT, &config, got, len, memories, 2, memory, 100);
+        EXPECT(said != LPT_DONE && said != LPT_E_ALLOCATION && lpt_pool_used() == 0);
+        got[at] ^= 1;
+    }
+    EXPECT(lpt_end_resume(&end, LPT_SIDE_SPACECRAFT, &config, got, len, memories, 3, memory, 100) ==
+           LPT_E_MEMORIES);
     EXPECT(lpt_pool_used() == 0);
 }
 
@@ -145,6 +194,14 @@ int main(void) {
     } while (refused_at < 0 && at < 1000);
     /* The last pass asked for less. */
     EXPECT(at > 40 && at < 1000);
+    /* All is given back, whatever the end held. */
+    refused_at = -1;
+    for (at = 0; freed_behind < 0 && at < 1000; at++) {
+        freed_behind = at;
+        link_pass();
+    }
+    EXPECT(at > 20 && at < 1000);
+    refused_ends();
     printf("%u passed, %u failed\n", passed, failed);
     return failed != 0;
 }

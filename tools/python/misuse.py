@@ -24,7 +24,7 @@ CALLS = {
     "feed": (b"",), "released": (), "expire": (), "open": (NAME, bytes(20)), "part": (NAME, 1), "parts": (NAME,),
     "plain": (6, 5, b""), "request": (forgesilver.Dump(1, [forgesilver.Area(0, 1)]),), "finish": (NAME,),
     "first": (), "sent": (), "outgoing": (), "read": (), "execute": (), "serve": (), "memory": (1,), "tick": (),
-    "retire": (Direction.UP, NAME), "restart": (),
+    "retire": (Direction.UP, NAME), "restart": (), "view": (),
 }
 NAMED = {"plain": {"source": 1}, "request": {"source": 1}}
 JUNK = [
@@ -217,8 +217,11 @@ def codec_faults(want) -> None:
         (f.write_part, (f.Part(f.PartKind.FIRST, 1, 1, bytes(7)), 8), e.PartLength), (f.read_report, (5, bytes(4)), e.NoReport),
         (f.write_report, (f.VerificationReport(f.ReportKind.NOT_STARTED, 1, 99),), e.Range),
         (f.Load(1, []).body, (), e.BadArea), (f.Load(1, [f.Loaded(0, b"")]).body, (), e.BadArea),
-        (f.Load(1, [f.Loaded(0, bytes(65520))]).body, (), e.TooLong), (f.Load(256, [f.Loaded(0, b"1")]).body, (), e.Range),
+        (f.Load(1, [f.Loaded(0, bytes(65520))]).body, (), e.LongLoad), (f.Load(256, [f.Loaded(0, b"1")]).body, (), e.Range),
         (f.Dump(1, [f.Area(0, 65536)]).body, (), e.Range), (f.Check(1, [f.Area(0, 1)] * 256).body, (), e.BadArea),
+        (f.Load(1, [f.Loaded(0, bytes(32760))] * 2).body, (), e.LongLoad), (f.write_load, (1, 1 << 32, b"1"), e.Range),
+        (f.read_dump, (b"\1\0",), e.NoReport), (f.read_dump, (bytes.fromhex("010100000010000200001d0e"),), e.Checksum),
+        (f.read_check, (b"\1\1" + bytes(7),), e.NoReport), (f.read_data_report, (f.Telemetry(100, 0, 6, 7, 1),), e.NoReport),
         (f.packets_of, (b"\0",), e.More), (f.packets_of, (f.write_telecommand(tc) + b"\xff",), e.Version),
     ]
     for call, words, fault in rows:

@@ -1,2 +1,4 @@
+pub mod DumpLemmas
+pub mod LoadLemmas
 pub mod RequestLemmas
 pub mod TextLemmas

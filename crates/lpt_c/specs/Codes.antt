@@ -23,6 +23,10 @@ done = 0
 abbrev pub version : ℕ
 version = packet.code_of packet_fault.Version
 
+-- a checksum isn't that of its octets
+abbrev pub wrong_checksum : ℕ
+wrong_checksum = packet.code_of packet_fault.Checksum
+
 -- the packet would be longer than the longest
 abbrev pub too_long : ℕ
 too_long = pus.code_of pus_fault.TooLong
@@ -36,6 +40,10 @@ kind_number_fault = part.code_of part_fault.KindNumber
 
 abbrev pub part_length : ℕ
 part_length = part.code_of part_fault.PartLength
+
+-- a load's packet would be longer than the longest
+abbrev pub long_load : ℕ
+long_load = memory.code_of memory_fault.TooLong
 
 -- a request names no area of a memory, more than 255, or an empty one
 abbrev pub bad_area : ℕ

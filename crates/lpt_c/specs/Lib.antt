@@ -3,8 +3,11 @@ pub mod Buffers
 pub mod Checks
 pub mod Codes
 pub mod Commands
+pub mod Dumps
+pub mod Loads
 pub mod Packets
 pub mod Parts
+pub mod Pieces
 pub mod Readings
 pub mod Reports
 pub mod Requests

@@ -3,6 +3,9 @@
 // Done.
 pub(crate) const DONE: u32 = 0;
 
+// The fault of a checksum that isn't that of its octets.
+pub(crate) const CHECKSUM: u32 = 6;
+
 // The fault of a packet that would be too long.
 pub(crate) const TOO_LONG: u32 = 14;
 
@@ -12,6 +15,9 @@ pub(crate) const ZERO: u32 = 21;
 pub(crate) const KIND_NUMBER: u32 = 22;
 
 pub(crate) const PART_LENGTH: u32 = 23;
+
+// A load whose packet would be too long.
+pub(crate) const LONG_LOAD: u32 = 27;
 
 // No area of a memory, too many, or an empty one.
 pub(crate) const BAD_AREA: u32 = 28;

@@ -90,12 +90,28 @@ pub(crate) fn fill(front: &[u8], rest: &[u8], out: &mut [u8], needed: &mut usize
     ensures buffer { out.new ≡ left_by (Ok (front.now ++ rest.now)) out.old }
     ensures needed { needed.new ≡ length (front.now ++ rest.now) }
 {
-    *needed = front.len() + rest.len();
+    fill_three(&[], front, rest, out, needed)
+}
+
+// Writes three pieces, one behind the other, to the front of a buffer, where it has room.
+pub(crate) fn fill_three(
+    first: &[u8],
+    second: &[u8],
+    third: &[u8],
+    out: &mut [u8],
+    needed: &mut usize,
+) -> u32
+    requires { length first.now + length second.now + length third.now ≤ longest_packet }
+    ensures code { result ≡ code_for (Ok (first.now ++ second.now ++ third.now)) out.old }
+    ensures buffer { out.new ≡ left_by (Ok (first.now ++ second.now ++ third.now)) out.old }
+    ensures needed { needed.new ≡ length (first.now ++ second.now ++ third.now) }
+{
+    *needed = first.len() + second.len() + third.len();
     if out.len() < *needed {
         return ROOM;
     }
     let (text, _) = out.split_at_mut(*needed);
-    join_into(&[], front, rest, text);
+    join_into(first, second, third, text);
     DONE
 }
 

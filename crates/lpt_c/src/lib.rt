@@ -16,9 +16,12 @@ mod checks;
 mod checksum;
 mod codes;
 mod commands;
+mod dumps;
 mod filling;
+mod loads;
 mod packets;
 mod parts;
+mod pieces;
 mod reports;
 mod requests;
 mod streams;
@@ -29,10 +32,13 @@ pub use aborts::{LptAbort, lpt_read_abort, lpt_write_abort};
 pub use checks::{LptChecked, lpt_read_check};
 pub use checksum::lpt_crc16;
 pub use commands::{LptTc, LptTcHead, lpt_read_tc, lpt_request_id, lpt_write_tc};
+pub use dumps::{LptDumped, lpt_read_dump};
+pub use loads::lpt_write_load;
 pub use packets::{LptPacket, lpt_read_packet, lpt_write_packet};
 pub use parts::{
     LptPart, lpt_part_count, lpt_part_kind, lpt_read_part, lpt_slice_part, lpt_write_part,
 };
+pub use pieces::lpt_find_piece;
 pub use reports::{LptReport, lpt_read_report, lpt_write_report};
 pub use requests::{LptRange, lpt_write_check, lpt_write_dump};
 pub use streams::lpt_packet_length;

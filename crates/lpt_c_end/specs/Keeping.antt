@@ -1,5 +1,5 @@
 -- The state of an end as octets, and an end that is made again of them.
-use Rattle.std.specs.Prelude.{◌≡◌, ◌⊎◌, ℕ, ◌+◌, ◌<◌, ◌^◌, nat_lt, ◌||◌, if◌then◌else◌, List, [], Option, Some, None, Result, Ok, Err}
+use Rattle.std.specs.Prelude.{◌≡◌, ℕ, ◌+◌, ◌<◌, ◌^◌, nat_lt, ◌||◌, if◌then◌else◌, List, [], Option, Some, None, Result, Ok, Err}
 use Rattle.lpt_events.specs.Configs.{config_fault}
 use Rattle.lpt_events.specs.declared.config.Config.{Config}
 use Rattle.lpt_events.specs.declared.config_fault.ConfigFault.{ConfigFault}
@@ -12,7 +12,7 @@ use Rattle.lpt_state.specs.Spellings.{spelled}
 use Rattle.lpt_state.specs.Verdicts.{reading}
 use Rattle.lpt_c_end.specs.Codes.{config_code, empty, full, memory, no_number, range}
 use Rattle.lpt_c_end.specs.Contents.{memories_of}
-use Rattle.lpt_c_end.specs.Copies.{code_for, Text}
+use Rattle.lpt_c_end.specs.Copies.{Text}
 use Rattle.lpt_c_end.specs.Refusals.{memory_refusal}
 use Rattle.lpt_c_end.specs.Words.{config_from, side_from}
 use Rattle.lpt_c_end.specs.declared.end.End.{End}
@@ -25,11 +25,6 @@ use Rattle.lpt_c_end.specs.declared.words.LptConfig.{LptConfig}
 abbrev pub state_text : Option End → Text
 state_text None = Err empty
 state_text (Some e) = Ok (spelled e.node)
-
--- the answer where a text that takes memory is to be copied to a buffer that holds these octets
-abbrev pub IsCopied : Text → List ℕ → ℕ → Type 0
-IsCopied (Err e) old code = code ≡ e
-IsCopied (Ok text) old code = (code ≡ code_for (Ok text) old) ⊎ (code ≡ memory)
 
 -- what is read of the end's state, by its side and configuration, is the end that a restart leaves,
 -- where a number is left for one

@@ -8,4 +8,5 @@ pub mod Held
 pub mod Keeping
 pub mod Ready
 pub mod Refusals
+pub mod Views
 pub mod Words

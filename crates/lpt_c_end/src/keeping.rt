@@ -5,43 +5,40 @@ ghost use Rattle.lpt_events.specs.Configs.{IsConfig};
 ghost use Rattle.lpt_state.specs.Spellings.{spelled};
 ghost use Rattle.lpt_c_end.specs.Calls.{IfHeld};
 ghost use Rattle.lpt_c_end.specs.Codes.{IsAnswer};
-ghost use Rattle.lpt_c_end.specs.Copies.{left_by, needed_by};
-ghost use Rattle.lpt_c_end.specs.Keeping.{kept_refusal, resume_refusal, state_code, state_text, IsCopied, IsResumed, ReadsAsRestarted};
+ghost use Rattle.lpt_c_end.specs.Copies.{code_for, left_by, needed_by};
+ghost use Rattle.lpt_c_end.specs.Keeping.{kept_refusal, resume_refusal, state_code, state_text, IsResumed, ReadsAsRestarted};
 ghost use Rattle.lpt_c_end.specs.Words.{config_from, side_from};
 
 use crate::codes::{
     BAD_MEMORIES, CHECKSUM, CONFIG, DONE, EMPTY, FULL, LENGTH, MEMORY, NO_NUMBER, ORDER, RANGE,
-    SHORT, SIDE, TAG, VERSION,
+    ROOM, SHORT, SIDE, TAG, VERSION,
 };
-use crate::copying::copy_out;
 use crate::end::End;
 use crate::handle::{LptEnd, put, take};
 use crate::memories::{LptMemory, are_for, memories_for};
 use crate::words::{LptConfig, config_of, side_of};
 use lpt_events::{Config, Side};
 use lpt_state::laws::written_is_read;
-use lpt_state::{StateFault, read_state, write_state};
-use std::alloc::{AllocError, Global};
+use lpt_state::{StateFault, read_state, state_len, write_state_into};
+use std::alloc::Global;
 use std::collections::VecDeque;
 
 /// Copies the state of the end to the front of a buffer: what of it outlasts a restart. An end that
 /// is made of it is the one that a restart would leave.
 ///
-/// 0; 106 where the handle is empty; 103 where the buffer is too short; 58 when out of memory, and
-/// then nothing is copied. At 0 and at 103 `needed` says how many octets the state has.
+/// 0; 106 where the handle is empty; 103 where the buffer is too short. At 0 and at 103 `needed`
+/// says how many octets the state has. It takes no memory.
 pub fn lpt_end_state(alloc: Global, end: &mut LptEnd, out: &mut [u8], needed: &mut usize) -> u32
-    ensures code { IsCopied (state_text end.old.held.value) out.old result }
-    ensures buffer { ¬ (result ≡ 58) → out.new ≡ left_by (state_text end.old.held.value) out.old }
-    ensures needed { ¬ (result ≡ 58)
-        → needed.new ≡ needed_by (state_text end.old.held.value) needed.old }
-    ensures untold { result ≡ 58 → (out.new ≡ out.old) × (needed.new ≡ needed.old) }
+    ensures code { result ≡ code_for (state_text end.old.held.value) out.old }
+    ensures buffer { out.new ≡ left_by (state_text end.old.held.value) out.old }
+    ensures needed { needed.new ≡ needed_by (state_text end.old.held.value) needed.old }
     ensures again { result ≡ 0 → IfHeld ReadsAsRestarted end.old.held.value }
     ensures same { end.new.held.value ≡ end.old.held.value }
 {
     let Some(held) = take(alloc, end) else {
         return EMPTY;
     };
-    let code = held.copy_state(alloc, out, needed);
+    let code = held.copy_state(out, needed);
     put(end, held);
     code
 }
@@ -93,22 +90,20 @@ pub fn lpt_end_resume(
 
 impl End {
     // Copies the state to the front of a buffer.
-    fn copy_state(&self, alloc: Global, out: &mut [u8], needed: &mut usize) -> u32
-        ensures code { IsCopied (Ok (spelled self.now.node)) out.old result }
-        ensures buffer { ¬ (result ≡ 58) → out.new ≡ left_by (Ok (spelled self.now.node)) out.old }
-        ensures needed { ¬ (result ≡ 58)
-            → needed.new ≡ needed_by (Ok (spelled self.now.node)) needed.old }
-        ensures untold { result ≡ 58 → (out.new ≡ out.old) × (needed.new ≡ needed.old) }
-        ensures again { result ≡ 0 → ReadsAsRestarted self.now }
+    fn copy_state(&self, out: &mut [u8], needed: &mut usize) -> u32
+        ensures code { result ≡ code_for (Ok (spelled self.now.node)) out.old }
+        ensures buffer { out.new ≡ left_by (Ok (spelled self.now.node)) out.old }
+        ensures needed { needed.new ≡ needed_by (Ok (spelled self.now.node)) needed.old }
+        ensures again { ReadsAsRestarted self.now }
     {
-        let mut octets = Vec::new(alloc);
-        match write_state(&self.node, &mut octets) {
-            Ok(()) => {
-                written_is_read();
-                copy_out(&octets, out, needed)
-            }
-            Err(AllocError) => MEMORY,
+        written_is_read();
+        let len = state_len(&self.node);
+        *needed = len;
+        if out.len() < len {
+            return ROOM;
         }
+        write_state_into(&self.node, out);
+        DONE
     }
 
     // An end made of a state, or the number of the fault.

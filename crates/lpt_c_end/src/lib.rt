@@ -27,6 +27,7 @@ mod receiving;
 mod requesting;
 mod sending;
 mod upkeep;
+mod viewing;
 mod words;
 
 pub use dropping::{lpt_end_asked, lpt_end_drop};
@@ -39,4 +40,5 @@ pub use receiving::{lpt_end_expire, lpt_end_packet, lpt_end_released};
 pub use requesting::lpt_end_plain;
 pub use sending::{lpt_end_finish, lpt_end_open, lpt_end_outgoing, lpt_end_part, lpt_end_sent};
 pub use upkeep::{lpt_end_name, lpt_end_restart, lpt_end_retire, lpt_end_tick};
+pub use viewing::{LptView, lpt_end_view};
 pub use words::{LptApplied, LptConfig, LptName, LptOutcome};
