@@ -25,8 +25,9 @@ is_task seat (Timer node) = seat == timer_seat node
 is_task seat (Worker worker notices) = seat == worker_seat worker
 is_task seat (Sender d notices) = seat == sender_seat d
 
--- Whom the seat of this number tells: of packets those whose calls put some, so not the lanes and the
--- timer of ground; of jobs the lanes of the spacecraft; and of openings the workers. Nothing was told yet.
+-- Whom the seat of this number tells: of packets those whose calls put some, so not the lanes and
+-- the timer of ground; of jobs the lanes of the spacecraft; and of openings the workers. Nothing
+-- was told yet.
 abbrev pub AreOutlets : ℕ → Outlets → Type 0
 AreOutlets seat out =
     (is_some out.packets ≡ not ((seat == 3) || (seat == 4) || (seat == 6)))

@@ -1,12 +1,13 @@
--- What a turn adds to its seat's log: calls of its own events, in their order, each of which was done.
-use Rattle.std.specs.Prelude.{◌≡◌, ◌≤◌, ◌+◌, ℕ, List, [], ◌∷◌, ◌++◌, Option, Some, None, Result, Ok, Err, ⊤}
+-- What a turn adds to its seat's log: calls of its own events, in their order, each of which was
+-- done.
+use Rattle.std.specs.Prelude.{◌≡◌, ◌≤◌, ◌<◌, ◌+◌, ℕ, List, [], ◌∷◌, ◌++◌, Option, Some, None, Result, Ok, Err, ⊤}
 use Rattle.lpt_packet.specs.declared.direction.Direction.{Direction}
 use Rattle.lpt_packet.specs.Names.{Name}
 use Rattle.lpt_events.specs.declared.event.Event.{Event}
 use Rattle.lpt_events.specs.declared.event.Event.TheVariants.{Send, Finish, Expire, Apply}
 use Rattle.lpt_events.specs.declared.fault.StepFault.{StepFault}
 use Rattle.lpt_events.specs.declared.fault.StepFault.TheVariants as steps
-use Rattle.lpt_share.specs.Calls.{IsLeft, MayAnswer}
+use Rattle.lpt_share.specs.Calls.{IsLeft, IsSeen, MayAnswer, MayHaveLength}
 use Rattle.lpt_share.specs.declared.call.CallFault.{CallFault}
 use Rattle.lpt_share.specs.declared.call.CallFault.TheVariants as calls
 use Rattle.lpt_share.specs.declared.fault.ShareFault.{ShareFault}
@@ -15,6 +16,7 @@ use Rattle.lpt_share.specs.declared.turns.Again.{Again}
 use Rattle.lpt_share.specs.declared.turns.Again.TheVariants as agains
 use Rattle.lpt_events.specs.declared.log.Call.{Call}
 use Rattle.lpt_events.specs.declared.log.SeatLog.{SeatLog}
+use Rattle.lpt_world.specs.Worlds.{Shown}
 
 -- the calls are of the first of these events, in this order
 abbrev pub Begin : List Event → List Call → Type 0
@@ -22,30 +24,38 @@ Begin es [] = ⊤
 Begin [] (call ∷ calls) = ⊥
 Begin (e ∷ es) (call ∷ calls) = (call.event ≡ e) × Begin es calls
 
--- the calls are of these events in this order, and then of one event again and again, as far as they
--- go
+-- the calls are of these events in this order, and then of one event again and again, as far as
+-- they go
 abbrev pub Follow : List Event → Event → List Call → Type 0
 Follow es again [] = ⊤
 Follow [] again (call ∷ calls) = (call.event ≡ again) × Follow [] again calls
 Follow (e ∷ es) again (call ∷ calls) = (call.event ≡ e) × Follow es again calls
 
--- The calls were answered one after the other by legal journals, each at a place that the seat, which
--- had seen so much before, hadn't seen yet; and so much was seen after.
-abbrev pub AreDone : (seat seen : ℕ) → List Call → (after : ℕ) → Type 0
-AreDone seat seen [] after = seen ≤ after
-AreDone seat seen (call ∷ calls) after =
+-- The calls were answered one after the other by legal journals, which go on from the given one,
+-- each at a place that the seat, which had seen so much before, hadn't seen yet; and so much was
+-- seen after.
+abbrev pub AreDone : Option Shown → (seat seen : ℕ) → List Call → (after : ℕ) → Type 0
+AreDone given seat seen [] after = IsSeen given seen after
+AreDone given seat seen (call ∷ calls) after =
     (seen ≤ call.place)
-    × MayAnswer call.place seat call.event call.reply
-    × AreDone seat (call.place + 1) calls after
+    × MayAnswer given call.place seat call.event call.reply
+    × AreDone given seat (call.place + 1) calls after
 
 -- the calls that the new log has more than the old one meet the fact, and were done
-abbrev pub Adds : (List Call → Type 0) → SeatLog → SeatLog → Type 0
-Adds P old new =
+abbrev pub Adds : Option Shown → (List Call → Type 0) → SeatLog → SeatLog → Type 0
+Adds given P old new =
     (xs : List Call)
     × (new.seat ≡ old.seat)
     × (new.calls.items ≡ old.calls.items ++ xs)
     × P xs
-    × AreDone old.seat old.seen xs new.seen
+    × AreDone given old.seat old.seen xs new.seen
+
+-- A turn ended before its time: the journal was shorter than its seat had seen it, or memory ran
+-- out.
+abbrev pub IsTurnFault : Option Shown → (seen : ℕ) → ShareFault → Type 0
+IsTurnFault given seen shares.Torn = (n : ℕ) × (n < seen) × MayHaveLength given n
+IsTurnFault given seen shares.Memory = ⊤
+IsTurnFault given seen shares.NoThread = ⊥
 
 -- what a sender's turn asks for: a part, or the end of the transaction
 abbrev pub sender_event : Direction → Name → Option ℕ → Event
@@ -58,17 +68,18 @@ again_event (agains.Expire node) = Expire node
 again_event agains.Apply = Apply
 
 -- the log has one call more where the event was accepted, which was done; and else the same calls
-abbrev pub IsAsked : {A : Type 0} → Event → SeatLog → SeatLog → Result (Option A) ShareFault → Type 0
-IsAsked e old new (Ok (Some answer)) =
+abbrev pub IsAsked : {A : Type 0} → Option Shown → Event → SeatLog → SeatLog
+    → Result (Option A) ShareFault → Type 0
+IsAsked given e old new (Ok (Some answer)) =
     (call : Call)
     × (new.seat ≡ old.seat)
     × (call.event ≡ e)
     × (new.calls.items ≡ old.calls.items ++ call ∷ [])
     × (old.seen ≤ call.place)
-    × MayAnswer call.place old.seat call.event call.reply
+    × MayAnswer given call.place old.seat call.event call.reply
     × (new.seen ≡ call.place + 1)
-IsAsked e old new (Ok None) = IsLeft old new
-IsAsked e old new (Err fault) = IsLeft old new
+IsAsked given e old new (Ok None) = IsLeft given old new
+IsAsked given e old new (Err fault) = IsLeft given old new × IsTurnFault given new.seen fault
 
 -- how a turn ends at a call that was refused for this reason: with no answer, and only out of
 -- memory is a fault

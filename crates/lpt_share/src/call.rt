@@ -59,10 +59,10 @@ impl<J: Origin> Shared<J> {
 
     /// The world. Its journal is legal, and what is promised of each world holds of it: each large
     /// message that was released is byte for byte the one last opened under its name by the other
-    /// node, at most once per opening; the memories are their first content, changed by the executed
-    /// requests in order of release; what expired, was broken off or was released is final; and no
-    /// request is executed in another boot than that of its release. It goes on from the world that
-    /// the lock was opened with, where one was named.
+    /// node, at most once per opening; the memories are their first content, changed by the
+    /// executed requests in order of release; what expired, was broken off or was released is
+    /// final; and no request is executed in another boot than that of its release. It goes on from
+    /// the world that the lock was opened with, where one was named.
     pub fn into_world(self) -> World
         ensures legal { IsLegal result }
         ensures promised { Promised result }
@@ -72,17 +72,18 @@ impl<J: Origin> Shared<J> {
         shown(world.into_inner().into_world())
     }
 
-    /// Does one event of the log's seat, and adds its place, event and reply to the log. The place is
-    /// at least as great as the journal was long when the seat last saw it. It returns only if the
-    /// lock comes free.
+    /// Does one event of the log's seat, and adds its place, event and reply to the log. The place
+    /// is at least as great as the journal was long when the seat last saw it. Where the lock names
+    /// the world that it was opened with, a world that goes on from that one answers. It returns
+    /// only if the lock comes free.
     ///
     /// Errors, in this order: `Memory`, there was no memory for the log or for a copy of the event;
-    /// `Torn`, the journal is shorter than the seat had seen it, which never comes to a seat that has
-    /// seen nothing; `Refused`, the world refused the event. No error adds to the log, and only
+    /// `Torn`, the journal is shorter than the seat had seen it, which never comes to a seat that
+    /// has seen nothing; `Refused`, the world refused the event. No error adds to the log, and only
     /// `Refused` raises what the seat has seen.
     pub fn call<R: Wait>(&self, rt: &R, log: &mut SeatLog, event: Event) -> Result<Done, CallFault>
-        ensures done { IfOk result (λ d. IsDone log.old log.new event d) }
-        ensures fault { IfErr result (λ f. IsCallFault log.old log.new event f) }
+        ensures done { IfOk result (λ d. IsDone J.given log.old log.new event d) }
+        ensures fault { IfErr result (λ f. IsCallFault J.given log.old log.new event f) }
     {
         let Ok(copy) = event.copy() else {
             return Err(CallFault::Memory(event));
@@ -107,8 +108,8 @@ fn answer<J: Origin>(
     ensures place { IfOk result (λ d. d.place ≡ length world.old.journal) }
     ensures entered { IfOk result (λ d. Enters world.old world.new log.old.seat event d.reply) }
     ensures unchanged { IfErr result (λ f. world.new ≡ world.old) }
-    ensures done { IfOk result (λ d. IsDone log.old log.new event d) }
-    ensures fault { IfErr result (λ f. IsCallFault log.old log.new event f) }
+    ensures done { IfOk result (λ d. IsDone J.given log.old log.new event d) }
+    ensures fault { IfErr result (λ f. IsCallFault J.given log.old log.new event f) }
 {
     let place = world.len();
     if place < log.seen {

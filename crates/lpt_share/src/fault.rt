@@ -2,6 +2,7 @@
 
 ghost use Rattle.std.specs.Prelude.{◌≡◌};
 ghost use Rattle.lpt_share.specs.FaultNames.{code_of, name_of};
+ghost use Rattle.lpt_share.specs.declared.fault.ShareFault.TheVariants.{Memory};
 
 use std::alloc::AllocError;
 use thiserror::Error;
@@ -9,8 +10,8 @@ use thiserror::Error;
 /// Why a turn or a run of threads ended before its time.
 #[derive(Clone, Copy, Debug, PartialEq, Eq, Error)]
 pub enum ShareFault {
-    /// The journal was shorter than a seat had seen it, or it and the logs don't agree, or something
-    /// was left undone.
+    /// The journal was shorter than a seat had seen it, or it and the logs don't agree, or
+    /// something was left undone.
     #[error("the journal and the logs don't agree")]
     Torn,
     /// Out of memory.
@@ -46,6 +47,8 @@ impl ShareFault {
 }
 
 impl From<AllocError> for ShareFault {
+    ghost from_gives = { λ _ fault. fault ≡ Memory };
+
     fn from(_: AllocError) -> ShareFault {
         ShareFault::Memory
     }

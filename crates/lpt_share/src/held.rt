@@ -19,8 +19,8 @@ use std::alloc::AllocError;
 use std::marker::{Brand, Model, PhantomData};
 
 /// The world that a lock was opened with, where one was named: a function that is generic in it may
-/// require that the given world is its own, and knows then that what comes out of the lock goes on from
-/// that one.
+/// require that the given world is its own, and knows then that what comes out of the lock goes on
+/// from that one.
 pub trait Origin {
     ghost use Rattle.std.specs.Prelude.{Option};
     ghost use Rattle.lpt_world.specs.Worlds.{Shown};
@@ -79,6 +79,7 @@ impl<J: Origin> Held<J> {
         ensures length { result ≡ length self.now.journal }
         ensures small { result + 1 < 2 ^ 64 }
         ensures legal { IsLegal self.now }
+        ensures goes_on { GoesOn J.given self.now }
     {
         self.world.journal().len() as u64
     }

@@ -1,8 +1,8 @@
 //! The run of ten seats round one world, each in a thread of its own.
 
-ghost use Rattle.std.specs.Prelude.{◌≡◌, ◌↔◌, Some, true, length, IfOk, IfErr, IfSome, IsTrue};
+ghost use Rattle.std.specs.Prelude.{◌≡◌, ◌≢◌, Some, true, length, IfOk, IfErr, IfSome};
 ghost use Rattle.lpt_share_audit.specs.Agreeing.{Agree};
-ghost use Rattle.lpt_share_audit.specs.Finished.{IsFinishedIfShort, owed_of};
+ghost use Rattle.lpt_share_audit.specs.Finished.{IsFinished, owed_of};
 ghost use Rattle.lpt_share_audit.specs.Kinds.{are_of_seats};
 ghost use Rattle.lpt_world.specs.Worlds.{Promised};
 ghost use Rattle.lpt_share_audit.specs.Runs.{IsInOrder};
@@ -32,8 +32,8 @@ pub struct ShareEnd {
     pub fault: ShareFault,
     /// The world, which went on from the given one.
     pub world: World,
-    /// The logs of the seats that had a thread, in order of seat. Where memory was out or no thread
-    /// could be started, no clause speaks of them.
+    /// The logs of the seats that had a thread, in order of seat. But for `Torn` they agree with
+    /// the world's journal.
     pub logs: Vec<SeatLog>,
 }
 
@@ -41,19 +41,21 @@ pub struct ShareEnd {
 /// of each seat, in order of seat. The gate is told of each call that was accepted.
 ///
 /// Ground's sender sends and finishes each transaction that is open, the spacecraft's sender too,
-/// also those that are opened meanwhile. Four lanes take and deliver the packets, two workers claim,
-/// prepare, commit and execute the jobs, and two timers tick. The calls of each log are its seat's
-/// entries in the journal behind the given one's, and of events that are its own: lanes take and
-/// deliver, timers tick and end receptions, workers claim, commit and have jobs executed, and senders
-/// send and finish. Where each log has fewer than `per_seat` calls,
-/// nothing is left to do: each transaction that was open or was opened meanwhile was sent whole and
-/// finished, or aborted; each packet that was never lost was taken; hands and workers are empty, each
-/// job is executed, and each timer has ticked as often as it was to, or its clock is at its greatest.
-/// It returns only if each thread ends.
+/// also those that are opened meanwhile. Four lanes take and deliver the packets, two workers
+/// claim, prepare, commit and execute the jobs, and two timers tick. The calls of each log are its
+/// seat's entries in the journal behind the given one's, and of events that are its own: lanes take
+/// and deliver, timers tick and end receptions, workers claim, commit and have jobs executed, and
+/// senders send and finish. Nothing is left to do: each transaction that was open or was opened
+/// meanwhile was sent whole and finished, or aborted; each packet that was never lost was taken;
+/// hands and workers are empty, each job is executed, and each timer has ticked as often as it was
+/// to, or its clock is at its greatest. What a seat left whose log has `per_seat` calls is excused,
+/// where no other seat does the same: both lanes of a direction, both workers, a sender, a timer.
+/// No packet was taken twice, and no timer ticked more often than it was to. It returns only if
+/// each thread ends.
 ///
-/// Errors: `Torn`, the journal and the logs don't agree, or something was left to do: the world and the
-/// logs that come back show it; `Memory`; `NoThread`, a thread couldn't be started. The world comes
-/// back, with all that was done.
+/// Errors: `Torn`, the journal and the logs don't agree, or something was left to do: the world and
+/// the logs that come back show it; `Memory`; `NoThread`, a thread couldn't be started. The world
+/// comes back, with all that was done, and but for `Torn` the logs agree with it.
 pub fn run_threads<R: Threads + Wait + Sync, G: Gate + Sync>(
     alloc: Global,
     rt: &R,
@@ -65,7 +67,7 @@ pub fn run_threads<R: Threads + Wait + Sync, G: Gate + Sync>(
     ensures in_order { IfOk result (λ r. IsInOrder 1 r.1.items) }
     ensures kinds { IfOk result (λ r. are_of_seats r.1.items ≡ true) }
     ensures agree { IfOk result (λ r. Agree r.0 (length world.journal) r.1.items) }
-    ensures finished { IfOk result (λ r. IsFinishedIfShort turns.per_seat turns.ticks world r.0 r.1.items) }
+    ensures finished { IfOk result (λ r. IsFinished turns world r.0 r.1.items) }
     ensures legal { IfOk result (λ r. IsLegal r.0) }
     ensures promised { IfOk result (λ r. Promised r.0) }
 
@@ -73,6 +75,7 @@ pub fn run_threads<R: Threads + Wait + Sync, G: Gate + Sync>(
     ensures err_goes_on { IfErr result (λ e. Continues world e.world) }
     ensures err { IfErr result (λ e. IsLegal e.world) }
     ensures err_promised { IfErr result (λ e. Promised e.world) }
+    ensures err_agree { IfErr result (λ e. e.fault ≢ ShareFault.Torn → Agree e.world (length world.journal) e.logs.items) }
 
     // Torn has evidence: the logs and the world that come back aren't those of a whole run.
     ensures torn { IfErr result (λ e. e.fault ≡ ShareFault.Torn
@@ -95,7 +98,7 @@ fn run_from<J: Origin + Send + Sync, R: Threads + Wait + Sync, G: Gate + Sync>(
     ensures in_order { IfOk result (λ r. IsInOrder 1 r.1.items) }
     ensures kinds { IfOk result (λ r. are_of_seats r.1.items ≡ true) }
     ensures agree { IfOk result (λ r. Agree r.0 (length world.journal) r.1.items) }
-    ensures finished { IfOk result (λ r. IsFinishedIfShort turns.per_seat turns.ticks world r.0 r.1.items) }
+    ensures finished { IfOk result (λ r. IsFinished turns world r.0 r.1.items) }
     ensures legal { IfOk result (λ r. IsLegal r.0) }
     ensures promised { IfOk result (λ r. Promised r.0) }
 
@@ -103,6 +106,7 @@ fn run_from<J: Origin + Send + Sync, R: Threads + Wait + Sync, G: Gate + Sync>(
     ensures err_goes_on { IfErr result (λ e. Continues world e.world) }
     ensures err { IfErr result (λ e. IsLegal e.world) }
     ensures err_promised { IfErr result (λ e. Promised e.world) }
+    ensures err_agree { IfErr result (λ e. e.fault ≢ ShareFault.Torn → Agree e.world (length world.journal) e.logs.items) }
 
     // Torn has evidence: the logs and the world that come back aren't those of a whole run.
     ensures torn { IfErr result (λ e. e.fault ≡ ShareFault.Torn
@@ -149,7 +153,8 @@ fn started<R: Wait>(
     Ok((seats, owed))
 }
 
-// Runs each seat in a thread of its own, and waits for all of them. The logs are in the seats' order.
+// Runs each seat in a thread of its own, and waits for all of them. The logs are in the seats'
+// order.
 fn run_seats<'a, J: Origin + Send + Sync, R: Threads + Wait + Sync, G: Gate + Sync>(
     pass: &Pass<'a, J, R, G>,
     seats: Vec<Seat>,
@@ -179,8 +184,8 @@ fn run_seats<'a, J: Origin + Send + Sync, R: Threads + Wait + Sync, G: Gate + Sy
     })
 }
 
-// The logs of threads that are waited for; with why not all were started, or else the first reason for
-// which one of them ended before its time.
+// The logs of threads that are waited for; with why not all were started, or else the first reason
+// for which one of them ended before its time.
 fn joined<R: Threads>(
     rt: &R,
     handles: Vec<JoinHandle<Ended>>,

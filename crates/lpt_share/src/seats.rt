@@ -86,8 +86,8 @@ impl<'a, J: Origin, R: Wait, G: Gate> Pass<'a, J, R, G> {
         Ok(())
     }
 
-    // A lane's or a worker's turn, or all of a transaction, by the next notice; or all ticks. Whether
-    // there may be more to do.
+    // A lane's or a worker's turn, or all of a transaction, by the next notice; or all ticks.
+    // Whether there may be more to do.
     fn turn(
         &self,
         log: &mut SeatLog,
@@ -132,8 +132,8 @@ impl<'a, J: Origin, R: Wait, G: Gate> Pass<'a, J, R, G> {
         Ok(())
     }
 
-    // Sends each part of a transaction, until there is none of that number, and finishes it. The answer
-    // is that of the last turn.
+    // Sends each part of a transaction, until there is none of that number, and finishes it. The
+    // answer is that of the last turn.
     fn send_all(
         &self,
         log: &mut SeatLog,

@@ -1,10 +1,10 @@
 //! The turns of the seats: a few calls each, with the reading of packets and requests between them
 //! while the lock is free.
 
-ghost use Rattle.std.specs.Prelude.{◌≡◌, ◌+◌, [], ◌∷◌, None, vec_len, IfOk};
+ghost use Rattle.std.specs.Prelude.{◌≡◌, ◌+◌, [], ◌∷◌, None, vec_len, IfOk, IfErr};
 ghost use Rattle.lpt_events.specs.Lanes.{lane_direction};
 ghost use Rattle.lpt_events.specs.Sides.{receiver_side};
-ghost use Rattle.lpt_share.specs.Turns.{Adds, Begin, Follow, IsAsked, again_event, ended_by, failed_by, sender_event};
+ghost use Rattle.lpt_share.specs.Turns.{Adds, Begin, Follow, IsAsked, IsTurnFault, again_event, ended_by, failed_by, sender_event};
 
 use crate::held::Origin;
 use crate::{CallFault, ShareFault, Shared};
@@ -64,8 +64,8 @@ impl Again {
 }
 
 impl<J: Origin> Shared<J> {
-    /// A lane's turn: takes the packet of this number, reads it while the lock is free, and delivers
-    /// it. A refusal ends the turn. The answer is how many calls were accepted.
+    /// A lane's turn: takes the packet of this number, reads it while the lock is free, and
+    /// delivers it. A refusal ends the turn. The answer is how many calls were accepted.
     ///
     /// Errors: `Torn` and `Memory`; the calls that were accepted before stay in the log and in the
     /// journal.
@@ -77,8 +77,9 @@ impl<J: Origin> Shared<J> {
         n: u64,
         gate: &G,
     ) -> Result<u64, ShareFault>
-        ensures added { Adds (Begin (Event.Take lane n ∷ Event.Deliver lane ∷ [])) log.old log.new }
+        ensures added { Adds J.given (Begin (Event.Take lane n ∷ Event.Deliver lane ∷ [])) log.old log.new }
         ensures count { IfOk result (λ k. vec_len log.new.calls ≡ vec_len log.old.calls + k) }
+        ensures fault { IfErr result (λ f. IsTurnFault J.given log.new.seen f) }
     {
         let Some((octets, config)) = self.taken(rt, log, lane, n)? else {
             return Ok(0);
@@ -92,8 +93,8 @@ impl<J: Origin> Shared<J> {
         Ok(2)
     }
 
-    /// A timer's turn: one tick of the node's clock, and then the end of each reception that is due.
-    /// A refusal ends the turn. The answer is how many calls were accepted.
+    /// A timer's turn: one tick of the node's clock, and then the end of each reception that is
+    /// due. A refusal ends the turn. The answer is how many calls were accepted.
     ///
     /// Errors: `Torn` and `Memory`; the calls that were accepted before stay in the log and in the
     /// journal.
@@ -104,8 +105,9 @@ impl<J: Origin> Shared<J> {
         node: Side,
         gate: &G,
     ) -> Result<u64, ShareFault>
-        ensures added { Adds (Follow (Event.Tick node ∷ []) (Event.Expire node)) log.old log.new }
+        ensures added { Adds J.given (Follow (Event.Tick node ∷ []) (Event.Expire node)) log.old log.new }
         ensures count { IfOk result (λ k. vec_len log.new.calls ≡ vec_len log.old.calls + k) }
+        ensures fault { IfErr result (λ f. IsTurnFault J.given log.new.seen f) }
     {
         let Some(_reply) = self.ask(rt, log, Event::Tick(node), Point::Ticked, gate)? else {
             return Ok(0);
@@ -114,8 +116,8 @@ impl<J: Origin> Shared<J> {
         Ok(expired + 1)
     }
 
-    /// A sender's turn: sends the part of this number of a transaction, or finishes it where no part
-    /// is named. The answer is how many calls were accepted: 1, or 0 where it was refused.
+    /// A sender's turn: sends the part of this number of a transaction, or finishes it where no
+    /// part is named. The answer is how many calls were accepted: 1, or 0 where it was refused.
     ///
     /// Errors: `Torn` and `Memory`; the log stays.
     pub fn sender_turn<R: Wait, G: Gate>(
@@ -127,8 +129,9 @@ impl<J: Origin> Shared<J> {
         k: Option<u16>,
         gate: &G,
     ) -> Result<u64, ShareFault>
-        ensures added { Adds (Begin (sender_event direction name k ∷ [])) log.old log.new }
+        ensures added { Adds J.given (Begin (sender_event direction name k ∷ [])) log.old log.new }
         ensures count { IfOk result (λ n. vec_len log.new.calls ≡ vec_len log.old.calls + n) }
+        ensures fault { IfErr result (λ f. IsTurnFault J.given log.new.seen f) }
     {
         let (event, point) = match k {
             Some(k) => (Event::Send(direction, name, k), Point::Sent),
@@ -150,8 +153,9 @@ impl<J: Origin> Shared<J> {
         point: Point,
         gate: &G,
     ) -> Result<u64, ShareFault>
-        ensures added { Adds (Follow [] (again_event again)) log.old log.new }
+        ensures added { Adds J.given (Follow [] (again_event again)) log.old log.new }
         ensures count { IfOk result (λ k. vec_len log.new.calls ≡ vec_len log.old.calls + k) }
+        ensures fault { IfErr result (λ f. IsTurnFault J.given log.new.seen f) }
     {
         let mut count = 0;
         for _ in rt.forever() {
@@ -173,7 +177,7 @@ impl<J: Origin> Shared<J> {
         point: Point,
         gate: &G,
     ) -> Result<Option<Reply>, ShareFault>
-        ensures { IsAsked event log.old log.new result }
+        ensures { IsAsked J.given event log.old log.new result }
     {
         match self.call(rt, log, event) {
             Ok(done) => {
@@ -205,6 +209,7 @@ fn failed<T>(fault: &CallFault) -> Result<Option<T>, ShareFault>
 // memory is a fault.
 pub(crate) fn ended<T>(fault: StepFault) -> Result<Option<T>, ShareFault>
     ensures none { IfOk result (λ answer. answer ≡ None) }
+    ensures memory { IfErr result (λ f. f ≡ ShareFault.Memory) }
     ensures exact { result ≡ ended_by fault }
 {
     match fault {

@@ -8,7 +8,8 @@ ghost use Rattle.lpt_world.specs.Outside.{octets_of};
 ghost use Rattle.lpt_world.specs.Worlds.{history};
 ghost use Rattle.lpt_share.specs.Doing.{DoesOne};
 ghost use Rattle.lpt_share.specs.Entering.{IsLegal};
-ghost use Rattle.lpt_share.specs.Turns.{Adds, Follow, IsAsked};
+ghost use Rattle.lpt_share.specs.Origins.{GoesOn};
+ghost use Rattle.lpt_share.specs.Turns.{Adds, Follow, IsAsked, IsTurnFault};
 
 use crate::held::{Held, Origin};
 use crate::turns::{Again, ended};
@@ -35,8 +36,9 @@ impl<J: Origin> Shared<J> {
         worker: Worker,
         gate: &G,
     ) -> Result<u64, ShareFault>
-        ensures added { Adds (Follow (Event.Claim worker ∷ Event.Commit worker ∷ []) Event.Apply) log.old log.new }
+        ensures added { Adds J.given (Follow (Event.Claim worker ∷ Event.Commit worker ∷ []) Event.Apply) log.old log.new }
         ensures count { IfOk result (λ k. vec_len log.new.calls ≡ vec_len log.old.calls + k) }
+        ensures fault { IfErr result (λ f. IsTurnFault J.given log.new.seen f) }
     {
         let Some(job) = self.claimed(rt, log, worker)? else {
             return Ok(0);
@@ -56,8 +58,9 @@ impl<J: Origin> Shared<J> {
         job: (Ticket, Shape, u16),
         gate: &G,
     ) -> Result<u64, ShareFault>
-        ensures added { Adds (Follow (Event.Commit worker ∷ []) Event.Apply) log.old log.new }
+        ensures added { Adds J.given (Follow (Event.Commit worker ∷ []) Event.Apply) log.old log.new }
         ensures count { IfOk result (λ k. vec_len log.new.calls ≡ vec_len log.old.calls + k) }
+        ensures fault { IfErr result (λ f. IsTurnFault J.given log.new.seen f) }
     {
         let prepared = prepare_job(alloc, job)?;
         let Some(_reply) = self.committed(rt, log, worker, prepared)? else {
@@ -77,7 +80,7 @@ impl<J: Origin> Shared<J> {
         lane: Lane,
         n: u64,
     ) -> Result<Option<(Octets, Config)>, ShareFault>
-        ensures asked { IsAsked (Event.Take lane n) log.old log.new result }
+        ensures asked { IsAsked J.given (Event.Take lane n) log.old log.new result }
         ensures configured { IfOk result (λ r. IfSome r (λ t. IsConfig t.1)) }
     {
         log.make_place()?;
@@ -93,7 +96,7 @@ impl<J: Origin> Shared<J> {
         lane: Lane,
         parsed: Parsed,
     ) -> Result<Option<Reply>, ShareFault>
-        ensures { IsAsked (Event.Deliver lane) log.old log.new result }
+        ensures { IsAsked J.given (Event.Deliver lane) log.old log.new result }
     {
         log.make_place()?;
         deliver(&mut self.world.lock(rt), log, lane, parsed)
@@ -107,7 +110,7 @@ impl<J: Origin> Shared<J> {
         log: &mut SeatLog,
         worker: Worker,
     ) -> Result<Option<(Ticket, Shape, u16)>, ShareFault>
-        ensures { IsAsked (Event.Claim worker) log.old log.new result }
+        ensures { IsAsked J.given (Event.Claim worker) log.old log.new result }
     {
         log.make_place()?;
         claim(&mut self.world.lock(rt), log, worker)
@@ -122,7 +125,7 @@ impl<J: Origin> Shared<J> {
         worker: Worker,
         prepared: Prepared,
     ) -> Result<Option<Reply>, ShareFault>
-        ensures { IsAsked (Event.Commit worker) log.old log.new result }
+        ensures { IsAsked J.given (Event.Commit worker) log.old log.new result }
     {
         match log.make_place() {
             Ok(()) => commit(&mut self.world.lock(rt), log, worker, prepared),
@@ -163,7 +166,9 @@ fn next_place<J: Origin>(world: &Held<J>, log: &SeatLog) -> Result<u64, ShareFau
     ensures seen { IfOk result (λ place. log.now.seen ≤ place) }
     ensures small { IfOk result (λ place. place + 1 < 2 ^ 64) }
     ensures legal { IsLegal world.now }
+    ensures goes_on { GoesOn J.given world.now }
     ensures torn { IfErr result (λ fault. length world.now.journal < log.now.seen) }
+    ensures fault { IfErr result (λ fault. fault ≡ ShareFault.Torn) }
 {
     let place = world.len();
     if place < log.seen {
@@ -182,6 +187,7 @@ fn take<J: Origin>(
 ) -> Result<Option<(Octets, Config)>, ShareFault>
     requires room { vec_len log.old.calls + 1 ≤ vec_capacity log.old.calls }
     ensures legal { IsLegal world.old }
+    ensures goes_on { GoesOn J.given world.old }
     ensures one { DoesOne (Event.Take lane n) world.old world.new log.old log.new result }
     ensures octets { IfOk result (λ r. IfSome r (λ t. octets_of world.old n ≡ Some t.0)) }
     ensures config { IfOk result (λ r. IfSome r (λ t. t.1 ≡ world.old.config)) }
@@ -212,6 +218,7 @@ fn deliver<J: Origin>(
 ) -> Result<Option<Reply>, ShareFault>
     requires room { vec_len log.old.calls + 1 ≤ vec_capacity log.old.calls }
     ensures legal { IsLegal world.old }
+    ensures goes_on { GoesOn J.given world.old }
     ensures one { DoesOne (Event.Deliver lane) world.old world.new log.old log.new result }
 {
     let place = next_place(world, log)?;
@@ -236,6 +243,7 @@ fn claim<J: Origin>(
 ) -> Result<Option<(Ticket, Shape, u16)>, ShareFault>
     requires room { vec_len log.old.calls + 1 ≤ vec_capacity log.old.calls }
     ensures legal { IsLegal world.old }
+    ensures goes_on { GoesOn J.given world.old }
     ensures one { DoesOne (Event.Claim worker) world.old world.new log.old log.new result }
     ensures ticket { IfOk result (λ r. IfSome r (λ t. job_given world.old.config (history world.old) ≡ Some t.0)) }
     ensures shape { IfOk result (λ r. IfSome r (λ t. t.1 ≡ sizes_of world.old.first)) }
@@ -267,6 +275,7 @@ fn commit<J: Origin>(
 ) -> Result<Option<Reply>, ShareFault>
     requires room { vec_len log.old.calls + 1 ≤ vec_capacity log.old.calls }
     ensures legal { IsLegal world.old }
+    ensures goes_on { GoesOn J.given world.old }
     ensures one { DoesOne (Event.Commit worker) world.old world.new log.old log.new result }
 {
     let place = match next_place(world, log) {

@@ -1,17 +1,18 @@
 -- What marks, and parts sent one after the other, say.
-use Rattle.std.proofs.Common.{◌≡◌, ◌∙◌, ◌≤◌, ◌<◌, ◌≢◌, ◌⊎◌, ◌||◌, not, inl, inr, nat_lt, refl, sym, subst, ℕ, zero, suc, ◌+◌, Bool, true, false, if◌then◌else◌, List, [], ◌∷◌, length, drop, get_or, set, Option, Some, None, arith}
+use Rattle.std.proofs.Common.{◌≡◌, ◌∙◌, ◌≤◌, ◌<◌, ◌≢◌, ◌⊎◌, ◌↔◌, ◌&&◌, ◌||◌, not, IsTrue, inl, inr, nat_lt, refl, sym, subst, ℕ, zero, suc, ◌+◌, Bool, true, false, if◌then◌else◌, List, [], ◌∷◌, length, drop, get_or, set, replicate, ap, Option, Some, None, arith}
 use Rattle.std.proofs.lemmas.Bool.{false≢true, ltb-true, lt-ltb, eqb-true}
 use Rattle.std.proofs.lemmas.Bool.Decides.{eqb_tells}
-use Rattle.std.proofs.lemmas.List.{get_or-set_other, get_or-set_same, length-set}
+use Rattle.std.proofs.lemmas.List.{get_or-set_other, get_or-set_same, length-replicate, length-set}
 use Rattle.lpt_packet.specs.declared.direction.Direction.{Direction}
 use Rattle.lpt_packet.specs.Names.{Name}
 use Rattle.lpt_events.specs.declared.entry.Entry.{Entry}
 use Rattle.lpt_journal.specs.Link.{sent, is_held, is_lost}
 use Rattle.lpt_world.specs.Worlds.{Shown, history}
-use Rattle.lpt_share_audit.specs.Finished.{packet_taken, is_number, is_taken, sends, is_sent, finishes}
-use Rattle.lpt_share_audit.specs.FinishedInside.{mark, marked, AreMarked}
-use Rattle.lpt_share_audit.specs.Settled.{sent_on, IsCarriedInOrder}
-use Rattle.lpt_packet.proofs.BoolLemmas.{and_left, or_left, or_right}
+use Rattle.lpt_share_audit.specs.Finished.{packet_taken, is_let_off, is_number, is_taken, sends, is_sent, finishes, AreTakenOnce}
+use Rattle.lpt_events.specs.declared.log.SeatLog.{SeatLog}
+use Rattle.lpt_share_audit.specs.FinishedInside.{are_fresh, is_fresh, mark, marked, AreMarked}
+use Rattle.lpt_share_audit.specs.Settled.{sent_on, AreTakenInTurn, IsCarriedInOrder}
+use Rattle.lpt_packet.proofs.BoolLemmas.{and_left, and_right, or_left, or_right}
 
 -- ---- marks
 
@@ -60,37 +61,54 @@ marks_say (x ∷ xs) n ms m = elim (marks_say xs n (mark (packet_taken x.event) 
   | inr later ↦ inr (or_right (is_number (packet_taken x.event) n) (is_taken xs n) later)
 ]
 
--- each held packet that has a place has its mark
-marked_at : (w : Shown) (n j : ℕ) (ms : List Bool) → AreMarked w n ms → j < length ms
-    → is_held (history w) (n + j) ≡ true → get_or ms j false ≡ true
-marked_at w n j [] all within held = absurd (omega arith)
-marked_at w n zero (m ∷ ms) all within held =
+-- each held packet that has a place has its mark, where nobody is let off
+marked_at : (limit : ℕ) (logs : List SeatLog) (w : Shown) (n j : ℕ) (ms : List Bool)
+    → AreMarked limit logs w n ms
+    → j < length ms
+    → is_held (history w) (n + j) ≡ true
+    → is_let_off limit logs w.journal (n + j) ≡ false
+    → get_or ms j false ≡ true
+marked_at limit logs w n j [] all within held off = absurd (omega arith)
+marked_at limit logs w n zero (m ∷ ms) all within held off =
     let same : n + 0 ≡ n = omega arith in
     all.0 (subst (λ k. is_held (history w) k ≡ true) same held)
-marked_at w n (suc j) (m ∷ ms) all within held =
+    (subst (λ k. is_let_off limit logs w.journal k ≡ false) same off)
+marked_at limit logs w n (suc j) (m ∷ ms) all within held off =
     let same : n + suc j ≡ n + 1 + j = omega arith in
-    marked_at w (n + 1) j ms all.1 (omega arith)
+    marked_at limit logs w (n + 1) j ms all.1 (omega arith)
     (subst (λ k. is_held (history w) k ≡ true) same held)
+    (subst (λ k. is_let_off limit logs w.journal k ≡ false) same off)
+
+-- no mark is set yet
+blank : (count n : ℕ) → get_or (replicate count false) n false ≡ false
+blank zero n = refl
+blank (suc count) zero = refl
+blank (suc count) (suc n) = blank count n
 
 -- where each held packet has its mark, and no mark was set before the entries, each is taken
-pub all_taken : (w : Shown) (xs : List Entry) (ms after : List Bool)
-    → length ms ≡ length (sent (history w))
-    → ((n : ℕ) → get_or ms n false ≡ false)
+all_taken : (limit : ℕ) (logs : List SeatLog) (w : Shown) (xs : List Entry) (ms after : List Bool)
+    → ms ≡ replicate (length (sent (history w))) false
     → after ≡ marked xs ms
     → length after ≡ length ms
-    → AreMarked w 0 after
+    → AreMarked limit logs w 0 after
     → (n : ℕ)
     → is_held (history w) n ≡ true
+    → is_let_off limit logs w.journal n ≡ false
     → is_taken xs n ≡ true
-all_taken w xs ms after count none is long all n held =
+all_taken limit logs w xs ms after blanks is long all n held off =
     let put : n < length (sent (history w)) = ltb-true n (length (sent (history w)))
     (and_left (nat_lt n (length (sent (history w)))) (not (is_lost (history w) n)) held) in
+    let count : length ms ≡ length (sent (history w)) =
+    ap length blanks ∙ length-replicate (length (sent (history w))) false in
     let within : n < length after = omega arith in
     let same : n ≡ 0 + n = omega arith in
     let set_there : get_or after n false ≡ true =
-    marked_at w 0 n after all within (subst (λ k. is_held (history w) k ≡ true) same held) in
+    marked_at limit logs w 0 n after all within
+    (subst (λ k. is_held (history w) k ≡ true) same held)
+    (subst (λ k. is_let_off limit logs w.journal k ≡ false) same off) in
     elim (marks_say xs n ms (subst (λ y. get_or y n false ≡ true) is set_there)) [
-      | inl old ↦ absurd (false≢true (sym (none n) ∙ old))
+      | inl old ↦ absurd (false≢true (sym (blank (length (sent (history w))) n)
+          ∙ sym (ap (λ y. get_or y n false) blanks) ∙ old))
       | inr now ↦ now
     ]
 
@@ -114,7 +132,8 @@ mark_sets None n ms within is = absurd (false≢true is)
 mark_sets (Some k) n ms within is =
     let same : k ≡ n = eqb-true k n is in
     subst (λ j. get_or (mark (Some k) ms) j false ≡ true) same
-    (put (nat_lt k (length ms)) k ms (lt-ltb k (length ms) (subst (λ j. j < length ms) (sym same) within))
+    (put (nat_lt k (length ms)) k ms
+    (lt-ltb k (length ms) (subst (λ j. j < length ms) (sym same) within))
     (subst (λ j. j < length ms) (sym same) within))
 
 mark_long : (t : Option ℕ) (ms : List Bool) → length (mark t ms) ≡ length ms
@@ -133,7 +152,8 @@ mark_after : (xs : List Entry) (n : ℕ) (ms : List Bool)
 mark_after [] n ms within (inl m) = m
 mark_after [] n ms within (inr t) = absurd (false≢true t)
 mark_after (x ∷ xs) n ms within had =
-    let there : n < length (mark (packet_taken x.event) ms) = omega (arith, mark_long (packet_taken x.event) ms) in
+    let there : n < length (mark (packet_taken x.event) ms) =
+    omega (arith, mark_long (packet_taken x.event) ms) in
     elim had [
       | inl m ↦ mark_after xs n (mark (packet_taken x.event) ms) there
           (inl (mark_keeps (packet_taken x.event) n ms m))
@@ -144,29 +164,117 @@ mark_after (x ∷ xs) n ms within had =
       ]
     ]
 
-marked_from : (w : Shown) (n : ℕ) (ms : List Bool)
-    → ((j : ℕ) → j < length ms → is_held (history w) (n + j) ≡ true → get_or ms j false ≡ true)
-    → AreMarked w n ms
-marked_from w n [] all = tt
-marked_from w n (m ∷ ms) all =
+marked_from : (limit : ℕ) (logs : List SeatLog) (w : Shown) (n : ℕ) (ms : List Bool)
+    → ((j : ℕ) → j < length ms → is_held (history w) (n + j) ≡ true
+    → is_let_off limit logs w.journal (n + j) ≡ false → get_or ms j false ≡ true)
+    → AreMarked limit logs w n ms
+marked_from limit logs w n [] all = tt
+marked_from limit logs w n (m ∷ ms) all =
     let none : n + 0 ≡ n = omega arith in (
-      λ held. all zero (omega arith) (subst (λ k. is_held (history w) k ≡ true) (sym none) held),
-      marked_from w (n + 1) ms (λ j below held.
+      λ held off. all zero (omega arith) (subst (λ k. is_held (history w) k ≡ true) (sym none) held)
+          (subst (λ k. is_let_off limit logs w.journal k ≡ false) (sym none) off),
+      marked_from limit logs w (n + 1) ms (λ j below held off.
           let same : n + 1 + j ≡ n + suc j = omega arith in
-          all (suc j) (omega arith) (subst (λ k. is_held (history w) k ≡ true) same held)),
+          all (suc j) (omega arith) (subst (λ k. is_held (history w) k ≡ true) same held)
+          (subst (λ k. is_let_off limit logs w.journal k ≡ false) same off)),
     )
 
 -- where each held packet is taken by the entries, each has its mark after them
-pub all_marked : (w : Shown) (xs : List Entry) (ms after : List Bool)
+all_marked : (limit : ℕ) (logs : List SeatLog) (w : Shown) (xs : List Entry) (ms after : List Bool)
     → after ≡ marked xs ms
     → length after ≡ length ms
-    → ((n : ℕ) → is_held (history w) n ≡ true → is_taken xs n ≡ true)
-    → AreMarked w 0 after
-all_marked w xs ms after is long all = marked_from w 0 after (λ j below held.
+    → ((n : ℕ) → is_held (history w) n ≡ true → is_let_off limit logs w.journal n ≡ false
+    → is_taken xs n ≡ true)
+    → AreMarked limit logs w 0 after
+all_marked limit logs w xs ms after is long all =
+    marked_from limit logs w 0 after (λ j below held off.
     let within : j < length ms = omega arith in
     let same : 0 + j ≡ j = omega arith in
     subst (λ y. get_or y j false ≡ true) (sym is)
-    (mark_after xs j ms within (inr (all j (subst (λ k. is_held (history w) k ≡ true) same held)))))
+    (mark_after xs j ms within (inr (all j (subst (λ k. is_held (history w) k ≡ true) same held)
+    (subst (λ k. is_let_off limit logs w.journal k ≡ false) same off)))))
+
+-- ---- none twice
+
+is_unset : (b : Bool) → not b ≡ true → b ≡ false
+is_unset true h = absurd (false≢true h)
+is_unset false h = refl
+
+-- what has its mark is no number of a fresh packet
+fresh_other : (t : Option ℕ) (n : ℕ) (ms : List Bool)
+    → is_fresh t ms ≡ true
+    → get_or ms n false ≡ true
+    → is_number t n ≡ false
+fresh_other None n ms fresh set = refl
+fresh_other (Some k) n ms fresh set = elim (eqb_tells k n) [
+  | inl t ↦ absurd (false≢true (sym (is_unset (get_or ms k false)
+      (and_right (nat_lt k (length ms)) (not (get_or ms k false)) fresh))
+      ∙ ap (λ j. get_or ms j false) t.1 ∙ set))
+  | inr t ↦ t.0
+]
+
+neither : (a b : Bool) → a ≡ false → b ≡ false → (a || b) ≡ false
+neither true b h k = absurd (false≢true (sym h))
+neither false b h k = k
+
+-- and isn't taken by entries whose packets are fresh
+fresh_apart : (xs : List Entry) (n : ℕ) (ms : List Bool)
+    → are_fresh xs ms ≡ true
+    → get_or ms n false ≡ true
+    → is_taken xs n ≡ false
+fresh_apart [] n ms fresh set = refl
+fresh_apart (x ∷ xs) n ms fresh set =
+    let t = packet_taken x.event in
+    let rest = are_fresh xs (mark t ms) in
+    neither (is_number t n) (is_taken xs n)
+    (fresh_other t n ms (and_left (is_fresh t ms) rest fresh) set)
+    (fresh_apart xs n (mark t ms) (and_right (is_fresh t ms) rest fresh) (mark_keeps t n ms set))
+
+-- a fresh packet that is taken is marked
+fresh_set : (t : Option ℕ) (n : ℕ) (ms : List Bool)
+    → t ≡ Some n
+    → is_fresh t ms ≡ true
+    → get_or (mark t ms) n false ≡ true
+fresh_set None n ms is fresh = absurd cc
+fresh_set (Some k) n ms is fresh =
+    let same : k ≡ n = cc in
+    let within : k < length ms = ltb-true k (length ms)
+    (and_left (nat_lt k (length ms)) (not (get_or ms k false)) fresh) in
+    subst (λ j. get_or (mark (Some k) ms) j false ≡ true) same
+    (put (nat_lt k (length ms)) k ms (lt-ltb k (length ms) within) within)
+
+-- entries whose packets are fresh take none twice
+pub taken_once : (xs : List Entry) (ms : List Bool) → are_fresh xs ms ≡ true → AreTakenOnce xs
+taken_once [] ms fresh = tt
+taken_once (x ∷ xs) ms fresh =
+    let t = packet_taken x.event in
+    let rest = are_fresh xs (mark t ms) in (
+      λ n is. fresh_apart xs n (mark t ms) (and_right (is_fresh t ms) rest fresh)
+          (fresh_set t n ms is (and_left (is_fresh t ms) rest fresh)),
+      taken_once xs (mark t ms) (and_right (is_fresh t ms) rest fresh),
+    )
+
+-- packets are taken in turn exactly where each had a mark that wasn't set, and each has it then
+pub taken_if : (limit : ℕ) (logs : List SeatLog) (w : Shown) (xs : List Entry)
+    (ms after : List Bool)
+    (once all : Bool)
+    → ms ≡ replicate (length (sent (history w))) false
+    → after ≡ marked xs ms
+    → length after ≡ length ms
+    → once ≡ are_fresh xs ms
+    → (IsTrue all ↔ AreMarked limit logs w 0 after)
+    → IsTrue (once && all) ↔ AreTakenInTurn limit logs w xs
+taken_if limit logs w xs ms after true all blanks is long fresh marks = (
+  λ told. (
+    ap (are_fresh xs) (sym blanks) ∙ sym fresh,
+    record { taken = all_taken limit logs w xs ms after blanks is long (marks.0 told) },
+  ),
+  λ both. marks.1 (all_marked limit logs w xs ms after is long both.1.taken),
+)
+taken_if limit logs w xs ms after false all blanks is long fresh marks = (
+  λ told. absurd (false≢true told),
+  λ both. absurd (false≢true (fresh ∙ ap (are_fresh xs) blanks ∙ both.0)),
+)
 
 -- ---- parts
 

@@ -35,8 +35,8 @@ abbrev pub sender_seat : Direction → ℕ
 sender_seat Up = 9
 sender_seat Down = 10
 
--- Whether a seat asks for such an event: lanes take and deliver, timers tick and end receptions, workers
--- claim, commit and apply, senders send and finish; no other event is asked for.
+-- Whether a seat asks for such an event: lanes take and deliver, timers tick and end receptions,
+-- workers claim, commit and apply, senders send and finish; no other event is asked for.
 abbrev pub is_of_seat : ℕ → Event → Bool
 is_of_seat seat (Take lane n) = seat == lane_seat lane
 is_of_seat seat (Deliver lane) = seat == lane_seat lane

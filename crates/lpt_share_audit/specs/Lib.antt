@@ -4,3 +4,4 @@ pub mod FinishedInside
 pub mod Kinds
 pub mod Runs
 pub mod Settled
+pub mod Turn

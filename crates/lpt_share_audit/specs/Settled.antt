@@ -1,6 +1,6 @@
--- What is looked at when the threads of a run have ended. It is all that a run has to finish, but for the
--- parts of a transaction: those are looked for one after the other.
-use Rattle.std.specs.Prelude.{◌≡◌, ◌⊎◌, ℕ, ◌+◌, ◌-◌, ◌<◌, ◌≤◌, true, if◌then◌else◌, List, [], ◌∷◌, length, drop, ⊤}
+-- What is looked at when the threads of a run have ended. It is all that a run has to finish, but
+-- for the parts of a transaction: those are looked for one after the other.
+use Rattle.std.specs.Prelude.{◌≡◌, ◌⊎◌, ℕ, ◌+◌, ◌-◌, ◌<◌, ◌≤◌, true, false, if◌then◌else◌, List, [], ◌∷◌, length, drop, replicate, ⊤}
 use Rattle.lpt_packet.specs.declared.direction.Direction.{Direction}
 use Rattle.lpt_packet.specs.Names.{Name}
 use Rattle.lpt_part.specs.Splitting.{part_count}
@@ -10,7 +10,13 @@ use Rattle.lpt_events.specs.declared.side.Side.TheVariants.{Ground, Craft}
 use Rattle.lpt_journal.specs.Senders.{opened}
 use Rattle.lpt_world.specs.Worlds.{Shown, history}
 use Rattle.lpt_share_audit.specs.declared.owed.Owed.{Owed}
-use Rattle.lpt_share_audit.specs.Finished.{sends, finishes, is_finished, is_aborted, AreTaken, IsIdle, HasTicked}
+use Rattle.lpt_events.specs.declared.log.SeatLog.{SeatLog}
+use Rattle.lpt_events.specs.declared.turns.Turns.{Turns}
+use Rattle.lpt_journal.specs.Link.{sent}
+use Rattle.lpt_share_audit.specs.Finished.{is_full, sends, finishes, is_finished, is_aborted, AreExecuted, AreTaken, IsIdle, IsTicked}
+use Rattle.lpt_share_audit.specs.FinishedInside.{are_fresh}
+use Rattle.lpt_share_audit.specs.Kinds.{sender_seat}
+use Rattle.lpt_share_audit.specs.Turn.{are_all_in_turn}
 
 -- the part after those that are sent one after the other from part k on, before the transaction is
 -- finished
@@ -28,32 +34,46 @@ IsSentWhole xs d name parts = (parts < sent_on xs d name 1) × (is_finished xs d
 abbrev pub IsCarriedInOrder : List Entry → Direction → Name → ℕ → Type 0
 IsCarriedInOrder xs d name parts = (is_aborted xs d name ≡ true) ⊎ IsSentWhole xs d name parts
 
--- so is each transaction that was opened from that place on, after its opening, where the entries are
--- those from there on
-abbrev pub AreCarriedInOrder : (p : ℕ) → (from : ℕ) → List Entry → List Opening → Type 0
-AreCarriedInOrder p from xs [] = ⊤
-AreCarriedInOrder p from xs (o ∷ os) =
+-- so is each transaction that was opened from that place on, after its opening, where the entries
+-- are those from there on; but for those of a sender whose log is full
+abbrev pub AreCarriedInOrder :
+    (limit : ℕ) → List SeatLog → (p : ℕ) → (from : ℕ) → List Entry → List Opening → Type 0
+AreCarriedInOrder limit logs p from xs [] = ⊤
+AreCarriedInOrder limit logs p from xs (o ∷ os) =
     (from ≤ o.place
-    → IsCarriedInOrder (drop (o.place - from) xs) o.direction o.name (part_count (length o.message) p))
-    × AreCarriedInOrder p from xs os
+    → is_full limit logs (sender_seat o.direction) ≡ false
+    → IsCarriedInOrder (drop (o.place - from) xs) o.direction o.name
+    (part_count (length o.message) p))
+    × AreCarriedInOrder limit logs p from xs os
 
--- so is each of these
-abbrev pub AreOwedInOrder : (p : ℕ) → List Entry → List Owed → Type 0
-AreOwedInOrder p xs [] = ⊤
-AreOwedInOrder p xs (o ∷ os) =
-    IsCarriedInOrder xs o.direction o.name (part_count o.length p) × AreOwedInOrder p xs os
+-- so is each of these, but for those of a sender whose log is full
+abbrev pub AreOwedInOrder :
+    (limit : ℕ) → List SeatLog → (p : ℕ) → List Entry → List Owed → Type 0
+AreOwedInOrder limit logs p xs [] = ⊤
+AreOwedInOrder limit logs p xs (o ∷ os) =
+    (is_full limit logs (sender_seat o.direction) ≡ false
+    → IsCarriedInOrder xs o.direction o.name (part_count o.length p))
+    × AreOwedInOrder limit logs p xs os
 
--- hands, workers and jobs are done with, the timers have ticked, and what was owed or was opened from
--- that place on is carried, where the entries are those from there on
-abbrev pub AreThrough : (ticked from : ℕ) → List Owed → Shown → List Entry → Type 0
-AreThrough ticked from owed w xs =
+-- hands, workers and jobs are done with, parts are sent in turn, the timers have ticked, and what
+-- was owed or was opened from that place on is carried, where the entries are those from there on
+abbrev pub AreThrough : Turns → (from : ℕ) → List Owed → Shown → List SeatLog → List Entry → Type 0
+AreThrough turns from owed w logs xs =
     IsIdle w
-    × HasTicked w xs 5 Craft ticked
-    × HasTicked w xs 6 Ground ticked
-    × AreOwedInOrder w.config.part_size xs owed
-    × AreCarriedInOrder w.config.part_size from xs (opened (history w))
+    × (are_all_in_turn xs ≡ true)
+    × AreExecuted turns.per_seat logs w
+    × IsTicked turns logs w xs Craft
+    × IsTicked turns logs w xs Ground
+    × AreOwedInOrder turns.per_seat logs w.config.part_size xs owed
+    × AreCarriedInOrder turns.per_seat logs w.config.part_size from xs (opened (history w))
 
--- the same, and each packet that was never lost is taken from that place on
-abbrev pub IsSettled : (ticked from : ℕ) → List Owed → Shown → Type 0
-IsSettled ticked from owed w =
-    AreThrough ticked from owed w (drop from w.journal) × AreTaken w (drop from w.journal)
+-- each packet that is taken was put, and is taken once; and each that was never lost is taken
+abbrev pub AreTakenInTurn : ℕ → List SeatLog → Shown → List Entry → Type 0
+AreTakenInTurn limit logs w xs =
+    (are_fresh xs (replicate (length (sent (history w))) false) ≡ true) × AreTaken limit logs w xs
+
+-- the same, and packets are taken from that place on
+abbrev pub IsSettled : Turns → (from : ℕ) → List Owed → Shown → List SeatLog → Type 0
+IsSettled turns from owed w logs =
+    AreThrough turns from owed w logs (drop from w.journal)
+    × AreTakenInTurn turns.per_seat logs w (drop from w.journal)

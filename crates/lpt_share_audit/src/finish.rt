@@ -1,21 +1,20 @@
 //! What a run has finished: nothing is left in a hand or with a worker, each job is executed, each
-//! packet is taken, each transaction is carried, and the timers have ticked.
+//! transaction is carried, and the timers have ticked.
 
-ghost use Rattle.std.specs.Prelude.{◌≡◌, ◌↔◌, ◌+◌, ◌<◌, ◌^◌, ◌≤◌, ◌-◌, ℕ, length, drop, get_or, false, IsTrue, IfOk};
-ghost use Rattle.lpt_journal.specs.Link.{sent};
+ghost use Rattle.std.specs.Prelude.{◌≡◌, ◌↔◌, ◌+◌, ◌<◌, ◌^◌, ◌≤◌, ◌-◌, length, drop, IsTrue};
 ghost use Rattle.lpt_journal.specs.Senders.{opened, notes_abort};
 ghost use Rattle.lpt_part.specs.Splitting.{IsPartSize, part_count};
 ghost use Rattle.lpt_world.specs.Worlds.{history};
-ghost use Rattle.lpt_share_audit.specs.Finished.{packet_taken, ticks, tick_count, sends, finishes, is_finished, is_aborted, AreTaken, IsIdle, HasTicked};
-ghost use Rattle.lpt_share_audit.specs.FinishedInside.{marked, AreMarked};
+ghost use Rattle.lpt_share_audit.specs.Finished.{ticks, tick_count, sends, finishes, is_finished, is_aborted, AreExecuted, IsIdle, IsTicked};
 ghost use Rattle.lpt_share_audit.specs.Settled.{sent_on, IsSentWhole, IsCarriedInOrder, AreCarriedInOrder};
 
-use lpt_events::{Answer, Entry, Event, Lane, Opening, Outcome, Side, Worker};
+use crate::full::{are_full, is_full};
+use crate::kinds::{sender_seat, timer_seat};
+use lpt_events::{Answer, Entry, Event, Lane, Opening, Outcome, SeatLog, Side, Turns, Worker};
 use lpt_packet::{Direction, Name};
 use lpt_world::World;
-use std::alloc::{AllocError, Global};
 
-/// Whether no hand and no worker has anything, and each job is executed.
+/// Whether no hand and no worker has anything.
 pub fn is_idle(world: &World) -> bool
     ensures { IsTrue result ↔ IsIdle world.now }
 {
@@ -25,14 +24,34 @@ pub fn is_idle(world: &World) -> bool
         && world.hand(Lane::G2).is_none()
         && world.ticket(Worker::W1).is_none()
         && world.ticket(Worker::W2).is_none()
-        && world.jobs_queued() == 0
 }
 
-/// Whether a seat ticked so often among these entries, or the clock is at its greatest.
-pub fn has_ticked(world: &World, entries: &[Entry], seat: u8, side: Side, count: u32) -> bool
-    ensures { IsTrue result ↔ HasTicked world.now entries.now seat side count }
+/// Whether each job is executed, or the logs of both workers are full.
+pub fn are_executed(world: &World, limit: u32, logs: &[SeatLog]) -> bool
+    ensures { IsTrue result ↔ AreExecuted limit logs.now world.now }
 {
-    world.clock(side) == u32::MAX || tick_count(entries, seat, side) == u64::from(count)
+    world.jobs_queued() == 0 || are_full(limit, logs, 7, 8)
+}
+
+/// Whether a node's timer ticked not more than it was to, and so often where its log isn't full and
+/// the clock isn't at its greatest.
+pub fn is_ticked(
+    world: &World,
+    entries: &[Entry],
+    side: Side,
+    turns: Turns,
+    logs: &[SeatLog],
+) -> bool
+    ensures { IsTrue result ↔ IsTicked turns logs.now world.now entries.now side }
+{
+    let seat = timer_seat(side);
+    let count = tick_count(entries, seat, side);
+    if count > u64::from(turns.ticks) {
+        return false;
+    }
+    count == u64::from(turns.ticks)
+        || world.clock(side) == u32::MAX
+        || is_full(turns.per_seat, logs, seat)
 }
 
 // How often a seat ticked.
@@ -60,76 +79,26 @@ fn is_tick(event: &Event, side: Side) -> bool
     }
 }
 
-/// Whether these entries take each packet that was put and never lost. The only error is out of
-/// memory, for a mark for each packet.
-pub fn are_taken(alloc: Global, world: &World, entries: &[Entry]) -> Result<bool, AllocError>
-    ensures { IfOk result (λ all. IsTrue all ↔ AreTaken world.now entries.now) }
-{
-    let mut marks = no_marks(alloc, world.packets() as usize)?;
-    mark_taken(&mut marks, entries);
-    Ok(are_marked(world, marks.as_slice()))
-}
-
-// So many marks, none of which is set.
-fn no_marks(alloc: Global, count: usize) -> Result<Vec<bool>, AllocError>
-    ensures len { IfOk result (λ v. length v.items ≡ count) }
-    ensures none { IfOk result (λ v. (n : ℕ) → get_or v.items n false ≡ false) }
-{
-    vec![in alloc; false; count]
-}
-
-// Sets the mark of each packet that the entries take.
-fn mark_taken(marks: &mut Vec<bool>, entries: &[Entry])
-    ensures marked { marks.new.items ≡ marked entries.now marks.old.items }
-    ensures length { length marks.new.items ≡ length marks.old.items }
-{
-    let mut rest = entries;
-    while let Some((entry, tail)) = rest.split_first() {
-        if let Some(n) = packet_taken(&entry.event) {
-            if n < marks.len() as u64 {
-                marks[n as usize] = true;
-            }
-        }
-        rest = tail;
-    }
-}
-
-// The number of the packet that an event takes.
-fn packet_taken(event: &Event) -> Option<u64>
-    ensures { result ≡ packet_taken event.now }
-{
-    match event {
-        Event::Take(_, n) => Some(*n),
-        _ => None,
-    }
-}
-
-// Whether each packet that the link holds has its mark.
-fn are_marked(world: &World, marks: &[bool]) -> bool
-    ensures { IsTrue result ↔ AreMarked world.now 0 marks.now }
-{
-    let mut n = 0;
-    let mut rest = marks;
-    while let Some((mark, tail)) = rest.split_first() {
-        if world.is_held(n) && !*mark {
-            return false;
-        }
-        n += 1;
-        rest = tail;
-    }
-    true
-}
-
-/// Whether each transaction that was opened from this place on was sent, part after part, and finished,
-/// or aborted, after its opening. The entries are those from there on.
-pub fn are_carried(world: &World, from: u64, entries: &[Entry]) -> bool
+/// Whether each transaction that was opened from this place on was sent, part after part, and
+/// finished, or aborted, after its opening; but for those of a sender whose log is full. The
+/// entries are those from there on.
+pub fn are_carried(
+    world: &World,
+    from: u64,
+    entries: &[Entry],
+    limit: u32,
+    logs: &[SeatLog],
+) -> bool
     requires { length entries.now + 1 < 2 ^ 64 }
-    ensures { IsTrue result ↔ AreCarriedInOrder world.now.config.part_size from entries.now (opened (history world.now)) }
+    ensures { IsTrue result ↔ AreCarriedInOrder limit logs.now world.now.config.part_size from entries.now (opened (history world.now)) }
 {
     let p = world.config().part_size;
     let mut rest = world.opened();
     while let Some((opening, tail)) = rest.split_first() {
-        if opening.place >= from && !is_opening_carried(opening, p, from, entries) {
+        if opening.place >= from
+            && !is_full(limit, logs, sender_seat(opening.direction))
+            && !is_opening_carried(opening, p, from, entries)
+        {
             return false;
         }
         rest = tail;
@@ -154,8 +123,8 @@ fn is_opening_carried(opening: &Opening, p: u32, from: u64, entries: &[Entry]) -
     is_carried(after, opening.direction, opening.name, length, p)
 }
 
-/// Whether a transaction whose message has so many octets was sent, part after part, and finished, or
-/// aborted.
+/// Whether a transaction whose message has so many octets was sent, part after part, and finished,
+/// or aborted.
 pub(crate) fn is_carried(
     entries: &[Entry],
     direction: Direction,
@@ -219,8 +188,8 @@ fn finishes(event: &Event, direction: Direction, name: Name) -> bool
     }
 }
 
-// Whether an event sends this part of a transaction.
-fn sends(event: &Event, direction: Direction, name: Name, part: u64) -> bool
+/// Whether an event sends this part of a transaction.
+pub(crate) fn sends(event: &Event, direction: Direction, name: Name, part: u64) -> bool
     ensures { result ≡ sends event.now direction name part }
 {
     match event {

@@ -6,9 +6,9 @@ ghost use Rattle.lpt_share_audit.specs.Kinds.{lane_seat, timer_seat, worker_seat
 use lpt_events::{Call, Event, Lane, SeatLog, Side, Worker};
 use lpt_packet::Direction;
 
-/// Whether each call of each log is of an event that the log's seat asks for: lanes take and deliver,
-/// timers tick and end receptions, workers claim, commit and have jobs executed, and senders send and
-/// finish, each for its own lane, node, worker or direction.
+/// Whether each call of each log is of an event that the log's seat asks for: lanes take and
+/// deliver, timers tick and end receptions, workers claim, commit and have jobs executed, and
+/// senders send and finish, each for its own lane, node, worker or direction.
 pub fn are_of_seats(logs: &[SeatLog]) -> bool
     ensures { result ≡ are_of_seats logs.now }
 {
@@ -67,7 +67,7 @@ fn lane_seat(lane: Lane) -> u8
 }
 
 // The seat of a node's timer.
-fn timer_seat(side: Side) -> u8
+pub(crate) fn timer_seat(side: Side) -> u8
     ensures { result ≡ timer_seat side }
 {
     match side {
@@ -87,7 +87,7 @@ fn worker_seat(worker: Worker) -> u8
 }
 
 // The seat of a direction's sender.
-fn sender_seat(direction: Direction) -> u8
+pub(crate) fn sender_seat(direction: Direction) -> u8
     ensures { result ≡ sender_seat direction }
 {
     match direction {

@@ -10,7 +10,9 @@ ghost use Rattle.lpt_share_audit.specs.Settled.{AreOwedInOrder};
 ghost use Rattle.lpt_events.specs.Openings.{is_opened};
 
 use crate::finish::is_carried;
-use lpt_events::{Entry, Opening, is_opened};
+use crate::full::is_full;
+use crate::kinds::sender_seat;
+use lpt_events::{Entry, Opening, SeatLog, is_opened};
 use lpt_ledger::State;
 use lpt_packet::{Direction, Name};
 use lpt_world::World;
@@ -55,15 +57,24 @@ fn is_open_last(world: &World, opening: &Opening, later: &[Opening]) -> bool
     }
 }
 
-/// Whether each of these was sent, part after part, and finished, or aborted.
-pub fn are_owed_carried(owed: &[Owed], p: u32, entries: &[Entry]) -> bool
+/// Whether each of these was sent, part after part, and finished, or aborted; but for those of a
+/// sender whose log is full.
+pub fn are_owed_carried(
+    owed: &[Owed],
+    p: u32,
+    entries: &[Entry],
+    limit: u32,
+    logs: &[SeatLog],
+) -> bool
     requires size { IsPartSize p }
     requires small { length entries.now + 1 < 2 ^ 64 }
-    ensures { IsTrue result ↔ AreOwedInOrder p entries.now owed.now }
+    ensures { IsTrue result ↔ AreOwedInOrder limit logs.now p entries.now owed.now }
 {
     let mut rest = owed;
     while let Some((one, tail)) = rest.split_first() {
-        if !is_carried(entries, one.direction, one.name, one.length, p) {
+        if !is_full(limit, logs, sender_seat(one.direction))
+            && !is_carried(entries, one.direction, one.name, one.length, p)
+        {
             return false;
         }
         rest = tail;

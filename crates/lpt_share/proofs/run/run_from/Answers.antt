@@ -1,7 +1,7 @@
 -- The given world goes on from itself, and what was found at the end is so.
 use Rattle.std.proofs.Common.{refl, rules}
 use Rattle.lpt_share.proofs.Going.{Begins-self}
-use Rattle.lpt_share.proofs.RunLemmas.{torn_shown, whole_finished}
+use Rattle.lpt_share.proofs.RunLemmas.{agree_shown, torn_shown, whole_finished}
 use Rattle.lpt_share.proofs.run.run_from.Goals as goal
 
 pub from_origin-shared-requires : goal.from_origin-shared-requires
@@ -16,3 +16,9 @@ returns-in-Ok-judged-clause-finished g c =
 pub returns-clause-torn : goal.returns-clause-torn
 returns-clause-torn g c =
     torn_shown c.args.turns _ _ c.args.world _ _ _ c.in-Err-judged.ensures.torn (search rules) (search rules)
+
+-- the logs agree
+pub returns-clause-err_agree : goal.returns-clause-err_agree
+returns-clause-err_agree g c =
+    agree_shown _ c.args.world c.into_world-world.result c.in-Err-judged.logs.items
+    c.in-Err-judged.fault c.in-Err-judged.ensures.agree (search rules)

@@ -7,10 +7,10 @@ use Rattle.lpt_share_audit.proofs.finish.are_carried.Given as goal
 
 abbrev pub invariant-loop-opening : goal.invariant-loop-opening
 invariant-loop-opening l =
-    (AreCarriedInOrder l.p l.from l.entries l.rest
-    → AreCarriedInOrder l.world.config.part_size l.from l.entries (opened (history l.world)))
-    × (AreCarriedInOrder l.world.config.part_size l.from l.entries (opened (history l.world))
-    → AreCarriedInOrder l.p l.from l.entries l.rest)
+    (AreCarriedInOrder l.limit l.logs l.p l.from l.entries l.rest
+    → AreCarriedInOrder l.limit l.logs l.world.config.part_size l.from l.entries (opened (history l.world)))
+    × (AreCarriedInOrder l.limit l.logs l.world.config.part_size l.from l.entries (opened (history l.world))
+    → AreCarriedInOrder l.limit l.logs l.p l.from l.entries l.rest)
 
 abbrev pub decreases-loop-opening : goal.decreases-loop-opening
 decreases-loop-opening l = length l.rest

@@ -5,8 +5,8 @@ use Rattle.lpt_share_audit.proofs.owed.are_owed_carried.Given as goal
 
 abbrev pub invariant-loop-one : goal.invariant-loop-one
 invariant-loop-one l =
-    (AreOwedInOrder l.p l.entries l.rest → AreOwedInOrder l.p l.entries l.owed)
-    × (AreOwedInOrder l.p l.entries l.owed → AreOwedInOrder l.p l.entries l.rest)
+    (AreOwedInOrder l.limit l.logs l.p l.entries l.rest → AreOwedInOrder l.limit l.logs l.p l.entries l.owed)
+    × (AreOwedInOrder l.limit l.logs l.p l.entries l.owed → AreOwedInOrder l.limit l.logs l.p l.entries l.rest)
 
 abbrev pub decreases-loop-one : goal.decreases-loop-one
 decreases-loop-one l = length l.rest

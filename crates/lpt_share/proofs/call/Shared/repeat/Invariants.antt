@@ -5,5 +5,5 @@ use Rattle.lpt_share.proofs.call.Shared.repeat.Given as goal
 
 abbrev pub invariant-loop : goal.invariant-loop
 invariant-loop g l =
-    Adds (Follow [] (again_event l.again)) l.fn.log l.log
+    Adds g.J.Origin.given (Follow [] (again_event l.again)) l.fn.log l.log
     × (length l.log.calls.items ≡ length l.fn.log.calls.items + l.count)

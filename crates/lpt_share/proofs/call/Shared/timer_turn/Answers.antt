@@ -6,18 +6,18 @@ use Rattle.lpt_share.proofs.call.Shared.timer_turn.Goals as goal
 
 pub returns-in_err-_reply-clause-added : goal.returns-in_err-_reply-clause-added
 returns-in_err-_reply-clause-added g c =
-    stays (Tick c.args.node ∷ []) (Expire c.args.node) c.args.log.now c.ask.new.log (search rules)
+    stays g.J.Origin.given (Tick c.args.node ∷ []) (Expire c.args.node) c.args.log.now c.ask.new.log (search rules)
 
 pub returns-in_default-clause-added : goal.returns-in_default-clause-added
 returns-in_default-clause-added g c =
-    stays (Tick c.args.node ∷ []) (Expire c.args.node) c.args.log.now c.ask.new.log (search rules)
+    stays g.J.Origin.given (Tick c.args.node ∷ []) (Expire c.args.node) c.args.log.now c.ask.new.log (search rules)
 
 pub returns-in_err-expired-clause-added : goal.returns-in_err-expired-clause-added
 returns-in_err-expired-clause-added g c =
-    goes_on (Tick c.args.node) [] (Expire c.args.node) c.args.log.now c.ask.new.log c.repeat.new.log (search rules)
+    goes_on g.J.Origin.given (Tick c.args.node) [] (Expire c.args.node) c.args.log.now c.ask.new.log c.repeat.new.log (search rules)
     c.repeat.ensures.added
 
 pub returns-clause-added : goal.returns-clause-added
 returns-clause-added g c =
-    goes_on (Tick c.args.node) [] (Expire c.args.node) c.args.log.now c.ask.new.log c.repeat.new.log (search rules)
+    goes_on g.J.Origin.given (Tick c.args.node) [] (Expire c.args.node) c.args.log.now c.ask.new.log c.repeat.new.log (search rules)
     c.repeat.ensures.added
