@@ -9,6 +9,7 @@ use Rattle.lpt_events.specs.declared.event.Event.TheVariants.{Open, Send, Plain,
 use Rattle.lpt_events.specs.declared.lane.Lane.{Lane}
 use Rattle.lpt_events.specs.declared.outcome.Outcome.{Outcome}
 use Rattle.lpt_events.specs.declared.reply.Answer.{Answer}
+use Rattle.lpt_events.specs.Sides.{sender_side}
 use Rattle.lpt_chart.specs.declared.marks.Content.TheVariants.{Part, Request, Noise}
 use Rattle.lpt_chart.specs.declared.marks.Saying.{Saying}
 use Rattle.lpt_chart.specs.declared.marks.Saying.TheVariants as say
@@ -16,7 +17,7 @@ use Rattle.lpt_chart.specs.declared.marks.Stage.TheVariants.{Claimed, Committed}
 use Rattle.lpt_chart.specs.declared.marks.Thing.TheVariants.{Sender}
 use Rattle.lpt_chart.specs.Answers.{applied_in, boot_in, claimed_in, clock_in, committed_in, expired_in, is_finished, is_lost, is_retired, is_taken, number_put, outcome_in, parts_opened, stale_in}
 use Rattle.lpt_chart.specs.Deliveries.{delivery_in, delivery_told, shown_by}
-use Rattle.lpt_chart.specs.Events.{delivered, drawn, executed, expired, finished, from_side, message_opened, numbers_told, open_at, packet_lost, packet_put, packet_taken, part_put, restarted, worked}
+use Rattle.lpt_chart.specs.Events.{delivered, drawn, executed, expired, finished, message_opened, numbers_told, open_at, packet_lost, packet_put, packet_taken, part_put, restarted, worked}
 use Rattle.lpt_chart.specs.Pictures.{Picture, flown, hand_in, landed, said, ticked}
 use Rattle.lpt_chart.specs.Tasks.{asked_from}
 use Rattle.lpt_chart.specs.Tracks.{parts_in, stage_of, task_in}
@@ -74,7 +75,8 @@ drawn-flights p (Open d name m) a =
 drawn-flights p (Send d name k) a =
     other-flights p (Send d name k) a
     (told-flights (λ n. part_put p d name k n) (number_put a) p p
-    (λ n. put-flights p d n (Part name k (parts_in (stage_of (open_at p (from_side d)) (Sender name)))) (task_in (stage_of (open_at p (from_side d)) (Sender name)))) refl) refl
+    (λ n. put-flights p d n (Part name k (parts_in (stage_of (open_at p (sender_side d))
+    (Sender name)))) (task_in (stage_of (open_at p (sender_side d)) (Sender name)))) refl) refl
 drawn-flights p (Plain source flags service subtype body) a =
     other-flights p (Plain source flags service subtype body) a
     (told-flights (λ n. packet_put p Up n (Request service subtype) (Some (asked_from service subtype body 0))) (number_put a) p p

@@ -12,7 +12,6 @@ use Rattle.lpt_events.specs.declared.outcome.Outcome.TheVariants as outcome
 use Rattle.lpt_events.specs.declared.side.Side.{Side}
 use Rattle.lpt_events.specs.declared.side.Side.TheVariants.{Ground, Craft}
 use Rattle.lpt_chart.specs.declared.marks.Content.{Content}
-use Rattle.lpt_chart.specs.declared.marks.Content.TheVariants.{Report}
 use Rattle.lpt_chart.specs.declared.marks.Held.{Held}
 use Rattle.lpt_chart.specs.declared.marks.Saying.{Saying}
 use Rattle.lpt_chart.specs.declared.marks.Saying.TheVariants as say
@@ -20,7 +19,7 @@ use Rattle.lpt_chart.specs.declared.marks.Stage.{Stage}
 use Rattle.lpt_chart.specs.declared.marks.Task.{Task}
 use Rattle.lpt_chart.specs.declared.refusal.Refusal.{Refusal}
 use Rattle.lpt_chart.specs.Events.{came_to, executed, expired, finished, message_opened, packet_lost, packet_put, packet_taken, refusal_at, refusal_rows, restarted, worked}
-use Rattle.lpt_chart.specs.Pictures.{Picture, cleared, landed, lost, one_more, passed, put, reported, retold, rowed, run_of, said, said_on, same_ground, taken, takes, ticked, tracked, with_job, without_job}
+use Rattle.lpt_chart.specs.Pictures.{Picture, cleared, landed, lost, one_more, own_content, own_put, passed, put, reported, retold, rowed, run_of, said, said_on, same_ground, taken, takes, ticked, tracked, with_job, without_job}
 
 -- ---- what draws no flight
 
@@ -77,18 +76,20 @@ report-flights p s d content = refl
 pub reported-flights : (k : ℕ) (p : Picture) → (reported k p).flights ≡ p.flights
 reported-flights zero p = refl
 reported-flights (suc k) p =
-    reported-flights k (put (said_on p (say.Put Down (length p.sent) Report)) Down Report None)
-    ∙ report-flights p (say.Put Down (length p.sent) Report) Down Report
+    reported-flights k (own_put p)
+    ∙ report-flights p (say.Put Down (length p.sent) (own_content p)) Down (own_content p)
 
 -- a refused line
-pub refusal-flights : (p : Picture) (place : ℕ) → (refusal_at p place).flights ≡ p.flights
+pub refusal-flights : (p : Picture) (place : ℕ) (side : Side) → (refusal_at p place side).flights
+    ≡ p.flights
 unfolding rowed
-refusal-flights p place = refl
+refusal-flights p place side = refl
 
 -- so many of them
 pub refused-flights : (refused : List Refusal) (p : Picture) → (refusal_rows p refused).flights ≡ p.flights
 refused-flights [] p = refl
-refused-flights (r ∷ rs) p = refused-flights rs (refusal_at p r.place) ∙ refusal-flights p r.place
+refused-flights (r ∷ rs) p =
+    refused-flights rs (refusal_at p r.place r.side) ∙ refusal-flights p r.place r.side
 
 -- what a delivery does to the tracks
 pub came_to-flights : (p : Picture) (held : Option Held) (d : Direction) (o : Outcome)

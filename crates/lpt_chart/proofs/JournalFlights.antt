@@ -1,6 +1,8 @@
 -- Each delivery of a journal is drawn once.
 use Rattle.std.proofs.Common.{◌≡◌, ◌∙◌, ℕ, ◌+◌, ◌++◌, List, [], ◌∷◌, map, filter, take, drop, ap, sym, append_assoc, append-nil}
 use Rattle.lpt_events.specs.declared.entry.Entry.{Entry}
+use Rattle.lpt_chart.specs.declared.marks.Kind.{Kind}
+use Rattle.lpt_chart.specs.declared.marks.Opened.{Opened}
 use Rattle.lpt_chart.specs.declared.refusal.Refusal.{Refusal}
 use Rattle.lpt_chart.specs.Deliveries.{DrawsDeliveries, DrawsReleases, deliveries_from, delivery_in, is_release, shown_by}
 use Rattle.lpt_chart.specs.Events.{after, after_all, before, drawn, own_puts, refusal_rows}
@@ -30,9 +32,13 @@ after_all-flights (x ∷ xs) p place refused =
     ∙ append_assoc (map shown_by p.flights) (delivery_in place x.event x.reply.answer) (deliveries_from (place + 1) xs)
 
 -- each delivery of a journal is drawn once, in order
-pub picture-flights : (journal : List Entry) (refused : List Refusal) → DrawsDeliveries journal refused
-picture-flights journal refused = after_all-flights journal blank 0 refused
+pub picture-flights : (kinds : List Kind) (opened : List Opened) (journal : List Entry)
+    (refused : List Refusal) → DrawsDeliveries kinds opened journal refused
+picture-flights kinds opened journal refused =
+    after_all-flights journal (blank kinds opened) 0 refused
 
 -- and each release
-pub picture-releases : (journal : List Entry) (refused : List Refusal) → DrawsReleases journal refused
-picture-releases journal refused = ap (filter is_release) (picture-flights journal refused)
+pub picture-releases : (kinds : List Kind) (opened : List Opened) (journal : List Entry)
+    (refused : List Refusal) → DrawsReleases kinds opened journal refused
+picture-releases kinds opened journal refused =
+    ap (filter is_release) (picture-flights kinds opened journal refused)

@@ -1,16 +1,17 @@
 -- What loops over entries, columns and own packets draw.
 use Rattle.std.proofs.Common.{◌≡◌, ◌∙◌, ℕ, ◌+◌, ◌<◌, ◌++◌, List, ◌∷◌, drop, take, length, ap, sym, append_assoc, add-one, Option, None, get_or, option_to_list}
+use Rattle.std.specs.Prelude.{◌*◌, ◌/◌, ◌%◌}
 use Rattle.std.proofs.Math.Seq.{drop-cons}
-use Rattle.lpt_packet.specs.declared.direction.Direction.TheVariants.{Down}
 use Rattle.lpt_events.specs.declared.entry.Entry.{Entry}
 use Rattle.lpt_events.specs.declared.side.Side.{Side}
 use Rattle.lpt_chart.specs.declared.marks.Bar.{Bar}
-use Rattle.lpt_chart.specs.declared.marks.Content.TheVariants.{Report}
-use Rattle.lpt_chart.specs.declared.marks.Saying.TheVariants as say
 use Rattle.lpt_chart.specs.declared.marks.Track.{Track}
 use Rattle.lpt_chart.specs.declared.refusal.Refusal.{Refusal}
 use Rattle.lpt_chart.specs.Events.{after, after_all, before, refusal_rows}
-use Rattle.lpt_chart.specs.Pictures.{Picture, put, reported, said_on}
+use Rattle.lpt_chart.specs.Pictures.{Picture, own_put, reported}
+use Rattle.lpt_chart.specs.declared.shape.Shape.{Shape}
+use Rattle.lpt_chart.specs.declared.style.Style.{Style}
+use Rattle.lpt_chart.specs.Legends.{key_shapes, legend_shapes}
 use Rattle.lpt_chart.specs.Tracks.{all_bars, bar_up_to}
 
 -- the rest of a list begins with its next element
@@ -22,17 +23,15 @@ drop_step xs i d within = drop-cons xs i d within ∙ ap (λ n. get_or xs i d �
 -- one packet of the spacecraft's own, and then the rest
 pub reported_more : (a b : ℕ) (p : Picture)
     → a ≡ b + 1
-    → reported a p ≡ reported b (put (said_on p (say.Put Down (length p.sent) Report)) Down Report None)
+    → reported a p ≡ reported b (own_put p)
 reported_more a b p e = ap (λ n. reported n p) (e ∙ add-one b)
 
--- the same, by the pictures after its row and after it
-pub reported_next : (a b : ℕ) (p q r : Picture)
+-- the same, by the picture after it
+pub reported_next : (a b : ℕ) (p q : Picture)
     → a ≡ b + 1
-    → q ≡ said_on p (say.Put Down (length p.sent) Report)
-    → r ≡ put q Down Report None
-    → reported b r ≡ reported a p
-reported_next a b p q r e row packet =
-    ap (reported b) (packet ∙ ap (λ x. put x Down Report None) row) ∙ sym (reported_more a b p e)
+    → q ≡ own_put p
+    → reported b q ≡ reported a p
+reported_next a b p q e packet = ap (reported b) packet ∙ sym (reported_more a b p e)
 
 -- the entry of a place behind its refused lines, and those after it
 pub entry_step : (p : Picture) (i : ℕ) (xs : List Entry) (d : Entry) (refused : List Refusal)
@@ -50,3 +49,14 @@ pub column_step : (front : List Bar) (side : Side) (here i : ℕ) (columns : Lis
 column_step front side here i columns d within =
     append_assoc front (option_to_list (bar_up_to side here i (get_or columns i d))) (all_bars side here (i + 1) (drop (i + 1) columns))
     ∙ ap (λ c. front ++ all_bars side here i c) (sym (drop_step columns i d within))
+
+-- a sample, and those after it
+pub key_step : (front : List Shape) (i : ℕ) (styles : List Style) (d : Style)
+    → i < length styles
+    → (front ++ key_shapes (24 + 250 * (i % 3)) (2 * (i / 3)) (get_or styles i d))
+    ++ legend_shapes (i + 1) (drop (i + 1) styles)
+    ≡ front ++ legend_shapes i (drop i styles)
+key_step front i styles d within =
+    append_assoc front (key_shapes (24 + 250 * (i % 3)) (2 * (i / 3)) (get_or styles i d))
+    (legend_shapes (i + 1) (drop (i + 1) styles))
+    ∙ ap (λ c. front ++ legend_shapes i c) (sym (drop_step styles i d within))

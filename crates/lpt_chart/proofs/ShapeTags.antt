@@ -7,6 +7,8 @@ use Rattle.lpt_events.specs.declared.entry.Entry.{Entry}
 use Rattle.lpt_events.specs.declared.side.Side.TheVariants as side
 use Rattle.lpt_chart.proofs.TagLemmas.{Tagged, decimal-tagged, either, escaped-tagged, joined-tagged, tagged-append}
 use Rattle.lpt_chart.specs.declared.choice.Choice.{Choice}
+use Rattle.lpt_chart.specs.declared.marks.Kind.{Kind}
+use Rattle.lpt_chart.specs.declared.marks.Opened.{Opened as Opening}
 use Rattle.lpt_chart.specs.declared.refusal.Refusal.{Refusal}
 use Rattle.lpt_chart.specs.declared.shape.Shape.{Shape}
 use Rattle.lpt_chart.specs.declared.shape.Shape.TheVariants as shape
@@ -15,14 +17,14 @@ use Rattle.lpt_chart.specs.declared.shape.Sign.TheVariants as sign
 use Rattle.lpt_chart.specs.declared.style.Letters.{Letters}
 use Rattle.lpt_chart.specs.declared.style.Letters.TheVariants.{Title, Grey, Place, Small, Words, Node, Bead, BeadWhite, Key}
 use Rattle.lpt_chart.specs.declared.style.Style.{Style}
-use Rattle.lpt_chart.specs.declared.style.Style.TheVariants.{Paper, Ground, Ink, InkEdge, Life, Hair, Lane, Retiring, Way, WayAgain, WayNoise, InHand, Late, Cross, Filled, Hollow, Dashed, Ring, Noise, Light, JobWaits, JobHollow, JobFilled}
+use Rattle.lpt_chart.specs.declared.style.Style.TheVariants.{Paper, Ground, Ink, InkEdge, Life, Hair, Lane, Way, WayAgain, WayNoise, InHand, Waiting, Late, Cross, Expired, Hollow, Kept, Dashed, Noted, Ring, Retiring, Opened, Finished, Sender, Reception, JobWaits, JobHollow, JobFilled, Tick, Restart, Refused, Filled, Noise, Light, JobEdge}
 use Rattle.lpt_chart.specs.declared.style.Weight.TheVariants.{Quiet, Plain, Strong}
-use Rattle.lpt_chart.specs.Charts.{chart_shapes, chart_text, picture_text}
+use Rattle.lpt_chart.specs.Charts.{chart_shapes, chart_text, counts, keys_of, picture_text}
 use Rattle.lpt_chart.specs.Choices.{frame_of}
 use Rattle.lpt_chart.specs.Events.{picture}
 use Rattle.lpt_chart.specs.Frames.{half, whole_high, y_of}
 use Rattle.lpt_chart.specs.Pictures.{Picture}
-use Rattle.lpt_chart.specs.Shapes.{bead_text, box_text, closing_text, end_text, escaped, group_text, letters_head, line_text, opening_text, part_text, place_text, said_text, seen_text, shape_text, sign_steps, sign_text, size_text, text_of, widest}
+use Rattle.lpt_chart.specs.Shapes.{bead_text, box_text, closing_text, desc_head, end_text, escaped, group_text, letters_head, line_text, opening_text, part_text, place_text, said_text, seen_text, shape_text, sign_steps, sign_text, size_text, text_of, widest}
 use Rattle.lpt_chart.specs.Styles.{letters_text, style_text}
 use Rattle.lpt_chart.specs.Texts.{words_text}
 use Rattle.lpt_chart.specs.Words.{joined}
@@ -38,7 +40,6 @@ style-tagged InkEdge = refl
 style-tagged Life = refl
 style-tagged Hair = refl
 style-tagged Lane = refl
-style-tagged Retiring = refl
 style-tagged (Way Up) = refl
 style-tagged (Way Down) = refl
 style-tagged (WayAgain Up) = refl
@@ -47,23 +48,41 @@ style-tagged (WayNoise Up) = refl
 style-tagged (WayNoise Down) = refl
 style-tagged (InHand Up) = refl
 style-tagged (InHand Down) = refl
+style-tagged (Waiting Up) = refl
+style-tagged (Waiting Down) = refl
 style-tagged Late = refl
 style-tagged Cross = refl
-style-tagged (Filled Up) = refl
-style-tagged (Filled Down) = refl
+style-tagged Expired = refl
 style-tagged (Hollow Up) = refl
 style-tagged (Hollow Down) = refl
+style-tagged (Kept Up) = refl
+style-tagged (Kept Down) = refl
 style-tagged (Dashed Up) = refl
 style-tagged (Dashed Down) = refl
+style-tagged (Noted Up) = refl
+style-tagged (Noted Down) = refl
 style-tagged (Ring Up) = refl
 style-tagged (Ring Down) = refl
+style-tagged Retiring = refl
+style-tagged Opened = refl
+style-tagged Finished = refl
+style-tagged (Sender Up) = refl
+style-tagged (Sender Down) = refl
+style-tagged (Reception Up) = refl
+style-tagged (Reception Down) = refl
+style-tagged JobWaits = refl
+style-tagged JobHollow = refl
+style-tagged JobFilled = refl
+style-tagged Tick = refl
+style-tagged Restart = refl
+style-tagged Refused = refl
+style-tagged (Filled Up) = refl
+style-tagged (Filled Down) = refl
 style-tagged (Noise Up) = refl
 style-tagged (Noise Down) = refl
 style-tagged (Light Up) = refl
 style-tagged (Light Down) = refl
-style-tagged JobWaits = refl
-style-tagged JobHollow = refl
-style-tagged JobFilled = refl
+style-tagged JobEdge = refl
 
 letters-tagged : (l : Letters) → Tagged (letters_text l)
 unfolding letters_text
@@ -197,28 +216,34 @@ part-tagged y wide high top =
       ),
     )
 
-opening-tagged : (wide high : ℕ) (title : List ℕ) → Tagged (opening_text wide high title)
+opening-tagged : (wide high : ℕ) (title counts : List ℕ)
+    → Tagged (opening_text wide high title counts)
 unfolding opening_text
-opening-tagged wide high title =
+opening-tagged wide high title counts =
     let size = joined
     (codes "<svg xmlns='http://www.w3.org/2000/svg' width='" ∷ decimal wide ∷ codes "' height='" ∷ decimal high
     ∷ codes "'" ∷ letters_head ∷ []) in
-    tagged-append (size ++ escaped title) (codes "</title>" ++ 10 ∷ [])
+    let front = size ++ escaped title in
+    tagged-append (front ++ desc_head ++ escaped counts) (codes "</desc>" ++ 10 ∷ [])
+    (tagged-append (front ++ desc_head) (escaped counts)
+    (tagged-append front desc_head
     (tagged-append size (escaped title)
     (joined-tagged
     (codes "<svg xmlns='http://www.w3.org/2000/svg' width='" ∷ decimal wide ∷ codes "' height='" ∷ decimal high
     ∷ codes "'" ∷ letters_head ∷ [])
     (refl, (decimal-tagged wide, (refl, (decimal-tagged high, (refl, (refl, refl)))))))
-    (escaped-tagged title)) refl
+    (escaped-tagged title)) refl)
+    (escaped-tagged counts)) refl
 
 -- ---- texts
 
-seen-tagged : (t : List ℕ) → Tagged (seen_text t)
+seen-tagged : (most : ℕ) (t : List ℕ) → Tagged (seen_text most t)
 unfolding seen_text
-seen-tagged t =
-    either (nat_lt widest (length t)) _ _
-    (joined-tagged (codes "<title>" ∷ escaped t ∷ codes "</title>" ∷ escaped (take 58 t) ∷ codes ".." ∷ [])
-    (refl, (escaped-tagged t, (refl, (escaped-tagged (take 58 t), (refl, refl))))))
+seen-tagged most t =
+    either (nat_lt most (length t)) _ _
+    (joined-tagged (codes "<title>" ∷ escaped t ∷ codes "</title>" ∷ escaped (take (most - 2) t)
+    ∷ codes ".." ∷ [])
+    (refl, (escaped-tagged t, (refl, (escaped-tagged (take (most - 2) t), (refl, refl))))))
     (escaped-tagged t)
 
 place-tagged : (x y : ℕ) (l : Letters) → Tagged (place_text x y l)
@@ -228,19 +253,20 @@ place-tagged x y l =
     (codes "<text x='" ∷ decimal x ∷ codes "' y='" ∷ decimal y ∷ codes "' " ∷ letters_text l ∷ codes ">" ∷ [])
     (refl, (decimal-tagged x, (refl, (decimal-tagged y, (refl, (letters-tagged l, (refl, refl)))))))
 
-said-tagged : (x y : ℕ) (l : Letters) (t : List ℕ) → Tagged (said_text x y l t)
+said-tagged : (x y : ℕ) (l : Letters) (most : ℕ) (t : List ℕ) → Tagged (said_text x y l most t)
 unfolding said_text
-said-tagged x y l t =
-    tagged-append (place_text x y l ++ seen_text t) (codes "</text>" ++ 10 ∷ [])
-    (tagged-append (place_text x y l) (seen_text t) (place-tagged x y l) (seen-tagged t)) refl
+said-tagged x y l most t =
+    tagged-append (place_text x y l ++ seen_text most t) (codes "</text>" ++ 10 ∷ [])
+    (tagged-append (place_text x y l) (seen_text most t) (place-tagged x y l)
+    (seen-tagged most t)) refl
 
 bead-tagged : (x at number round : ℕ) (look : Style) (l : Letters) → Tagged (bead_text x at number round look l)
 unfolding bead_text
 bead-tagged x at number round look l =
     tagged-append (box_text (x - half number) (y_of at - 7) (2 * half number) 14 round look)
-    (said_text x (y_of at + 4) l (decimal number))
+    (said_text x (y_of at + 4) l 60 (decimal number))
     (box-tagged (x - half number) (y_of at - 7) (2 * half number) 14 round look)
-    (said-tagged x (y_of at + 4) l (decimal number))
+    (said-tagged x (y_of at + 4) l 60 (decimal number))
 
 group-tagged : (t : List ℕ) → Tagged (group_text t)
 unfolding group_text
@@ -257,7 +283,8 @@ shape-tagged source title refused (shape.Line x0 y0 x1 y1 look) = line-tagged x0
 shape-tagged source title refused (shape.Box x y wide high round look) = box-tagged x y wide high round look
 shape-tagged source title refused (shape.Sign x y s look) = sign-tagged x y s look
 shape-tagged source title refused (shape.Bead x at number round look l) = bead-tagged x at number round look l
-shape-tagged source title refused (shape.Text x y l words) = said-tagged x y l (words_text source title refused words)
+shape-tagged source title refused (shape.Text x y l it) =
+    said-tagged x y l (widest it) (words_text source title refused it)
 shape-tagged source title refused (shape.Group words) = group-tagged (words_text source title refused words)
 shape-tagged source title refused shape.GroupEnd = refl
 shape-tagged source title refused (shape.Part y wide high top) = part-tagged y wide high top
@@ -281,12 +308,17 @@ picture-tagged : (source events : ℕ) (c : Choice) (title : List ℕ) (refused 
 unfolding picture_text
 picture-tagged source events c title refused p =
     let f = frame_of source c title refused p in
-    let head = opening_text f.wide (whole_high f) title in
-    let text = text_of source title refused (chart_shapes f events c title p) in
+    let keys = keys_of f p in
+    let told = words_text source title refused (counts events p) in
+    let head = opening_text f.wide (whole_high f (length keys)) title told in
+    let text = text_of source title refused (chart_shapes f keys events c title p) in
     tagged-append (head ++ text) closing_text
-    (tagged-append head text (opening-tagged f.wide (whole_high f) title)
-    (shapes-tagged source title refused (chart_shapes f events c title p))) refl
+    (tagged-append head text (opening-tagged f.wide (whole_high f (length keys)) title told)
+    (shapes-tagged source title refused (chart_shapes f keys events c title p))) refl
 
-pub chart-tagged : (source : ℕ) (c : Choice) (title : List ℕ) (journal : List Entry) (refused : List Refusal)
-    → Tagged (chart_text source c title journal refused)
-chart-tagged source c title journal refused = picture-tagged source (length journal) c title refused (picture journal refused)
+pub chart-tagged : (source : ℕ) (c : Choice) (title : List ℕ) (kinds : List Kind)
+    (opened : List Opening) (journal : List Entry)
+    (refused : List Refusal)
+    → Tagged (chart_text source c title kinds opened journal refused)
+chart-tagged source c title kinds opened journal refused =
+    picture-tagged source (length journal) c title refused (picture kinds opened journal refused)

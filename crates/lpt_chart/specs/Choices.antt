@@ -3,6 +3,7 @@ use Rattle.std.specs.Prelude.{ℕ, ◌+◌, ◌-◌, ◌*◌, ◌/◌, ◌==◌,
 use Rattle.std.specs.Option.{option_map_or}
 use Rattle.lpt_events.specs.declared.side.Side.{Side}
 use Rattle.lpt_events.specs.declared.side.Side.TheVariants.{Ground, Craft}
+use Rattle.lpt_events.specs.Sides.{same_side}
 use Rattle.lpt_chart.specs.declared.choice.Choice.{Choice}
 use Rattle.lpt_chart.specs.declared.frame.Frame.{Frame}
 use Rattle.lpt_chart.specs.declared.marks.Row.{Row}
@@ -41,11 +42,17 @@ height_of p i = option_map_or (λ r. r.at) (slice_get p.rows i) p.next
 
 -- ---- the lines of a title
 
--- where a line of a title ends: at a space between the 46th and the 60th letter, or there
-abbrev pub line_end : List ℕ → ℕ
-line_end t =
-    if nat_le (length t) 60 then length t
-    else option_map_or (λ k. min k 14 + 46) (position (λ b. b == 32) (drop 46 t)) 60
+-- how many letters a line of a title has in a picture of this width
+abbrev pub title_wide : (wide : ℕ) → ℕ
+title_wide wide = (wide - 48) * 2 / 21
+
+-- where a line of a title ends: at a space among its last 14 letters, or where there is no more
+-- room
+abbrev pub line_end : List ℕ → (most : ℕ) → ℕ
+line_end t most =
+    if nat_le (length t) most then length t
+    else option_map_or (λ k. min k 14 + (most - 14))
+    (position (λ b. b == 32) (drop (most - 14) t)) most
 
 -- a text without the space at its front, where there is one
 abbrev pub behind_space : List ℕ → List ℕ
@@ -53,24 +60,24 @@ behind_space [] = []
 behind_space (b ∷ t) = if b == 32 then t else b ∷ t
 
 -- a line, and what follows it and the space that parts them
-abbrev pub title_front : List ℕ → List ℕ
-title_front t = take (line_end t) t
+abbrev pub title_front : List ℕ → (most : ℕ) → List ℕ
+title_front t most = take (line_end t most) t
 
-abbrev pub title_rest : List ℕ → List ℕ
-title_rest t = behind_space (drop (line_end t) t)
+abbrev pub title_rest : List ℕ → (most : ℕ) → List ℕ
+title_rest t most = behind_space (drop (line_end t most) t)
 
 -- the line with this index: two lines, and what follows them
-abbrev pub title_line : List ℕ → (line : ℕ) → List ℕ
-title_line t line =
-    if line == 0 then title_front t
-    else if line == 1 then title_front (title_rest t)
-    else title_rest (title_rest t)
+abbrev pub title_line : List ℕ → (line most : ℕ) → List ℕ
+title_line t line most =
+    if line == 0 then title_front t most
+    else if line == 1 then title_front (title_rest t most) most
+    else title_rest (title_rest t most) most
 
 -- the room for the lines behind the first
-abbrev pub title_room : List ℕ → ℕ
-title_room t =
-    if nat_le (length t) 60 then 0
-    else if nat_le (length (title_rest t)) 60 then 24
+abbrev pub title_room : List ℕ → (most : ℕ) → ℕ
+title_room t most =
+    if nat_le (length t) most then 0
+    else if nat_le (length (title_rest t most)) most then 24
     else 48
 
 -- ---- how wide a picture is
@@ -78,12 +85,6 @@ title_room t =
 -- the width of so many letters
 abbrev pub wide_of : ℕ → ℕ
 wide_of n = (29 * n + 3) / 4
-
--- whether two sides are the same
-abbrev pub same_side : Side → Side → Bool
-same_side Ground Ground = true
-same_side Craft Craft = true
-same_side _ _ = false
 
 -- how many letters a row has at a side
 unfoldable pub letters_at : (source : ℕ) → List Refusal → Side → Saying → ℕ
@@ -94,21 +95,28 @@ letters_at source refused side saying =
 abbrev pub widest_at : (source : ℕ) → List Refusal → Side → List Row → ℕ
 widest_at source refused side rows = fold (λ n r. max n (letters_at source refused side r.saying)) 16 rows
 
--- the frame of a picture by its widths: its columns have 12 pixels each
+-- the width of a picture by that of its words: its columns have 12 pixels each
+abbrev pub frame_wide : Picture → (left right : ℕ) → ℕ
+frame_wide p left right =
+    60 + wide_of left + (46 + 12 * min (length p.ground) 64) +
+    (420 + 12 * min (length p.craft) 64) + (24 + wide_of right)
+
+-- the frame of a picture by its widths
 unfoldable pub frame_with : Choice → (title : List ℕ) → Picture → (left right : ℕ) → Frame
-frame_with c title p left right = record {
-  words = 60 + wide_of left;
-  left = 60 + wide_of left + (46 + 12 * min (length p.ground) 64);
-  right = 60 + wide_of left + (46 + 12 * min (length p.ground) 64) + (420 + 12 * min (length p.craft) 64);
-  wide =
-      60 + wide_of left + (46 + 12 * min (length p.ground) 64) + (420 + 12 * min (length p.craft) 64)
-      + (24 + wide_of right);
-  head = 92 + title_room title;
-  window = 130 + title_room title;
-  margin = 8;
-  top = height_of p (hidden_above c p.rows);
-  bottom = height_of p (row_end c p.rows);
-}
+frame_with c title p left right =
+    let room : ℕ = title_room title (title_wide (frame_wide p left right)) in
+    record {
+      words = 60 + wide_of left;
+      left = 60 + wide_of left + (46 + 12 * min (length p.ground) 64);
+      right = 60 + wide_of left + (46 + 12 * min (length p.ground) 64) +
+          (420 + 12 * min (length p.craft) 64);
+      wide = frame_wide p left right;
+      head = 92 + room;
+      window = 130 + room;
+      margin = 8;
+      top = height_of p (hidden_above c p.rows);
+      bottom = height_of p (row_end c p.rows);
+    }
 
 -- the frame of a picture
 abbrev pub frame_of : (source : ℕ) → Choice → (title : List ℕ) → List Refusal → Picture → Frame

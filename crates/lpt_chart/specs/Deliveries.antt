@@ -8,6 +8,8 @@ use Rattle.lpt_events.specs.declared.outcome.Outcome.{Outcome}
 use Rattle.lpt_events.specs.declared.outcome.Outcome.TheVariants.{Released, PlainReleased}
 use Rattle.lpt_events.specs.declared.reply.Answer.{Answer}
 use Rattle.lpt_chart.specs.declared.marks.Flight.{Flight}
+use Rattle.lpt_chart.specs.declared.marks.Kind.{Kind}
+use Rattle.lpt_chart.specs.declared.marks.Opened.{Opened}
 use Rattle.lpt_chart.specs.declared.refusal.Refusal.{Refusal}
 use Rattle.lpt_chart.specs.Answers.{outcome_in}
 use Rattle.lpt_chart.specs.Events.{picture}
@@ -42,8 +44,9 @@ abbrev pub shown_by : Flight → Delivery
 shown_by f = record { place = f.place; lane = f.lane; outcome = f.outcome }
 
 -- the flights draw the deliveries of the journal, each once, in order, whatever lines were refused
-abbrev pub DrawsDeliveries : List Entry → List Refusal → Type 0
-DrawsDeliveries journal refused = map shown_by (picture journal refused).flights ≡ deliveries journal
+abbrev pub DrawsDeliveries : List Kind → List Opened → List Entry → List Refusal → Type 0
+DrawsDeliveries kinds opened journal refused =
+    map shown_by (picture kinds opened journal refused).flights ≡ deliveries journal
 
 -- whether an outcome is a release
 abbrev pub releases : Outcome → Bool
@@ -56,6 +59,7 @@ abbrev pub is_release : Delivery → Bool
 is_release d = releases d.outcome
 
 -- and so each release, once, in order
-abbrev pub DrawsReleases : List Entry → List Refusal → Type 0
-DrawsReleases journal refused =
-    filter is_release (map shown_by (picture journal refused).flights) ≡ filter is_release (deliveries journal)
+abbrev pub DrawsReleases : List Kind → List Opened → List Entry → List Refusal → Type 0
+DrawsReleases kinds opened journal refused =
+    filter is_release (map shown_by (picture kinds opened journal refused).flights)
+    ≡ filter is_release (deliveries journal)

@@ -17,9 +17,12 @@ use Rattle.lpt_events.specs.declared.reply.Answer.{Answer}
 use Rattle.lpt_events.specs.declared.reply.Puts.{Puts}
 use Rattle.lpt_events.specs.declared.side.Side.{Side}
 use Rattle.lpt_events.specs.declared.side.Side.TheVariants.{Ground, Craft}
+use Rattle.lpt_events.specs.Sides.{receiver_side, sender_side}
 use Rattle.lpt_chart.specs.declared.marks.Content.{Content}
 use Rattle.lpt_chart.specs.declared.marks.Content.TheVariants.{Part, Request, Report, Noise}
 use Rattle.lpt_chart.specs.declared.marks.Held.{Held}
+use Rattle.lpt_chart.specs.declared.marks.Kind.{Kind}
+use Rattle.lpt_chart.specs.declared.marks.Opened.{Opened}
 use Rattle.lpt_chart.specs.declared.marks.Saying.{Saying}
 use Rattle.lpt_chart.specs.declared.marks.Saying.TheVariants as say
 use Rattle.lpt_chart.specs.declared.marks.Sent.{Sent}
@@ -30,19 +33,9 @@ use Rattle.lpt_chart.specs.declared.marks.Thing.TheVariants.{Sender, Reception, 
 use Rattle.lpt_chart.specs.declared.marks.Track.{Track}
 use Rattle.lpt_chart.specs.declared.refusal.Refusal.{Refusal}
 use Rattle.lpt_chart.specs.Answers.{applied_in, boot_in, claimed_in, clock_in, committed_in, expired_in, is_finished, is_lost, is_retired, is_taken, number_put, outcome_in, parts_opened, stale_in}
-use Rattle.lpt_chart.specs.Pictures.{Picture, at_side, blank, cleared, flown, hand_in, landed, lost, one_more, put, reported, said, taken, task_next, ticked, tracked, with_job, without_job}
+use Rattle.lpt_chart.specs.Pictures.{Picture, at_side, blank, cleared, flown, hand_in, landed, lost, one_more, parts_opened_now, put, reported, said, taken, task_next, ticked, tracked, with_job, without_job}
 use Rattle.lpt_chart.specs.Tasks.{asked_from, asked_in}
 use Rattle.lpt_chart.specs.Tracks.{all_bars, kept_in, parts_in, stage_of, task_in}
-
--- the node that sends in a direction
-abbrev pub from_side : Direction → Side
-from_side Up = Ground
-from_side Down = Craft
-
--- the node that receives
-abbrev pub to_side : Direction → Side
-to_side Up = Craft
-to_side Down = Ground
 
 -- the direction of a packet; up where there is no such packet
 abbrev pub direction_of : Option Sent → Direction
@@ -52,7 +45,7 @@ direction_of sent = option_map_or (λ s. s.direction) sent Up
 abbrev pub parts_in_content : Content → ℕ
 parts_in_content (Part name k n) = n
 parts_in_content (Request service subtype) = 0
-parts_in_content Report = 0
+parts_in_content (Report service subtype) = 0
 parts_in_content (Noise octets) = 0
 
 -- of how many parts the message of a packet in a hand is; 0 where that isn't known
@@ -66,7 +59,7 @@ task_held held = option_map_or (λ h. option_map_or (λ s. s.task) h.sent None) 
 -- how many parts are kept with one more
 unfoldable pub kept_then : Picture → Direction → Name → ℕ
 kept_then p d name =
-    min (kept_in (stage_of (at_side (to_side d) p.ground p.craft)
+    min (kept_in (stage_of (at_side (receiver_side d) p.ground p.craft)
     (Reception name)) + 1) (2 ^ 16 - 1)
 
 -- the two numbers that are told of an outcome: of a kept part how many are kept and of how many, of
@@ -83,11 +76,12 @@ released_by p task Down name = tracked p Ground (Reception name) None
 -- what an outcome does to the tracks
 unfoldable pub came_to : Picture → Option Held → Direction → Outcome → Picture
 came_to p held d (outcome.Kept name k) =
-    tracked p (to_side d) (Reception name) (Some (Kept (kept_then p d name) (parts_held held)))
+    tracked p (receiver_side d) (Reception name)
+    (Some (Kept (kept_then p d name) (parts_held held)))
 came_to p held d (outcome.Released name len) = released_by p (task_held held) d name
 came_to p held d (outcome.PlainReleased len) = with_job p (task_held held)
 came_to p held d (outcome.AbortNoted name reason) = tracked p Ground (Sender name) None
-came_to p held d (outcome.Broken name reason) = tracked p (to_side d) (Reception name) None
+came_to p held d (outcome.Broken name reason) = tracked p (receiver_side d) (Reception name) None
 came_to p held d (outcome.Again name k) = p
 came_to p held d (outcome.ReportNoted service subtype) = p
 came_to p held d (outcome.Ignored why) = p
@@ -112,13 +106,13 @@ packet_put p d n content task = put (said p (say.Put d n content)) d content tas
 -- a part is put; of how many, and what its message asks for, is known of the open sender
 abbrev pub part_put : Picture → Direction → Name → (k n : ℕ) → Picture
 part_put p d name k n =
-    packet_put p d n (Part name k (parts_in (stage_of (open_at p (from_side d)) (Sender name))))
-    (task_in (stage_of (open_at p (from_side d)) (Sender name)))
+    packet_put p d n (Part name k (parts_in (stage_of (open_at p (sender_side d)) (Sender name))))
+    (task_in (stage_of (open_at p (sender_side d)) (Sender name)))
 
 -- a message is opened
 abbrev pub message_opened : Picture → Direction → Name → List ℕ → (parts : ℕ) → Picture
 message_opened p d name message parts =
-    tracked (said p (say.Opened d name (length message) parts)) (from_side d) (Sender name)
+    tracked (said p (say.Opened d name (length message) parts)) (sender_side d) (Sender name)
     (Some (Sending parts (asked_in d message)))
 
 -- a packet is lost
@@ -127,7 +121,8 @@ packet_lost p n = lost (said p (say.Lost (direction_of (slice_get p.sent n)) n))
 
 -- the sender of a report of data, where one was opened
 abbrev pub opened_by : Picture → Applied → Picture
-opened_by p (Done (Some name)) = tracked p Craft (Sender name) (Some (Sending 0 None))
+opened_by p (Done (Some name)) =
+    tracked p Craft (Sender name) (Some (Sending (parts_opened_now p) None))
 opened_by p (Done None) = p
 opened_by p Silent = p
 opened_by p (Code code) = p
@@ -139,9 +134,9 @@ executed p a = opened_by (without_job (said p (say.Applied p.boot p.applied (tas
 -- a reception has expired
 abbrev pub expired : Picture → Direction → Name → Picture
 expired p d name =
-    let stage = stage_of (open_at p (to_side d)) (Reception name) in
+    let stage = stage_of (open_at p (receiver_side d)) (Reception name) in
     tracked (said p (say.Expired d name (kept_in stage) (parts_in stage)))
-    (to_side d) (Reception name) None
+    (receiver_side d) (Reception name) None
 
 -- a node is restarted
 abbrev pub restarted : Picture → Side → (boot : ℕ) → Picture
@@ -151,7 +146,7 @@ restarted p Craft boot =
 
 -- a sender is closed
 abbrev pub finished : Picture → Direction → Name → Picture
-finished p d name = tracked (said p (say.Finished d name)) (from_side d) (Sender name) None
+finished p d name = tracked (said p (say.Finished d name)) (sender_side d) (Sender name) None
 
 -- a lane takes a packet
 abbrev pub packet_taken : Picture → Lane → ℕ → Picture
@@ -194,14 +189,15 @@ abbrev pub after : Picture → ℕ → Entry → Picture
 after p place x =
     reported (own_puts x.event x.reply.puts) (drawn (record p { place = place }) x.event x.reply.answer)
 
--- a row for the next refused line, whose place is this
-abbrev pub refusal_at : Picture → (place : ℕ) → Picture
-refusal_at p place =
-    record (said (record p { place = place }) (say.Refused p.refused)) { refused = one_more p.refused }
+-- a row for the next refused line, with its place and its side
+abbrev pub refusal_at : Picture → (place : ℕ) → Side → Picture
+refusal_at p place side =
+    let q : Picture = said (record p { place = place }) (say.Refused side p.refused) in
+    record q { refused = one_more p.refused }
 
 -- rows for refused lines
 abbrev pub refusal_rows : Picture → List Refusal → Picture
-refusal_rows p refused = fold (λ q r. refusal_at q r.place) p refused
+refusal_rows p refused = fold (λ q r. refusal_at q r.place r.side) p refused
 
 -- how many refused lines come before the entry of a place
 abbrev pub before : ℕ → List Refusal → ℕ
@@ -223,6 +219,7 @@ closed p = record p {
   bars = (p.bars ++ all_bars Ground p.next 0 p.ground) ++ all_bars Craft p.next 0 p.craft;
 }
 
--- the picture of a journal, with lines that were refused
-abbrev pub picture : List Entry → List Refusal → Picture
-picture journal refused = closed (after_all blank 0 journal refused)
+-- the picture of a journal, with lines that were refused, where this is known of packets and
+-- openings
+abbrev pub picture : List Kind → List Opened → List Entry → List Refusal → Picture
+picture kinds opened journal refused = closed (after_all (blank kinds opened) 0 journal refused)

@@ -1,5 +1,5 @@
 -- How deliveries and losses are drawn.
-use Rattle.std.specs.Prelude.{ℕ, ◌+◌, ◌-◌, ◌*◌, Bool, true, false, if◌then◌else◌, List, [], ◌∷◌, ◌++◌, Option, Some, None}
+use Rattle.std.specs.Prelude.{ℕ, ◌+◌, ◌-◌, ◌*◌, ◌||◌, Bool, true, false, if◌then◌else◌, List, [], ◌∷◌, ◌++◌, Option, Some, None}
 use Rattle.lpt_packet.specs.declared.direction.Direction.{Direction}
 use Rattle.lpt_packet.specs.declared.direction.Direction.TheVariants.{Up, Down}
 use Rattle.lpt_events.specs.Lanes.{lane_direction}
@@ -7,6 +7,7 @@ use Rattle.lpt_events.specs.declared.lane.Lane.{Lane}
 use Rattle.lpt_events.specs.declared.outcome.Outcome.{Outcome}
 use Rattle.lpt_events.specs.declared.outcome.Outcome.TheVariants as outcome
 use Rattle.lpt_events.specs.declared.side.Side.TheVariants.{Ground, Craft}
+use Rattle.lpt_events.specs.Sides.{receiver_side}
 use Rattle.lpt_chart.specs.declared.frame.Frame.{Frame}
 use Rattle.lpt_chart.specs.declared.marks.Content.{Content}
 use Rattle.lpt_chart.specs.declared.marks.Content.TheVariants.{Noise}
@@ -16,13 +17,12 @@ use Rattle.lpt_chart.specs.declared.marks.Loss.{Loss}
 use Rattle.lpt_chart.specs.declared.marks.Sent.{Sent}
 use Rattle.lpt_chart.specs.declared.style.Letters.TheVariants as letters
 use Rattle.lpt_chart.specs.declared.shape.Shape.{Shape}
-use Rattle.lpt_chart.specs.declared.shape.Shape.TheVariants.{Line, Box, Bead, Sign, Group, GroupEnd}
+use Rattle.lpt_chart.specs.declared.shape.Shape.TheVariants.{Line, Box, Bead, Sign, Text, Group, GroupEnd}
 use Rattle.lpt_chart.specs.declared.shape.Sign.TheVariants as sign
-use Rattle.lpt_chart.specs.declared.shape.Words.TheVariants.{Packet}
+use Rattle.lpt_chart.specs.declared.shape.Words.TheVariants.{Number, Packet}
 use Rattle.lpt_chart.specs.declared.style.Style.{Style}
 use Rattle.lpt_chart.specs.declared.style.Style.TheVariants as style
-use Rattle.lpt_chart.specs.Frames.{half, lane_x, middle_x, shows, side_x, y_of}
-use Rattle.lpt_chart.specs.Events.{to_side}
+use Rattle.lpt_chart.specs.Frames.{half, holds, lane_x, middle_x, side_x, toward, y_of}
 use Rattle.lpt_chart.specs.Rows.{start_x}
 
 -- whether a packet is what noise left
@@ -34,20 +34,29 @@ is_noise _ = false
 unfoldable pub way_style : Sent → Style
 way_style s =
     if is_noise s.content then style.WayNoise s.direction
-    else if s.taken then style.WayAgain s.direction
+    else if s.gone then style.WayAgain s.direction
     else style.Way s.direction
 
 -- the beginning of a packet's group
 abbrev pub packet : (number : ℕ) → Sent → Shape
 packet number s = Group (Packet number s.direction s.content)
 
--- a packet's way to a lane's hand, and in it
-unfoldable pub way_line : Frame → Lane → Sent → (taken : ℕ) → Shape
-way_line f l s taken =
-    Line (start_x f s.direction s.content) (y_of s.at) (lane_x f l) (y_of taken) (way_style s)
+-- a line that leaves the rows which are drawn: a piece of it, and the number of its packet
+abbrev pub stub_shapes : (x y to end number : ℕ) → Direction → Style → List Shape
+stub_shapes x y to end number d look =
+    Line x y (toward x to 24 0) end look
+    ∷ Text (toward x to 36 16) (end + 4) (letters.Bead d) (Number number) ∷ []
 
-unfoldable pub hand_line : Frame → Lane → Direction → (taken to : ℕ) → Shape
-hand_line f l d taken to = Line (lane_x f l) (y_of taken) (lane_x f l) (y_of to) (style.InHand d)
+-- a line of a packet from a point at one height to another at a later one: whole where both heights
+-- are drawn, a stub at the one that is drawn, and else nothing
+unfoldable pub path_shapes : Frame → (number : ℕ) → Direction → (x at to end : ℕ) → Style
+    → List Shape
+path_shapes f number d x at to end look =
+    if holds f at
+    then if holds f end then Line x (y_of at) to (y_of end) look ∷ []
+    else stub_shapes x (y_of at) to (y_of at + 7) number d look
+    else if holds f end then stub_shapes to (y_of end) x (y_of end - 7) number d look
+    else []
 
 -- where a way ends, in front of the bead: an arrow, or a bar across it where nothing was made of the packet
 abbrev pub tip_at : (x y : ℕ) → Direction → Outcome → (arrow : Shape) → Shape
@@ -73,58 +82,91 @@ released_shapes x to number d =
 unfoldable pub bead_shapes : (x to number : ℕ) → Direction → Outcome → List Shape
 bead_shapes x to number d (outcome.Released name len) = released_shapes x to number d
 bead_shapes x to number d (outcome.PlainReleased len) = released_shapes x to number d
-bead_shapes x to number d (outcome.Kept name k) = Bead x to number 7 (style.Filled d) letters.BeadWhite ∷ []
-bead_shapes x to number d (outcome.Broken name reason) = Bead x to number 7 (style.Filled d) letters.BeadWhite ∷ []
-bead_shapes x to number d (outcome.ReportNoted service subtype) = Bead x to number 0 (style.Filled d) letters.BeadWhite ∷ []
-bead_shapes x to number d (outcome.AbortNoted name reason) = Bead x to number 0 (style.Filled d) letters.BeadWhite ∷ []
+bead_shapes x to number d (outcome.Kept name k) =
+    Bead x to number 7 (style.Kept d) letters.BeadWhite ∷ []
+bead_shapes x to number d (outcome.Broken name reason) =
+    Bead x to number 7 (style.Kept d) letters.BeadWhite ∷ []
+bead_shapes x to number d (outcome.ReportNoted service subtype) =
+    Bead x to number 0 (style.Noted d) letters.BeadWhite ∷ []
+bead_shapes x to number d (outcome.AbortNoted name reason) =
+    Bead x to number 0 (style.Noted d) letters.BeadWhite ∷ []
 bead_shapes x to number d (outcome.Again name k) = Bead x to number 7 (style.Dashed d) (letters.Bead d) ∷ []
 bead_shapes x to number d (outcome.Ignored why) = Bead x to number 7 (style.Dashed d) (letters.Bead d) ∷ []
 
--- a delivery of a packet: its way to a lane's hand, in it, and from there to the node
-abbrev pub delivery_shapes : Frame → Flight → Held → Sent → List Shape
-delivery_shapes f fl h s =
-    let d : Direction = lane_direction fl.lane in
-    let end : ℕ = side_x f (to_side d) in
-    (packet h.number s
-    ∷ way_line f fl.lane s h.at
-    ∷ hand_line f fl.lane s.direction h.at fl.to
-    ∷ Line (lane_x f fl.lane) (y_of fl.to) end (y_of fl.to) (style.Way d)
-    ∷ tip f d fl.to h.number fl.outcome
-    ∷ [])
-    ++ bead_shapes end fl.to h.number d fl.outcome ++ (GroupEnd ∷ [])
+-- the end of a packet's way, from a lane's hand to the node
+abbrev pub arrival_shapes : Frame → Lane → (to number : ℕ) → Outcome → List Shape
+arrival_shapes f l to number o =
+    let d : Direction = lane_direction l in
+    let end : ℕ = side_x f (receiver_side d) in
+    (Line (lane_x f l) (y_of to) end (y_of to) (style.Way d) ∷ tip f d to number o ∷ [])
+    ++ bead_shapes end to number d o
 
--- what is drawn of a packet up to a height, where there is one and some of its heights is drawn
-abbrev pub shown_sent : Frame → (end : ℕ) → (Sent → List Shape) → Option Sent → List Shape
-shown_sent f end shapes None = []
-shown_sent f end shapes (Some s) = if shows f s.at end then shapes s else []
+-- the same, where the packet was delivered and the height is drawn
+abbrev pub end_shapes : Frame → Lane → (to number : ℕ) → Option Outcome → List Shape
+end_shapes f l to number None = []
+end_shapes f l to number (Some o) = if holds f to then arrival_shapes f l to number o else []
 
--- what is drawn of a packet in a hand, where there is one and some of its heights is drawn
-abbrev pub shown : Frame → (end : ℕ) → (Held → Sent → List Shape) → Option Held → List Shape
-shown f end shapes None = []
-shown f end shapes (Some h) = shown_sent f end (shapes h) h.sent
+-- a packet that a lane took: its way to the lane's hand, in it, and from there to the node
+abbrev pub carried_shapes : Frame → Lane → (to : ℕ) → Option Outcome → Held → Sent → List Shape
+carried_shapes f l to o h s =
+    (packet h.number s ∷ [])
+    ++ path_shapes f h.number s.direction (start_x f s.direction s.content) s.at (lane_x f l) h.at
+    (way_style s)
+    ++ path_shapes f h.number s.direction (lane_x f l) h.at (lane_x f l) to
+    (style.InHand s.direction)
+    ++ end_shapes f l to h.number o ++ (GroupEnd ∷ [])
+
+-- the same, where there is such a packet, and one of its three heights is drawn
+abbrev pub sent_shapes : Frame → Lane → (to : ℕ) → Option Outcome → Held → Option Sent → List Shape
+sent_shapes f l to o h None = []
+sent_shapes f l to o h (Some s) =
+    if holds f s.at || holds f h.at || holds f to then carried_shapes f l to o h s else []
+
+-- what a lane took: up to its delivery, or in its hand up to a height
+abbrev pub held_shapes : Frame → Lane → (to : ℕ) → Option Outcome → Option Held → List Shape
+held_shapes f l to o None = []
+held_shapes f l to o (Some h) = sent_shapes f l to o h h.sent
 
 -- a delivery
 abbrev pub flight_shapes : Frame → Flight → List Shape
-flight_shapes f fl = shown f fl.to (delivery_shapes f fl) fl.held
-
--- a packet that is in a hand where the picture ends
-abbrev pub held_shapes : Frame → Lane → (end : ℕ) → Option Held → List Shape
-held_shapes f l end held =
-    shown f end
-    (λ h s. packet h.number s ∷ way_line f l s h.at ∷ hand_line f l s.direction h.at end ∷ GroupEnd ∷ [])
-    held
+flight_shapes f fl = held_shapes f fl.lane fl.to (Some fl.outcome) fl.held
 
 -- the way of a packet to where it was lost: dotted where a lane took it before
 abbrev pub loss_style : Sent → Style
-loss_style s = if s.taken then style.Late else style.Way s.direction
+loss_style s = if s.gone then style.Late else style.Way s.direction
 
--- a loss: a line to a cross in the middle of the link
+-- where a packet was lost: a cross in the middle of the link
+abbrev pub cross_shapes : Frame → (at : ℕ) → List Shape
+cross_shapes f at =
+    if holds f at then Sign (middle_x f) (y_of at) sign.Cross style.Cross ∷ [] else []
+
+-- a loss of this packet, where one of its heights is drawn
+abbrev pub lost_shapes : Frame → (number at : ℕ) → Option Sent → List Shape
+lost_shapes f number at None = []
+lost_shapes f number at (Some s) =
+    if holds f s.at || holds f at
+    then (packet number s ∷ [])
+    ++ path_shapes f number s.direction (start_x f s.direction s.content) s.at (middle_x f) at
+    (loss_style s)
+    ++ cross_shapes f at ++ (GroupEnd ∷ [])
+    else []
+
+-- a loss
 abbrev pub loss_shapes : Frame → Loss → List Shape
-loss_shapes f l =
-    shown_sent f l.at
-    (λ s. packet l.number s
-    ∷ Line (start_x f s.direction s.content) (y_of s.at) (middle_x f) (y_of l.at) (loss_style s)
-    ∷ Sign (middle_x f) (y_of l.at) sign.Cross style.Cross
-    ∷ GroupEnd
-    ∷ [])
-    l.sent
+loss_shapes f l = lost_shapes f l.number l.at l.sent
+
+-- a short line with a ring at its end
+abbrev pub open_shapes : (x end at : ℕ) → Direction → List Shape
+open_shapes x end at d =
+    Line x (y_of at) end (y_of at) (style.Waiting d)
+    ∷ Box (end - 3) (y_of at - 3) 6 6 3 (style.Hollow d) ∷ []
+
+-- the same toward the other node
+abbrev pub open_sent : Frame → Sent → List Shape
+open_sent f s =
+    let x : ℕ = start_x f s.direction s.content in
+    open_shapes x (toward x (side_x f (receiver_side s.direction)) 32 0) s.at s.direction
+
+-- a packet that is on the link to the end, as no lane took it and it wasn't lost
+abbrev pub waiting_shapes : Frame → Sent → List Shape
+waiting_shapes f s = if s.gone then [] else if holds f s.at then open_sent f s else []

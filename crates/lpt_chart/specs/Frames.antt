@@ -1,5 +1,5 @@
 -- Where things stand in a picture, in whole pixels.
-use Rattle.std.specs.Prelude.{ℕ, ◌+◌, ◌-◌, ◌*◌, min, nat_lt, nat_le, Bool, ◌&&◌, if◌then◌else◌}
+use Rattle.std.specs.Prelude.{ℕ, ◌+◌, ◌-◌, ◌*◌, ◌/◌, min, nat_lt, nat_le, Bool, ◌&&◌, if◌then◌else◌}
 use Rattle.lpt_events.specs.declared.lane.Lane.{Lane}
 use Rattle.lpt_events.specs.declared.lane.Lane.TheVariants.{S1, S2, G1, G2}
 use Rattle.lpt_events.specs.declared.side.Side.{Side}
@@ -56,16 +56,30 @@ half number =
 abbrev pub shows : Frame → (first last : ℕ) → Bool
 shows f first last = nat_le f.top last && nat_lt first f.bottom
 
+-- whether a height is drawn
+abbrev pub holds : Frame → (at : ℕ) → Bool
+holds f at = shows f at at
+
+-- so far from a point toward another, or beside it where both are one above the other
+unfoldable pub toward : (x to far beside : ℕ) → ℕ
+toward x to far beside =
+    if nat_lt x to then x + far else if nat_lt to x then x - far else x + beside
+
 -- the height of the rows that are drawn
 unfoldable pub rows_high : Frame → ℕ
 rows_high f = 11 * (f.bottom - f.top)
 
--- the top of the nodes' boxes below the rows, of the legend, and the height of a picture
+-- the top of the nodes' boxes below the rows, and of the legend
 unfoldable pub foot_y : Frame → ℕ
 foot_y f = f.window + rows_high f + f.margin
 
 unfoldable pub legend_y : Frame → ℕ
 legend_y f = foot_y f + 44
 
-unfoldable pub whole_high : Frame → ℕ
-whole_high f = legend_y f + 218
+-- the height of a legend of so many samples, three in a row
+abbrev pub legend_high : (keys : ℕ) → ℕ
+legend_high keys = 22 * ((keys + 2) / 3)
+
+-- the height of a picture with such a legend
+unfoldable pub whole_high : Frame → (keys : ℕ) → ℕ
+whole_high f keys = legend_y f + legend_high keys + 20

@@ -1,5 +1,5 @@
 -- What is drawn of a run, entry after entry.
-use Rattle.std.specs.Prelude.{ℕ, zero, suc, ◌+◌, ◌-◌, ◌^◌, min, ◌==◌, not, Bool, true, false, if◌then◌else◌, List, [], ◌∷◌, ◌++◌, length, replicate, slice_get, slice_set, Option, Some, None, option_to_list}
+use Rattle.std.specs.Prelude.{ℕ, zero, suc, ◌+◌, ◌-◌, ◌^◌, min, ◌==◌, not, Bool, true, false, if◌then◌else◌, List, [], ◌∷◌, ◌++◌, length, replicate, slice_get, slice_set, Option, Some, None, option_to_list, position}
 use Rattle.std.specs.Option.{option_map_or}
 use Rattle.lpt_packet.specs.declared.direction.Direction.{Direction}
 use Rattle.lpt_packet.specs.declared.direction.Direction.TheVariants.{Down}
@@ -8,13 +8,16 @@ use Rattle.lpt_events.specs.declared.lane.Lane.TheVariants.{S1, S2, G1, G2}
 use Rattle.lpt_events.specs.declared.outcome.Outcome.{Outcome}
 use Rattle.lpt_events.specs.declared.side.Side.{Side}
 use Rattle.lpt_events.specs.declared.side.Side.TheVariants.{Ground, Craft}
+use Rattle.lpt_events.specs.Lanes.{same_lane}
 use Rattle.lpt_chart.specs.declared.marks.Bar.{Bar}
 use Rattle.lpt_chart.specs.declared.marks.Content.{Content}
 use Rattle.lpt_chart.specs.declared.marks.Content.TheVariants.{Report}
 use Rattle.lpt_chart.specs.declared.marks.Flight.{Flight}
 use Rattle.lpt_chart.specs.declared.marks.Hands.{Hands}
 use Rattle.lpt_chart.specs.declared.marks.Held.{Held}
+use Rattle.lpt_chart.specs.declared.marks.Kind.{Kind}
 use Rattle.lpt_chart.specs.declared.marks.Loss.{Loss}
+use Rattle.lpt_chart.specs.declared.marks.Opened.{Opened}
 use Rattle.lpt_chart.specs.declared.marks.Row.{Row}
 use Rattle.lpt_chart.specs.declared.marks.Saying.{Saying}
 use Rattle.lpt_chart.specs.declared.marks.Saying.TheVariants as say
@@ -39,6 +42,9 @@ pub record Picture : Type 0 where
   -- the last row, to which ticks may be added, and those before it
   pub last : Option Row
   pub rows : List Row
+  -- what each packet says that it is, and the messages that are opened
+  pub kinds : List Kind
+  pub opened : List Opened
   -- the packets, each at the place of its number, and the hands
   pub sent : List Sent
   pub hands : Hands
@@ -61,14 +67,16 @@ pub record Picture : Type 0 where
 abbrev pub no_hands : Hands
 no_hands = record { s1 = None; s2 = None; g1 = None; g2 = None }
 
--- nothing was drawn
-abbrev pub blank : Picture
-blank = record {
+-- nothing was drawn, and this is known of what follows
+abbrev pub blank : List Kind → List Opened → Picture
+blank kinds opened = record {
   place = 0;
   here = 0;
   next = 0;
   last = None;
   rows = [];
+  kinds = kinds;
+  opened = opened;
   sent = [];
   hands = no_hands;
   ground = [];
@@ -115,14 +123,6 @@ said p saying = rowed p p.next (other_ground p.last) saying
 -- a row more that goes on with the last
 abbrev pub said_on : Picture → Saying → Picture
 said_on p saying = rowed p p.next (same_ground p.last) saying
-
--- whether two lanes are the same
-abbrev pub same_lane : Lane → Lane → Bool
-same_lane S1 S1 = true
-same_lane S2 S2 = true
-same_lane G1 G1 = true
-same_lane G2 G2 = true
-same_lane _ _ = false
 
 -- whether a row says that this lane took a packet
 abbrev pub takes : Lane → Saying → Bool
@@ -171,7 +171,7 @@ ticked p side clock =
 unfoldable pub put : Picture → Direction → Content → Option Task → Picture
 put p d content task = record p {
   sent = p.sent
-      ++ record { direction = d; at = p.here; content = content; task = task; taken = false } ∷ [];
+      ++ record { direction = d; at = p.here; content = content; task = task; gone = false } ∷ [];
 }
 
 -- the first at ground, the second at the spacecraft
@@ -209,15 +209,15 @@ with_hand h S2 x = record h { s2 = x }
 with_hand h G1 x = record h { g1 = x }
 with_hand h G2 x = record h { g2 = x }
 
--- the packets, of which this one was taken
-abbrev pub with_taken : List Sent → ℕ → Option Sent → List Sent
-with_taken sent n None = sent
-with_taken sent n (Some s) = slice_set sent n (record s { taken = true })
+-- the packets, of which this one is gone
+abbrev pub without : List Sent → ℕ → Option Sent → List Sent
+without sent n None = sent
+without sent n (Some s) = slice_set sent n (record s { gone = true })
 
 -- a lane takes a packet
 unfoldable pub taken : Picture → Lane → ℕ → Picture
 taken p lane n = record p {
-  sent = with_taken p.sent n (slice_get p.sent n);
+  sent = without p.sent n (slice_get p.sent n);
   hands = with_hand p.hands lane (Some (record { number = n; sent = slice_get p.sent n; at = p.here }));
 }
 
@@ -232,14 +232,40 @@ flown p lane o = record p {
 -- a loss is drawn
 unfoldable pub lost : Picture → ℕ → Picture
 lost p n = record p {
+  sent = without p.sent n (slice_get p.sent n);
   losses = p.losses ++ record { number = n; sent = slice_get p.sent n; at = p.here } ∷ [];
 }
 
--- so many packets of the spacecraft's own, each with a row
+-- a report of this kind
+abbrev pub report_of : Option Kind → Content
+report_of (Some kind) = Report kind.service kind.subtype
+report_of None = Report 0 0
+
+-- what the next packet is, where it is the spacecraft's own
+abbrev pub own_content : Picture → Content
+own_content p = report_of (slice_get p.kinds (length p.sent))
+
+-- a packet of the spacecraft's own, with its row
+abbrev pub own_put : Picture → Picture
+own_put p = put (said_on p (say.Put Down (length p.sent) (own_content p))) Down (own_content p) None
+
+-- so many of them
 abbrev pub reported : ℕ → Picture → Picture
 reported zero p = p
-reported (suc k) p =
-    reported k (put (said_on p (say.Put Down (length p.sent) Report)) Down Report None)
+reported (suc k) p = reported k (own_put p)
+
+-- the opening by the entry of this place
+abbrev pub opening_at : (place : ℕ) → List Opened → Option ℕ
+opening_at place opened = position (λ o. o.place == place) opened
+
+-- of how many parts the message of this opening is; 0 where there is none
+abbrev pub parts_at : List Opened → Option ℕ → ℕ
+parts_at opened (Some i) = option_map_or (λ o. o.parts) (slice_get opened i) 0
+parts_at opened None = 0
+
+-- of how many parts the message is that the entry opened which is drawn
+abbrev pub parts_opened_now : Picture → ℕ
+parts_opened_now p = parts_at p.opened (opening_at p.place p.opened)
 
 -- a job is released that asks for this
 unfoldable pub with_job : Picture → Option Task → Picture

@@ -4,6 +4,7 @@ use Rattle.lpt_packet.specs.declared.direction.Direction.{Direction}
 use Rattle.lpt_events.specs.declared.applied.Applied.TheVariants.{Done, Silent, Code}
 use Rattle.lpt_events.specs.declared.side.Side.{Side}
 use Rattle.lpt_events.specs.declared.side.Side.TheVariants.{Ground, Craft}
+use Rattle.lpt_events.specs.Sides.{receiver_side, sender_side}
 use Rattle.lpt_chart.specs.declared.frame.Frame.{Frame}
 use Rattle.lpt_chart.specs.declared.marks.Content.{Content}
 use Rattle.lpt_chart.specs.declared.marks.Content.TheVariants.{Part, Request, Report, Noise}
@@ -18,7 +19,6 @@ use Rattle.lpt_chart.specs.declared.shape.Words.TheVariants as words
 use Rattle.lpt_chart.specs.declared.style.Style.{Style}
 use Rattle.lpt_chart.specs.declared.style.Style.TheVariants as style
 use Rattle.lpt_chart.specs.Frames.{across_from, across_to, middle_x, shows, side_x, top_of, y_of}
-use Rattle.lpt_chart.specs.Events.{from_side, to_side}
 use Rattle.lpt_chart.specs.Sayings.{saying_side}
 use Rattle.lpt_chart.specs.Tellings.{has_line, has_place, has_words, weight_of}
 
@@ -26,45 +26,56 @@ use Rattle.lpt_chart.specs.Tellings.{has_line, has_place, has_words, weight_of}
 abbrev pub square : (x at : ℕ) → Style → Shape
 square x at look = Box (x - 4) (y_of at - 4) 8 8 0 look
 
-abbrev pub ring : (x at : ℕ) → Shape
-ring x at = Box (x - 5) (y_of at - 5) 10 10 5 style.InkEdge
+abbrev pub ring : (x at : ℕ) → Style → Shape
+ring x at look = Box (x - 5) (y_of at - 5) 10 10 5 look
+
+-- a ring with a cross, of a refused line, and a double line, of a restart
+abbrev pub crossed : (x at : ℕ) → List Shape
+crossed x at = ring x at style.Refused ∷ Sign x (y_of at) Cross style.Life ∷ []
+
+abbrev pub double : (from to at : ℕ) → List Shape
+double from to at =
+    Line from (y_of at - 2) to (y_of at - 2) style.Restart
+    ∷ Line from (y_of at + 2) to (y_of at + 2) style.Restart ∷ []
 
 -- where a packet that is put begins: noise has no sender, and begins in the middle of the link
 abbrev pub start_x : Frame → Direction → Content → ℕ
 start_x f d (Noise octets) = middle_x f
-start_x f d (Part name k n) = side_x f (from_side d)
-start_x f d (Request service subtype) = side_x f (from_side d)
-start_x f d Report = side_x f (from_side d)
+start_x f d (Part name k n) = side_x f (sender_side d)
+start_x f d (Request service subtype) = side_x f (sender_side d)
+start_x f d (Report service subtype) = side_x f (sender_side d)
 
 -- the bead of a packet that is put; what noise left has a square one
 abbrev pub put_bead : (x at number : ℕ) → Direction → Content → Shape
 put_bead x at number d (Noise octets) = Bead x at number 0 (style.Noise d) (letters.Bead d)
 put_bead x at number d (Part name k n) = Bead x at number 7 (style.Hollow d) (letters.Bead d)
 put_bead x at number d (Request service subtype) = Bead x at number 7 (style.Hollow d) (letters.Bead d)
-put_bead x at number d Report = Bead x at number 7 (style.Hollow d) (letters.Bead d)
+put_bead x at number d (Report service subtype) =
+    Bead x at number 7 (style.Hollow d) (letters.Bead d)
 
 -- the mark of a row on a line of life; deliveries, losses and what is open have marks of their own;
 -- that of a refused line stands in place of a row's place
 unfoldable pub mark_shapes : Frame → (at : ℕ) → Saying → List Shape
 mark_shapes f at (say.Opened d name len parts) =
-    square (side_x f (from_side d)) at style.InkEdge ∷ []
+    square (side_x f (sender_side d)) at style.Opened ∷ []
 mark_shapes f at (say.Put d number content) = put_bead (start_x f d content) at number d content ∷ []
-mark_shapes f at (say.Finished d name) = square (side_x f (from_side d)) at style.Ink ∷ []
+mark_shapes f at (say.Finished d name) = square (side_x f (sender_side d)) at style.Finished ∷ []
 mark_shapes f at (say.Ticked side clock run) =
-    Line (side_x f side - 5) (y_of at) (side_x f side + 5) (y_of at) style.Life ∷ []
-mark_shapes f at (say.Expired d name kept parts) = Sign (side_x f (to_side d)) (y_of at) Hourglass style.Ink ∷ []
+    Line (side_x f side - 5) (y_of at) (side_x f side + 5) (y_of at) style.Tick ∷ []
+mark_shapes f at (say.Expired d name kept parts) =
+    Sign (side_x f (receiver_side d)) (y_of at) Hourglass style.Expired ∷ []
 mark_shapes f at (say.Stale w boot job) = Sign (side_x f Craft) (y_of at) Cross style.Life ∷ []
-mark_shapes f at (say.Applied boot job task (Done name)) = square (side_x f Craft) at style.Ink ∷ []
-mark_shapes f at (say.Applied boot job task Silent) = square (side_x f Craft) at style.InkEdge ∷ []
+mark_shapes f at (say.Applied boot job task (Done name)) =
+    square (side_x f Craft) at style.Finished ∷ []
+mark_shapes f at (say.Applied boot job task Silent) = square (side_x f Craft) at style.Opened ∷ []
 mark_shapes f at (say.Applied boot job task (Code code)) =
     square (side_x f Craft) at style.InkEdge ∷ Sign (side_x f Craft) (y_of at) Cross style.Life ∷ []
 mark_shapes f at (say.Retired d name) =
     Line (side_x f Ground) (y_of at) (side_x f Craft) (y_of at) style.Retiring
-    ∷ ring (side_x f Ground) at ∷ ring (side_x f Craft) at ∷ []
+    ∷ ring (side_x f Ground) at style.InkEdge ∷ ring (side_x f Craft) at style.InkEdge ∷ []
 mark_shapes f at (say.Restarted side boot) =
-    Line (across_from f side) (y_of at - 2) (across_to f side) (y_of at - 2) style.Life
-    ∷ Line (across_from f side) (y_of at + 2) (across_to f side) (y_of at + 2) style.Life ∷ []
-mark_shapes f at (say.Refused k) = ring 44 at ∷ Sign 44 (y_of at) Cross style.Life ∷ []
+    double (across_from f side) (across_to f side) at
+mark_shapes f at (say.Refused side k) = crossed 44 at
 mark_shapes f at _ = []
 
 -- the line from a row's mark to its words

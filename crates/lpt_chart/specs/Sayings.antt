@@ -15,18 +15,23 @@ use Rattle.lpt_events.specs.declared.outcome.Outcome.TheVariants as outcome
 use Rattle.lpt_events.specs.declared.side.Side.{Side}
 use Rattle.lpt_events.specs.declared.side.Side.TheVariants.{Craft}
 use Rattle.lpt_events.specs.declared.worker.Worker.{Worker}
+use Rattle.lpt_events.specs.Sides.{receiver_side, sender_side}
 use Rattle.lpt_chart.specs.declared.marks.Content.{Content}
 use Rattle.lpt_chart.specs.declared.marks.Content.TheVariants.{Part, Request, Report, Noise}
 use Rattle.lpt_chart.specs.declared.marks.Saying.{Saying}
 use Rattle.lpt_chart.specs.declared.marks.Saying.TheVariants as say
 use Rattle.lpt_chart.specs.declared.marks.Task.{Task}
 use Rattle.lpt_chart.specs.declared.refusal.Refusal.{Refusal}
-use Rattle.lpt_chart.specs.Events.{from_side, to_side}
 use Rattle.lpt_chart.specs.Words.{code_word, direction_word, joined, lane_word, plural, reason_word, report_word, request_word, why_word, worker_word}
 
 -- of how many parts, where that is known
 unfoldable pub of_words : (parts : ℕ) → List ℕ
 of_words parts = if parts == 0 then [] else joined (codes " of " ∷ decimal parts ∷ [])
+
+-- a report of a type
+unfoldable pub report_words : (service subtype : ℕ) → List ℕ
+report_words service subtype =
+    joined (codes "report " ∷ decimal service ∷ codes "," ∷ decimal subtype ∷ report_word service subtype ∷ [])
 
 -- what a packet that is put is
 unfoldable pub content_words : (source : ℕ) → Direction → Content → List ℕ
@@ -34,7 +39,7 @@ content_words source d (Part name k n) =
     joined (direction_word d ∷ codes " " ∷ name_text source name ∷ codes " part " ∷ decimal k ∷ of_words n ∷ [])
 content_words source d (Request service subtype) =
     joined (codes "request " ∷ decimal service ∷ codes "," ∷ decimal subtype ∷ request_word service subtype ∷ [])
-content_words source d Report = codes "report"
+content_words source d (Report service subtype) = report_words service subtype
 content_words source d (Noise octets) = joined (codes "noise: " ∷ decimal octets ∷ codes " octet" ∷ plural octets ∷ [])
 
 -- a message that was released; at the spacecraft it is a job
@@ -56,7 +61,7 @@ delivered_words source d (outcome.Released name len) boot job = released_words s
 delivered_words source d (outcome.PlainReleased len) boot job =
     joined (codes "released request: " ∷ decimal len ∷ codes " octets, job " ∷ decimal boot ∷ codes "." ∷ decimal job ∷ [])
 delivered_words source d (outcome.ReportNoted service subtype) kept parts =
-    joined (codes "report " ∷ decimal service ∷ codes "," ∷ decimal subtype ∷ report_word service subtype ∷ [])
+    report_words service subtype
 delivered_words source d (outcome.AbortNoted name reason) kept parts =
     joined (codes "broken off: up " ∷ name_text source name ∷ codes ", " ∷ reason_word reason ∷ [])
 delivered_words source d (outcome.Broken name reason) kept parts =
@@ -131,7 +136,7 @@ saying_words source (say.Stale w boot job) = job_text w (codes "hands in") boot 
 saying_words source (say.Applied boot job task a) = applied_words source boot job task a
 saying_words source (say.Retired d name) = name_words source (codes "retired") d name
 saying_words source (say.Restarted side boot) = joined (codes "starts anew: boot " ∷ decimal boot ∷ [])
-saying_words source (say.Refused k) = []
+saying_words source (say.Refused side k) = []
 
 -- what is told of a refused line: its fault, its number, and the line
 unfoldable pub refusal_words : Refusal → List ℕ
@@ -141,24 +146,25 @@ refusal_words r =
 
 -- what a row says, that of a refused line too
 unfoldable pub row_words : (source : ℕ) → List Refusal → Saying → List ℕ
-row_words source refused (say.Refused k) = option_map_or (λ r. refusal_words r) (slice_get refused k) []
+row_words source refused (say.Refused side k) =
+    option_map_or (λ r. refusal_words r) (slice_get refused k) []
 row_words source refused saying = saying_words source saying
 
 -- the node at whose side the words stand
 unfoldable pub saying_side : Saying → Side
-saying_side (say.Opened d name len parts) = from_side d
-saying_side (say.Put d number content) = from_side d
-saying_side (say.Finished d name) = from_side d
-saying_side (say.Lost d number) = from_side d
-saying_side (say.Taken l number) = to_side (lane_direction l)
-saying_side (say.Passed l number) = to_side (lane_direction l)
-saying_side (say.Delivered l o first second) = to_side (lane_direction l)
+saying_side (say.Opened d name len parts) = sender_side d
+saying_side (say.Put d number content) = sender_side d
+saying_side (say.Finished d name) = sender_side d
+saying_side (say.Lost d number) = sender_side d
+saying_side (say.Taken l number) = receiver_side (lane_direction l)
+saying_side (say.Passed l number) = receiver_side (lane_direction l)
+saying_side (say.Delivered l o first second) = receiver_side (lane_direction l)
 saying_side (say.Ticked side clock run) = side
-saying_side (say.Expired d name kept parts) = to_side d
+saying_side (say.Expired d name kept parts) = receiver_side d
 saying_side (say.Claimed w boot job) = Craft
 saying_side (say.Committed w boot job) = Craft
 saying_side (say.Stale w boot job) = Craft
 saying_side (say.Applied boot job task a) = Craft
-saying_side (say.Retired d name) = from_side d
+saying_side (say.Retired d name) = sender_side d
 saying_side (say.Restarted side boot) = side
-saying_side (say.Refused k) = Craft
+saying_side (say.Refused side k) = side

@@ -5,6 +5,8 @@ use Rattle.lpt_chart.specs.declared.refusal.Refusal.{Refusal}
 use Rattle.lpt_chart.specs.declared.style.Letters.{Letters}
 use Rattle.lpt_chart.specs.declared.shape.Shape.{Shape}
 use Rattle.lpt_chart.specs.declared.shape.Shape.TheVariants as shape
+use Rattle.lpt_chart.specs.declared.shape.Words.{Words}
+use Rattle.lpt_chart.specs.declared.shape.Words.TheVariants as words
 use Rattle.lpt_chart.specs.declared.shape.Sign.{Sign}
 use Rattle.lpt_chart.specs.declared.shape.Sign.TheVariants.{HeadRight, HeadLeft, Cross, Hourglass}
 use Rattle.lpt_chart.specs.declared.style.Style.{Style}
@@ -69,14 +71,16 @@ abbrev pub is_plain : ℕ → Bool
 is_plain b = nat_le 32 b && nat_le b 126 && not (b == 60) && not (b == 62)
 
 -- the most characters of a text that are seen
-abbrev pub widest : ℕ
-widest = 60
+abbrev pub widest : Words → ℕ
+widest (words.Title line most) = most
+widest _ = 60
 
 -- a text as it is seen: one that is too wide is cut, and has the whole for who points at it
-unfoldable pub seen_text : List ℕ → List ℕ
-seen_text t =
-    if nat_lt widest (length t)
-    then joined (codes "<title>" ∷ escaped t ∷ codes "</title>" ∷ escaped (take 58 t) ∷ codes ".." ∷ [])
+unfoldable pub seen_text : (most : ℕ) → List ℕ → List ℕ
+seen_text most t =
+    if nat_lt most (length t)
+    then joined (codes "<title>" ∷ escaped t ∷ codes "</title>" ∷ escaped (take (most - 2) t)
+    ∷ codes ".." ∷ [])
     else escaped t
 
 -- the beginning of a text's element
@@ -85,14 +89,15 @@ place_text x y letters =
     joined (codes "<text x='" ∷ decimal x ∷ codes "' y='" ∷ decimal y ∷ codes "' " ∷ letters_text letters ∷ codes ">" ∷ [])
 
 -- a text at a point
-unfoldable pub said_text : (x y : ℕ) → Letters → List ℕ → List ℕ
-said_text x y letters t = place_text x y letters ++ seen_text t ++ (codes "</text>" ++ 10 ∷ [])
+unfoldable pub said_text : (x y : ℕ) → Letters → (most : ℕ) → List ℕ → List ℕ
+said_text x y letters most t =
+    place_text x y letters ++ seen_text most t ++ (codes "</text>" ++ 10 ∷ [])
 
 -- a bead: a packet's number in a box
 unfoldable pub bead_text : (x at number round : ℕ) → Style → Letters → List ℕ
 bead_text x at number round look letters =
     box_text (x - half number) (y_of at - 7) (2 * half number) 14 round look
-    ++ said_text x (y_of at + 4) letters (decimal number)
+    ++ said_text x (y_of at + 4) letters 60 (decimal number)
 
 -- ---- groups and parts
 
@@ -113,15 +118,20 @@ closing_text = codes "</svg>" ++ 10 ∷ []
 -- the letters of a picture, and the beginning of its title
 abbrev pub letters_head : List ℕ
 letters_head =
-    codes " font-family='DejaVu Sans Mono, Menlo, Consolas, monospace' font-size='12' fill='#1a1a1a'>"
+    codes " role='img' font-family='DejaVu Sans Mono, Menlo, Consolas, monospace' font-size='12' fill='#1a1a1a'>"
     ++ 10 ∷ codes "<title>"
 
--- the beginning of a picture: its size, its letters and its title
-unfoldable pub opening_text : (wide high : ℕ) → (title : List ℕ) → List ℕ
-opening_text wide high title =
+-- how a picture is read, in front of how much has happened
+abbrev pub desc_head : List ℕ
+desc_head =
+    codes "</title>" ++ 10 ∷ codes "<desc>Time goes down: ground at the left, the spacecraft at the right, packets between. "
+
+-- the beginning of a picture: its size, its letters, its title, and what it shows
+unfoldable pub opening_text : (wide high : ℕ) → (title counts : List ℕ) → List ℕ
+opening_text wide high title counts =
     joined (codes "<svg xmlns='http://www.w3.org/2000/svg' width='" ∷ decimal wide ∷ codes "' height='" ∷ decimal high
     ∷ codes "'" ∷ letters_head ∷ [])
-    ++ escaped title ++ (codes "</title>" ++ 10 ∷ [])
+    ++ escaped title ++ desc_head ++ escaped counts ++ (codes "</desc>" ++ 10 ∷ [])
 
 -- ---- shapes
 
@@ -131,8 +141,9 @@ shape_text source title refused (shape.Line x0 y0 x1 y1 look) = line_text x0 y0 
 shape_text source title refused (shape.Box x y wide high round look) = box_text x y wide high round look
 shape_text source title refused (shape.Sign x y sign look) = sign_text x y sign look
 shape_text source title refused (shape.Bead x at number round look letters) = bead_text x at number round look letters
-shape_text source title refused (shape.Text x y letters words) = said_text x y letters (words_text source title refused words)
-shape_text source title refused (shape.Group words) = group_text (words_text source title refused words)
+shape_text source title refused (shape.Text x y letters it) =
+    said_text x y letters (widest it) (words_text source title refused it)
+shape_text source title refused (shape.Group it) = group_text (words_text source title refused it)
 shape_text source title refused shape.GroupEnd = codes "</g>" ++ 10 ∷ []
 shape_text source title refused (shape.Part y wide high top) = part_text y wide high top
 shape_text source title refused shape.PartEnd = closing_text

@@ -5,7 +5,7 @@ use Rattle.lpt_events.specs.declared.side.Side.TheVariants as side
 use Rattle.lpt_chart.specs.declared.style.Letters.{Letters}
 use Rattle.lpt_chart.specs.declared.style.Letters.TheVariants.{Title, Grey, Place, Small, Words, Node, Bead, BeadWhite, Key}
 use Rattle.lpt_chart.specs.declared.style.Style.{Style}
-use Rattle.lpt_chart.specs.declared.style.Style.TheVariants.{Paper, Ground, Ink, InkEdge, Life, Hair, Lane, Retiring, Way, WayAgain, WayNoise, InHand, Late, Cross, Filled, Hollow, Dashed, Ring, Noise, Light, JobWaits, JobHollow, JobFilled}
+use Rattle.lpt_chart.specs.declared.style.Style.TheVariants.{Paper, Ground, Ink, InkEdge, Life, Hair, Lane, Way, WayAgain, WayNoise, InHand, Waiting, Late, Cross, Expired, Hollow, Kept, Dashed, Noted, Ring, Retiring, Opened, Finished, Sender, Reception, JobWaits, JobHollow, JobFilled, Tick, Restart, Refused, Filled, Noise, Light, JobEdge}
 use Rattle.lpt_chart.specs.declared.style.Weight.TheVariants.{Quiet, Plain, Strong}
 
 -- the attributes of a style
@@ -17,7 +17,6 @@ style_text InkEdge = codes "fill='#ffffff' stroke='#1a1a1a' stroke-width='2'"
 style_text Life = codes "stroke='#1a1a1a' stroke-width='2'"
 style_text Hair = codes "stroke='#cccccc'"
 style_text Lane = codes "stroke='#cccccc' stroke-dasharray='1 4'"
-style_text Retiring = codes "stroke='#1a1a1a' stroke-dasharray='2 6'"
 style_text (Way Up) = codes "stroke='#0b5fa5' stroke-width='2'"
 style_text (Way Down) = codes "stroke='#a84300' stroke-width='2'"
 style_text (WayAgain Up) = codes "stroke='#0b5fa5' stroke-width='2' stroke-dasharray='6 4'"
@@ -26,23 +25,41 @@ style_text (WayNoise Up) = codes "stroke='#0b5fa5' stroke-width='2' stroke-dasha
 style_text (WayNoise Down) = codes "stroke='#a84300' stroke-width='2' stroke-dasharray='2 3'"
 style_text (InHand Up) = codes "stroke='#0b5fa5' stroke-width='5' stroke-linecap='round'"
 style_text (InHand Down) = codes "stroke='#a84300' stroke-width='5' stroke-linecap='round'"
+style_text (Waiting Up) = codes "stroke='#0b5fa5'"
+style_text (Waiting Down) = codes "stroke='#a84300'"
 style_text Late = codes "stroke='#6b6b6b' stroke-width='2' stroke-dasharray='1 3'"
 style_text Cross = codes "stroke='#1a1a1a' stroke-width='3'"
-style_text (Filled Up) = codes "fill='#0b5fa5' stroke='#0b5fa5'"
-style_text (Filled Down) = codes "fill='#a84300' stroke='#a84300'"
+style_text Expired = codes "fill='#1a1a1a'"
 style_text (Hollow Up) = codes "fill='#ffffff' stroke='#0b5fa5'"
 style_text (Hollow Down) = codes "fill='#ffffff' stroke='#a84300'"
+style_text (Kept Up) = codes "fill='#0b5fa5' stroke='#0b5fa5'"
+style_text (Kept Down) = codes "fill='#a84300' stroke='#a84300'"
 style_text (Dashed Up) = codes "fill='#ffffff' stroke='#0b5fa5' stroke-dasharray='2 2'"
 style_text (Dashed Down) = codes "fill='#ffffff' stroke='#a84300' stroke-dasharray='2 2'"
+style_text (Noted Up) = codes "fill='#0b5fa5' stroke='#0b5fa5'"
+style_text (Noted Down) = codes "fill='#a84300' stroke='#a84300'"
 style_text (Ring Up) = codes "fill='#ffffff' stroke='#0b5fa5' stroke-width='2'"
 style_text (Ring Down) = codes "fill='#ffffff' stroke='#a84300' stroke-width='2'"
+style_text Retiring = codes "stroke='#1a1a1a' stroke-dasharray='2 6'"
+style_text Opened = codes "fill='#ffffff' stroke='#1a1a1a' stroke-width='2'"
+style_text Finished = codes "fill='#1a1a1a'"
+style_text (Sender Up) = codes "fill='#8fbfe6'"
+style_text (Sender Down) = codes "fill='#f0b184'"
+style_text (Reception Up) = codes "fill='#ffffff' stroke='#0b5fa5'"
+style_text (Reception Down) = codes "fill='#ffffff' stroke='#a84300'"
+style_text JobWaits = codes "fill='#5b3a8e' stroke='#ffffff' stroke-dasharray='2 2'"
+style_text JobHollow = codes "fill='#ffffff' stroke='#5b3a8e'"
+style_text JobFilled = codes "fill='#5b3a8e' stroke='#5b3a8e'"
+style_text Tick = codes "stroke='#1a1a1a' stroke-width='2'"
+style_text Restart = codes "stroke='#1a1a1a' stroke-width='2'"
+style_text Refused = codes "fill='#ffffff' stroke='#1a1a1a' stroke-width='2'"
+style_text (Filled Up) = codes "fill='#0b5fa5' stroke='#0b5fa5'"
+style_text (Filled Down) = codes "fill='#a84300' stroke='#a84300'"
 style_text (Noise Up) = codes "fill='#ffffff' stroke='#0b5fa5' stroke-width='2' stroke-dasharray='2 2'"
 style_text (Noise Down) = codes "fill='#ffffff' stroke='#a84300' stroke-width='2' stroke-dasharray='2 2'"
 style_text (Light Up) = codes "fill='#8fbfe6'"
 style_text (Light Down) = codes "fill='#f0b184'"
-style_text JobWaits = codes "fill='#ffffff' stroke='#5b3a8e' stroke-dasharray='1 3'"
-style_text JobHollow = codes "fill='#ffffff' stroke='#5b3a8e'"
-style_text JobFilled = codes "fill='#5b3a8e' stroke='#5b3a8e'"
+style_text JobEdge = codes "fill='#ffffff' stroke='#5b3a8e'"
 
 -- the attributes of letters
 unfoldable pub letters_text : Letters → List ℕ

@@ -15,7 +15,8 @@ begins_one (w ∷ ws) bs = begins w bs || begins_one ws bs
 -- the elements of a picture, each as it is opened and as it is closed, if it isn't closed at once
 abbrev pub tags : List (List ℕ)
 tags =
-    codes "svg " ∷ codes "/svg>" ∷ codes "title>" ∷ codes "/title>" ∷ codes "g>" ∷ codes "/g>"
+    codes "svg " ∷ codes "/svg>" ∷ codes "title>" ∷ codes "/title>" ∷ codes "desc>"
+    ∷ codes "/desc>" ∷ codes "g>" ∷ codes "/g>"
     ∷ codes "text " ∷ codes "/text>" ∷ codes "path " ∷ codes "rect " ∷ []
 
 -- whether each '<' of a text opens or closes one of them

@@ -2,6 +2,7 @@
 use Rattle.std.specs.Prelude.{ℕ, ◌+◌, ◌*◌, List, slice_get, Option, Some, None}
 use Rattle.lpt_packet.specs.declared.direction.Direction.{Direction}
 use Rattle.lpt_packet.specs.declared.direction.Direction.TheVariants.{Up, Down}
+use Rattle.lpt_chart.specs.declared.marks.Kind.{Kind}
 use Rattle.lpt_chart.specs.declared.marks.Task.{Task}
 
 -- an octet, 0 where there is none
@@ -12,6 +13,10 @@ octet_of None = 0
 -- the octet at a place, 0 where there is none
 abbrev pub octet_at : List ℕ → ℕ → ℕ
 octet_at octets i = octet_of (slice_get octets i)
+
+-- what a packet says that it is, at the places of its service type and its message subtype
+abbrev pub kind_in : List ℕ → Kind
+kind_in packet = record { service = octet_at packet 7; subtype = octet_at packet 8 }
 
 -- two octets from a place on, as a number
 abbrev pub pair_at : List ℕ → ℕ → ℕ

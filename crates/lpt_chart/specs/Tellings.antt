@@ -36,22 +36,22 @@ weight_of (say.Stale w boot job) = Plain
 weight_of (say.Applied boot job task a) = Strong
 weight_of (say.Retired d name) = Plain
 weight_of (say.Restarted side boot) = Strong
-weight_of (say.Refused k) = Quiet
+weight_of (say.Refused side k) = Quiet
 
 -- whether a row has words; a take that is delivered right after has none
 abbrev pub has_words : Saying → Bool
 has_words (say.Passed l number) = false
 has_words _ = true
 
--- whether a row has a line to its words; a refused line is of no node
+-- whether a row has a line to its words; a refused line changed no node
 abbrev pub has_line : Saying → Bool
 has_line (say.Passed l number) = false
-has_line (say.Refused k) = false
+has_line (say.Refused side k) = false
 has_line _ = true
 
 -- whether a row shows its place; a packet that the spacecraft puts of its own goes on with its event,
 -- and a refused line is no event
 abbrev pub has_place : Saying → Bool
-has_place (say.Put d number Report) = false
-has_place (say.Refused k) = false
+has_place (say.Put d number (Report service subtype)) = false
+has_place (say.Refused side k) = false
 has_place _ = true

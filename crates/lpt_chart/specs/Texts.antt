@@ -1,8 +1,9 @@
 -- What the texts of a picture say.
-use Rattle.std.specs.Prelude.{ℕ, List, [], ◌∷◌, codes, decimal}
+use Rattle.std.specs.Prelude.{ℕ, ◌==◌, if◌then◌else◌, List, [], ◌∷◌, codes, decimal}
 use Rattle.lpt_packet.specs.declared.direction.Direction.{Direction}
 use Rattle.lpt_events.specs.NameTexts.{name_text}
 use Rattle.lpt_events.specs.declared.side.Side.{Side}
+use Rattle.lpt_events.specs.Sides.{direction_to}
 use Rattle.lpt_chart.specs.declared.marks.Content.{Content}
 use Rattle.lpt_chart.specs.declared.marks.Stage.{Stage}
 use Rattle.lpt_chart.specs.declared.marks.Stage.TheVariants.{Sending, Kept, Waits, Claimed, Committed}
@@ -11,7 +12,7 @@ use Rattle.lpt_chart.specs.declared.marks.Thing.TheVariants.{Sender, Reception, 
 use Rattle.lpt_chart.specs.declared.refusal.Refusal.{Refusal}
 use Rattle.lpt_chart.specs.declared.shape.Words.{Words}
 use Rattle.lpt_chart.specs.declared.shape.Words.TheVariants as words
-use Rattle.lpt_chart.specs.Bars.{receives, sends}
+use Rattle.lpt_chart.specs.Bars.{sends}
 use Rattle.lpt_chart.specs.Choices.{title_line}
 use Rattle.lpt_chart.specs.Keys.{key_words}
 use Rattle.lpt_chart.specs.Sayings.{content_words, row_words}
@@ -23,10 +24,15 @@ counts_words events packets flights losses =
     joined (decimal events ∷ codes " event" ∷ plural events ∷ codes ", " ∷ decimal packets ∷ codes " packet"
     ∷ plural packets ∷ codes ", " ∷ decimal flights ∷ codes " delivered, " ∷ decimal losses ∷ codes " lost" ∷ [])
 
--- that rows are left out
+-- that rows are left out, above, below, or both
 unfoldable pub hidden_words : (above below : ℕ) → List ℕ
 hidden_words above below =
-    joined (codes "rows left out: " ∷ decimal above ∷ codes " above, " ∷ decimal below ∷ codes " below; --from and --to choose" ∷ [])
+    if above == 0 then joined
+    (codes "rows left out: " ∷ decimal below ∷ codes " below; --from and --to choose" ∷ [])
+    else if below == 0 then joined
+    (codes "rows left out: " ∷ decimal above ∷ codes " above; --from and --to choose" ∷ [])
+    else joined (codes "rows left out: " ∷ decimal above ∷ codes " above, " ∷ decimal below
+    ∷ codes " below; --from and --to choose" ∷ [])
 
 -- what a packet is
 unfoldable pub packet_words : (source number : ℕ) → Direction → Content → List ℕ
@@ -43,7 +49,8 @@ unfoldable pub piece_words : Side → (name : List ℕ) → Stage → List ℕ
 piece_words side name (Sending n task) =
     joined (codes "sender of " ∷ direction_word (sends side) ∷ codes " " ∷ name ∷ [])
 piece_words side name (Kept k n) =
-    joined (codes "reception of " ∷ direction_word (receives side) ∷ codes " " ∷ name ∷ codes ": kept "
+    joined (codes "reception of " ∷ direction_word (direction_to side) ∷ codes " " ∷ name
+    ∷ codes ": kept "
     ∷ decimal k ∷ [])
 piece_words side name Waits = joined (codes "job " ∷ name ∷ codes " waits" ∷ [])
 piece_words side name Claimed = joined (codes "job " ∷ name ∷ codes " is claimed" ∷ [])
@@ -51,7 +58,7 @@ piece_words side name Committed = joined (codes "job " ∷ name ∷ codes " is c
 
 -- what a text says
 unfoldable pub words_text : (source : ℕ) → (title : List ℕ) → List Refusal → Words → List ℕ
-words_text source title refused (words.Title line) = title_line title line
+words_text source title refused (words.Title line most) = title_line title line most
 words_text source title refused (words.Counts events packets flights losses) = counts_words events packets flights losses
 words_text source title refused (words.Hidden above below) = hidden_words above below
 words_text source title refused (words.Node side) = node_word side
@@ -60,4 +67,4 @@ words_text source title refused (words.Number number) = decimal number
 words_text source title refused (words.Row saying) = row_words source refused saying
 words_text source title refused (words.Packet number d content) = packet_words source number d content
 words_text source title refused (words.Piece side thing stage) = piece_words side (thing_words source thing) stage
-words_text source title refused (words.Key key) = key_words key
+words_text source title refused (words.Key look) = key_words look

@@ -1,5 +1,5 @@
 -- The words for what has few cases.
-use Rattle.std.specs.Prelude.{ℕ, ◌==◌, not, if◌then◌else◌, List, [], ◌∷◌, ◌++◌, codes}
+use Rattle.std.specs.Prelude.{ℕ, ◌==◌, ◌&&◌, not, if◌then◌else◌, List, [], ◌∷◌, ◌++◌, codes}
 use Rattle.lpt_packet.specs.declared.direction.Direction.{Direction}
 use Rattle.lpt_packet.specs.declared.direction.Direction.TheVariants.{Up, Down}
 use Rattle.lpt_part.specs.declared.reason.Reason.{Reason}
@@ -83,6 +83,7 @@ course_word subtype =
 unfoldable pub report_word : (service subtype : ℕ) → List ℕ
 report_word service subtype =
     if service == 1 then course_word subtype
+    else if (service == 13) && (subtype == 16) then codes " broken off"
     else if not (service == 6) then []
     else if subtype == 6 then codes " dump"
     else if subtype == 10 then codes " check"

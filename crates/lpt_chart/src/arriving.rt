@@ -1,12 +1,13 @@
 //! What a delivery draws: its row, its flight, and what it does to what is open.
 
 ghost use Rattle.std.specs.Prelude.{◌≡◌, OnOk};
-ghost use Rattle.lpt_chart.specs.Events.{came_to, delivered, numbers_told, parts_held, parts_in_content, released_by, task_held, to_side};
+ghost use Rattle.lpt_events.specs.Sides.{receiver_side};
+ghost use Rattle.lpt_chart.specs.Events.{came_to, delivered, numbers_told, parts_held, parts_in_content, released_by, task_held};
 ghost use Rattle.lpt_chart.specs.Pictures.{tracked};
 
 use crate::hands::in_hand;
 use crate::marks::{Content, Held, Saying, Stage, Task, Thing};
-use crate::picture::{Picture, to_side};
+use crate::picture::Picture;
 use lpt_events::{Lane, Outcome, Side};
 use lpt_packet::{Direction, Name};
 use std::alloc::AllocError;
@@ -69,9 +70,10 @@ impl Picture {
         name: Name,
         stage: Option<Stage>,
     ) -> Result<(), AllocError>
-        ensures { OnOk result (self.new ≡ tracked self.old (to_side direction) (Thing.Reception name) stage) }
+        ensures { OnOk result
+            (self.new ≡ tracked self.old (receiver_side direction) (Thing.Reception name) stage) }
     {
-        self.track(to_side(direction), Thing::Reception(name), stage)
+        self.track(Side::receiver(direction), Thing::Reception(name), stage)
     }
 
     // A large message is released that asks for this.
@@ -97,7 +99,7 @@ fn parts_in(content: Content) -> u16
 {
     match content {
         Content::Part(_, _, parts) => parts,
-        Content::Request(_, _) | Content::Report | Content::Noise(_) => 0,
+        Content::Request(_, _) | Content::Report(_, _) | Content::Noise(_) => 0,
     }
 }
 

@@ -1,7 +1,7 @@
 //! How what is open is drawn.
 
 ghost use Rattle.std.specs.Prelude.{◌≡◌, ◌<◌, ◌^◌, ◌++◌, OnOk};
-ghost use Rattle.lpt_chart.specs.Bars.{bar_shapes, filled, receives, sends, stage_shapes};
+ghost use Rattle.lpt_chart.specs.Bars.{bar_shapes, filled, sends, stage_shapes};
 
 use crate::frame::{Frame, bar_x, shows, y_of};
 use crate::marks::{Bar, Stage};
@@ -33,16 +33,6 @@ pub(crate) fn sends(side: Side) -> Direction
     }
 }
 
-// The direction of what it receives.
-pub(crate) fn receives(side: Side) -> Direction
-    ensures { result ≡ receives side }
-{
-    match side {
-        Side::Ground => Direction::Down,
-        Side::Craft => Direction::Up,
-    }
-}
-
 // A piece of a track: a stripe for a sender; for a reception a bar that is filled as parts are kept,
 // with a dot where one was; for a job a dotted stripe with a ring at its head, an empty bar and a
 // full one.
@@ -60,13 +50,13 @@ pub(crate) fn add_stage(
 {
     match stage {
         Stage::Sending(_, _) => {
-            let style = Style::Light(sends(side));
-            out.extend_from_slice(&[Shape::Box(x + 3, y, 2, high, 0, style)])
+            let style = Style::Sender(sends(side));
+            out.extend_from_slice(&[Shape::Box(x + 2, y, 4, high, 0, style)])
         }
         Stage::Kept(kept, parts) => {
-            let (way, wide, top) = (receives(side), filled(kept, parts), y.saturating_sub(2));
+            let (way, wide, top) = (side.receives(), filled(kept, parts), y.saturating_sub(2));
             out.extend_from_slice(&[
-                Shape::Box(x, y, 8, high, 0, Style::Hollow(way)),
+                Shape::Box(x, y, 8, high, 0, Style::Reception(way)),
                 Shape::Box(x, y, wide, high, 0, Style::Light(way)),
                 Shape::Box(x + 2, top, 4, 4, 2, Style::Filled(way)),
             ])
@@ -74,8 +64,8 @@ pub(crate) fn add_stage(
         Stage::Waits => {
             let top = y.saturating_sub(4);
             out.extend_from_slice(&[
-                Shape::Box(x + 3, y, 2, high, 0, Style::JobWaits),
-                Shape::Box(x, top, 8, 8, 4, Style::JobHollow),
+                Shape::Box(x + 2, y, 4, high, 0, Style::JobWaits),
+                Shape::Box(x, top, 8, 8, 4, Style::JobEdge),
             ])
         }
         Stage::Claimed => {

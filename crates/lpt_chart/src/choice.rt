@@ -1,7 +1,8 @@
 //! Which rows are drawn, and how wide a picture is.
 
 ghost use Rattle.std.specs.Prelude.{◌≡◌, ◌≤◌, length, nat_le, nat_lt, position, IfOk};
-ghost use Rattle.lpt_chart.specs.Choices.{frame_of, frame_with, height_of, hidden_above, hidden_below, letters_at, row_behind, row_end, row_from, same_side, wide_of, widest_at};
+ghost use Rattle.lpt_events.specs.Sides.{same_side};
+ghost use Rattle.lpt_chart.specs.Choices.{frame_of, frame_with, height_of, hidden_above, hidden_below, letters_at, row_behind, row_end, row_from, wide_of, widest_at};
 
 use crate::frame::Frame;
 use crate::marks::{Row, Saying};
@@ -9,7 +10,7 @@ use crate::picture::Picture;
 use crate::refusal::Refusal;
 use crate::saying::row_words;
 use crate::telling::saying_side;
-use crate::title::title_room;
+use crate::title::{title_room, title_wide};
 use lpt_events::Side;
 use std::alloc::{AllocError, Global};
 
@@ -161,12 +162,13 @@ fn frame_with(choice: Choice, title: &[u8], picture: &Picture, left: u32, right:
     let words = 60 + wide_of(left);
     let ground = 46 + 12 * (picture.ground.len().min(64) as u32);
     let craft = 420 + 12 * (picture.craft.len().min(64) as u32);
-    let room = title_room(title);
+    let wide = words + ground + craft + (24 + wide_of(right));
+    let room = title_room(title, title_wide(wide));
     Frame {
         words,
         left: words + ground,
         right: words + ground + craft,
-        wide: words + ground + craft + (24 + wide_of(right)),
+        wide,
         head: 92 + room,
         window: 130 + room,
         margin: 8,

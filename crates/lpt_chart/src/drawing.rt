@@ -3,8 +3,8 @@
 ghost use Rattle.std.specs.Prelude.{◌≡◌, ◌≤◌, length, nat_lt, position, IfOk, IfSome, OnOk};
 ghost use Rattle.lpt_chart.specs.Events.{after, after_all, before, closed, direction_of, drawn, executed, expired, finished, message_opened, own_puts, packet_lost, packet_put, packet_taken, part_put, picture, refusal_at, refusal_rows, restarted, worked};
 
-use crate::marks::{Content, Saying, Sent, Stage, Task, Thing};
-use crate::picture::{Picture, from_side, to_side};
+use crate::marks::{Content, Kind, Opened, Saying, Sent, Stage, Task, Thing};
+use crate::picture::Picture;
 use crate::refusal::Refusal;
 use crate::task::{asked_from, asked_in};
 use crate::tracks::{kept, parts, stage_of, task};
@@ -12,15 +12,18 @@ use lpt_events::{Answer, Applied, Entry, Event, Lane, Puts, Side};
 use lpt_packet::{Direction, Name};
 use std::alloc::{AllocError, Global};
 
-/// What is drawn of a journal, with the lines that were refused.
+/// What is drawn of a journal, with the lines that were refused, where this is known of packets and
+/// openings.
 pub(crate) fn draw_journal(
     alloc: Global,
+    kinds: &[Kind],
+    opened: &[Opened],
     journal: &[Entry],
     refused: &[Refusal],
 ) -> Result<Picture, AllocError>
-    ensures { IfOk result (λ p. p ≡ picture journal.now refused.now) }
+    ensures { IfOk result (λ p. p ≡ picture kinds.now opened.now journal.now refused.now) }
 {
-    let mut drawn = Picture::new(alloc);
+    let mut drawn = Picture::new(alloc, kinds, opened)?;
     match drawn.draw_all(journal, refused) {
         Ok(()) => Ok(drawn),
         Err(error) => {
@@ -71,18 +74,18 @@ impl Picture {
         ensures { OnOk result (self.new ≡ refusal_rows self.old refused.now) }
     {
         for refusal in refused {
-            self.add_refusal(refusal.place)?;
+            self.add_refusal(refusal.place, refusal.side)?;
         }
         Ok(())
     }
 
-    // Draws the next refused line, whose place is this.
+    // Draws the next refused line, with its place and its side.
     #[tactic(auto, unfolding(crate::specs::Pictures::rowed))]
-    fn add_refusal(&mut self, place: u64) -> Result<(), AllocError>
-        ensures { OnOk result (self.new ≡ refusal_at self.old place) }
+    fn add_refusal(&mut self, place: u64, side: Side) -> Result<(), AllocError>
+        ensures { OnOk result (self.new ≡ refusal_at self.old place side) }
     {
         self.place = place;
-        self.say(Saying::Refused(self.refused))?;
+        self.say(Saying::Refused(side, self.refused))?;
         self.count_refusal();
         Ok(())
     }
@@ -171,7 +174,7 @@ impl Picture {
     {
         self.say(Saying::Opened(direction, name, message.len() as u64, parts))?;
         let stage = Some(Stage::Sending(parts, asked_in(direction, message)));
-        self.track(from_side(direction), Thing::Sender(name), stage)
+        self.track(Side::sender(direction), Thing::Sender(name), stage)
     }
 
     // A part is put.
@@ -184,7 +187,7 @@ impl Picture {
     ) -> Result<(), AllocError>
         ensures { OnOk result (self.new ≡ part_put self.old direction name part number) }
     {
-        let stage = stage_of(self.columns(from_side(direction)), Thing::Sender(name));
+        let stage = stage_of(self.columns(Side::sender(direction)), Thing::Sender(name));
         let content = Content::Part(name, part, parts(stage));
         self.put_packet(direction, number, content, task(stage))
     }
@@ -208,7 +211,7 @@ impl Picture {
         ensures { OnOk result (self.new ≡ finished self.old direction name) }
     {
         self.say(Saying::Finished(direction, name))?;
-        self.track(from_side(direction), Thing::Sender(name), None)
+        self.track(Side::sender(direction), Thing::Sender(name), None)
     }
 
     // A packet is lost.
@@ -233,7 +236,10 @@ impl Picture {
     fn expire(&mut self, direction: Direction, name: Name) -> Result<(), AllocError>
         ensures { OnOk result (self.new ≡ expired self.old direction name) }
     {
-        let stage = stage_of(self.columns(to_side(direction)), Thing::Reception(name));
+        let stage = stage_of(
+            self.columns(Side::receiver(direction)),
+            Thing::Reception(name),
+        );
         self.say(Saying::Expired(direction, name, kept(stage), parts(stage)))?;
         self.receive(direction, name, None)
     }
@@ -255,7 +261,7 @@ impl Picture {
         self.apply()?;
         match applied {
             Applied::Done(Some(name)) => {
-                let stage = Some(Stage::Sending(0, None));
+                let stage = Some(Stage::Sending(self.parts_opened(), None));
                 self.track(Side::Craft, Thing::Sender(name), stage)
             }
             Applied::Done(None) | Applied::Silent | Applied::Code(_) => Ok(()),

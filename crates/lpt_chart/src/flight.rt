@@ -1,12 +1,11 @@
 //! How deliveries and losses are drawn.
 
-ghost use Rattle.std.specs.Prelude.{◌≡◌, ◌++◌, OnOk};
-ghost use Rattle.lpt_chart.specs.Flights.{bead_shapes, delivery_shapes, flight_shapes, hand_line, held_shapes, loss_shapes, loss_style, packet, tip, way_line, way_style};
+ghost use Rattle.std.specs.Prelude.{◌≡◌, ◌<◌, ◌^◌, ◌++◌, OnOk};
+ghost use Rattle.lpt_chart.specs.Flights.{arrival_shapes, bead_shapes, carried_shapes, cross_shapes, end_shapes, flight_shapes, held_shapes, loss_shapes, loss_style, open_shapes, packet, path_shapes, released_shapes, stub_shapes, tip, waiting_shapes, way_style};
 
-use crate::frame::{Frame, half, lane_x, middle_x, shows, side_x, y_of};
+use crate::frame::{Frame, half, holds, lane_x, middle_x, side_x, toward, y_of};
 use crate::mark::start_x;
 use crate::marks::{Content, Flight, Held, Loss, Sent};
-use crate::picture::to_side;
 use crate::shape::{Shape, Sign, Words};
 use crate::style::{Letters, Style};
 use lpt_events::{Lane, Outcome, Side};
@@ -20,8 +19,8 @@ fn way_style(sent: Sent) -> Style
 {
     match sent.content {
         Content::Noise(_) => Style::WayNoise(sent.direction),
-        Content::Part(_, _, _) | Content::Request(_, _) | Content::Report => {
-            if sent.taken {
+        Content::Part(_, _, _) | Content::Request(_, _) | Content::Report(_, _) => {
+            if sent.gone {
                 Style::WayAgain(sent.direction)
             } else {
                 Style::Way(sent.direction)
@@ -37,23 +36,59 @@ fn packet(number: u64, sent: Sent) -> Shape
     Shape::Group(Words::Packet(number, sent.direction, sent.content))
 }
 
-// A packet's way to a lane's hand.
-#[tactic(auto, unfolding(crate::specs::Flights::way_line))]
-fn way_line(frame: Frame, lane: Lane, sent: Sent, taken: u32) -> Shape
-    ensures { result ≡ way_line frame lane sent taken }
+// Adds a piece of a line that leaves the rows which are drawn, and the number of its packet.
+fn add_stub(
+    out: &mut Vec<Shape>,
+    number: u64,
+    direction: Direction,
+    x: u64,
+    y: u64,
+    to: u64,
+    end: u64,
+    style: Style,
+) -> Result<(), AllocError>
+    requires near { x < 2 ^ 40 }
+    requires high { end < 2 ^ 40 }
+    ensures { OnOk result
+        (out.new.items ≡ out.old.items ++ stub_shapes x y to end number direction style) }
 {
-    let from = start_x(frame, sent.direction, sent.content);
-    let to = lane_x(frame, lane);
-    Shape::Line(from, y_of(sent.at), to, y_of(taken), way_style(sent))
+    let (letters, words) = (Letters::Bead(direction), Words::Number(number));
+    out.extend_from_slice(&[
+        Shape::Line(x, y, toward(x, to, 24, 0), end, style),
+        Shape::Text(toward(x, to, 36, 16), end + 4, letters, words),
+    ])
 }
 
-// A packet in a lane's hand.
-#[tactic(auto, unfolding(crate::specs::Flights::hand_line))]
-fn hand_line(frame: Frame, lane: Lane, direction: Direction, taken: u32, to: u32) -> Shape
-    ensures { result ≡ hand_line frame lane direction taken to }
+// Adds a line of a packet from a point at one height to another at a later one: whole where both
+// heights are drawn, a stub at the one that is drawn, and else nothing.
+#[tactic(auto, unfolding(crate::specs::Flights::path_shapes))]
+fn add_path(
+    out: &mut Vec<Shape>,
+    frame: Frame,
+    number: u64,
+    direction: Direction,
+    x: u64,
+    at: u32,
+    to: u64,
+    end: u32,
+    style: Style,
+) -> Result<(), AllocError>
+    requires from { x < 2 ^ 40 }
+    requires to { to < 2 ^ 40 }
+    ensures { OnOk result
+        (out.new.items ≡ out.old.items ++ path_shapes frame number direction x at to end style) }
 {
-    let x = lane_x(frame, lane);
-    Shape::Line(x, y_of(taken), x, y_of(to), Style::InHand(direction))
+    let (y, y_end) = (y_of(at), y_of(end));
+    if holds(frame, at) {
+        if holds(frame, end) {
+            return out.extend_from_slice(&[Shape::Line(x, y, to, y_end, style)]);
+        }
+        return add_stub(out, number, direction, x, y, to, y + 7, style);
+    }
+    if holds(frame, end) {
+        return add_stub(out, number, direction, to, y_end, x, y_end - 7, style);
+    }
+    Ok(())
 }
 
 // Where a way ends, in front of the bead: an arrow, or a bar across it where nothing was made of the
@@ -76,6 +111,24 @@ fn tip(frame: Frame, direction: Direction, to: u32, number: u64, outcome: Outcom
     }
 }
 
+// The bead of a release, in a ring.
+pub(crate) fn add_released(
+    out: &mut Vec<Shape>,
+    x: u64,
+    to: u32,
+    number: u64,
+    direction: Direction,
+) -> Result<(), AllocError>
+    ensures { OnOk result (out.new.items ≡ out.old.items ++ released_shapes x to number direction) }
+{
+    let (half, filled, white) = (half(number), Style::Filled(direction), Letters::BeadWhite);
+    let (left, top) = (x.saturating_sub(half + 3), y_of(to) - 10);
+    out.extend_from_slice(&[
+        Shape::Box(left, top, 2 * half + 6, 20, 10, Style::Ring(direction)),
+        Shape::Bead(x, to, number, 7, filled, white),
+    ])
+}
+
 // The bead of a delivery: in a ring where a message is released, square where a report is noted,
 // dashed where nothing came of it.
 #[tactic(auto, unfolding(crate::specs::Flights::bead_shapes))]
@@ -89,21 +142,18 @@ fn add_bead(
 ) -> Result<(), AllocError>
     ensures { OnOk result (out.new.items ≡ out.old.items ++ bead_shapes x to number direction outcome) }
 {
-    let (y, filled, white) = (y_of(to), Style::Filled(direction), Letters::BeadWhite);
+    let white = Letters::BeadWhite;
     match outcome {
         Outcome::Released(_, _) | Outcome::PlainReleased(_) => {
-            let (half, ring) = (half(number), Style::Ring(direction));
-            let left = x.saturating_sub(half + 3);
-            out.extend_from_slice(&[
-                Shape::Box(left, y - 10, 2 * half + 6, 20, 10, ring),
-                Shape::Bead(x, to, number, 7, filled, white),
-            ])
+            add_released(out, x, to, number, direction)
         }
         Outcome::Kept(_, _) | Outcome::Broken(_, _) => {
-            out.extend_from_slice(&[Shape::Bead(x, to, number, 7, filled, white)])
+            let kept = Style::Kept(direction);
+            out.extend_from_slice(&[Shape::Bead(x, to, number, 7, kept, white)])
         }
         Outcome::ReportNoted(_, _) | Outcome::AbortNoted(_, _) => {
-            out.extend_from_slice(&[Shape::Bead(x, to, number, 0, filled, white)])
+            let noted = Style::Noted(direction);
+            out.extend_from_slice(&[Shape::Bead(x, to, number, 0, noted, white)])
         }
         Outcome::Again(_, _) | Outcome::Ignored(_) => {
             let (dashed, letters) = (Style::Dashed(direction), Letters::Bead(direction));
@@ -112,59 +162,98 @@ fn add_bead(
     }
 }
 
-// A delivery of a packet: its way to a lane's hand, in it, and from there to the node.
-fn add_delivery(
+// Adds the end of a packet's way, from a lane's hand to the node.
+fn add_arrival(
     out: &mut Vec<Shape>,
     frame: Frame,
-    flight: Flight,
+    lane: Lane,
+    to: u32,
+    number: u64,
+    outcome: Outcome,
+) -> Result<(), AllocError>
+    ensures { OnOk result
+        (out.new.items ≡ out.old.items ++ arrival_shapes frame lane to number outcome) }
+{
+    let direction = lane.direction();
+    let (x, end) = (
+        lane_x(frame, lane),
+        side_x(frame, Side::receiver(direction)),
+    );
+    out.extend_from_slice(&[
+        Shape::Line(x, y_of(to), end, y_of(to), Style::Way(direction)),
+        tip(frame, direction, to, number, outcome),
+    ])?;
+    add_bead(out, end, to, number, direction, outcome)
+}
+
+// The same, where the packet was delivered and the height is drawn.
+fn add_end(
+    out: &mut Vec<Shape>,
+    frame: Frame,
+    lane: Lane,
+    to: u32,
+    number: u64,
+    outcome: Option<Outcome>,
+) -> Result<(), AllocError>
+    ensures { OnOk result
+        (out.new.items ≡ out.old.items ++ end_shapes frame lane to number outcome) }
+{
+    match outcome {
+        Some(outcome) => {
+            if holds(frame, to) {
+                return add_arrival(out, frame, lane, to, number, outcome);
+            }
+            Ok(())
+        }
+        None => Ok(()),
+    }
+}
+
+// Adds a packet that a lane took: its way to the lane's hand, in it, and from there to the node.
+fn add_carried(
+    out: &mut Vec<Shape>,
+    frame: Frame,
+    lane: Lane,
+    to: u32,
+    outcome: Option<Outcome>,
     held: Held,
     sent: Sent,
 ) -> Result<(), AllocError>
-    ensures { OnOk result (out.new.items ≡ out.old.items ++ delivery_shapes frame flight held sent) }
+    ensures { OnOk result
+        (out.new.items ≡ out.old.items ++ carried_shapes frame lane to outcome held sent) }
 {
-    let (lane, to, outcome) = (flight.lane, flight.to, flight.outcome);
-    let direction = lane.direction();
-    let (x, end) = (lane_x(frame, lane), side_x(frame, to_side(direction)));
-    out.extend_from_slice(&[
-        packet(held.number, sent),
-        way_line(frame, lane, sent, held.at),
-        hand_line(frame, lane, sent.direction, held.at, to),
-        Shape::Line(x, y_of(to), end, y_of(to), Style::Way(direction)),
-        tip(frame, direction, to, held.number, outcome),
-    ])?;
-    add_bead(out, end, to, held.number, direction, outcome)?;
+    let (number, direction) = (held.number, sent.direction);
+    let from = start_x(frame, direction, sent.content);
+    let (x, hand) = (lane_x(frame, lane), Style::InHand(direction));
+    out.extend_from_slice(&[packet(number, sent)])?;
+    add_path(
+        out,
+        frame,
+        number,
+        direction,
+        from,
+        sent.at,
+        x,
+        held.at,
+        way_style(sent),
+    )?;
+    add_path(out, frame, number, direction, x, held.at, x, to, hand)?;
+    add_end(out, frame, lane, to, number, outcome)?;
     out.extend_from_slice(&[Shape::GroupEnd])
 }
 
-/// Adds a delivery, where some of its heights is drawn.
-pub(crate) fn add_flight(
-    out: &mut Vec<Shape>,
-    frame: Frame,
-    flight: Flight,
-) -> Result<(), AllocError>
-    ensures { OnOk result (out.new.items ≡ out.old.items ++ flight_shapes frame flight) }
-{
-    let Some(held) = flight.held else {
-        return Ok(());
-    };
-    let Some(sent) = held.sent else {
-        return Ok(());
-    };
-    if !shows(frame, sent.at, flight.to) {
-        return Ok(());
-    }
-    add_delivery(out, frame, flight, held, sent)
-}
-
-/// Adds a packet that is in a hand where the picture ends.
+/// Adds what a lane took, up to its delivery, or in its hand up to a height; where one of its
+/// heights is drawn.
 pub(crate) fn add_held(
     out: &mut Vec<Shape>,
     frame: Frame,
     lane: Lane,
-    end: u32,
+    to: u32,
+    outcome: Option<Outcome>,
     held: Option<Held>,
 ) -> Result<(), AllocError>
-    ensures { OnOk result (out.new.items ≡ out.old.items ++ held_shapes frame lane end held) }
+    ensures { OnOk result
+        (out.new.items ≡ out.old.items ++ held_shapes frame lane to outcome held) }
 {
     let Some(held) = held else {
         return Ok(());
@@ -172,44 +261,101 @@ pub(crate) fn add_held(
     let Some(sent) = held.sent else {
         return Ok(());
     };
-    if !shows(frame, sent.at, end) {
-        return Ok(());
+    if holds(frame, sent.at) || holds(frame, held.at) || holds(frame, to) {
+        return add_carried(out, frame, lane, to, outcome, held, sent);
     }
-    out.extend_from_slice(&[
-        packet(held.number, sent),
-        way_line(frame, lane, sent, held.at),
-        hand_line(frame, lane, sent.direction, held.at, end),
-        Shape::GroupEnd,
-    ])
+    Ok(())
+}
+
+/// Adds a delivery.
+pub(crate) fn add_flight(
+    out: &mut Vec<Shape>,
+    frame: Frame,
+    flight: Flight,
+) -> Result<(), AllocError>
+    ensures { OnOk result (out.new.items ≡ out.old.items ++ flight_shapes frame flight) }
+{
+    add_held(
+        out,
+        frame,
+        flight.lane,
+        flight.to,
+        Some(flight.outcome),
+        flight.held,
+    )
 }
 
 // The way of a packet to where it was lost: dotted where a lane took it before.
 fn loss_style(sent: Sent) -> Style
     ensures { result ≡ loss_style sent }
 {
-    if sent.taken {
+    if sent.gone {
         Style::Late
     } else {
         Style::Way(sent.direction)
     }
 }
 
-/// Adds a loss, where some of its heights is drawn: a line to a cross in the middle of the link.
+// Adds a cross in the middle of the link, where its height is drawn.
+fn add_cross(out: &mut Vec<Shape>, frame: Frame, at: u32) -> Result<(), AllocError>
+    ensures { OnOk result (out.new.items ≡ out.old.items ++ cross_shapes frame at) }
+{
+    if !holds(frame, at) {
+        return Ok(());
+    }
+    out.extend_from_slice(&[Shape::Sign(middle_x(frame), y_of(at), Sign::Cross, Style::Cross)])
+}
+
+/// Adds a loss, where one of its heights is drawn: a line to a cross in the middle of the link.
 pub(crate) fn add_loss(out: &mut Vec<Shape>, frame: Frame, loss: Loss) -> Result<(), AllocError>
     ensures { OnOk result (out.new.items ≡ out.old.items ++ loss_shapes frame loss) }
 {
     let Some(sent) = loss.sent else {
         return Ok(());
     };
-    if !shows(frame, sent.at, loss.at) {
+    if !holds(frame, sent.at) && !holds(frame, loss.at) {
         return Ok(());
     }
-    let from = start_x(frame, sent.direction, sent.content);
-    let (x, y) = (middle_x(frame), y_of(loss.at));
+    let (number, direction) = (loss.number, sent.direction);
+    let from = start_x(frame, direction, sent.content);
+    let (to, style) = (middle_x(frame), loss_style(sent));
+    out.extend_from_slice(&[packet(number, sent)])?;
+    add_path(
+        out, frame, number, direction, from, sent.at, to, loss.at, style,
+    )?;
+    add_cross(out, frame, loss.at)?;
+    out.extend_from_slice(&[Shape::GroupEnd])
+}
+
+// Adds a short line with a ring at its end.
+pub(crate) fn add_open(
+    out: &mut Vec<Shape>,
+    x: u64,
+    end: u64,
+    at: u32,
+    direction: Direction,
+) -> Result<(), AllocError>
+    ensures { OnOk result (out.new.items ≡ out.old.items ++ open_shapes x end at direction) }
+{
+    let (y, left, ring) = (y_of(at), end.saturating_sub(3), Style::Hollow(direction));
     out.extend_from_slice(&[
-        packet(loss.number, sent),
-        Shape::Line(from, y_of(sent.at), x, y, loss_style(sent)),
-        Shape::Sign(x, y, Sign::Cross, Style::Cross),
-        Shape::GroupEnd,
+        Shape::Line(x, y, end, y, Style::Waiting(direction)),
+        Shape::Box(left, y - 3, 6, 6, 3, ring),
     ])
+}
+
+/// Adds a short line for a packet that is on the link to the end, as no lane took it and it wasn't
+/// lost.
+pub(crate) fn add_waiting(out: &mut Vec<Shape>, frame: Frame, sent: Sent) -> Result<(), AllocError>
+    ensures { OnOk result (out.new.items ≡ out.old.items ++ waiting_shapes frame sent) }
+{
+    if sent.gone {
+        return Ok(());
+    }
+    if !holds(frame, sent.at) {
+        return Ok(());
+    }
+    let x = start_x(frame, sent.direction, sent.content);
+    let end = toward(x, side_x(frame, Side::receiver(sent.direction)), 32, 0);
+    add_open(out, x, end, sent.at, sent.direction)
 }

@@ -1,7 +1,7 @@
 //! Where things stand in a picture, in whole pixels.
 
 ghost use Rattle.std.specs.Prelude.{◌≡◌, ◌<◌, ◌≤◌, ◌^◌};
-ghost use Rattle.lpt_chart.specs.Frames.{across_from, across_to, bar_x, foot_y, half, lane_x, legend_y, middle_x, rows_high, shows, side_x, top_of, whole_high, y_of};
+ghost use Rattle.lpt_chart.specs.Frames.{across_from, across_to, bar_x, foot_y, half, holds, lane_x, legend_high, legend_y, middle_x, rows_high, shows, side_x, top_of, toward, whole_high, y_of};
 
 use lpt_events::{Lane, Side};
 
@@ -61,7 +61,8 @@ pub(crate) fn side_x(frame: Frame, side: Side) -> u64
 /// The middle of the link.
 #[tactic(auto, unfolding(crate::specs::Frames::middle_x))]
 pub(crate) fn middle_x(frame: Frame) -> u64
-    ensures { result ≡ middle_x frame }
+    ensures value { result ≡ middle_x frame }
+    ensures small { result < 2 ^ 33 }
 {
     u64::from(frame.left) + 190
 }
@@ -69,7 +70,8 @@ pub(crate) fn middle_x(frame: Frame) -> u64
 /// A lane.
 #[tactic(auto, unfolding(crate::specs::Frames::lane_x))]
 pub(crate) fn lane_x(frame: Frame, lane: Lane) -> u64
-    ensures { result ≡ lane_x frame lane }
+    ensures value { result ≡ lane_x frame lane }
+    ensures small { result < 2 ^ 33 }
 {
     match lane {
         Lane::S1 => u64::from(frame.left) + 340,
@@ -131,6 +133,28 @@ pub(crate) fn half(number: u64) -> u64
     }
 }
 
+/// Whether a height is drawn.
+pub(crate) fn holds(frame: Frame, at: u32) -> bool
+    ensures { result ≡ holds frame at }
+{
+    shows(frame, at, at)
+}
+
+/// So far from a point toward another, or beside it where both are one above the other.
+#[tactic(auto, unfolding(crate::specs::Frames::toward))]
+pub(crate) fn toward(x: u64, to: u64, far: u8, beside: u8) -> u64
+    requires { x < 2 ^ 40 }
+    ensures { result ≡ toward x to far beside }
+{
+    if x < to {
+        x + u64::from(far)
+    } else if to < x {
+        x.saturating_sub(u64::from(far))
+    } else {
+        x + u64::from(beside)
+    }
+}
+
 /// Whether some of these heights is drawn.
 pub(crate) fn shows(frame: Frame, first: u32, last: u32) -> bool
     ensures { result ≡ shows frame first last }
@@ -165,10 +189,20 @@ pub(crate) fn legend_y(frame: Frame) -> u64
     foot_y(frame) + 44
 }
 
-/// The height of a picture.
-#[tactic(auto, unfolding(crate::specs::Frames::whole_high))]
-pub(crate) fn whole_high(frame: Frame) -> u64
-    ensures { result ≡ whole_high frame }
+/// The height of a legend of so many samples, three in a row.
+pub(crate) fn legend_high(keys: usize) -> u64
+    requires { keys ≤ 25 }
+    ensures value { result ≡ legend_high keys }
+    ensures small { result ≤ 198 }
 {
-    legend_y(frame) + 218
+    22 * ((keys as u64 + 2) / 3)
+}
+
+/// The height of a picture with such a legend.
+#[tactic(auto, unfolding(crate::specs::Frames::whole_high))]
+pub(crate) fn whole_high(frame: Frame, keys: usize) -> u64
+    requires { keys ≤ 25 }
+    ensures { result ≡ whole_high frame keys }
+{
+    legend_y(frame) + legend_high(keys) + 20
 }

@@ -2,7 +2,8 @@
 
 ghost use Rattle.std.specs.Prelude.{◌≡◌, false};
 ghost use Rattle.std.specs.Option.{option_map_or};
-ghost use Rattle.lpt_chart.specs.Pictures.{other_ground, passed, passing, retold, run_of, same_ground, same_lane, takes};
+ghost use Rattle.lpt_events.specs.Lanes.{same_lane};
+ghost use Rattle.lpt_chart.specs.Pictures.{other_ground, passed, passing, retold, run_of, same_ground, takes};
 
 use crate::marks::{Row, Saying};
 use lpt_events::{Lane, Side};

@@ -1,48 +1,57 @@
 //! All shapes of a picture, layer by layer.
 
-ghost use Rattle.std.specs.Prelude.{◌≡◌, ◌++◌, OnOk};
+ghost use Rattle.std.specs.Prelude.{◌≡◌, ◌≤◌, ◌++◌, length, IfOk, OnOk};
 ghost use Rattle.std.specs.List.{flat_map};
 ghost use Rattle.lpt_chart.specs.Bars.{bar_shapes};
-ghost use Rattle.lpt_chart.specs.Charts.{chart_shapes, counts, ends_shapes, foot_shapes, grounds_shapes, hands_shapes, head_shapes, hidden_shapes, lane_shapes, line_shapes, node_shapes, rest_shapes, title_shapes, window, window_shapes};
-ghost use Rattle.lpt_chart.specs.Flights.{flight_shapes, loss_shapes};
+ghost use Rattle.lpt_chart.specs.Charts.{chart_shapes, counts, ends_shapes, foot_shapes, grounds_shapes, hands_shapes, head_shapes, hidden_shapes, keys_of, lane_shapes, line_shapes, node_shapes, rest_shapes, title_shapes, window, window_shapes};
+ghost use Rattle.lpt_chart.specs.Flights.{flight_shapes, loss_shapes, waiting_shapes};
 ghost use Rattle.lpt_chart.specs.Rows.{base_shapes, row_shapes};
 
 use crate::bar::add_bar;
 use crate::choice::{Choice, hidden_above, hidden_below};
-use crate::flight::{add_flight, add_held, add_loss};
-use crate::frame::{Frame, foot_y, lane_x, legend_y, rows_high, side_x, top_of, whole_high};
-use crate::legend::add_legend;
-use crate::marks::{Bar, Flight, Loss, Row};
+use crate::flight::{add_flight, add_held, add_loss, add_waiting};
+use crate::frame::{
+    Frame, foot_y, lane_x, legend_high, legend_y, rows_high, side_x, top_of, whole_high,
+};
+use crate::legend::{add_legend, used_keys};
+use crate::marks::{Bar, Flight, Loss, Row, Sent};
 use crate::picture::Picture;
 use crate::row::{add_base, add_row};
 use crate::shape::{Shape, Words};
 use crate::style::{Letters, Style};
-use crate::title::title_line;
+use crate::title::{title_line, title_wide};
 use lpt_events::{Lane, Side};
-use std::alloc::AllocError;
+use std::alloc::{AllocError, Global};
 
 // A line of the title, where there is one.
-fn add_line(out: &mut Vec<Shape>, title: &[u8], line: u8, y: u64) -> Result<(), AllocError>
-    ensures { OnOk result (out.new.items ≡ out.old.items ++ line_shapes title.now line y) }
+fn add_line(
+    out: &mut Vec<Shape>,
+    title: &[u8],
+    line: u8,
+    most: usize,
+    y: u64,
+) -> Result<(), AllocError>
+    ensures { OnOk result (out.new.items ≡ out.old.items ++ line_shapes title.now line most y) }
 {
-    if title_line(title, line).is_empty() {
+    if title_line(title, line, most).is_empty() {
         return Ok(());
     }
-    out.extend_from_slice(&[Shape::Text(24, y, Letters::Title, Words::Title(line))])
+    let words = Words::Title(line, most as u64);
+    out.extend_from_slice(&[Shape::Text(24, y, Letters::Title, words)])
 }
 
 // A title of up to three lines.
 #[tactic(auto, unfolding(crate::specs::Charts::title_shapes))]
-fn add_title(out: &mut Vec<Shape>, title: &[u8]) -> Result<(), AllocError>
-    ensures { OnOk result (out.new.items ≡ out.old.items ++ title_shapes title.now) }
+fn add_title(out: &mut Vec<Shape>, title: &[u8], most: usize) -> Result<(), AllocError>
+    ensures { OnOk result (out.new.items ≡ out.old.items ++ title_shapes title.now most) }
 {
-    add_line(out, title, 0, 38)?;
-    add_line(out, title, 1, 62)?;
-    add_line(out, title, 2, 86)
+    add_line(out, title, 0, most, 38)?;
+    add_line(out, title, 1, most, 62)?;
+    add_line(out, title, 2, most, 86)
 }
 
-// How much has happened.
-fn counts(events: u64, picture: &Picture) -> Words
+/// How much has happened.
+pub(crate) fn counts(events: u64, picture: &Picture) -> Words
     ensures { result ≡ counts events picture.now }
 {
     let packets = picture.sent.len() as u64;
@@ -70,16 +79,19 @@ fn add_hidden(out: &mut Vec<Shape>, y: u64, choice: Choice, rows: &[Row]) -> Res
 fn add_head(
     out: &mut Vec<Shape>,
     frame: Frame,
+    keys: usize,
     events: u64,
     choice: Choice,
     title: &[u8],
     picture: &Picture,
 ) -> Result<(), AllocError>
-    ensures { OnOk result (out.new.items ≡ out.old.items ++ head_shapes frame events choice title.now picture.now) }
+    requires { keys ≤ 25 }
+    ensures { OnOk result (out.new.items ≡ out.old.items
+        ++ head_shapes frame keys events choice title.now picture.now) }
 {
-    let (wide, high) = (u64::from(frame.wide), whole_high(frame));
+    let (wide, high) = (u64::from(frame.wide), whole_high(frame, keys));
     out.extend_from_slice(&[Shape::Box(0, 0, wide, high, 0, Style::Paper)])?;
-    add_title(out, title)?;
+    add_title(out, title, title_wide(frame.wide))?;
     let y = u64::from(frame.head);
     let counts = counts(events, picture);
     out.extend_from_slice(&[Shape::Text(24, y.saturating_sub(30), Letters::Grey, counts)])?;
@@ -133,11 +145,11 @@ fn add_ends(out: &mut Vec<Shape>, frame: Frame) -> Result<(), AllocError>
 fn add_hands(out: &mut Vec<Shape>, frame: Frame, picture: &Picture) -> Result<(), AllocError>
     ensures { OnOk result (out.new.items ≡ out.old.items ++ hands_shapes frame picture.now) }
 {
-    let (hands, end) = (picture.hands, picture.next);
-    add_held(out, frame, Lane::S1, end, hands.s1)?;
-    add_held(out, frame, Lane::S2, end, hands.s2)?;
-    add_held(out, frame, Lane::G1, end, hands.g1)?;
-    add_held(out, frame, Lane::G2, end, hands.g2)
+    let (hands, end) = (picture.hands, picture.next.saturating_sub(1));
+    add_held(out, frame, Lane::S1, end, None, hands.s1)?;
+    add_held(out, frame, Lane::S2, end, None, hands.s2)?;
+    add_held(out, frame, Lane::G1, end, None, hands.g1)?;
+    add_held(out, frame, Lane::G2, end, None, hands.g2)
 }
 
 // The grounds of the rows.
@@ -156,6 +168,17 @@ fn add_bars(out: &mut Vec<Shape>, frame: Frame, bars: &[Bar]) -> Result<(), Allo
 {
     for bar in bars {
         add_bar(out, frame, *bar)?;
+    }
+    Ok(())
+}
+
+// The packets that are on the link to the end.
+fn add_waits(out: &mut Vec<Shape>, frame: Frame, packets: &[Sent]) -> Result<(), AllocError>
+    ensures { OnOk result
+        (out.new.items ≡ out.old.items ++ flat_map (waiting_shapes frame) packets.now) }
+{
+    for sent in packets {
+        add_waiting(out, frame, *sent)?;
     }
     Ok(())
 }
@@ -198,12 +221,13 @@ fn window(frame: Frame) -> Shape
     Shape::Part(y, wide, rows_high(frame), top_of(frame.top))
 }
 
-// All that is drawn of rows but their grounds: rows over deliveries over losses over tracks.
+// All that is drawn of rows but their grounds: rows over packets over tracks.
 #[tactic(auto, unfolding(crate::specs::Charts::window_shapes))]
 fn add_window(out: &mut Vec<Shape>, frame: Frame, picture: &Picture) -> Result<(), AllocError>
     ensures { OnOk result (out.new.items ≡ out.old.items ++ window_shapes frame picture.now) }
 {
     add_bars(out, frame, picture.bars.as_slice())?;
+    add_waits(out, frame, picture.sent.as_slice())?;
     add_losses(out, frame, picture.losses.as_slice())?;
     add_hands(out, frame, picture)?;
     add_flights(out, frame, picture.flights.as_slice())?;
@@ -230,14 +254,30 @@ fn add_rest(out: &mut Vec<Shape>, frame: Frame, picture: &Picture) -> Result<(),
     out.extend_from_slice(&[Shape::PartEnd])
 }
 
+/// What the legend explains of a picture.
+#[tactic(auto, unfolding(crate::specs::Charts::keys_of))]
+pub(crate) fn keys_of(
+    alloc: Global,
+    frame: Frame,
+    picture: &Picture,
+) -> Result<Vec<Style>, AllocError>
+    ensures value { IfOk result (λ v. v.items ≡ keys_of frame picture.now) }
+    ensures few { IfOk result (λ v. length v.items ≤ 25) }
+{
+    let mut shapes = Vec::new(alloc);
+    add_rest(&mut shapes, frame, picture)?;
+    used_keys(alloc, shapes.as_slice())
+}
+
 // The legend, below the rows.
 #[tactic(auto, unfolding(crate::specs::Charts::foot_shapes))]
-fn add_foot(out: &mut Vec<Shape>, frame: Frame) -> Result<(), AllocError>
-    ensures { OnOk result (out.new.items ≡ out.old.items ++ foot_shapes frame) }
+fn add_foot(out: &mut Vec<Shape>, frame: Frame, keys: &[Style]) -> Result<(), AllocError>
+    requires { length keys.now ≤ 25 }
+    ensures { OnOk result (out.new.items ≡ out.old.items ++ foot_shapes frame keys.now) }
 {
-    let wide = u64::from(frame.wide);
-    out.extend_from_slice(&[Shape::Part(legend_y(frame), wide, 198, 0)])?;
-    add_legend(out)?;
+    let (wide, high) = (u64::from(frame.wide), legend_high(keys.len()));
+    out.extend_from_slice(&[Shape::Part(legend_y(frame), wide, high, 0)])?;
+    add_legend(out, keys)?;
     out.extend_from_slice(&[Shape::PartEnd])
 }
 
@@ -246,16 +286,19 @@ fn add_foot(out: &mut Vec<Shape>, frame: Frame) -> Result<(), AllocError>
 pub(crate) fn add_chart(
     out: &mut Vec<Shape>,
     frame: Frame,
+    keys: &[Style],
     events: u64,
     choice: Choice,
     title: &[u8],
     picture: &Picture,
 ) -> Result<(), AllocError>
-    ensures { OnOk result (out.new.items ≡ out.old.items ++ chart_shapes frame events choice title.now picture.now) }
+    requires { length keys.now ≤ 25 }
+    ensures { OnOk result (out.new.items ≡ out.old.items
+        ++ chart_shapes frame keys.now events choice title.now picture.now) }
 {
-    add_head(out, frame, events, choice, title, picture)?;
+    add_head(out, frame, keys.len(), events, choice, title, picture)?;
     add_grounds(out, frame, picture)?;
     add_ends(out, frame)?;
     add_rest(out, frame, picture)?;
-    add_foot(out, frame)
+    add_foot(out, frame, keys)
 }

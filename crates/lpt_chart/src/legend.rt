@@ -1,227 +1,200 @@
-//! The legend: each mark with its words, in three columns.
+//! The legend: what is in the picture, each mark with its words, three in a row.
 
-ghost use Rattle.std.specs.Prelude.{◌≡◌, ◌+◌, ◌++◌, ◌<◌, ◌^◌, OnOk};
+ghost use Rattle.std.specs.Prelude.{◌≡◌, ◌≤◌, ◌+◌, ◌++◌, ◌<◌, ◌^◌, length, IfOk, OnOk};
 ghost use Rattle.std.specs.List.{flat_map};
 ghost use Rattle.lpt_chart.specs.Keys.{key_words};
-ghost use Rattle.lpt_chart.specs.Legends.{key_shapes, legend_shapes, sample_shapes};
+ghost use Rattle.lpt_chart.specs.Legends.{is_used, key_shapes, legend_shapes, same_key, sample_shapes, style_of, used_key, used_keys};
 
 use crate::bar::add_stage;
-use crate::frame::{half, y_of};
-use crate::mark::{ring, square};
+use crate::flight::{add_open, add_released};
+use crate::frame::y_of;
+use crate::mark::{add_crossed, add_double, ring, square};
 use crate::marks::Stage;
 use crate::shape::{Shape, Sign, Words};
 use crate::style::{Letters, Style};
 use lpt_events::Side;
 use lpt_packet::Direction;
-use std::alloc::AllocError;
+use std::alloc::{AllocError, Global};
 
-/// What the legend explains.
-#[derive(Clone, Copy)]
-pub enum Key {
-    /// A packet's way up.
-    Up,
-    /// A packet's way down.
-    Down,
-    /// The way of a packet that was taken before.
-    TakenAgain,
-    /// The way of what noise left.
-    Noise,
-    /// A packet in a lane's hand.
-    InHand,
-    /// The way of a packet that was lost after a lane had taken it.
-    LostLate,
-    /// A loss.
-    Lost,
-    /// A reception that has expired.
-    Expired,
-    /// A packet that was put.
-    Put,
-    /// A part that was kept.
-    Kept,
-    /// A part that was kept before, or a packet of which nothing was made.
-    Again,
-    /// A report that was noted.
-    Noted,
-    /// A release.
-    Released,
-    /// A transaction that is free.
-    Retired,
-    /// A message that was opened, or a job without a request.
-    Opened,
-    /// A sender that was closed, or a job that was executed.
-    Finished,
-    /// An open sender.
-    Sender,
-    /// An open reception.
-    Reception,
-    /// A job that waits.
-    Waits,
-    /// A job that a worker has.
-    Claimed,
-    /// A job whose reading was handed in.
-    Committed,
-    /// A tick.
-    Tick,
-    /// A restart.
-    Restart,
-    /// A refused line.
-    Refused,
-}
-
-/// The keys, each with its left edge and its height.
-static KEYS: [(u16, u32, Key); 24] = [
-    (24, 0, Key::Up),
-    (24, 2, Key::Down),
-    (24, 4, Key::TakenAgain),
-    (24, 6, Key::Noise),
-    (24, 8, Key::InHand),
-    (24, 10, Key::LostLate),
-    (24, 12, Key::Lost),
-    (24, 14, Key::Expired),
-    (264, 0, Key::Put),
-    (264, 2, Key::Kept),
-    (264, 4, Key::Again),
-    (264, 6, Key::Noted),
-    (264, 8, Key::Released),
-    (264, 10, Key::Retired),
-    (264, 12, Key::Opened),
-    (264, 14, Key::Finished),
-    (524, 0, Key::Sender),
-    (524, 2, Key::Reception),
-    (524, 4, Key::Waits),
-    (524, 6, Key::Claimed),
-    (524, 8, Key::Committed),
-    (524, 10, Key::Tick),
-    (524, 12, Key::Restart),
-    (524, 14, Key::Refused),
+/// What the legend can explain: packets on the link, what becomes of them, and what is open.
+static KEYS: [Style; 25] = [
+    Style::Way(Direction::Up),
+    Style::Way(Direction::Down),
+    Style::WayAgain(Direction::Up),
+    Style::WayNoise(Direction::Up),
+    Style::InHand(Direction::Up),
+    Style::Waiting(Direction::Up),
+    Style::Late,
+    Style::Cross,
+    Style::Expired,
+    Style::Hollow(Direction::Up),
+    Style::Kept(Direction::Up),
+    Style::Dashed(Direction::Up),
+    Style::Noted(Direction::Down),
+    Style::Ring(Direction::Up),
+    Style::Retiring,
+    Style::Opened,
+    Style::Finished,
+    Style::Sender(Direction::Up),
+    Style::Reception(Direction::Up),
+    Style::JobWaits,
+    Style::JobHollow,
+    Style::JobFilled,
+    Style::Tick,
+    Style::Restart,
+    Style::Refused,
 ];
 
-// What a sample stands for.
-pub(crate) fn key_words(key: Key) -> &'static str
-    ensures { result.now ≡ key_words key }
+// The words for a style. There are none for one that explains itself, or is explained with another.
+pub(crate) fn key_words(style: Style) -> &'static str
+    ensures { result.now ≡ key_words style }
 {
-    match key {
-        Key::Up => "packet up",
-        Key::Down => "packet down",
-        Key::TakenAgain => "taken once more",
-        Key::Noise => "what noise left",
-        Key::InHand => "in a lane's hand",
-        Key::LostLate => "lost after a lane took it",
-        Key::Lost => "lost",
-        Key::Expired => "reception expired",
-        Key::Put => "packet 0 put on the link",
-        Key::Kept => "part kept",
-        Key::Again => "part was kept before, or ignored",
-        Key::Noted => "report noted",
-        Key::Released => "message released",
-        Key::Retired => "identifier free at both ends",
-        Key::Opened => "message opened; no request",
-        Key::Finished => "sender finished; job executed",
-        Key::Sender => "open sender",
-        Key::Reception => "open reception: kept of all parts",
-        Key::Waits => "job released, waits",
-        Key::Claimed => "job claimed by a worker",
-        Key::Committed => "reading of the job committed",
-        Key::Tick => "a clock goes on",
-        Key::Restart => "node starts anew",
-        Key::Refused => "line refused",
+    match style {
+        Style::Way(Direction::Up) => "packet up",
+        Style::Way(Direction::Down) => "packet down",
+        Style::WayAgain(_) => "taken once more",
+        Style::WayNoise(_) | Style::Noise(_) => "what noise left",
+        Style::InHand(_) => "in a lane's hand",
+        Style::Waiting(_) => "stays on the link",
+        Style::Late => "lost after a lane took it",
+        Style::Cross => "lost",
+        Style::Expired => "reception expired",
+        Style::Hollow(_) => "packet 0 put on the link",
+        Style::Kept(_) => "part kept",
+        Style::Dashed(_) => "kept before, or ignored",
+        Style::Noted(_) => "report noted",
+        Style::Ring(_) => "message released",
+        Style::Retiring => "identifier free at both ends",
+        Style::Opened => "message opened; no request",
+        Style::Finished => "sender finished; job executed",
+        Style::Sender(_) => "open sender",
+        Style::Reception(_) => "reception: kept of all parts",
+        Style::JobWaits => "job released, waits",
+        Style::JobHollow => "job claimed by a worker",
+        Style::JobFilled => "reading of the job committed",
+        Style::Tick => "a clock goes on",
+        Style::Restart => "node starts anew",
+        Style::Refused => "line refused",
+        _ => "",
     }
 }
 
-// The line of a sample.
-fn sample_line(left: u64, y: u64, style: Style) -> Shape
-    requires { left < 2 ^ 16 }
-    ensures { result ≡ Shape.Line (left + 4) y (left + 32) y style }
+// The style of a shape; the ground's where it has none.
+fn style_of(shape: Shape) -> Style
+    ensures { result ≡ style_of shape }
 {
-    Shape::Line(left + 4, y, left + 32, y, style)
+    match shape {
+        Shape::Line(_, _, _, _, style) => style,
+        Shape::Box(_, _, _, _, _, style) => style,
+        Shape::Sign(_, _, _, style) => style,
+        Shape::Bead(_, _, _, _, style, _) => style,
+        _ => Style::Paper,
+    }
 }
 
-// A sample, from a left edge on.
-#[tactic(auto, unfolding(crate::specs::Legends::sample_shapes))]
-fn add_sample(out: &mut Vec<Shape>, left: u16, at: u32, key: Key) -> Result<(), AllocError>
-    ensures { OnOk result (out.new.items ≡ out.old.items ++ sample_shapes left at key) }
+// Whether two styles are explained by the same words.
+fn is_key(one: Style, other: Style) -> bool
+    ensures { result ≡ same_key one other }
 {
-    let up = Direction::Up;
-    let (filled, white) = (Style::Filled(up), Letters::BeadWhite);
+    key_words(one) == key_words(other)
+}
+
+// Whether one of these shapes has such a style.
+fn is_used(shapes: &[Shape], style: Style) -> bool
+    ensures { result ≡ is_used shapes.now style }
+{
+    shapes.iter().any(|shape| is_key(style_of(*shape), style))
+}
+
+// Adds a style where one of these shapes has it.
+fn add_used(used: &mut Vec<Style>, shapes: &[Shape], style: Style) -> Result<(), AllocError>
+    ensures value { OnOk result (used.new.items ≡ used.old.items ++ used_key shapes.now style) }
+    ensures few { OnOk result (length used.new.items ≤ length used.old.items + 1) }
+{
+    if is_used(shapes, style) {
+        used.push(style)?;
+    }
+    Ok(())
+}
+
+// Those of these styles that one of the shapes has.
+fn used_of(alloc: Global, shapes: &[Shape], styles: &[Style]) -> Result<Vec<Style>, AllocError>
+    ensures value { IfOk result (λ v. v.items ≡ flat_map (used_key shapes.now) styles.now) }
+    ensures few { IfOk result (λ v. length v.items ≤ length styles.now) }
+{
+    let mut used = Vec::new(alloc);
+    for style in styles {
+        add_used(&mut used, shapes, *style)?;
+    }
+    Ok(used)
+}
+
+/// What the legend explains of a picture with these shapes.
+pub(crate) fn used_keys(alloc: Global, shapes: &[Shape]) -> Result<Vec<Style>, AllocError>
+    ensures value { IfOk result (λ v. v.items ≡ used_keys shapes.now) }
+    ensures few { IfOk result (λ v. length v.items ≤ 25) }
+{
+    used_of(alloc, shapes, &KEYS)
+}
+
+// A sample, from a left edge on. Most are lines.
+#[tactic(auto, unfolding(crate::specs::Legends::sample_shapes))]
+fn add_sample(out: &mut Vec<Shape>, left: u16, at: u32, style: Style) -> Result<(), AllocError>
+    ensures { OnOk result (out.new.items ≡ out.old.items ++ sample_shapes left at style) }
+{
     let (left, y) = (u64::from(left), y_of(at));
-    let x = left + 18;
-    match key {
-        Key::Up => out.extend_from_slice(&[sample_line(left, y, Style::Way(up))]),
-        Key::Down => out.extend_from_slice(&[sample_line(left, y, Style::Way(Direction::Down))]),
-        Key::TakenAgain => out.extend_from_slice(&[sample_line(left, y, Style::WayAgain(up))]),
-        Key::Noise => out.extend_from_slice(&[sample_line(left, y, Style::WayNoise(up))]),
-        Key::InHand => out.extend_from_slice(&[sample_line(left, y, Style::InHand(up))]),
-        Key::LostLate => out.extend_from_slice(&[sample_line(left, y, Style::Late)]),
-        Key::Lost => out.extend_from_slice(&[Shape::Sign(x, y, Sign::Cross, Style::Cross)]),
-        Key::Expired => out.extend_from_slice(&[Shape::Sign(x, y, Sign::Hourglass, Style::Ink)]),
-        Key::Put => {
-            let (hollow, blue) = (Style::Hollow(up), Letters::Bead(up));
-            out.extend_from_slice(&[Shape::Bead(x, at, 0, 7, hollow, blue)])
+    let (x, bar, white) = (left + 18, left + 14, Letters::BeadWhite);
+    match style {
+        Style::Way(Direction::Up) => {
+            let head = Shape::Sign(left + 35, y, Sign::HeadRight, Style::Filled(Direction::Up));
+            out.extend_from_slice(&[Shape::Line(left + 4, y, left + 32, y, style), head])
         }
-        Key::Kept => out.extend_from_slice(&[Shape::Bead(x, at, 0, 7, filled, white)]),
-        Key::Again => {
-            let (dashed, blue) = (Style::Dashed(up), Letters::Bead(up));
-            out.extend_from_slice(&[Shape::Bead(x, at, 0, 7, dashed, blue)])
+        Style::Way(Direction::Down) => {
+            let head = Shape::Sign(left + 2, y, Sign::HeadLeft, Style::Filled(Direction::Down));
+            out.extend_from_slice(&[Shape::Line(left + 4, y, left + 32, y, style), head])
         }
-        Key::Noted => {
-            let down = Style::Filled(Direction::Down);
-            out.extend_from_slice(&[Shape::Bead(x, at, 0, 0, down, white)])
+        Style::Waiting(direction) => add_open(out, left + 4, left + 32, at, direction),
+        Style::Cross => out.extend_from_slice(&[Shape::Sign(x, y, Sign::Cross, style)]),
+        Style::Expired => out.extend_from_slice(&[Shape::Sign(x, y, Sign::Hourglass, style)]),
+        Style::Hollow(direction) | Style::Dashed(direction) => {
+            out.extend_from_slice(&[Shape::Bead(x, at, 0, 7, style, Letters::Bead(direction))])
         }
-        Key::Released => {
-            let (half, style) = (half(0), Style::Ring(up));
-            let ring = Shape::Box(
-                x.saturating_sub(half + 3),
-                y - 10,
-                2 * half + 6,
-                20,
-                10,
-                style,
-            );
-            out.extend_from_slice(&[ring, Shape::Bead(x, at, 0, 7, filled, white)])
-        }
-        Key::Retired => out.extend_from_slice(&[ring(x, at)]),
-        Key::Opened => out.extend_from_slice(&[square(x, at, Style::InkEdge)]),
-        Key::Finished => out.extend_from_slice(&[square(x, at, Style::Ink)]),
-        Key::Sender => add_stage(out, left + 14, y, 9, Side::Craft, Stage::Sending(0, None)),
-        Key::Reception => add_stage(out, left + 14, y, 9, Side::Craft, Stage::Kept(1, 2)),
-        Key::Waits => add_stage(out, left + 14, y, 9, Side::Craft, Stage::Waits),
-        Key::Claimed => add_stage(out, left + 14, y, 9, Side::Craft, Stage::Claimed),
-        Key::Committed => add_stage(out, left + 14, y, 9, Side::Craft, Stage::Committed),
-        Key::Tick => out.extend_from_slice(&[Shape::Line(left + 13, y, left + 23, y, Style::Life)]),
-        Key::Restart => {
-            let y = y - 2;
-            out.extend_from_slice(&[Shape::Box(left + 4, y, 28, 4, 0, Style::InkEdge)])
-        }
-        Key::Refused => {
-            out.extend_from_slice(&[ring(x, at), Shape::Sign(x, y, Sign::Cross, Style::Life)])
-        }
+        Style::Kept(_) => out.extend_from_slice(&[Shape::Bead(x, at, 0, 7, style, white)]),
+        Style::Noted(_) => out.extend_from_slice(&[Shape::Bead(x, at, 0, 0, style, white)]),
+        Style::Ring(direction) => add_released(out, x, at, 0, direction),
+        Style::Retiring => out.extend_from_slice(&[ring(x, at, Style::InkEdge)]),
+        Style::Opened | Style::Finished => out.extend_from_slice(&[square(x, at, style)]),
+        Style::Sender(_) => add_stage(out, bar, y - 8, 16, Side::Ground, Stage::Sending(0, None)),
+        Style::Reception(_) => add_stage(out, bar, y - 7, 14, Side::Craft, Stage::Kept(1, 2)),
+        Style::JobWaits => add_stage(out, bar, y - 5, 14, Side::Craft, Stage::Waits),
+        Style::JobHollow => add_stage(out, bar, y - 7, 14, Side::Craft, Stage::Claimed),
+        Style::JobFilled => add_stage(out, bar, y - 7, 14, Side::Craft, Stage::Committed),
+        Style::Tick => out.extend_from_slice(&[Shape::Line(left + 13, y, left + 23, y, style)]),
+        Style::Restart => add_double(out, left + 4, left + 32, at),
+        Style::Refused => add_crossed(out, x, at),
+        _ => out.extend_from_slice(&[Shape::Line(left + 4, y, left + 32, y, style)]),
     }
 }
 
 // A sample, and the words behind it.
 #[tactic(auto, unfolding(crate::specs::Legends::key_shapes))]
-fn add_key(out: &mut Vec<Shape>, left: u16, at: u32, key: Key) -> Result<(), AllocError>
-    ensures { OnOk result (out.new.items ≡ out.old.items ++ key_shapes left at key) }
+fn add_key(out: &mut Vec<Shape>, left: u16, at: u32, style: Style) -> Result<(), AllocError>
+    ensures { OnOk result (out.new.items ≡ out.old.items ++ key_shapes left at style) }
 {
-    add_sample(out, left, at, key)?;
+    add_sample(out, left, at, style)?;
     let (x, y) = (u64::from(left) + 40, y_of(at) + 4);
-    out.extend_from_slice(&[Shape::Text(x, y, Letters::Key, Words::Key(key))])
+    out.extend_from_slice(&[Shape::Text(x, y, Letters::Key, Words::Key(style))])
 }
 
-// Samples, each at its place.
-fn add_keys(out: &mut Vec<Shape>, keys: &[(u16, u32, Key)]) -> Result<(), AllocError>
-    ensures { OnOk result (out.new.items
-        ≡ out.old.items ++ flat_map (λ k. key_shapes k.0 k.1 k.2) keys.now) }
+/// Adds the legend: samples of these styles, three in a row.
+#[tactic(auto, using(crate::proofs::PictureLemmas::key_step))]
+pub(crate) fn add_legend(out: &mut Vec<Shape>, styles: &[Style]) -> Result<(), AllocError>
+    requires few { length styles.now ≤ 25 }
+    ensures { OnOk result (out.new.items ≡ out.old.items ++ legend_shapes 0 styles.now) }
 {
-    for key in keys {
-        add_key(out, key.0, key.1, key.2)?;
+    for (place, style) in styles.iter().enumerate() {
+        let left = 24 + 250 * ((place % 3) as u16);
+        add_key(out, left, 2 * ((place / 3) as u32), *style)?;
     }
     Ok(())
-}
-
-/// Adds the legend.
-pub(crate) fn add_legend(out: &mut Vec<Shape>) -> Result<(), AllocError>
-    ensures { OnOk result (out.new.items ≡ out.old.items ++ legend_shapes) }
-{
-    add_keys(out, &KEYS)
 }

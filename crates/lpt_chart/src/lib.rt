@@ -19,6 +19,7 @@ mod layout;
 mod legend;
 mod mark;
 mod marks;
+mod own;
 mod packet_words;
 mod picture;
 mod pieces;
@@ -38,9 +39,9 @@ mod words;
 
 pub use choice::Choice;
 pub use frame::Frame;
-pub use legend::Key;
 pub use marks::{
-    Bar, Content, Flight, Hands, Held, Loss, Row, Saying, Sent, Stage, Task, Thing, Track,
+    Bar, Content, Flight, Hands, Held, Kind, Loss, Opened, Row, Saying, Sent, Stage, Task, Thing,
+    Track,
 };
 pub use picture::Picture;
 pub use refusal::Refusal;

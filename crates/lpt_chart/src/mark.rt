@@ -1,11 +1,10 @@
 //! The marks on the lines of life.
 
-ghost use Rattle.std.specs.Prelude.{◌≡◌, ◌++◌, OnOk};
-ghost use Rattle.lpt_chart.specs.Rows.{mark_shapes, put_bead, ring, square, start_x};
+ghost use Rattle.std.specs.Prelude.{◌≡◌, ◌<◌, ◌^◌, ◌++◌, OnOk};
+ghost use Rattle.lpt_chart.specs.Rows.{crossed, double, mark_shapes, put_bead, ring, square, start_x};
 
 use crate::frame::{Frame, across_from, across_to, middle_x, side_x, y_of};
 use crate::marks::{Content, Saying};
-use crate::picture::{from_side, to_side};
 use crate::shape::{Shape, Sign};
 use crate::style::{Letters, Style};
 use lpt_events::{Applied, Side};
@@ -20,20 +19,45 @@ pub(crate) fn square(x: u64, at: u32, style: Style) -> Shape
 }
 
 // A ring round a point.
-pub(crate) fn ring(x: u64, at: u32) -> Shape
-    ensures { result ≡ ring x at }
+pub(crate) fn ring(x: u64, at: u32, style: Style) -> Shape
+    ensures { result ≡ ring x at style }
 {
-    Shape::Box(x.saturating_sub(5), y_of(at) - 5, 10, 10, 5, Style::InkEdge)
+    Shape::Box(x.saturating_sub(5), y_of(at) - 5, 10, 10, 5, style)
+}
+
+// Adds a ring with a cross, of a refused line.
+pub(crate) fn add_crossed(out: &mut Vec<Shape>, x: u64, at: u32) -> Result<(), AllocError>
+    ensures { OnOk result (out.new.items ≡ out.old.items ++ crossed x at) }
+{
+    let cross = Shape::Sign(x, y_of(at), Sign::Cross, Style::Life);
+    out.extend_from_slice(&[ring(x, at, Style::Refused), cross])
+}
+
+// Adds a double line, of a restart.
+pub(crate) fn add_double(
+    out: &mut Vec<Shape>,
+    from: u64,
+    to: u64,
+    at: u32,
+) -> Result<(), AllocError>
+    ensures { OnOk result (out.new.items ≡ out.old.items ++ double from to at) }
+{
+    let (upper, lower) = (y_of(at) - 2, y_of(at) + 2);
+    out.extend_from_slice(&[
+        Shape::Line(from, upper, to, upper, Style::Restart),
+        Shape::Line(from, lower, to, lower, Style::Restart),
+    ])
 }
 
 // Where a packet that is put begins. Noise has no sender, and begins in the middle of the link.
 pub(crate) fn start_x(frame: Frame, direction: Direction, content: Content) -> u64
-    ensures { result ≡ start_x frame direction content }
+    ensures value { result ≡ start_x frame direction content }
+    ensures small { result < 2 ^ 33 }
 {
     match content {
         Content::Noise(_) => middle_x(frame),
-        Content::Part(_, _, _) | Content::Request(_, _) | Content::Report => {
-            side_x(frame, from_side(direction))
+        Content::Part(_, _, _) | Content::Request(_, _) | Content::Report(_, _) => {
+            side_x(frame, Side::sender(direction))
         }
     }
 }
@@ -45,7 +69,7 @@ fn put_bead(x: u64, at: u32, number: u64, direction: Direction, content: Content
     let letters = Letters::Bead(direction);
     match content {
         Content::Noise(_) => Shape::Bead(x, at, number, 0, Style::Noise(direction), letters),
-        Content::Part(_, _, _) | Content::Request(_, _) | Content::Report => {
+        Content::Part(_, _, _) | Content::Request(_, _) | Content::Report(_, _) => {
             Shape::Bead(x, at, number, 7, Style::Hollow(direction), letters)
         }
     }
@@ -66,34 +90,34 @@ pub(crate) fn add_mark(
     let (ground, craft) = (side_x(frame, Side::Ground), side_x(frame, Side::Craft));
     match saying {
         Saying::Opened(direction, _, _, _) => {
-            let x = side_x(frame, from_side(direction));
-            out.extend_from_slice(&[square(x, at, Style::InkEdge)])
+            let x = side_x(frame, Side::sender(direction));
+            out.extend_from_slice(&[square(x, at, Style::Opened)])
         }
         Saying::Put(direction, number, content) => {
             let x = start_x(frame, direction, content);
             out.extend_from_slice(&[put_bead(x, at, number, direction, content)])
         }
         Saying::Finished(direction, _) => {
-            let x = side_x(frame, from_side(direction));
-            out.extend_from_slice(&[square(x, at, Style::Ink)])
+            let x = side_x(frame, Side::sender(direction));
+            out.extend_from_slice(&[square(x, at, Style::Finished)])
         }
         Saying::Ticked(side, _, _) => {
             let x = side_x(frame, side);
             let left = x.saturating_sub(5);
-            out.extend_from_slice(&[Shape::Line(left, y, x + 5, y, Style::Life)])
+            out.extend_from_slice(&[Shape::Line(left, y, x + 5, y, Style::Tick)])
         }
         Saying::Expired(direction, _, _, _) => {
-            let x = side_x(frame, to_side(direction));
-            out.extend_from_slice(&[Shape::Sign(x, y, Sign::Hourglass, Style::Ink)])
+            let x = side_x(frame, Side::receiver(direction));
+            out.extend_from_slice(&[Shape::Sign(x, y, Sign::Hourglass, Style::Expired)])
         }
         Saying::Stale(_, _, _) => {
             out.extend_from_slice(&[Shape::Sign(craft, y, Sign::Cross, Style::Life)])
         }
         Saying::Applied(_, _, _, Applied::Done(_)) => {
-            out.extend_from_slice(&[square(craft, at, Style::Ink)])
+            out.extend_from_slice(&[square(craft, at, Style::Finished)])
         }
         Saying::Applied(_, _, _, Applied::Silent) => {
-            out.extend_from_slice(&[square(craft, at, Style::InkEdge)])
+            out.extend_from_slice(&[square(craft, at, Style::Opened)])
         }
         Saying::Applied(_, _, _, Applied::Code(_)) => {
             let cross = Shape::Sign(craft, y, Sign::Cross, Style::Life);
@@ -101,19 +125,16 @@ pub(crate) fn add_mark(
         }
         Saying::Retired(_, _) => {
             let line = Shape::Line(ground, y, craft, y, Style::Retiring);
-            out.extend_from_slice(&[line, ring(ground, at), ring(craft, at)])
-        }
-        Saying::Restarted(side, _) => {
-            let (from, to) = (across_from(frame, side), across_to(frame, side));
-            let (upper, lower) = (y - 2, y + 2);
             out.extend_from_slice(&[
-                Shape::Line(from, upper, to, upper, Style::Life),
-                Shape::Line(from, lower, to, lower, Style::Life),
+                line,
+                ring(ground, at, Style::InkEdge),
+                ring(craft, at, Style::InkEdge),
             ])
         }
-        Saying::Refused(_) => {
-            out.extend_from_slice(&[ring(44, at), Shape::Sign(44, y, Sign::Cross, Style::Life)])
+        Saying::Restarted(side, _) => {
+            add_double(out, across_from(frame, side), across_to(frame, side), at)
         }
+        Saying::Refused(_, _) => add_crossed(out, 44, at),
         Saying::Lost(_, _) | Saying::Taken(_, _) | Saying::Passed(_, _) => Ok(()),
         Saying::Delivered(_, _, _, _) => Ok(()),
         Saying::Claimed(_, _, _) | Saying::Committed(_, _, _) => Ok(()),

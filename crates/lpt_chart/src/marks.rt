@@ -12,10 +12,28 @@ pub enum Content {
     Part(Name, u16, u16),
     /// A plain request of this service type and message subtype.
     Request(u8, u8),
-    /// A report that the spacecraft made of its own.
-    Report,
+    /// A report that the spacecraft made of its own, of this service type and message subtype.
+    Report(u8, u8),
     /// What the link's noise left: so many octets.
     Noise(u64),
+}
+
+/// What a packet says that it is.
+#[derive(Clone, Copy)]
+pub struct Kind {
+    /// The service type in it.
+    pub service: u8,
+    /// The message subtype in it.
+    pub subtype: u8,
+}
+
+/// That a message was opened.
+#[derive(Clone, Copy)]
+pub struct Opened {
+    /// The place in the journal of the entry that opened it.
+    pub place: u64,
+    /// How many parts it has.
+    pub parts: u16,
 }
 
 /// What a request asks of a memory, as far as it is shown.
@@ -46,8 +64,8 @@ pub struct Sent {
     pub content: Content,
     /// What the message asks for that it is or is a part of; none of what goes down, and of noise.
     pub task: Option<Task>,
-    /// Whether a lane has taken it.
-    pub taken: bool,
+    /// Whether a lane has taken it, or it was lost.
+    pub gone: bool,
 }
 
 /// A packet in a lane's hand.
@@ -171,8 +189,9 @@ pub enum Saying {
     Retired(Direction, Name),
     /// A node was restarted, and has this boot.
     Restarted(Side, u64),
-    /// A line was refused: the one with this index among those that were.
-    Refused(u64),
+    /// A line was refused that asked something of this node: the one with this index among those
+    /// that were.
+    Refused(Side, u64),
 }
 
 /// A row.

@@ -1,7 +1,7 @@
 //! The words of a packet that is put, and of a delivery.
 
 ghost use Rattle.std.specs.Prelude.{◌≡◌, IfOk, string_bytes};
-ghost use Rattle.lpt_chart.specs.Sayings.{content_words, delivered_words, of_words, released_words};
+ghost use Rattle.lpt_chart.specs.Sayings.{content_words, delivered_words, of_words, released_words, report_words};
 
 use crate::marks::Content;
 use crate::words::{direction_word, plural, reason_word, report_word, request_word, why_word};
@@ -18,6 +18,15 @@ pub(crate) fn of_words(alloc: Global, parts: u64) -> Result<String, AllocError>
         return Ok(String::new(alloc));
     }
     format!(in alloc; " of {parts}")
+}
+
+// A report of a type.
+#[tactic(auto, unfolding(crate::specs::Sayings::report_words))]
+fn report_words(alloc: Global, service: u8, subtype: u8) -> Result<String, AllocError>
+    ensures { IfOk result (λ t. string_bytes t ≡ report_words service subtype) }
+{
+    let word = report_word(service, subtype);
+    format!(in alloc; "report {service},{subtype}{word}")
 }
 
 // What a packet that is put is.
@@ -40,7 +49,7 @@ pub(crate) fn content_words(
             let word = request_word(service, subtype);
             format!(in alloc; "request {service},{subtype}{word}")
         }
-        Content::Report => String::from_str(alloc, "report"),
+        Content::Report(service, subtype) => report_words(alloc, service, subtype),
         Content::Noise(octets) => {
             let s = plural(octets);
             format!(in alloc; "noise: {octets} octet{s}")
@@ -97,10 +106,7 @@ pub(crate) fn delivered_words(
         Outcome::PlainReleased(octets) => {
             format!(in alloc; "released request: {octets} octets, job {first}.{second}")
         }
-        Outcome::ReportNoted(service, subtype) => {
-            let word = report_word(service, subtype);
-            format!(in alloc; "report {service},{subtype}{word}")
-        }
+        Outcome::ReportNoted(service, subtype) => { report_words(alloc, service, subtype) }
         Outcome::AbortNoted(name, reason) => {
             let (name, reason) = (name_word(source, name), reason_word(reason));
             format!(in alloc; "broken off: up {name}, {reason}")

@@ -1,14 +1,17 @@
 //! What is drawn of a run, and what is remembered for what follows.
 
-ghost use Rattle.std.specs.Prelude.{◌≡◌, [], ◌∷◌, ◌++◌, false, length, slice_get, option_to_list, OnOk};
+ghost use Rattle.std.specs.Prelude.{◌≡◌, [], ◌∷◌, ◌++◌, false, length, slice_get, option_to_list, IfOk, OnOk};
 ghost use Rattle.std.specs.Option.{option_map_or};
-ghost use Rattle.lpt_chart.specs.Events.{closed, from_side, kept_then, open_at, to_side};
-ghost use Rattle.lpt_chart.specs.Pictures.{at_side, blank, cleared, flown, hand_in, landed, lost, one_more, other_ground, passed, passing, put, reported, retold, rowed, run_of, said, said_on, same_ground, same_lane, taken, takes, task_next, ticked, tracked, with_job, with_taken, without_job};
+ghost use Rattle.lpt_events.specs.Sides.{receiver_side, sender_side};
+ghost use Rattle.lpt_events.specs.Lanes.{same_lane};
+ghost use Rattle.lpt_chart.specs.Events.{closed, kept_then, open_at};
+ghost use Rattle.lpt_chart.specs.Pictures.{at_side, blank, cleared, flown, hand_in, landed, lost, one_more, other_ground, passed, passing, put, retold, rowed, run_of, said, said_on, same_ground, taken, takes, task_next, ticked, tracked, with_job, without, without_job};
 
 use crate::hands::{in_hand, no_hands, with_hand};
 use crate::last_row::{other_ground, passed, run_in, same_ground, takes_last, told_again};
 use crate::marks::{
-    Bar, Content, Flight, Hands, Held, Loss, Row, Saying, Sent, Stage, Task, Thing, Track,
+    Bar, Content, Flight, Hands, Held, Kind, Loss, Opened, Row, Saying, Sent, Stage, Task, Thing,
+    Track,
 };
 use crate::pieces::{add_both, end_all, move_track};
 use lpt_events::{Lane, Outcome, Side};
@@ -24,6 +27,8 @@ pub struct Picture {
     pub(crate) next: u32,
     pub(crate) last: Option<Row>,
     pub(crate) rows: Vec<Row>,
+    pub(crate) kinds: Vec<Kind>,
+    pub(crate) opened: Vec<Opened>,
     pub(crate) sent: Vec<Sent>,
     pub(crate) hands: Hands,
     pub(crate) ground: Vec<Option<Track>>,
@@ -48,6 +53,8 @@ impl Model for Picture {
       next = p.next;
       last = p.last;
       rows = p.rows.items;
+      kinds = p.kinds.items;
+      opened = p.opened.items;
       sent = p.sent.items;
       hands = p.hands;
       ground = p.ground.items;
@@ -63,16 +70,21 @@ impl Model for Picture {
 }
 
 impl Picture {
-    /// Nothing was drawn.
-    pub fn new(alloc: Global) -> Self
-        ensures { result ≡ blank }
+    /// Nothing was drawn, and this is known of what follows: what each packet says that it is, and
+    /// the messages that are opened.
+    pub fn new(alloc: Global, kinds: &[Kind], opened: &[Opened]) -> Result<Self, AllocError>
+        ensures { IfOk result (λ p. p ≡ blank kinds.now opened.now) }
     {
-        Picture {
+        let kinds = Vec::from_slice(alloc, kinds)?;
+        let opened = Vec::from_slice(alloc, opened)?;
+        Ok(Picture {
             place: 0,
             here: 0,
             next: 0,
             last: None,
             rows: Vec::new(alloc),
+            kinds,
+            opened,
             sent: Vec::new(alloc),
             hands: no_hands(),
             ground: Vec::new(alloc),
@@ -84,7 +96,7 @@ impl Picture {
             flights: Vec::new(alloc),
             losses: Vec::new(alloc),
             bars: Vec::new(alloc),
-        }
+        })
     }
 
     // A row more at this height, with this ground.
@@ -163,7 +175,7 @@ impl Picture {
             at: self.here,
             content,
             task,
-            taken: false,
+            gone: false,
         })?;
         Ok(())
     }
@@ -202,7 +214,7 @@ impl Picture {
         ensures { self.new ≡ taken self.old lane number }
     {
         let sent = self.packet(number);
-        mark_taken(self.sent.as_mut_slice(), number);
+        mark_gone(self.sent.as_mut_slice(), number);
         let held = Held {
             number,
             sent,
@@ -241,6 +253,7 @@ impl Picture {
         ensures { OnOk result (self.new ≡ lost self.old number) }
     {
         let sent = self.packet(number);
+        mark_gone(self.sent.as_mut_slice(), number);
         self.losses.push(Loss {
             number,
             sent,
@@ -254,18 +267,6 @@ impl Picture {
         ensures { self.new ≡ record self.old { refused = one_more self.old.refused } }
     {
         self.refused = self.refused.saturating_add(1);
-    }
-
-    // So many packets of the spacecraft's own, each with a row.
-    pub(crate) fn report(&mut self, count: u64) -> Result<(), AllocError>
-        ensures { OnOk result (self.new ≡ reported count self.old) }
-    {
-        for _ in 0..count {
-            let number = self.sent.len() as u64;
-            self.say_on(Saying::Put(Direction::Down, number, Content::Report))?;
-            self.put(Direction::Down, Content::Report, None)?;
-        }
-        Ok(())
     }
 
     // A job is released that asks for this.
@@ -333,26 +334,6 @@ impl Picture {
     }
 }
 
-// The node that sends in a direction.
-pub(crate) fn from_side(direction: Direction) -> Side
-    ensures { result ≡ from_side direction }
-{
-    match direction {
-        Direction::Up => Side::Ground,
-        Direction::Down => Side::Craft,
-    }
-}
-
-// The node that receives.
-pub(crate) fn to_side(direction: Direction) -> Side
-    ensures { result ≡ to_side direction }
-{
-    match direction {
-        Direction::Up => Side::Craft,
-        Direction::Down => Side::Ground,
-    }
-}
-
 // Adds a row, where there is one.
 fn add_row(rows: &mut Vec<Row>, row: Option<Row>) -> Result<(), AllocError>
     ensures { OnOk result (rows.new.items ≡ rows.old.items ++ option_to_list row) }
@@ -363,14 +344,14 @@ fn add_row(rows: &mut Vec<Row>, row: Option<Row>) -> Result<(), AllocError>
     Ok(())
 }
 
-// Marks the packet of a number as taken, where there is one.
-fn mark_taken(sent: &mut [Sent], number: u64)
-    ensures { sent.new ≡ with_taken sent.old number (slice_get sent.old number) }
+// Marks the packet of a number as gone, where there is one.
+fn mark_gone(sent: &mut [Sent], number: u64)
+    ensures { sent.new ≡ without sent.old number (slice_get sent.old number) }
 {
     let number = number as usize;
     if let Some(packet) = sent.get(number).copied() {
         sent[number] = Sent {
-            taken: true,
+            gone: true,
             ..packet
         };
     }

@@ -1,10 +1,11 @@
 //! What is asked of a picture.
 
 ghost use Rattle.std.specs.Prelude.{◌≡◌};
-ghost use Rattle.lpt_chart.specs.Events.{kept_then, open_at, to_side};
+ghost use Rattle.lpt_events.specs.Sides.{receiver_side};
+ghost use Rattle.lpt_chart.specs.Events.{kept_then, open_at};
 
 use crate::marks::{Thing, Track};
-use crate::picture::{Picture, to_side};
+use crate::picture::Picture;
 use crate::tracks::{kept, stage_of};
 use lpt_events::Side;
 use lpt_packet::{Direction, Name};
@@ -25,7 +26,7 @@ impl Picture {
     pub(crate) fn kept_then(&self, direction: Direction, name: Name) -> u16
         ensures { result ≡ kept_then self.now direction name }
     {
-        let columns = self.columns(to_side(direction));
+        let columns = self.columns(Side::receiver(direction));
         kept(stage_of(columns, Thing::Reception(name))).saturating_add(1)
     }
 }

@@ -71,7 +71,7 @@ fn saying_words(alloc: Global, source: u16, saying: Saying) -> Result<String, Al
             let lane = lane_word(lane);
             format!(in alloc; "{lane} takes {number}")
         }
-        Saying::Passed(_, _) | Saying::Refused(_) => Ok(String::new(alloc)),
+        Saying::Passed(_, _) | Saying::Refused(_, _) => Ok(String::new(alloc)),
         Saying::Delivered(lane, outcome, first, second) => {
             delivered_words(alloc, source, lane.direction(), outcome, first, second)
         }
@@ -119,7 +119,7 @@ pub(crate) fn row_words(
     ensures { IfOk result (λ t. t.items ≡ row_words source refused.now saying) }
 {
     match saying {
-        Saying::Refused(index) => match refused.get(index as usize) {
+        Saying::Refused(_, index) => match refused.get(index as usize) {
             Some(refusal) => refusal_words(alloc, refusal),
             None => Ok(Vec::new(alloc)),
         },

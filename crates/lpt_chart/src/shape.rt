@@ -1,6 +1,5 @@
 //! The shapes that a picture is made of: what is drawn, where, and how it looks.
 
-use crate::legend::Key;
 use crate::marks::{Content, Saying, Stage, Thing};
 use crate::style::{Letters, Style};
 use lpt_events::{Lane, Side};
@@ -22,8 +21,8 @@ pub enum Sign {
 /// What a text says.
 #[derive(Clone, Copy)]
 pub enum Words {
-    /// The line of the title with this index, of three.
-    Title(u8),
+    /// The line of the title with this index, of three, in a picture with room for so many letters.
+    Title(u8, u64),
     /// How many events, packets, deliveries and losses there were.
     Counts(u64, u64, u64, u64),
     /// How many rows are left out, above and below.
@@ -41,7 +40,7 @@ pub enum Words {
     /// What a piece of a track is.
     Piece(Side, Thing, Stage),
     /// What a sample of the legend stands for.
-    Key(Key),
+    Key(Style),
 }
 
 /// A shape, by whole numbers of pixels.

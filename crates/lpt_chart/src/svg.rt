@@ -1,23 +1,24 @@
 //! A picture as one SVG: its shapes, each as an element.
 
-ghost use Rattle.std.specs.Prelude.{◌≡◌, ◌<◌, ◌++◌, length, take, IfOk, OnOk, [], string_bytes};
+ghost use Rattle.std.specs.Prelude.{◌≡◌, ◌<◌, ◌-◌, ◌++◌, length, take, IfOk, OnOk, [], string_bytes};
 ghost use Rattle.std.specs.List.{flat_map};
 ghost use Rattle.lpt_chart.specs.Charts.{chart_text, picture_text};
-ghost use Rattle.lpt_chart.specs.Shapes.{bead_text, box_text, escaped, escaped_octet, group_text, letters_head, line_text, opening_text, part_text, place_text, said_text, seen_text, shape_text, sign_steps, sign_text, size_text, text_of};
+ghost use Rattle.lpt_chart.specs.Shapes.{bead_text, box_text, desc_head, escaped, escaped_octet, group_text, letters_head, line_text, opening_text, part_text, place_text, said_text, seen_text, shape_text, sign_steps, sign_text, size_text, text_of, widest};
 
 use crate::choice::{Choice, frame_of};
 use crate::drawing::draw_journal;
 use crate::frame::{half, whole_high, y_of};
-use crate::layout::add_chart;
+use crate::layout::{add_chart, counts, keys_of};
+use crate::marks::{Kind, Opened};
 use crate::picture::Picture;
 use crate::refusal::Refusal;
-use crate::shape::{Shape, Sign};
+use crate::shape::{Shape, Sign, Words};
 use crate::style::{Letters, Style, letters_word, style_word};
 use crate::text::words_of;
 use lpt_events::Entry;
 use std::alloc::{AllocError, Global};
 
-/// The most characters of a text that are seen.
+/// The most characters of a text that are seen, but for a title.
 const WIDEST: usize = 60;
 
 // A line.
@@ -118,26 +119,36 @@ fn write_escaped(out: &mut String, text: &[u8]) -> Result<(), AllocError>
     Ok(())
 }
 
-// The front of a text that is too wide.
-fn front(text: &[u8]) -> &[u8]
-    requires { 60 < length text.now }
-    ensures { result.now ≡ take 58 text.now }
+// The most characters of these words that are seen.
+fn widest(words: Words) -> usize
+    ensures { result ≡ widest words }
 {
-    text.split_at(58).0
+    match words {
+        Words::Title(_, most) => most as usize,
+        _ => WIDEST,
+    }
+}
+
+// The front of a text that is too wide.
+fn front(text: &[u8], most: usize) -> &[u8]
+    requires { most < length text.now }
+    ensures { result.now ≡ take (most - 2) text.now }
+{
+    text.split_at(most.saturating_sub(2)).0
 }
 
 // Writes a text behind another, as it is seen: cut where it is too wide.
 #[tactic(auto, unfolding(crate::specs::Shapes::seen_text))]
-fn write_seen(out: &mut String, text: &[u8]) -> Result<(), AllocError>
-    ensures { OnOk result (string_bytes out.new ≡ string_bytes out.old ++ seen_text text.now) }
+fn write_seen(out: &mut String, most: usize, text: &[u8]) -> Result<(), AllocError>
+    ensures { OnOk result (string_bytes out.new ≡ string_bytes out.old ++ seen_text most text.now) }
 {
-    if text.len() <= WIDEST {
+    if text.len() <= most {
         return write_escaped(out, text);
     }
     out.push_str("<title>")?;
     write_escaped(out, text)?;
     out.push_str("</title>")?;
-    write_escaped(out, front(text))?;
+    write_escaped(out, front(text, most))?;
     out.push_str("..")
 }
 
@@ -158,12 +169,14 @@ fn write_said(
     x: u64,
     y: u64,
     letters: Letters,
+    most: usize,
     text: &[u8],
 ) -> Result<(), AllocError>
-    ensures { OnOk result (string_bytes out.new ≡ string_bytes out.old ++ said_text x y letters text.now) }
+    ensures { OnOk result
+        (string_bytes out.new ≡ string_bytes out.old ++ said_text x y letters most text.now) }
 {
     out.push_str(print_place(alloc, x, y, letters)?.as_str())?;
-    write_seen(out, text)?;
+    write_seen(out, most, text)?;
     out.push_str("</text>\n")
 }
 
@@ -195,7 +208,7 @@ fn write_bead(
     let left = x.saturating_sub(half);
     out.push_str(print_box(alloc, left, y - 7, 2 * half, 14, round, style)?.as_str())?;
     let number = format!(in alloc; "{number}")?;
-    write_said(alloc, out, x, y + 4, letters, number.as_bytes())
+    write_said(alloc, out, x, y + 4, letters, WIDEST, number.as_bytes())
 }
 
 // Writes a shape.
@@ -224,8 +237,9 @@ fn write_shape(
             write_bead(alloc, out, x, at, number, round, style, letters)
         }
         Shape::Text(x, y, letters, words) => {
+            let most = widest(words);
             let words = words_of(alloc, source, title, refused, words)?;
-            write_said(alloc, out, x, y, letters, words.as_slice())
+            write_said(alloc, out, x, y, letters, most, words.as_slice())
         }
         Shape::Group(words) => {
             let words = words_of(alloc, source, title, refused, words)?;
@@ -261,20 +275,35 @@ fn write_shapes(
 fn letters_head() -> &'static str
     ensures { result.now ≡ letters_head }
 {
-    " font-family='DejaVu Sans Mono, Menlo, Consolas, monospace' font-size='12' fill='#1a1a1a'>\n<title>"
+    " role='img' font-family='DejaVu Sans Mono, Menlo, Consolas, monospace' font-size='12' fill='#1a1a1a'>\n<title>"
 }
 
-// The first element, and the title.
+// How a picture is read, in front of how much has happened.
+fn desc_head() -> &'static str
+    ensures { result.now ≡ desc_head }
+{
+    "</title>\n<desc>Time goes down: ground at the left, the spacecraft at the right, packets between. "
+}
+
+// The first element, the title, and what the picture shows.
 #[tactic(auto, unfolding(crate::specs::Shapes::opening_text))]
-fn print_opening(alloc: Global, wide: u64, high: u64, title: &[u8]) -> Result<String, AllocError>
-    ensures { IfOk result (λ t. string_bytes t ≡ opening_text wide high title.now) }
+fn print_opening(
+    alloc: Global,
+    wide: u64,
+    high: u64,
+    title: &[u8],
+    counts: &[u8],
+) -> Result<String, AllocError>
+    ensures { IfOk result (λ t. string_bytes t ≡ opening_text wide high title.now counts.now) }
 {
     let letters = letters_head();
     let mut out = format!(in alloc;
         "<svg xmlns='http://www.w3.org/2000/svg' width='{wide}' height='{high}'{letters}"
     )?;
     write_escaped(&mut out, title)?;
-    out.push_str("</title>\n")?;
+    out.push_str(desc_head())?;
+    write_escaped(&mut out, counts)?;
+    out.push_str("</desc>\n")?;
     Ok(out)
 }
 
@@ -292,9 +321,20 @@ fn print_picture(
     ensures { IfOk result (λ t. string_bytes t ≡ picture_text source events choice title.now refused.now picture.now) }
 {
     let frame = frame_of(alloc, source, choice, title, refused, picture)?;
+    let keys = keys_of(alloc, frame, picture)?;
     let mut shapes = Vec::new(alloc);
-    add_chart(&mut shapes, frame, events, choice, title, picture)?;
-    let mut out = print_opening(alloc, u64::from(frame.wide), whole_high(frame), title)?;
+    add_chart(
+        &mut shapes,
+        frame,
+        keys.as_slice(),
+        events,
+        choice,
+        title,
+        picture,
+    )?;
+    let (wide, high) = (u64::from(frame.wide), whole_high(frame, keys.len()));
+    let counts = words_of(alloc, source, title, refused, counts(events, picture))?;
+    let mut out = print_opening(alloc, wide, high, title, counts.as_slice())?;
     write_shapes(alloc, &mut out, source, title, refused, shapes.as_slice())?;
     out.push_str("</svg>\n")?;
     Ok(out)
@@ -303,19 +343,24 @@ fn print_picture(
 /// The picture of a journal, as one SVG: rows, packets on their ways, what is open at the nodes. The
 /// lines that were refused have rows of their own; they are given in the order of their places.
 ///
-/// A name of `source`, the configured one, is written without it. The picture is a function of the
-/// source, the choice, the title, the journal and these lines. The only error is out of memory.
+/// A name of `source`, the configured one, is written without it. What a report is comes from
+/// `kinds`, where each packet stands at the place of its number, and of how many parts a message is
+/// that the spacecraft opens of its own from `opened`. The picture is a function of all these. The
+/// only error is out of memory.
 pub fn chart(
     alloc: Global,
     source: u16,
     choice: Choice,
     title: &[u8],
+    kinds: &[Kind],
+    opened: &[Opened],
     journal: &[Entry],
     refused: &[Refusal],
 ) -> Result<String, AllocError>
-    ensures { IfOk result (λ t. string_bytes t ≡ chart_text source choice title.now journal.now refused.now) }
+    ensures { IfOk result (λ t. string_bytes t
+        ≡ chart_text source choice title.now kinds.now opened.now journal.now refused.now) }
 {
-    let picture = draw_journal(alloc, journal, refused)?;
+    let picture = draw_journal(alloc, kinds, opened, journal, refused)?;
     let events = journal.len() as u64;
     print_picture(alloc, source, events, choice, title, refused, &picture)
 }

@@ -1,9 +1,9 @@
 //! What a request asks of a memory, by the places of its fields.
 
 ghost use Rattle.std.specs.Prelude.{◌≡◌, ◌<◌};
-ghost use Rattle.lpt_chart.specs.Tasks.{asked_from, asked_in, octet_at, pair_at};
+ghost use Rattle.lpt_chart.specs.Tasks.{asked_from, asked_in, kind_in, octet_at, pair_at};
 
-use crate::marks::Task;
+use crate::marks::{Kind, Task};
 use lpt_packet::Direction;
 
 // The octet at a place, 0 where there is none.
@@ -13,6 +13,18 @@ fn octet_at(octets: &[u8], at: u16) -> u8
     match octets.get(usize::from(at)) {
         Some(octet) => *octet,
         None => 0,
+    }
+}
+
+impl Kind {
+    /// What a packet says that it is; 0 where it is too short for that.
+    pub fn of(packet: &[u8]) -> Kind
+        ensures { result ≡ kind_in packet.now }
+    {
+        Kind {
+            service: octet_at(packet, 7),
+            subtype: octet_at(packet, 8),
+        }
     }
 }
 

@@ -5,7 +5,6 @@ ghost use Rattle.lpt_chart.specs.Sayings.{saying_side};
 ghost use Rattle.lpt_chart.specs.Tellings.{has_line, has_place, has_words, outcome_weight, weight_of};
 
 use crate::marks::{Content, Saying};
-use crate::picture::{from_side, to_side};
 use crate::style::Weight;
 use lpt_events::{Outcome, Side};
 
@@ -19,17 +18,16 @@ pub(crate) fn saying_side(saying: Saying) -> Side
         | Saying::Put(direction, _, _)
         | Saying::Finished(direction, _)
         | Saying::Lost(direction, _)
-        | Saying::Retired(direction, _) => from_side(direction),
+        | Saying::Retired(direction, _) => Side::sender(direction),
         Saying::Taken(lane, _) | Saying::Passed(lane, _) | Saying::Delivered(lane, _, _, _) => {
-            to_side(lane.direction())
+            Side::receiver(lane.direction())
         }
-        Saying::Expired(direction, _, _, _) => to_side(direction),
-        Saying::Ticked(side, _, _) | Saying::Restarted(side, _) => side,
+        Saying::Expired(direction, _, _, _) => Side::receiver(direction),
+        Saying::Ticked(side, _, _) | Saying::Restarted(side, _) | Saying::Refused(side, _) => side,
         Saying::Claimed(_, _, _)
         | Saying::Committed(_, _, _)
         | Saying::Stale(_, _, _)
-        | Saying::Applied(_, _, _, _)
-        | Saying::Refused(_) => Side::Craft,
+        | Saying::Applied(_, _, _, _) => Side::Craft,
     }
 }
 
@@ -62,7 +60,7 @@ pub(crate) fn weight(saying: Saying) -> Weight
         | Saying::Taken(_, _)
         | Saying::Passed(_, _)
         | Saying::Ticked(_, _, _)
-        | Saying::Refused(_) => Weight::Quiet,
+        | Saying::Refused(_, _) => Weight::Quiet,
         Saying::Opened(_, _, _, _)
         | Saying::Finished(_, _)
         | Saying::Lost(_, _)
@@ -83,12 +81,12 @@ pub(crate) fn has_words(saying: Saying) -> bool
     }
 }
 
-// Whether a row has a line to its words. A refused line is of no node.
+// Whether a row has a line to its words. A refused line changed no node.
 pub(crate) fn has_line(saying: Saying) -> bool
     ensures { result ≡ has_line saying }
 {
     match saying {
-        Saying::Passed(_, _) | Saying::Refused(_) => false,
+        Saying::Passed(_, _) | Saying::Refused(_, _) => false,
         _ => true,
     }
 }
@@ -99,7 +97,7 @@ pub(crate) fn has_place(saying: Saying) -> bool
     ensures { result ≡ has_place saying }
 {
     match saying {
-        Saying::Put(_, _, Content::Report) | Saying::Refused(_) => false,
+        Saying::Put(_, _, Content::Report(_, _)) | Saying::Refused(_, _) => false,
         _ => true,
     }
 }

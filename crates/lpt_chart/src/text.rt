@@ -3,7 +3,7 @@
 ghost use Rattle.std.specs.Prelude.{◌≡◌, IfOk, OnOk, string_bytes};
 ghost use Rattle.lpt_chart.specs.Texts.{counts_words, hidden_words, packet_words, piece_words, thing_words, words_text};
 
-use crate::bar::{receives, sends};
+use crate::bar::sends;
 use crate::legend::key_words;
 use crate::marks::{Content, Stage, Thing};
 use crate::packet_words::content_words;
@@ -31,12 +31,18 @@ fn counts_words(
     format!(in alloc; "{events} event{s}, {packets} packet{t}, {flights} delivered, {losses} lost")
 }
 
-// That rows are left out.
+// That rows are left out, above, below, or both.
 #[tactic(auto, unfolding(crate::specs::Texts::hidden_words))]
 fn hidden_words(alloc: Global, above: u64, below: u64) -> Result<String, AllocError>
     ensures { IfOk result (λ t. string_bytes t ≡ hidden_words above below) }
 {
-    format!(in alloc; "rows left out: {above} above, {below} below; --from and --to choose")
+    if above == 0 {
+        format!(in alloc; "rows left out: {below} below; --from and --to choose")
+    } else if below == 0 {
+        format!(in alloc; "rows left out: {above} above; --from and --to choose")
+    } else {
+        format!(in alloc; "rows left out: {above} above, {below} below; --from and --to choose")
+    }
 }
 
 // What a packet is.
@@ -79,7 +85,7 @@ fn piece_words(alloc: Global, side: Side, name: &str, stage: Stage) -> Result<St
             format!(in alloc; "sender of {way} {name}")
         }
         Stage::Kept(kept, _) => {
-            let way = direction_word(receives(side));
+            let way = direction_word(side.receives());
             format!(in alloc; "reception of {way} {name}: kept {kept}")
         }
         Stage::Waits => format!(in alloc; "job {name} waits"),
@@ -100,7 +106,7 @@ pub(crate) fn words_of(
     ensures { IfOk result (λ t. t.items ≡ words_text source title.now refused.now words) }
 {
     match words {
-        Words::Title(line) => Vec::from_slice(alloc, title_line(title, line)),
+        Words::Title(line, most) => Vec::from_slice(alloc, title_line(title, line, most as usize)),
         Words::Row(saying) => row_words(alloc, source, refused, saying),
         Words::Counts(events, packets, flights, losses) => {
             Ok(counts_words(alloc, events, packets, flights, losses)?.into_bytes())
@@ -108,7 +114,7 @@ pub(crate) fn words_of(
         Words::Hidden(above, below) => Ok(hidden_words(alloc, above, below)?.into_bytes()),
         Words::Node(side) => Vec::from_slice(alloc, node_word(side).as_bytes()),
         Words::Lane(lane) => Vec::from_slice(alloc, lane_word(lane).as_bytes()),
-        Words::Key(key) => Vec::from_slice(alloc, key_words(key).as_bytes()),
+        Words::Key(style) => Vec::from_slice(alloc, key_words(style).as_bytes()),
         Words::Number(number) => Ok(format!(in alloc; "{number}")?.into_bytes()),
         Words::Packet(number, direction, content) => {
             Ok(packet_words(alloc, source, number, direction, content)?.into_bytes())

@@ -1,34 +1,42 @@
 //! The lines of a title.
 
 ghost use Rattle.std.specs.Prelude.{◌≡◌, ◌≤◌, ◌==◌, length, position};
-ghost use Rattle.lpt_chart.specs.Choices.{behind_space, line_end, title_front, title_line, title_rest, title_room};
+ghost use Rattle.lpt_chart.specs.Choices.{behind_space, line_end, title_front, title_line, title_rest, title_room, title_wide};
 
-// The first space behind the 46th letter, counted from there.
+// The first space, where there is one.
 fn space_behind(tail: &[u8]) -> Option<usize>
     ensures { result ≡ position (λ b. b == 32) tail.now }
 {
     tail.iter().position(|octet| *octet == 32)
 }
 
-// Where a line ends: at a space between the 46th and the 60th letter, or there.
-fn line_end(text: &[u8]) -> usize
-    ensures value { result ≡ line_end text.now }
+/// How many letters a line of a title has in a picture of this width.
+pub(crate) fn title_wide(wide: u32) -> usize
+    ensures { result ≡ title_wide wide }
+{
+    (u64::from(wide.saturating_sub(48)) * 2 / 21) as usize
+}
+
+// Where a line ends: at a space among its last 14 letters, or where there is no more room.
+fn line_end(text: &[u8], most: usize) -> usize
+    ensures value { result ≡ line_end text.now most }
     ensures within { result ≤ length text.now }
 {
-    if text.len() <= 60 {
+    if text.len() <= most {
         return text.len();
     }
-    match space_behind(text.split_at(46).1) {
-        Some(at) => at.min(14) + 46,
-        None => 60,
+    let last = most.saturating_sub(14);
+    match space_behind(text.split_at(last).1) {
+        Some(at) => at.min(14) + last,
+        None => most,
     }
 }
 
 // The first line of a text.
-fn title_front(text: &[u8]) -> &[u8]
-    ensures { result.now ≡ title_front text.now }
+fn title_front(text: &[u8], most: usize) -> &[u8]
+    ensures { result.now ≡ title_front text.now most }
 {
-    text.split_at(line_end(text)).0
+    text.split_at(line_end(text, most)).0
 }
 
 // A text without the space at its front, where there is one.
@@ -42,33 +50,33 @@ fn behind_space(text: &[u8]) -> &[u8]
 }
 
 // What follows the first line, and the space that parts them.
-fn title_rest(text: &[u8]) -> &[u8]
-    ensures { result.now ≡ title_rest text.now }
+fn title_rest(text: &[u8], most: usize) -> &[u8]
+    ensures { result.now ≡ title_rest text.now most }
 {
-    behind_space(text.split_at(line_end(text)).1)
+    behind_space(text.split_at(line_end(text, most)).1)
 }
 
 /// The line of a title with this index: two lines, and what follows them.
-pub(crate) fn title_line(text: &[u8], line: u8) -> &[u8]
-    ensures { result.now ≡ title_line text.now line }
+pub(crate) fn title_line(text: &[u8], line: u8, most: usize) -> &[u8]
+    ensures { result.now ≡ title_line text.now line most }
 {
     if line == 0 {
-        title_front(text)
+        title_front(text, most)
     } else if line == 1 {
-        title_front(title_rest(text))
+        title_front(title_rest(text, most), most)
     } else {
-        title_rest(title_rest(text))
+        title_rest(title_rest(text, most), most)
     }
 }
 
 /// The room for the lines behind the first.
-pub(crate) fn title_room(text: &[u8]) -> u32
-    ensures value { result ≡ title_room text.now }
+pub(crate) fn title_room(text: &[u8], most: usize) -> u32
+    ensures value { result ≡ title_room text.now most }
     ensures small { result ≤ 48 }
 {
-    if text.len() <= 60 {
+    if text.len() <= most {
         0
-    } else if title_rest(text).len() <= 60 {
+    } else if title_rest(text, most).len() <= most {
         24
     } else {
         48

@@ -126,6 +126,8 @@ pub(crate) fn report_word(service: u8, subtype: u8) -> &'static str
 {
     if service == 1 {
         course_word(subtype)
+    } else if service == 13 && subtype == 16 {
+        " broken off"
     } else if service != 6 {
         ""
     } else if subtype == 6 {

@@ -1,2 +1,3 @@
 pub mod FrontLemmas
+pub mod KnownLemmas
 pub mod SameLemmas

@@ -3,12 +3,14 @@ use Rattle.std.proofs.Common.{◌≡◌, ◌∙◌, ℕ, ◌+◌, ◌++◌, List
 use Rattle.std.specs.Int.{from_bool}
 use Rattle.lpt_chart.specs.declared.refusal.Refusal.{Refusal}
 use Rattle.lpt_chart_script.specs.Drawings.{IsScriptRun, lines_run, refusals_at, run_on}
+use Rattle.lpt_chart_script.specs.Sides.{side_in}
 use Rattle.lpt_script_words.specs.declared.grammar.Reading.{Reading}
 use Rattle.lpt_script_words.specs.declared.grammar.Reading.TheVariants.{Skipped, Asks, Unreadable}
 use Rattle.lpt_script_words.specs.declared.showing.Show.{Show}
 use Rattle.lpt_script_words.specs.Grammar.{reading_of}
 use Rattle.lpt_text.specs.Texts.{lines}
 use Rattle.lpt_events.specs.declared.fault.StepFault.{StepFault}
+use Rattle.lpt_events.specs.declared.side.Side.{Side}
 use Rattle.lpt_world.specs.Worlds.{Shown}
 use Rattle.lpt_script.specs.Scripts.{Ran, line_ran, lines_left, lines_ran, says_now, shows_left, then_rest}
 
@@ -19,10 +21,12 @@ says_all (Asks c) = refl
 says_all Unreadable = refl
 
 -- a line that is refused is one more
-one_refused : (f : Option StepFault) (refused : List Refusal) (place n : ℕ) (line : List ℕ)
-    → length (refused ++ refusals_at place n line f) ≡ length refused + from_bool (is_some f)
-one_refused None refused place n line = length-append refused []
-one_refused (Some f) refused place n line = length-append refused (refusals_at place n line (Some f))
+one_refused : (f : Option StepFault) (refused : List Refusal) (place n : ℕ) (side : Side)
+    (line : List ℕ)
+    → length (refused ++ refusals_at place n side line f) ≡ length refused + from_bool (is_some f)
+one_refused None refused place n side line = length-append refused []
+one_refused (Some f) refused place n side line =
+    length-append refused (refusals_at place n side line (Some f))
 
 -- the same unreadable line ends both
 pub same_bad : (ls : List (List ℕ)) (w : Shown) (n k : ℕ) (refused : List Refusal)
@@ -38,11 +42,13 @@ same_bad (line ∷ more) w n k refused =
         → (lines_ran false more v (n + 1) j).bad ≡ (lines_run more v (n + 1) before).bad)
         → (then_rest ran n k (lines_ran false more) x).bad
         ≡ (run_on ran refused
-        (lines_run more ran.world (n + 1) (refused ++ refusals_at (length ran.world.journal) n line ran.refused)) x).bad
+        (lines_run more ran.world (n + 1) (refused ++ refusals_at (length ran.world.journal) n
+        (side_in (reading_of w.config.source line)) line ran.refused)) x).bad
     by_bad ran (Some j) rest = refl
     by_bad ran None rest =
         rest ran.world (k + from_bool (is_some ran.refused))
-        (refused ++ refusals_at (length ran.world.journal) n line ran.refused)
+        (refused ++ refusals_at (length ran.world.journal) n
+        (side_in (reading_of w.config.source line)) line ran.refused)
 
 -- as many lines are refused
 pub same_refused : (ls : List (List ℕ)) (w : Shown) (n k : ℕ) (refused : List Refusal)
@@ -60,13 +66,16 @@ same_refused (line ∷ more) w n k refused is =
         → (lines_ran false more v (n + 1) j).refused ≡ length (lines_run more v (n + 1) before).refused)
         → (then_rest ran n k (lines_ran false more) x).refused
         ≡ length (run_on ran refused
-        (lines_run more ran.world (n + 1) (refused ++ refusals_at (length ran.world.journal) n line ran.refused)) x).refused
+        (lines_run more ran.world (n + 1) (refused ++ refusals_at (length ran.world.journal) n
+        (side_in (reading_of w.config.source line)) line ran.refused)) x).refused
     by_bad ran (Some j) rest = is
     by_bad ran None rest =
         rest ran.world (k + from_bool (is_some ran.refused))
-        (refused ++ refusals_at (length ran.world.journal) n line ran.refused)
+        (refused ++ refusals_at (length ran.world.journal) n
+        (side_in (reading_of w.config.source line)) line ran.refused)
         (ap (λ m. m + from_bool (is_some ran.refused)) is
-        ∙ sym (one_refused ran.refused refused (length ran.world.journal) n line))
+        ∙ sym (one_refused ran.refused refused (length ran.world.journal) n
+        (side_in (reading_of w.config.source line)) line))
 
 -- and where no line is unreadable, the same world is left
 pub same_world : (ls : List (List ℕ)) (w : Shown) (n : ℕ) (refused : List Refusal) (kept : List Show)
@@ -84,13 +93,16 @@ same_world (line ∷ more) w n refused kept good =
         → (lines_run more v (n + 1) before).bad ≡ None
         → (lines_left false more v (n + 1) left).world ≡ (lines_run more v (n + 1) before).world)
         → (run_on ran refused
-        (lines_run more ran.world (n + 1) (refused ++ refusals_at (length ran.world.journal) n line ran.refused)) x).bad ≡ None
+        (lines_run more ran.world (n + 1) (refused ++ refusals_at (length ran.world.journal) n
+        (side_in (reading_of w.config.source line)) line ran.refused)) x).bad ≡ None
         → (lines_left false more ran.world (n + 1) (kept ++ shows_left false (reading_of w.config.source line))).world
         ≡ (run_on ran refused
-        (lines_run more ran.world (n + 1) (refused ++ refusals_at (length ran.world.journal) n line ran.refused)) x).world
+        (lines_run more ran.world (n + 1) (refused ++ refusals_at (length ran.world.journal) n
+        (side_in (reading_of w.config.source line)) line ran.refused)) x).world
     by_bad ran (Some j) rest bad = absurd cc
     by_bad ran None rest good =
-        rest ran.world (refused ++ refusals_at (length ran.world.journal) n line ran.refused)
+        rest ran.world (refused ++ refusals_at (length ran.world.journal) n
+        (side_in (reading_of w.config.source line)) line ran.refused)
         (kept ++ shows_left false (reading_of w.config.source line)) good
 
 -- of a whole script

@@ -1,8 +1,14 @@
 -- What the run of a script leaves to be drawn, and its picture.
-use Rattle.std.specs.Prelude.{◌≡◌, ℕ, ◌+◌, Bool, true, false, List, [], ◌∷◌, ◌++◌, length, take, Option, Some, None, Result, Ok, Err, string_bytes}
+use Rattle.std.specs.Prelude.{◌≡◌, ℕ, ◌+◌, Bool, true, false, List, [], ◌∷◌, ◌++◌, length, map, min, take, Option, Some, None, Result, Ok, Err, string_bytes}
 use Rattle.lpt_chart.specs.declared.choice.Choice.{Choice}
 use Rattle.lpt_chart.specs.declared.refusal.Refusal.{Refusal}
+use Rattle.lpt_chart.specs.declared.marks.Kind.{Kind}
+use Rattle.lpt_chart.specs.declared.marks.Opened.{Opened}
 use Rattle.lpt_chart.specs.Charts.{chart_text}
+use Rattle.lpt_chart.specs.Tasks.{kind_in}
+use Rattle.lpt_part.specs.Splitting.{part_count}
+use Rattle.lpt_journal.specs.Link.{sent}
+use Rattle.lpt_journal.specs.Senders.{opened}
 use Rattle.lpt_text.specs.Reading.{ReadTo}
 use Rattle.lpt_text.specs.declared.fault.StreamFault.TheVariants as faults
 use Rattle.lpt_script.specs.declared.fault.ScriptFault.{ScriptFault}
@@ -11,12 +17,15 @@ use Rattle.lpt_text.specs.declared.reading.End.{End}
 use Rattle.lpt_text.specs.declared.reading.End.TheVariants.{Whole, Failed, TooLong}
 use Rattle.lpt_script_words.specs.Grammar.{reading_of}
 use Rattle.lpt_text.specs.Texts.{lines}
+use Rattle.lpt_events.specs.declared.entry.Opening.{Opening}
 use Rattle.lpt_events.specs.declared.fault.StepFault.{StepFault}
-use Rattle.lpt_world.specs.Worlds.{Shown}
+use Rattle.lpt_events.specs.declared.side.Side.{Side}
+use Rattle.lpt_world.specs.Worlds.{Shown, history}
 use Rattle.lpt_script.specs.Scripts.{Ran, line_ran, script_left, script_ran}
 use Rattle.lpt_script.specs.declared.end.ScriptEnd.{ScriptEnd}
 use Rattle.lpt_chart_script.specs.declared.drawing.Drawing.{Drawing}
 use Rattle.lpt_chart_script.specs.Fronts.{front_of}
+use Rattle.lpt_chart_script.specs.Sides.{side_in}
 use Rattle.lpt_chart_script.specs.Titles.{title_of}
 
 -- what a run leaves to be drawn: the world, the lines that were refused, and the number of an unreadable
@@ -30,12 +39,13 @@ pub record Run : Type 0 where
 abbrev pub left_by : Shown → List Refusal → Option ℕ → Run
 left_by w refused bad = record { world = w; refused = refused; bad = bad }
 
--- a line of this number that was refused for this reason, after so many entries; 200 octets of it are
--- told at most
-abbrev pub refusals_at : (place n : ℕ) → List ℕ → Option StepFault → List Refusal
-refusals_at place n line None = []
-refusals_at place n line (Some fault) =
-    record { place = place; line = n; fault = fault; words = take 200 line } ∷ []
+-- a line of this number that was refused for this reason, after so many entries, and is told at
+-- this
+-- side; 200 octets of it are told at most
+abbrev pub refusals_at : (place n : ℕ) → Side → List ℕ → Option StepFault → List Refusal
+refusals_at place n side line None = []
+refusals_at place n side line (Some fault) =
+    record { place = place; side = side; line = n; fault = fault; words = take 200 line } ∷ []
 
 -- what a line and the rest leave: the rest isn't run where the line is unreadable
 abbrev pub run_on : Ran → List Refusal → Run → (bad : Option ℕ) → Run
@@ -46,16 +56,20 @@ run_on ran refused rest None = rest
 abbrev pub lines_run : List (List ℕ) → Shown → ℕ → List Refusal → Run
 lines_run [] w n refused = left_by w refused None
 lines_run (line ∷ more) w n refused =
-    let ran = line_ran (reading_of w.config.source line) n w in
+    let says = reading_of w.config.source line in
+    let ran = line_ran says n w in
     run_on ran refused
-    (lines_run more ran.world (n + 1) (refused ++ refusals_at (length ran.world.journal) n line ran.refused)) ran.bad
+    (lines_run more ran.world (n + 1)
+    (refused ++ refusals_at (length ran.world.journal) n (side_in says) line ran.refused)) ran.bad
 
 -- a line of this number was run: it could be read, and left this world and these refused lines, or not
-abbrev pub LineLeaves : Ran → ℕ → List ℕ → (good : Bool) → Shown → (before after : List Refusal) → Type 0
-LineLeaves ran n line true w before after =
+abbrev pub LineLeaves : Ran → ℕ → Side → List ℕ → (good : Bool) → Shown
+    → (before after : List Refusal) → Type 0
+LineLeaves ran n side line true w before after =
     (ran.bad ≡ None) × (w ≡ ran.world)
-    × (after ≡ before ++ refusals_at (length ran.world.journal) n line ran.refused)
-LineLeaves ran n line false w before after = (ran.bad ≡ Some n) × (w ≡ ran.world) × (after ≡ before)
+    × (after ≡ before ++ refusals_at (length ran.world.journal) n side line ran.refused)
+LineLeaves ran n side line false w before after = (ran.bad ≡ Some n) × (w ≡ ran.world)
+    × (after ≡ before)
 
 -- what a script leaves of a world
 abbrev pub text_run : Shown → List ℕ → Run
@@ -73,10 +87,23 @@ abbrev pub drawn_refusals : (all : Bool) → List Refusal → List Refusal
 drawn_refusals true refused = refused
 drawn_refusals false refused = []
 
+-- what each packet of a world says that it is
+abbrev pub kinds_of : Shown → List Kind
+kinds_of w = map (λ p. kind_in p.octets) (sent (history w))
+
+-- the messages that were opened, with the number of their parts, as far as 16 bits hold it
+abbrev pub opening_told : (p : ℕ) → Opening → Opened
+opening_told p o = record { place = o.place; parts = min (part_count (length o.message) p) 65535 }
+
+abbrev pub openings_of : Shown → List Opened
+openings_of w = map (opening_told w.config.part_size) (opened (history w))
+
 -- the picture of what a script left
 abbrev pub run_text : Choice → (all : Bool) → (title : List ℕ) → Run → List ℕ
 run_text c all title run =
-    chart_text run.world.config.source c title run.world.journal (drawn_refusals all run.refused)
+    chart_text run.world.config.source c title (kinds_of run.world)
+    (openings_of run.world) run.world.journal
+    (drawn_refusals all run.refused)
 
 -- how a script's run ended whose text was read to this end
 abbrev pub ended : End → ℕ → Result ScriptEnd ScriptFault

@@ -1,3 +1,4 @@
 pub mod Drawings
 pub mod Fronts
+pub mod Sides
 pub mod Titles

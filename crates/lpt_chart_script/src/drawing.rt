@@ -2,16 +2,17 @@
 
 ghost use Rattle.std.specs.Prelude.{◌≡◌, ◌≢◌, ◌↔◌, [], Err, IfOk, IsErrOf, IsSome, string_bytes};
 ghost use Rattle.lpt_chart.specs.Charts.{chart_text};
-ghost use Rattle.lpt_chart_script.specs.Drawings.{Draws, IsDrawing, IsDrawn, drawn_refusals, run_end};
+ghost use Rattle.lpt_chart_script.specs.Drawings.{Draws, IsDrawing, IsDrawn, drawn_refusals, kinds_of, openings_of, run_end};
 ghost use Rattle.lpt_chart_script.specs.Titles.{title_of};
 ghost use Rattle.lpt_events.specs.Configs.{config_fault};
 ghost use Rattle.lpt_world.specs.Worlds.{new_world};
 
 use crate::front::front_of;
+use crate::known::{kinds_of, openings_of};
 use crate::running::run_text;
 use crate::title::title_of;
 use lpt_chart::{Choice, Refusal, chart};
-use lpt_events::{Config, ConfigFault, Entry};
+use lpt_events::{Config, ConfigFault};
 use lpt_memory::Memories;
 use lpt_script::{ScriptEnd, ScriptFault};
 use lpt_text::{End, Source, StreamFault, read_text};
@@ -119,15 +120,7 @@ fn draw_front(
     let bad = run_text(alloc, world, refused, front)?;
     let ran = run_end(end, refused.len() as u64, bad);
     let events = world.journal().len() as u64;
-    let picture = print_run(
-        alloc,
-        world.config().source,
-        world.journal(),
-        choice,
-        all,
-        front,
-        refused.as_slice(),
-    )?;
+    let picture = print_run(alloc, world, choice, all, front, refused.as_slice())?;
     Ok(Drawing {
         picture,
         ran,
@@ -147,27 +140,30 @@ fn run_end(end: End, refused: u64, bad: Option<u64>) -> Result<ScriptEnd, Script
     }
 }
 
-// The picture of a journal that a text left where this source is configured, with the lines that were
-// refused.
+// The picture of a world that a text left, with the lines that were refused.
 fn print_run(
     alloc: Global,
-    source: u16,
-    journal: &[Entry],
+    world: &World,
     choice: Choice,
     all: bool,
     text: &[u8],
     refused: &[Refusal],
 ) -> Result<String, AllocError>
     ensures { IfOk result (λ t. string_bytes t
-        ≡ chart_text source choice (title_of text.now) journal.now (drawn_refusals all refused.now)) }
+        ≡ chart_text world.now.config.source choice (title_of text.now) (kinds_of world.now)
+        (openings_of world.now)
+        world.now.journal (drawn_refusals all refused.now)) }
 {
     let title = title_of(alloc, text)?;
+    let (kinds, opened) = (kinds_of(alloc, world)?, openings_of(alloc, world)?);
     chart(
         alloc,
-        source,
+        world.config().source,
         choice,
         title.as_slice(),
-        journal,
+        kinds.as_slice(),
+        opened.as_slice(),
+        world.journal(),
         drawn_refusals(all, refused),
     )
 }

@@ -6,9 +6,11 @@
 
 mod drawing;
 mod front;
+mod known;
 pub mod laws;
 mod quiet;
 mod running;
+mod sides;
 mod title;
 
 pub use drawing::{Drawing, draw_script};

@@ -2,14 +2,16 @@
 
 ghost use Rattle.std.specs.Prelude.{◌≡◌, ◌++◌, take, IfOk, OnOk, None};
 ghost use Rattle.lpt_chart_script.specs.Drawings.{LineLeaves, left_by, lines_run, refusals_at};
+ghost use Rattle.lpt_chart_script.specs.Sides.{side_in};
 ghost use Rattle.lpt_script_words.specs.Grammar.{reading_of};
 ghost use Rattle.lpt_text.specs.Texts.{lines};
 ghost use Rattle.lpt_script.specs.Scripts.{command_ran, line_ran};
 
 use crate::front::up_to;
 use crate::quiet::Nowhere;
+use crate::sides::side_of;
 use lpt_chart::Refusal;
-use lpt_events::StepFault;
+use lpt_events::{Side, StepFault};
 use lpt_packet::Octets;
 use lpt_script::run_command;
 use lpt_script_words::{Command, Reading, read_line};
@@ -55,16 +57,19 @@ fn run_line(
     line: &[u8],
     number: u64,
 ) -> Result<bool, AllocError>
-    ensures { IfOk result (λ good. LineLeaves (line_ran (reading_of world.old.config.source line.now) number world.old) number line.now
+    ensures { let says = reading_of world.old.config.source line.now in
+        IfOk result
+        (λ good. LineLeaves (line_ran says number world.old) number (side_in says) line.now
         good world.new refused.old.items refused.new.items) }
 {
     match read_line(alloc, world.config().source, line)? {
         Reading::Skipped => Ok(true),
         Reading::Unreadable => Ok(false),
         Reading::Asks(command) => {
+            let side = side_of(&command);
             let fault = run_quietly(alloc, world, command)?;
             let place = world.journal().len() as u64;
-            note(alloc, refused, place, number, line, fault)?;
+            note(alloc, refused, place, side, number, line, fault)?;
             Ok(true)
         }
     }
@@ -91,17 +96,20 @@ fn note(
     alloc: Global,
     refused: &mut Vec<Refusal>,
     place: u64,
+    side: Side,
     number: u64,
     line: &[u8],
     fault: Option<StepFault>,
 ) -> Result<(), AllocError>
-    ensures { OnOk result (refused.new.items ≡ refused.old.items ++ refusals_at place number line.now fault) }
+    ensures { OnOk result
+        (refused.new.items ≡ refused.old.items ++ refusals_at place number side line.now fault) }
 {
     let Some(fault) = fault else {
         return Ok(());
     };
     refused.push(Refusal {
         place,
+        side,
         line: number,
         fault,
         words: Octets::from_vec(front(alloc, line)?),

@@ -3,4 +3,5 @@ use Rattle.lpt_chart.specs.Events.{refusal_at}
 use Rattle.lpt_chart.proofs.picture.Picture.refuse.Given as goal
 
 abbrev pub invariant-loop-refusal : goal.invariant-loop-refusal
-invariant-loop-refusal l = l.self ≡ fold (λ q r. refusal_at q r.place) l.fn.self (take l.refusal-index l.fn.refused)
+invariant-loop-refusal l =
+    l.self ≡ fold (λ q r. refusal_at q r.place r.side) l.fn.self (take l.refusal-index l.fn.refused)
