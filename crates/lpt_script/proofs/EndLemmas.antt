@@ -1,13 +1,17 @@
 -- How the endings of events, lines and scripts follow from one another.
-use Rattle.std.proofs.Common.{◌≡◌, ℕ, ◌+◌, List, [], ◌∷◌, ◌++◌, length, take, drop, Option, None, Some, is_some, Result, Ok, Err, true, false, refl, sym, ap, ◌∙◌, subst, append-nil, IfOk, slice_index_or, suc, ◌<◌, arith}
+use Rattle.std.proofs.Common.{◌≡◌, ℕ, ◌+◌, List, [], ◌∷◌, ◌++◌, length, take, drop, Option, None, Some, is_some, Result, Ok, Err, true, false, refl, sym, ap, ◌∙◌, subst, append-nil, append_assoc, IfOk, IfErr, slice_index, slice_index_or, suc, ◌<◌, ◌/◌, ◌%◌, take-add, arith}
 use Rattle.lpt_text.proofs.StreamLemmas.{part_after, part_of_front, part_unchanged}
 use Rattle.std.specs.List.{flat_map}
+use Rattle.std.specs.Result.{OnOk}
 use Rattle.std.proofs.lemmas.Grind.{flat_map-append}
 use Rattle.std.proofs.Math.Seq.{take-suc}
 use Rattle.std.proofs.lemmas.List.{take-append-drop}
 use Rattle.std.proofs.KnownBytes.{Appends-trans}
 use Rattle.std.specs.Io.KnownBytes.{Appends}
-use Rattle.lpt_script_text.specs.Printing.{accepted_text, refused_text}
+use Rattle.hex.specs.Hex.{encode_lower, encode_with, lower_digits}
+use Rattle.std.specs.Prelude.{codes}
+use Rattle.std.specs.Fmt.{decimal}
+use Rattle.lpt_script_text.specs.Printing.{accepted_text, refused_text, line_of, memory_front, memory_text, octets_text, none_text}
 use Rattle.lpt_text.specs.Streams.{AppendsPart}
 use Rattle.lpt_text.specs.declared.fault.StreamFault.{StreamFault}
 use Rattle.lpt_text.specs.declared.fault.StreamFault.TheVariants as faults
@@ -153,3 +157,110 @@ pub texts_end : {X : Type 0} (f : X → List ℕ) (xs : List X) (x : X) (n : ℕ
 texts_end f xs x n faults.Write a b c short at p q = texts_part f xs x n a b c short at p q
 texts_end f xs x n faults.Memory a b c short at p q = texts_part f xs x n a b c short at p q
 texts_end f xs x n faults.Read a b c short at p q = q
+
+-- ---- a text in two
+
+-- the second text after the whole first
+pub text_then : (front more : List ℕ) (r : Result Unit StreamFault) (a b c : Option (List ℕ))
+    → Appends a b front
+    → TextEnds more r b c
+    → TextEnds (front ++ more) r a c
+text_then front more (Ok done) a b c p q = Appends-trans a b c front more p q
+text_then front more (Err faults.Write) a b c p q = part_after a b c front more p q
+text_then front more (Err faults.Memory) a b c p q = part_after a b c front more p q
+text_then front more (Err faults.Read) a b c p q = q
+
+-- the fault of the first ends both
+pub text_front : (front more : List ℕ) (fault : StreamFault) (a b : Option (List ℕ))
+    → TextEnds {A = Unit} front (Err fault) a b
+    → TextEnds {A = Unit} (front ++ more) (Err fault) a b
+text_front front more faults.Write a b p = part_of_front a b front more p
+text_front front more faults.Memory a b p = part_of_front a b front more p
+text_front front more faults.Read a b p = p
+
+-- ---- octets in hexadecimal digits, so many at a time
+
+-- digits of octets in a row
+digits_append : (xs ys : List ℕ) → encode_lower (xs ++ ys) ≡ encode_lower xs ++ encode_lower ys
+unfolding encode_with
+digits_append [] ys = refl
+digits_append (x ∷ xs) ys =
+    ap (λ t. slice_index lower_digits (x / 16) ∷ slice_index lower_digits (x % 16) ∷ t) (digits_append xs ys)
+
+-- the digits of the next octets after those of the first
+digits_next : (at n : ℕ) (octets : List ℕ)
+    → encode_lower (take (at + n) octets) ≡ encode_lower (take at octets) ++ encode_lower (take n (drop at octets))
+digits_next at n octets = ap encode_lower (take-add at n octets) ∙ digits_append (take at octets) _
+
+-- the next octets are written behind the first
+pub digits_more : (at n : ℕ) (octets : List ℕ) (a b c : Option (List ℕ))
+    → Appends a b (encode_lower (take at octets))
+    → Appends b c (encode_lower (take n (drop at octets)))
+    → Appends a c (encode_lower (take (at + n) octets))
+digits_more at n octets a b c p q =
+    subst (Appends a c) (sym (digits_next at n octets)) (Appends-trans a b c _ _ p q)
+
+-- a front part of the digits of the next octets is one of all
+pub digits_part : (at n : ℕ) (octets : List ℕ) (a b c : Option (List ℕ))
+    → Appends a b (encode_lower (take at octets))
+    → AppendsPart b c (encode_lower (take n (drop at octets)))
+    → AppendsPart a c (encode_lower octets)
+digits_part at n octets a b c p q =
+    let front = subst (AppendsPart a c) (sym (digits_next at n octets)) (part_after a b c _ _ p q) in
+    let whole : encode_lower (take (at + n) octets) ++ encode_lower (drop (at + n) octets) ≡ encode_lower octets =
+    sym (digits_append (take (at + n) octets) _) ∙ ap encode_lower (take-append-drop (at + n) octets) in
+    subst (AppendsPart a c) whole (part_of_front a c _ (encode_lower (drop (at + n) octets)) front)
+
+-- what was written out ends as a text does
+pub written_ends : (text : List ℕ) (r : Result Unit StreamFault) (a b : Option (List ℕ))
+    → OnOk r (Appends a b text)
+    → IfErr r (λ e. e ≡ faults.Write)
+    → IfErr r (λ e. AppendsPart a b text)
+    → TextEnds text r a b
+written_ends text (Ok done) a b ok fault part = ok
+written_ends text (Err faults.Write) a b ok fault part = part
+written_ends text (Err faults.Memory) a b ok fault part = part
+written_ends text (Err faults.Read) a b ok fault part = let never : faults.Read ≡ faults.Write = fault in absurd cc
+
+-- ---- a memory's line
+
+-- its front and what ends it
+memory_line : (id address : ℕ) (word : List ℕ)
+    → memory_front id address ++ (word ++ 10 ∷ []) ≡ line_of (codes "memory" ∷ decimal id ∷ decimal address ∷ word ∷ [])
+memory_line id address word =
+    let end : List ℕ = word ++ 10 ∷ [] in
+    append_assoc (codes "memory ") (decimal id ++ (32 ∷ (decimal address ++ (32 ∷ [])))) end
+    ∙ ap (λ (t : List ℕ). codes "memory " ++ t)
+    (append_assoc (decimal id) (32 ∷ (decimal address ++ (32 ∷ []))) end
+    ∙ ap (λ (t : List ℕ). decimal id ++ (32 ∷ t)) (append_assoc (decimal address) (32 ∷ []) end))
+
+-- the octets behind the front
+pub memory_shown : (id address : ℕ) (m : List ℕ) (shown : Option (List ℕ)) (r : Result Unit StreamFault) (a b c : Option (List ℕ))
+    → shown ≡ Some m
+    → Appends a b (memory_front id address)
+    → TextEnds (octets_text m ++ 10 ∷ []) r b c
+    → TextEnds (memory_text id address shown) r a c
+memory_shown id address m shown r a b c is p q =
+    subst (λ x. TextEnds (memory_text id address x) r a c) (sym is)
+    (subst (λ t. TextEnds t r a c) (memory_line id address (octets_text m))
+    (text_then (memory_front id address) (octets_text m ++ 10 ∷ []) r a b c p q))
+
+-- that there are none behind the front
+pub memory_not_shown : (id address : ℕ) (shown : Option (List ℕ)) (r : Result Unit StreamFault) (a b c : Option (List ℕ))
+    → shown ≡ None
+    → Appends a b (memory_front id address)
+    → TextEnds none_text r b c
+    → TextEnds (memory_text id address shown) r a c
+memory_not_shown id address shown r a b c is p q =
+    subst (λ x. TextEnds (memory_text id address x) r a c) (sym is)
+    (subst (λ t. TextEnds t r a c) (memory_line id address (codes "none"))
+    (text_then (memory_front id address) none_text r a b c p q))
+
+-- a fault at the front ends the line
+pub memory_front_ends : (id address : ℕ) (shown : Option (List ℕ)) (fault : StreamFault) (a b : Option (List ℕ))
+    → TextEnds {A = Unit} (memory_front id address) (Err fault) a b
+    → TextEnds {A = Unit} (memory_text id address shown) (Err fault) a b
+memory_front_ends id address (Some m) fault a b p =
+    subst (λ t. TextEnds {A = Unit} t (Err fault) a b) (memory_line id address (octets_text m)) (text_front (memory_front id address) _ fault a b p)
+memory_front_ends id address None fault a b p =
+    subst (λ t. TextEnds {A = Unit} t (Err fault) a b) (memory_line id address (codes "none")) (text_front (memory_front id address) _ fault a b p)

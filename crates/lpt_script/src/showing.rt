@@ -1,9 +1,10 @@
 //! What a world shows, printed.
 
-ghost use Rattle.std.specs.Prelude.{◌≡◌, ◌≢◌, IsErrOf, Err, true, option_map};
+ghost use Rattle.std.specs.Prelude.{◌≡◌, ◌≢◌, ◌++◌, ◌∷◌, [], IfErr, IsErrOf, Err, true, option_map};
+ghost use Rattle.hex.specs.Hex.{encode_lower};
 ghost use Rattle.lpt_text.specs.Streams.{WriteEnds};
 ghost use Rattle.std.specs.List.{flat_map};
-ghost use Rattle.lpt_script_text.specs.Printing.{clear_text, memory_text, release_text, releases_text};
+ghost use Rattle.lpt_script_text.specs.Printing.{clear_text, memory_text, octets_text, release_text, releases_text};
 ghost use Rattle.lpt_journal.specs.Clear.{is_clear};
 ghost use Rattle.lpt_world.specs.Worlds.{history};
 ghost use Rattle.lpt_script.specs.Ends.{TextEnds};
@@ -13,12 +14,16 @@ use crate::printed::put;
 use lpt_events::Release;
 use lpt_packet::{Direction, Name};
 use lpt_script_text::{
-    print_clear, print_journal, print_memory, print_none, print_packet, print_release,
+    print_clear, print_journal, print_memory_front, print_none, print_packet, print_release,
+    write_digits,
 };
 use lpt_script_words::Show;
-use lpt_text::{Sink, StreamFault};
+use lpt_text::{Sink, StreamFault, write_out};
 use lpt_world::World;
 use std::alloc::Global;
+
+/// How many octets of a memory are written at a time.
+const PIECE: usize = 16_384;
 
 /// Prints what a line asks for.
 pub fn run_show<K: Sink>(
@@ -51,11 +56,47 @@ fn show_memory<K: Sink>(
     ensures ends { TextEnds (memory_text id address (memory_octets world.now id address len)) result (K.contents out.old) (K.contents out.new) }
     ensures writer { WriteEnds result (K.failed out.old) (K.failed out.new) }
 {
-    let octets = match world.memory(id) {
-        Some(content) => octets_from(content, address, len),
-        None => None,
-    };
-    put(out, print_memory(alloc, id, address, octets))
+    if let Err(fault) = put(out, print_memory_front(alloc, id, address)) {
+        return Err(fault);
+    }
+    match octets_of(world, id, address, len) {
+        Some(octets) => put_octets(octets, out),
+        None => put(out, print_none(alloc)),
+    }
+}
+
+// Ends a line by octets in hexadecimal digits.
+fn put_octets<K: Sink>(octets: &[u8], out: &mut K) -> Result<(), StreamFault>
+    ensures ends { TextEnds (octets_text octets.now ++ 10 ∷ []) result (K.contents out.old) (K.contents out.new) }
+    ensures writer { WriteEnds result (K.failed out.old) (K.failed out.new) }
+{
+    if octets.is_empty() {
+        return write_out(out, b"-\n");
+    }
+    match put_digits(octets, out) {
+        Ok(()) => write_out(out, b"\n"),
+        Err(_) => Err(StreamFault::Write),
+    }
+}
+
+// Writes two digits for each octet, without a text of all.
+fn put_digits<K: Sink>(octets: &[u8], out: &mut K) -> Result<(), StreamFault>
+    ensures ends { TextEnds (encode_lower octets.now) result (K.contents out.old) (K.contents out.new) }
+    ensures fault { IfErr result (λ e. e ≡ StreamFault.Write) }
+    ensures writer { WriteEnds result (K.failed out.old) (K.failed out.new) }
+{
+    let mut digits = [0; 2 * PIECE];
+    let mut at = 0;
+    'pieces: while at < octets.len() {
+        let len = PIECE.min(octets.len() - at);
+        let text = &mut digits[..2 * len];
+        write_digits(&octets[at..at + len], text);
+        match write_out(out, text) {
+            Ok(()) => at += len,
+            Err(_) => return Err(StreamFault::Write),
+        }
+    }
+    Ok(())
 }
 
 // Prints whether nothing is left of a transaction.
@@ -70,6 +111,16 @@ fn show_clear<K: Sink>(
     ensures writer { WriteEnds result (K.failed out.old) (K.failed out.new) }
 {
     put(out, print_clear(alloc, world.is_clear(direction, name)))
+}
+
+// So many octets of a memory from an address on, where it is there and they lie within it.
+fn octets_of(world: &World, id: u8, address: u32, len: u32) -> Option<&[u8]>
+    ensures { option_map (λ x. x.now) result ≡ memory_octets world.now id address len }
+{
+    match world.memory(id) {
+        Some(content) => octets_from(content, address, len),
+        None => None,
+    }
 }
 
 // So many octets from an address on, where they lie within the content.
