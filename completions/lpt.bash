@@ -5,7 +5,7 @@ _lpt() {
     local command='' request='' offered='' i
     for ((i = 1; i < COMP_CWORD; i++)); do
         case $command:${COMP_WORDS[i]} in
-        :run | :threads | :shell | :lint | :chart | :decode | :list | :split | :join | :extract | :link | :spacecraft | :request | :help)
+        :run | :threads | :shell | :lint | :chart | :decode | :list | :split | :join | :extract | :link | :spacecraft | :verify | :request | :help)
             command=${COMP_WORDS[i]}
             ;;
         request:load | request:dump | request:check | request:help)
@@ -14,7 +14,7 @@ _lpt() {
             ;;
         esac
     done
-    local options='--config --help --version'
+    local options='--config --apid --source --part-size --mode --help --version'
     case $command:$request in
     lint:*) options='--help --version' ;;
     chart:*) options+=' --from --to --refused' ;;
@@ -23,6 +23,7 @@ _lpt() {
     join:*) options+=' --id --first --any --each --from --to' ;;
     extract:*) options+=' --at --from --fill --whole' ;;
     link:*) options='--lose --repeat --damage --delay --seed --help --version' ;;
+    verify:*) options='--json --help --version' ;;
     spacecraft:*) options+=' --memory --save --tick-every --state' ;;
     request:load) options+=' --area --each --ack --count' ;;
     request:dump | request:check) options+=' --each --ack --count' ;;
@@ -38,11 +39,13 @@ _lpt() {
         return
         ;;
     *:*:--from:* | *:*:--to:* | *:*:--at:* | *:*:--fill:* | *:*:--parts:* | *:*:--id:* | *:*:--ack:* | *:*:--count:* | *:*:--area:* | *:*:--each:* | \
-        *:*:--lose:* | *:*:--repeat:* | *:*:--damage:* | *:*:--delay:* | *:*:--seed:* | *:*:--memory:* | *:*:--tick-every:*)
+        *:*:--lose:* | *:*:--repeat:* | *:*:--damage:* | *:*:--delay:* | *:*:--seed:* | *:*:--memory:* | *:*:--tick-every:* | \
+        *:*:--apid:* | *:*:--source:* | *:*:--part-size:*)
         return
         ;;
-    :*) offered='run threads shell lint chart decode list split join extract link spacecraft request help --help --version' ;;
-    help::help:*) offered='run threads shell lint chart decode list split join extract link spacecraft request help' ;;
+    *:*:--mode:*) offered='any strict' ;;
+    :*) offered='run threads shell lint chart decode list split join extract link spacecraft verify request help --help --version' ;;
+    help::help:*) offered='run threads shell lint chart decode list split join extract link spacecraft verify request help' ;;
     help::request:* | request:help:help:*) offered='load dump check' ;;
     help:* | request:help:*) return ;;
     request::*) offered='load dump check help --help --version' ;;

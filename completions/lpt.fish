@@ -29,9 +29,10 @@ complete -c lpt -n '__lpt_is' -a join -d 'Write the message that packets carry'
 complete -c lpt -n '__lpt_is' -a extract -d 'Write the octets that dump reports hold'
 complete -c lpt -n '__lpt_is' -a link -d 'Carry packets over a link that loses'
 complete -c lpt -n '__lpt_is' -a spacecraft -d 'Take packets as the spacecraft does, and write its reports'
+complete -c lpt -n '__lpt_is' -a verify -d 'Say what became of requests, by the reports that came'
 complete -c lpt -n '__lpt_is' -a request -d 'Write a request to a memory as a telecommand'
 complete -c lpt -n '__lpt_is' -a help -d 'Print the help of a command'
-complete -c lpt -n '__lpt_is help' -a 'run threads shell lint chart decode list split join extract link spacecraft request help'
+complete -c lpt -n '__lpt_is help' -a 'run threads shell lint chart decode list split join extract link spacecraft verify request help'
 complete -c lpt -n '__lpt_is help request; or __lpt_is request help' -a 'load dump check'
 complete -c lpt -n '__lpt_is request' -a load -d 'Load octets into a memory'
 complete -c lpt -n '__lpt_is request' -a dump -d 'Ask for octets of a memory'
@@ -43,7 +44,7 @@ complete -c lpt -n '__lpt_is split; or __lpt_is join' -a 'up down'
 complete -c lpt -n '__lpt_at run; or __lpt_at threads; or __lpt_at lint; or __lpt_at chart; or __lpt_at list' -F
 complete -c lpt -n '__lpt_at split up; or __lpt_at split down' -F
 complete -c lpt -n '__lpt_at join up; or __lpt_at join down' -F
-complete -c lpt -n '__lpt_at extract; or __lpt_at link' -F
+complete -c lpt -n '__lpt_at extract; or __lpt_at link; or __lpt_at verify' -F
 complete -c lpt -n '__lpt_at request load' -F
 
 # Options.
@@ -51,11 +52,15 @@ complete -c lpt -n 'not __lpt_at help; and not __lpt_at request help' -s h -l he
 complete -c lpt -n 'not __lpt_at help; and not __lpt_at request help' -s V -l version -d 'Print version'
 for command in run threads shell chart decode list split join extract spacecraft 'request load' 'request dump' 'request check'
     complete -c lpt -n "__lpt_at $command" -l config -r -F -d 'The configuration, a TOML file'
+    complete -c lpt -n "__lpt_at $command" -l apid -x -d 'The APID of all packets, 0 to 2046'
+    complete -c lpt -n "__lpt_at $command" -l source -x -d 'The source that is meant where none is given, 0 to 65535'
+    complete -c lpt -n "__lpt_at $command" -l part-size -x -d 'The octets of a part, 4 to 1024'
+    complete -c lpt -n "__lpt_at $command" -l mode -x -a 'any strict' -d 'Whether parts are taken in any order, or strictly in theirs'
 end
 complete -c lpt -n '__lpt_at chart' -l from -x -d 'The first place of the journal that is drawn'
 complete -c lpt -n '__lpt_at chart' -l to -x -d 'The last place of the journal that is drawn'
 complete -c lpt -n '__lpt_at chart' -l refused -d 'Draw the lines that were refused, too'
-complete -c lpt -n '__lpt_at list' -l json -d 'Print each line as an object of JSON'
+complete -c lpt -n '__lpt_at list; or __lpt_at verify' -l json -d 'Print each line as an object of JSON'
 complete -c lpt -n '__lpt_at list' -l strict -d 'End at the first place where no packet is'
 for command in list join
     complete -c lpt -n "__lpt_at $command" -l from -x -d 'The place of the first octet that is read, as list prints it'

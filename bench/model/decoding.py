@@ -14,7 +14,10 @@ def carried(headers, part_size):
     if part is not None:
         place = ("first", "middle", "last")[part.place]
         return [f"part {place} id {part.name.identifier} number {part.number} octets {len(part.octets)}"]
-    if headers.packet.is_command:
+    is_command = headers.packet.is_command
+    if kind in (((6, 2), (6, 5), (6, 9)) if is_command else ((6, 6), (6, 10))):
+        return areas(body)
+    if is_command:
         return []
     if kind == (13, ABORT_SUBTYPE) and len(body) == 3 and body[2] in (1, 2, 3):
         return [f"abort id {number_of(body[:2])} reason {body[2]}"]
@@ -23,6 +26,14 @@ def carried(headers, part_size):
     if kind in ((1, 2), (1, 4)) and len(body) == 6:
         return [f"report request {body[:4].hex()} code {number_of(body[4:])}"]
     return []
+
+
+def areas(body):
+    """The line that says which areas a body names: how many, and the first of them."""
+    address, length = number_of(body[2:6]), number_of(body[6:8])
+    if len(body) < 8 or body[1] == 0 or length == 0:
+        return []
+    return [f"memory {body[0]} areas {body[1]} address {address} length {length}"]
 
 
 def decode(octets, part_size):

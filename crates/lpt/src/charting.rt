@@ -8,12 +8,12 @@ use crate::streams::{finish, output};
 use crate::work::status_at_end;
 use lpt_chart::Choice;
 use lpt_chart_script::{Drawing, draw_script};
-use lpt_command_line::ChartWords;
+use lpt_command_line::{ChartWords, SettingWords};
 use lpt_text::write_out;
 use lpt_tool::ToolFault;
 
 /// Runs a script on a new world, the one at this path or standard input for `-`, and writes the picture of
-/// what happened. The world is that of the configuration at its own path, if it has one. Standard error is
+/// what happened. The world is that of the configuration that the words give. Standard error is
 /// told where the run has fewer events than the choice of rows begins at.
 ///
 /// Errors: `Config` where the configuration is refused; `Line` at an unreadable line, after standard error
@@ -21,14 +21,14 @@ use lpt_tool::ToolFault;
 /// before, and there is none where nothing did; `Write` where a write failed, `Memory`.
 pub fn chart(
     rt: &HostRuntime,
-    config: Option<&str>,
+    settings: &SettingWords<'_>,
     words: &ChartWords<'_>,
 ) -> Result<Status, Failure> {
     let choice = Choice {
         from: words.from,
         to: words.to,
     };
-    let (config, memories, _) = configuration::read(rt, config)?;
+    let (config, memories, _) = configuration::read(rt, settings)?;
     let mut source = match opened_script(rt, words.script, Kept::Whole) {
         Ok(source) => source,
         Err(failure) => {

@@ -5,6 +5,7 @@ ghost use Rattle.lpt_events.specs.Configs.{IsConfig};
 
 use crate::end::Failure;
 use crate::watched::Watched;
+use lpt_command_line::SettingWords;
 use lpt_events::{Config, Turns};
 use lpt_memory::Memories;
 use lpt_settings::{SettingsFault, read_config, why_refused};
@@ -18,14 +19,39 @@ use std::str;
 /// The most octets that the file may have.
 const LONGEST_FILE: usize = 1_048_576;
 
-/// Reads the configuration, the first memories, and how much a run of threads does, in the file at
-/// this path; without one, they are those of an empty file.
+/// The configuration, the first memories, and how much a run of threads does: those of the file that the
+/// words name, or of an empty one without it. What else the words say wins over it.
 ///
 /// Errors: `Read` where the file can't be opened or read; `Config` where it has more than 1,048,576
 /// octets, isn't UTF-8 or is refused; `Memory`.
-pub fn read(rt: &HostRuntime, path: Option<&str>) -> Result<(Config, Memories, Turns), Failure>
+pub fn read(
+    rt: &HostRuntime,
+    words: &SettingWords<'_>,
+) -> Result<(Config, Memories, Turns), Failure>
     ensures { IfOk result (λ s. IsConfig s.0) }
 {
+    let (config, memories, turns) = read_at(rt, words.file)?;
+    let config = with_words(config, words);
+    if config.fault().is_some() {
+        drop(memories);
+        return Err(Failure::from(ToolFault::Config));
+    }
+    Ok((config, memories, turns))
+}
+
+// A configuration where the words win over it.
+fn with_words(config: Config, words: &SettingWords<'_>) -> Config {
+    Config {
+        apid: words.apid.unwrap_or(config.apid),
+        source: words.source.unwrap_or(config.source),
+        part_size: words.part_size.unwrap_or(config.part_size),
+        mode: words.mode.unwrap_or(config.mode),
+        ..config
+    }
+}
+
+// What the file at this path says, or an empty one.
+fn read_at(rt: &HostRuntime, path: Option<&str>) -> Result<(Config, Memories, Turns), Failure> {
     let Some(path) = path else {
         return Ok(read_config(rt.alloc(), "")?);
     };
@@ -50,10 +76,10 @@ pub fn read(rt: &HostRuntime, path: Option<&str>) -> Result<(Config, Memories, T
 /// The same configuration alone.
 ///
 /// Errors: as of `read`.
-pub fn alone(rt: &HostRuntime, path: Option<&str>) -> Result<Config, Failure>
+pub fn alone(rt: &HostRuntime, words: &SettingWords<'_>) -> Result<Config, Failure>
     ensures { IfOk result (λ c. IsConfig c) }
 {
-    let (config, memories, _) = read(rt, path)?;
+    let (config, memories, _) = read(rt, words)?;
     drop(memories);
     Ok(config)
 }

@@ -3,12 +3,12 @@
 ghost use Rattle.std.specs.Prelude.{None};
 
 use crate::end::Failure;
-use crate::saving::write_beside;
+use crate::saving::write_for_good;
 use lpt_spacecraft::{Keeper, Spacecraft};
 use lpt_tool::ToolFault;
 
-/// A file in which a spacecraft is kept. It is written whole, or not at all, and only where what is
-/// to be kept is other than what was.
+/// A file in which a spacecraft is kept. It is written whole, or not at all, and forced to the
+/// disk; only where what is to be kept is other than what was.
 #[derive(Drop)]
 pub struct StateFile<'a> {
     rt: &'a HostRuntime,
@@ -57,7 +57,7 @@ impl Keeper for StateFile<'_> {
         if octets == self.last {
             return true;
         }
-        match write_beside(self.rt, self.path, &octets) {
+        match write_for_good(self.rt, self.path, &octets) {
             Ok(()) => {
                 self.last = octets;
                 true

@@ -29,6 +29,7 @@ mod shelling;
 mod spacecraft;
 mod splits;
 mod streams;
+mod verifies;
 mod watched;
 mod work;
 
@@ -86,22 +87,23 @@ fn done<T: Threads + Wait + Sync>(
     threads: &T,
     asked: &CommandLine<'_>,
 ) -> Result<Status, Failure> {
-    let path = asked.config;
+    let settings = &asked.settings;
     match &asked.command {
-        Command::Run(script) => work::run(rt, threads, path, RunKind::Run, script),
-        Command::Threads(script) => work::run(rt, threads, path, RunKind::Threads, script),
-        Command::Shell => work::run(rt, threads, path, RunKind::Shell, STANDARD),
-        Command::Chart(words) => charting::chart(rt, path, words),
+        Command::Run(script) => work::run(rt, threads, settings, RunKind::Run, script),
+        Command::Threads(script) => work::run(rt, threads, settings, RunKind::Threads, script),
+        Command::Shell => work::run(rt, threads, settings, RunKind::Shell, STANDARD),
+        Command::Chart(words) => charting::chart(rt, settings, words),
         Command::Lint(script) => linting::lint(rt, script),
-        Command::Decode(hex) => decoding::decode(rt, alone(rt, path)?, hex),
-        Command::List(words) => lists::list(rt, &alone(rt, path)?, words),
-        Command::Split(words) => files::split(rt, &alone(rt, path)?, words),
-        Command::SplitEach(words) => splits::split_all(rt, &alone(rt, path)?, words),
-        Command::Join(words) => joined(rt, &alone(rt, path)?, words),
+        Command::Decode(hex) => decoding::decode(rt, alone(rt, settings)?, hex),
+        Command::List(words) => lists::list(rt, &alone(rt, settings)?, words),
+        Command::Split(words) => files::split(rt, &alone(rt, settings)?, words),
+        Command::SplitEach(words) => splits::split_all(rt, &alone(rt, settings)?, words),
+        Command::Join(words) => joined(rt, &alone(rt, settings)?, words),
         Command::Link(words) => links::link(rt, words),
-        Command::Extract(words) => extracts::extract(rt, &alone(rt, path)?, words),
-        Command::Request(words) => requests::request(rt, &alone(rt, path)?, words),
-        Command::Spacecraft(words) => spacecraft::spacecraft(rt, path, words),
+        Command::Extract(words) => extracts::extract(rt, &alone(rt, settings)?, words),
+        Command::Request(words) => requests::request(rt, &alone(rt, settings)?, words),
+        Command::Spacecraft(words) => spacecraft::spacecraft(rt, settings, words),
+        Command::Verify(words) => verifies::verify(rt, words),
     }
 }
 

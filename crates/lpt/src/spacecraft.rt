@@ -11,7 +11,7 @@ use crate::input::{STANDARD, octets_from, opened, read_failure};
 use crate::keeping::StateFile;
 use crate::saving::write_beside;
 use crate::streams::{finish, first_failure, output};
-use lpt_command_line::SpacecraftWords;
+use lpt_command_line::{SettingWords, SpacecraftWords};
 use lpt_events::Config;
 use lpt_memory::Memories;
 use lpt_packet::Octets;
@@ -29,10 +29,10 @@ use std::fs;
 /// `Memory`.
 pub fn spacecraft(
     rt: &HostRuntime,
-    path: Option<&str>,
+    settings: &SettingWords<'_>,
     words: &SpacecraftWords<'_>,
 ) -> Result<Status, Failure> {
-    let (config, usual, _) = read(rt, path)?;
+    let (config, usual, _) = read(rt, settings)?;
     let memories = if words.memories.is_empty() {
         usual
     } else {

@@ -7,6 +7,7 @@ use crate::linting::tell_unreadable;
 use crate::recalled::{Kept, Script};
 use crate::shelling::answer_lines;
 use crate::streams::{finish, output};
+use lpt_command_line::SettingWords;
 use lpt_events::{Config, Turns};
 use lpt_memory::Memories;
 use lpt_script::ScriptEnd;
@@ -29,7 +30,7 @@ pub enum RunKind {
 }
 
 /// Runs a script on a new world: the one at this path, or standard input for `-`. The world is that of
-/// the configuration at its own path, if it has one.
+/// the configuration that the words give.
 ///
 /// Errors: `Config` where that is refused; `Line` at an unreadable line, after standard error was told
 /// why it is; `Read` where the script or the configuration can't be opened or read, `Write` where a
@@ -37,11 +38,11 @@ pub enum RunKind {
 pub fn run<T: Threads + Wait + Sync>(
     rt: &HostRuntime,
     threads: &T,
-    config: Option<&str>,
+    settings: &SettingWords<'_>,
     way: RunKind,
     script: &str,
 ) -> Result<Status, Failure> {
-    let (config, memories, turns) = configuration::read(rt, config)?;
+    let (config, memories, turns) = configuration::read(rt, settings)?;
     let mut source = match opened_script(rt, script, Kept::Last) {
         Ok(source) => source,
         Err(failure) => {

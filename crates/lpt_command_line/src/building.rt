@@ -1,7 +1,9 @@
 //! The program as clap reads it, from the rows of its commands.
 
-use crate::commands::{COMMANDS, FAMILIES};
+use crate::asking::FAMILIES;
+use crate::commands::COMMANDS;
 use crate::row::{Family, Named, Row, Word};
+use crate::setting_words::SETTINGS;
 use clap::builder::ValueParser;
 use clap::{Arg, Command};
 use std::alloc::{AllocError, Global};
@@ -86,6 +88,11 @@ fn words_of<'a>(alloc: Global, row: &'a Row) -> Result<Vec<Arg<'a>>, AllocError>
     }
     for named in row.named {
         words.push(named_of(alloc, named))?;
+    }
+    if row.configured {
+        for named in &SETTINGS {
+            words.push(named_of(alloc, named))?;
+        }
     }
     Ok(words)
 }

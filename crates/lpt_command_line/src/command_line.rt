@@ -7,8 +7,10 @@ use crate::file_words::{
 };
 use crate::link_words::{LinkWords, link_words};
 use crate::request_words::{RequestWords, request_words};
+use crate::setting_words::{SettingWords, setting_words};
 use crate::spacecraft_words::{SpacecraftWords, spacecraft_words};
 use crate::split_words::{SplitEachWords, split_each_words};
+use crate::verify_words::{VerifyWords, verify_words};
 use crate::word_fault::WordFault;
 use clap::{ArgMatches, Error};
 use std::alloc::{AllocError, Global};
@@ -18,8 +20,8 @@ use std::alloc::{AllocError, Global};
 pub struct CommandLine<'a> {
     /// What is to be done.
     pub command: Command<'a>,
-    /// The path of the configuration, where one is given.
-    pub config: Option<&'a str>,
+    /// What is given of the configuration.
+    pub settings: SettingWords<'a>,
 }
 
 /// A command of the program.
@@ -53,6 +55,8 @@ pub enum Command<'a> {
     Request(RequestWords<'a>),
     /// `spacecraft`.
     Spacecraft(SpacecraftWords<'a>),
+    /// `verify REQUESTS [REPORTS]..`.
+    Verify(VerifyWords<'a>),
 }
 
 /// What `chart` asks for.
@@ -108,15 +112,15 @@ fn asked_by<'a>(alloc: Global, matches: ArgMatches<'a>) -> Result<CommandLine<'a
 
 fn meant<'a>(alloc: Global, matches: &ArgMatches<'a>) -> Result<CommandLine<'a>, WordFault<'a>> {
     let (name, inner) = matches.subcommand().ok_or(WordFault::Missing)?;
-    let (config, command) = match inner.subcommand() {
-        None => (inner.get_str("config"), command_of(alloc, name, inner)?),
+    let (settings, command) = match inner.subcommand() {
+        None => (setting_words(inner), command_of(alloc, name, inner)?),
         Some((name, inner)) => {
             let request = request_words(alloc, name, inner)?;
-            (inner.get_str("config"), Some(Command::Request(request)))
+            (setting_words(inner), Some(Command::Request(request)))
         }
     };
     let command = command.ok_or(WordFault::Missing)?;
-    Ok(CommandLine { command, config })
+    Ok(CommandLine { command, settings })
 }
 
 // What the words of a command of this name ask for, where none that is required is missing.
@@ -139,6 +143,7 @@ fn command_of<'a>(
         "join" => Some(Command::Join(join_words(alloc, words)?)),
         "link" => Some(Command::Link(link_words(alloc, words)?)),
         "extract" => Some(Command::Extract(extract_words(alloc, words)?)),
+        "verify" => Some(Command::Verify(verify_words(alloc, words)?)),
         "spacecraft" => Some(Command::Spacecraft(spacecraft_words(alloc, words)?)),
         _ => words.get_str("HEX").map(Command::Decode),
     })

@@ -1,15 +1,14 @@
 //! The commands, and the words of each.
 
+use crate::asking::VERIFY;
 use crate::passes::{LINK, SPACECRAFT};
-use crate::row::{Family, Named, Need, Row, Word};
+use crate::row::{Named, Need, Row, Word};
 use clap::ArgAction;
 use clap::builder::ValueParser;
 
 pub(crate) const TEXT: ValueParser<'static> = ValueParser::String;
 
-const U8: ValueParser<'static> = ValueParser::Signed(0, 255);
-
-const U32: ValueParser<'static> = ValueParser::Signed(0, 4_294_967_295);
+pub(crate) const U8: ValueParser<'static> = ValueParser::Signed(0, 255);
 
 pub(crate) const U64: ValueParser<'static> = ValueParser::Unsigned(0, u64::MAX);
 
@@ -20,25 +19,20 @@ const SCRIPT: Word = Word {
     help: "The script's path, or - for standard input",
 };
 
+pub(crate) const JSON: Named = Named {
+    name: "json",
+    value: ValueParser::Bool,
+    behind: &[],
+    action: ArgAction::SetTrue,
+    other: &[],
+    help: "Print each line as an object of JSON",
+};
+
 const DIRECTION: Word = Word {
     name: "DIRECTION",
     value: ValueParser::Names(&["up", "down"]),
     need: Need::One,
     help: "Up to the spacecraft, or down from it",
-};
-
-const MEMORY: Word = Word {
-    name: "MEMORY",
-    value: U8,
-    need: Need::One,
-    help: "The memory's identifier, 0 to 255",
-};
-
-const PLACES: Word = Word {
-    name: "PLACE",
-    value: U32,
-    need: Need::Several(&["ADDRESS", "LENGTH"]),
-    help: "Addresses, each with a number of octets, 1 to 4294967295",
 };
 
 pub(crate) const PACKETS: Word = Word {
@@ -66,16 +60,7 @@ const TO: Named = Named {
     help: "The place of the first octet that isn't read any more",
 };
 
-pub(crate) const CONFIG: Named = Named {
-    name: "config",
-    value: TEXT,
-    behind: &["FILE"],
-    action: ArgAction::Set,
-    other: &[],
-    help: "The configuration, a TOML file",
-};
-
-const COUNT: Named = Named {
+pub(crate) const COUNT: Named = Named {
     name: "count",
     value: ValueParser::Signed(0, 16_383),
     behind: &["N"],
@@ -84,56 +69,41 @@ const COUNT: Named = Named {
     help: "The sequence count of the first packet, 0 to 16383",
 };
 
-const EACH: Named = Named {
-    name: "each",
-    value: ValueParser::Signed(1, 65_535),
-    behind: &["N"],
-    action: ArgAction::Set,
-    other: &[],
-    help: "How many octets one request asks for at most, as many as it holds without it",
-};
-
-const ACK: Named = Named {
-    name: "ack",
-    value: ValueParser::Signed(0, 15),
-    behind: &["N"],
-    action: ArgAction::Set,
-    other: &["0"],
-    help: "The acknowledgement flags, 0 to 15",
-};
-
 /// The commands without others below them.
-pub(crate) static COMMANDS: [Row; 12] = [
+pub(crate) static COMMANDS: [Row; 13] = [
     Row {
         name: "run",
         about: "Run a script on a new world",
         words: &[SCRIPT],
-        named: &[CONFIG],
+        named: &[],
+        configured: true,
     },
     Row {
         name: "threads",
         about: "Run a script on a new world, and then ten threads",
         words: &[SCRIPT],
-        named: &[CONFIG],
+        named: &[],
+        configured: true,
     },
     Row {
         name: "shell",
         about: "Answer lines one by one, and go on where one can't be read",
         words: &[],
-        named: &[CONFIG],
+        named: &[],
+        configured: true,
     },
     Row {
         name: "lint",
         about: "Print every line of a script that can't be read, and why",
         words: &[SCRIPT],
         named: &[],
+        configured: false,
     },
     Row {
         name: "chart",
         about: "Draw a script's run as an SVG",
         words: &[SCRIPT],
         named: &[
-            CONFIG,
             Named {
                 name: "from",
                 value: U64,
@@ -159,6 +129,7 @@ pub(crate) static COMMANDS: [Row; 12] = [
                 help: "Draw the lines that were refused, too",
             },
         ],
+        configured: true,
     },
     Row {
         name: "decode",
@@ -169,21 +140,15 @@ pub(crate) static COMMANDS: [Row; 12] = [
             need: Need::One,
             help: "Octets as hexadecimal digits, or - for standard input",
         }],
-        named: &[CONFIG],
+        named: &[],
+        configured: true,
     },
     Row {
         name: "list",
         about: "Say what each packet of a stream is",
         words: &[PACKETS],
         named: &[
-            Named {
-                name: "json",
-                value: ValueParser::Bool,
-                behind: &[],
-                action: ArgAction::SetTrue,
-                other: &[],
-                help: "Print each line as an object of JSON",
-            },
+            JSON,
             Named {
                 name: "strict",
                 value: ValueParser::Bool,
@@ -194,8 +159,8 @@ pub(crate) static COMMANDS: [Row; 12] = [
             },
             FROM,
             TO,
-            CONFIG,
         ],
+        configured: true,
     },
     Row {
         name: "split",
@@ -249,8 +214,8 @@ pub(crate) static COMMANDS: [Row; 12] = [
                 other: &[],
                 help: "Write the packets as a capture, a pcap file",
             },
-            CONFIG,
         ],
+        configured: true,
     },
     Row {
         name: "join",
@@ -291,8 +256,8 @@ pub(crate) static COMMANDS: [Row; 12] = [
             },
             FROM,
             TO,
-            CONFIG,
         ],
+        configured: true,
     },
     Row {
         name: "extract",
@@ -309,7 +274,7 @@ pub(crate) static COMMANDS: [Row; 12] = [
             },
             Named {
                 name: "from",
-                value: U32,
+                value: TEXT,
                 behind: &["ADDRESS"],
                 action: ArgAction::Set,
                 other: &[],
@@ -331,62 +296,10 @@ pub(crate) static COMMANDS: [Row; 12] = [
                 other: &[],
                 help: "Write an image only where no octet of it is wanting",
             },
-            CONFIG,
         ],
+        configured: true,
     },
     SPACECRAFT,
     LINK,
+    VERIFY,
 ];
-
-/// The commands with others below them.
-pub(crate) static FAMILIES: [Family; 1] = [Family {
-    name: "request",
-    about: "Write a request to a memory as a telecommand",
-    below: &[
-        Row {
-            name: "load",
-            about: "Load octets into a memory",
-            words: &[
-                MEMORY,
-                Word {
-                    name: "ADDRESS",
-                    value: U32,
-                    need: Need::One,
-                    help: "The address of the first octet",
-                },
-                Word {
-                    name: "FILE",
-                    value: TEXT,
-                    need: Need::Else(&["-"]),
-                    help: "The octets' path, or - for standard input",
-                },
-            ],
-            named: &[
-                Named {
-                    name: "area",
-                    value: TEXT,
-                    behind: &["ADDRESS", "FILE"],
-                    action: ArgAction::Append,
-                    other: &[],
-                    help: "Octets for another address",
-                },
-                EACH,
-                ACK,
-                COUNT,
-                CONFIG,
-            ],
-        },
-        Row {
-            name: "dump",
-            about: "Ask for octets of a memory",
-            words: &[MEMORY, PLACES],
-            named: &[EACH, ACK, COUNT, CONFIG],
-        },
-        Row {
-            name: "check",
-            about: "Ask for checksums of a memory",
-            words: &[MEMORY, PLACES],
-            named: &[EACH, ACK, COUNT, CONFIG],
-        },
-    ],
-}];

@@ -1,6 +1,7 @@
 //! The words of the command that extracts the octets of dump reports.
 
 use crate::file_words::files_in;
+use crate::number_words::number_in;
 use crate::word_fault::WordFault;
 use clap::ArgMatches;
 use std::alloc::Global;
@@ -22,7 +23,7 @@ pub struct ExtractWords<'a> {
 
 /// What the words of `extract` ask for.
 ///
-/// Errors: `Missing`, `Memory`.
+/// Errors: `Missing`, `Memory`, `Address`.
 pub fn extract_words<'a>(
     alloc: Global,
     matches: &ArgMatches<'a>,
@@ -30,8 +31,19 @@ pub fn extract_words<'a>(
     Ok(ExtractWords {
         files: files_in(alloc, matches)?,
         at: matches.get_one("at"),
-        from: matches.get_one("from"),
+        from: from_in(matches)?,
         fill: matches.get_one("fill"),
         whole: matches.get_flag("whole"),
     })
+}
+
+// The address at which the image begins, where one is given.
+fn from_in<'a>(matches: &ArgMatches<'a>) -> Result<Option<u32>, WordFault<'a>> {
+    match matches.get_str("from") {
+        Some(word) => match number_in(word) {
+            Some(address) => Ok(Some(address)),
+            None => Err(WordFault::Address(word)),
+        },
+        None => Ok(None),
+    }
 }

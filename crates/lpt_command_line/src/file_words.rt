@@ -8,7 +8,7 @@ use lpt_packet::{Direction, Name};
 use std::alloc::Global;
 
 /// The word for standard input.
-const STANDARD: &str = "-";
+pub(crate) const STANDARD: &str = "-";
 
 /// What `split` asks for.
 #[derive(Clone, Copy)]
@@ -169,8 +169,17 @@ pub(crate) fn files_in<'a>(
     alloc: Global,
     matches: &ArgMatches<'a>,
 ) -> Result<Vec<&'a str>, WordFault<'a>> {
+    paths_in(alloc, matches, "FILE")
+}
+
+// The same of the words of this name.
+pub(crate) fn paths_in<'a>(
+    alloc: Global,
+    matches: &ArgMatches<'a>,
+    name: &str,
+) -> Result<Vec<&'a str>, WordFault<'a>> {
     let mut files = Vec::new(alloc);
-    for file in matches.get_strs("FILE").ok_or(WordFault::Missing)? {
+    for file in matches.get_strs(name).ok_or(WordFault::Missing)? {
         if *file == STANDARD && files.contains(&STANDARD) {
             return Err(WordFault::Twice);
         }

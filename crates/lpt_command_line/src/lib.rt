@@ -9,17 +9,21 @@
 //! `lpt/src/main.rt`, which does the work.
 #![tactic(auto)]
 
+mod asking;
 mod building;
 mod command_line;
 mod commands;
 mod extract_words;
 mod file_words;
 mod link_words;
+mod number_words;
 mod passes;
 mod request_words;
 mod row;
+mod setting_words;
 mod spacecraft_words;
 mod split_words;
+mod verify_words;
 mod word_fault;
 
 pub use command_line::{ChartWords, Command, CommandLine, NoCommand, read_words};
@@ -27,8 +31,11 @@ pub use extract_words::ExtractWords;
 pub use file_words::{GivenName, JoinWords, ListWords, Span, SplitWords};
 pub use link_words::LinkWords;
 pub use lpt_packet::{Direction, Name};
+pub use lpt_part::Mode;
 pub use lpt_pus::AckFlags;
 pub use request_words::{RequestWords, What};
+pub use setting_words::SettingWords;
 pub use spacecraft_words::SpacecraftWords;
 pub use split_words::{GivenPick, SplitEachWords};
+pub use verify_words::VerifyWords;
 pub use word_fault::WordFault;

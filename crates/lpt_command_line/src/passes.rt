@@ -1,6 +1,6 @@
 //! The commands that play a pass: the link, and the spacecraft's end.
 
-use crate::commands::{CONFIG, PACKETS, TEXT, U64};
+use crate::commands::{PACKETS, TEXT, U64};
 use crate::row::{Named, Row};
 use clap::ArgAction;
 use clap::builder::ValueParser;
@@ -52,6 +52,7 @@ pub(crate) const LINK: Row = Row {
             help: "The seed: the same one gives the same run",
         },
     ],
+    configured: false,
 };
 
 /// `spacecraft`.
@@ -92,6 +93,6 @@ pub(crate) const SPACECRAFT: Row = Row {
             other: &[],
             help: "Keep state and memories in this file, and go on where it says",
         },
-        CONFIG,
     ],
+    configured: true,
 };

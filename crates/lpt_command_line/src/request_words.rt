@@ -3,6 +3,7 @@
 ghost use Rattle.std.specs.Prelude.{◌<◌, ◌≤◌, IfOk};
 
 use crate::file_words::count_in;
+use crate::number_words::number_in;
 use crate::word_fault::WordFault;
 use clap::ArgMatches;
 use lpt_pus::AckFlags;
@@ -104,10 +105,10 @@ fn areas_in<'a>(
     matches: &ArgMatches<'a>,
 ) -> Result<Vec<(u32, &'a str)>, WordFault<'a>> {
     let mut areas = Vec::new(alloc);
-    let (Some(address), Some(file)) = (matches.get_one("ADDRESS"), matches.get_str("FILE")) else {
+    let (Some(address), Some(file)) = (matches.get_str("ADDRESS"), matches.get_str("FILE")) else {
         return Err(WordFault::Missing);
     };
-    if areas.push((address, file)).is_err() {
+    if areas.push((address_in(address)?, file)).is_err() {
         return Err(WordFault::Memory);
     }
     if let Some(more) = matches.get_strs("area") {
@@ -151,16 +152,13 @@ fn place_in<'a>(pair: &[&'a str]) -> Result<(u32, u32), WordFault<'a>> {
 
 // The address that a word names.
 fn address_in<'a>(word: &'a str) -> Result<u32, WordFault<'a>> {
-    match word.parse() {
-        Ok(address) => Ok(address),
-        Err(_) => Err(WordFault::Address(word)),
-    }
+    number_in(word).ok_or(WordFault::Address(word))
 }
 
 // The number of octets that a word names.
 fn length_in<'a>(word: &'a str) -> Result<u32, WordFault<'a>> {
-    match word.parse() {
-        Ok(0) | Err(_) => Err(WordFault::Length(word)),
-        Ok(len) => Ok(len),
+    match number_in(word) {
+        None | Some(0) => Err(WordFault::Length(word)),
+        Some(len) => Ok(len),
     }
 }

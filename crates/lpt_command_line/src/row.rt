@@ -14,6 +14,8 @@ pub(crate) struct Row {
     pub(crate) words: &'static [Word],
     /// The words that are given behind a name.
     pub(crate) named: &'static [Named],
+    /// Whether it takes a configuration, by the words of `SETTINGS`.
+    pub(crate) configured: bool,
 }
 
 /// A command with commands below it, and without words of its own.

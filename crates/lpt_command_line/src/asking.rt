@@ -1,0 +1,115 @@
+//! The commands that write requests to a memory, and the one that says what became of them.
+
+use crate::commands::{COUNT, JSON, TEXT, U8};
+use crate::row::{Family, Named, Need, Row, Word};
+use clap::ArgAction;
+use clap::builder::ValueParser;
+
+const MEMORY: Word = Word {
+    name: "MEMORY",
+    value: U8,
+    need: Need::One,
+    help: "The memory's identifier, 0 to 255",
+};
+
+const PLACES: Word = Word {
+    name: "PLACE",
+    value: TEXT,
+    need: Need::Several(&["ADDRESS", "LENGTH"]),
+    help: "Addresses, each with a number of octets, 1 to 4294967295 or 0xffffffff",
+};
+
+const EACH: Named = Named {
+    name: "each",
+    value: ValueParser::Signed(1, 65_535),
+    behind: &["N"],
+    action: ArgAction::Set,
+    other: &[],
+    help: "How many octets one request asks for at most, as many as it holds without it",
+};
+
+const ACK: Named = Named {
+    name: "ack",
+    value: ValueParser::Signed(0, 15),
+    behind: &["N"],
+    action: ArgAction::Set,
+    other: &["0"],
+    help: "The acknowledgement flags, 0 to 15",
+};
+
+/// `verify`.
+pub(crate) const VERIFY: Row = Row {
+    name: "verify",
+    about: "Say what became of requests, by the reports that came",
+    words: &[
+        Word {
+            name: "REQUESTS",
+            value: TEXT,
+            need: Need::One,
+            help: "The requests' path, or - for standard input",
+        },
+        Word {
+            name: "REPORTS",
+            value: TEXT,
+            need: Need::Any(&["-"]),
+            help: "The reports' paths, or - for standard input",
+        },
+    ],
+    named: &[JSON],
+    configured: false,
+};
+
+/// The commands with others below them.
+pub(crate) static FAMILIES: [Family; 1] = [Family {
+    name: "request",
+    about: "Write a request to a memory as a telecommand",
+    below: &[
+        Row {
+            name: "load",
+            about: "Load octets into a memory",
+            words: &[
+                MEMORY,
+                Word {
+                    name: "ADDRESS",
+                    value: TEXT,
+                    need: Need::One,
+                    help: "The address of the first octet, as 16384 or 0x4000",
+                },
+                Word {
+                    name: "FILE",
+                    value: TEXT,
+                    need: Need::Else(&["-"]),
+                    help: "The octets' path, or - for standard input",
+                },
+            ],
+            named: &[
+                Named {
+                    name: "area",
+                    value: TEXT,
+                    behind: &["ADDRESS", "FILE"],
+                    action: ArgAction::Append,
+                    other: &[],
+                    help: "Octets for another address",
+                },
+                EACH,
+                ACK,
+                COUNT,
+            ],
+            configured: true,
+        },
+        Row {
+            name: "dump",
+            about: "Ask for octets of a memory",
+            words: &[MEMORY, PLACES],
+            named: &[EACH, ACK, COUNT],
+            configured: true,
+        },
+        Row {
+            name: "check",
+            about: "Ask for checksums of a memory",
+            words: &[MEMORY, PLACES],
+            named: &[EACH, ACK, COUNT],
+            configured: true,
+        },
+    ],
+}];

@@ -1,0 +1,81 @@
+//! The words that say what a configuration says, in its place or beside it.
+
+use crate::commands::TEXT;
+use crate::row::Named;
+use clap::builder::ValueParser;
+use clap::{ArgAction, ArgMatches};
+use lpt_part::Mode;
+
+/// The words that give a configuration.
+#[derive(Clone, Copy)]
+pub struct SettingWords<'a> {
+    /// The path of its file, where one is given.
+    pub file: Option<&'a str>,
+    /// The application process identifier, where it is given.
+    pub apid: Option<u16>,
+    /// The source, where it is given.
+    pub source: Option<u16>,
+    /// The part size in octets, where it is given.
+    pub part_size: Option<u32>,
+    /// In which order parts are taken, where it is given.
+    pub mode: Option<Mode>,
+}
+
+/// The configuration's file, and the words that win over it.
+pub(crate) static SETTINGS: [Named; 5] = [
+    Named {
+        name: "config",
+        value: TEXT,
+        behind: &["FILE"],
+        action: ArgAction::Set,
+        other: &[],
+        help: "The configuration, a TOML file",
+    },
+    Named {
+        name: "apid",
+        value: ValueParser::Signed(0, 2046),
+        behind: &["N"],
+        action: ArgAction::Set,
+        other: &[],
+        help: "The APID of all packets, 0 to 2046",
+    },
+    Named {
+        name: "source",
+        value: ValueParser::Signed(0, 65_535),
+        behind: &["N"],
+        action: ArgAction::Set,
+        other: &[],
+        help: "The source that is meant where none is given, 0 to 65535",
+    },
+    Named {
+        name: "part-size",
+        value: ValueParser::Signed(4, 1024),
+        behind: &["N"],
+        action: ArgAction::Set,
+        other: &[],
+        help: "The octets of a part, 4 to 1024",
+    },
+    Named {
+        name: "mode",
+        value: ValueParser::Names(&["any", "strict"]),
+        behind: &["MODE"],
+        action: ArgAction::Set,
+        other: &[],
+        help: "Whether parts are taken in any order, or strictly in theirs",
+    },
+];
+
+/// What the words of a command give of a configuration.
+pub(crate) fn setting_words<'a>(matches: &ArgMatches<'a>) -> SettingWords<'a> {
+    SettingWords {
+        file: matches.get_str("config"),
+        apid: matches.get_one("apid"),
+        source: matches.get_one("source"),
+        part_size: matches.get_one("part-size"),
+        mode: match matches.get_str("mode") {
+            Some("any") => Some(Mode::Any),
+            Some(_) => Some(Mode::Strict),
+            None => None,
+        },
+    }
+}
