@@ -23,10 +23,11 @@ function and its proof, and of all that the crate defines and promises, this goa
 that is written of it, or by two tactics with few steps. Where it isn't open so, or the mark is another, the
 edit is tried as one without a line.
 
-What is open must show the fault. A condition of what is called, a sum out of range or a place that isn't
-reached does so only where the edit says that this is meant, by a line 'clause: NAME', which the name of a goal
-has in it; where only such goals are open, the edit shows nothing, and fails. The same line names a clause
-where another one would be open first.
+What is open must show the fault. A condition of what is called, a sum out of range, a place that isn't
+reached, a way on which an error is handed on, a clause of errors alone, or what always holds of a type does so
+only where the edit says that this is meant, by a line 'clause: NAME', which the name of a goal has in it; where
+only such goals are open, the edit shows nothing, and fails. The same line names a clause where another one
+would be open first: an answer of that clause that doesn't fit is put aside too.
 
 An edit of what stands in no function, a constant say, names the function to be refused by a line
 'refused: NAME', and is tried alone.

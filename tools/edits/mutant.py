@@ -25,9 +25,14 @@ use Rattle.std.proofs.lemmas.Grind.{{common_steps}}
 pub {goal} : goal.{goal}
 {goal} = first_of (search rules steps 300000, grind (arith, common_steps) steps 300000)
 """
-# Goals that show no promise broken: a condition of what is called, a sum or an index out of range, a place
-# that isn't reached.
-BESIDE = re.compile(r"[\w-]*?\brequires\b|overflow_|slice_bounds|index_bounds|unreachable")
+# Goals that may be open beside an edit's fault: a condition of what is called, a sum or an index out of range, a
+# place that isn't reached; a way on which an error is handed on; what holds of all values of a type. The last
+# two may even be true of the turned body.
+BESIDE = re.compile(
+    r"[\w-]*?\brequires\b|overflow_|slice_bounds|index_bounds|unreachable|.*-in_err\b|.*-in-Err\b|invariant_of-"
+)
+# A clause that says something of errors alone, so it is open only on a way to one.
+OF_ERRORS = r"ensures {} {{\s+(?:IfErr|OnErr)\b"
 FILE_NAME = re.compile(r"[A-Za-z0-9_-][A-Za-z0-9_.-]*\.edit")
 
 
@@ -122,10 +127,15 @@ class Mutant:
 
     def shown(self, goals: list[str]) -> Optional[str]:
         """The first of these open goals that shows the edit's fault: of the clause that it names or, where it
-        names none, one that isn't only a condition of what is called."""
+        names none, one that can't be open beside it."""
         if self.clause:
             return next((it for it in goals if self.clause in it), None)
-        return next((it for it in goals if not BESIDE.match(it)), None)
+        return next((it for it in goals if not BESIDE.match(it) and not self.is_of_errors(it)), None)
+
+    def is_of_errors(self, goal: str) -> bool:
+        """Whether a goal is of a clause of its functions that says something of errors alone."""
+        said = re.compile(OF_ERRORS.format(re.escape(goal.rpartition("-clause-")[2])))
+        return any(said.search(self.crate.function(it)) for it in self.functions)
 
     @property
     def name(self) -> str:

@@ -92,14 +92,16 @@ class Report:
         if mutant.noted:
             return self.verdict_as_noted(mutant, found.values())
         refused = [goal for it in found.values() for goal in it.refused]
-        if refused:
-            mutant.open = mutant.shown(refused)
-            if mutant.open:
-                return Verdict(True, f"refused, as it must be: `{mutant.open}` is not proved")
-            wanted = f"no goal of `{mutant.clause}` is open" if mutant.clause else "only conditions are open"
-            return Verdict(False, f"SHOWS NOTHING: {wanted}: {', '.join(refused)}"[:LONGEST_REASON])
-        if mutant.put_aside([(name, goal) for name, it in found.items() for goal in it.unfit]):
+        mutant.open = mutant.shown(refused)
+        if mutant.open:
+            return Verdict(True, f"refused, as it must be: `{mutant.open}` is not proved")
+        unfit = [(name, goal) for name, it in found.items() for goal in it.unfit]
+        showing = [it for it in unfit if mutant.shown([it[1]])]
+        if mutant.put_aside(showing) or not refused and mutant.put_aside(unfit):
             return None
+        if refused:
+            wanted = f"no goal of `{mutant.clause}` is open" if mutant.clause else "no clause is named"
+            return Verdict(False, f"SHOWS NOTHING: {wanted}, but {', '.join(refused)}"[:LONGEST_REASON])
         unread = [it for name in mutant.tried() for it in self.unread.get(name, [])]
         if unread:
             return Verdict(False, f"BAD EDIT: {unread[0][:LONGEST_REASON]}")

@@ -9,7 +9,7 @@ from __future__ import annotations
 import pathlib
 import tempfile
 from dataclasses import dataclass
-from typing import Optional
+from typing import Iterable, Optional
 
 from crates import libraries, rlib
 
@@ -42,6 +42,8 @@ ROWS = [
     Row("turned_in_a_copy", "checksum", "let mut register = 0xffff;", "let mut register = 0;", REFUSED),
     Row("another_clause_named", "checksum", "let mut register = 0xffff;", "let mut register = 1;", NOTHING, "clause: reader"),
     Row("its_clause_named", "checksum", "let mut register = 0xffff;", "let mut register = 2;", REFUSED, "clause: loop-eight"),
+    Row("its_type_broken", "packet", "apid > 2046", "apid > 2047", NOTHING),
+    Row("its_type_named", "packet", "apid > 2046", "apid > 2048", REFUSED, "clause: invariant_of-result"),
     Row("callee_of_it_broken", "checksum", "(register % 256) as u8", "(register % 255) as u8", REFUSED),
     Row("same_bits", "reading", "second & 0x3fff", "second % 16384", LET_THROUGH, "goal: returns 00000000"),
     Row("said_to_be_open", "reading", "bytes[at + 1]]", "bytes[1 + at]]", LET_THROUGH, "goal: returns MARK"),
@@ -69,6 +71,25 @@ ROWS = [
     ),
 ]
 
+# The clauses of a function; and of an edit of it that names this clause, if any, goals that are open, and which of
+# them shows its fault.
+CLAUSES = """    ensures ok { OnOk result (self.new ≡ closed self.old name) }
+    ensures refused { IfErr result (RefusedBy (refusal_close self.old name)) }
+    ensures back { OnErr result (self.new ≡ self.old) }
+"""
+SHOWN: list[tuple[str, list[str], Optional[str]]] = [
+    ("", ["reset-requires", "returns-clause-ok"], "returns-clause-ok"),
+    ("", ["reset-requires-clause-ok", "overflow_add-result", "slice_bounds-2", "unreachable-requires"], None),
+    ("", ["returns-in_err-state-clause-ok", "returns-in-Err-clause-ok"], None),
+    ("", ["returns-then-gt-in-Err-2-clause-ok", "returns-in-Ok-clause-ok"], "returns-in-Ok-clause-ok"),
+    ("", ["returns-then-gt-clause-refused", "returns-clause-back"], None),
+    ("", ["invariant_of-self-2", "loop-k-preserved"], "loop-k-preserved"),
+    ("invariant_of", ["loop-k-preserved", "invariant_of-self-2"], "invariant_of-self-2"),
+    ("refused", ["returns-clause-ok", "returns-then-gt-clause-refused"], "returns-then-gt-clause-refused"),
+    ("refused", ["returns-clause-ok", "returns-then-gt-clause-back"], None),
+    ("reset-requires", ["returns-clause-ok", "reset-requires"], "reset-requires"),
+]
+
 # None of this, told of the function a::b::f in the lines 1 to 9 of its file, is a refusal of it.
 TOLD = [
     "fn a::b::f: not proved; it stands on `Rattle.a.proofs.b.g.Answers.returns`, which antt refuses",
@@ -79,6 +100,11 @@ TOLD = [
     "./proofs/b/f/Answers.antt:1:9: error: `returns-then-gt`: it has no `returns-then-gt`\n"
     "note: src/b.rt:3:1: it is not proved that it holds (`returns-then-ge`)\nfn a::b::f: not proved",
 ]
+
+ASIDE = (
+    "./proofs/b/f/Answers.antt:1:9: error: `returns-then-gt`: no proof\n"
+    "note: src/b.rt:3:1: it is not proved that it holds (`reset-requires`)\nfn a::b::f: not proved"
+)
 
 
 class Told:
@@ -106,10 +132,35 @@ class Told:
         """The first goal is taken."""
         return goals[0] if goals else None
 
-    def put_aside(self, goals: list[tuple[str, str]]) -> bool:
+    def put_aside(self, goals: Iterable[tuple[str, str]]) -> bool:
         """Nor can one be."""
         del goals
         return False
+
+
+class Naming(Told):
+    """One that names a clause, whose answer can be put aside."""
+
+    clause = "returns"
+    shown = Mutant.shown
+
+    def put_aside(self, goals: Iterable[tuple[str, str]]) -> bool:
+        """The first goal's is."""
+        return bool(list(goals))
+
+
+class Clauses:
+    """A crate whose functions have these clauses."""
+
+    def function(self, name: str) -> str:
+        """The text of a function."""
+        del name
+        return CLAUSES
+
+
+def shown(clause: str, goals: list[str]) -> Optional[str]:
+    """Which of these open goals shows the fault of an edit that names this clause."""
+    return Mutant(Clauses(), pathlib.Path(), [], {"a::b::f"}, False, True, clause).shown(goals)
 
 
 def write(crate: Crate, row: Row, folder: pathlib.Path) -> None:
@@ -143,5 +194,14 @@ def main(room: pathlib.Path) -> int:
         if report.verdict(Told(), False).is_refused:
             failed += 1
             print(f"edits: taken for a refusal: {told}")
-    print(f"edits: {len(ROWS) + len(TOLD) - failed} passed, {failed} failed")
+    # A named clause's answer doesn't fit any more, and beside it a condition is open.
+    report = Report(ASIDE.split("\n"), {"a::b::f": ("src/b.rt", range(1, 10))})
+    if report.verdict(Naming(), False):
+        failed += 1
+        print("edits: the answer of a named clause isn't put aside")
+    for clause, goals, wanted in SHOWN:
+        if shown(clause, goals) != wanted:
+            failed += 1
+            print(f"edits: of {goals} not {wanted} shows the fault, but {shown(clause, goals)}")
+    print(f"edits: {len(ROWS) + len(TOLD) + 1 + len(SHOWN) - failed} passed, {failed} failed")
     return 1 if failed else 0

@@ -40,8 +40,7 @@ abbrev pub left_by : Shown → List Refusal → Option ℕ → Run
 left_by w refused bad = record { world = w; refused = refused; bad = bad }
 
 -- a line of this number that was refused for this reason, after so many entries, and is told at
--- this
--- side; 200 octets of it are told at most
+-- this side; 200 octets of it are told at most
 abbrev pub refusals_at : (place n : ℕ) → Side → List ℕ → Option StepFault → List Refusal
 refusals_at place n side line None = []
 refusals_at place n side line (Some fault) =

@@ -11,8 +11,7 @@ use Rattle.lpt_script_words.specs.declared.grammar.Reading.{Reading}
 use Rattle.lpt_script_words.specs.declared.grammar.Reading.TheVariants.{Skipped, Asks, Unreadable}
 
 -- the node that an event asks: what says a direction asks its sender, what says a lane the node
--- that
--- the lane serves; a loss says neither, and is told at ground
+-- that the lane serves; a loss says neither, and is told at ground
 unfoldable pub side_asked : Event → Side
 side_asked (event.Open d name message) = sender_side d
 side_asked (event.Send d name k) = sender_side d

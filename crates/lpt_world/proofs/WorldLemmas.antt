@@ -3,7 +3,9 @@ use Rattle.std.proofs.Common.{◌≤◌, nat_lt, Bool, true, false, if◌then◌
 use Rattle.std.specs.Option.{option_map}
 use Rattle.std.specs.Prelude.{slice_get}
 use Rattle.std.proofs.lemmas.Option.{slice_get-map}
+use Rattle.std.proofs.lemmas.Bool.{ltb-false}
 use Rattle.std.proofs.lemmas.List.{reverse-append, map-append}
+use Rattle.std.proofs.lemmas.List.Elements.{All-nil, All-push}
 use Rattle.lpt_packet.proofs.Readings.{lt_false}
 use Rattle.lpt_link.specs.declared.packet.LinkPacket.{LinkPacket}
 use Rattle.lpt_link.specs.Links.{octets_at}
@@ -37,13 +39,14 @@ use Rattle.lpt_world.proofs.LegalLemmas.{events_of-push, length-history_of, fits
 abbrev replies_of : History → List Reply
 replies_of h = reverse (map (λ (y : Recorded). y.reply) h)
 
--- a journal is told with an event behind it that can happen then, and its reply
+-- a journal is told with an event behind it that can happen then, its reply, and a seat that is there
 told_push : (c : Config) (first : Contents) (j : List Entry) (x : Entry)
     → IsTold c first j
     → IsEnabled c (history_of c first j) x.event
     → x.reply ≡ reply c first (history_of c first j) x.event
+    → x.seat ≤ 10
     → IsTold c first (j ++ x ∷ [])
-told_push c first j x told enabled is =
+told_push c first j x told enabled is seated =
     let h : History = history_of c first j in
     let r : Reply = reply c first h x.event in
     record {
@@ -54,6 +57,7 @@ told_push c first j x told enabled is =
           ∙ ap (λ a. replies_of h ++ a ∷ []) is
           ∙ sym (ap (λ es. replies_of (recorded c first es)) (events_of-push j x)
           ∙ reverse-append (r ∷ []) (map (λ (y : Recorded). y.reply) h));
+      seats = All-push (λ (y : Entry). y.seat ≤ 10) j x told.seats seated;
     }
 
 -- ---- what the system does
@@ -84,13 +88,14 @@ reply_shown e e' first j ev r k free done =
 -- a world that has done an event shows it
 pub shown_push : (e e' : System) (first : Contents) (j : List Entry) (x : Entry)
     → IsShown e first j
+    → x.seat ≤ 10
     → IsEvent x.event
     → refusal_of e.config (state_of e) x.event ≡ None
     → ◌≡◌ {A = State
     × Reply} (state_of e', x.reply) (after e.config (length j) (state_of e) x.event)
     → e'.config ≡ e.config
     → IsShown e' first (j ++ x ∷ [])
-shown_push e e' first j x k ranged free done same =
+shown_push e e' first j x k seated ranged free done same =
     let c = e.config in
     let h : History = history_of c first j in
     let accepted : refusal c h x.event ≡ None = accepted_shown e first j x.event k free in
@@ -107,7 +112,7 @@ shown_push e e' first j x k ranged free done same =
     in
     let told : IsTold c first (j ++ x ∷ []) =
     told_push c first j x k.told (record { in_range = ranged; accepted = accepted })
-    (reply_shown e e' first j x.event x.reply k free done) in
+    (reply_shown e e' first j x.event x.reply k free done) seated in
     subst (λ (d : Config). IsWorld d first e' (j ++ x ∷ [])) (sym same)
     (record { configured = k.configured; shows = shows; told = told })
 
@@ -164,6 +169,18 @@ free_shown e first j seat ev k h =
       go true r f = absurd cc
       go false r f = sym f
 
+-- a seat is there of which a world refuses nothing
+pub seat_there : (seat : ℕ) (r : Option StepFault)
+    → None ≡ (if nat_lt 10 seat then Some NoSuchSeat else r)
+    → seat ≤ 10
+seat_there seat r h = go (nat_lt 10 seat) refl h where
+  go : (t : Bool)
+      → nat_lt 10 seat ≡ t
+      → None ≡ (if t then Some NoSuchSeat else r)
+      → seat ≤ 10
+  go true p f = absurd cc
+  go false p f = ltb-false 10 seat p
+
 -- ---- a new world
 
 -- a new world shows the empty journal
@@ -180,5 +197,5 @@ shown_new e c first same state configured =
       configured = configured;
       shows = shows;
       told =
-          record { legal = tt; replies = refl };
+          record { legal = tt; replies = refl; seats = All-nil (λ (y : Entry). y.seat ≤ 10) };
     })

@@ -1,6 +1,7 @@
 -- A world as its readers show it: its configuration, the first content of its memories, and its
 -- journal.
-use Rattle.std.specs.Prelude.{◌≡◌, ℕ, nat_lt, if◌then◌else◌, List, [], ◌∷◌, ◌++◌, map, reverse, Option, Some, None}
+use Rattle.std.specs.Prelude.{◌≡◌, ◌≤◌, ℕ, nat_lt, if◌then◌else◌, List, [], ◌∷◌, ◌++◌, map, reverse, Option, Some, None}
+use Rattle.std.specs.List.{All}
 use Rattle.lpt_ledger.specs.declared.state.State.{State}
 use Rattle.lpt_ledger.specs.declared.state.State.TheVariants.{Free, Open, Closed}
 use Rattle.lpt_memory.specs.Memories.{Contents}
@@ -47,10 +48,12 @@ history w = history_of w.config w.first w.journal
 abbrev pub memories_now : Shown → Contents
 memories_now w = memories w.config w.first (history w)
 
--- a journal is told: its events are legal, and each reply is the one that its event gives then
+-- a journal is told: its events are legal, each reply is the one that its event gives then, and
+-- each seat is one of 0 to 10
 pub record IsTold (c : Config) (first : Contents) (j : List Entry) : Type 0 where
   pub legal : Legal c first (events_of j)
   pub replies : map (λ x. x.reply) j ≡ reverse (map (λ x. x.reply) (history_of c first j))
+  pub seats : All (λ x. x.seat ≤ 10) j
 
 -- What is promised of a world, whatever the link did and the nodes were asked: the headline; that
 -- what expired, was broken off or was released is final; that nothing that came whole is withheld;

@@ -3,11 +3,11 @@
 use crate::names::ID_7;
 use crate::rows::{Asked, CONFIG, Content, ONE, Path, Row, SEAT, Shown};
 use lpt_events::Lane::{G1, S1};
-use lpt_events::{Answer, Config, Outcome, StepFault};
+use lpt_events::{Answer, Config, Outcome, StepFault, Why};
 use lpt_ledger::State;
-use lpt_packet::Direction::Up;
+use lpt_packet::Direction::{Down, Up};
 use lpt_packet::Name;
-use lpt_part::Reason;
+use lpt_part::{Mode, Reason};
 
 const OTHER_3: Name = Name { source: 2, id: 3 };
 
@@ -97,6 +97,29 @@ const BY_SOURCE: [Row; 21] = [
     Row::Gives(G1, Outcome::AbortNoted(OTHER_3, Reason::Expired)),
 ];
 
+/// Ground takes parts of two sources in order: one comes out of it, and the other reception is given
+/// up. It reports neither.
+const AT_GROUND: [Row; 18] = [
+    Row::Opens(Down, ID_7, 20, 3),
+    Row::Opens(Down, OTHER_7, 20, 3),
+    Row::Sends(Down, ID_7, 1, 0),
+    Row::Sends(Down, OTHER_7, 1, 1),
+    Row::Sends(Down, ID_7, 3, 2),
+    Row::Sends(Down, OTHER_7, 2, 3),
+    Row::Takes(G1, 0),
+    Row::Gives(G1, Outcome::Kept(ID_7, 1)),
+    Row::Takes(G1, 1),
+    Row::Gives(G1, Outcome::Kept(OTHER_7, 1)),
+    Row::Takes(G1, 2),
+    Row::Gives(G1, Outcome::Broken(ID_7, Reason::Discontinuity)),
+    Row::Answers(Asked::GroundTick, Answer::Clock(1), 0),
+    Row::Answers(Asked::GroundTick, Answer::Clock(2), 0),
+    Row::Answers(Asked::GroundExpire, Answer::Expired(Down, OTHER_7), 0),
+    Row::Takes(G1, 3),
+    Row::Gives(G1, Outcome::Ignored(Why::Closed)),
+    Row::Shows(Shown::Packets(4)),
+];
+
 const SHORT_TIMEOUT: Config = Config {
     timeout: 2,
     ..CONFIG
@@ -124,6 +147,21 @@ pub(crate) const DUE_BY_SOURCE: Path = Path {
         (0, Some((Up, OTHER_7)), Content::Counting(9)),
         (1, Some((Up, OTHER_3)), Content::Counting(9)),
         (2, Some((Up, ID_7)), Content::Counting(9)),
+    ],
+    released: &[],
+};
+
+pub(crate) const GROUND_IN_ORDER: Path = Path {
+    name: "ground has parts of two sources in order",
+    config: Config {
+        mode: Mode::Strict,
+        ..SHORT_TIMEOUT
+    },
+    memories: &ONE,
+    rows: &AT_GROUND,
+    opened: &[
+        (0, Some((Down, ID_7)), Content::Counting(20)),
+        (1, Some((Down, OTHER_7)), Content::Counting(20)),
     ],
     released: &[],
 };

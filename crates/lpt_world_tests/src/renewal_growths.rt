@@ -1,8 +1,9 @@
-//! Growths that fail: a transaction is retired and its name used again, and the spacecraft restarts
-//! while a worker has a request, where one growth fails.
+//! Growths that fail: a transaction is retired and its name used again, the spacecraft restarts
+//! while a worker has a request, and two sources use one identifier, where one growth fails.
 //!
 //! `tests/growths` has each growth fail in turn, in the tests as they are built.
 
+use crate::identifiers::{GROUND_IN_ORDER, TWO_SOURCES};
 use crate::names::ID_7;
 use crate::packets::{LOAD, LOADING};
 use crate::rows::{Asked, CONFIG, Content, ONE, Path, Row, SEAT, Shown};
@@ -65,7 +66,9 @@ const STARTING_ANEW: [Row; 9] = [
     Row::Shows(Shown::Memory(16, &[0; 4])),
 ];
 
-static PATHS: [Path; 2] = [
+static PATHS: [Path; 4] = [
+    TWO_SOURCES,
+    GROUND_IN_ORDER,
     Path {
         name: "a transaction is retired",
         config: CONFIG,

@@ -50,8 +50,8 @@ pub(crate) enum Content {
     Packet(u64),
 }
 
-/// What is asked for. The clock, the receptions and what restarts are the spacecraft's, the worker is
-/// worker 1. What is done outside the world is done for lane s1.
+/// What is asked for. The spacecraft restarts, and where nothing else is said the clock and the
+/// receptions are its own; the worker is worker 1. What is done outside is done for lane s1.
 #[derive(Clone, Copy)]
 pub(crate) enum Asked {
     /// The opening of a message of so many octets, which count from 0.
@@ -68,6 +68,8 @@ pub(crate) enum Asked {
     Deliver(Lane),
     Tick,
     Expire,
+    GroundTick,
+    GroundExpire,
     Claim,
     Commit,
     Apply,
@@ -202,6 +204,8 @@ pub(crate) fn event_of(alloc: Global, asked: Asked) -> Result<Event, AllocError>
         Asked::Deliver(lane) => Event::Deliver(lane),
         Asked::Tick => Event::Tick(Side::Craft),
         Asked::Expire => Event::Expire(Side::Craft),
+        Asked::GroundTick => Event::Tick(Side::Ground),
+        Asked::GroundExpire => Event::Expire(Side::Ground),
         Asked::Claim | Asked::ClaimOut(_, _) => Event::Claim(Worker::W1),
         Asked::Commit | Asked::CommitRead(_) => Event::Commit(Worker::W1),
         Asked::Apply => Event::Apply,

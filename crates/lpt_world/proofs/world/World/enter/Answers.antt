@@ -5,7 +5,7 @@ use Rattle.lpt_journal.specs.Replies.{reply}
 use Rattle.lpt_model.specs.State.{refusal_of, after}
 use Rattle.lpt_world.specs.Worlds.{Shown, refusal_at, history}
 use Rattle.lpt_world.proofs.LegalLemmas.{numbered_few, boots_few}
-use Rattle.lpt_world.proofs.WorldLemmas.{free_shown, ready_shown, shown_push, reply_shown}
+use Rattle.lpt_world.proofs.WorldLemmas.{free_shown, ready_shown, seat_there, shown_push, reply_shown}
 use Rattle.lpt_world.proofs.world.World.enter.Goals as goal
 
 pub apply-requires-clause-free : goal.apply-requires-clause-free
@@ -41,7 +41,8 @@ invariant_of-self-in-Ok c =
     (sym c.requires ∙ sym (ap (λ (w : Shown). refusal_at w c.args.seat c.args.event) c.self.view_is)) in
     let place : c.len-place.result ≡ length c.self.inside.journal.items = c.len-place.ensures ∙ c.reserve.new.self.ok.0 ∙ ap length c.reserve.ensures.items in
     rw c.push_reserved.ensures.items (rw c.reserve.ensures.items
-    (shown_push c.self.inside.system c.apply.new.self c.self.inside.first c.self.inside.journal.items _ c.self.invariant c.numbers_are_in_range.ensures free
+    (shown_push c.self.inside.system c.apply.new.self c.self.inside.first c.self.inside.journal.items _ c.self.invariant
+    (seat_there c.args.seat _ (sym c.requires)) c.numbers_are_in_range.ensures free
     (c.in-Ok.ensures.ok ∙ ap (λ n. after c.self.inside.system.config n (state_of c.self.inside.system) c.args.event) place) c.in-Ok.ensures.config))
 
 pub returns-in-Ok-clause-reply : goal.returns-in-Ok-clause-reply

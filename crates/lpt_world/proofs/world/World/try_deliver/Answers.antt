@@ -8,7 +8,7 @@ use Rattle.lpt_world.specs.Outside.{IsOfHand}
 use Rattle.lpt_world.specs.Worlds.{Shown, refusal_at, history}
 use Rattle.lpt_world.proofs.LegalLemmas.{numbered_few}
 use Rattle.lpt_world.proofs.OutsideLemmas.{read_of}
-use Rattle.lpt_world.proofs.WorldLemmas.{free_shown, shown_push, reply_shown}
+use Rattle.lpt_world.proofs.WorldLemmas.{free_shown, seat_there, shown_push, reply_shown}
 use Rattle.lpt_world.proofs.world.World.try_deliver.Goals as goal
 
 pub deliver_read-requires-clause-read : goal.deliver_read-requires-clause-read
@@ -34,7 +34,8 @@ invariant_of-self-in-Ok c =
     (c.in-None.ensures ∙ sym (ap (λ (w : Shown). refusal_at w c.args.seat event) c.self.view_is)) in
     let place : c.len-place.result ≡ length c.self.inside.journal.items = c.len-place.ensures ∙ c.reserve.new.self.ok.0 ∙ ap length c.reserve.ensures.items in
     rw c.push_reserved.ensures.items (rw c.reserve.ensures.items
-    (shown_push e c.deliver_read.new.self c.self.inside.first c.self.inside.journal.items _ c.self.invariant tt free
+    (shown_push e c.deliver_read.new.self c.self.inside.first c.self.inside.journal.items _ c.self.invariant
+    (seat_there c.args.seat _ c.in-None.ensures) tt free
     (c.in-Ok.ensures.ok ∙ ap (λ n. after e.config n (state_of e) event) place) c.in-Ok.ensures.config))
 
 pub returns-in-Ok-clause-reply : goal.returns-in-Ok-clause-reply
