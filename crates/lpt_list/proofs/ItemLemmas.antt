@@ -14,12 +14,17 @@ items_append form (x ∷ z ∷ xs) ys =
     ap (λ l. item_text form x ++ l) (items_append form (z ∷ xs) ys)
     ∙ sym (append_assoc (item_text form x) (items_text form (z ∷ xs)) (items_text form ys))
 
+-- items behind others that were added to a text are added as one list
+pub behind : (form : Form) (text : List ℕ) (xs ys : List Item)
+    → (text ++ items_text form xs) ++ items_text form ys ≡ text ++ items_text form (xs ++ ys)
+behind form text xs ys =
+    append_assoc text (items_text form xs) (items_text form ys)
+    ∙ ap (λ l. text ++ l) (sym (items_append form xs ys))
+
 -- a line is its opening, its items in two lists, and its end
 pub line_parts : (form : Form) (place : ℕ) (xs ys : List Item)
     → ((opening form place ++ items_text form xs) ++ items_text form ys) ++ closing form
     ≡ line_of form place (xs ++ ys)
 line_parts form place xs ys =
-    ap (λ l. l ++ closing form)
-    (append_assoc (opening form place) (items_text form xs) (items_text form ys)
-    ∙ ap (λ l. opening form place ++ l) (sym (items_append form xs ys)))
+    ap (λ l. l ++ closing form) (behind form (opening form place) xs ys)
     ∙ append_assoc (opening form place) (items_text form (xs ++ ys)) (closing form)

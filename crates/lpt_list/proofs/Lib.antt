@@ -1,2 +1,3 @@
 mod ListLemmas
 pub mod ItemLemmas
+pub mod SegmentLemmas

@@ -1,15 +1,16 @@
 -- What a line of a list says of octets.
-use Rattle.std.specs.Prelude.{ℕ, ◌==◌, ◌&&◌, if◌then◌else◌, List, [], ◌∷◌, ◌++◌, length, codes, Option, Some, None, Result, Ok, Err}
+use Rattle.std.specs.Prelude.{ℕ, ◌/◌, ◌%◌, ◌==◌, ◌&&◌, if◌then◌else◌, List, [], ◌∷◌, ◌++◌, length, codes, Option, Some, None, Result, Ok, Err}
 use Rattle.std.specs.Option.{option_map_or}
 use Rattle.std.specs.Fmt.{decimal}
 use Rattle.hex.specs.Hex.{encode_lower}
 use Rattle.lpt_packet.specs.declared.direction.Direction.TheVariants.{Up, Down}
 use Rattle.lpt_packet.specs.declared.fault.PacketFault.{PacketFault}
+use Rattle.lpt_packet.specs.declared.fault.PacketFault.TheVariants.{Short, Version, Length, Segmented, NoSecondary, Checksum}
 use Rattle.lpt_packet.specs.declared.packet.PacketKind.{PacketKind}
 use Rattle.lpt_packet.specs.declared.packet.PacketKind.TheVariants.{Tm, Tc}
 use Rattle.lpt_packet.specs.FaultNames as of_packet
-use Rattle.lpt_packet.specs.Numbers.{be}
-use Rattle.lpt_packet.specs.Packets.{Fields, Sight, IdlePacket, APacket, verdict}
+use Rattle.lpt_packet.specs.Numbers.{be, word_at}
+use Rattle.lpt_packet.specs.Packets.{Fields, fields_of, kind_of, Sight, IdlePacket, APacket, verdict}
 use Rattle.lpt_pus.specs.declared.fault.PusFault.{PusFault}
 use Rattle.lpt_pus.specs.FaultNames as of_header
 use Rattle.lpt_pus.specs.Commands.{Command, tc_verdict}
@@ -97,13 +98,16 @@ tm_rest t =
 abbrev pub tm_items : Telemetry → List Item
 tm_items t = tm_front t ++ tm_rest t
 
--- a part of a large message
+-- a part of a large message, of so many octets
+abbrev pub part_fields : Kind → (id number octets : ℕ) → List Item
+part_fields kind id number octets =
+    Word (codes "part") (codes "part") (kind_word kind)
+    ∷ Number (codes "id") (codes "large_message_transaction_identifier") id
+    ∷ Number (codes "number") (codes "part_sequence_number") number
+    ∷ Number (codes "octets") (codes "part_octets") octets ∷ []
+
 abbrev pub part_items : Piece → List Item
-part_items q =
-    Word (codes "part") (codes "part") (kind_word q.kind)
-    ∷ Number (codes "id") (codes "large_message_transaction_identifier") q.id
-    ∷ Number (codes "number") (codes "part_sequence_number") q.number
-    ∷ Number (codes "octets") (codes "part_octets") (length q.octets) ∷ []
+part_items q = part_fields q.kind q.id q.number (length q.octets)
 
 -- what should be a part, and isn't read as one of this part size
 abbrev pub unread_items : List Item
@@ -163,16 +167,17 @@ tc_carried p c =
     (areas_said (areas_in Up c.service c.subtype c.body))
 
 -- what telemetry carries that is no part, where that is a report
-abbrev pub tm_reported : Telemetry → List Item
-tm_reported t =
-    if t.service == 1 then report_said t.subtype t.body
-    else if (t.service == 13) && (t.subtype == 16) then abort_said t.body
-    else areas_said (areas_in Down t.service t.subtype t.body)
+abbrev pub reported : (service subtype : ℕ) → List ℕ → List Item
+reported service subtype body =
+    if service == 1 then report_said subtype body
+    else if (service == 13) && (subtype == 16) then abort_said body
+    else areas_said (areas_in Down service subtype body)
 
 -- what telemetry carries, where that is a part or a report
 abbrev pub tm_carried : ℕ → Telemetry → List Item
 tm_carried p t =
-    option_map_or (part_said p t.body) (carried_kind Down t.service t.subtype) (tm_reported t)
+    option_map_or (part_said p t.body) (carried_kind Down t.service t.subtype)
+    (reported t.service t.subtype t.body)
 
 -- ---- octets
 
@@ -196,12 +201,44 @@ field_said p Tm f = tm_said p (tm_verdict f)
 abbrev pub packet_said : ℕ → Fields → List Item
 packet_said p f = primary_items f ++ field_said p f.kind f
 
+-- the sequence flags of a segment of a message in several packets
+abbrev pub segment_text : ℕ → List ℕ
+segment_text flags =
+    if flags == 0 then codes "continuation" else if flags == 1 then codes "first"
+    else if flags == 2 then codes "last" else codes "unsegmented"
+
+abbrev pub flags_items : List ℕ → List Item
+flags_items word = Word (codes "segment") (codes "sequence_flags") word ∷ []
+
+-- a segment: its primary header, and which it is
+abbrev pub segment_items : List ℕ → List Item
+segment_items b =
+    primary_items (fields_of (kind_of (word_at b 0)) (word_at b 0 % 2048) (word_at b 2 % 16384) [])
+    ++ flags_items (segment_text (word_at b 2 / 16384))
+
+-- what is said of octets that fail this test, in front of the test: what a segment says
+abbrev pub segment_front : List ℕ → PacketFault → List Item
+segment_front b Short = []
+segment_front b Version = []
+segment_front b Length = []
+segment_front b Segmented = segment_items b
+segment_front b NoSecondary = []
+segment_front b Checksum = []
+
+-- octets that fail this test first
+abbrev pub refused_items : List ℕ → PacketFault → List Item
+refused_items b e = segment_front b e ++ fault_items (of_packet.code_of e) (of_packet.name_of e)
+
+-- an idle packet
+abbrev pub idle_items : List Item
+idle_items = Alone (codes "packet_type") (codes "idle") ∷ []
+
 -- octets of this verdict
-abbrev pub verdict_said : ℕ → Result Sight PacketFault → List Item
-verdict_said p (Ok IdlePacket) = Alone (codes "packet_type") (codes "idle") ∷ []
-verdict_said p (Ok (APacket f)) = packet_said p f
-verdict_said p (Err e) = fault_items (of_packet.code_of e) (of_packet.name_of e)
+abbrev pub verdict_said : ℕ → List ℕ → Result Sight PacketFault → List Item
+verdict_said p b (Ok IdlePacket) = idle_items
+verdict_said p b (Ok (APacket f)) = packet_said p f
+verdict_said p b (Err e) = refused_items b e
 
 -- octets, for parts of p octets
 abbrev pub said : (p : ℕ) → List ℕ → List Item
-said p b = verdict_said p (verdict b)
+said p b = verdict_said p b (verdict b)

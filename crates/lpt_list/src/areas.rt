@@ -1,6 +1,6 @@
-//! What a message of the memory service names, as the items of a line.
+//! What a message of the memory service names, as items that are added to a line.
 
-ghost use Rattle.std.specs.Prelude.{◌≡◌, Some, IfOk};
+ghost use Rattle.std.specs.Prelude.{◌≡◌, ◌++◌, Some, IfOk, OnOk};
 ghost use Rattle.std.specs.String.{string_bytes};
 ghost use Rattle.lpt_list.specs.Items.{areas_said, items_text};
 
@@ -14,23 +14,40 @@ use std::alloc::{AllocError, Global};
 pub fn print_areas(alloc: Global, form: Form, areas: Option<Areas>) -> Result<String, AllocError>
     ensures { IfOk result (λ t. string_bytes t ≡ items_text form (areas_said areas)) }
 {
+    let mut text = String::new(alloc);
+    add_areas(&mut text, form, areas)?;
+    Ok(text)
+}
+
+// Adds them.
+pub(crate) fn add_areas(
+    text: &mut String,
+    form: Form,
+    areas: Option<Areas>,
+) -> Result<(), AllocError>
+    ensures { OnOk result (string_bytes text.new
+        ≡ string_bytes text.old ++ items_text form (areas_said areas)) }
+{
     match areas {
-        Some(areas) => areas_words(alloc, form, &areas),
-        None => Ok(String::new(alloc)),
+        Some(areas) => add_named(text, form, &areas),
+        None => Ok(()),
     }
 }
 
 // The same where it names some.
-fn areas_words(alloc: Global, form: Form, areas: &Areas) -> Result<String, AllocError>
-    ensures { IfOk result (λ t. string_bytes t ≡ items_text form (areas_said (Some areas.now))) }
+fn add_named(text: &mut String, form: Form, areas: &Areas) -> Result<(), AllocError>
+    ensures { OnOk result (string_bytes text.new
+        ≡ string_bytes text.old ++ items_text form (areas_said (Some areas.now))) }
 {
     let (memory, count) = (areas.memory, areas.count);
     let (address, len) = (areas.address, areas.len);
     match form {
-        Form::Text => format!(in alloc;
+        Form::Text => write!(
+            text,
             " memory {memory} areas {count} address {address} length {len}"
         ),
-        Form::Json => format!(in alloc;
+        Form::Json => write!(
+            text,
             ",\"memory_id\":{memory},\"areas\":{count},\
             \"start_address\":{address},\"area_length\":{len}"
         ),

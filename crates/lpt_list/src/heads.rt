@@ -1,48 +1,65 @@
-//! What octets say, as the items of a line.
+//! What octets say, as items that are added to a line.
 
-ghost use Rattle.std.specs.Prelude.{◌≡◌, IfOk};
+ghost use Rattle.std.specs.Prelude.{◌≡◌, ◌++◌, IfOk, OnOk};
 ghost use Rattle.std.specs.String.{string_bytes};
 ghost use Rattle.lpt_packet.specs.Packets.{fields, verdict, Gives};
 ghost use Rattle.lpt_pus.specs.Commands.{command, tc_verdict};
 ghost use Rattle.lpt_pus.specs.Telemetry.{telemetry, tm_verdict};
 ghost use Rattle.lpt_part.specs.Splitting.{IsPartSize};
 ghost use Rattle.lpt_stream.specs.Pieces.{IsSealed};
-ghost use Rattle.lpt_list.specs.Items.{abort_items, abort_said, code_items, fault_items, field_said, items_text, packet_said, part_said, report_items, report_said, request_items, said, tc_carried, tc_said, tm_carried, tm_said, unread_items};
+ghost use Rattle.lpt_list.specs.Items.{fault_items, field_said, idle_items, items_text, packet_said, part_fields, part_said, said, tc_carried, tc_said, tm_carried, tm_said, unread_items};
 
 use crate::Form;
-use crate::areas::print_areas;
-use crate::headers::{joined, primary, tc_head, tm_head};
+use crate::areas::add_areas;
+use crate::headers::{add_primary, add_tc_head, add_tm_head};
+use crate::reports::add_reported;
+use crate::segments::print_refused;
 use lpt_areas::read_areas;
 use lpt_events::part_kind;
 use lpt_packet::{Direction, Packet, PacketFault, PacketKind, Seen, read_packet, read_sealed};
-use lpt_part::{ABORT, Kind, Reason, TRANSFER, read_abort, read_part};
+use lpt_part::{Kind, read_part};
 use lpt_pus::{TcHead, TmHead, read_tc, read_tm};
 use lpt_stream::PieceKind;
-use lpt_verify::{Report, read_report};
 use std::alloc::{AllocError, Global};
 
-/// The service type of request verification (ECSS-E-ST-70-41C).
-const VERIFICATION: u8 = 1;
-
-// What the octets of a piece of this kind say, for parts of `p` octets.
-pub(crate) fn said(
+// Adds what the octets of a piece of this kind say, for parts of `p` octets.
+pub(crate) fn add_said(
     alloc: Global,
+    text: &mut String,
     form: Form,
     kind: PieceKind,
     octets: &[u8],
     p: u32,
-) -> Result<String, AllocError>
+) -> Result<(), AllocError>
     requires size { IsPartSize p }
     requires sealed { IsSealed kind octets.now }
-    ensures { IfOk result (λ t. string_bytes t ≡ items_text form (said p octets.now)) }
+    ensures { OnOk result (string_bytes text.new
+        ≡ string_bytes text.old ++ items_text form (said p octets.now)) }
 {
     match read_piece(kind, octets) {
-        Ok(Seen::Idle) => match form {
-            Form::Text => String::from_str(alloc, " idle"),
-            Form::Json => String::from_str(alloc, ",\"packet_type\":\"idle\""),
-        },
-        Ok(Seen::Packet(packet)) => packet_said(alloc, form, &packet, p),
-        Err(fault) => fault_said(alloc, form, fault.code(), fault.name()),
+        Ok(Seen::Idle) => add_idle(text, form),
+        Ok(Seen::Packet(packet)) => add_packet(alloc, text, form, &packet, p),
+        Err(fault) => text.push_str(print_refused(alloc, form, octets, fault)?.as_str()),
+    }
+}
+
+/// That a packet is idle. The only error is out of memory.
+pub fn print_idle(alloc: Global, form: Form) -> Result<String, AllocError>
+    ensures { IfOk result (λ t. string_bytes t ≡ items_text form idle_items) }
+{
+    let mut text = String::new(alloc);
+    add_idle(&mut text, form)?;
+    Ok(text)
+}
+
+// Adds that a packet is idle.
+fn add_idle(text: &mut String, form: Form) -> Result<(), AllocError>
+    ensures { OnOk result (string_bytes text.new
+        ≡ string_bytes text.old ++ items_text form idle_items) }
+{
+    match form {
+        Form::Text => text.push_str(" idle"),
+        Form::Json => text.push_str(",\"packet_type\":\"idle\""),
     }
 }
 
@@ -57,218 +74,220 @@ fn read_piece(kind: PieceKind, octets: &[u8]) -> Result<Seen<'_>, PacketFault>
     }
 }
 
-// What a packet says: its primary header, and what is behind it.
-#[tactic(auto, using(crate::proofs::ItemLemmas::items_append))]
-fn packet_said(alloc: Global, form: Form, packet: &Packet<'_>, p: u32) -> Result<String, AllocError>
+// Adds what a packet says: its primary header, and what is behind it.
+#[tactic(auto, using(crate::proofs::ItemLemmas::behind))]
+fn add_packet(
+    alloc: Global,
+    text: &mut String,
+    form: Form,
+    packet: &Packet<'_>,
+    p: u32,
+) -> Result<(), AllocError>
     requires { IsPartSize p }
-    ensures { IfOk result (λ t. string_bytes t
-        ≡ items_text form (packet_said p (fields packet.now))) }
+    ensures { OnOk result (string_bytes text.new
+        ≡ string_bytes text.old ++ items_text form (packet_said p (fields packet.now))) }
 {
-    let front = primary(alloc, form, packet)?;
-    joined(front, field_said(alloc, form, packet, p)?)
+    add_primary(text, form, packet.kind, packet.apid, packet.count)?;
+    add_field(alloc, text, form, packet, p)
 }
 
-// What is behind it.
-fn field_said(alloc: Global, form: Form, packet: &Packet<'_>, p: u32) -> Result<String, AllocError>
+// Adds what is behind it.
+fn add_field(
+    alloc: Global,
+    text: &mut String,
+    form: Form,
+    packet: &Packet<'_>,
+    p: u32,
+) -> Result<(), AllocError>
     requires { IsPartSize p }
-    ensures { IfOk result (λ t. string_bytes t
-        ≡ items_text form (field_said p packet.now.kind (fields packet.now))) }
+    ensures { OnOk result (string_bytes text.new ≡ string_bytes text.old
+        ++ items_text form (field_said p packet.now.kind (fields packet.now))) }
 {
     match packet.kind {
-        PacketKind::Tc => tc_said(alloc, form, packet, p),
-        PacketKind::Tm => tm_said(alloc, form, packet, p),
+        PacketKind::Tc => add_tc(text, form, packet, p),
+        PacketKind::Tm => add_tm(alloc, text, form, packet, p),
     }
 }
 
-// What is behind it in a telecommand.
-#[tactic(auto, using(crate::proofs::ItemLemmas::items_append))]
-fn tc_said(alloc: Global, form: Form, packet: &Packet<'_>, p: u32) -> Result<String, AllocError>
+// Adds what is behind it in a telecommand.
+#[tactic(auto, using(crate::proofs::ItemLemmas::behind))]
+fn add_tc(text: &mut String, form: Form, packet: &Packet<'_>, p: u32) -> Result<(), AllocError>
     requires { IsPartSize p }
-    ensures { IfOk result (λ t. string_bytes t
-        ≡ items_text form (tc_said p (tc_verdict (fields packet.now)))) }
+    ensures { OnOk result (string_bytes text.new ≡ string_bytes text.old
+        ++ items_text form (tc_said p (tc_verdict (fields packet.now)))) }
 {
     match read_tc(packet) {
         Ok((head, body)) => {
-            let front = tc_head(alloc, form, &head)?;
-            joined(front, tc_carried(alloc, form, &head, body, p)?)
+            add_tc_head(text, form, &head)?;
+            add_tc_carried(text, form, &head, body, p)
         }
-        Err(fault) => fault_said(alloc, form, fault.code(), fault.name()),
+        Err(fault) => add_fault(text, form, fault.code(), fault.name()),
     }
 }
 
-// What is behind it in telemetry.
-#[tactic(auto, using(crate::proofs::ItemLemmas::items_append))]
-fn tm_said(alloc: Global, form: Form, packet: &Packet<'_>, p: u32) -> Result<String, AllocError>
+// Adds what is behind it in telemetry.
+#[tactic(auto, using(crate::proofs::ItemLemmas::behind))]
+fn add_tm(
+    alloc: Global,
+    text: &mut String,
+    form: Form,
+    packet: &Packet<'_>,
+    p: u32,
+) -> Result<(), AllocError>
     requires { IsPartSize p }
-    ensures { IfOk result (λ t. string_bytes t
-        ≡ items_text form (tm_said p (tm_verdict (fields packet.now)))) }
+    ensures { OnOk result (string_bytes text.new ≡ string_bytes text.old
+        ++ items_text form (tm_said p (tm_verdict (fields packet.now)))) }
 {
     match read_tm(packet) {
         Ok((head, body)) => {
-            let front = tm_head(alloc, form, &head)?;
-            joined(front, tm_carried(alloc, form, &head, body, p)?)
+            add_tm_head(text, form, &head)?;
+            add_tm_carried(alloc, text, form, &head, body, p)
         }
-        Err(fault) => fault_said(alloc, form, fault.code(), fault.name()),
+        Err(fault) => add_fault(text, form, fault.code(), fault.name()),
     }
 }
 
-// The first test that octets fail.
-fn fault_said(alloc: Global, form: Form, code: u16, name: &str) -> Result<String, AllocError>
+/// The first test that octets fail. The only error is out of memory.
+pub fn print_fault(alloc: Global, form: Form, code: u16, name: &str) -> Result<String, AllocError>
     ensures { IfOk result (λ t. string_bytes t ≡ items_text form (fault_items code name.now)) }
 {
+    let mut text = String::new(alloc);
+    add_fault(&mut text, form, code, name)?;
+    Ok(text)
+}
+
+// Adds the first test that octets fail.
+fn add_fault(text: &mut String, form: Form, code: u16, name: &str) -> Result<(), AllocError>
+    ensures { OnOk result (string_bytes text.new
+        ≡ string_bytes text.old ++ items_text form (fault_items code name.now)) }
+{
     match form {
-        Form::Text => format!(in alloc; " fault {code} {name}"),
-        Form::Json => format!(in alloc; ",\"fault_code\":{code},\"fault\":\"{name}\""),
+        Form::Text => write!(text, " fault {code} {name}"),
+        Form::Json => write!(text, ",\"fault_code\":{code},\"fault\":\"{name}\""),
     }
 }
 
-// The part or the request that a telecommand carries, where it carries one.
-fn tc_carried(
-    alloc: Global,
+// Adds the part or the request that a telecommand carries, where it carries one.
+fn add_tc_carried(
+    text: &mut String,
     form: Form,
     head: &TcHead,
     body: &[u8],
     p: u32,
-) -> Result<String, AllocError>
+) -> Result<(), AllocError>
     requires { IsPartSize p }
-    ensures { IfOk result (λ t. string_bytes t
-        ≡ items_text form (tc_carried p (command head.now body.now))) }
+    ensures { OnOk result (string_bytes text.new ≡ string_bytes text.old
+        ++ items_text form (tc_carried p (command head.now body.now))) }
 {
     let (service, subtype) = (head.service, head.subtype);
     match part_kind(Direction::Up, service, subtype) {
-        Some(kind) => part_said(alloc, form, kind, body, p),
-        None => print_areas(
-            alloc,
+        Some(kind) => add_part(text, form, kind, body, p),
+        None => add_areas(
+            text,
             form,
             read_areas(Direction::Up, service, subtype, body),
         ),
     }
 }
 
-// The part or the report that telemetry carries, where it carries one.
-fn tm_carried(
+// Adds the part or the report that telemetry carries, where it carries one.
+fn add_tm_carried(
     alloc: Global,
+    text: &mut String,
     form: Form,
     head: &TmHead,
     body: &[u8],
     p: u32,
-) -> Result<String, AllocError>
+) -> Result<(), AllocError>
     requires { IsPartSize p }
-    ensures { IfOk result (λ t. string_bytes t
-        ≡ items_text form (tm_carried p (telemetry head.now body.now))) }
+    ensures { OnOk result (string_bytes text.new ≡ string_bytes text.old
+        ++ items_text form (tm_carried p (telemetry head.now body.now))) }
 {
     let (service, subtype) = (head.service, head.subtype);
     match part_kind(Direction::Down, service, subtype) {
-        Some(kind) => part_said(alloc, form, kind, body, p),
-        None => match (service, subtype) {
-            (VERIFICATION, _) => report_said(alloc, form, subtype, body),
-            (TRANSFER, ABORT) => abort_said(alloc, form, body),
-            _ => print_areas(
-                alloc,
-                form,
-                read_areas(Direction::Down, service, subtype, body),
-            ),
-        },
+        Some(kind) => add_part(text, form, kind, body, p),
+        None => add_reported(alloc, text, form, service, subtype, body),
     }
 }
 
-// The part of this kind that a body is, or that it isn't read as one.
-fn part_said(
-    alloc: Global,
+// Adds the part of this kind that a body is, or that it isn't read as one.
+fn add_part(
+    text: &mut String,
     form: Form,
     kind: Kind,
     body: &[u8],
     p: u32,
-) -> Result<String, AllocError>
+) -> Result<(), AllocError>
     requires { IsPartSize p }
-    ensures { IfOk result (λ t. string_bytes t ≡ items_text form (part_said p body.now kind)) }
+    ensures { OnOk result (string_bytes text.new
+        ≡ string_bytes text.old ++ items_text form (part_said p body.now kind)) }
 {
-    let Ok(part) = read_part(kind, body, p) else {
-        return unread(alloc, form);
-    };
-    let kind = part.kind.word();
-    let id = part.id;
-    let number = part.number;
-    let octets = part.octets.len();
+    match read_part(kind, body, p) {
+        Ok(part) => {
+            let (id, number) = (u32::from(part.id), u32::from(part.number));
+            add_part_fields(text, form, part.kind, id, number, part.octets.len())
+        }
+        Err(_) => add_unread(text, form),
+    }
+}
+
+/// A part of this kind, identifier and number, and how many octets it has. The only error is out of
+/// memory.
+pub fn print_part(
+    alloc: Global,
+    form: Form,
+    kind: Kind,
+    id: u32,
+    number: u32,
+    octets: usize,
+) -> Result<String, AllocError>
+    ensures { IfOk result (λ t. string_bytes t
+        ≡ items_text form (part_fields kind id number octets)) }
+{
+    let mut text = String::new(alloc);
+    add_part_fields(&mut text, form, kind, id, number, octets)?;
+    Ok(text)
+}
+
+// Adds it.
+fn add_part_fields(
+    text: &mut String,
+    form: Form,
+    kind: Kind,
+    id: u32,
+    number: u32,
+    octets: usize,
+) -> Result<(), AllocError>
+    ensures { OnOk result (string_bytes text.new
+        ≡ string_bytes text.old ++ items_text form (part_fields kind id number octets)) }
+{
+    let kind = kind.word();
     match form {
-        Form::Text => format!(in alloc; " part {kind} id {id} number {number} octets {octets}"),
-        Form::Json => format!(in alloc;
+        Form::Text => write!(text, " part {kind} id {id} number {number} octets {octets}"),
+        Form::Json => write!(
+            text,
             ",\"part\":\"{kind}\",\"large_message_transaction_identifier\":{id},\
             \"part_sequence_number\":{number},\"part_octets\":{octets}"
         ),
     }
 }
 
-// That a part isn't read.
-fn unread(alloc: Global, form: Form) -> Result<String, AllocError>
+/// That a part isn't read. The only error is out of memory.
+pub fn print_unread(alloc: Global, form: Form) -> Result<String, AllocError>
     ensures { IfOk result (λ t. string_bytes t ≡ items_text form unread_items) }
 {
-    match form {
-        Form::Text => String::from_str(alloc, " part unread"),
-        Form::Json => String::from_str(alloc, ",\"part\":\"unread\""),
-    }
+    let mut text = String::new(alloc);
+    add_unread(&mut text, form)?;
+    Ok(text)
 }
 
-// The abortion report that a body is; nothing where it isn't read as one.
-fn abort_said(alloc: Global, form: Form, body: &[u8]) -> Result<String, AllocError>
-    ensures { IfOk result (λ t. string_bytes t ≡ items_text form (abort_said body.now)) }
-{
-    match read_abort(body) {
-        Ok((id, reason)) => abort_words(alloc, form, id, reason),
-        Err(_) => Ok(String::new(alloc)),
-    }
-}
-
-// What an abortion report says.
-fn abort_words(alloc: Global, form: Form, id: u16, reason: Reason) -> Result<String, AllocError>
-    ensures { IfOk result (λ t. string_bytes t ≡ items_text form (abort_items (id, reason))) }
-{
-    let reason = reason.code();
-    match form {
-        Form::Text => format!(in alloc; " abort id {id} reason {reason}"),
-        Form::Json => format!(in alloc;
-            ",\"large_message_transaction_identifier\":{id},\"failure_reason\":{reason}"
-        ),
-    }
-}
-
-// The verification report that a body is; nothing where it isn't read as one.
-fn report_said(alloc: Global, form: Form, subtype: u8, body: &[u8]) -> Result<String, AllocError>
-    ensures { IfOk result (λ t. string_bytes t ≡ items_text form (report_said subtype body.now)) }
-{
-    match read_report(subtype, body) {
-        Some(report) => report_words(alloc, form, &report),
-        None => Ok(String::new(alloc)),
-    }
-}
-
-// What a verification report says.
-#[tactic(auto, using(crate::proofs::ItemLemmas::items_append))]
-fn report_words(alloc: Global, form: Form, report: &Report) -> Result<String, AllocError>
-    ensures { IfOk result (λ t. string_bytes t ≡ items_text form (report_items report.now)) }
-{
-    let digits = hex::encode(alloc, &report.request.value.to_be_bytes())?;
-    let request = request_words(alloc, form, digits.as_str())?;
-    joined(request, code_words(alloc, form, report.code)?)
-}
-
-// A request, by the digits of its identifier.
-fn request_words(alloc: Global, form: Form, digits: &str) -> Result<String, AllocError>
-    ensures { IfOk result (λ t. string_bytes t ≡ items_text form (request_items digits.now)) }
+// Adds that a part isn't read.
+fn add_unread(text: &mut String, form: Form) -> Result<(), AllocError>
+    ensures { OnOk result (string_bytes text.new
+        ≡ string_bytes text.old ++ items_text form unread_items) }
 {
     match form {
-        Form::Text => format!(in alloc; " report request {digits}"),
-        Form::Json => format!(in alloc; ",\"request_id\":\"{digits}\""),
-    }
-}
-
-// A failure code, where there is one.
-fn code_words(alloc: Global, form: Form, code: Option<u16>) -> Result<String, AllocError>
-    ensures { IfOk result (λ t. string_bytes t ≡ items_text form (code_items code)) }
-{
-    match (form, code) {
-        (_, None) => Ok(String::new(alloc)),
-        (Form::Text, Some(code)) => format!(in alloc; " code {code}"),
-        (Form::Json, Some(code)) => format!(in alloc; ",\"failure_code\":{code}"),
+        Form::Text => text.push_str(" part unread"),
+        Form::Json => text.push_str(",\"part\":\"unread\""),
     }
 }

@@ -9,7 +9,7 @@ ghost use Rattle.lpt_list.specs.Items.{items_text};
 ghost use Rattle.lpt_list.specs.Lists.{closing, length_items, none_line, opening, piece_line};
 
 use crate::Form;
-use crate::heads::said;
+use crate::heads::add_said;
 use lpt_stream::PieceKind;
 use std::alloc::{AllocError, Global};
 
@@ -29,13 +29,31 @@ pub(crate) fn print_piece(
     ensures { IfOk result (λ t. string_bytes t ≡ piece_line form p place octets.now) }
 {
     let mut text = line_front(alloc, form, place, octets.len() as u64)?;
-    text.push_str(said(alloc, form, kind, octets, p)?.as_str())?;
+    add_said(alloc, &mut text, form, kind, octets, p)?;
+    text.push_str(line_end(form))?;
+    Ok(text)
+}
+
+/// The line of so many octets at a place, which say this. The only error is out of memory.
+pub fn print_said(
+    alloc: Global,
+    form: Form,
+    place: u64,
+    len: u64,
+    said: &str,
+) -> Result<String, AllocError>
+    ensures { IfOk result (λ t. string_bytes t
+        ≡ ((opening form place ++ items_text form (length_items len)) ++ said.now)
+        ++ closing form) }
+{
+    let mut text = line_front(alloc, form, place, len)?;
+    text.push_str(said)?;
     text.push_str(line_end(form))?;
     Ok(text)
 }
 
 /// For so many octets a line has room from the first.
-const LINE_ROOM: usize = 160;
+const LINE_ROOM: usize = 320;
 
 // The front of a line, with room for the rest: its place, and how many octets there are.
 fn line_front(alloc: Global, form: Form, place: u64, len: u64) -> Result<String, AllocError>
@@ -50,8 +68,8 @@ fn line_front(alloc: Global, form: Form, place: u64, len: u64) -> Result<String,
     Ok(text)
 }
 
-// The line that no packet is at a place. The only error is out of memory.
-pub(crate) fn print_none(alloc: Global, form: Form, place: u64) -> Result<String, AllocError>
+/// The line that no packet is at a place. The only error is out of memory.
+pub fn print_none(alloc: Global, form: Form, place: u64) -> Result<String, AllocError>
     ensures { IfOk result (λ t. string_bytes t ≡ none_line form place) }
 {
     match form {

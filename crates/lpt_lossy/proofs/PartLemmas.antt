@@ -1,13 +1,10 @@
 -- Front parts of what is written, and what is held.
-use Rattle.std.proofs.Common.{◌≡◌, ◌∙◌, ap, sym, refl, subst, ℕ, zero, suc, ◌+◌, ◌-◌, ◌<◌, ◌≤◌, ◌==◌, Bool, true, false, if◌then◌else◌, List, [], ◌∷◌, ◌++◌, length, map, take, drop, get_or, set, inl, inr, nat_lt, ◌⊎◌, Option, Result, Ok, Err, append-nil, append_assoc, arith, length-drop}
+use Rattle.std.proofs.Common.{◌≡◌, ◌∙◌, ap, sym, refl, subst, ℕ, zero, suc, ◌+◌, ◌<◌, ◌==◌, Bool, true, false, if◌then◌else◌, List, [], ◌∷◌, ◌++◌, length, map, take, drop, get_or, set, inl, inr, nat_lt, ◌⊎◌, Option, Result, Ok, Err, append-nil, append_assoc, arith}
 use Rattle.std.specs.Prelude.{IfErr}
 use Rattle.std.specs.List.{concat}
 use Rattle.std.specs.Io.KnownBytes.{Appends, IsAtEnd}
 use Rattle.std.proofs.KnownBytes.{Appends-trans}
 use Rattle.std.proofs.lemmas.Bool.Decides.{nat_tests}
-use Rattle.std.proofs.Math.Seq.{paste, take-append-add}
-use Rattle.std.proofs.lemmas.List.{drop-take, length-take-le, take-append-le, take-take}
-use Rattle.std.proofs.lemmas.List.Edits.{take-paste}
 use Rattle.lpt_text.specs.Streams.{AppendsPart}
 use Rattle.lpt_text.proofs.StreamLemmas.{part_after, part_of_front}
 use Rattle.lpt_lossy.specs.declared.fate.Fate.{Fate}
@@ -72,47 +69,6 @@ concat-at items (x ∷ vs) (suc i) d h =
     ∙ ap (λ (o : List ℕ). o ++ back) (sym (append_assoc (items x) front turn))
 
 -- ---- what is held of a stream
-
--- what was moved to the front
-pub moved : (s e : ℕ) (items : List ℕ)
-    → s ≤ e
-    → e ≤ length items
-    → take (e - s) (paste items 0 (drop s items) (e - s)) ≡ drop s (take e items)
-moved s e items h k =
-    let none : 0 + (e - s) ≡ e - s = omega arith in
-    let all : s + (e - s) ≡ e = omega arith in
-    ap (λ (n : ℕ). take n (paste items 0 (drop s items) (e - s))) (sym none)
-    ∙ take-paste items 0 (drop s items) (e - s) (omega arith) (omega (arith, length-drop s items))
-    ∙ sym (drop-take s (e - s) items)
-    ∙ ap (λ (n : ℕ). drop s (take n items)) all
-
--- what was read behind it
-pub filled : (s e n len : ℕ) (items slice buf post more : List ℕ)
-    → s ≡ 0
-    → slice ≡ items
-    → e ≤ length items
-    → n ≤ length buf
-    → e + n ≤ len
-    → drop s (take (e + n) (take len ((take e slice ++ (buf ++ post)) ++ more)))
-    ≡ drop s (take e items) ++ take n buf
-filled s e n len items slice buf post more none same within some fits =
-    let front = take e items in
-    let size : length front ≡ e = length-take-le e items within in
-    let joined : (take e slice ++ (buf ++ post)) ++ more ≡ front ++ (buf ++ (post ++ more))
-    = ap (λ (o : List ℕ). (take e o ++ (buf ++ post)) ++ more) same
-    ∙ append_assoc front (buf ++ post) more
-    ∙ ap (λ (o : List ℕ). front ++ o) (append_assoc buf post more) in
-    let all = (front ++ (buf ++ (post ++ more))) in
-    let seen : take (e + n) (take len ((take e slice ++ (buf ++ post)) ++ more))
-    ≡ front ++ take n buf
-    = take-take (e + n) len _ fits
-    ∙ ap (take (e + n)) joined
-    ∙ ap (λ (k : ℕ). take (k + n) all) (sym size)
-    ∙ take-append-add front (buf ++ (post ++ more)) n
-    ∙ ap (λ (o : List ℕ). front ++ o) (take-append-le n buf (post ++ more) some) in
-    ap (λ (k : ℕ). drop k (take (e + n) (take len ((take e slice ++ (buf ++ post)) ++ more)))) none
-    ∙ seen
-    ∙ ap (λ (k : ℕ). drop k (take e items) ++ take n buf) (sym none)
 
 -- octets came, or it is the end
 pub more-or : (n : ℕ) (buf : List ℕ) (after : Option (List ℕ))

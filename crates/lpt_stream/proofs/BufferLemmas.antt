@@ -1,8 +1,11 @@
 -- Octets of a stream that are read behind those that are held.
-use Rattle.std.proofs.Common.{◌≡◌, ◌⊎◌, ◌∙◌, ap, sym, subst, inl, inr, ℕ, ◌+◌, ◌-◌, ◌<◌, ◌≤◌, ◌==◌, min, Bool, true, false, if◌then◌else◌, refl, List, [], ◌∷◌, ◌++◌, length, take, Option, Err, arith, append_assoc, append-nil, length-append, take_all}
+use Rattle.std.proofs.Common.{◌≡◌, ◌⊎◌, ◌∙◌, ap, sym, subst, inl, inr, ℕ, zero, suc, ◌+◌, ◌-◌, ◌<◌, ◌≤◌, ◌==◌, min, Bool, true, false, if◌then◌else◌, refl, List, [], ◌∷◌, ◌++◌, length, take, drop, Option, Err, arith, append_assoc, append-nil, length-append, length-drop, take_all}
 use Rattle.std.specs.Io.KnownBytes.{Consumes, IsAtEnd}
 use Rattle.std.proofs.KnownBytes.{Consumes-nil, Consumes-trans}
-use Rattle.std.proofs.lemmas.List.{length-take, take_min}
+use Rattle.std.proofs.lemmas.Bool.Decides.{nat_tests}
+use Rattle.std.proofs.Math.Seq.{paste, take-append-add}
+use Rattle.std.proofs.lemmas.List.{drop-take, length-take, length-take-le, take-append-le, take-take, take_min}
+use Rattle.std.proofs.lemmas.List.Edits.{take-paste}
 use Rattle.lpt_packet.specs.Numbers.{word_at}
 use Rattle.lpt_text.specs.declared.fault.StreamFault.{StreamFault}
 use Rattle.lpt_text.specs.declared.fault.StreamFault.TheVariants as faults
@@ -170,6 +173,70 @@ pub passing-lost : (fault : StreamFault) (old new : PacketBuffer) (a b : Option 
 passing-lost faults.Read old new a b had failed h = (h.0, h.1)
 passing-lost faults.Memory old new a b had failed h = (h.0, h.1)
 passing-lost faults.Write old new a b had failed h = (h.0, h.1.added.consumed)
+
+-- ---- what is read in its place
+
+-- what was moved to the front
+pub moved : (s e : ℕ) (items : List ℕ)
+    → s ≤ e
+    → e ≤ length items
+    → take (e - s) (paste items 0 (drop s items) (e - s)) ≡ drop s (take e items)
+moved s e items h k =
+    let none : 0 + (e - s) ≡ e - s = omega arith in
+    let all : s + (e - s) ≡ e = omega arith in
+    ap (λ (n : ℕ). take n (paste items 0 (drop s items) (e - s))) (sym none)
+    ∙ take-paste items 0 (drop s items) (e - s) (omega arith) (omega (arith, length-drop s items))
+    ∙ sym (drop-take s (e - s) items)
+    ∙ ap (λ (n : ℕ). drop s (take n items)) all
+
+-- what was read behind it
+pub filled : (s e n len : ℕ) (items slice buf post more : List ℕ)
+    → s ≡ 0
+    → slice ≡ items
+    → e ≤ length items
+    → n ≤ length buf
+    → e + n ≤ len
+    → drop s (take (e + n) (take len ((take e slice ++ (buf ++ post)) ++ more)))
+    ≡ drop s (take e items) ++ take n buf
+filled s e n len items slice buf post more none same within some fits =
+    let front = take e items in
+    let size : length front ≡ e = length-take-le e items within in
+    let joined : (take e slice ++ (buf ++ post)) ++ more ≡ front ++ (buf ++ (post ++ more))
+    = ap (λ (o : List ℕ). (take e o ++ (buf ++ post)) ++ more) same
+    ∙ append_assoc front (buf ++ post) more
+    ∙ ap (λ (o : List ℕ). front ++ o) (append_assoc buf post more) in
+    let all = (front ++ (buf ++ (post ++ more))) in
+    let seen : take (e + n) (take len ((take e slice ++ (buf ++ post)) ++ more))
+    ≡ front ++ take n buf
+    = take-take (e + n) len _ fits
+    ∙ ap (take (e + n)) joined
+    ∙ ap (λ (k : ℕ). take (k + n) all) (sym size)
+    ∙ take-append-add front (buf ++ (post ++ more)) n
+    ∙ ap (λ (o : List ℕ). front ++ o) (take-append-le n buf (post ++ more) some) in
+    ap (λ (k : ℕ). drop k (take (e + n) (take len ((take e slice ++ (buf ++ post)) ++ more)))) none
+    ∙ seen
+    ∙ ap (λ (k : ℕ). drop k (take e items) ++ take n buf) (sym none)
+
+-- octets came, or it is the end
+pub more_given : (n : ℕ) (buf : List ℕ) (after : Option (List ℕ))
+    → n ≤ length buf
+    → 0 < length buf
+    → (n ≡ 0 → 0 < length buf → IsAtEnd after)
+    → (((n == 0) ≡ false) × (0 < length (take n buf))) ⊎ (((n == 0) ≡ true) × IsAtEnd after)
+more_given zero buf after within some end = inr (refl, end refl some)
+more_given (suc n) buf after within some end =
+    inl (grind (arith, nat_tests), omega (arith, length-take-le (suc n) buf within))
+
+-- what there is room for behind it changes nothing of it
+pub roomed : (s e n : ℕ) (was now more : List ℕ)
+    → e ≤ length was
+    → length was ≤ n
+    → now ≡ take n was ++ more
+    → drop s (take e now) ≡ drop s (take e was)
+roomed s e n was now more within all is =
+    ap (λ (o : List ℕ). drop s (take e o))
+    (is ∙ ap (λ (o : List ℕ). o ++ more) (take_all n was all))
+    ∙ ap (λ (o : List ℕ). drop s o) (take-append-le e was more within)
 
 -- ---- what is kept
 

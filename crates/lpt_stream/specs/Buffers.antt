@@ -11,9 +11,9 @@ use Rattle.lpt_stream.specs.Pieces.{Piece, begins, lookahead, piece_at, waits}
 
 -- the octets that were read and not passed over yet
 abbrev pub held : PacketBuffer → List ℕ
-held b = drop b.start b.octets.items
+held b = drop b.start (take b.end b.octets.items)
 
--- all octets that are kept, those that were passed over too
+-- all octets for which there is room
 abbrev pub kept : PacketBuffer → List ℕ
 kept b = b.octets.items
 

@@ -8,7 +8,7 @@ use crate::cutting::whole_length;
 use crate::found::{Found, other_in_front, packet_unless};
 use crate::waiting::waits;
 use lpt_text::{Sink, Source, StreamFault, flush_out};
-use std::alloc::Global;
+use std::alloc::{AllocError, Global};
 
 /// How many octets are asked for at a time.
 const CHUNK: usize = 65_536;
@@ -22,19 +22,23 @@ const LOOKAHEAD: usize = 131_084;
 /// two packets, and what one read gives.
 #[derive(Drop)]
 pub struct PacketBuffer {
+    // What was read stands in front, and behind it what has been, in which the next is read.
     octets: Vec<u8>,
     // How many of them were passed over.
     start: usize,
+    // How many were read, those among them.
+    end: usize,
     // Whether they come right behind a packet.
     in_step: bool,
     // Whether the stream's end was read.
     ended: bool,
-    ghost within: { start ≤ length octets.items },
+    ghost ordered: { start ≤ end },
+    ghost within: { end ≤ length octets.items },
     ghost few: { length octets.items ≤ most_kept },
 }
 
 impl PacketBuffer {
-    ghost use Rattle.std.specs.Prelude.{◌≡◌, ◌≢◌, ◌⊎◌, ◌+◌, ◌<◌, ◌++◌, [], drop, take, true, false, None, Err, IfErr, IfSome, OnOk};
+    ghost use Rattle.std.specs.Prelude.{◌≡◌, ◌≢◌, ◌⊎◌, ◌+◌, ◌<◌, [], drop, take, true, false, None, Err, IfSome, OnOk};
     ghost use Rattle.std.specs.Io.KnownBytes.{Keeps};
     ghost use Rattle.lpt_text.specs.Streams.{WriteEnds};
     ghost use Rattle.lpt_stream.specs.Buffers.{held, is_ended, is_in_step, kept, Fills, FindsPassing, FindsPiece, IsInFront, IsUnsettled};
@@ -49,6 +53,7 @@ impl PacketBuffer {
         PacketBuffer {
             octets: Vec::new(alloc),
             start: 0,
+            end: 0,
             in_step: true,
             ended: false,
         }
@@ -58,10 +63,10 @@ impl PacketBuffer {
     pub fn held(&self) -> &[u8]
         ensures { result.now ≡ held self.now }
     {
-        &self.octets[self.start..]
+        &self.octets[self.start..self.end]
     }
 
-    /// Cites how many octets are kept, of which some may have been passed over.
+    /// Cites for how many octets there is room, of which some are held.
     pub fn few_are_kept(&self)
         ensures { length (kept self.now) ≤ most_kept }
     {
@@ -197,45 +202,46 @@ impl PacketBuffer {
         ensures { Fills result self.old self.new (S.remaining source.old) (S.remaining source.new)
             (S.failed source.old) (S.failed source.new) }
     {
-        let mut chunk = [0; CHUNK];
-        let Some(count) = source.read(&mut chunk) else {
+        self.compact();
+        let Ok(()) = self.make_room() else {
+            return Err(StreamFault::Memory);
+        };
+        let room = self.end..self.end + CHUNK;
+        let Some(count) = source.read(&mut self.octets[room]) else {
             return Err(StreamFault::Read);
         };
-        if count == 0 {
-            self.ended = true;
-            return Ok(());
-        }
-        match self.push(&chunk[..count]) {
-            Ok(()) => Ok(()),
-            Err(fault) => Err(fault),
-        }
-    }
-
-    // Holds octets behind the rest.
-    fn push(&mut self, octets: &[u8]) -> Result<(), StreamFault>
-        requires { length (held self.old) + length octets.now ≤ most_kept }
-        ensures held { OnOk result (held self.new ≡ held self.old ++ octets.now) }
-        ensures step { is_in_step self.new ≡ is_in_step self.old }
-        ensures end { is_ended self.new ≡ is_ended self.old }
-        ensures fault { IfErr result (λ e. e ≡ StreamFault.Memory) }
-    {
-        self.compact();
-        if self.octets.extend_from_slice(octets).is_err() {
-            return Err(StreamFault::Memory);
-        }
+        self.ended = count == 0;
+        self.end += count;
         Ok(())
     }
 
-    // Gives up the octets that were passed over.
+    // Moves what is held to the front.
     fn compact(&mut self)
         ensures held { held self.new ≡ held self.old }
-        ensures all { length (kept self.new) ≡ length (held self.old) }
+        ensures front { self.new.start ≡ 0 }
+        ensures last { self.new.end ≡ length (held self.old) }
         ensures step { is_in_step self.new ≡ is_in_step self.old }
         ensures end { is_ended self.new ≡ is_ended self.old }
     {
-        let left = self.octets.len() - self.start;
-        self.octets.rotate_left(self.start);
-        self.octets.truncate(left);
+        self.octets.copy_within(self.start..self.end, 0);
+        self.end -= self.start;
         self.start = 0;
+    }
+
+    // Makes room behind it for what a read gives.
+    fn make_room(&mut self) -> Result<(), AllocError>
+        requires { self.old.end < lookahead }
+        ensures held { held self.new ≡ held self.old }
+        ensures front { self.new.start ≡ self.old.start }
+        ensures last { self.new.end ≡ self.old.end }
+        ensures room { OnOk result (self.new.end + 65536 ≤ length self.new.octets.items) }
+        ensures step { is_in_step self.new ≡ is_in_step self.old }
+        ensures end { is_ended self.new ≡ is_ended self.old }
+    {
+        let room = self.end + CHUNK;
+        if self.octets.len() < room {
+            self.octets.resize(room, 0)?;
+        }
+        Ok(())
     }
 }

@@ -2,7 +2,8 @@
 use Rattle.std.proofs.Common.{◌≡◌, ◌∙◌, ◌<◌, ◌≤◌, ◌+◌, ◌++◌, List, ℕ, ap, length, take, arith, length-drop}
 use Rattle.std.proofs.lemmas.Bool.Decides.{nat_tests}
 use Rattle.std.proofs.lemmas.List.{length-take, length-take-le}
-use Rattle.lpt_lossy.proofs.PartLemmas.{filled, more-or}
+use Rattle.lpt_stream.proofs.BufferLemmas.{filled}
+use Rattle.lpt_lossy.proofs.PartLemmas.{more-or}
 use Rattle.lpt_lossy.proofs.frames.FrameBuffer.fill.Goals as goal
 
 pub returns : goal.returns

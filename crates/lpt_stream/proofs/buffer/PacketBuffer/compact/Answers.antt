@@ -1,0 +1,10 @@
+-- What was moved to the front is what was held.
+use Rattle.std.proofs.Common.{◌∙◌, ◌-◌, ap, take, List, ℕ}
+use Rattle.lpt_stream.proofs.BufferLemmas.{moved}
+use Rattle.lpt_stream.proofs.buffer.PacketBuffer.compact.Goals as goal
+
+pub returns-clause-held : goal.returns-clause-held
+returns-clause-held c =
+    let b = c.args.self.now in
+    ap (λ (o : List ℕ). take (b.end - b.start) o) c.copy_within.ensures.items
+    ∙ moved b.start b.end b.octets.items b.ordered b.within
