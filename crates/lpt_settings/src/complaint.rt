@@ -1,14 +1,16 @@
 //! What is reported of a configuration that is refused.
 
 ghost use Rattle.std.specs.Prelude.{◌≡◌, None, Some, not, is_some, option_and_then, IfOk, IfSome};
+ghost use Rattle.toml.specs.Errors.{IsMemory};
 ghost use Rattle.toml.specs.Parse.{parse_document};
 ghost use Rattle.lpt_settings.specs.Settings.{settings_of};
 
 use crate::place::{line_at, line_of};
 use crate::settings::judge;
-use crate::wrong::{Reason, Wrong};
+use crate::wrong::{Place, Reason, Wrong};
 use std::alloc::{AllocError, Global};
 use std::fmt;
+use toml::de::Error;
 
 /// What is wrong with a configuration file, where, and why.
 ///
@@ -64,16 +66,24 @@ pub fn why_refused(alloc: Global, text: &str) -> Result<Option<Complaint>, Alloc
     match toml::table_from_str(alloc, text) {
         Ok(table) => match judge(&table) {
             Ok(_) => Ok(None),
-            Err(wrong) => Ok(Some(told(alloc, text, wrong)?)),
+            Err(wrong) => Ok(Some(complain(alloc, text, wrong)?)),
         },
-        Err(error) => {
-            let Some(span) = error.span() else {
-                return Err(AllocError);
-            };
-            let line = line_at(text, span.start);
-            Ok(Some(not_toml(alloc, line, error.message())?))
-        }
+        Err(error) => Ok(Some(complain_of_toml(alloc, text, &error)?)),
     }
+}
+
+/// What the reader of TOML says of a text that it doesn't read.
+///
+/// The only error is out of memory; that of the reader is one.
+pub fn complain_of_toml(alloc: Global, text: &str, error: &Error) -> Result<Complaint, AllocError>
+    ensures reason { IfOk result (λ c. c.reason ≡ Reason.NotToml) }
+    ensures memory { IfOk result (λ _. ¬ IsMemory error.now) }
+{
+    let Some(span) = error.span() else {
+        return Err(AllocError);
+    };
+    let line = line_at(text, span.start);
+    not_toml(alloc, line, error.message())
 }
 
 // What the reader of TOML says of a text, of this line.
@@ -89,30 +99,38 @@ fn not_toml(alloc: Global, line: usize, message: &str) -> Result<Complaint, Allo
     })
 }
 
-// What is wrong with a table, with its place in the text.
-fn told(alloc: Global, text: &str, wrong: Wrong<'_>) -> Result<Complaint, AllocError>
+/// What is wrong with the table of a text, with its place there.
+///
+/// The only error is out of memory.
+pub fn complain(alloc: Global, text: &str, wrong: Wrong<'_>) -> Result<Complaint, AllocError>
     ensures { IfOk result (λ c. c.reason ≡ wrong.entry.reason) }
 {
     Ok(Complaint {
-        line: line_of(text, wrong.memory, wrong.key),
-        place: print_place(alloc, wrong.memory, wrong.key)?,
+        line: line_of(text, wrong.place, wrong.key),
+        place: print_place(alloc, wrong.place, wrong.key)?,
         reason: wrong.reason,
         words: String::new(alloc),
     })
 }
 
-// The memory and the key, where there are any.
-fn print_place(alloc: Global, memory: Option<usize>, key: &str) -> Result<String, AllocError> {
-    match memory {
-        None if key.is_empty() => Ok(String::new(alloc)),
-        None => format!(in alloc; "{key}: "),
-        Some(place) => {
+// The table and the key, where there are any.
+fn print_place(alloc: Global, place: Place, key: &str) -> Result<String, AllocError> {
+    let front = print_table(alloc, place)?;
+    if key.is_empty() {
+        return Ok(front);
+    }
+    let table = front.as_str();
+    format!(in alloc; "{table}{key}: ")
+}
+
+// The table, where it isn't that of the whole file.
+fn print_table(alloc: Global, place: Place) -> Result<String, AllocError> {
+    match place {
+        Place::Top => Ok(String::new(alloc)),
+        Place::Memory(place) => {
             let number = place.saturating_add(1);
-            if key.is_empty() {
-                format!(in alloc; "memory {number}: ")
-            } else {
-                format!(in alloc; "memory {number}: {key}: ")
-            }
+            format!(in alloc; "memory {number}: ")
         }
+        Place::Table(name) => format!(in alloc; "{name}: "),
     }
 }

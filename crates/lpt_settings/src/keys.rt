@@ -26,8 +26,8 @@ pub(crate) const KEYS: [&str; 11] = [
 /// The keys of a memory.
 pub(crate) const MEMORY_KEYS: [&str; 3] = ["id", "size", "fill"];
 
-// Whether each key of the table is one of the words.
-pub(crate) fn has_only(table: &Table, words: &[&str]) -> bool
+/// Whether each key of the table is one of the words.
+pub fn has_only(table: &Table, words: &[&str]) -> bool
     ensures { result ≡ has_only (map (λ w. w.now) words.now) (table_view table.now) }
 {
     are_keys_among(table, words)
@@ -41,8 +41,8 @@ fn are_keys_among(table: &Table, words: &[&str]) -> bool
     table.keys().all(|key| is_one_of(key.as_str(), words))
 }
 
-// The first key of the table that is none of the words; the empty text where each is one.
-pub(crate) fn unknown_key<'t>(table: &'t Table, words: &[&str]) -> &'t str
+/// The first key of the table that is none of the words; the empty text where each is one.
+pub fn unknown_key<'t>(table: &'t Table, words: &[&str]) -> &'t str
     ensures { result.now ≡ unknown_key (map (λ w. w.now) words.now) (table_view table.now) }
 {
     match first_unknown(table, words) {

@@ -1,7 +1,8 @@
 //! The configuration file: a TOML document of numbers, each with its range and its default, of the
 //! mode, and of the memories. The main types are lpt_events' `Config` and `Turns`, lpt_memory's
 //! `Memories`, `SettingsFault`, and `Complaint`, what is wrong with a text. The first calls are
-//! `read_config` and, where it refuses a text, `why_refused`.
+//! `read_config` and, where it refuses a text, `why_refused`. Whoever reads another file of tables
+//! does it by `has_only`, `unknown_key` and `number`, and says by `complain` what is wrong there.
 //!
 //! | Key | Range | Default |
 //! |---|---|---|
@@ -40,7 +41,9 @@ mod place;
 mod settings;
 mod wrong;
 
-pub use complaint::{Complaint, why_refused};
+pub use complaint::{Complaint, complain, complain_of_toml, why_refused};
 pub use fault::SettingsFault;
+pub use keys::{has_only, unknown_key};
+pub use numbers::{number, number_of_value};
 pub use settings::read_config;
-pub use wrong::Reason;
+pub use wrong::{Place, Reason, Wrong};

@@ -8,7 +8,7 @@ ghost use Rattle.lpt_memory.specs.Limits.{memory_limit, size_limit};
 
 use crate::keys::{MEMORY_KEYS, has_only, unknown_key};
 use crate::numbers::number;
-use crate::wrong::{Reason, Wrong};
+use crate::wrong::{Place, Reason, Wrong};
 use lpt_memory::{MEMORY_LIMIT, Memories, SIZE_LIMIT};
 use lpt_packet::Octets;
 use std::alloc::{AllocError, Global};
@@ -52,10 +52,10 @@ fn judge_values(values: &[Value]) -> Result<(), Wrong<'_>>
     for (place, value) in values.iter().enumerate() {
         let memory = match described(value) {
             Ok(memory) => memory,
-            Err(wrong) => return Err(wrong.in_memory(place)),
+            Err(wrong) => return Err(wrong.within(Place::Memory(place))),
         };
         if has_id(&values[place + 1..], memory.id) {
-            return Err(Wrong::at("id", Reason::Twice).in_memory(place));
+            return Err(Wrong::at("id", Reason::Twice).within(Place::Memory(place)));
         }
     }
     Ok(())

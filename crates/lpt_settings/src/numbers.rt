@@ -11,7 +11,7 @@ use toml::{Table, Value};
 /// The number at a key of the table, from `least` to `greatest`; `default` where the key is absent.
 ///
 /// Errors: where the key has another value, or is absent and has no default.
-pub(crate) fn number(
+pub fn number(
     table: &Table,
     key: &'static str,
     least: u32,
@@ -30,8 +30,10 @@ pub(crate) fn number(
     }
 }
 
-// The number of a value, if it is an integer from `least` to `greatest`.
-fn number_of_value(
+/// The number of a value, if it is an integer from `least` to `greatest`.
+///
+/// Errors: where it is another value.
+pub fn number_of_value(
     value: &Value,
     key: &'static str,
     least: u32,

@@ -1,7 +1,9 @@
-//! Where something stands in the text of a configuration file, as its lines begin.
+//! Where something stands in the text of a file of tables, as its lines begin.
 
 ghost use Rattle.std.specs.Prelude.{◌≡◌, ◌≤◌, length};
 ghost use Rattle.lpt_settings.specs.Places.{line_at, line_ends};
+
+use crate::wrong::Place;
 
 // The line of the octet of this place, counted from 1.
 #[tactic(auto, using(std::proofs::lemmas::List::take_all))]
@@ -23,11 +25,12 @@ fn line_ends(octets: &[u8]) -> usize
     octets.iter().filter(|octet| **octet == b'\n').count()
 }
 
-// The line of a key, counted from 1: at the top, or in the memory of this place.
-pub(crate) fn line_of(text: &str, memory: Option<usize>, key: &str) -> Option<usize> {
-    match memory {
-        None => line_at_top(text, key.as_bytes()),
-        Some(place) => line_in_memory(text, place, key.as_bytes()),
+// The line of a key of this table, counted from 1.
+pub(crate) fn line_of(text: &str, place: Place, key: &str) -> Option<usize> {
+    match place {
+        Place::Top => line_at_top(text, key.as_bytes()),
+        Place::Memory(place) => line_in_memory(text, place, key.as_bytes()),
+        Place::Table(name) => line_in_table(text, name.as_bytes(), key.as_bytes()),
     }
 }
 
@@ -64,6 +67,29 @@ fn line_in_memory(text: &str, place: usize, key: &[u8]) -> Option<usize> {
         } else if found.is_some() && first_key(line) == key {
             return Some(number);
         } else if begun == 0 && is_memory {
+            return Some(number);
+        }
+    }
+    found
+}
+
+// The line of a key of the table of this name, or else that with which the table begins.
+fn line_in_table(text: &str, name: &[u8], key: &[u8]) -> Option<usize> {
+    let mut found = None;
+    for (index, line) in text.lines().enumerate() {
+        let line = line.as_bytes();
+        let number = index.saturating_add(1);
+        let is_named = first_key(line) == name;
+        if is_header(line) {
+            if found.is_some() {
+                return found;
+            }
+            if is_named {
+                found = Some(number);
+            }
+        } else if found.is_some() && first_key(line) == key {
+            return Some(number);
+        } else if found.is_none() && is_named {
             return Some(number);
         }
     }

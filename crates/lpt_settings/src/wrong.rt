@@ -1,4 +1,4 @@
-//! What is wrong with a configuration.
+//! What is wrong with a configuration, or with another file of tables.
 
 use std::fmt;
 
@@ -17,9 +17,15 @@ pub enum Reason {
     OutOfRange(u32, u32),
     /// The value names no mode.
     NotMode,
+    /// The value is neither true nor false.
+    NotFlag,
+    /// The value isn't how many bits a field of a header has.
+    NotHeaderBits,
+    /// The value isn't how many bits a field of a part has.
+    NotPartBits,
     /// The value isn't an array.
     NotArray,
-    /// The item of the array isn't a table.
+    /// The value, or the item of the array, isn't a table.
     NotTable,
     /// There are no memories, or more than 16.
     Count,
@@ -38,6 +44,9 @@ impl fmt::Display for Reason {
                 return write!(f, "not from {least} to {greatest}");
             }
             Reason::NotMode => "neither \"any\" nor \"strict\"",
+            Reason::NotFlag => "neither true nor false",
+            Reason::NotHeaderBits => "not 0, 8 or 16",
+            Reason::NotPartBits => "neither 16 nor 32",
             Reason::NotArray => "not an array of tables",
             Reason::NotTable => "not a table",
             Reason::Count => "not 1 to 16 tables",
@@ -47,30 +56,42 @@ impl fmt::Display for Reason {
     }
 }
 
-// What is wrong with the table of a configuration, and at which key.
+/// In which table of a file a key stands.
 #[derive(Clone, Copy)]
-pub(crate) struct Wrong<'t> {
-    // The place in the array of the memory whose key it is, from 0; `None` for a key at the top.
-    pub memory: Option<usize>,
-    // The key; the empty text for a memory as a whole.
+pub enum Place {
+    /// In that of the whole file.
+    Top,
+    /// In the memory of this place of the array, from 0.
+    Memory(usize),
+    /// In the table of this name.
+    Table(&'static str),
+}
+
+/// What is wrong with the table of a file, and at which key.
+#[derive(Clone, Copy)]
+pub struct Wrong<'t> {
+    /// The table in which it is.
+    pub place: Place,
+    /// The key; the empty text for a memory as a whole.
     pub key: &'t str,
+    /// Why it is wrong.
     pub reason: Reason,
 }
 
 impl<'t> Wrong<'t> {
-    // At a key of a table.
+    /// At a key of the whole file's table.
     pub fn at(key: &'t str, reason: Reason) -> Self {
         Wrong {
-            memory: None,
+            place: Place::Top,
             key,
             reason,
         }
     }
 
-    // The same in the memory of this place.
-    pub fn in_memory(self, place: usize) -> Self {
+    /// The same in this table.
+    pub fn within(self, place: Place) -> Self {
         Wrong {
-            memory: Some(place),
+            place,
             key: self.key,
             reason: self.reason,
         }

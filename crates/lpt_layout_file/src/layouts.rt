@@ -1,0 +1,57 @@
+//! How a mission lays out what goes up and what comes down.
+
+ghost use Rattle.std.specs.Prelude.{◌≡◌};
+ghost use Rattle.lpt_layout_file.specs.Layouts.{own_layouts, tailored};
+
+use lpt_layout::{Layout, PartLayout};
+use lpt_packet::Direction;
+
+/// How a mission lays out packets of one type, and the parts in them.
+#[derive(Clone, Copy)]
+pub struct Tailored {
+    /// The headers.
+    pub packets: Layout,
+    /// The bodies of parts.
+    pub parts: PartLayout,
+    /// The octets of a part that isn't the last, 1 to 65,535, where they are known.
+    pub part_size: Option<u32>,
+}
+
+/// How a mission lays out its packets.
+#[derive(Clone, Copy)]
+pub struct Layouts {
+    /// What comes down.
+    pub telemetry: Tailored,
+    /// What goes up.
+    pub telecommands: Tailored,
+}
+
+impl Layouts {
+    /// This project's profile, with part sizes that aren't known.
+    pub fn own() -> Layouts
+        ensures { result ≡ own_layouts }
+    {
+        Layouts {
+            telemetry: Tailored {
+                packets: Layout::own_tm(),
+                parts: PartLayout::own(),
+                part_size: None,
+            },
+            telecommands: Tailored {
+                packets: Layout::own_tc(),
+                parts: PartLayout::own(),
+                part_size: None,
+            },
+        }
+    }
+
+    /// What goes in this direction.
+    pub fn tailored(&self, direction: Direction) -> &Tailored
+        ensures { result.now ≡ tailored direction self.now }
+    {
+        match direction {
+            Direction::Up => &self.telecommands,
+            Direction::Down => &self.telemetry,
+        }
+    }
+}

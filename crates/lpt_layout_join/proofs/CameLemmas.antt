@@ -1,0 +1,77 @@
+-- What came of one transaction, with a part more.
+use Rattle.std.proofs.Common.{◌≡◌, ◌≢◌, ◌∙◌, ap, sym, refl, ℕ, ◌+◌, ◌-◌, ◌<◌, ◌≤◌, ◌==◌, max, Bool, true, false, if◌then◌else◌, List, [], ◌∷◌, ◌++◌, length, arith}
+use Rattle.std.specs.Prelude.{Option, Some, None}
+use Rattle.std.specs.Option.{option_or}
+use Rattle.std.proofs.lemmas.Bool.{eqb-true, eqb-false}
+use Rattle.lpt_part.specs.Parts.{Piece}
+use Rattle.lpt_layout_join.specs.declared.came.CameAs.{CameAs}
+use Rattle.lpt_layout_join.specs.Came.{Came, at, first_told, octets_told, size_told, last_told, octets_of, size_of, last_of, highest}
+use Rattle.lpt_layout_join.specs.CameInside.{Shows, part_at}
+
+or-assoc : {A : Type 0} → (a b c : Option A)
+    → option_or a (option_or b c) ≡ option_or (option_or a b) c
+or-assoc (Some x) b c = refl
+or-assoc None b c = refl
+
+or-none : {A : Type 0} → (a : Option A) → option_or a None ≡ a
+or-none (Some x) = refl
+or-none None = refl
+
+-- what is first told of parts, with one more behind them
+pub first_told-more : {A : Type 0} → (tell : Piece → Option A) (qs : List Piece) (q : Piece)
+    → first_told tell (qs ++ q ∷ []) ≡ option_or (first_told tell qs) (tell q)
+first_told-more tell [] q = or-none (tell q)
+first_told-more tell (p ∷ qs) q =
+    ap (option_or (tell p)) (first_told-more tell qs q)
+    ∙ or-assoc (tell p) (first_told tell qs) (tell q)
+
+-- the greatest number, with one part more
+pub highest-more : (qs : List Piece) (q : Piece)
+    → highest (qs ++ q ∷ []) ≡ max q.number (highest qs)
+highest-more [] q = refl
+highest-more (p ∷ qs) q =
+    let more : highest (qs ++ q ∷ []) ≡ max q.number (highest qs) = highest-more qs q in
+    omega (arith, more)
+
+-- the octets of a number, with one part more
+octets-more : (qs : List Piece) (q : Piece) (n : ℕ) (same : Bool)
+    → (q.number == n) ≡ same
+    → octets_of (qs ++ q ∷ []) n ≡ option_or (octets_of qs n) (if same then Some q.octets else None)
+octets-more qs q n same e =
+    first_told-more (octets_told n) qs q
+    ∙ ap (λ (t : Bool). option_or (octets_of qs n) (if t then Some q.octets else None)) e
+
+-- what is held shows what came, with one part more
+pub shows-more : (c : Came) (old new : CameAs) (q : Piece)
+    → Shows c old
+    → 1 ≤ q.number
+    → ((i : ℕ) → i ≢ q.number - 1 → at new.slots.items i ≡ at old.slots.items i)
+    → at new.slots.items (q.number - 1)
+    ≡ option_or (at old.slots.items (q.number - 1)) (Some q.octets)
+    → length new.slots.items ≡ max q.number (length old.slots.items)
+    → new.size ≡ option_or old.size (size_told q)
+    → new.last ≡ option_or old.last (last_told q)
+    → new.against ≡ old.against
+    → Shows (record c { parts = c.parts ++ q ∷ [] }) new
+shows-more c old new q h some others here len size last against = record {
+  parts_are = λ n least. part n least (q.number == n) refl;
+  size_is = size ∙ ap (λ o. option_or o (size_told q)) h.size_is
+      ∙ sym (first_told-more size_told c.parts q);
+  last_is = last ∙ ap (λ o. option_or o (last_told q)) h.last_is
+      ∙ sym (first_told-more last_told c.parts q);
+  highest_is = len ∙ ap (max q.number) h.highest_is ∙ sym (highest-more c.parts q);
+  against_is = against ∙ h.against_is;
+} where
+  part : (n : ℕ) → 1 ≤ n → (t : Bool) → (q.number == n) ≡ t
+      → part_at new n ≡ octets_of (c.parts ++ q ∷ []) n
+  part n least true e =
+      let is : q.number ≡ n = eqb-true q.number n e in
+      ap (λ (k : ℕ). at new.slots.items (k - 1)) (sym is) ∙ here
+      ∙ ap (λ (k : ℕ). option_or (at old.slots.items (k - 1)) (Some q.octets)) is
+      ∙ ap (λ o. option_or o (Some q.octets)) (h.parts_are n least)
+      ∙ sym (octets-more c.parts q n true e)
+  part n least false e =
+      let isnt : q.number ≢ n = eqb-false q.number n e in
+      let other : n - 1 ≢ q.number - 1 = omega arith in
+      others (n - 1) other ∙ h.parts_are n least ∙ sym (or-none (octets_of c.parts n))
+      ∙ sym (octets-more c.parts q n false e)

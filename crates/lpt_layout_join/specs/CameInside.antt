@@ -1,0 +1,16 @@
+-- What a value holds of the parts that came.
+use Rattle.std.specs.Prelude.{◌≡◌, ◌≤◌, ℕ, ◌-◌, List, length, Option}
+use Rattle.lpt_layout_join.specs.declared.came.CameAs.{CameAs}
+use Rattle.lpt_layout_join.specs.Came.{Came, at, octets_of, size_of, last_of, highest}
+
+-- the octets of the part of a number
+abbrev pub part_at : CameAs → ℕ → Option (List ℕ)
+part_at s n = at s.slots.items (n - 1)
+
+-- what is held is what came
+pub record Shows (c : Came) (s : CameAs) : Type 0 where
+  pub parts_are : (n : ℕ) → 1 ≤ n → part_at s n ≡ octets_of c.parts n
+  pub size_is : s.size ≡ size_of c.parts
+  pub last_is : s.last ≡ last_of c.parts
+  pub highest_is : length s.slots.items ≡ highest c.parts
+  pub against_is : s.against ≡ c.against

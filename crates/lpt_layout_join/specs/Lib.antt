@@ -1,0 +1,7 @@
+pub mod Came
+pub mod Carried
+pub mod CameInside
+pub mod Hearing
+pub mod Laws
+pub mod Sizes
+pub mod Writes

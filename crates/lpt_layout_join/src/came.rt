@@ -1,0 +1,138 @@
+//! What came of one transaction.
+
+ghost use Rattle.std.specs.Prelude.{◌≡◌, true};
+ghost use Rattle.lpt_layout_join.specs.Came.{is_small, is_small_last};
+
+use crate::LastPart;
+use crate::against::{other_end, other_octets, other_size};
+use crate::last_part::{last_told, size_told};
+use crate::slots::{has_slot, joined, put};
+use lpt_layout::{Octets, PartAs};
+use std::alloc::{AllocError, Global};
+
+/// What came of one transaction: the parts that agree with those before them, in any order, and the
+/// place of the first that doesn't. After that one nothing more is taken.
+///
+/// It takes as much memory as the parts' octets, and some 40 octets for each number up to the
+/// greatest.
+#[derive(Drop)]
+pub struct CameAs {
+    // The octets of each part, at its number less one.
+    slots: Vec<Option<Octets>>,
+    size: Option<usize>,
+    last: Option<LastPart>,
+    against: Option<u64>,
+    ghost small: { is_small size ≡ true },
+    ghost small_last: { is_small_last last ≡ true },
+}
+
+impl CameAs {
+    ghost use Rattle.std.specs.Prelude.{◌≡◌, ◌≤◌, ◌∷◌, ◌++◌, [], length, OnOk, IfOk, None, is_some};
+    ghost use Rattle.lpt_packet.specs.Sizes.{longest_packet};
+    ghost use Rattle.lpt_layout.specs.Parts.{piece};
+    ghost use Rattle.lpt_layout_join.specs.Came.{Came, nothing_came, highest, is_against, last_of, message_of, octets_of, size_of, step};
+    ghost use Rattle.lpt_layout_join.specs.CameInside.{Shows, part_at};
+
+    /// Nothing has come.
+    pub fn new(alloc: Global) -> CameAs
+        ensures { Shows nothing_came result }
+    {
+        CameAs {
+            slots: Vec::new(alloc),
+            size: None,
+            last: None,
+            against: None,
+        }
+    }
+
+    /// Takes a part whose packet stands at this place. The only error is out of memory.
+    pub fn take(&mut self, alloc: Global, place: u64, part: &PartAs<'_>) -> Result<(), AllocError>
+        requires number { 1 ≤ part.now.number }
+        requires short { length part.now.octets.now ≤ longest_packet }
+        ensures { (c : Came) → Shows c self.old
+            → OnOk result (Shows (step c place (piece part.now)) self.new) }
+    {
+        if self.against.is_some() {
+            return Ok(());
+        }
+        if self.contradicts(part) {
+            self.against = Some(place);
+            return Ok(());
+        }
+        self.keep(alloc, part)
+    }
+
+    // Whether a part contradicts those that came.
+    fn contradicts(&self, part: &PartAs<'_>) -> bool
+        requires number { 1 ≤ part.now.number }
+        requires short { length part.now.octets.now ≤ longest_packet }
+        ensures { result ≡ is_against (part_at self.now part.now.number) self.now.size self.now.last
+            (length self.now.slots.items) (piece part.now) }
+    {
+        let _small = (self.size, self.last);
+        other_octets(&self.slots, part)
+            || other_size(self.size, part)
+            || other_end(self.last, self.slots.len(), part)
+    }
+
+    // Keeps a part that agrees. The only error is out of memory.
+    fn keep(&mut self, alloc: Global, part: &PartAs<'_>) -> Result<(), AllocError>
+        requires number { 1 ≤ part.now.number }
+        requires short { length part.now.octets.now ≤ longest_packet }
+        ensures { (c : Came) → Shows c self.old → c.against ≡ None
+            → OnOk result (Shows (record c { parts = c.parts ++ piece part.now ∷ [] }) self.new) }
+    {
+        put(alloc, &mut self.slots, part)?;
+        let size = self.size.or(size_told(part));
+        let last = self.last.or(last_told(part));
+        self.size = size;
+        self.last = last;
+        Ok(())
+    }
+
+    /// The message, once each part up to the last one came. The only error is out of memory.
+    pub fn message(&self, alloc: Global) -> Result<Option<Octets>, AllocError>
+        ensures { (c : Came) → Shows c self.now → IfOk result (λ m. m ≡ message_of c.parts) }
+    {
+        match self.last {
+            Some(last) => joined(alloc, &self.slots, last.number as usize),
+            None => Ok(None),
+        }
+    }
+
+    /// The place of the packet of the first part that contradicts those before it.
+    pub fn against(&self) -> Option<u64>
+        ensures { (c : Came) → Shows c self.now → result ≡ c.against }
+    {
+        self.against
+    }
+
+    /// The part size, once a part came that isn't the last.
+    pub fn size(&self) -> Option<usize>
+        ensures { (c : Came) → Shows c self.now → result ≡ size_of c.parts }
+    {
+        self.size
+    }
+
+    /// The last part, once it came.
+    pub fn last(&self) -> Option<LastPart>
+        ensures { (c : Came) → Shows c self.now → result ≡ last_of c.parts }
+    {
+        self.last
+    }
+
+    /// The greatest number of a part that came, 0 where none did.
+    pub fn highest(&self) -> usize
+        ensures { (c : Came) → Shows c self.now → result ≡ highest c.parts }
+    {
+        self.slots.len()
+    }
+
+    /// Whether a part of this number came.
+    pub fn has(&self, number: u32) -> bool
+        requires { 1 ≤ number }
+        ensures { (c : Came) → Shows c self.now → result ≡ is_some (octets_of c.parts number) }
+    {
+        has_slot(&self.slots, number as usize - 1)
+    }
+}

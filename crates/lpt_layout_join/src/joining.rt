@@ -1,0 +1,140 @@
+//! A message joined from one stream to another.
+
+ghost use Rattle.std.specs.Prelude.{◌≡◌, ◌⊎◌, Some, IfErr, IfOk, is_some};
+ghost use Rattle.std.specs.Io.KnownBytes.{Keeps};
+ghost use Rattle.lpt_text.specs.Streams.{ReadEnds, WriteEnds};
+ghost use Rattle.lpt_layout_join.specs.Came.{message_of};
+ghost use Rattle.lpt_layout_join.specs.Hearing.{Heard, Hears, IsEndless, ShowsHeard, heard};
+ghost use Rattle.lpt_layout_join.specs.Writes.{Ends, LeavesEnd, WritesEnd, end_missing, end_whole, kind_misfit, unfit};
+ghost use Rattle.lpt_layout_join.specs.declared.hearing.LeftAs.{LeftAs};
+
+use crate::{EndAs, HeardAs, JoinedAs, MisfitAs, NameAs, ReadingAs, hear};
+use lpt_layout::{SeenAs, read_packet_as};
+use lpt_packet::{Direction, PacketKind};
+use lpt_text::{Sink, Source, StreamFault, write_out};
+use std::alloc::Global;
+
+/// Reads a stream of packets up to its end, or to octets with which no packet begins, and writes
+/// the message of the transaction of this name, or of the only one of which parts came. Where the
+/// parts are joined to none, nothing is written, and neither where what they are joined to is no
+/// packet of the layout and the direction, unless `any` octets are taken.
+///
+/// Errors: `Read` where a read failed, or where 2^64 - 1 packets came; `Write` where a write
+/// failed, behind a front part of the message; `Memory`.
+pub fn join_as<S: Source, K: Sink>(
+    alloc: Global,
+    reading: &ReadingAs,
+    name: Option<NameAs>,
+    any: bool,
+    source: &mut S,
+    out: &mut K,
+) -> Result<JoinedAs, StreamFault>
+    ensures joins { IfOk result (λ j. Hears (S.remaining source.old) (S.remaining source.new) j.left
+        (λ packets. ShowsHeard (heard reading.now name packets) j.heard
+        × Ends reading.now any (is_some name) (heard reading.now name packets) j.end
+        (K.contents out.old) (K.contents out.new))) }
+
+    // What a fault leaves.
+    ensures leaves { IfErr result (λ _. Keeps (K.contents out.old) (K.contents out.new)
+        ⊎ ((left : LeftAs) × Hears (S.remaining source.old) (S.remaining source.new) left
+        (λ packets. LeavesEnd (message_of (heard reading.now name packets).came.parts)
+        (K.contents out.old) (K.contents out.new)))) }
+    ensures reader { ReadEnds (IsEndless (S.remaining source.old) (S.remaining source.new)) result
+        (S.failed source.old) (S.failed source.new) }
+    ensures writer { WriteEnds result (K.failed out.old) (K.failed out.new) }
+{
+    let (heard, left) = match hear(alloc, reading, name, source, out) {
+        Ok(heard) => heard,
+        Err(fault) => return Err(fault),
+    };
+    match write_heard(alloc, reading, any, name.is_some(), &heard, out) {
+        Ok(end) => Ok(JoinedAs { end, heard, left }),
+        Err(fault) => {
+            drop(heard);
+            Err(fault)
+        }
+    }
+}
+
+// Writes the message of what was heard.
+fn write_heard<K: Sink>(
+    alloc: Global,
+    reading: &ReadingAs,
+    any: bool,
+    asked: bool,
+    heard: &HeardAs,
+    out: &mut K,
+) -> Result<EndAs, StreamFault>
+    ensures ends { (h : Heard) → ShowsHeard h heard.now → IfOk result (λ end.
+        Ends reading.now any asked h end (K.contents out.old) (K.contents out.new)) }
+    ensures fault { IfErr result (λ e. (e ≡ StreamFault.Write) ⊎ (e ≡ StreamFault.Memory)) }
+    ensures leaves { (h : Heard) → ShowsHeard h heard.now → IfErr result (λ _.
+        LeavesEnd (message_of h.came.parts) (K.contents out.old) (K.contents out.new)) }
+    ensures writer { WriteEnds result (K.failed out.old) (K.failed out.new) }
+{
+    if !asked && heard.other.is_some() {
+        return Ok(EndAs::Several);
+    }
+    match heard.came.message(alloc) {
+        Ok(Some(message)) => write_message(reading, any, message.as_slice(), out),
+        Ok(None) => Ok(end_missing(heard.came.against())),
+        Err(_) => Err(StreamFault::Memory),
+    }
+}
+
+// How a join ends whose message isn't whole.
+fn end_missing(against: Option<u64>) -> EndAs
+    ensures { result ≡ end_missing against }
+{
+    match against {
+        Some(place) => EndAs::BrokenOff(place),
+        None => EndAs::Missing,
+    }
+}
+
+// Writes a message that is fit to be written.
+fn write_message<K: Sink>(
+    reading: &ReadingAs,
+    any: bool,
+    message: &[u8],
+    out: &mut K,
+) -> Result<EndAs, StreamFault>
+    ensures end { IfOk result (λ end. end
+        ≡ end_whole message.now (unfit reading.now any message.now)) }
+    ensures ok { IfOk result (λ end. WritesEnd end (Some message.now)
+        (K.contents out.old) (K.contents out.new)) }
+    ensures fault { IfErr result (λ e. e ≡ StreamFault.Write) }
+    ensures leaves { IfErr result (λ _. LeavesEnd (Some message.now)
+        (K.contents out.old) (K.contents out.new)) }
+    ensures writer { WriteEnds result (K.failed out.old) (K.failed out.new) }
+{
+    if let Some(misfit) = unfit(reading, any, message) {
+        return Ok(EndAs::Unfit(misfit));
+    }
+    write_out(out, message)?;
+    Ok(EndAs::Written(message.len()))
+}
+
+// Why octets aren't fit to be written, where they aren't.
+fn unfit(reading: &ReadingAs, any: bool, octets: &[u8]) -> Option<MisfitAs>
+    ensures { result ≡ unfit reading.now any octets.now }
+{
+    if any {
+        return None;
+    }
+    match read_packet_as(&reading.layout, octets) {
+        Ok(SeenAs::Packet(packet)) => kind_misfit(reading.direction, packet.kind),
+        Ok(SeenAs::Idle) => Some(MisfitAs::OtherKind),
+        Err(fault) => Some(MisfitAs::NoPacket(fault)),
+    }
+}
+
+// Why a packet of this type is none of the direction, where it isn't.
+fn kind_misfit(direction: Direction, kind: PacketKind) -> Option<MisfitAs>
+    ensures { result ≡ kind_misfit direction kind }
+{
+    match (direction, kind) {
+        (Direction::Up, PacketKind::Tc) | (Direction::Down, PacketKind::Tm) => None,
+        _ => Some(MisfitAs::OtherKind),
+    }
+}

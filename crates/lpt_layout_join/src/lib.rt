@@ -1,0 +1,40 @@
+//! The parts of one transaction of a mission's layout among the packets of a stream, joined to
+//! their message. The packets may come in any order, more than once, and with others in between;
+//! parts may have any size, which is found where it isn't known.
+//!
+//! The stream is cut by the lengths that its packets' headers say, and by nothing else, since
+//! packets of a layout may have no checksum.
+//!
+//! The main types are `ReadingAs`, how parts are read, `CameAs`, what came of a transaction, and
+//! `JoinedAs`, what became of a join. The first call is `join_as`, from a source to a sink.
+#![tactic(auto)]
+
+mod against;
+mod came;
+mod carrying;
+mod ending;
+mod hearing;
+mod joining;
+mod last_part;
+pub mod laws;
+mod names;
+mod reading;
+mod skip;
+mod slots;
+mod streaming;
+
+pub use came::CameAs;
+pub use carrying::{CarriedAs, carried};
+pub use ending::{EndAs, JoinedAs, MisfitAs};
+pub use hearing::{HeardAs, LeftAs};
+pub use joining::join_as;
+pub use last_part::LastPart;
+pub use lpt_layout::{Layout, Octets, PartAs, PartLayout};
+pub use lpt_packet::{Direction, PacketFault};
+pub use lpt_part::PartFault;
+pub use lpt_pus::PusFault;
+pub use lpt_text::{Sink, Source, StreamFault};
+pub use names::NameAs;
+pub use reading::ReadingAs;
+pub use skip::SkipAs;
+pub use streaming::hear;

@@ -1,0 +1,77 @@
+//! The octets of each part, by its number.
+
+ghost use Rattle.std.specs.Prelude.{◌≡◌, ◌≢◌, ◌≤◌, ◌-◌, ℕ, Some, None, length, max, IfOk, IfSome, OnOk, is_some};
+ghost use Rattle.std.specs.Option.{option_or};
+ghost use Rattle.lpt_layout_join.specs.Came.{at, joined};
+
+use lpt_layout::{Octets, PartAs};
+use std::alloc::{AllocError, Global};
+
+// Keeps the octets of a part, unless there are some of its number. The only error is out of memory.
+pub(crate) fn put(
+    alloc: Global,
+    slots: &mut Vec<Option<Octets>>,
+    part: &PartAs<'_>,
+) -> Result<(), AllocError>
+    requires { 1 ≤ part.now.number }
+    ensures others { OnOk result ((i : ℕ) → i ≢ part.now.number - 1
+        → at slots.new.items i ≡ at slots.old.items i) }
+    ensures here { OnOk result (at slots.new.items (part.now.number - 1)
+        ≡ option_or (at slots.old.items (part.now.number - 1)) (Some part.now.octets.now)) }
+    ensures len { OnOk result (length slots.new.items
+        ≡ max part.now.number (length slots.old.items)) }
+{
+    let place = part.number as usize - 1;
+    grow(slots, place + 1)?;
+    if slots[place].is_none() {
+        slots[place] = Some(Octets::from_vec(Vec::from_slice(alloc, part.octets)?));
+    }
+    Ok(())
+}
+
+// Makes room for so many parts. The only error is out of memory.
+fn grow(slots: &mut Vec<Option<Octets>>, len: usize) -> Result<(), AllocError>
+    ensures len { OnOk result (length slots.new.items ≡ max len (length slots.old.items)) }
+    ensures same { OnOk result ((i : ℕ) → at slots.new.items i ≡ at slots.old.items i) }
+{
+    for _ in slots.len()..len {
+        slots.push(None)?;
+    }
+    Ok(())
+}
+
+// The octets of parts 1 to `total`, where each came. The only error is out of memory.
+pub(crate) fn joined(
+    alloc: Global,
+    slots: &[Option<Octets>],
+    total: usize,
+) -> Result<Option<Octets>, AllocError>
+    ensures { IfOk result (λ m. m ≡ joined (λ n. at slots.now (n - 1)) total) }
+{
+    let mut octets = Vec::new(alloc);
+    for place in 0..total {
+        let Some(part) = part_at(slots, place) else {
+            return Ok(None);
+        };
+        octets.extend_from_slice(part.as_slice())?;
+    }
+    Ok(Some(Octets::from_vec(octets)))
+}
+
+// The octets at a place, where a part came.
+fn part_at(slots: &[Option<Octets>], place: usize) -> Option<&Octets>
+    ensures some { IfSome result (λ o. at slots.now place ≡ Some o.now) }
+    ensures none { result ≡ None → at slots.now place ≡ None }
+{
+    match slots.get(place) {
+        Some(Some(octets)) => Some(octets),
+        _ => None,
+    }
+}
+
+// Whether octets are at a place.
+pub(crate) fn has_slot(slots: &[Option<Octets>], place: usize) -> bool
+    ensures { result ≡ is_some (at slots.now place) }
+{
+    matches!(slots.get(place), Some(Some(_)))
+}

@@ -1,0 +1,65 @@
+-- By which other layout a part would be read.
+use Rattle.std.specs.Prelude.{ℕ, ◌+◌, min, Bool, true, false, if◌then◌else◌, List, Option, Some, None, is_some, Result, Ok, Err}
+use Rattle.std.specs.Option.{option_map_or}
+use Rattle.lpt_packet.specs.declared.fault.PacketFault.{PacketFault}
+use Rattle.lpt_packet.specs.declared.packet.PacketKind.{PacketKind}
+use Rattle.lpt_packet.specs.Packets.{Fields, Sight, IdlePacket, APacket}
+use Rattle.lpt_pus.specs.declared.fault.PusFault.{PusFault}
+use Rattle.lpt_events.specs.Arrivals.{carried_kind}
+use Rattle.lpt_layout.specs.Messages.{Said, message_verdict}
+use Rattle.lpt_layout.specs.Packets.{verdict_as}
+use Rattle.lpt_layout_file.specs.declared.layouts.Layouts.{Layouts}
+use Rattle.lpt_layout_file.specs.declared.layouts.Tailored.{Tailored}
+use Rattle.lpt_layout_list.specs.declared.hints.Hint.{Hint}
+use Rattle.lpt_layout_list.specs.declared.hints.Hint.TheVariants.{Time, Bare}
+use Rattle.lpt_layout_list.specs.Items.{direction_of, layout_in, part_at}
+
+-- whether a message carries a part that is read
+abbrev pub is_part : Tailored → PacketKind → Said → Bool
+is_part t kind s =
+    option_map_or (λ part. is_some (part_at t part s.body))
+    (carried_kind (direction_of kind) s.service s.subtype) false
+
+-- whether what is read as a message is one that does
+abbrev pub is_part_in : Tailored → PacketKind → Result Said PusFault → Bool
+is_part_in t kind (Ok s) = is_part t kind s
+is_part_in t kind (Err e) = false
+
+-- whether what octets are seen as carries a part
+abbrev pub is_part_seen : Tailored → Result Sight PacketFault → Bool
+is_part_seen t (Ok IdlePacket) = false
+is_part_seen t (Ok (APacket f)) = is_part_in t f.kind (message_verdict t.packets f.kind f)
+is_part_seen t (Err e) = false
+
+-- whether octets are a packet of this layout that carries a part
+abbrev pub shows_part : Tailored → List ℕ → Bool
+shows_part t b = is_part_seen t (verdict_as t.packets.has_checksum b)
+
+-- whether they are one by the layout of their packet type
+abbrev pub is_part_as : Layouts → List ℕ → Bool
+is_part_as l b = shows_part (layout_in l b) b
+
+-- a layout with so many octets of time more
+abbrev pub longer : ℕ → Tailored → Tailored
+longer more t = record t { packets = record t.packets { time = min (t.packets.time + more) 255 } }
+
+-- the same without a packet error control
+abbrev pub bare : Tailored → Tailored
+bare t = record t { packets = record t.packets { has_checksum = false } }
+
+-- the first of the other layouts by which octets are a packet that carries a part
+abbrev pub hint_for : Tailored → List ℕ → Option Hint
+hint_for t b =
+    if shows_part (longer 1 t) b then Some (Time (longer 1 t).packets.time)
+    else if shows_part (longer 2 t) b then Some (Time (longer 2 t).packets.time)
+    else if shows_part (longer 3 t) b then Some (Time (longer 3 t).packets.time)
+    else if shows_part (longer 4 t) b then Some (Time (longer 4 t).packets.time)
+    else if shows_part (bare t) b then Some Bare
+    else None
+
+-- the same, where they are none by their own
+abbrev pub hint_unless : Tailored → List ℕ → Option Hint
+hint_unless t b = if shows_part t b then None else hint_for t b
+
+abbrev pub hint_of : Layouts → List ℕ → Option Hint
+hint_of l b = hint_unless (layout_in l b) b

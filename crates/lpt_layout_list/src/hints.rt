@@ -1,0 +1,126 @@
+//! By which other layout a part would be read.
+
+ghost use Rattle.std.specs.Prelude.{◌≡◌, ◌≤◌, length};
+ghost use Rattle.lpt_layout.specs.Messages.{message_verdict, said};
+ghost use Rattle.lpt_layout.specs.Packets.{fields};
+ghost use Rattle.lpt_layout_file.specs.Layouts.{SizeFits, SizesFit};
+ghost use Rattle.lpt_layout_list.specs.Hints.{bare, hint_for, hint_of, is_part, is_part_in, longer, shows_part};
+
+use crate::choice::{direction_of, kind_in};
+use crate::parts::part_at;
+use lpt_events::part_kind;
+use lpt_layout::{Layout, Message, PacketAs, SeenAs, read_packet_as, read_tc_as, read_tm_as};
+use lpt_layout_file::{Layouts, Tailored};
+use lpt_packet::PacketKind;
+
+/// Another layout by which parts would be read.
+#[derive(Clone, Copy)]
+pub enum Hint {
+    /// With so many octets of time.
+    Time(u8),
+    /// Without a packet error control.
+    Bare,
+}
+
+/// By which other layout of its packet type octets would be read as a part, where they aren't by
+/// this one: with 1 to 4 octets of time more, or without a packet error control, the first that
+/// fits. `None` where they are read, and where no such layout fits.
+pub fn hint_of(layouts: &Layouts, octets: &[u8]) -> Option<Hint>
+    requires sizes { SizesFit layouts.now }
+    requires header { 7 ≤ length octets.now }
+    ensures { result ≡ hint_of layouts.now octets.now }
+{
+    let kind = kind_in(octets);
+    let tailored = layouts.tailored(direction_of(kind));
+    if shows_part(tailored, octets) {
+        return None;
+    }
+    hint_for(tailored, octets)
+}
+
+// The first of the other layouts by which octets would be read as a part.
+fn hint_for(tailored: &Tailored, octets: &[u8]) -> Option<Hint>
+    requires { SizeFits tailored.now }
+    ensures { result ≡ hint_for tailored.now octets.now }
+{
+    if shows_part(&longer(tailored, 1), octets) {
+        return Some(Hint::Time(longer(tailored, 1).packets.time));
+    }
+    if shows_part(&longer(tailored, 2), octets) {
+        return Some(Hint::Time(longer(tailored, 2).packets.time));
+    }
+    if shows_part(&longer(tailored, 3), octets) {
+        return Some(Hint::Time(longer(tailored, 3).packets.time));
+    }
+    if shows_part(&longer(tailored, 4), octets) {
+        return Some(Hint::Time(longer(tailored, 4).packets.time));
+    }
+    if shows_part(&bare(tailored), octets) {
+        return Some(Hint::Bare);
+    }
+    None
+}
+
+// The same with so many octets of time more, up to 255.
+fn longer(tailored: &Tailored, more: u8) -> Tailored
+    ensures { result ≡ longer more tailored.now }
+{
+    Tailored {
+        packets: Layout {
+            time: tailored.packets.time.saturating_add(more),
+            ..tailored.packets
+        },
+        ..*tailored
+    }
+}
+
+// The same without a packet error control.
+fn bare(tailored: &Tailored) -> Tailored
+    ensures { result ≡ bare tailored.now }
+{
+    Tailored {
+        packets: Layout {
+            has_checksum: false,
+            ..tailored.packets
+        },
+        ..*tailored
+    }
+}
+
+// Whether octets are read as a packet that carries a part.
+pub(crate) fn shows_part(tailored: &Tailored, octets: &[u8]) -> bool
+    requires { SizeFits tailored.now }
+    ensures { result ≡ shows_part tailored.now octets.now }
+{
+    match read_packet_as(&tailored.packets, octets) {
+        Ok(SeenAs::Packet(packet)) => is_part_in(tailored, &packet),
+        Ok(SeenAs::Idle) | Err(_) => false,
+    }
+}
+
+// Whether a packet is read as one that carries a part.
+fn is_part_in(tailored: &Tailored, packet: &PacketAs<'_>) -> bool
+    requires { SizeFits tailored.now }
+    ensures { result ≡ is_part_in tailored.now packet.now.kind
+        (message_verdict tailored.now.packets packet.now.kind (fields packet.now)) }
+{
+    let read = match packet.kind {
+        PacketKind::Tc => read_tc_as(&tailored.packets, packet),
+        PacketKind::Tm => read_tm_as(&tailored.packets, packet),
+    };
+    match read {
+        Ok(message) => is_part(tailored, packet.kind, &message),
+        Err(_) => false,
+    }
+}
+
+// Whether a message carries a part.
+fn is_part(tailored: &Tailored, kind: PacketKind, message: &Message<'_>) -> bool
+    requires { SizeFits tailored.now }
+    ensures { result ≡ is_part tailored.now kind (said message.now) }
+{
+    match part_kind(direction_of(kind), message.service, message.subtype) {
+        Some(part) => part_at(tailored, part, message.body).is_some(),
+        None => false,
+    }
+}
