@@ -1,0 +1,4 @@
+mod DrawnLemmas
+mod FillLemmas
+mod RowLemmas
+mod SeenLemmas

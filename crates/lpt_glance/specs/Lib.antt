@@ -1,0 +1,6 @@
+pub mod Fates
+pub mod Laws
+pub mod Looks
+pub mod Pictures
+pub mod Places
+pub mod Shown

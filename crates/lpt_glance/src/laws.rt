@@ -1,0 +1,13 @@
+//! What the definitions say of pictures, proved of all of them: functions with empty bodies.
+
+ghost use Rattle.std.specs.Prelude.{List};
+ghost use Rattle.lpt_stream.specs.Pieces.{Piece};
+ghost use Rattle.lpt_glance.specs.declared.view.View.{View};
+ghost use Rattle.lpt_glance.specs.Laws.{DrawsParts};
+
+/// Each part of a stream is drawn exactly once: the marks of parts are the parts of its pieces, in
+/// their order, each at its place, with its number, in the row of its transaction. A picture has
+/// each mark once.
+pub fn each_part_is_drawn_once()
+    ensures { (v : View) (pieces : List Piece) → DrawsParts v pieces }
+{}
