@@ -18,49 +18,81 @@ def cut(stream):
 
 
 class Spacecraft(World):
-    """A world of which only the spacecraft's end is used."""
+    """A world of which only the spacecraft's end is used, with a log of what happens, and the names that
+    were used and the clock then, where they are freed."""
 
-    def __init__(self, settings, contents):
+    def __init__(self, settings, contents, reuse=0):
         super().__init__(settings)
         self.memories.octets = {name: bytearray(octets) for name, octets in contents.items()}
+        self.reuse = reuse
+        self.log = []
+        self.used = []
 
     def take_packet(self, octets):
         """Takes a packet, and executes what it releases."""
         headers = parsed(octets)
         if headers is None or headers.packet[:2] != (True, self.settings.apid):
+            self.log.append("ignored Unreadable" if headers is None else "ignored ForeignApid")
             return
         self.take("s1", self.link.put("up", octets))
-        self.deliver("s1")
-        if self.jobs.queue:
-            self.jobs.claim("w1")
-            self.jobs.commit("w1")
-            self.apply()
+        self.log.append(self.deliver("s1"))
+        if not self.jobs.queue:
+            return
+        self.jobs.claim("w1")
+        self.jobs.commit("w1")
+        before = len(self.link.packets)
+        self.log.append(self.apply())
+        self.log.append(f"reports {len(self.link.packets) - before}")
         craft = self.nodes["craft"]
         for name, message in list(craft.outgoing.items()):
-            for number in range(part_count(message, self.settings.part_size)):
+            count = part_count(message, self.settings.part_size)
+            for number in range(count):
                 self.link.put("down", craft.send(name, number + 1))
             craft.finish(name)
+            self.log.append(f"sent down {self.text(name)} {count}")
 
     def beat(self):
         """Sets the clock on, and gives up all receptions that are due."""
         for event, asked in ((self.tick, ("craft", 1)), *((self.expire, ("craft",)) for _ in range(64))):
             try:
-                event(*asked)
+                line = event(*asked)
             except Fault:
                 continue
+            if event != self.tick:
+                self.log.append(line)
+
+    def noting(self, event, *asked):
+        """What an event does, and the names that it used."""
+        craft = self.nodes["craft"]
+        ended, closed = set(craft.ended), set(craft.closed)
+        event(*asked)
+        now = [("up", name) for name in craft.ended - ended] + [("down", name) for name in craft.closed - closed]
+        if self.reuse:
+            self.used += [(craft.clock, direction, name) for direction, name in now]
+
+    def free(self):
+        """Frees the names that were used so many ticks ago."""
+        craft = self.nodes["craft"]
+        due = [used for used in self.used if used[0] + self.reuse <= craft.clock]
+        self.used = [used for used in self.used if used not in due]
+        for _, direction, name in due:
+            (craft.ended if direction == "up" else craft.closed).remove(name)
+            self.log.append(f"retired {direction} {self.text(name)}")
 
     def written(self):
         """The packets that were made, in order."""
         return [octets for direction, octets in self.link.packets if direction == "down"]
 
 
-def serve(settings, contents, stream, every=0):
-    """What is written, what the memories hold then, and where octets are behind the packets, or `None`."""
-    craft = Spacecraft(settings, contents)
+def serve(settings, contents, stream, every=0, reuse=0):
+    """What is written, what the memories hold then, where octets are behind the packets, or `None`, and
+    the lines of the log, sorted: a set has no order in which names are freed."""
+    craft = Spacecraft(settings, contents, reuse)
     packets, at = cut(stream)
     for number, packet in enumerate(packets, 1):
-        craft.take_packet(packet)
+        craft.noting(craft.take_packet, packet)
         if every and number % every == 0:
-            craft.beat()
+            craft.noting(craft.beat)
+            craft.free()
     memories = {name: bytes(octets) for name, octets in craft.memories.octets.items()}
-    return b"".join(craft.written()), memories, at if at < len(stream) else None
+    return b"".join(craft.written()), memories, at if at < len(stream) else None, sorted(craft.log)

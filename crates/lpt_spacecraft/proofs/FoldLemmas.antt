@@ -1,28 +1,78 @@
 -- What comes, one input further.
-use Rattle.std.proofs.Common.{◌≡◌, ◌∙◌, ap, sym, subst, refl, inl, inr, ℕ, ◌+◌, ◌≤◌, ◌==◌, Bool, true, false, if◌then◌else◌, List, [], ◌∷◌, ◌++◌, Option, append-nil, append_assoc, arith}
+use Rattle.std.proofs.Common.{◌≡◌, ◌∙◌, ap, sym, subst, refl, inl, inr, ℕ, ◌+◌, ◌≤◌, ◌==◌, Bool, true, false, if◌then◌else◌, List, [], ◌∷◌, ◌++◌, Option, Some, None, append-nil, append_assoc, arith}
 use Rattle.std.specs.Io.KnownBytes.{Appends}
 use Rattle.lpt_events.specs.declared.config.Config.{Config}
 use Rattle.lpt_memory.specs.Memories.{Contents}
 use Rattle.lpt_stream.specs.Streams.{all_octets}
 use Rattle.lpt_text.specs.Streams.{AppendsPart}
-use Rattle.lpt_spacecraft.specs.Serving.{Onboard, Input, Came, Ticked, after, beaten, counted_on, onward, served, step, taken, tick_at, with_ticks}
-use Rattle.lpt_spacecraft.specs.Streams.{Breaks}
+use Rattle.lpt_spacecraft.specs.Flights.{Flight, Made, Input, Came, Ticked, Cleared, behind_made, counted_on, onward, served, step, tick_at, with_ticks}
+use Rattle.lpt_spacecraft.specs.Serving.{Onboard, beaten, taken}
+use Rattle.lpt_spacecraft.specs.Streams.{flight_of, plain, Breaks, Flies}
+use Rattle.lpt_spacecraft.specs.Telling.{Hears}
+use Rattle.lpt_spacecraft.specs.declared.pace.Course.{Course}
+use Rattle.lpt_spacecraft.specs.declared.spacecraft.Spacecraft.{Spacecraft}
+use Rattle.lpt_spacecraft.specs.declared.told.Told.{Told}
 use Rattle.lpt_spacecraft.proofs.WritingLemmas.{appends-list, part-behind, part-first}
 
-after-nil : (x : Onboard × List (List ℕ)) → (x.0, x.1 ++ []) ≡ x
-after-nil x = λ i. (x.0, append-nil x.1 i)
+-- with nothing behind
+made-nil : (x : Made)
+    → behind_made x (record { flight = x.flight; packets = []; told = [] }) ≡ x
+made-nil x =
+    λ i. record {
+      flight = x.flight;
+      packets = append-nil x.packets i;
+      told = append-nil x.told i;
+    }
+
+made-assoc : (x y z : Made)
+    → behind_made (behind_made x y) z ≡ behind_made x (behind_made y z)
+made-assoc x y z =
+    λ i. record {
+      flight = z.flight;
+      packets = append_assoc x.packets y.packets z.packets i;
+      told = append_assoc x.told y.told z.told i;
+    }
 
 -- what comes behind other inputs is taken by the end that those leave
-pub served-append : (c : Config) (s : Onboard) (xs ys : List Input)
-    → served c s (xs ++ ys) ≡ onward (λ t. served c t ys) (served c s xs)
-served-append c s [] ys = refl
-served-append c s (x ∷ xs) ys =
-    let next = step c s x in
-    ap (after next.1) (served-append c next.0 xs ys)
-    ∙ (λ i. (
-      (served c (served c next.0 xs).0 ys).0,
-      sym (append_assoc next.1 (served c next.0 xs).1 (served c (served c next.0 xs).0 ys).1) i,
-    ))
+pub served-append : (c : Config) (f : Flight) (xs ys : List Input)
+    → served c f (xs ++ ys) ≡ onward (λ g. served c g ys) (served c f xs)
+served-append c f [] ys = refl
+served-append c f (x ∷ xs) ys =
+    let next = step c f x in
+    ap (behind_made next) (served-append c next.flight xs ys)
+    ∙ sym (made-assoc next (served c next.flight xs)
+    (served c (served c next.flight xs).flight ys))
+
+-- nothing was told
+pub hears-none : (a : Option (List Told)) → Hears a a []
+hears-none None = tt
+hears-none (Some xs) = sym (append-nil xs)
+
+-- what was told, and more
+pub hears-more : (a b d : Option (List Told)) (xs ys : List Told)
+    → Hears a b xs
+    → Hears b d ys
+    → Hears a d (xs ++ ys)
+hears-more None b d xs ys h k = tt
+hears-more (Some zs) None d xs ys h k = absurd h
+hears-more (Some zs) (Some bs) None xs ys h k = absurd k
+hears-more (Some zs) (Some bs) (Some ds) xs ys h k =
+    k ∙ ap (λ l. l ++ ys) h ∙ append_assoc zs xs ys
+
+-- one thing behind another
+pub flies-then : (x : Made) (f : Flight → Made) (s t : Spacecraft) (q r : Course)
+    (old mid new : Option (List ℕ)) (had between has : Option (List Told))
+    → Flies x s q old mid had between
+    → Flies (f (flight_of s q)) t r mid new between has
+    → Flies (onward f x) t r old new had has
+flies-then x f s t q r old mid new had between has h k =
+    let at : Flies (f x.flight) t r mid new between has =
+    subst (λ (g : Flight). Flies (f g) t r mid new between has) h.flight k in
+    record {
+      flight = at.flight;
+      written = appends-list old mid new x.packets (f x.flight).packets h.written at.written;
+      told = hears-more had between has x.told (f x.flight).told h.told at.told;
+    }
 
 -- ---- ticks
 
@@ -67,72 +117,73 @@ counted-few every since count h =
 -- ---- one packet, with its tick
 
 -- what it makes, where the tick comes or doesn't
-abbrev pub with_tick : Config → Onboard → List ℕ → Bool → Onboard × List (List ℕ)
-with_tick c s b t =
-    onward (λ u. served c u ((if t then Ticked ∷ [] else []) ++ [])) (taken c s b)
+abbrev pub with_tick : Config → Flight → List ℕ → Bool → Made
+with_tick c f b t =
+    onward (λ g. served c g ((if t then Ticked ∷ Cleared ∷ [] else []) ++ [])) (step c f (Came b))
 
 -- no tick comes
-pub no-tick : (c : Config) (s : Onboard) (b : List ℕ) (every since : ℕ)
+pub no-tick : (c : Config) (f : Flight) (b : List ℕ) (every since : ℕ)
     → (since + 1 == every) ≡ false
-    → served c s (with_ticks every since (b ∷ [])) ≡ taken c s b
-no-tick c s b every since none = ap (with_tick c s b) none ∙ after-nil (taken c s b)
+    → served c f (with_ticks every since (b ∷ [])) ≡ step c f (Came b)
+no-tick c f b every since none = ap (with_tick c f b) none ∙ made-nil (step c f (Came b))
 
 -- one comes
-pub one-tick : (c : Config) (s : Onboard) (b : List ℕ) (every since : ℕ)
+pub one-tick : (c : Config) (f : Flight) (b : List ℕ) (every since : ℕ)
     → (since + 1 == every) ≡ true
-    → served c s (with_ticks every since (b ∷ [])) ≡ onward (beaten c) (taken c s b)
-one-tick c s b every since due =
-    ap (with_tick c s b) due ∙ ap (after (taken c s b).1) (after-nil (beaten c (taken c s b).0))
+    → served c f (with_ticks every since (b ∷ []))
+    ≡ onward (λ g. served c g (Ticked ∷ Cleared ∷ [])) (step c f (Came b))
+one-tick c f b every since due = ap (with_tick c f b) due
 
 -- the tick leaves the memories as they are
-same_memories : (c : Config) (s : Onboard) (b : List ℕ) (t : Bool)
-    → (with_tick c s b t).0.memories ≡ (taken c s b).0.memories
-same_memories c s b true = refl
-same_memories c s b false = refl
+same_memories : (c : Config) (f : Flight) (b : List ℕ) (t : Bool)
+    → (with_tick c f b t).flight.end.memories ≡ (taken c f.end b).0.memories
+same_memories c f b true = refl
+same_memories c f b false = refl
 
 -- work broke off in the packet
-pub packet-breaks : (c : Config) (s : Onboard) (b : List ℕ) (every since : ℕ) (now : Contents)
+pub packet-breaks : (c : Config) (f : Flight) (b : List ℕ) (every since : ℕ) (now : Contents)
     (old new : Option (List ℕ))
-    → Breaks s.memories (taken c s b) now old new
-    → Breaks s.memories (served c s (with_ticks every since (b ∷ []))) now old new
-packet-breaks c s b every since now old new (inl same, part) =
-    (inl same, part-first old new (taken c s b).1 _ part)
-packet-breaks c s b every since now old new (inr same, part) = (
-  inr (same ∙ sym (same_memories c s b (since + 1 == every))),
-  part-first old new (taken c s b).1
-      _ part,
+    → Breaks f.end.memories (taken c f.end b) now old new
+    → Breaks f.end.memories (plain (served c f (with_ticks every since (b ∷ [])))) now old new
+packet-breaks c f b every since now old new (inl same, part) =
+    (inl same, part-first old new (taken c f.end b).1 _ part)
+packet-breaks c f b every since now old new (inr same, part) = (
+  inr (same ∙ sym (same_memories c f b (since + 1 == every))),
+  part-first old new (taken c f.end b).1 _ part,
 )
 
 -- or in the tick behind it
-pub tick-breaks : (c : Config) (s mid : Onboard) (b : List ℕ) (every since : ℕ) (now : Contents)
-    (old between new : Option (List ℕ))
+pub tick-breaks : (c : Config) (f : Flight) (s : Spacecraft) (q : Course) (b : List ℕ)
+    (every since : ℕ) (now : Contents) (old between new : Option (List ℕ))
+    (had has : Option (List Told))
     → (since + 1 == every) ≡ true
-    → mid ≡ (taken c s b).0
-    → Appends old between (all_octets (taken c s b).1)
-    → now ≡ mid.memories
-    → AppendsPart between new (all_octets (beaten c mid).1)
-    → Breaks s.memories (served c s (with_ticks every since (b ∷ []))) now old new
-tick-breaks c s mid b every since now old between new due is first same part =
-    subst (λ x. Breaks s.memories x now old new) (sym (one-tick c s b every since due)) (
-      inr (same ∙ ap (λ (t : Onboard). t.memories) is),
-      part-behind old between new (taken c s b).1 (beaten c (taken c s b).0).1 first
-          (subst (λ t. AppendsPart between new (all_octets (beaten c t).1)) is part),
+    → Flies (step c f (Came b)) s q old between had has
+    → now ≡ (flight_of s q).end.memories
+    → AppendsPart between new (all_octets (beaten c (flight_of s q).end).1)
+    → Breaks f.end.memories (plain (served c f (with_ticks every since (b ∷ [])))) now old new
+tick-breaks c f s q b every since now old between new had has due h same part =
+    let first = step c f (Came b) in
+    subst (λ x. Breaks f.end.memories (plain x) now old new) (sym (one-tick c f b every since due)) (
+      inr (same ∙ ap (λ (g : Flight). g.end.memories) h.flight),
+      part-behind old between new first.packets
+          (served c first.flight (Ticked ∷ Cleared ∷ [])).packets h.written
+          (part-first between new (beaten c first.flight.end).1 _
+          (subst (λ (g : Flight). AppendsPart between new (all_octets (beaten c g.end).1)) h.flight
+          part)),
     )
 
+-- one thing alone
+pub served-one : (c : Config) (f : Flight) (x : Input) → served c f (x ∷ []) ≡ step c f x
+served-one c f x = made-nil (step c f x)
+
 -- the tick was done
-pub tick-done : (c : Config) (s mid t : Onboard) (b : List ℕ) (every since : ℕ)
-    (old between new : Option (List ℕ))
+pub tick-done : (c : Config) (f : Flight) (s t : Spacecraft) (q r : Course) (b : List ℕ)
+    (every since : ℕ) (old between new : Option (List ℕ)) (had mid has : Option (List Told))
     → (since + 1 == every) ≡ true
-    → mid ≡ (taken c s b).0
-    → Appends old between (all_octets (taken c s b).1)
-    → t ≡ (beaten c mid).0
-    → Appends between new (all_octets (beaten c mid).1)
-    → (t ≡ (served c s (with_ticks every since (b ∷ []))).0)
-    × Appends old new (all_octets (served c s (with_ticks every since (b ∷ []))).1)
-tick-done c s mid t b every since old between new due is first ends more =
-    subst (λ (x : Onboard × List (List ℕ)). (t ≡ x.0) × Appends old new (all_octets x.1))
-    (sym (one-tick c s b every since due)) (
-      ends ∙ ap (λ m. (beaten c m).0) is,
-      appends-list old between new (taken c s b).1 (beaten c (taken c s b).0).1 first
-          (subst (λ m. Appends between new (all_octets (beaten c m).1)) is more),
-    )
+    → Flies (step c f (Came b)) s q old between had mid
+    → Flies (served c (flight_of s q) (Ticked ∷ Cleared ∷ [])) t r between new mid has
+    → Flies (served c f (with_ticks every since (b ∷ []))) t r old new had has
+tick-done c f s t q r b every since old between new had mid has due h k =
+    subst (λ x. Flies x t r old new had has) (sym (one-tick c f b every since due))
+    (flies-then (step c f (Came b)) (λ g. served c g (Ticked ∷ Cleared ∷ [])) s t q r old between
+    new had mid has h k)

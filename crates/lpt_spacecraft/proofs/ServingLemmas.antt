@@ -12,7 +12,7 @@ use Rattle.lpt_node.specs.Accepting.{accepted}
 use Rattle.lpt_node.specs.declared.accepted.Accepted.{Accepted}
 use Rattle.lpt_node.specs.Nodes.{NodeData, message_at}
 use Rattle.lpt_node.specs.Sending.{sent, sent_of}
-use Rattle.lpt_node.specs.Times.{expired}
+use Rattle.lpt_node.specs.Times.{due, expired}
 use Rattle.lpt_stream.specs.Streams.{all_octets}
 use Rattle.lpt_jobs.specs.Jobs.{Jobs, after_claim, after_commit}
 use Rattle.lpt_jobs.specs.declared.job.Job.{Job}
@@ -25,6 +25,9 @@ use Rattle.lpt_node.specs.Jobs.{Execution, FrontIsFor, claimed, committed, execu
 use Rattle.lpt_spacecraft.specs.Serving.{Onboard, after, after_accepted, all_sent, behind, first_expired, first_sent, then_expired, then_sent, read_over, taken, worked, worked_if}
 use Rattle.lpt_spacecraft.proofs.WritingLemmas.{appends-one, appends-list, part-behind, part-first, part-grown}
 use Rattle.lpt_spacecraft.specs.Streams.{Breaks}
+use Rattle.lpt_spacecraft.specs.Telling.{done_if, done_in, first_given_up, gave_up, taken_in, taken_of, work_done}
+use Rattle.lpt_spacecraft.specs.declared.told.Done.{Done}
+use Rattle.lpt_spacecraft.specs.declared.told.Taken.{Taken}
 use Rattle.lpt_text.specs.Streams.{AppendsPart}
 use Rattle.lpt_text.proofs.StreamLemmas.{part_unchanged, part_whole}
 
@@ -92,6 +95,14 @@ pub expired-next : (c : Config) (d : NodeData) (k : ℕ)
 expired-next c d k =
     let e : k + 1 ≡ suc k = omega arith in
     subst (λ n. first_expired c d n ≡ then_expired c (first_expired c d k)) (sym e) refl
+
+pub given_up-next : (c : Config) (d : NodeData) (k : ℕ)
+    → first_given_up c d (k + 1)
+    ≡ first_given_up c d k ++ gave_up (due c (first_expired c d k).0)
+given_up-next c d k =
+    let e : k + 1 ≡ suc k = omega arith in
+    subst (λ n. first_given_up c d n
+    ≡ first_given_up c d k ++ gave_up (due c (first_expired c d k).0)) (sym e) refl
 
 -- one more was given up
 pub expired-step : (c : Config) (d at : NodeData) (k : ℕ) (old mid new : Option (List ℕ))
@@ -219,6 +230,17 @@ worked-writes c s t d x old mid new reads runs first node memories more =
           (all_sent c x.0.0 x.0.1.opened).1 first more,
     )
 
+-- what became of it
+pub done-is : (c : Config) (s : Onboard) (d : NodeData) (x : (NodeData × Execution) × Contents)
+    (r : Done)
+    → d ≡ read_over c s.memories s.node
+    → x ≡ executed c d s.memories
+    → r ≡ done_in c x.0.1
+    → r ≡ work_done c s
+done-is c s d x r reads runs is =
+    is ∙ ap (λ (z : (NodeData × Execution) × Contents). done_in c z.0.1)
+    (runs ∙ ap (λ (n : NodeData). executed c n s.memories) reads)
+
 -- what follows from what a call answers where it is done
 pub on-ok : {A E : Type 0} {P Q : Type 0} (r : Result A E) → OnOk r P → (P → Q) → OnOk r Q
 on-ok (Ok x) h f = f h
@@ -272,6 +294,17 @@ pub taken-all : (c : Config) (s t : Onboard) (b : List ℕ) (at : NodeData) (r :
 taken-all c s t b at r old mid new is first done =
     taken-writes c s.memories (at, r) (accepted Craft c s.node (arrival Craft c.apid c.part_size b))
     t old mid new is first done.0 done.1
+
+-- what became of it, and of what it released
+pub taken-is : (c : Config) (s : Onboard) (b : List ℕ) (at : NodeData) (r : Accepted) (t : Taken)
+    → (at, r) ≡ accepted Craft c s.node (arrival Craft c.apid c.part_size b)
+    → t.outcome ≡ r.outcome
+    → t.done ≡ done_if c (record { node = at; memories = s.memories }) r.released
+    → t ≡ taken_in c s b
+taken-is c s b at r t is outcome done =
+    let first : t ≡ taken_of c s.memories (at, r) =
+    λ i. record { outcome = outcome i; done = done i } in
+    first ∙ ap (taken_of c s.memories) is
 
 -- ---- what is left where work breaks off
 

@@ -5,7 +5,6 @@ use Rattle.std.specs.Io.KnownBytes.{Consumes, IsAtEnd, Keeps}
 use Rattle.std.proofs.KnownBytes.{Appends-kept, Appends-nil, Consumes-nil, Consumes-trans}
 use Rattle.std.proofs.lemmas.List.{length-take-le}
 use Rattle.lpt_events.specs.declared.config.Config.{Config}
-use Rattle.lpt_text.specs.Streams.{ReadFails}
 use Rattle.lpt_text.specs.declared.fault.StreamFault.{StreamFault}
 use Rattle.lpt_text.specs.declared.fault.StreamFault.TheVariants as faults
 use Rattle.lpt_text.proofs.StreamLemmas.{part_whole}
@@ -15,129 +14,156 @@ use Rattle.lpt_frames.specs.Buffers.{held, FindsFrame}
 use Rattle.lpt_frames.specs.Frames.{IsCut, IsFrame}
 use Rattle.lpt_frames.specs.declared.buffer.FrameBuffer.{FrameBuffer}
 use Rattle.lpt_frames.proofs.FrameLemmas.{cut-more, cut-next, cut-none, octets-next}
-use Rattle.lpt_spacecraft.specs.Serving.{Onboard, counted_on, onward, served, with_ticks}
-use Rattle.lpt_spacecraft.specs.Streams.{end_at, onboard, served_by, Breaks, BreaksOff, IsEndless, ReadsCut, Serves, ServesTo, StopsAt, Writes}
+use Rattle.lpt_spacecraft.specs.Flights.{Flight, Made, counted_on, new_flight, onward, served, with_ticks}
+use Rattle.lpt_spacecraft.specs.Streams.{end_at, flight_of, onboard, plain, served_by, Breaks, BreaksOff, Flies, IsEndless, ReadsCut, Serves, ServesTo, StopsAt}
+use Rattle.lpt_spacecraft.specs.declared.pace.Course.{Course}
+use Rattle.lpt_spacecraft.specs.declared.pace.Pace.{Pace}
 use Rattle.lpt_spacecraft.specs.declared.spacecraft.Spacecraft.{Spacecraft}
 use Rattle.lpt_spacecraft.specs.declared.stop.Stop.{Stop}
-use Rattle.lpt_spacecraft.proofs.FoldLemmas.{counted-few, since-next, since_after, served-append, ticks-append}
-use Rattle.lpt_spacecraft.proofs.WritingLemmas.{appends-list, part-behind}
+use Rattle.lpt_spacecraft.specs.declared.told.Told.{Told}
+use Rattle.lpt_spacecraft.proofs.FoldLemmas.{counted-few, flies-then, hears-none, since-next, since_after, served-append, ticks-append}
+use Rattle.lpt_spacecraft.proofs.WritingLemmas.{none_lost, part-behind}
+
+-- what came of a run, with the reads, the writes and what was told before and after it
+pub record Ends : Type 0 where
+  pub before : Option (List ℕ)
+  pub after : Option (List ℕ)
+  pub old : Option (List ℕ)
+  pub new : Option (List ℕ)
+  pub had : Option (List Told)
+  pub has : Option (List Told)
 
 -- the packets that came were taken, and these octets are held behind them
-pub record IsServed (every : ℕ) (s t : Spacecraft) (a b old new : Option (List ℕ)) (held : List ℕ)
-    (count since place : ℕ) : Type 0 where
+pub record IsServed (pace : Pace) (s t : Spacecraft) (q : Course) (e : Ends) (held : List ℕ)
+    (count place : ℕ) : Type 0 where
   pub stream : List ℕ
   pub packets : List (List ℕ)
-  pub consumed : Consumes a b stream
+  pub consumed : Consumes e.before e.after stream
   pub cut : IsCut stream packets held
-  pub serves : Serves every s t old new packets
+  pub flies : Flies (served_by pace s packets) t q e.old e.new e.had e.has
   pub count_is : length packets ≡ count
-  pub since_is : since ≡ since_after every 0 packets
+  pub since_is : q.since ≡ since_after pace.every 0 packets
+  pub pace_is : q.pace ≡ pace
   pub place_is : place ≡ up_to_limit (length (all_octets packets))
-  pub few : since ≤ count
-
--- octets that were consumed, with none lost
-none_lost : (a b : Option (List ℕ)) (stream : List ℕ) → Consumes a b stream → Consumes a b
-    (stream ++ [])
-none_lost a b stream h = subst (Consumes a b) (sym (append-nil stream)) h
+  pub few : q.since ≤ count
 
 -- none came
-pub served-none : (every : ℕ) (s : Spacecraft) (a old : Option (List ℕ)) (held : List ℕ)
+pub served-none : (pace : Pace) (s : Spacecraft) (q : Course) (a old : Option (List ℕ))
+    (had : Option (List Told)) (held : List ℕ)
     → held ≡ []
-    → IsServed every s s a a old old held 0 0 0
-served-none every s a old held none = record {
+    → q.pace ≡ pace
+    → q.since ≡ 0
+    → q.uses.items ≡ []
+    → IsServed pace s s q
+    (record { before = a; after = a; old = old; new = old; had = had; has = had }) held 0 0
+served-none pace s q a old had held none paced since unused = record {
   stream = [];
   packets = [];
   consumed = Consumes-nil a;
   cut = cut-none held none;
-  serves = (refl, Appends-nil old);
+  flies = record {
+    flight = λ i. record { end = onboard s; reuse = (paced i).reuse; uses = unused i };
+    written = Appends-nil old;
+    told = hears-none had;
+  };
   count_is = refl;
-  since_is = refl;
+  since_is = since;
+  pace_is = paced;
   place_is = refl;
-  few = omega arith;
+  few = omega (arith, since);
 }
 
 -- what one packet more makes
-by-next : (every : ℕ) (s : Spacecraft) (packets : List (List ℕ)) (b : List ℕ) (since : ℕ)
-    → since ≡ since_after every 0 packets
-    → served_by every s (packets ++ b ∷ [])
-    ≡ onward (λ t. served s.config t (with_ticks every since (b ∷ []))) (served_by every s packets)
-by-next every s packets b since is =
-    ap (served s.config (onboard s)) (ticks-append every 0 packets (b ∷ []))
-    ∙ served-append s.config (onboard s) (with_ticks every 0 packets)
-    (with_ticks every (since_after every 0 packets) (b ∷ []))
-    ∙ ap (λ n. onward (λ t. served s.config t (with_ticks every n (b ∷ [])))
-    (served_by every s packets)) (sym is)
+by-next : (pace : Pace) (s : Spacecraft) (packets : List (List ℕ)) (b : List ℕ) (since : ℕ)
+    → since ≡ since_after pace.every 0 packets
+    → served_by pace s (packets ++ b ∷ [])
+    ≡ onward (λ g. served s.config g (with_ticks pace.every since (b ∷ [])))
+    (served_by pace s packets)
+by-next pace s packets b since is =
+    let f = new_flight pace.reuse (onboard s) in
+    ap (served s.config f) (ticks-append pace.every 0 packets (b ∷ []))
+    ∙ served-append s.config f (with_ticks pace.every 0 packets)
+    (with_ticks pace.every (since_after pace.every 0 packets) (b ∷ []))
+    ∙ ap (λ n. onward (λ g. served s.config g (with_ticks pace.every n (b ∷ [])))
+    (served_by pace s packets)) (sym is)
+
+-- what a packet makes of an end on its course, whose configuration and pace these are
+abbrev pub made_next : Config → Pace → Spacecraft → Course → List ℕ → Made
+made_next c pace s q b = served c (flight_of s q) (with_ticks pace.every q.since (b ∷ []))
 
 -- it was taken
-serves-next : (every : ℕ) (s mid t : Spacecraft) (c : Config) (old between new : Option (List ℕ))
-    (packets : List (List ℕ)) (b : List ℕ) (since : ℕ)
-    → since ≡ since_after every 0 packets
+flies-next : (pace : Pace) (s mid t : Spacecraft) (q r : Course) (c : Config)
+    (old between new : Option (List ℕ)) (had mids has : Option (List Told))
+    (packets : List (List ℕ)) (b : List ℕ)
+    → q.since ≡ since_after pace.every 0 packets
+    → q.pace ≡ pace
     → c ≡ s.config
-    → Serves every s mid old between packets
-    → Writes (served c (onboard mid) (with_ticks every since (b ∷ []))) t between new
-    → Serves every s t old new (packets ++ b ∷ [])
-serves-next every s mid t c old between new packets b since is same before next =
-    let at : Writes (served s.config (served_by every s packets).0
-    (with_ticks every since (b ∷ []))) t between new
-    = subst (λ (x : Onboard). Writes (served s.config x (with_ticks every since (b ∷ []))) t between
-    new) before.0
-    (subst (λ (k : Config). Writes (served k (onboard mid) (with_ticks every since (b ∷ []))) t
-    between new) same next) in
-    subst (λ (x : Onboard × List (List ℕ)). Writes x t old new)
-    (sym (by-next every s packets b since is)) (
-      at.0,
-      appends-list old between new (served_by every s packets).1
-          (served s.config (served_by every s packets).0 (with_ticks every since (b ∷ []))).1
-          before.1 at.1,
-    )
+    → Flies (served_by pace s packets) mid q old between had mids
+    → Flies (made_next c q.pace mid q b) t r between new mids has
+    → Flies (served_by pace s (packets ++ b ∷ [])) t r old new had has
+flies-next pace s mid t q r c old between new had mids has packets b is paced same before next =
+    let at : Flies (made_next s.config pace mid q b) t r between new mids has =
+    subst (λ (p : Pace). Flies (made_next s.config p mid q b) t r between new mids has) paced
+    (subst (λ (k : Config). Flies (made_next k q.pace mid q b) t r between new mids has) same next)
+    in
+    subst (λ (x : Made). Flies x t r old new had has) (sym (by-next pace s packets b q.since is))
+    (flies-then (served_by pace s packets)
+    (λ g. served s.config g (with_ticks pace.every q.since (b ∷ []))) mid t q r old between new had
+    mids has before at)
 
 -- work broke off in it
-pub breaks-next : (every : ℕ) (s mid t : Spacecraft) (c : Config)
-    (old between new : Option (List ℕ))
-    (packets : List (List ℕ)) (b : List ℕ) (since : ℕ)
-    → since ≡ since_after every 0 packets
+breaks-next : (pace : Pace) (s mid t : Spacecraft) (q : Course) (c : Config)
+    (old between new : Option (List ℕ)) (had has : Option (List Told))
+    (packets : List (List ℕ)) (b : List ℕ)
+    → q.since ≡ since_after pace.every 0 packets
+    → q.pace ≡ pace
     → c ≡ s.config
-    → Serves every s mid old between packets
-    → Breaks mid.memories (served c (onboard mid) (with_ticks every since (b ∷ []))) t.memories
-    between new
-    → BreaksOff every s t old new (packets ++ b ∷ [])
-breaks-next every s mid t c old between new packets b since is same before next =
-    let at : Breaks (served_by every s packets).0.memories
-    (served s.config (served_by every s packets).0 (with_ticks every since (b ∷ []))) t.memories
-    between new
-    = subst (λ (x : Onboard). Breaks x.memories (served s.config x
-    (with_ticks every since (b ∷ []))) t.memories between new) before.0
-    (subst (λ (k : Config). Breaks mid.memories (served k (onboard mid)
-    (with_ticks every since (b ∷ []))) t.memories between new) same next) in
+    → Flies (served_by pace s packets) mid q old between had has
+    → Breaks mid.memories (plain (made_next c q.pace mid q b)) t.memories between new
+    → BreaksOff pace s t old new had has (packets ++ b ∷ [])
+breaks-next pace s mid t q c old between new had has packets b is paced same before next =
+    let x = served_by pace s packets in
+    let f : Flight → Made = λ g. served s.config g (with_ticks pace.every q.since (b ∷ [])) in
+    let at : Breaks x.flight.end.memories (plain (f x.flight)) t.memories between new =
+    subst (λ (g : Flight). Breaks g.end.memories (plain (f g)) t.memories between new)
+    before.flight
+    (subst (λ (p : Pace). Breaks mid.memories (plain (made_next s.config p mid q b)) t.memories
+    between new) paced
+    (subst (λ (k : Config). Breaks mid.memories (plain (made_next k q.pace mid q b)) t.memories
+    between new) same next)) in
     record {
       taken = packets;
       last = Some b;
       are = refl;
-      breaks = subst (λ (x : Onboard × List (List ℕ)). Breaks (served_by every s packets).0.memories
-          x t.memories old new)
-          (sym (by-next every s packets b since is)) (
-            at.0,
-            part-behind old between new (served_by every s packets).1
-                (served s.config (served_by every s packets).0 (with_ticks every since (b ∷ []))).1
-                before.1 at.1,
-          );
+      breaks = subst (λ (y : Made). Breaks x.flight.end.memories (plain y) t.memories old new)
+          (sym (by-next pace s packets b q.since is))
+          (at.0, part-behind old between new x.packets (f x.flight).packets before.written at.1);
+      told = before.told;
     }
 
 -- it broke off between two packets
-pub breaks-between : (every : ℕ) (s t : Spacecraft) (old new : Option (List ℕ))
-    (packets : List (List ℕ))
-    → Serves every s t old new packets
-    → BreaksOff every s t old new packets
-breaks-between every s t old new packets h = record {
+breaks-between : (pace : Pace) (s t : Spacecraft) (q : Course) (old new : Option (List ℕ))
+    (had has : Option (List Told)) (packets : List (List ℕ))
+    → Flies (served_by pace s packets) t q old new had has
+    → BreaksOff pace s t old new had has packets
+breaks-between pace s t q old new had has packets h = record {
   taken = packets;
   last = None;
   are = sym (append-nil packets);
   breaks = (
-    inl (ap (λ (x : Onboard). x.memories) h.0),
-    part_whole old new
-        (all_octets (served_by every s packets).1) h.1,
+    inl (ap (λ (g : Flight). g.end.memories) h.flight),
+    part_whole old new (all_octets (served_by pace s packets).packets) h.written,
   );
+  told = h.told;
 }
+
+-- all were taken
+serves-all : (pace : Pace) (s t : Spacecraft) (q : Course) (old new : Option (List ℕ))
+    (had has : Option (List Told)) (packets : List (List ℕ))
+    → Flies (served_by pace s packets) t q old new had has
+    → Serves pace s t old new had has packets
+serves-all pace s t q old new had has packets h =
+    record { writes = (ap (λ (g : Flight). g.end) h.flight, h.written); told = h.told }
 
 place-next : (packets : List (List ℕ)) (b : List ℕ) (at next len : ℕ)
     → at ≡ up_to_limit (length (all_octets packets))
@@ -150,62 +176,65 @@ place-next packets b at next len is size then =
     omega arith
 
 -- with more read behind, after all that was written was passed on
-pub served-more : (every : ℕ) (s t : Spacecraft) (a b d old new passed : Option (List ℕ))
-    (held now read : List ℕ)
-    (count since place : ℕ)
-    → IsServed every s t a b old new held count since place
-    → Consumes b d read
+pub served-more : (pace : Pace) (s t : Spacecraft) (q : Course) (e : Ends)
+    (d passed : Option (List ℕ)) (held now read : List ℕ) (count place : ℕ)
+    → IsServed pace s t q e held count place
+    → Consumes e.after d read
     → now ≡ held ++ read
-    → Keeps new passed
-    → IsServed every s t a d old passed now count since place
-served-more every s t a b d old new passed held now read count since place h more is kept = record {
+    → Keeps e.new passed
+    → IsServed pace s t q (record e { after = d; new = passed }) now count place
+served-more pace s t q e d passed held now read count place h more is kept = record {
   stream = h.stream ++ read;
   packets = h.packets;
-  consumed = Consumes-trans a b d h.stream read h.consumed more;
+  consumed = Consumes-trans e.before e.after d h.stream read h.consumed more;
   cut = cut-more h.stream h.packets held read now h.cut is;
-  serves = (
-    h.serves.0,
-    Appends-kept old new passed (all_octets (served_by every s h.packets).1)
-        h.serves.1 kept,
-  );
+  flies = record {
+    flight = h.flies.flight;
+    written = Appends-kept e.old e.new passed (all_octets (served_by pace s h.packets).packets)
+        h.flies.written kept;
+    told = h.flies.told;
+  };
   count_is = h.count_is;
   since_is = h.since_is;
+  pace_is = h.pace_is;
   place_is = h.place_is;
   few = h.few;
 }
 
 -- and with the packet in front taken
-pub served-next : (every : ℕ) (s mid t : Spacecraft) (c : Config)
-    (a b old between new : Option (List ℕ))
-    (held now octets : List ℕ) (count since place len next then : ℕ)
-    → IsServed every s mid a b old between held count since place
+pub served-next : (pace : Pace) (s mid t : Spacecraft) (q r : Course) (c : Config) (e : Ends)
+    (new : Option (List ℕ)) (has : Option (List Told))
+    (held now octets : List ℕ) (count place len then : ℕ)
+    → IsServed pace s mid q e held count place
     → c ≡ s.config
     → IsFrame (take len held)
     → len ≤ length held
     → octets ≡ take len held
-    → Writes (served c (onboard mid) (with_ticks every since (octets ∷ []))) t between new
-    → next ≡ counted_on every since
+    → Flies (made_next c q.pace mid q octets) t r e.new new e.has has
+    → r.since ≡ counted_on q.pace.every q.since
+    → r.pace ≡ q.pace
     → then ≡ min (place + len) (2 ^ 64 - 1)
     → now ≡ drop len held
-    → IsServed every s t a b old new now (count + 1) next then
-served-next every s mid t c a b old between new held now octets count since place len next then h
-    same front within is writes counted placed left = record {
+    → IsServed pace s t r (record e { new = new; has = has }) now (count + 1) then
+served-next pace s mid t q r c e new has held now octets count place len then h
+    same front within is flies counted paced placed left =
+    let on : r.since ≡ counted_on pace.every q.since =
+    counted ∙ ap (λ (p : Pace). counted_on p.every q.since) h.pace_is in
+    record {
       stream = h.stream;
       packets = h.packets ++ take len held ∷ [];
       consumed = h.consumed;
       cut = cut-next h.stream h.packets held now len h.cut front left;
-      serves =
-          serves-next every s mid t c old between new h.packets (take len held) since h.since_is
-          same h.serves
-          (subst (λ o.
-          Writes (served c (onboard mid) (with_ticks every since (o ∷ []))) t between new)
-          is writes);
+      flies = flies-next pace s mid t q r c e.old e.new new e.had e.has has h.packets
+          (take len held) h.since_is h.pace_is same h.flies
+          (subst (λ o. Flies (made_next c q.pace mid q o) t r e.new new e.has has) is flies);
       count_is = length-append h.packets (take len held ∷ []) ∙ ap (λ n. n + 1) h.count_is;
-      since_is = counted ∙ ap (counted_on every) h.since_is ∙ sym
-          (since-next every 0 h.packets (take len held));
+      since_is = on ∙ ap (counted_on pace.every) h.since_is ∙ sym
+          (since-next pace.every 0 h.packets (take len held));
+      pace_is = paced ∙ h.pace_is;
       place_is = place-next h.packets (take len held) place then len h.place_is
           (length-take-le len held within) placed;
-      few = subst (λ n. n ≤ count + 1) (sym counted) (counted-few every since count h.few);
+      few = subst (λ n. n ≤ count + 1) (sym on) (counted-few pace.every q.since count h.few);
     }
 
 -- ---- how it ends
@@ -219,160 +248,152 @@ pub ends-at : (place len : ℕ) (held : List ℕ) (after : Option (List ℕ))
 ends-at place len [] after is few at_end = (refl, at_end)
 ends-at place len (x ∷ xs) after is few at_end = (is, few, omega arith, at_end)
 
+-- so work ends with this
+abbrev pub EndsWith : Pace → Result Stop StreamFault → (s t : Spacecraft) → Ends → Type 0
+EndsWith pace r s t e = ServesTo pace r s t e.before e.after e.old e.new e.had e.has
+
 -- it stopped there, or the last octets couldn't be passed on
-pub serve-stop : (r : Result Stop StreamFault) (stop : Stop) (every : ℕ) (s t : Spacecraft)
-    (a b old new passed : Option (List ℕ)) (held : List ℕ) (count since place : ℕ)
+pub serve-stop : (r : Result Stop StreamFault) (stop : Stop) (pace : Pace) (s t : Spacecraft)
+    (q : Course) (e : Ends) (passed : Option (List ℕ)) (held : List ℕ) (count place : ℕ)
     → IfOk r (λ x. x ≡ stop)
     → IfErr r (λ e. e ≡ faults.Write)
-    → (h : IsServed every s t a b old new held count since place)
-    → Keeps new passed
-    → StopsAt stop (length (all_octets h.packets)) held b
-    → ServesTo every r s t a b old passed
-serve-stop (Ok x) stop every s t a b old new passed held count since place is fault h kept at = (
-  h.stream,
-  h.packets,
-  held,
-  none_lost a b h.stream h.consumed,
-  h.cut,
-  (
-    subst (λ x. StopsAt x (length (all_octets h.packets)) held b) (sym is) at,
-    (
-      h.serves.0,
-      Appends-kept old new passed (all_octets (served_by every s h.packets).1) h.serves.1
-          kept,
-    ),
-  ),
-)
-serve-stop (Err faults.Read) stop every s t a b old new passed held count since place is fault h
-    kept at = absurd cc
-serve-stop (Err faults.Write) stop every s t a b old new passed held count since place is fault h
-    kept at = (
+    → (h : IsServed pace s t q e held count place)
+    → Keeps e.new passed
+    → StopsAt stop (length (all_octets h.packets)) held e.after
+    → EndsWith pace r s t (record e { new = passed })
+unfolding served-more
+serve-stop (Ok x) stop pace s t q e passed held count place is fault h kept at =
+    let k = served-more pace s t q e e.after passed held held [] count place h
+    (Consumes-nil e.after) (sym (append-nil held)) kept in (
       h.stream,
       h.packets,
       held,
-      none_lost a b h.stream h.consumed,
+      none_lost e.before e.after h.stream h.consumed,
       h.cut,
-      breaks-between every s t old passed h.packets (
-        h.serves.0,
-        Appends-kept old new passed (all_octets (served_by every s h.packets).1)
-            h.serves.1 kept,
+      (
+        subst (λ x. StopsAt x (length (all_octets h.packets)) held e.after) (sym is) at,
+        serves-all pace s t q e.old passed e.had e.has h.packets k.flies,
       ),
     )
-serve-stop (Err faults.Memory) stop every s t a b old new passed held count since place is fault h
-    kept at = absurd cc
+serve-stop (Err faults.Read) stop pace s t q e passed held count place is fault h kept at = absurd
+    cc
+serve-stop (Err faults.Write) stop pace s t q e passed held count place is fault h kept at =
+    let k = served-more pace s t q e e.after passed held held [] count place h
+    (Consumes-nil e.after) (sym (append-nil held)) kept in (
+      h.stream,
+      h.packets,
+      held,
+      none_lost e.before e.after h.stream h.consumed,
+      h.cut,
+      breaks-between pace s t q e.old passed e.had e.has h.packets k.flies,
+    )
+serve-stop (Err faults.Memory) stop pace s t q e passed held count place is fault h kept at = absurd
+    cc
 
 -- no more came
-pub serve-read : (every : ℕ) (s t : Spacecraft) (a b old new : Option (List ℕ)) (held : List ℕ)
-    (count since place : ℕ)
-    → IsServed every s t a b old new held count since place
-    → ServesTo every (Err faults.Read) s t a b old new
-serve-read every s t a b old new held count since place h =
-    (h.stream, h.packets, held, none_lost a b h.stream h.consumed, h.cut, h.serves)
+pub serve-read : (pace : Pace) (s t : Spacecraft) (q : Course) (e : Ends) (held : List ℕ)
+    (count place : ℕ)
+    → IsServed pace s t q e held count place
+    → EndsWith pace (Err faults.Read) s t e
+serve-read pace s t q e held count place h = (
+  h.stream,
+  h.packets,
+  held,
+  none_lost e.before e.after h.stream h.consumed,
+  h.cut,
+  serves-all pace s t q e.old e.new e.had e.has h.packets h.flies,
+)
 
 -- a read or a write failed before the next packet
-pub serve-fault : (fault : StreamFault) (every : ℕ) (s t : Spacecraft) (x y : FrameBuffer)
-    (a b d old new passed : Option (List ℕ)) (had failed : Bool) (count since place : ℕ)
-    → FindsFrame (Err fault) x y b d had failed
-    → IsServed every s t a b old new (held x) count since place
-    → Keeps new passed
-    → ServesTo every (Err fault) s t a d old passed
-serve-fault faults.Read every s t x y a b d old new passed had failed count since place found h kept
-    =
-    serve-read every s t a d old passed (held y) count since place
-    (served-more every s t a b d old new passed (held x) (held y) found.0 count since place h
+pub serve-fault : (fault : StreamFault) (pace : Pace) (s t : Spacecraft) (q : Course)
+    (x y : FrameBuffer) (e : Ends) (d passed : Option (List ℕ)) (bad failed : Bool)
+    (count place : ℕ)
+    → FindsFrame (Err fault) x y e.after d bad failed
+    → IsServed pace s t q e (held x) count place
+    → Keeps e.new passed
+    → EndsWith pace (Err fault) s t (record e { after = d; new = passed })
+unfolding served-more
+serve-fault faults.Read pace s t q x y e d passed bad failed count place found h kept =
+    serve-read pace s t q (record e { after = d; new = passed }) (held y) count place
+    (served-more pace s t q e d passed (held x) (held y) found.0 count place h
     found.1.consumed found.1.behind kept)
-serve-fault faults.Write every s t x y a b d old new passed had failed count since place found h
-    kept =
-    let at = served-more every s t a b d old new passed (held x) (held y) found.0 count since place
-    h
+serve-fault faults.Write pace s t q x y e d passed bad failed count place found h kept =
+    let at = served-more pace s t q e d passed (held x) (held y) found.0 count place h
     found.1.consumed found.1.behind kept in (
       at.stream,
       at.packets,
       held y,
-      none_lost a d at.stream at.consumed,
+      none_lost e.before d at.stream at.consumed,
       at.cut,
-      breaks-between
-          every s t old passed at.packets at.serves,
+      breaks-between pace s t q e.old passed e.had e.has at.packets at.flies,
     )
-serve-fault faults.Memory every s t x y a b d old new passed had failed count since place found h
-    kept = (
+serve-fault faults.Memory pace s t q x y e d passed bad failed count place found h kept =
+    let k = served-more pace s t q e e.after passed (held x) (held x) [] count place h
+    (Consumes-nil e.after) (sym (append-nil (held x))) kept in (
       found.0,
       (
         h.stream,
         h.packets,
         held x,
-        Consumes-trans a b d h.stream found.0 h.consumed found.1,
+        Consumes-trans e.before e.after d h.stream found.0 h.consumed found.1,
         h.cut,
-        breaks-between every s t old passed h.packets (
-          h.serves.0,
-          Appends-kept old new passed (all_octets (served_by every s h.packets).1)
-              h.serves.1 kept,
-        ),
+        breaks-between pace s t q e.old passed e.had e.has h.packets k.flies,
       ),
     )
 
-broken : (every : ℕ) (s mid t : Spacecraft) (c : Config)
-    (a b old between new : Option (List ℕ)) (held octets : List ℕ) (count since place len : ℕ)
-    → IsServed every s mid a b old between held count since place
+broken : (pace : Pace) (s mid t : Spacecraft) (q : Course) (c : Config) (e : Ends)
+    (new : Option (List ℕ)) (held octets : List ℕ) (count place len : ℕ)
+    → IsServed pace s mid q e held count place
     → c ≡ s.config
     → IsFrame (take len held)
     → octets ≡ take len held
-    → Breaks mid.memories (served c (onboard mid) (with_ticks every since (octets ∷ []))) t.memories
-    between new
-    → ReadsCut a b [] (λ packets rest. BreaksOff every s t old new packets)
-broken every s mid t c a b old between new held octets count since place len h same front at broke = (
+    → Breaks mid.memories (plain (made_next c q.pace mid q octets)) t.memories e.new new
+    → ReadsCut e.before e.after []
+    (λ packets rest. BreaksOff pace s t e.old new e.had e.has packets)
+broken pace s mid t q c e new held octets count place len h same front at broke = (
   h.stream,
   h.packets ++ take len held ∷ [],
   drop len held,
-  none_lost a b h.stream h.consumed,
+  none_lost e.before e.after h.stream h.consumed,
   cut-next h.stream h.packets held (drop len held) len h.cut front refl,
-  breaks-next every s mid t c old between new h.packets (take len held) since h.since_is same
-      h.serves
-      (subst (λ o. Breaks mid.memories (served c (onboard mid) (with_ticks every since (o ∷ [])))
-      t.memories between new) at broke),
+  breaks-next pace s mid t q c e.old e.new new e.had e.has h.packets (take len held) h.since_is
+      h.pace_is same h.flies
+      (subst (λ o. Breaks mid.memories (plain (made_next c q.pace mid q o)) t.memories e.new new)
+      at broke),
 )
 
 -- work broke off in the packet in front
-pub serve-broken : (fault : StreamFault) (every : ℕ) (s mid t : Spacecraft) (c : Config)
-    (a b old between new : Option (List ℕ)) (held octets : List ℕ) (count since place len : ℕ)
+pub serve-broken : (fault : StreamFault) (pace : Pace) (s mid t : Spacecraft) (q : Course)
+    (c : Config) (e : Ends) (new : Option (List ℕ)) (held octets : List ℕ) (count place len : ℕ)
     → (fault ≡ faults.Write) ⊎ (fault ≡ faults.Memory)
-    → IsServed every s mid a b old between held count since place
+    → IsServed pace s mid q e held count place
     → c ≡ s.config
     → IsFrame (take len held)
     → octets ≡ take len held
-    → Breaks mid.memories (served c (onboard mid) (with_ticks every since (octets ∷ []))) t.memories
-    between new
-    → ServesTo every (Err fault) s t a b old new
-serve-broken faults.Read every s mid t c a b old between new held octets count since place len
-    (inl is) h same front at broke = absurd cc
-serve-broken faults.Read every s mid t c a b old between new held octets count since place len
-    (inr is) h same front at broke = absurd cc
-serve-broken faults.Write every s mid t c a b old between new held octets count since place len is h
-    same front at broke =
-    broken every s mid t c a b old between new held octets count since place len h same front at
+    → Breaks mid.memories (plain (made_next c q.pace mid q octets)) t.memories e.new new
+    → EndsWith pace (Err fault) s t (record e { new = new })
+serve-broken faults.Read pace s mid t q c e new held octets count place len (inl is) h same front at
+    broke = absurd cc
+serve-broken faults.Read pace s mid t q c e new held octets count place len (inr is) h same front at
+    broke = absurd cc
+serve-broken faults.Write pace s mid t q c e new held octets count place len is h same front at
     broke
-serve-broken faults.Memory every s mid t c a b old between new held octets count since place len is
-    h same front at broke = (
-      [],
-      broken every s mid t c a b old between new held octets count since place len h same front at
-          broke,
-    )
-
--- ---- its reader
-
-pub find-reader : (Over : Type 0) (fault : StreamFault) (x y : FrameBuffer) (b d : Option (List ℕ))
-    (had failed : Bool)
-    → FindsFrame (Err fault) x y b d had failed
-    → ReadFails Over fault had failed
-find-reader Over faults.Read x y b d had failed h = inl (h.2)
-find-reader Over faults.Write x y b d had failed h = h.2
-find-reader Over faults.Memory x y b d had failed h = h.2
+    = broken pace s mid t q c e new held octets count place len h same front at broke
+serve-broken faults.Memory pace s mid t q c e new held octets count place len is h same front at
+    broke = ([], broken pace s mid t q c e new held octets count place len h same front at broke)
 
 -- so many packets came
-pub endless : (every : ℕ) (s t : Spacecraft) (a b old new : Option (List ℕ)) (held : List ℕ)
-    (count since place : ℕ)
-    → IsServed every s t a b old new held count since place
+pub endless : (pace : Pace) (s t : Spacecraft) (q : Course) (e : Ends) (held : List ℕ)
+    (count place : ℕ)
+    → IsServed pace s t q e held count place
     → count ≡ 2 ^ 64 - 1
-    → IsEndless t a b
-endless every s t a b old new held count since place h most =
-    inl (h.stream, h.packets, held, none_lost a b h.stream h.consumed, h.cut, h.count_is ∙ most)
+    → IsEndless t e.before e.after
+endless pace s t q e held count place h most =
+    inl (
+      h.stream,
+      h.packets,
+      held,
+      none_lost e.before e.after h.stream h.consumed,
+      h.cut,
+      h.count_is ∙ most,
+    )

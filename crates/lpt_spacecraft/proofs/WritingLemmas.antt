@@ -2,7 +2,7 @@
 use Rattle.std.proofs.Common.{◌≡◌, ◌∙◌, ap, sym, subst, refl, ℕ, zero, suc, ◌+◌, ◌-◌, ◌<◌, ◌≤◌, arith, List, [], ◌∷◌, ◌++◌, length, drop, get_or, Option, append-nil, append_assoc, add-one, drop-cons, slice_index_or}
 use Rattle.std.proofs.lemmas.List.{drop_more}
 use Rattle.std.proofs.KnownBytes.{Appends-trans}
-use Rattle.std.specs.Io.KnownBytes.{Appends}
+use Rattle.std.specs.Io.KnownBytes.{Appends, Consumes}
 use Rattle.lpt_text.specs.Streams.{AppendsPart}
 use Rattle.lpt_text.proofs.StreamLemmas.{part_after, part_of_front}
 use Rattle.lpt_stream.specs.Streams.{all_octets}
@@ -125,3 +125,8 @@ part-grown f step a b k n h part =
     let r = grown f step k (n - k) in
     subst (λ x. AppendsPart a b (all_octets x)) (sym (ap f (sym e) ∙ r.1))
     (part-first a b (f k) r.0 part)
+
+-- octets that were consumed, with none lost
+pub none_lost : (a b : Option (List ℕ)) (stream : List ℕ) → Consumes a b stream → Consumes a b
+    (stream ++ [])
+none_lost a b stream h = subst (Consumes a b) (sym (append-nil stream)) h

@@ -1,5 +1,5 @@
--- What the spacecraft's end does with what comes: packets, and ticks of its clock.
-use Rattle.std.specs.Prelude.{ℕ, zero, suc, ◌+◌, ◌==◌, if◌then◌else◌, List, [], ◌∷◌, ◌++◌, length, Option, Some, None, option_to_list}
+-- What the spacecraft's end does with a packet, and at a tick of its clock.
+use Rattle.std.specs.Prelude.{ℕ, zero, suc, List, [], ◌∷◌, ◌++◌, length, Option, Some, None, option_to_list}
 use Rattle.lpt_events.specs.Arrivals.{arrival}
 use Rattle.lpt_events.specs.declared.config.Config.{Config}
 use Rattle.lpt_events.specs.declared.side.Side.TheVariants.{Craft}
@@ -112,39 +112,3 @@ abbrev pub beaten : Config → Onboard → Onboard × List (List ℕ)
 beaten c s =
     behind [] s.memories
     (first_expired c (ticked_by s.node (refusal_tick s.node)) c.receptions)
-
--- what comes to the spacecraft
-pub data Input : Type 0 where
-  Came : (octets : List ℕ) → Input
-  Ticked : Input
-
--- what the end makes of it
-abbrev pub step : Config → Onboard → Input → Onboard × List (List ℕ)
-step c s (Came b) = taken c s b
-step c s Ticked = beaten c s
-
--- what more makes of an end, behind what was made
-abbrev pub onward : (Onboard → Onboard × List (List ℕ)) → Onboard × List (List ℕ)
-    → Onboard × List (List ℕ)
-onward f x = after x.1 (f x.0)
-
--- the end after all that came, and the packets that it made, in their order
-abbrev pub served : Config → Onboard → List Input → Onboard × List (List ℕ)
-served c s [] = (s, [])
-served c s (x ∷ xs) = onward (λ t. served c t xs) (step c s x)
-
--- ---- ticks by packets
-
--- a tick, where so many packets came since the last
-abbrev pub tick_at : (every since : ℕ) → List Input
-tick_at every since = if since == every then Ticked ∷ [] else []
-
--- how many packets came since the last tick, with one more
-abbrev pub counted_on : (every since : ℕ) → ℕ
-counted_on every since = if since + 1 == every then 0 else since + 1
-
--- packets with a tick behind each that many; behind none where that is 0
-abbrev pub with_ticks : (every since : ℕ) → List (List ℕ) → List Input
-with_ticks every since [] = []
-with_ticks every since (b ∷ bs) =
-    Came b ∷ (tick_at every (since + 1) ++ with_ticks every (counted_on every since) bs)

@@ -12,10 +12,15 @@ use Rattle.lpt_text.specs.declared.fault.StreamFault.TheVariants as faults
 use Rattle.lpt_stream.specs.Pieces.{up_to_limit}
 use Rattle.lpt_stream.specs.Streams.{all_octets, IsUnfinished}
 use Rattle.lpt_frames.specs.Frames.{IsCut, IsStray}
-use Rattle.lpt_spacecraft.specs.Serving.{Onboard, served, with_ticks}
+use Rattle.lpt_spacecraft.specs.Flights.{Flight, Made, new_flight, served, with_ticks}
+use Rattle.lpt_spacecraft.specs.Serving.{Onboard}
+use Rattle.lpt_spacecraft.specs.Telling.{Hears}
+use Rattle.lpt_spacecraft.specs.declared.pace.Course.{Course}
+use Rattle.lpt_spacecraft.specs.declared.pace.Pace.{Pace}
 use Rattle.lpt_spacecraft.specs.declared.spacecraft.Spacecraft.{Spacecraft}
 use Rattle.lpt_spacecraft.specs.declared.stop.Stop.{Stop}
 use Rattle.lpt_spacecraft.specs.declared.stop.Stop.TheVariants.{End, Cut, Stray}
+use Rattle.lpt_spacecraft.specs.declared.told.Told.{Told}
 
 -- ---- one call
 
@@ -48,11 +53,29 @@ abbrev pub Breaks : (before : Contents) → Onboard × List (List ℕ) → (now 
 Breaks before x now old new =
     ((now ≡ before) ⊎ (now ≡ x.0.memories)) × AppendsPart old new (all_octets x.1)
 
+-- ---- an end as a stream goes on
+
+-- the end, and the names that it has used
+abbrev pub flight_of : Spacecraft → Course → Flight
+flight_of s q = record { end = onboard s; reuse = q.pace.reuse; uses = q.uses.items }
+
+-- the end, and what it made
+abbrev pub plain : Made → Onboard × List (List ℕ)
+plain x = (x.flight.end, x.packets)
+
+-- it came to that, what it made was written, and what there is to tell was told
+pub record Flies (x : Made) (s : Spacecraft) (q : Course) (old new : Option (List ℕ))
+    (had has : Option (List Told)) : Type 0 where
+  pub flight : flight_of s q ≡ x.flight
+  pub written : Appends old new (all_octets x.packets)
+  pub told : Hears had has x.told
+
 -- ---- a stream
 
--- what these packets make of a spacecraft, with a tick behind each that many
-abbrev pub served_by : (every : ℕ) → Spacecraft → List (List ℕ) → Onboard × List (List ℕ)
-served_by every s packets = served s.config (onboard s) (with_ticks every 0 packets)
+-- what these packets make of a spacecraft at this pace
+abbrev pub served_by : Pace → Spacecraft → List (List ℕ) → Made
+served_by pace s packets =
+    served s.config (new_flight pace.reuse (onboard s)) (with_ticks pace.every 0 packets)
 
 -- octets were read, and cut into packets and a rest of which this holds; those that are lost were
 -- read behind them
@@ -74,35 +97,39 @@ StopsAt (Cut place) len rest after =
     (place ≡ up_to_limit len) × IsUnfinished rest × (0 < length rest) × IsAtEnd after
 StopsAt (Stray place) len rest after = (place ≡ up_to_limit len) × IsStray rest
 
--- all of these packets were taken, and what they make was written
-abbrev pub Serves : (every : ℕ) → (s t : Spacecraft) → (old new : Option (List ℕ))
-    → List (List ℕ) → Type 0
-Serves every s t old new packets = Writes (served_by every s packets) t old new
+-- all of these packets were taken, what they make was written, and what they tell was told
+pub record Serves (pace : Pace) (s t : Spacecraft) (old new : Option (List ℕ))
+    (had has : Option (List Told)) (packets : List (List ℕ)) : Type 0 where
+  pub writes : Writes (plain (served_by pace s packets)) t old new
+  pub told : Hears had has (served_by pace s packets).told
 
--- The packets before the last were taken, and what that makes was written in part; the memories are
--- as before it or as it leaves them. Or there is none at which work broke off.
-pub record BreaksOff (every : ℕ) (s t : Spacecraft) (old new : Option (List ℕ))
-    (packets : List (List ℕ)) : Type 0 where
+-- The packets before the last were taken, and what they tell was told; what all make was written in
+-- part; the memories are as before the last or as it leaves them. Or there is none at which work
+-- broke off.
+pub record BreaksOff (pace : Pace) (s t : Spacecraft) (old new : Option (List ℕ))
+    (had has : Option (List Told)) (packets : List (List ℕ)) : Type 0 where
   pub taken : List (List ℕ)
   pub last : Option (List ℕ)
   pub are : packets ≡ taken ++ option_to_list last
-  pub breaks : Breaks (served_by every s taken).0.memories (served_by every s packets) t.memories
-      old new
+  pub breaks : Breaks (served_by pace s taken).flight.end.memories
+      (plain (served_by pace s packets)) t.memories old new
+  pub told : Hears had has (served_by pace s taken).told
 
 -- How work on a stream ends. Ok: where it stops, all packets before that were taken. Read: the
 -- same, and no more was read. Write, Memory: it broke off; octets that found no memory are lost.
-abbrev pub ServesTo : (every : ℕ) → Result Stop StreamFault → (s t : Spacecraft)
-    → (before after old new : Option (List ℕ)) → Type 0
-ServesTo every (Ok stop) s t before after old new =
+abbrev pub ServesTo : Pace → Result Stop StreamFault → (s t : Spacecraft)
+    → (before after old new : Option (List ℕ)) → (had has : Option (List Told)) → Type 0
+ServesTo pace (Ok stop) s t before after old new had has =
     ReadsCut before after [] (λ packets rest.
-    StopsAt stop (length (all_octets packets)) rest after × Serves every s t old new packets)
-ServesTo every (Err faults.Read) s t before after old new =
-    ReadsCut before after [] (λ packets rest. Serves every s t old new packets)
-ServesTo every (Err faults.Write) s t before after old new =
-    ReadsCut before after [] (λ packets rest. BreaksOff every s t old new packets)
-ServesTo every (Err faults.Memory) s t before after old new =
+    StopsAt stop (length (all_octets packets)) rest after
+    × Serves pace s t old new had has packets)
+ServesTo pace (Err faults.Read) s t before after old new had has =
+    ReadsCut before after [] (λ packets rest. Serves pace s t old new had has packets)
+ServesTo pace (Err faults.Write) s t before after old new had has =
+    ReadsCut before after [] (λ packets rest. BreaksOff pace s t old new had has packets)
+ServesTo pace (Err faults.Memory) s t before after old new had has =
     (lost : List ℕ)
-    × ReadsCut before after lost (λ packets rest. BreaksOff every s t old new packets)
+    × ReadsCut before after lost (λ packets rest. BreaksOff pace s t old new had has packets)
 
 -- 2^64 - 1 packets were read, or as many requests released
 abbrev pub IsEndless : Spacecraft → (before after : Option (List ℕ)) → Type 0

@@ -1,30 +1,40 @@
 //! The spacecraft's end over a stream of packets. Each packet goes to a node; each request that is
 //! released is read and executed at once; what is reported of it is written, in order, and a
 //! report that is too long for a packet in all its parts. Ticks come every so many packets, and
-//! what is due then is given up. What outlasts a machine that dies is kept before anything that was
-//! made is written.
+//! what is due then is given up; so many ticks after its use a name is free again, where that is
+//! asked for. What outlasts a machine that dies is kept before anything that was made is written.
+//! What happens is told.
 //!
 //! The main type is `Spacecraft`. The first calls are `Spacecraft::new` and `serve_stream`.
 #![tactic(auto)]
 
+mod flying;
 mod keeping;
 mod kept_file;
 pub mod laws;
+mod lines;
+mod naming;
+mod pace;
 mod sending;
 mod serving;
 mod spacecraft;
 mod stop;
 mod taking;
 mod ticking;
+mod told;
 mod writing;
 
 pub use keeping::{Keeper, Unkept};
 pub use kept_file::KeptFault;
-pub use lpt_events::Config;
+pub use lines::print_told;
+pub use lpt_events::{Applied, Config, Outcome};
 pub use lpt_frames::Peer;
 pub use lpt_memory::Memories;
+pub use lpt_packet::{Direction, Name};
 pub use lpt_state::StateFault;
 pub use lpt_text::{Sink, StreamFault};
+pub use pace::Pace;
 pub use serving::serve_stream;
 pub use spacecraft::Spacecraft;
 pub use stop::Stop;
+pub use told::{Done, Listener, Taken, Told};

@@ -1,10 +1,11 @@
 //! Reports that are too long for a packet, sent in parts.
 
-ghost use Rattle.std.specs.Prelude.{◌≡◌, ◌⊎◌, IfErr, OnOk, Some};
+ghost use Rattle.std.specs.Prelude.{◌≡◌, ◌⊎◌, IfErr, IfOk, OnOk, Some};
 ghost use Rattle.lpt_stream.specs.Streams.{all_octets};
 ghost use Rattle.lpt_text.specs.Streams.{AppendsPart, WriteEnds};
 ghost use Rattle.lpt_spacecraft.specs.Serving.{all_sent, first_sent};
 ghost use Rattle.lpt_spacecraft.specs.Streams.{Sends};
+ghost use Rattle.lpt_spacecraft.specs.Telling.{sent_in};
 
 use crate::Spacecraft;
 use lpt_packet::{Name, Octets};
@@ -12,12 +13,14 @@ use lpt_part::count;
 use lpt_text::{Sink, StreamFault, write_out};
 
 impl Spacecraft {
-    // Writes all parts of a message that was opened, if one was, and closes its sender.
+    // Writes all parts of a message that was opened, if one was, closes its sender, and answers
+    // under which name, and how many parts.
     pub(crate) fn send_opened<K: Sink>(
         &mut self,
         opened: Option<(Name, Octets)>,
         out: &mut K,
-    ) -> Result<(), StreamFault>
+    ) -> Result<Option<(Name, u16)>, StreamFault>
+        ensures sent { IfOk result (λ x. x ≡ sent_in self.old.config opened) }
         ensures ok { OnOk result (Sends (all_sent self.old.config self.old.node.at opened)
             self.old self.new (K.contents out.old) (K.contents out.new)) }
         ensures jobs { OnOk result (self.new.node.at.jobs ≡ self.old.node.at.jobs) }
@@ -31,18 +34,20 @@ impl Spacecraft {
             (all_octets (all_sent self.old.config self.old.node.at opened).1)) }
     {
         match opened {
-            None => Ok(()),
+            None => Ok(None),
             Some((name, message)) => self.send_all(name, message.as_slice(), out),
         }
     }
 
-    // Writes all parts of a message that is open, and closes its sender.
+    // Writes all parts of a message that is open, closes its sender, and answers its name, and how
+    // many parts there are.
     fn send_all<K: Sink>(
         &mut self,
         name: Name,
         message: &[u8],
         out: &mut K,
-    ) -> Result<(), StreamFault>
+    ) -> Result<Option<(Name, u16)>, StreamFault>
+        ensures sent { IfOk result (λ x. x ≡ sent_in self.old.config (Some (name, message.now))) }
         ensures ok { OnOk result (Sends
             (all_sent self.old.config self.old.node.at (Some (name, message.now)))
             self.old self.new (K.contents out.old) (K.contents out.new)) }
@@ -67,7 +72,7 @@ impl Spacecraft {
             Err(fault) => return Err(fault),
         }
         match self.node.finish(name) {
-            Ok(()) => Ok(()),
+            Ok(()) => Ok(Some((name, total))),
             Err(_) => Err(StreamFault::Memory),
         }
     }

@@ -1,38 +1,43 @@
 //! A stream of packets, served as it comes.
 
-ghost use Rattle.std.specs.Prelude.{◌≡◌, ◌∷◌, ◌⊎◌, ◌+◌, ◌<◌, ◌^◌, [], IfErr, IfOk, OnOk, IsOk};
+ghost use Rattle.std.specs.Prelude.{◌≡◌, ◌∷◌, ◌⊎◌, ◌+◌, ◌<◌, ◌^◌, [], IfErr, IfOk, OnErr, OnOk, IsOk, Some};
 ghost use Rattle.std.specs.Io.KnownBytes.{Keeps};
 ghost use Rattle.lpt_jobs.specs.Jobs.{numbered};
 ghost use Rattle.lpt_text.specs.Streams.{ReadEnds, WriteEnds};
+ghost use Rattle.lpt_spacecraft.specs.Flights.{counted_on, served, with_ticks};
 ghost use Rattle.lpt_spacecraft.specs.Keeping.{IsKeptAs};
-ghost use Rattle.lpt_spacecraft.specs.Serving.{counted_on, served, with_ticks};
-ghost use Rattle.lpt_spacecraft.specs.Streams.{end_at, onboard, Breaks, IsEndless, IsIdle, ServesTo, Writes};
+ghost use Rattle.lpt_spacecraft.specs.Streams.{end_at, flight_of, plain, Breaks, Flies, IsEndless, IsIdle, ServesTo};
+ghost use Rattle.lpt_spacecraft.specs.Telling.{Hears};
 
+use crate::flying::serve_one;
 use crate::keeping::pass_on;
-use crate::{Keeper, Spacecraft, Stop};
+use crate::pace::Course;
+use crate::{Keeper, Listener, Pace, Spacecraft, Stop, Told};
 use lpt_frames::{FrameBuffer, Front, Peer};
 use lpt_text::{FromStd, Sink, StreamFault, flush_out};
 
 /// Reads a stream of packets to its end, or up to octets with which no packet can begin, takes each
-/// packet, and ticks behind each `every`-th, never where that is 0. It is cut by the lengths that
-/// headers say. Behind each packet the spacecraft is kept, and then what it made is written. Before
-/// each read, and at the end, `out` passes on all that was written.
+/// packet, and ticks at this pace. It is cut by the lengths that headers say. Behind each packet
+/// the spacecraft is kept, then what it made is written, and then what there is to tell is told.
+/// Before each read, and at the end, `out` passes on all that was written.
 ///
 /// Errors: `Read` where a read failed, after all packets before it; or where 2^64 - 1 packets came,
 /// or as many requests; `Write` where a write failed; `Memory`, also where the spacecraft couldn't
-/// be kept. The memories are then as before the last packet or as that leaves them, and a front
-/// part of what would be reported stays written.
-pub fn serve_stream<P: Peer, H: Keeper, K: Sink>(
+/// be kept. The memories are then as before the last packet or as that leaves them, a front part of
+/// what would be reported stays written, and of the last packet nothing is told.
+pub fn serve_stream<P: Peer, H: Keeper, L: Listener, K: Sink>(
     craft: &mut Spacecraft,
-    every: u64,
+    pace: Pace,
     peer: &mut P,
     keeper: &mut H,
+    listener: &mut L,
     out: &mut K,
 ) -> Result<Stop, StreamFault>
     requires idle { IsIdle craft.old }
     requires kept { IsKeptAs (H.kept keeper.old) craft.old }
-    ensures ends { ServesTo every result craft.old craft.new (P.remaining peer.old)
-        (P.remaining peer.new) (K.contents out.old) (K.contents out.new) }
+    ensures ends { ServesTo pace result craft.old craft.new (P.remaining peer.old)
+        (P.remaining peer.new) (K.contents out.old) (K.contents out.new)
+        (L.heard listener.old) (L.heard listener.new) }
 
     // What was kept last is the spacecraft as it is.
     ensures kept { IsOk result → IsKeptAs (H.kept keeper.new) craft.new }
@@ -44,7 +49,7 @@ pub fn serve_stream<P: Peer, H: Keeper, K: Sink>(
     ensures writer { WriteEnds result (K.failed out.old) (K.failed out.new) }
 {
     let mut buffer = FrameBuffer::new(craft.alloc);
-    let mut since = 0;
+    let mut course = Course::new(craft.alloc, pace);
     let mut place: u64 = 0;
     for count in 0..u64::MAX {
         let len = match buffer.find_frame(peer, out) {
@@ -56,8 +61,15 @@ pub fn serve_stream<P: Peer, H: Keeper, K: Sink>(
         if craft.is_full() {
             return Err(StreamFault::Read);
         }
-        match serve_packet(craft, every, since, &buffer.held()[..len], keeper, out) {
-            Ok(now) => since = now,
+        match serve_packet(
+            craft,
+            &mut course,
+            &buffer.held()[..len],
+            keeper,
+            listener,
+            out,
+        ) {
+            Ok(()) => {}
             Err(fault) => return Err(fault),
         }
         place = place.saturating_add(len as u64);
@@ -66,82 +78,59 @@ pub fn serve_stream<P: Peer, H: Keeper, K: Sink>(
     Err(StreamFault::Read)
 }
 
-// Takes a packet, and ticks behind it where it is due, so many packets after the last tick; answers
-// how many came since. What they make is written once the spacecraft is kept.
-fn serve_packet<H: Keeper, K: Sink>(
+// Takes a packet, and ticks behind it where that is due. What they make is written once the
+// spacecraft is kept, and then what there is to tell is told.
+fn serve_packet<H: Keeper, L: Listener, K: Sink>(
     craft: &mut Spacecraft,
-    every: u64,
-    since: u64,
+    course: &mut Course,
     octets: &[u8],
     keeper: &mut H,
+    listener: &mut L,
     out: &mut K,
-) -> Result<u64, StreamFault>
+) -> Result<(), StreamFault>
     requires idle { IsIdle craft.old }
     requires room { numbered craft.old.node.at.jobs + 1 < 2 ^ 64 }
-    requires since { since + 1 < 2 ^ 64 }
-    ensures ok { OnOk result (Writes (served craft.old.config (onboard craft.old)
-        (with_ticks every since (octets.now ∷ []))) craft.new (K.contents out.old)
-        (K.contents out.new)) }
-    ensures since { IfOk result (λ n. n ≡ counted_on every since) }
+    requires since { course.old.since + 1 < 2 ^ 64 }
+    ensures ok { OnOk result (Flies (served craft.old.config (flight_of craft.old course.old)
+        (with_ticks course.old.pace.every course.old.since (octets.now ∷ []))) craft.new course.new
+        (K.contents out.old) (K.contents out.new) (L.heard listener.old) (L.heard listener.new)) }
+    ensures since { OnOk result (course.new.since
+        ≡ counted_on course.old.pace.every course.old.since) }
     ensures idle { OnOk result (IsIdle craft.new) }
     ensures kept { OnOk result (IsKeptAs (H.kept keeper.new) craft.new) }
 
+    ensures pace { course.new.pace ≡ course.old.pace }
     ensures config { craft.new.config ≡ craft.old.config }
 
     ensures fault { IfErr result (λ e. (e ≡ StreamFault.Write) ⊎ (e ≡ StreamFault.Memory)) }
     ensures writer { WriteEnds result (K.failed out.old) (K.failed out.new) }
-    ensures breaks { IfErr result (λ _. Breaks craft.old.memories (served craft.old.config
-        (onboard craft.old) (with_ticks every since (octets.now ∷ []))) craft.new.memories
-        (K.contents out.old) (K.contents out.new)) }
+    ensures breaks { IfErr result (λ _. Breaks craft.old.memories
+        (plain (served craft.old.config (flight_of craft.old course.old)
+        (with_ticks course.old.pace.every course.old.since (octets.now ∷ []))))
+        craft.new.memories (K.contents out.old) (K.contents out.new)) }
+    ensures untold { OnErr result (L.heard listener.new ≡ L.heard listener.old) }
 {
+    let mut told = Vec::new(craft.alloc);
     let mut made = FromStd::new(Vec::new(craft.alloc));
-    let Ok(now) = serve_one(craft, every, since, octets, &mut made) else {
-        return Err(StreamFault::Memory);
-    };
+    match serve_one(craft, course, octets, &mut told, &mut made) {
+        Ok(()) => {}
+        Err(_) => return Err(StreamFault::Memory),
+    }
     if !keeper.keep(craft) {
         return Err(StreamFault::Memory);
     }
     let made = made.into_inner();
     pass_on(keeper, craft, &made, out)?;
-    Ok(now)
+    tell_all(listener, &told);
+    Ok(())
 }
 
-// Takes a packet, and ticks behind it where it is due, so many packets after the last tick, and
-// writes what they make; answers how many packets came since.
-fn serve_one<K: Sink>(
-    craft: &mut Spacecraft,
-    every: u64,
-    since: u64,
-    octets: &[u8],
-    out: &mut K,
-) -> Result<u64, StreamFault>
-    requires idle { IsIdle craft.old }
-    requires room { numbered craft.old.node.at.jobs + 1 < 2 ^ 64 }
-    requires since { since + 1 < 2 ^ 64 }
-    ensures ok { OnOk result (Writes (served craft.old.config (onboard craft.old)
-        (with_ticks every since (octets.now ∷ []))) craft.new (K.contents out.old)
-        (K.contents out.new)) }
-    ensures since { IfOk result (λ n. n ≡ counted_on every since) }
-    ensures idle { OnOk result (IsIdle craft.new) }
-
-    ensures config { craft.new.config ≡ craft.old.config }
-
-    ensures fault { IfErr result (λ e. (e ≡ StreamFault.Write) ⊎ (e ≡ StreamFault.Memory)) }
-    ensures writer { WriteEnds result (K.failed out.old) (K.failed out.new) }
-    ensures breaks { IfErr result (λ _. Breaks craft.old.memories (served craft.old.config
-        (onboard craft.old) (with_ticks every since (octets.now ∷ []))) craft.new.memories
-        (K.contents out.old) (K.contents out.new)) }
+// Tells each of these.
+fn tell_all<L: Listener>(listener: &mut L, told: &[Told])
+    ensures { Hears (L.heard listener.old) (L.heard listener.new) told.now }
 {
-    match craft.take(octets, out) {
-        Ok(()) => {}
-        Err(fault) => return Err(fault),
-    }
-    if since + 1 != every {
-        return Ok(since + 1);
-    }
-    match craft.tick(out) {
-        Ok(()) => Ok(0),
-        Err(fault) => Err(fault),
+    for one in told {
+        listener.tell(*one);
     }
 }
 

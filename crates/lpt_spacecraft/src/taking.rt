@@ -12,8 +12,10 @@ ghost use Rattle.lpt_state.specs.Verdicts.{reading, StateRefusedBy};
 ghost use Rattle.lpt_text.specs.Streams.{WriteEnds};
 ghost use Rattle.lpt_spacecraft.specs.Serving.{new_end, taken, worked, worked_if};
 ghost use Rattle.lpt_spacecraft.specs.Streams.{onboard, Breaks, IsIdle, WaitsFor, Writes};
+ghost use Rattle.lpt_spacecraft.specs.Telling.{done_if, taken_in, work_done};
 
 use crate::Spacecraft;
+use crate::told::{Done, Taken};
 use crate::writing::{write_all, write_one};
 use lpt_events::{Config, Side};
 use lpt_memory::{Memories, prepare};
@@ -91,15 +93,18 @@ impl Spacecraft {
         self.node.jobs() == u64::MAX
     }
 
-    /// Takes a packet, executes what it released, and writes what is reported.
+    /// Takes a packet, executes what it released, writes what is reported, and answers what became
+    /// of them.
     ///
     /// Errors: `Write` where a write failed; `Memory`. The memories are as they were or as the
     /// request leaves them, and a front part of what would be reported stays written.
-    pub fn take<K: Sink>(&mut self, octets: &[u8], out: &mut K) -> Result<(), StreamFault>
+    pub fn take<K: Sink>(&mut self, octets: &[u8], out: &mut K) -> Result<Taken, StreamFault>
         requires idle { IsIdle self.old }
         requires room { numbered self.old.node.at.jobs + 1 < 2 ^ 64 }
         ensures ok { OnOk result (Writes (taken self.old.config (onboard self.old) octets.now)
             self.new (K.contents out.old) (K.contents out.new)) }
+        ensures done { IfOk result (λ t.
+            t ≡ taken_in self.old.config (onboard self.old) octets.now) }
         ensures idle { OnOk result (IsIdle self.new) }
 
         ensures config { self.new.config ≡ self.old.config }
@@ -114,7 +119,7 @@ impl Spacecraft {
             return Err(StreamFault::Memory);
         };
         let Accepted {
-            outcome: _,
+            outcome,
             packet,
             released,
         } = accepted;
@@ -122,14 +127,24 @@ impl Spacecraft {
             Ok(()) => {}
             Err(fault) => return Err(fault),
         }
-        self.work_if(released, out)
+        match self.work_if(released, out) {
+            Ok(done) => Ok(Taken { outcome, done }),
+            Err(fault) => Err(fault),
+        }
     }
 
-    // Reads and executes the request that was released, if one was, and writes what is reported.
-    fn work_if<K: Sink>(&mut self, released: Option<Octets>, out: &mut K) -> Result<(), StreamFault>
+    // Reads and executes the request that was released, if one was, writes what is reported, and
+    // answers what became of it.
+    fn work_if<K: Sink>(
+        &mut self,
+        released: Option<Octets>,
+        out: &mut K,
+    ) -> Result<Option<Done>, StreamFault>
         requires { WaitsFor released self.old.node.at.jobs.jobs }
         ensures ok { OnOk result (Writes (worked_if self.old.config (onboard self.old) released)
             self.new (K.contents out.old) (K.contents out.new)) }
+        ensures done { IfOk result (λ x.
+            x ≡ done_if self.old.config (onboard self.old) released) }
         ensures idle { OnOk result (IsIdle self.new) }
 
         ensures config { self.new.config ≡ self.old.config }
@@ -141,16 +156,21 @@ impl Spacecraft {
             (K.contents out.old) (K.contents out.new)) }
     {
         match released {
-            None => Ok(()),
-            Some(_) => self.work(out),
+            None => Ok(None),
+            Some(_) => match self.work(out) {
+                Ok(done) => Ok(Some(done)),
+                Err(fault) => Err(fault),
+            },
         }
     }
 
-    // Reads and executes the request that waits, and writes what is reported.
-    fn work<K: Sink>(&mut self, out: &mut K) -> Result<(), StreamFault>
+    // Reads and executes the request that waits, writes what is reported, and answers what became
+    // of it.
+    fn work<K: Sink>(&mut self, out: &mut K) -> Result<Done, StreamFault>
         requires { (m : List ℕ) × (self.old.node.at.jobs.jobs ≡ Waiting m ∷ []) }
         ensures ok { OnOk result (Writes (worked self.old.config (onboard self.old)) self.new
             (K.contents out.old) (K.contents out.new)) }
+        ensures done { IfOk result (λ x. x ≡ work_done self.old.config (onboard self.old)) }
         ensures idle { OnOk result (IsIdle self.new) }
 
         ensures config { self.new.config ≡ self.old.config }
@@ -180,14 +200,22 @@ impl Spacecraft {
             return Err(StreamFault::Memory);
         };
         let Executed {
-            applied: _,
+            applied,
             packets,
             opened,
         } = executed;
+        let reports = packets.len();
         match write_all(out, packets.as_slice()) {
             Ok(()) => {}
             Err(fault) => return Err(fault),
         }
-        self.send_opened(opened, out)
+        match self.send_opened(opened, out) {
+            Ok(sent) => Ok(Done {
+                applied,
+                reports,
+                sent,
+            }),
+            Err(fault) => Err(fault),
+        }
     }
 }

@@ -13,12 +13,16 @@ use Rattle.lpt_memory.specs.Readings.{Source}
 use Rattle.lpt_node.specs.Accepting.{accepted}
 use Rattle.lpt_node.specs.Jobs.{executed}
 use Rattle.lpt_model.specs.Tickets.{no_tickets}
-use Rattle.lpt_apart.specs.Moves.{Pair}
-use Rattle.lpt_spacecraft.specs.Serving.{Onboard, Input, Came, Ticked, all_sent, read_over, step, worked, worked_if}
+use Rattle.lpt_packet.specs.declared.direction.Direction.TheVariants.{Up}
+use Rattle.lpt_apart.specs.Moves.{Pair, Do, CanMove}
+use Rattle.lpt_apart.specs.Steps.{Accept}
+use Rattle.lpt_spacecraft.specs.Flights.{Flight, Input, Came, Ticked, Cleared, cleared}
+use Rattle.lpt_spacecraft.specs.Serving.{Onboard, all_sent, beaten, read_over, taken, worked, worked_if}
 use Rattle.lpt_spacecraft.specs.Streams.{WaitsFor}
 use Rattle.lpt_spacecraft.proofs.ServingLemmas.{executed-jobs, read_over-jobs}
-use Rattle.lpt_spacecraft_moves.specs.Moves.{after_moves, AreMovesFor, IsCraftOf, MayBring, ReleasesOctets}
+use Rattle.lpt_spacecraft_moves.specs.Moves.{after_moves, free_moves, octets_of, AreMovesFor, IsCraftOf, MayBring, ReleasesOctets}
 use Rattle.lpt_spacecraft_moves.proofs.AcceptRuns.{accept-run, waits-accepted}
+use Rattle.lpt_spacecraft_moves.proofs.ClearRuns.{clear-jobs, clear-run}
 use Rattle.lpt_spacecraft_moves.proofs.OpenedLemmas.{executed-opened}
 use Rattle.lpt_spacecraft_moves.proofs.PartRuns.{all-run, all_sent-jobs}
 use Rattle.lpt_spacecraft_moves.proofs.RequestRuns.{request-run}
@@ -56,36 +60,34 @@ module _ (c : Config) (good : IsConfig c) (p : Pair) (s : Onboard)
   worked_if_run None octets waits = (reaches-nothing c p s node memories tickets, waits)
   worked_if_run (Some m) octets waits = worked_run m octets waits
 
--- a packet, or a tick
-pub input-run : (c : Config) (p : Pair) (s : Onboard) (x : Input)
+-- a packet
+came_run : (c : Config) (p : Pair) (s : Onboard) (b : List ℕ)
     → IsConfig c
     → IsCraftOf p s
-    → MayBring c p x
-    → ReleasesOctets c s x
-    → Reaches c p (step c s x).0 (step c s x).1 × ((step c s x).0.node.jobs.jobs ≡ [])
-input-run c p s (Came b) good at may octets =
+    → CanMove c p (Do (Accept Up b))
+    → ReleasesOctets c s (Came b)
+    → Reaches c p (taken c s b).0 (taken c s b).1 × ((taken c s b).0.node.jobs.jobs ≡ [])
+came_run c p s b good at may octets =
     let x = accepted Craft c s.node (arrival Craft c.apid c.part_size b) in
     let r = accept-run c p s b at may in
     let after : Onboard = record { node = x.0; memories = s.memories } in
     let done = worked_if_run c good (after_moves c p r.moves) after r.node r.memories r.tickets
     x.1.released octets
     (waits-accepted c s.node (arrival Craft c.apid c.part_size b) at.idle) in (
-      reaches-then c p after (step c s (Came b)).0 (option_to_list x.1.packet)
+      reaches-then c p after (taken c s b).0 (option_to_list x.1.packet)
           (worked_if c after x.1.released).1 r done.0,
       done.1,
     )
-input-run c p s Ticked good at may octets =
-    (beaten-run c p s at.node at.memories at.tickets, beaten-idle c s at.idle)
 
 -- as what the law says
-pub input-moves : (c : Config) (p : Pair) (s : Onboard) (x : Input)
+pub input-moves : (c : Config) (p : Pair) (f : Flight) (x : Input)
     → IsConfig c
-    → IsCraftOf p s
-    → MayBring c p x
-    → ReleasesOctets c s x
-    → AreMovesFor c p s x
-input-moves c p s x good at may octets =
-    let done = input-run c p s x good at may octets in
+    → IsCraftOf p f.end
+    → MayBring c p f x
+    → ReleasesOctets c f.end x
+    → AreMovesFor c p f x
+input-moves c p f (Came b) good at may octets =
+    let done = came_run c p f.end b good at may octets in
     record {
       moves = done.0.moves;
       own = done.0.own;
@@ -94,8 +96,36 @@ input-moves c p s x good at may octets =
         node = done.0.node;
         memories = done.0.memories;
         tickets = done.0.tickets;
-        idle
-            = done.1;
+        idle = done.1;
       };
       put = done.0.put;
+    }
+input-moves c p f Ticked good at may octets =
+    let r = beaten-run c p f.end at.node at.memories at.tickets in
+    record {
+      moves = r.moves;
+      own = r.own;
+      can = r.can;
+      are = record {
+        node = r.node;
+        memories = r.memories;
+        tickets = r.tickets;
+        idle = beaten-idle c f.end at.idle;
+      };
+      put = r.put;
+    }
+input-moves c p f Cleared good at may octets =
+    let x = cleared f.reuse f.end.node f.uses in
+    let r = clear-run c f.reuse p f.end.node f.uses at.node may in
+    record {
+      moves = free_moves x.2;
+      own = r.own;
+      can = may;
+      are = record {
+        node = r.node;
+        memories = r.memories ∙ at.memories;
+        tickets = r.tickets ∙ at.tickets;
+        idle = ap (λ (q : Jobs). q.jobs) (clear-jobs f.reuse f.end.node f.uses) ∙ at.idle;
+      };
+      put = ap octets_of r.way;
     }

@@ -9,10 +9,13 @@ use Rattle.lpt_events.specs.declared.config.Config.{Config}
 use Rattle.lpt_events.specs.declared.side.Side.TheVariants.{Craft}
 use Rattle.lpt_node.specs.Accepting.{accepted}
 use Rattle.lpt_model.specs.Tickets.{no_tickets}
-use Rattle.lpt_apart.specs.Ends.{PutOut}
-use Rattle.lpt_apart.specs.Moves.{Pair, Move, Do, CanMove, moved}
-use Rattle.lpt_apart.specs.Steps.{Accept, Apply, Claim, Commit, Expire, Finish, Send, Tick}
-use Rattle.lpt_spacecraft.specs.Serving.{Onboard, Input, Came, Ticked, step}
+use Rattle.lpt_apart.specs.Ends.{PutOut, without}
+use Rattle.lpt_apart.specs.Moves.{Pair, Move, Do, Free, CanMove, moved}
+use Rattle.lpt_apart.specs.Steps.{Accept, Apply, Claim, Commit, Expire, Finish, Retire, Send, Tick}
+use Rattle.lpt_spacecraft.specs.Flights.{Flight, Input, Came, Ticked, Cleared, step}
+use Rattle.lpt_spacecraft.specs.Serving.{Onboard}
+use Rattle.lpt_spacecraft.specs.declared.told.Told.{Told}
+use Rattle.lpt_spacecraft.specs.declared.told.Told.TheVariants.{Took, Did, GaveUp, Freed, UsedUp}
 
 -- ---- moves, the oldest first
 
@@ -35,16 +38,32 @@ pub record IsCraftOf (p : Pair) (s : Onboard) : Type 0 where
   pub tickets : p.ends.tickets ≡ no_tickets
   pub idle : s.node.jobs.jobs ≡ []
 
--- the network may hand this over to the spacecraft
-abbrev pub MayBring : Config → Pair → Input → Type 0
-MayBring c p (Came b) = CanMove c p (Do (Accept Up b))
-MayBring c p Ticked = ⊤
+-- the move by which a name is freed: up by its receiver, down by its sender
+abbrev pub free_move : Told → List Move
+free_move (Freed Up name) = Free Up name ∷ []
+free_move (Freed Down name) = Do (Retire Down name) ∷ []
+free_move (Took o) = []
+free_move (Did d) = []
+free_move (GaveUp name) = []
+free_move (UsedUp way source) = []
+
+-- the moves by which the names are freed of which that is told
+abbrev pub free_moves : List Told → List Move
+free_moves [] = []
+free_moves (t ∷ ts) = free_move t ++ free_moves ts
+
+-- the network may hand this over to the spacecraft; names that are freed may be
+abbrev pub MayBring : Config → Pair → Flight → Input → Type 0
+MayBring c p f (Came b) = CanMove c p (Do (Accept Up b))
+MayBring c p f Ticked = ⊤
+MayBring c p f Cleared = CanMakeAll c p (free_moves (step c f Cleared).told)
 
 -- the message that it releases, where it releases one, is octets
 abbrev pub ReleasesOctets : Config → Onboard → Input → Type 0
 ReleasesOctets c s (Came b) =
     IfSome (accepted Craft c s.node (arrival Craft c.apid c.part_size b)).1.released IsOctets
 ReleasesOctets c s Ticked = ⊤
+ReleasesOctets c s Cleared = ⊤
 
 -- a move is one of the spacecraft's end alone
 abbrev pub IsOfCraft : Move → Type 0
@@ -56,28 +75,49 @@ IsOfCraft (Do (Expire Craft)) = ⊤
 IsOfCraft (Do (Claim w)) = ⊤
 IsOfCraft (Do (Commit w)) = ⊤
 IsOfCraft (Do Apply) = ⊤
+IsOfCraft (Do (Retire Down name)) = ⊤
+IsOfCraft (Free Up name) = ⊤
 IsOfCraft _ = ⊥
 
 -- the octets that were put out, the newest first
 abbrev pub octets_of : List PutOut → List (List ℕ)
 octets_of ps = map (λ p. p.octets) ps
 
--- moves of the spacecraft's end alone, each of which can be made, that come to the same end and put
--- the same packets out, in their order
-pub record AreMovesFor (c : Config) (p : Pair) (s : Onboard) (x : Input) : Type 0 where
+-- what may be handed over still, once this was told: no part of a name that is free
+abbrev pub still_there : Told → List PutOut → List PutOut
+still_there (Freed way name) ps = without way name ps
+still_there (Took o) ps = ps
+still_there (Did d) ps = ps
+still_there (GaveUp name) ps = ps
+still_there (UsedUp way source) ps = ps
+
+abbrev pub all_still_there : List Told → List PutOut → List PutOut
+all_still_there [] ps = ps
+all_still_there (t ∷ ts) ps = all_still_there ts (still_there t ps)
+
+-- what may be handed over still, once this came, at which that was told
+abbrev pub left_by : Input → List Told → List PutOut → List PutOut
+left_by (Came b) ts ps = ps
+left_by Ticked ts ps = ps
+left_by Cleared ts ps = all_still_there ts ps
+
+-- Moves of the spacecraft's end alone, each of which can be made, that come to the same end and put
+-- the same packets out, in their order. Parts of names that were freed may be handed over no more.
+pub record AreMovesFor (c : Config) (p : Pair) (f : Flight) (x : Input) : Type 0 where
   pub moves : List Move
   pub own : AllByRecursion IsOfCraft moves
   pub can : CanMakeAll c p moves
-  pub are : IsCraftOf (after_moves c p moves) (step c s x).0
+  pub are : IsCraftOf (after_moves c p moves) (step c f x).flight.end
   pub put : octets_of (after_moves c p moves).ends.on_the_way
-      ≡ reverse (step c s x).1 ++ octets_of p.ends.on_the_way
+      ≡ reverse (step c f x).packets
+      ++ octets_of (left_by x (step c f x).told p.ends.on_the_way)
 
 -- whatever comes to the spacecraft's end of a pair
 abbrev pub InputsAreMoves : Type 0
 InputsAreMoves =
-    (c : Config) (p : Pair) (s : Onboard) (x : Input)
+    (c : Config) (p : Pair) (f : Flight) (x : Input)
     → IsConfig c
-    → IsCraftOf p s
-    → MayBring c p x
-    → ReleasesOctets c s x
-    → AreMovesFor c p s x
+    → IsCraftOf p f.end
+    → MayBring c p f x
+    → ReleasesOctets c f.end x
+    → AreMovesFor c p f x

@@ -2,9 +2,12 @@
 
 ghost use Rattle.lpt_spacecraft_moves.specs.Moves.{InputsAreMoves};
 
-/// What the spacecraft's end makes of a packet that the network may hand over, and of a tick, is a
-/// list of moves of two ends apart, all of the spacecraft alone, each of which can happen. They
-/// come to the same end, and put the same packets out, in their order.
+/// What the spacecraft's end makes of a packet that the network may hand over, of a tick, and of
+/// names that may be freed, is a list of moves of two ends apart, all of the spacecraft alone, each
+/// of which can happen. They come to the same end, and put the same packets out, in their order.
+///
+/// A name of a message that comes up may be freed where its sender is closed and no reception of it
+/// is open; one of a report, where ground has freed it. No part of it may be handed over any more.
 pub fn inputs_are_moves()
     ensures { InputsAreMoves }
 {}

@@ -1,12 +1,12 @@
 //! Streams, from the first octet to where the work stops.
 
-ghost use Rattle.std.specs.Prelude.{IfSome};
+ghost use Rattle.std.specs.Prelude.{IfSome, None};
 ghost use Rattle.lpt_spacecraft.specs.Streams.{IsIdle};
 
 use crate::worked::{BROKEN_OFF, HALF, LOADED_AND_DUMPED, PART_AND_NOISE, REPORTS};
 use lpt_events::{Config, Mode};
 use lpt_memory::{Memories, Octets};
-use lpt_spacecraft::{Spacecraft, Stop, Unkept, serve_stream};
+use lpt_spacecraft::{Listener, Pace, Spacecraft, Stop, Told, Unkept, serve_stream};
 use lpt_text::FromStd;
 use std::alloc::Global;
 use std::test::Fail;
@@ -23,13 +23,32 @@ const CONFIG: Config = Config {
 };
 
 /// A stream with a tick behind each so many packets, what is written of it, where the work stops,
-/// and what the first octets of the memory are then.
-const CASES: [(&[u8], u64, &[u8], Stop, [u8; 6]); 4] = [
-    (LOADED_AND_DUMPED, 0, REPORTS, Stop::End, [0, 0, 1, 2, 3, 4]),
-    (PART_AND_NOISE, 1, BROKEN_OFF, Stop::Stray(33), [0; 6]),
-    (HALF, 1, &[], Stop::Cut(0), [0; 6]),
-    (&[], 1, &[], Stop::End, [0; 6]),
+/// what the first octets of the memory are then, and how much was told.
+const CASES: [(&[u8], u64, &[u8], Stop, [u8; 6], u32); 4] = [
+    (
+        LOADED_AND_DUMPED,
+        0,
+        REPORTS,
+        Stop::End,
+        [0, 0, 1, 2, 3, 4],
+        6,
+    ),
+    (PART_AND_NOISE, 1, BROKEN_OFF, Stop::Stray(33), [0; 6], 2),
+    (HALF, 1, &[], Stop::Cut(0), [0; 6], 0),
+    (&[], 1, &[], Stop::End, [0; 6], 0),
 ];
+
+// How much was told.
+#[derive(Drop)]
+struct Counted(u32);
+
+impl Listener for Counted {
+    ghost heard = { λ _. None };
+
+    fn tell(&mut self, _told: Told) {
+        self.0 = self.0.saturating_add(1);
+    }
+}
 
 // A spacecraft with a memory of 16 zeros, or none where memory runs out.
 fn craft(alloc: Global) -> Option<Spacecraft>
@@ -46,18 +65,28 @@ fn craft(alloc: Global) -> Option<Spacecraft>
 
 #[test]
 fn serves_worked_streams(rt: HostRuntime) -> Result<(), Fail> {
-    for (up, every, down, stop, front) in CASES {
+    for (up, every, down, stop, front, count) in CASES {
         let Some(mut craft) = craft(rt.alloc()) else {
             return Err(Fail::from("no memory"));
         };
         let mut source = FromStd::new(up);
         let mut out = FromStd::new(Vec::new(rt.alloc()));
-        let ended = serve_stream(&mut craft, every, &mut source, &mut Unkept, &mut out);
+        let mut counted = Counted(0);
+        let pace = Pace { every, reuse: 0 };
+        let ended = serve_stream(
+            &mut craft,
+            pace,
+            &mut source,
+            &mut Unkept,
+            &mut counted,
+            &mut out,
+        );
         assert!(rt; ended == Ok(stop));
         let written = out.into_inner();
         assert!(rt; written.as_slice() == down);
         let content = craft.content(1).unwrap_or(&[]);
         assert!(rt; content.starts_with(&front));
+        assert!(rt; counted.0 == count);
     }
     Ok(())
 }

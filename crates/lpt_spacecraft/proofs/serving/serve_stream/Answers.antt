@@ -1,17 +1,21 @@
 -- Packet after packet, until none is left.
-use Rattle.std.proofs.Common.{◌≡◌, ◌∙◌, ap, sym, subst, refl, inr, take, length, Ok, arith}
+use Rattle.std.proofs.Common.{◌≡◌, ◌∙◌, ap, sym, subst, refl, inr, take, length, Ok, Err, List, Option, arith}
 use Rattle.lpt_frames.specs.declared.front.Front.{Front}
 use Rattle.lpt_frames.specs.Buffers.{held, FindsFrame}
 use Rattle.lpt_stream.specs.Streams.{all_octets}
 use Rattle.lpt_stream.proofs.EndLemmas.{other-fault, reader-after, reader-all, reader-kept, writer-after, writer-all}
-use Rattle.lpt_spacecraft.specs.Streams.{end_at, StopsAt}
-use Rattle.lpt_spacecraft.proofs.StreamLemmas.{endless, ends-at, find-reader, serve-broken, serve-fault, serve-read, serve-stop, served-more, served-next, served-none}
+use Rattle.lpt_spacecraft.specs.Streams.{end_at, ServesTo, StopsAt}
+use Rattle.lpt_spacecraft.specs.declared.told.Told.{Told}
+use Rattle.lpt_spacecraft.proofs.ReaderLemmas.{find-reader}
+use Rattle.lpt_spacecraft.proofs.StreamLemmas.{endless, ends-at, serve-broken, serve-fault, serve-read, serve-stop, served-more, served-next, served-none}
 use Rattle.lpt_spacecraft.proofs.serving.serve_stream.Goals as goal
 
 pub loop-count-init : goal.loop-count-init
 loop-count-init g c = record {
-  served = served-none c.args.every c.args.craft.now (g.P.Peer.remaining c.args.peer.now)
-      (g.K.Sink.contents c.args.out.now) (held c.new-buffer.result) c.new-buffer.ensures;
+  served = served-none c.args.pace c.args.craft.now c.new-course.result
+      (g.P.Peer.remaining c.args.peer.now) (g.K.Sink.contents c.args.out.now)
+      (g.L.Listener.heard c.args.listener.now) (held c.new-buffer.result) c.new-buffer.ensures
+      c.new-course.ensures.pace c.new-course.ensures.since c.new-course.ensures.uses;
   idle = c.requires.idle;
   kept = c.requires.kept;
   config = refl;
@@ -26,12 +30,12 @@ returns-in-Ok-Stray-clause-ends g c =
     (g.P.Peer.remaining c.loop-count.peer) (g.P.Peer.remaining c.find_frame.new.peer)
     (g.P.Peer.failed c.loop-count.peer) (g.P.Peer.failed c.find_frame.new.peer))
     c.in-Ok-Stray.field-0-is c.in-Ok-Stray.ensures.finds in
-    let at = served-more c.args.every c.args.craft.now c.loop-count.craft _ _ _ _ _ _ _ _ found.0 _
+    let at = served-more c.args.pace c.args.craft.now c.loop-count.craft c.loop-count.course _ _ _
     _ _
-    c.loop-count.invariant.served found.1.consumed found.1.behind c.in-Ok-Stray.ensures.same in
-    serve-stop c.stop_at.result _ c.args.every _ _ _ _ _ _ _ _ _ _ _ c.stop_at.ensures.stop
-    c.stop_at.ensures.fault
-    at c.stop_at.ensures.same (at.place_is, found.2)
+    found.0 _ _ c.loop-count.invariant.served found.1.consumed found.1.behind
+    c.in-Ok-Stray.ensures.same in
+    serve-stop c.stop_at.result _ c.args.pace _ _ _ _ _ _ _ _ c.stop_at.ensures.stop
+    c.stop_at.ensures.fault at c.stop_at.ensures.same (at.place_is, found.2)
 
 pub returns-in-Ok-Stray-clause-reader : goal.returns-in-Ok-Stray-clause-reader
 returns-in-Ok-Stray-clause-reader g c =
@@ -54,10 +58,11 @@ returns-in-Ok-End-clause-ends g c =
     (g.P.Peer.remaining c.loop-count.peer) (g.P.Peer.remaining c.find_frame.new.peer)
     (g.P.Peer.failed c.loop-count.peer) (g.P.Peer.failed c.find_frame.new.peer))
     c.in-Ok-End.field-0-is c.in-Ok-End.ensures.finds in
-    let at = served-more c.args.every c.args.craft.now c.loop-count.craft _ _ _ _ _ _ _ _ found.0 _
+    let at = served-more c.args.pace c.args.craft.now c.loop-count.craft c.loop-count.course _ _ _
     _ _
-    c.loop-count.invariant.served found.1.consumed found.1.behind c.in-Ok-End.ensures.same in
-    serve-stop c.stop_at-in-Ok-End.result _ c.args.every _ _ _ _ _ _ _ _ _ _ _
+    found.0 _ _ c.loop-count.invariant.served found.1.consumed found.1.behind
+    c.in-Ok-End.ensures.same in
+    serve-stop c.stop_at-in-Ok-End.result _ c.args.pace _ _ _ _ _ _ _ _
     c.stop_at-in-Ok-End.ensures.stop c.stop_at-in-Ok-End.ensures.fault
     at c.stop_at-in-Ok-End.ensures.same
     (subst (λ x. StopsAt x (length (all_octets at.packets)) (held c.find_frame.new.self)
@@ -82,9 +87,9 @@ returns-in-Ok-End-clause-writer g c =
 -- a read or a write failed
 pub returns-in-Err-clause-ends : goal.returns-in-Err-clause-ends
 returns-in-Err-clause-ends g c =
-    serve-fault c.in-Err.fault c.args.every c.args.craft.now c.loop-count.craft c.loop-count.buffer
-    c.find_frame.new.self
-    _ _ _ _ _ _ _ _ _ _ _ c.in-Err.ensures.finds c.loop-count.invariant.served c.in-Err.ensures.same
+    serve-fault c.in-Err.fault c.args.pace c.args.craft.now c.loop-count.craft c.loop-count.course
+    c.loop-count.buffer c.find_frame.new.self _ _ _ _ _ _ _ c.in-Err.ensures.finds
+    c.loop-count.invariant.served c.in-Err.ensures.same
 
 pub returns-in-Err-clause-reader : goal.returns-in-Err-clause-reader
 returns-in-Err-clause-reader g c =
@@ -104,10 +109,12 @@ returns-then-is_full-clause-ends g c =
     (g.P.Peer.remaining c.loop-count.peer) (g.P.Peer.remaining c.find_frame.new.peer)
     (g.P.Peer.failed c.loop-count.peer) (g.P.Peer.failed c.find_frame.new.peer))
     c.in-Ok-Frame.field-0-is c.in-Ok-Frame.ensures.finds in
-    serve-read c.args.every c.args.craft.now c.loop-count.craft _ _ _ _ (held c.find_frame.new.self)
-    _ _ _
-    (served-more c.args.every c.args.craft.now c.loop-count.craft _ _ _ _ _ _ _ _ found.0 _ _ _
-    c.loop-count.invariant.served found.1.consumed found.1.behind c.in-Ok-Frame.ensures.same)
+    let at = served-more c.args.pace c.args.craft.now c.loop-count.craft c.loop-count.course _ _ _
+    _ _
+    found.0 _ _ c.loop-count.invariant.served found.1.consumed found.1.behind
+    c.in-Ok-Frame.ensures.same in
+    serve-read c.args.pace c.args.craft.now c.loop-count.craft c.loop-count.course _
+    (held c.find_frame.new.self) _ _ at
 
 pub returns-then-is_full-clause-reader : goal.returns-then-is_full-clause-reader
 returns-then-is_full-clause-reader g c = inr (inr (c.is_full.ensures.full c.if-is_full.true))
@@ -123,17 +130,22 @@ returns-in-Err-serve_packet-clause-ends g c =
     (g.P.Peer.remaining c.loop-count.peer) (g.P.Peer.remaining c.find_frame.new.peer)
     (g.P.Peer.failed c.loop-count.peer) (g.P.Peer.failed c.find_frame.new.peer))
     c.in-Ok-Frame.field-0-is c.in-Ok-Frame.ensures.finds in
-    let at = served-more c.args.every c.args.craft.now c.loop-count.craft _ _ _ _ _ _ _ _ found.0 _
+    let at = served-more c.args.pace c.args.craft.now c.loop-count.craft c.loop-count.course _ _ _
     _ _
-    c.loop-count.invariant.served found.1.consumed found.1.behind c.in-Ok-Frame.ensures.same in
-    serve-broken c.in-Err-serve_packet.fault c.args.every c.args.craft.now c.loop-count.craft
-    c.serve_packet.new.craft
-    c.loop-count.craft.config _ _ _ _ _ (held c.find_frame.new.self)
-    (take c.in-Ok-Frame.len c.held-in-loop-count.result.now) c.loop-count.count
-    c.loop-count.since c.loop-count.place
-    c.in-Ok-Frame.len c.in-Err-serve_packet.ensures.fault at c.loop-count.invariant.config found.2.1
+    found.0 _ _ c.loop-count.invariant.served found.1.consumed found.1.behind
+    c.in-Ok-Frame.ensures.same in
+    subst (λ (h : Option (List Told)). ServesTo c.args.pace (Err c.in-Err-serve_packet.fault)
+    c.args.craft.now c.serve_packet.new.craft (g.P.Peer.remaining c.args.peer.now)
+    (g.P.Peer.remaining c.find_frame.new.peer) (g.K.Sink.contents c.args.out.now)
+    (g.K.Sink.contents c.serve_packet.new.out) (g.L.Listener.heard c.args.listener.now) h)
+    (sym c.in-Err-serve_packet.ensures.untold)
+    (serve-broken c.in-Err-serve_packet.fault c.args.pace c.args.craft.now c.loop-count.craft
+    c.serve_packet.new.craft c.loop-count.course c.loop-count.craft.config _ _
+    (held c.find_frame.new.self) (take c.in-Ok-Frame.len c.held-in-loop-count.result.now)
+    c.loop-count.count c.loop-count.place c.in-Ok-Frame.len c.in-Err-serve_packet.ensures.fault at
+    c.loop-count.invariant.config found.2.1
     (ap (take c.in-Ok-Frame.len) c.held-in-loop-count.ensures)
-    c.in-Err-serve_packet.ensures.breaks
+    c.in-Err-serve_packet.ensures.breaks)
 
 pub returns-in-Err-serve_packet-clause-reader : goal.returns-in-Err-serve_packet-clause-reader
 returns-in-Err-serve_packet-clause-reader g c =
@@ -157,18 +169,19 @@ loop-count-preserved g c =
     (g.P.Peer.remaining c.loop-count.peer) (g.P.Peer.remaining c.find_frame.new.peer)
     (g.P.Peer.failed c.loop-count.peer) (g.P.Peer.failed c.find_frame.new.peer))
     c.in-Ok-Frame.field-0-is c.in-Ok-Frame.ensures.finds in
-    let at = served-more c.args.every c.args.craft.now c.loop-count.craft _ _ _ _ _ _ _ _ found.0 _
+    let at = served-more c.args.pace c.args.craft.now c.loop-count.craft c.loop-count.course _ _ _
     _ _
-    c.loop-count.invariant.served found.1.consumed found.1.behind c.in-Ok-Frame.ensures.same in
+    found.0 _ _ c.loop-count.invariant.served found.1.consumed found.1.behind
+    c.in-Ok-Frame.ensures.same in
     record {
-      served = served-next c.args.every c.args.craft.now c.loop-count.craft c.serve_packet.new.craft
-          c.loop-count.craft.config _ _ _ _ _ (held c.find_frame.new.self) _
+      served = served-next c.args.pace c.args.craft.now c.loop-count.craft c.serve_packet.new.craft
+          c.loop-count.course c.serve_packet.new.course c.loop-count.craft.config _ _ _
+          (held c.find_frame.new.self) _
           (take c.in-Ok-Frame.len c.held-in-loop-count.result.now) c.loop-count.count
-          c.loop-count.since
-          c.loop-count.place c.in-Ok-Frame.len _ _ at c.loop-count.invariant.config found.2.1
+          c.loop-count.place c.in-Ok-Frame.len _ at c.loop-count.invariant.config found.2.1
           found.2.0
           (ap (take c.in-Ok-Frame.len) c.held-in-loop-count.ensures)
-          c.in-Ok.ensures.ok c.in-Ok.ensures.since
+          c.in-Ok.ensures.ok c.in-Ok.ensures.since c.in-Ok.ensures.pace
           c.saturating_add-place.ensures c.skip.ensures;
       idle = c.in-Ok.ensures.idle;
       kept = c.in-Ok.ensures.kept;
@@ -181,12 +194,12 @@ loop-count-preserved g c =
 -- so many packets came
 pub returns-clause-ends : goal.returns-clause-ends
 returns-clause-ends g c =
-    serve-read c.args.every c.args.craft.now c.loop-count.craft _ _ _ _ _ _ _ _
+    serve-read c.args.pace c.args.craft.now c.loop-count.craft c.loop-count.course _ _ _ _
     c.loop-count.invariant.served
 
 pub returns-clause-reader : goal.returns-clause-reader
 returns-clause-reader g c =
     let most : c.loop-count.count ≡ 18446744073709551615 =
     grind (arith, c.loop-count.auto.count-end, c.loop-count-test.false) in
-    inr (endless c.args.every c.args.craft.now c.loop-count.craft _ _ _ _ _ _ _ _
+    inr (endless c.args.pace c.args.craft.now c.loop-count.craft c.loop-count.course _ _ _ _
     c.loop-count.invariant.served most)

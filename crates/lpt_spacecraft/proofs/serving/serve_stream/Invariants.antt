@@ -8,10 +8,14 @@ use Rattle.lpt_spacecraft.proofs.serving.serve_stream.Given as goal
 -- the packets that came were taken, and nothing waits
 abbrev pub invariant-loop-count : goal.invariant-loop-count
 invariant-loop-count g l = record {
-  served : IsServed l.every l.fn.craft l.craft (g.P.Peer.remaining l.fn.peer)
-      (g.P.Peer.remaining l.peer)
-      (g.K.Sink.contents l.fn.out) (g.K.Sink.contents l.out) (held l.buffer) l.count l.since
-      l.place;
+  served : IsServed l.fn.pace l.fn.craft l.craft l.course (record {
+    before = g.P.Peer.remaining l.fn.peer;
+    after = g.P.Peer.remaining l.peer;
+    old = g.K.Sink.contents l.fn.out;
+    new = g.K.Sink.contents l.out;
+    had = g.L.Listener.heard l.fn.listener;
+    has = g.L.Listener.heard l.listener;
+  }) (held l.buffer) l.count l.place;
   idle : IsIdle l.craft;
   kept : IsKeptAs (g.H.Keeper.kept l.keeper) l.craft;
   config : l.craft.config ≡ l.fn.craft.config;

@@ -1,12 +1,14 @@
 -- Reception after reception.
-use Rattle.std.proofs.Common.{◌≡◌, ◌∙◌, ap, sym, subst, ℕ, List, [], arith}
+use Rattle.std.proofs.Common.{◌≡◌, ◌∙◌, ap, sym, subst, ℕ, List, [], ◌++◌, append_assoc, arith}
 use Rattle.std.specs.Io.KnownBytes.{Appends}
 use Rattle.lpt_events.specs.declared.config.Config.{Config}
 use Rattle.lpt_node.specs.Nodes.{NodeData}
+use Rattle.lpt_node.specs.Times.{due}
 use Rattle.lpt_text.specs.Streams.{AppendsPart}
 use Rattle.lpt_stream.specs.Streams.{all_octets}
 use Rattle.lpt_spacecraft.specs.Serving.{then_expired}
-use Rattle.lpt_spacecraft.proofs.ServingLemmas.{expired-next, expired-part, expired-step}
+use Rattle.lpt_spacecraft.specs.Telling.{first_given_up, gave_up}
+use Rattle.lpt_spacecraft.proofs.ServingLemmas.{expired-next, expired-part, expired-step, given_up-next}
 use Rattle.lpt_spacecraft.proofs.spacecraft.Spacecraft.give_up.Goals as goal
 
 pub loop-k-preserved : goal.loop-k-preserved
@@ -27,7 +29,14 @@ loop-k-preserved g c =
       config = c.in-Ok.ensures.config ∙ was.config;
       memories = c.in-Ok.ensures.memories ∙ was.memories;
       jobs = c.in-Ok.ensures.jobs ∙ was.jobs;
-      told = c.in-Ok.ensures.writer ∙ was.told;
+      given = c.in-Ok.ensures.told
+          ∙ ap (λ ts. ts ++ gave_up (due c.loop-k.self.config c.loop-k.self.node.at)) was.given
+          ∙ append_assoc c.args.told.now.items (first_given_up s.config s.node.at k)
+          (gave_up (due c.loop-k.self.config c.loop-k.self.node.at))
+          ∙ (λ i. c.args.told.now.items ++ (first_given_up s.config s.node.at k
+          ++ gave_up (due (same i) (was.node i))))
+          ∙ ap (λ ts. c.args.told.now.items ++ ts) (sym (given_up-next s.config s.node.at k));
+      writer = c.in-Ok.ensures.writer ∙ was.writer;
     }
 
 pub returns-in-Err-clause-part : goal.returns-in-Err-clause-part

@@ -3,21 +3,28 @@ use Rattle.lpt_spacecraft.specs.Streams.{onboard}
 use Rattle.std.proofs.Common.{refl}
 use Rattle.std.specs.Prelude.{option_to_list}
 use Rattle.lpt_spacecraft.specs.Serving.{worked_if}
-use Rattle.lpt_spacecraft.proofs.ServingLemmas.{accepted-same, breaks-behind, breaks-first, on-err, on-ok, taken-all, taken-breaks}
+use Rattle.lpt_spacecraft.proofs.ServingLemmas.{accepted-same, breaks-behind, breaks-first, taken-all, taken-breaks, taken-is}
 use Rattle.lpt_spacecraft.proofs.spacecraft.Spacecraft.take.Goals as goal
 
-pub returns-clause-ok : goal.returns-clause-ok
-returns-clause-ok g c =
+pub returns-in-Ok-work_if-clause-ok : goal.returns-in-Ok-work_if-clause-ok
+returns-in-Ok-work_if-clause-ok g c =
     let s = c.args.self.now in
-    on-ok c.work_if.result c.work_if.ensures.ok
-    (λ done. taken-all s.config (onboard s) (onboard c.work_if.new.self) c.args.octets.now
+    taken-all s.config (onboard s) (onboard c.work_if.new.self) c.args.octets.now
     c.accept_octets.new.self.at c.in-Ok.accepted (g.K.Sink.contents c.args.out.now)
     (g.K.Sink.contents c.write_one.new.out)
     (g.K.Sink.contents c.work_if.new.out)
     (accepted-same s.node.side s.node.config s.config s.node.at c.args.octets.now
     (c.accept_octets.new.self.at, c.in-Ok.accepted)
     s.same_side s.same_config c.in-Ok.ensures.ok)
-    c.in-Ok-write_one.ensures.ok done)
+    c.in-Ok-write_one.ensures.ok c.in-Ok-work_if.ensures.ok
+
+pub returns-in-Ok-work_if-clause-done : goal.returns-in-Ok-work_if-clause-done
+returns-in-Ok-work_if-clause-done g c =
+    let s = c.args.self.now in
+    taken-is s.config (onboard s) c.args.octets.now c.accept_octets.new.self.at c.in-Ok.accepted _
+    (accepted-same s.node.side s.node.config s.config s.node.at c.args.octets.now
+    (c.accept_octets.new.self.at, c.in-Ok.accepted)
+    s.same_side s.same_config c.in-Ok.ensures.ok) refl c.in-Ok-work_if.ensures.done
 
 -- its report wasn't written
 pub returns-in-Err-clause-breaks : goal.returns-in-Err-clause-breaks
@@ -36,11 +43,10 @@ returns-in-Err-clause-breaks g c =
     c.in-Err.ensures.part)
 
 -- what it released broke off
-pub returns-clause-breaks : goal.returns-clause-breaks
-returns-clause-breaks g c =
+pub returns-in-Err-work_if-clause-breaks : goal.returns-in-Err-work_if-clause-breaks
+returns-in-Err-work_if-clause-breaks g c =
     let s = c.args.self.now in
-    on-err c.work_if.result c.work_if.ensures.breaks
-    (λ broke. taken-breaks s.config (onboard s) c.args.octets.now c.accept_octets.new.self.at
+    taken-breaks s.config (onboard s) c.args.octets.now c.accept_octets.new.self.at
     c.in-Ok.accepted
     c.work_if.new.self.memories (g.K.Sink.contents c.args.out.now)
     (g.K.Sink.contents c.work_if.new.out)
@@ -52,4 +58,4 @@ returns-clause-breaks g c =
     c.in-Ok.accepted.released)
     (g.K.Sink.contents c.args.out.now) (g.K.Sink.contents c.write_one.new.out)
     (g.K.Sink.contents c.work_if.new.out)
-    c.in-Ok-write_one.ensures.ok broke))
+    c.in-Ok-write_one.ensures.ok c.in-Err-work_if.ensures.breaks)

@@ -9,13 +9,13 @@ use Rattle.lpt_node.specs.Jobs.{Execution, executed}
 use Rattle.lpt_node.specs.Nodes.{NodeData}
 use Rattle.lpt_spacecraft.specs.Serving.{all_sent}
 use Rattle.lpt_spacecraft.specs.Streams.{onboard}
-use Rattle.lpt_spacecraft.proofs.ServingLemmas.{executed-jobs, on-err, on-ok, read-over, read_over-jobs, worked-breaks, worked-writes}
+use Rattle.lpt_spacecraft.proofs.ServingLemmas.{done-is, executed-jobs, read-over, read_over-jobs, worked-breaks, worked-writes}
 use Rattle.lpt_spacecraft.proofs.WritingLemmas.{part-behind, part-first}
 use Rattle.lpt_text.specs.Streams.{AppendsPart}
 use Rattle.lpt_spacecraft.proofs.spacecraft.Spacecraft.work.Goals as goal
 
-pub returns-clause-ok : goal.returns-clause-ok
-returns-clause-ok g c =
+pub returns-in-Ok-send_opened-clause-ok : goal.returns-in-Ok-send_opened-clause-ok
+returns-in-Ok-send_opened-clause-ok g c =
     let s = c.args.self.now in
     let reading = c.reading-reading.ensures ∙ ap (λ (p : ReadJob). p.read) c.in-Ok-prepare.ensures
     ∙ (λ i. record {
@@ -32,16 +32,41 @@ returns-clause-ok g c =
     let config = c.commit.ensures.config ∙ c.claim.ensures.config ∙ s.same_config in
     let runs = c.in-Ok-apply_front.ensures.ok
     ∙ ap (λ (k : Config). executed k c.commit.new.self.at s.memories) config in
-    on-ok c.send_opened.result c.send_opened.ensures.ok
-    (λ sent. worked-writes s.config (onboard s) (onboard c.send_opened.new.self)
+    let sent = c.in-Ok-send_opened.ensures.ok in
+    worked-writes s.config (onboard s) (onboard c.send_opened.new.self)
     c.commit.new.self.at _ _ _ _
     over runs
     (subst (λ bs. Appends (g.K.Sink.contents c.args.out.now) (g.K.Sink.contents c.write_all.new.out)
     (all_octets bs)) c.as_slice.ensures.value c.in-Ok-write_all.ensures.ok) sent.0 sent.1
-    sent.2)
+    sent.2
 
-pub returns-clause-idle : goal.returns-clause-idle
-returns-clause-idle g c =
+pub returns-in-Ok-send_opened-clause-done : goal.returns-in-Ok-send_opened-clause-done
+returns-in-Ok-send_opened-clause-done g c =
+    let s = c.args.self.now in
+    let reading = c.reading-reading.ensures ∙ ap (λ (p : ReadJob). p.read) c.in-Ok-prepare.ensures
+    ∙ (λ i. record {
+      apid = s.config.apid;
+      sizes = c.in-Ok.ensures i;
+      message =
+          c.in-Ok-claim.ticket.message;
+    }) in
+    let over = read-over s.config s.memories s.node.at c.claim.new.self.at c.commit.new.self.at
+    c.in-Ok-claim.ticket
+    c.boot-boot.result c.job-job.result c.reading-reading.result c.commit.result
+    c.in-Ok-claim.ensures.ok c.boot-boot.ensures c.job-job.ensures reading
+    c.commit.ensures.committed in
+    let config = c.commit.ensures.config ∙ c.claim.ensures.config ∙ s.same_config in
+    let runs = c.in-Ok-apply_front.ensures.ok
+    ∙ ap (λ (k : Config). executed k c.commit.new.self.at s.memories) config in
+    done-is s.config (onboard s) c.commit.new.self.at _ _ over runs
+    (λ i. record {
+      applied = c.in-Ok-apply_front.executed.applied;
+      reports = (c.len-reports.ensures ∙ c.in-Ok-apply_front.executed.packets.ok.0) i;
+      sent = c.in-Ok-send_opened.ensures.sent i;
+    })
+
+pub returns-in-Ok-send_opened-clause-idle : goal.returns-in-Ok-send_opened-clause-idle
+returns-in-Ok-send_opened-clause-idle g c =
     let s = c.args.self.now in
     let reading = c.reading-reading.ensures ∙ ap (λ (p : ReadJob). p.read) c.in-Ok-prepare.ensures
     ∙ (λ i. record {
@@ -60,10 +85,10 @@ returns-clause-idle g c =
     ∙ ap (λ (k : Config). executed k c.commit.new.self.at s.memories) config in
     let alone = ap (λ (d : NodeData). d.jobs.jobs) over
     ∙ read_over-jobs s.config s.memories s.node.at c.requires.0 c.requires.1 in
-    on-ok c.send_opened.result c.send_opened.ensures.jobs
-    (λ same. ap (λ q. q.jobs) same ∙ ap (λ (x : (NodeData × Execution) × Contents). x.0.0.jobs.jobs)
+    ap (λ q. q.jobs) c.in-Ok-send_opened.ensures.jobs ∙ ap (λ (x : (NodeData × Execution) ×
+    Contents). x.0.0.jobs.jobs)
     runs
-    ∙ executed-jobs s.config c.commit.new.self.at s.memories _ alone)
+    ∙ executed-jobs s.config c.commit.new.self.at s.memories _ alone
 
 -- the reports weren't written
 pub returns-in-Err-write_all-clause-breaks : goal.returns-in-Err-write_all-clause-breaks
@@ -112,8 +137,7 @@ returns-clause-breaks g c =
     let config = c.commit.ensures.config ∙ c.claim.ensures.config ∙ s.same_config in
     let runs = c.in-Ok-apply_front.ensures.ok
     ∙ ap (λ (k : Config). executed k c.commit.new.self.at s.memories) config in
-    on-err c.send_opened.result c.send_opened.ensures.part
-    (λ part. worked-breaks s.config (onboard s) c.commit.new.self.at _
+    worked-breaks s.config (onboard s) c.commit.new.self.at _
     c.send_opened.new.self.memories
     (g.K.Sink.contents c.args.out.now) (g.K.Sink.contents c.send_opened.new.out) over runs
     c.send_opened.ensures.memories
@@ -122,4 +146,4 @@ returns-clause-breaks g c =
     (all_sent s.config c.apply_front.new.self.at c.in-Ok-apply_front.executed.opened).1
     (subst (λ bs. Appends (g.K.Sink.contents c.args.out.now) (g.K.Sink.contents c.write_all.new.out)
     (all_octets bs))
-    c.as_slice.ensures.value c.in-Ok-write_all.ensures.ok) part))
+    c.as_slice.ensures.value c.in-Ok-write_all.ensures.ok) c.in-Err-send_opened.ensures.part)

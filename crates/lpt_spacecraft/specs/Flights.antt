@@ -1,0 +1,157 @@
+-- The spacecraft's end as a stream goes on: what comes, and the names that are freed.
+use Rattle.std.specs.Prelude.{ℕ, Bool, true, false, ◌+◌, ◌==◌, nat_le, if◌then◌else◌, List, [], ◌∷◌, ◌++◌, Option, Some, None}
+use Rattle.lpt_events.specs.declared.config.Config.{Config}
+use Rattle.lpt_events.specs.declared.side.Side.TheVariants.{Craft}
+use Rattle.lpt_ledger.specs.declared.state.State.{State}
+use Rattle.lpt_ledger.specs.declared.state.State.TheVariants.{Free, Open, Closed}
+use Rattle.lpt_node.specs.Nodes.{NodeData}
+use Rattle.lpt_node.specs.Restarts.{name_state, retired}
+use Rattle.lpt_packet.specs.Names.{Name}
+use Rattle.lpt_packet.specs.declared.direction.Direction.{Direction}
+use Rattle.lpt_spacecraft.specs.Serving.{Onboard, beaten, taken}
+use Rattle.lpt_spacecraft.specs.Telling.{all_noted, ended, given_up, taken_in, took}
+use Rattle.lpt_spacecraft.specs.declared.pace.Use.{Use}
+use Rattle.lpt_spacecraft.specs.declared.told.Told.{Told}
+use Rattle.lpt_spacecraft.specs.declared.told.Told.TheVariants.{Freed}
+
+-- the end, after how many ticks a name that was used is free again, or never at 0, and the names
+-- that were used and aren't free yet, the oldest use first; where none is freed none is kept
+pub record Flight : Type 0 where
+  pub end : Onboard
+  pub reuse : ℕ
+  pub uses : List Use
+
+-- an end at which no name waits to be free
+abbrev pub new_flight : (reuse : ℕ) → Onboard → Flight
+new_flight reuse s = record { end = s; reuse = reuse; uses = [] }
+
+-- what comes to the spacecraft: a packet, a tick of its clock, and that names are freed
+pub data Input : Type 0 where
+  Came : (octets : List ℕ) → Input
+  Ticked : Input
+  Cleared : Input
+
+-- what came of it: the end, the packets that it made, in their order, and what is told
+pub record Made : Type 0 where
+  pub flight : Flight
+  pub packets : List (List ℕ)
+  pub told : List Told
+
+-- ---- names that are used
+
+-- a name was used at this clock
+abbrev pub use_of : (reuse clock : ℕ) → Option (Direction × Name) → List Use
+use_of reuse clock None = []
+use_of reuse clock (Some x) =
+    if reuse == 0 then [] else record { direction = x.0; name = x.1; since = clock } ∷ []
+
+-- the names that were used, of what has happened at this clock
+abbrev pub uses_of : (reuse clock : ℕ) → List Told → List Use
+uses_of reuse clock [] = []
+uses_of reuse clock (t ∷ ts) = use_of reuse clock (ended t) ++ uses_of reuse clock ts
+
+-- the end came to that and made that, and this has happened
+abbrev pub noting : Flight → Onboard × List (List ℕ) → List Told → Made
+noting f x ts = record {
+  flight = record f { end = x.0; uses = f.uses ++ uses_of f.reuse x.0.node.clock ts };
+  packets = x.1;
+  told = all_noted x.0.node ts;
+}
+
+-- ---- names that are freed
+
+-- the state of a name that was used
+abbrev pub state_of : NodeData → Use → State
+state_of d u = name_state Craft d u.direction u.name
+
+-- whether a name's transaction has ended
+abbrev pub is_closed : State → Bool
+is_closed Closed = true
+is_closed Free = false
+is_closed Open = false
+
+-- a name of this state is freed, where it is closed
+abbrev pub freed_as : State → NodeData → Direction → Name → NodeData
+freed_as Closed d way name = retired Craft d way name
+freed_as Free d way name = d
+freed_as Open d way name = d
+
+-- a name that was used is freed
+abbrev pub freed : NodeData → Use → NodeData
+freed d u = freed_as (state_of d u) d u.direction u.name
+
+-- and that is told
+abbrev pub told_freed : State → Use → List Told
+told_freed s u = if is_closed s then Freed u.direction u.name ∷ [] else []
+
+-- whether a name was used so many ticks before this clock
+abbrev pub is_due : (reuse clock : ℕ) → Use → Bool
+is_due reuse clock u = nat_le (u.since + reuse) clock
+
+-- the name that was used first, where it is due
+abbrev pub due_now : (reuse clock : ℕ) → List Use → Option Use
+due_now reuse clock [] = None
+due_now reuse clock (u ∷ us) = if is_due reuse clock u then Some u else None
+
+-- more was told before
+abbrev pub told_first : List Told → NodeData × List Use × List Told → NodeData × List Use × List
+    Told
+told_first ts x = (x.0, x.1, ts ++ x.2)
+
+-- the names in front that were used so many ticks ago are freed: the node after it, the names that
+-- are left, and what is told
+abbrev pub cleared : (reuse : ℕ) → NodeData → List Use → NodeData × List Use × List Told
+cleared reuse d [] = (d, [], [])
+cleared reuse d (u ∷ us) =
+    if is_due reuse d.clock u
+    then told_first (told_freed (state_of d u) u) (cleared reuse (freed d u) us)
+    else (d, u ∷ us, [])
+
+-- the end came to that
+abbrev pub clearing : Flight → NodeData × List Use × List Told → Made
+clearing f x = record {
+  flight = record f { end = record f.end { node = x.0 }; uses = x.1 };
+  packets = [];
+  told = x.2;
+}
+
+-- ---- what comes
+
+-- what the end makes of it
+abbrev pub step : Config → Flight → Input → Made
+step c f (Came b) = noting f (taken c f.end b) (took (taken_in c f.end b))
+step c f Ticked = noting f (beaten c f.end) (given_up c f.end)
+step c f Cleared = clearing f (cleared f.reuse f.end.node f.uses)
+
+-- more was made before
+abbrev pub behind_made : Made → Made → Made
+behind_made x y = record {
+  flight = y.flight;
+  packets = x.packets ++ y.packets;
+  told = x.told ++ y.told;
+}
+
+-- what more makes of an end, behind what was made
+abbrev pub onward : (Flight → Made) → Made → Made
+onward f x = behind_made x (f x.flight)
+
+-- the end after all that came, the packets that it made, and what is told
+abbrev pub served : Config → Flight → List Input → Made
+served c f [] = record { flight = f; packets = []; told = [] }
+served c f (x ∷ xs) = onward (λ g. served c g xs) (step c f x)
+
+-- ---- ticks by packets
+
+-- a tick, and names freed, where so many packets came since the last
+abbrev pub tick_at : (every since : ℕ) → List Input
+tick_at every since = if since == every then Ticked ∷ Cleared ∷ [] else []
+
+-- how many packets came since the last tick, with one more
+abbrev pub counted_on : (every since : ℕ) → ℕ
+counted_on every since = if since + 1 == every then 0 else since + 1
+
+-- packets with a tick behind each that many; behind none where that is 0
+abbrev pub with_ticks : (every since : ℕ) → List (List ℕ) → List Input
+with_ticks every since [] = []
+with_ticks every since (b ∷ bs) =
+    Came b ∷ (tick_at every (since + 1) ++ with_ticks every (counted_on every since) bs)

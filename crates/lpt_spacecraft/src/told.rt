@@ -1,0 +1,74 @@
+//! What is told of what comes to the spacecraft's end.
+
+use lpt_events::{Applied, Outcome};
+use lpt_packet::{Direction, Name};
+
+/// What happened at the spacecraft's end.
+#[derive(Clone, Copy)]
+pub enum Told {
+    /// A packet was taken: what became of it.
+    Took(Outcome),
+    /// A request was executed: what became of it.
+    Did(Done),
+    /// The reception of this name was given up for its age.
+    GaveUp(Name),
+    /// The name is free again.
+    Freed(Direction, Name),
+    /// This source has no free name left in this direction.
+    UsedUp(Direction, u16),
+}
+
+/// What became of a packet, and of the request that it released, where it released one.
+#[derive(Clone, Copy)]
+pub struct Taken {
+    /// What became of the packet.
+    pub outcome: Outcome,
+    /// What became of the request.
+    pub done: Option<Done>,
+}
+
+/// What became of a request that was executed.
+#[derive(Clone, Copy)]
+pub struct Done {
+    /// What its execution answers.
+    pub applied: Applied,
+    /// How many reports were sent, each in a packet.
+    pub reports: usize,
+    /// The name of the report that was sent in parts, and how many, where one was.
+    pub sent: Option<(Name, u16)>,
+}
+
+/// Who is told what happens.
+pub trait Listener {
+    ghost use Rattle.std.specs.Prelude.{◌∷◌, [], List, Option};
+    ghost use Rattle.lpt_spacecraft.specs.declared.told.Told.{Told};
+    ghost use Rattle.lpt_spacecraft.specs.Telling.{Hears};
+
+    // What was told so far, where that is known.
+    ghost heard: { Self → Option (List Told) };
+
+    /// Is told something more.
+    fn tell(&mut self, told: Told)
+        ensures { Hears (heard self.old) (heard self.new) (told ∷ []) };
+}
+
+impl Told {
+    ghost use Rattle.std.specs.Prelude.{◌≡◌};
+    ghost use Rattle.lpt_spacecraft.specs.Telling.{ended};
+
+    // The name that this has used up, with the direction of its message, where it has.
+    pub(crate) fn ended(&self) -> Option<(Direction, Name)>
+        ensures { result ≡ ended self.now }
+    {
+        match *self {
+            Told::Took(Outcome::Released(name, _)) => Some((Direction::Up, name)),
+            Told::Took(Outcome::Broken(name, _)) => Some((Direction::Up, name)),
+            Told::GaveUp(name) => Some((Direction::Up, name)),
+            Told::Did(done) => match done.sent {
+                Some((name, _)) => Some((Direction::Down, name)),
+                None => None,
+            },
+            _ => None,
+        }
+    }
+}
