@@ -1,11 +1,11 @@
 mod CameLemmas
 mod HeldsLemmas
-mod ReadLemmas
+pub mod ReadLemmas
 mod RestrictLemmas
 mod SendLemmas
 mod SieveLemmas
 mod SoundLemmas
 mod SplitLemmas
 mod StepLemmas
-mod TellLemmas
+pub mod TellLemmas
 mod TurnLemmas

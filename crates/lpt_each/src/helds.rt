@@ -20,15 +20,15 @@ use lpt_part::Part;
 use std::alloc::{AllocError, Global};
 use std::collections::BTreeMap;
 
-/// What is kept of each name.
+/// What is kept of each name while the packets of a stream come.
 #[derive(Drop)]
-pub(crate) struct Helds {
+pub struct Helds {
     pub(crate) kept: BTreeMap<Name, Held>,
 }
 
 impl Helds {
-    // Nothing came.
-    pub(crate) fn new(alloc: Global) -> Helds
+    /// Nothing came.
+    pub fn new(alloc: Global) -> Helds
         ensures { (t : Transaction) (any : Bool) → HoldsEach t any [] result }
     {
         Helds {
@@ -36,9 +36,10 @@ impl Helds {
         }
     }
 
-    // Takes a part of this name that a packet carries, and gives what it tells. The only error is out of
-    // memory.
-    pub(crate) fn take(
+    /// Takes a part of this name that a packet carries, and gives what it tells. A message is given
+    /// where it is a packet of its direction, or with `any` whatever it is. The only error is out
+    /// of memory.
+    pub fn take(
         self,
         alloc: Global,
         transaction: &Transaction,

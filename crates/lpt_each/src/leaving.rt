@@ -13,8 +13,10 @@ use crate::{News, Taker};
 use lpt_packet::Name;
 use lpt_text::StreamFault;
 
-// Tells what is left of each name, in the order of names.
-pub(crate) fn leave<T: Taker>(helds: Helds, taker: &mut T) -> Result<(), StreamFault>
+/// Tells what is left of each name, in the order of names.
+///
+/// Errors: those of the taker.
+pub fn leave<T: Taker>(helds: Helds, taker: &mut T) -> Result<(), StreamFault>
     ensures told { (t : Transaction) (any : Bool) (bs : List (List ℕ)) → HoldsEach t any bs helds
         → OnOk result ((es : List Event) × Leaves t any bs es
         × Hears (T.heard taker.old) (T.heard taker.new) es) }

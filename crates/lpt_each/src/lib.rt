@@ -5,6 +5,7 @@
 //! come again late do no harm, and a next message that has parts of the last one is joined too.
 //!
 //! The main types are `News`, and `Taker`, who is told of them. The first call is `each_stream`.
+//! Who does something else with each packet, too, keeps `Helds`, and calls `leave` at the end.
 #![tactic(auto)]
 
 mod each;
@@ -16,6 +17,8 @@ mod news;
 mod turn;
 
 pub use each::each_stream;
+pub use helds::Helds;
+pub use leaving::leave;
 pub use lpt_join::{Misfit, PartNumbers, Transaction};
 pub use lpt_packet::{Name, Octets};
 pub use lpt_skips::Skips;

@@ -1,7 +1,10 @@
 -- What octets are seen as, and the dump report in them.
-use Rattle.std.proofs.Common.{◌≡◌, refl, ℕ, List, Some, None}
-use Rattle.lpt_packet.specs.Packets.{Fields, IdlePacket, APacket, seen}
-use Rattle.lpt_extract.specs.Reports.{dump_in, dump_in_packet}
+use Rattle.std.proofs.Common.{◌≡◌, ap, sym, refl, ℕ, List, Some, None, Err}
+use Rattle.std.specs.Result.{result_ok}
+use Rattle.lpt_packet.specs.declared.fault.PacketFault.{PacketFault}
+use Rattle.lpt_packet.specs.Packets.{Fields, IdlePacket, APacket, seen, verdict}
+use Rattle.lpt_stream.proofs.StreamLemmas.{seen-unread}
+use Rattle.lpt_extract.specs.Reports.{Other, dump_in, dump_in_packet, report_in, said_in}
 
 -- no packet is no dump report
 pub dump-none : (b : List ℕ) → seen b ≡ None → None ≡ dump_in b
@@ -16,3 +19,11 @@ dump-idle b e = rw e refl
 pub dump-packet : (b : List ℕ) (f : Fields) → seen b ≡ Some (APacket f) → dump_in_packet f ≡ dump_in b
 unfolding dump_in
 dump-packet b f e = rw e refl
+
+-- octets that aren't read are no report
+pub report-none : (apid : ℕ) (b : List ℕ) (e : PacketFault)
+    → seen b ≡ result_ok (verdict b)
+    → verdict b ≡ Err e
+    → Other ≡ report_in apid b
+unfolding report_in
+report-none apid b e law h = ap (said_in apid) (dump-none b (seen-unread b e law h))

@@ -4,6 +4,8 @@ pub mod Extracts
 pub mod ExtractsInside
 pub mod Gaps
 pub mod ImagesInside
+pub mod Joined
+pub mod JoinedInside
 pub mod Notices
 pub mod Reports
 pub mod ReportsInside

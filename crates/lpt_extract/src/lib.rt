@@ -6,7 +6,8 @@
 //! no area gave are known as its gaps. A `Tally` counts what was passed over, skipped, or no packet.
 //!
 //! The main type is `Wanted`. The first call is `extract_stream`, with a stream of packets, a sink
-//! for the octets, and a `Listener`, who is told of each area.
+//! for the octets, and a `Listener`, who is told of each area; or `extract_joined`, where reports
+//! may come in parts.
 #![tactic(auto)]
 
 mod cover;
@@ -16,6 +17,7 @@ mod extracting;
 mod gap;
 mod holding;
 mod image;
+mod joining;
 mod notice;
 mod report;
 mod seen_area;
@@ -26,6 +28,8 @@ mod wanted;
 pub use extracted::{ExtractEnd, Extracted};
 pub use extracting::extract_stream;
 pub use gap::Gap;
+pub use joining::{Outlets, extract_joined};
+pub use lpt_each::{Name, News, Taker, Transaction};
 pub use lpt_text::{Sink, Source, StreamFault};
 pub use notice::{Listener, Notice, Span};
 pub use tally::{Others, Tally};

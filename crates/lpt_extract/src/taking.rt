@@ -11,6 +11,7 @@ ghost use Rattle.lpt_memory.specs.Meanings.{area};
 ghost use Rattle.lpt_extract.specs.declared.notice.Notice.{Notice};
 ghost use Rattle.lpt_extract.specs.Extracts.{areas_in, areas_of, notices_at, notices_of, written_first};
 ghost use Rattle.lpt_extract.specs.ExtractsInside.{given, told_of, Held};
+ghost use Rattle.lpt_extract.specs.Joined.{notices_by};
 ghost use Rattle.lpt_extract.specs.Notices.{Hears};
 ghost use Rattle.lpt_extract.specs.Reports.{report_in};
 ghost use Rattle.lpt_extract.specs.ReportsInside.{load_area};
@@ -19,7 +20,8 @@ use crate::holding::Holding;
 use crate::report::{Report, read_report};
 use crate::seen_area::SeenArea;
 use crate::{Listener, Notice, Span, Wanted};
-use lpt_packet::crc16;
+use lpt_packet::laws::seen_is_read;
+use lpt_packet::{crc16, read_packet};
 use lpt_stream::PieceKind;
 use lpt_text::{Sink, StreamFault, write_out};
 use std::alloc::Global;
@@ -61,6 +63,32 @@ pub(crate) fn take_piece<K: Sink, L: Listener>(
             holding.tell(listener, Notice::Stray);
             Ok(())
         }
+    }
+}
+
+// Takes what the octets of a message give, where they are a packet.
+pub(crate) fn take_message<K: Sink, L: Listener>(
+    alloc: Global,
+    wanted: &Wanted,
+    place: u64,
+    octets: &[u8],
+    holding: &mut Holding,
+    out: &mut K,
+    listener: &mut L,
+) -> Result<(), StreamFault>
+    ensures held { (areas : List Area) (ns : List Notice) → Held wanted.now.at areas ns holding.old
+        → OnOk result (Held wanted.now.at (areas ++ areas_in wanted.now (octets.now ∷ []))
+        (ns ++ notices_by wanted.now place (octets.now ∷ [])) holding.new) }
+    ensures wrote { OnOk result (Appends (K.contents out.old) (K.contents out.new)
+        (written_first wanted.now.at (areas_in wanted.now (octets.now ∷ [])))) }
+    ensures heard { OnOk result (Hears (L.heard listener.old) (L.heard listener.new)
+        (notices_by wanted.now place (octets.now ∷ []))) }
+    ensures fault { IfErr result (λ e. (e ≡ StreamFault.Write) ⊎ (e ≡ StreamFault.Memory)) }
+{
+    seen_is_read();
+    match read_packet(octets) {
+        Ok(_) => take_packet(alloc, wanted, place, octets, holding, out, listener),
+        Err(_) => Ok(()),
     }
 }
 

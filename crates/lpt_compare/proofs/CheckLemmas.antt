@@ -1,0 +1,22 @@
+-- What one more piece says.
+use Rattle.std.proofs.Common.{◌≡◌, ◌∙◌, ap, refl, ℕ, List, [], ◌∷◌, ◌++◌, append-nil}
+use Rattle.std.specs.List.{flat_map}
+use Rattle.std.proofs.lemmas.Grind.{flat_map-append}
+use Rattle.lpt_stream.specs.declared.piece_kind.PieceKind.{PieceKind}
+use Rattle.lpt_stream.specs.declared.piece_kind.PieceKind.TheVariants.{Whole, Damaged, Stray}
+use Rattle.lpt_stream.specs.Pieces.{Piece, packet_before, packets_of}
+use Rattle.lpt_stream.proofs.CutLemmas.{packets-next}
+use Rattle.lpt_compare.specs.Checks.{checks_in, checks_of, piece_checks}
+
+one_piece : (a m : ℕ) (k : PieceKind) (b : List ℕ)
+    → flat_map (checks_in a m) (packet_before k b []) ≡ piece_checks a m k b
+one_piece a m Whole b = append-nil (checks_in a m b)
+one_piece a m Damaged b = refl
+one_piece a m Stray b = refl
+
+pub checks-next : (a m : ℕ) (ps : List Piece) (p : Piece)
+    → checks_of a m (ps ++ p ∷ []) ≡ checks_of a m ps ++ piece_checks a m p.kind p.octets
+checks-next a m ps p =
+    ap (flat_map (checks_in a m)) (packets-next ps p)
+    ∙ flat_map-append (checks_in a m) (packets_of ps) (packet_before p.kind p.octets [])
+    ∙ ap (λ cs. checks_of a m ps ++ cs) (one_piece a m p.kind p.octets)

@@ -1,0 +1,239 @@
+//! The octets of dump reports that may come in parts, extracted from a stream as it comes.
+
+ghost use Rattle.std.specs.Prelude.{◌≡◌, ◌≢◌, ◌⊎◌, ◌∷◌, ◌++◌, ℕ, List, [], false, Some, IfErr, IfOk, IsOk, OnOk};
+ghost use Rattle.std.specs.Io.KnownBytes.{Appends};
+ghost use Rattle.lpt_text.specs.Streams.{ReadEnds};
+ghost use Rattle.lpt_stream.specs.Pieces.{packets_of};
+ghost use Rattle.lpt_stream.specs.Reads.{IsEndless, ReadsPieces};
+ghost use Rattle.lpt_events.specs.NamedParts.{named};
+ghost use Rattle.lpt_part.specs.Parts.{piece};
+ghost use Rattle.lpt_join.specs.Offers.{piece_in};
+ghost use Rattle.lpt_each.specs.Helds.{HoldsEach, news_of};
+ghost use Rattle.lpt_each.specs.News as teller;
+ghost use Rattle.lpt_each.specs.Streams.{Tells, told_by};
+ghost use Rattle.lpt_memory.specs.declared.request.Area.{Area};
+ghost use Rattle.lpt_extract.specs.declared.notice.Notice.{Notice};
+ghost use Rattle.lpt_extract.specs.Extracts.{areas_in, written_first};
+ghost use Rattle.lpt_extract.specs.ExtractsInside.{Held};
+ghost use Rattle.lpt_extract.specs.Joined.{message_of, notices_by, reads_by, ExtractsJoined};
+ghost use Rattle.lpt_extract.specs.Notices.{Hears};
+
+use crate::ending::end_extract;
+use crate::holding::Holding;
+use crate::taking::{take_message, take_piece};
+use crate::{Extracted, Listener, Wanted};
+use lpt_each::{Helds, News, Taker, leave};
+use lpt_join::{Transaction, named_part_in};
+use lpt_packet::Name;
+use lpt_part::Part;
+use lpt_stream::{PieceKind, PieceTaker, each_piece};
+use lpt_text::{Sink, Source, StreamFault};
+use std::alloc::Global;
+
+/// What is written to, and who is told.
+#[derive(Drop)]
+pub struct Outlets<K, L, T> {
+    /// To what octets are written.
+    pub out: K,
+    /// Who is told of areas, of reports that aren't taken, and of what is no packet.
+    pub listener: L,
+    /// Who is told what becomes of parts.
+    pub taker: T,
+}
+
+/// Reads a stream of packets to its end, as `extract_stream` does, where dump reports may come in
+/// parts as well: a packet that carries a part, of any name of those that are read as this
+/// transaction is, is no report itself. The message that becomes whole with it is read in its
+/// place. The taker is told of that message first, of parts that are given up, and at the end of
+/// what is left of each name.
+///
+/// Errors: `Read` where a read failed, or where 2^64 - 1 pieces came; `Write` where a write failed;
+/// `Memory`; those of the taker.
+pub fn extract_joined<S: Source, K: Sink, L: Listener, T: Taker>(
+    alloc: Global,
+    wanted: &Wanted,
+    transaction: &Transaction,
+    source: &mut S,
+    outlets: &mut Outlets<K, L, T>,
+) -> Result<Extracted, StreamFault>
+    // The stream is read to its end.
+    ensures ends { IfOk result (λ x. ReadsPieces (S.remaining source.old) (S.remaining source.new)
+        (λ pieces. ExtractsJoined wanted.now transaction.now x pieces
+        (K.contents outlets.old.out) (K.contents outlets.new.out)
+        (L.heard outlets.old.listener) (L.heard outlets.new.listener)
+        × Tells transaction.now false (packets_of pieces)
+        (T.heard outlets.old.taker) (T.heard outlets.new.taker))) }
+
+    // All that was written is passed on.
+    ensures passed { IsOk result
+        → K.flushed outlets.new.out ≡ K.contents outlets.new.out }
+    ensures reader { ReadEnds (IsEndless (S.remaining source.old) (S.remaining source.new)) result
+        (S.failed source.old) (S.failed source.new) }
+{
+    let helds = Helds::new(alloc);
+    let holding = Holding::new(alloc);
+    let first = Joiner {
+        wanted: *wanted,
+        transaction: *transaction,
+        helds,
+        holding,
+    };
+    let last = each_piece(alloc, source, first, outlets)?;
+    leave(last.helds, &mut outlets.taker)?;
+    end_extract(wanted, last.holding, &mut outlets.out)
+}
+
+// What a stream's pieces have given so far.
+#[derive(Drop)]
+struct Joiner {
+    wanted: Wanted,
+    // Parts are read as those of this one.
+    transaction: Transaction,
+    helds: Helds,
+    holding: Holding,
+}
+
+impl<K: Sink, L: Listener, T: Taker> PieceTaker<Outlets<K, L, T>> for Joiner {
+    ghost use Rattle.std.specs.Prelude.{◌≡◌, ◌⊎◌};
+    ghost use Rattle.lpt_text.specs.declared.fault.StreamFault.TheVariants as faults;
+    ghost use Rattle.lpt_extract.specs.JoinedInside.{IsTaken};
+
+    ghost takes = { λ first now old new pieces. IsTaken first now
+        (K.contents old.out) (K.contents new.out)
+        (L.heard old.listener) (L.heard new.listener)
+        (T.heard old.taker) (T.heard new.taker) pieces };
+
+    ghost fails = { λ e. (e ≡ faults.Write) ⊎ (e ≡ faults.Memory) };
+
+    fn take(
+        self,
+        alloc: Global,
+        lent: &mut Outlets<K, L, T>,
+        place: u64,
+        kind: PieceKind,
+        octets: &[u8],
+    ) -> Result<Joiner, StreamFault> {
+        let mut joiner = self;
+        let Some((name, part)) = named_part_in(kind, octets, &joiner.transaction) else {
+            let (out, listener) = (&mut lent.out, &mut lent.listener);
+            let (wanted, holding) = (&joiner.wanted, &mut joiner.holding);
+            take_piece(alloc, wanted, place, kind, octets, holding, out, listener)?;
+            return Ok(joiner);
+        };
+        let Joiner {
+            wanted,
+            transaction,
+            helds,
+            mut holding,
+        } = joiner;
+        let helds = take_part(
+            alloc,
+            &wanted,
+            &transaction,
+            place,
+            name,
+            &part,
+            helds,
+            &mut holding,
+            lent,
+        )?;
+        Ok(Joiner {
+            wanted,
+            transaction,
+            helds,
+            holding,
+        })
+    }
+}
+
+// Takes a part of this name that a packet at this place carries.
+fn take_part<K: Sink, L: Listener, T: Taker>(
+    alloc: Global,
+    wanted: &Wanted,
+    transaction: &Transaction,
+    place: u64,
+    name: Name,
+    part: &Part<'_>,
+    helds: Helds,
+    holding: &mut Holding,
+    outlets: &mut Outlets<K, L, T>,
+) -> Result<Helds, StreamFault>
+    requires kept { (bs : List (List ℕ)) × HoldsEach transaction.now false bs helds }
+    requires id { part.now.id ≡ name.id }
+    requires size { part.now.p ≡ transaction.now.part_size }
+    ensures kept { (bs : List (List ℕ)) (b : List ℕ) → HoldsEach transaction.now false bs helds
+        → Some (named name.source (piece part.now)) ≡ piece_in transaction.now b
+        → IfOk result (HoldsEach transaction.now false (bs ++ b ∷ [])) }
+    ensures held { (bs : List (List ℕ)) (b : List ℕ) → HoldsEach transaction.now false bs helds
+        → Some (named name.source (piece part.now)) ≡ piece_in transaction.now b
+        → (areas : List Area) (ns : List Notice) → Held wanted.now.at areas ns holding.old
+        → OnOk result (Held wanted.now.at
+        (areas ++ areas_in wanted.now (reads_by transaction.now bs b (piece_in transaction.now b)))
+        (ns ++ notices_by wanted.now place
+        (reads_by transaction.now bs b (piece_in transaction.now b))) holding.new) }
+    ensures wrote { (bs : List (List ℕ)) (b : List ℕ) → HoldsEach transaction.now false bs helds
+        → Some (named name.source (piece part.now)) ≡ piece_in transaction.now b
+        → OnOk result (Appends (K.contents outlets.old.out) (K.contents outlets.new.out)
+        (written_first wanted.now.at (areas_in wanted.now
+        (reads_by transaction.now bs b (piece_in transaction.now b))))) }
+    ensures heard { (bs : List (List ℕ)) (b : List ℕ) → HoldsEach transaction.now false bs helds
+        → Some (named name.source (piece part.now)) ≡ piece_in transaction.now b
+        → OnOk result (Hears (L.heard outlets.old.listener)
+        (L.heard outlets.new.listener) (notices_by wanted.now place
+        (reads_by transaction.now bs b (piece_in transaction.now b)))) }
+    ensures told { (bs : List (List ℕ)) (b : List ℕ) → HoldsEach transaction.now false bs helds
+        → Some (named name.source (piece part.now)) ≡ piece_in transaction.now b
+        → OnOk result (teller.Hears (T.heard outlets.old.taker)
+        (T.heard outlets.new.taker)
+        (told_by transaction.now false bs b (piece_in transaction.now b))) }
+    ensures fault { IfErr result (λ e. (e ≡ StreamFault.Write) ⊎ (e ≡ StreamFault.Memory)) }
+{
+    let (helds, event) = match helds.take(alloc, transaction, false, name, part) {
+        Ok(taken) => taken,
+        Err(_) => return Err(StreamFault::Memory),
+    };
+    let Some((name, news)) = event else {
+        return Ok(helds);
+    };
+    take_news(alloc, wanted, place, name, &news, holding, outlets)?;
+    Ok(helds)
+}
+
+// Tells what became of the parts of a name, and reads the message that became whole.
+fn take_news<K: Sink, L: Listener, T: Taker>(
+    alloc: Global,
+    wanted: &Wanted,
+    place: u64,
+    name: Name,
+    news: &News,
+    holding: &mut Holding,
+    outlets: &mut Outlets<K, L, T>,
+) -> Result<(), StreamFault>
+    ensures held { (areas : List Area) (ns : List Notice) → Held wanted.now.at areas ns holding.old
+        → OnOk result (Held wanted.now.at
+        (areas ++ areas_in wanted.now (message_of (news_of news.now)))
+        (ns ++ notices_by wanted.now place (message_of (news_of news.now))) holding.new) }
+    ensures wrote { OnOk result (Appends (K.contents outlets.old.out) (K.contents outlets.new.out)
+        (written_first wanted.now.at (areas_in wanted.now (message_of (news_of news.now))))) }
+    ensures heard { OnOk result (Hears (L.heard outlets.old.listener)
+        (L.heard outlets.new.listener)
+        (notices_by wanted.now place (message_of (news_of news.now)))) }
+    ensures told { OnOk result (teller.Hears (T.heard outlets.old.taker)
+        (T.heard outlets.new.taker) ((name, news_of news.now) ∷ [])) }
+    ensures fault { IfErr result (λ e. (e ≡ StreamFault.Write) ⊎ (e ≡ StreamFault.Memory)) }
+{
+    outlets.taker.take(name, news)?;
+    match news {
+        News::Given(message) => take_message(
+            alloc,
+            wanted,
+            place,
+            message.as_slice(),
+            holding,
+            &mut outlets.out,
+            &mut outlets.listener,
+        ),
+        News::Dropped(_) => Ok(()),
+        News::Unfit(_) => Ok(()),
+    }
+}
