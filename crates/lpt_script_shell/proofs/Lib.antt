@@ -1,4 +1,5 @@
 pub mod AnswerLemmas
+pub mod ExpandedLemmas
 pub mod HeardLemmas
 pub mod KeptLemmas
 pub mod LongLemmas

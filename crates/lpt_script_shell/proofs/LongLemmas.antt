@@ -16,12 +16,18 @@ use Rattle.lpt_events.specs.declared.side.Side.{Side}
 use Rattle.lpt_events.specs.declared.worker.Worker.TheVariants.{W1}
 use Rattle.lpt_packet.specs.declared.direction.Direction.TheVariants.{Up}
 use Rattle.lpt_world.specs.Worlds.{Shown, refusal_at, with_entry}
-use Rattle.lpt_script_shell.specs.Answers.{answered, ends_session, finding_text, line_served, own_line, own_served, prompted, served}
+use Rattle.lpt_script_expansion.specs.Expansions.{expansion}
+use Rattle.lpt_script_shell.specs.Answers.{answered, ends_session, finding_text, line_served, own_line, own_served, prompted, served, unread_served}
 
 -- ---- a line that is too long
 
 own_none : (w : Shown) (line : List ℕ) → nat_lt 140000 (length line) ≡ true → own_line w line ≡ None
 own_none w line long = rw long refl
+
+expansion_none : (w : Shown) (line : List ℕ)
+    → nat_lt 140000 (length line) ≡ true
+    → expansion w line ≡ None
+expansion_none w line long = rw long refl
 
 why_long : (line : List ℕ)
     → nat_lt 140000 (length line) ≡ true
@@ -43,6 +49,7 @@ long_line : (prompt line : List ℕ) (w : Shown)
 long_line prompt line w long =
     let test : nat_lt 140000 (length line) ≡ true = grind (arith, nat_tests) in
     ap (λ r. prompted prompt (answered w line r)) (unread w.config.source line long)
+    ∙ ap (λ o. prompted prompt (unread_served w line o)) (expansion_none w line test)
     ∙ ap (λ o. prompted prompt (own_served w line o)) (own_none w line test)
     ∙ ap (λ o. prompted prompt (served w (finding_text o) true)) (why_long line test)
 

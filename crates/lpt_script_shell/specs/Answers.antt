@@ -1,5 +1,5 @@
 -- What a line does in a shell, and what it prints.
-use Rattle.std.specs.Prelude.{ℕ, ◌+◌, ◌==◌, ◌&&◌, ◌||◌, nat_lt, if◌then◌else◌, Bool, true, false, List, [], ◌∷◌, ◌++◌, length, codes, decimal, Option, Some, None, is_some}
+use Rattle.std.specs.Prelude.{ℕ, ◌+◌, ◌==◌, ◌&&◌, ◌||◌, nat_lt, if◌then◌else◌, Bool, true, false, List, [], ◌∷◌, ◌++◌, length, codes, decimal, flat_map, Option, Some, None, is_some}
 use Rattle.std.specs.Int.{from_bool}
 use Rattle.lpt_script_lint.specs.Findings.{why}
 use Rattle.lpt_script_lint.specs.Texts.{reason_text}
@@ -15,7 +15,8 @@ use Rattle.lpt_script_words.specs.declared.grammar.Reading.{Reading}
 use Rattle.lpt_script_words.specs.declared.grammar.Reading.TheVariants.{Skipped, Asks, Unreadable}
 use Rattle.lpt_world.specs.Worlds.{Shown}
 use Rattle.lpt_script_shell.specs.Notes.{note_text, parts_named}
-use Rattle.lpt_script_shell.specs.Views.{own_text}
+use Rattle.lpt_script_expansion.specs.Expansions.{expansion}
+use Rattle.lpt_script_shell.specs.Views.{or_none, own_text}
 
 -- ---- a line
 
@@ -59,12 +60,44 @@ own_served w line (Some text) = served w text false
 abbrev pub noted : (parts : ℕ) → Ran → Served
 noted parts ran = served ran.world (ran.text ++ note_text parts ran.refused) (is_some ran.refused)
 
--- What a line does: what it does in a script, with why it was refused; else what only a shell reads, or
--- why no one does.
+-- what is done that a script reads, with why it was refused; nothing, where nothing is
+abbrev pub reading_run : Shown → Reading → Served
+reading_run w Skipped = served w [] false
+reading_run w (Asks c) = noted (parts_named w c) (command_ran c w)
+reading_run w Unreadable = served w [] false
+
+-- what a line does of which a script reads something
+abbrev pub line_run : Shown → List ℕ → Served
+line_run w line = reading_run w (reading_of w.config.source line)
+
+-- what one thing and then another left
+abbrev pub followed_by : Served → Served → Served
+followed_by s t = served t.world (s.text ++ t.text) (s.failed || t.failed)
+
+-- what lines leave, one behind the other, behind what was left before
+abbrev pub lines_run : Served → List (List ℕ) → Served
+lines_run s [] = s
+lines_run s (line ∷ more) = lines_run (followed_by s (line_run s.world line)) more
+
+-- lines as they are shown, each with its end, or `none`
+abbrev pub shown_lines : List (List ℕ) → List ℕ
+shown_lines ls = or_none (flat_map (λ line. line ++ 10 ∷ []) ls)
+
+-- the lines that a line stands for: they are shown, and then each does what it does by itself
+abbrev pub expanded_served : Shown → List (List ℕ) → Served
+expanded_served w ls = lines_run (served w (shown_lines ls) false) ls
+
+-- a line that a script doesn't read: what those do that it stands for, or what only a shell reads,
+-- or why no one does
+abbrev pub unread_served : Shown → List ℕ → Option (List (List ℕ)) → Served
+unread_served w line None = own_served w line (own_line w line)
+unread_served w line (Some ls) = expanded_served w ls
+
+-- what a line does: what it does in a script, where one reads it
 abbrev pub answered : Shown → List ℕ → Reading → Served
-answered w line Skipped = served w [] false
-answered w line (Asks c) = noted (parts_named w c) (command_ran c w)
-answered w line Unreadable = own_served w line (own_line w line)
+answered w line Skipped = reading_run w Skipped
+answered w line (Asks c) = reading_run w (Asks c)
+answered w line Unreadable = unread_served w line (expansion w line)
 
 -- the same, with the prompt for the next line behind it
 abbrev pub prompted : (prompt : List ℕ) → Served → Served

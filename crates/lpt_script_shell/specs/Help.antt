@@ -26,6 +26,11 @@ topics =
     ∷ (codes "show", codes "show released, show packet N, show memory ID ADDR LEN, show clear DIRECTION ID, show journal")
     ∷ (codes "show", codes "show link, show receptions, show senders, show jobs, show packets FROM TO: in a shell alone")
     ∷ (codes "help", codes "help, help WORD: the lines, or those that begin with a word: in a shell alone")
+    ∷ (codes "open", codes "open DIRECTION ID, and a text in quotes: in a shell alone")
+    ∷ (codes "send", codes "send DIRECTION ID all, or K as 1-3,5: in a shell alone")
+    ∷ (codes "lose", codes "lose N as 3-9: in a shell alone")
+    ∷ (codes "pass", codes "pass LANE all, or N as 1-3,5: in a shell alone")
+    ∷ (codes "help", codes "help words: what the words in capitals are: in a shell alone")
     ∷ (codes "exit", codes "exit, quit: ends the session, as the end of the input (Ctrl-D) does: in a shell alone")
     ∷ (codes "quit", codes "quit: the same as exit")
     ∷ []
@@ -42,9 +47,31 @@ lines_on word rows = flat_map (λ row. if is_word row.0 word then topic_line row
 abbrev pub no_topic : List ℕ
 no_topic = codes "there is no such command" ++ 10 ∷ []
 
--- what is told of a word
+-- what the words in capitals are
+unfoldable pub words_told : List (List ℕ)
+words_told =
+    codes "DIRECTION: up, from ground to the spacecraft, or down; NODE: ground or craft"
+    ∷ codes "LANE: s1 or s2, which carry up, g1 or g2, which carry down; WORKER: w1 or w2"
+    ∷ codes "ID: a message's, 0 to 65535, or SOURCE/ID; behind show memory a memory's, 0 to 255"
+    ∷ codes "K: the number of a part, from 1; N: that of a packet, from 0, as show link tells it"
+    ∷ codes "HEX: octets, each as two hexadecimal digits; - is no octets"
+    ∷ codes "SERVICE, SUBTYPE: types of a request, 0 to 255; SEQ: its sequence count, 0 to 16383"
+    ∷ codes "FLAGS: 0 to 15, the sum of 1 acceptance, 2 start, 4 progress and 8 completion"
+    ∷ codes "MEM: a memory, 0 to 255; ADDR, LEN: address and octets; COUNT: ticks, 1 to 100000"
+    ∷ []
+
+-- a line of those
+abbrev pub word_line : List ℕ → List ℕ
+word_line line = line ++ 10 ∷ []
+
+-- what is told of the lines that begin with a word
+abbrev pub lines_text : List ℕ → List ℕ
+lines_text word = if length (lines_on word topics) == 0 then no_topic else lines_on word topics
+
+-- what is told of a word; `words` stands for the words in capitals
 abbrev pub topic_text : List ℕ → List ℕ
-topic_text word = if length (lines_on word topics) == 0 then no_topic else lines_on word topics
+topic_text word =
+    if is_word (codes "words") word then flat_map word_line words_told else lines_text word
 
 -- what is told of all lines
 abbrev pub help_text : List ℕ

@@ -1,8 +1,7 @@
 -- Which parts of a message its receiver keeps, by what the journal's replies tell, and which are missing.
-use Rattle.std.specs.Prelude.{ℕ, ◌+◌, ◌-◌, nat_eq, nat_le, Bool, not, ◌&&◌, if◌then◌else◌, List, [], ◌∷◌, ◌++◌, length, flat_map, decimal}
+use Rattle.std.specs.Prelude.{ℕ, ◌+◌, ◌-◌, nat_eq, nat_le, Bool, not, ◌&&◌, if◌then◌else◌, List, [], ◌∷◌, ◌++◌, flat_map, decimal}
 use Rattle.std.specs.List.{list_any, range_with_len}
 use Rattle.lpt_events.specs.declared.entry.Entry.{Entry}
-use Rattle.lpt_events.specs.declared.entry.Opening.{Opening}
 use Rattle.lpt_events.specs.declared.event.Event.{Event}
 use Rattle.lpt_events.specs.declared.event.Event.TheVariants.{Deliver, Expire, Restart}
 use Rattle.lpt_events.specs.declared.outcome.Outcome.TheVariants.{Kept, Released, Broken}
@@ -13,9 +12,6 @@ use Rattle.lpt_events.specs.Sides.{same_side, receiver_side}
 use Rattle.lpt_journal.specs.Journal.{History}
 use Rattle.lpt_packet.specs.declared.direction.Direction.{Direction}
 use Rattle.lpt_packet.specs.Names.{Name, same_name}
-use Rattle.lpt_part.specs.Splitting.{part_count}
-use Rattle.lpt_world.specs.Worlds.{Shown, history}
-use Rattle.lpt_journal.specs.Senders.{is_opening_of, opened}
 
 -- the numbers of the parts that are kept of a name, after this answer to an event at its receiver
 abbrev pub kept_now : Answer → Name → List ℕ → List ℕ
@@ -73,14 +69,3 @@ part_gap kept parts k =
 -- the parts that are missing, of so many
 abbrev pub gaps_text : (kept : List ℕ) → (parts : ℕ) → List ℕ
 gaps_text kept parts = flat_map (part_gap kept parts) (range_with_len 1 parts)
-
--- how many parts the last of these openings of the transaction has, where there is one, else so many
-abbrev pub parts_after : (p : ℕ) → Direction → Name → List Opening → (before : ℕ) → ℕ
-parts_after p d name [] before = before
-parts_after p d name (o ∷ os) before =
-    parts_after p d name os
-    (if is_opening_of d name o then part_count (length o.message) p else before)
-
--- how many parts the message has that was last opened as this transaction
-abbrev pub parts_of : Shown → Direction → Name → ℕ
-parts_of w d name = parts_after w.config.part_size d name (opened (history w)) 0

@@ -8,7 +8,7 @@ use Rattle.lpt_events.specs.declared.fault.StepFault.{StepFault}
 use Rattle.lpt_events.specs.declared.fault.StepFault.TheVariants as fault
 use Rattle.lpt_events.specs.FaultNames.{code_of, name_of, text_of}
 use Rattle.lpt_world.specs.Worlds.{Shown}
-use Rattle.lpt_script_shell.specs.Kept.{parts_of}
+use Rattle.lpt_script_expansion.specs.Openings.{parts_of}
 
 -- what else helps of an event that was refused, where the message that it names has so many parts
 abbrev pub hint : (parts : ℕ) → StepFault → List ℕ

@@ -15,18 +15,36 @@ use Rattle.lpt_script_shell.specs.declared.rows.Half.{Half}
 use Rattle.lpt_script_shell.specs.declared.rows.Half.TheVariants as half
 use Rattle.lpt_script_shell.specs.Kept.{gaps_text, kept_numbers}
 use Rattle.lpt_packet.specs.Directions.{direction_word}
+use Rattle.lpt_script_expansion.specs.Origins.{origin_in}
+use Rattle.lpt_script_expansion.specs.declared.origins.Origin.{Origin}
+use Rattle.lpt_script_expansion.specs.declared.origins.Origin.TheVariants as origin
 use Rattle.lpt_events.specs.Openings.{is_opened}
 
 -- ---- packets
 
--- a packet that the link holds, with how many octets it has
-abbrev pub held_line : ℕ → Option (List ℕ) → List ℕ
-held_line n None = []
-held_line n (Some m) = line_of (codes "held" ∷ decimal n ∷ decimal (length m) ∷ [])
+-- what a packet was put as: a part of a message, by its direction, the name, where this source is
+-- configured, and the part's number; or something else, by its direction
+abbrev pub origin_text : (source : ℕ) → Option Origin → List ℕ
+origin_text source None = []
+origin_text source (Some (origin.Part d name k)) =
+    32 ∷ (direction_word d ++ (32 ∷ (name_text source name ++ (32 ∷ decimal k))))
+origin_text source (Some origin.Request) = codes " up request"
+origin_text source (Some origin.Report) = codes " down report"
+origin_text source (Some (origin.Noise d)) = 32 ∷ (direction_word d ++ codes " noise")
+
+-- a packet that the link holds, with how many octets it has, and what it was put as
+abbrev pub held_line : (source : ℕ) → Option Origin → (n len : ℕ) → List ℕ
+held_line source o n len =
+    codes "held " ++ (decimal n ++ (32 ∷ (decimal len ++ (origin_text source o ++ 10 ∷ []))))
+
+-- the same of a packet that there is
+abbrev pub held_octets : Shown → ℕ → Option (List ℕ) → List ℕ
+held_octets w n None = []
+held_octets w n (Some m) = held_line w.config.source (origin_in w.journal n) n (length m)
 
 -- the packet of this number, where the link holds it
 abbrev pub held_row : Shown → ℕ → List ℕ
-held_row w n = if is_held (history w) n then held_line n (octets_of w n) else []
+held_row w n = if is_held (history w) n then held_octets w n (octets_of w n) else []
 
 -- the packet of this number, with its octets
 abbrev pub packet_row : Shown → ℕ → List ℕ

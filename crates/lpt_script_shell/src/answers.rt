@@ -4,16 +4,19 @@ ghost use Rattle.std.specs.Prelude.{◌≡◌, ◌≢◌, ◌&&◌, ◌||◌, �
 ghost use Rattle.lpt_text.specs.Streams.{WriteEnds};
 ghost use Rattle.lpt_script.specs.Ends.{TextEnds};
 ghost use Rattle.lpt_script.specs.Scripts.{command_ran};
+ghost use Rattle.lpt_script_expansion.specs.Expansions.{expansion};
 ghost use Rattle.lpt_script_words.specs.Grammar.{reading_of};
 ghost use Rattle.lpt_script_words.specs.Words.{words};
-ghost use Rattle.lpt_script_shell.specs.Answers.{answered, ends_session, finding_line, finding_text, is_exit, line_served, noted, own_line, own_served, why_words};
+ghost use Rattle.lpt_script_shell.specs.Answers.{answered, ends_session, finding_line, finding_text, is_exit, line_served, noted, own_line, own_served, unread_served, why_words};
 ghost use Rattle.lpt_script_shell.specs.EndsInside.{ServedEnds};
 ghost use Rattle.lpt_script_shell.specs.Notes.{parts_named};
 ghost use Rattle.lpt_script_lint.specs.Findings.{why};
 
+use crate::expanded::answer_each;
 use crate::notes::{fault_line, parts_named};
 use crate::views::{is_blank, own_line};
 use lpt_script::{put, run_command};
+use lpt_script_expansion::expand;
 use lpt_script_lint::{Finding, Reason, explain, reason_text};
 use lpt_script_words::{Command, Reading, read_line, split_word};
 use lpt_text::{LONGEST_LINE, Sink, StreamFault, write_out};
@@ -67,20 +70,40 @@ fn answer<K: Sink>(
     line: &[u8],
     out: &mut K,
 ) -> Result<bool, StreamFault>
-    ensures ends { ServedEnds (answered world.old line.now (reading_of world.old.config.source line.now)) result world.new (K.contents out.old) (K.contents out.new) }
+    ensures ends { ServedEnds
+        (answered world.old line.now (reading_of world.old.config.source line.now))
+        result world.new (K.contents out.old) (K.contents out.new) }
     ensures writer { WriteEnds result (K.failed out.old) (K.failed out.new) }
 {
     match read_line(alloc, world.config().source, line) {
         Err(_) => Err(StreamFault::Memory),
         Ok(Reading::Skipped) => Ok(false),
         Ok(Reading::Asks(command)) => run_noted(alloc, world, command, out),
-        Ok(Reading::Unreadable) => answer_own(alloc, world, line, out),
+        Ok(Reading::Unreadable) => answer_unread(alloc, world, line, out),
+    }
+}
+
+// Answers a line that a script doesn't read.
+fn answer_unread<K: Sink>(
+    alloc: Global,
+    world: &mut World,
+    line: &[u8],
+    out: &mut K,
+) -> Result<bool, StreamFault>
+    ensures ends { ServedEnds (unread_served world.old line.now (expansion world.old line.now))
+        result world.new (K.contents out.old) (K.contents out.new) }
+    ensures writer { WriteEnds result (K.failed out.old) (K.failed out.new) }
+{
+    match expand(alloc, world, line) {
+        Err(_) => Err(StreamFault::Memory),
+        Ok(Some(lines)) => answer_each(alloc, world, &lines, out),
+        Ok(None) => answer_own(alloc, world, line, out),
     }
 }
 
 // Does a command as a script does, and says why an event of it was refused.
 #[tactic(auto, using(crate::proofs::AnswerLemmas::quiet_ends, crate::proofs::AnswerLemmas::noted_ends, crate::proofs::AnswerLemmas::fault_ends, crate::proofs::LongLemmas::command_good))]
-fn run_noted<K: Sink>(
+pub(crate) fn run_noted<K: Sink>(
     alloc: Global,
     world: &mut World,
     command: Command,
@@ -98,7 +121,7 @@ fn run_noted<K: Sink>(
     }
 }
 
-// Answers a line that a script doesn't read: what only a shell reads, or why no one does.
+// Answers a line that stands for no other: what only a shell reads, or why no one does.
 #[tactic(auto, using(crate::proofs::AnswerLemmas::told_ends))]
 fn answer_own<K: Sink>(
     alloc: Global,
@@ -106,7 +129,8 @@ fn answer_own<K: Sink>(
     line: &[u8],
     out: &mut K,
 ) -> Result<bool, StreamFault>
-    ensures ends { ServedEnds (own_served world.now line.now (own_line world.now line.now)) result world.now (K.contents out.old) (K.contents out.new) }
+    ensures ends { ServedEnds (own_served world.now line.now (own_line world.now line.now))
+        result world.now (K.contents out.old) (K.contents out.new) }
     ensures writer { WriteEnds result (K.failed out.old) (K.failed out.new) }
 {
     match own_line(alloc, world, line) {
@@ -121,7 +145,8 @@ fn answer_own<K: Sink>(
 
 // Writes a text, and answers that something failed.
 fn put_told<K: Sink>(out: &mut K, text: Result<String, AllocError>) -> Result<bool, StreamFault>
-    ensures ends { (t : List ℕ) → IfOk text (λ s. string_bytes s ≡ t) → TextEnds t result (K.contents out.old) (K.contents out.new) }
+    ensures ends { (t : List ℕ) → IfOk text (λ s. string_bytes s ≡ t)
+        → TextEnds t result (K.contents out.old) (K.contents out.new) }
     ensures failed { IfOk result (λ r. r ≡ true) }
     ensures writer { WriteEnds result (K.failed out.old) (K.failed out.new) }
 {

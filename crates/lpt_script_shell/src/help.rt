@@ -2,12 +2,12 @@
 
 ghost use Rattle.std.specs.Prelude.{◌≡◌, ◌++◌, if◌then◌else◌, [], flat_map, map, take, IfOk, string_bytes};
 ghost use Rattle.lpt_script_words.specs.Numbers.{is_word};
-ghost use Rattle.lpt_script_shell.specs.Help.{help_text, lines_on, topic_line, topic_text, topics};
+ghost use Rattle.lpt_script_shell.specs.Help.{help_text, lines_on, topic_line, topic_text, topics, word_line, words_told};
 
 use std::alloc::{AllocError, Global};
 
 /// The lines, each under its first word.
-static TOPICS: [(&str, &str); 23] = [
+static TOPICS: [(&str, &str); 28] = [
     (
         "open",
         "open DIRECTION ID HEX: hands a message to its sender; a message's ID may be SOURCE/ID here and below",
@@ -78,11 +78,45 @@ static TOPICS: [(&str, &str); 23] = [
         "help, help WORD: the lines, or those that begin with a word: in a shell alone",
     ),
     (
+        "open",
+        "open DIRECTION ID, and a text in quotes: in a shell alone",
+    ),
+    (
+        "send",
+        "send DIRECTION ID all, or K as 1-3,5: in a shell alone",
+    ),
+    ("lose", "lose N as 3-9: in a shell alone"),
+    ("pass", "pass LANE all, or N as 1-3,5: in a shell alone"),
+    (
+        "help",
+        "help words: what the words in capitals are: in a shell alone",
+    ),
+    (
         "exit",
         "exit, quit: ends the session, as the end of the input (Ctrl-D) does: in a shell alone",
     ),
     ("quit", "quit: the same as exit"),
 ];
+
+/// What the words in capitals are.
+static WORDS: [&str; 8] = [
+    "DIRECTION: up, from ground to the spacecraft, or down; NODE: ground or craft",
+    "LANE: s1 or s2, which carry up, g1 or g2, which carry down; WORKER: w1 or w2",
+    "ID: a message's, 0 to 65535, or SOURCE/ID; behind show memory a memory's, 0 to 255",
+    "K: the number of a part, from 1; N: that of a packet, from 0, as show link tells it",
+    "HEX: octets, each as two hexadecimal digits; - is no octets",
+    "SERVICE, SUBTYPE: types of a request, 0 to 255; SEQ: its sequence count, 0 to 16383",
+    "FLAGS: 0 to 15, the sum of 1 acceptance, 2 start, 4 progress and 8 completion",
+    "MEM: a memory, 0 to 255; ADDR, LEN: address and octets; COUNT: ticks, 1 to 100000",
+];
+
+// What the words are, as it is defined.
+#[tactic(auto, unfolding(crate::specs::Help::words_told))]
+fn all_words() -> &'static [&'static str]
+    ensures { map (λ line. line.now) result.now ≡ words_told }
+{
+    &WORDS
+}
 
 // The lines, as they are defined.
 #[tactic(auto, unfolding(crate::specs::Help::topics))]
@@ -103,6 +137,9 @@ pub(crate) fn all_topics(alloc: Global) -> Result<String, AllocError>
 pub(crate) fn topic(alloc: Global, word: &[u8]) -> Result<String, AllocError>
     ensures { IfOk result (λ t. string_bytes t ≡ topic_text word.now) }
 {
+    if word == b"words".as_slice() {
+        return word_lines(alloc, all_words());
+    }
     let lines = lines_on(alloc, word, all_rows())?;
     if lines.is_empty() {
         return String::from_str(alloc, "there is no such command\n");
@@ -111,6 +148,19 @@ pub(crate) fn topic(alloc: Global, word: &[u8]) -> Result<String, AllocError>
 }
 
 // These lines, each with a line end.
+fn word_lines(alloc: Global, lines: &[&str]) -> Result<String, AllocError>
+    ensures { IfOk result (λ t. string_bytes t
+        ≡ flat_map word_line (map (λ line. line.now) lines.now)) }
+{
+    let mut text = String::new(alloc);
+    for line in lines {
+        text.push_str(line)?;
+        text.push_str("\n")?;
+    }
+    Ok(text)
+}
+
+// The lines of these rows, each with a line end.
 fn topic_lines(alloc: Global, rows: &[(&str, &str)]) -> Result<String, AllocError>
     ensures { IfOk result (λ t. string_bytes t
         ≡ flat_map topic_line (map (λ row. (row.0.now, row.1.now)) rows.now)) }

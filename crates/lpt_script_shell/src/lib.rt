@@ -6,11 +6,11 @@
 #![tactic(auto)]
 
 mod answers;
+mod expanded;
 mod help;
 mod kept;
 pub mod laws;
 mod notes;
-mod openings;
 mod rows;
 mod shell;
 mod views;

@@ -3,8 +3,8 @@
 ghost use Rattle.std.specs.Prelude.{◌≡◌, ◌≢◌, ℕ, IfOk, string_bytes};
 ghost use Rattle.lpt_script_shell.specs.Notes.{fault_line, hint, parts_named};
 
-use crate::openings::parts_of;
 use lpt_events::{Event, StepFault};
+use lpt_script_expansion::parts_of;
 use lpt_script_words::Command;
 use lpt_world::World;
 use std::alloc::{AllocError, Global};

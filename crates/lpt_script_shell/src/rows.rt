@@ -3,13 +3,13 @@
 ghost use Rattle.std.specs.Prelude.{◌≡◌, ◌-◌, ◌++◌, length, OnOk, string_bytes};
 ghost use Rattle.lpt_journal.specs.Link.{sent};
 ghost use Rattle.lpt_world.specs.Worlds.{history};
-ghost use Rattle.lpt_script_shell.specs.Rows.{held_row, message_row, messages_text, missing_row, packet_row, rows_text, sender_row};
+ghost use Rattle.lpt_script_shell.specs.Rows.{held_line, held_row, message_row, messages_text, missing_row, origin_text, packet_row, rows_text, sender_row};
 
 use crate::kept::{add_gaps, kept_numbers};
-use crate::openings::count;
 use lpt_events::{Opening, is_opened, name_word};
 use lpt_ledger::State;
 use lpt_packet::{Direction, Name};
+use lpt_script_expansion::{Origin, origin_of, parts_that_hold};
 use lpt_script_text::print_packet;
 use lpt_world::World;
 use std::alloc::{AllocError, Global};
@@ -42,8 +42,44 @@ fn add_held_row(text: &mut String, world: &World, number: u64) -> Result<(), All
     }
     match world.packet(number) {
         Some(octets) => {
-            let len = octets.len();
-            write!(text, "held {number} {len}\n")
+            let origin = origin_of(world.journal(), number);
+            add_held_line(text, world.config().source, origin, number, octets.len())
+        }
+        None => Ok(()),
+    }
+}
+
+// Adds a packet of so many octets, and what it was put as, where this source is configured.
+fn add_held_line(
+    text: &mut String,
+    source: u16,
+    origin: Option<Origin>,
+    number: u64,
+    len: usize,
+) -> Result<(), AllocError>
+    ensures { OnOk result (string_bytes text.new
+        ≡ string_bytes text.old ++ held_line source origin number len) }
+{
+    write!(text, "held {number} {len}")?;
+    add_origin(text, source, origin)?;
+    text.push_str("\n")
+}
+
+// Adds what a packet was put as, where this source is configured.
+fn add_origin(text: &mut String, source: u16, origin: Option<Origin>) -> Result<(), AllocError>
+    ensures { OnOk result (string_bytes text.new
+        ≡ string_bytes text.old ++ origin_text source origin) }
+{
+    match origin {
+        Some(Origin::Part(direction, name, part)) => {
+            let (way, message) = (direction.word(), name_word(source, name));
+            write!(text, " {way} {message} {part}")
+        }
+        Some(Origin::Request) => text.push_str(" up request"),
+        Some(Origin::Report) => text.push_str(" down report"),
+        Some(Origin::Noise(direction)) => {
+            let direction = direction.word();
+            write!(text, " {direction} noise")
         }
         None => Ok(()),
     }
@@ -107,7 +143,7 @@ fn add_message(
 ) -> Result<(), AllocError>
     ensures { OnOk result (string_bytes text.new ≡ string_bytes text.old ++ message_row world.now half opening.now) }
 {
-    let parts = count(opening.message.as_slice().len(), world.config().part_size);
+    let parts = parts_that_hold(opening.message.as_slice().len(), world.config().part_size);
     match half {
         Half::Sender => add_sender(text, world, opening.direction, opening.name, parts),
         Half::Receiver => {

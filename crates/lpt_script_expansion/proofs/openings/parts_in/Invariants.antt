@@ -1,7 +1,7 @@
 -- The openings that are left say behind the number so far what all say.
 use Rattle.std.proofs.Common.{◌≡◌, drop}
-use Rattle.lpt_script_shell.specs.Kept.{parts_after}
-use Rattle.lpt_script_shell.proofs.openings.parts_in.Given as goal
+use Rattle.lpt_script_expansion.specs.Openings.{parts_after}
+use Rattle.lpt_script_expansion.proofs.openings.parts_in.Given as goal
 
 abbrev pub invariant-loop-opening : goal.invariant-loop-opening
 invariant-loop-opening l =

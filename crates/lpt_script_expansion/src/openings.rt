@@ -2,14 +2,14 @@
 
 ghost use Rattle.std.specs.Prelude.{◌≡◌};
 ghost use Rattle.lpt_part.specs.Splitting.{part_count, IsPartSize};
-ghost use Rattle.lpt_script_shell.specs.Kept.{parts_after, parts_of};
+ghost use Rattle.lpt_script_expansion.specs.Openings.{parts_after, parts_of};
 
 use lpt_events::Opening;
 use lpt_packet::{Direction, Name};
 use lpt_world::World;
 
-// How many parts the message has that was last opened as this transaction; 0 where none was.
-pub(crate) fn parts_of(world: &World, direction: Direction, name: Name) -> usize
+/// How many parts the message has that was last opened as this transaction; 0 where none was.
+pub fn parts_of(world: &World, direction: Direction, name: Name) -> usize
     ensures { result ≡ parts_of world.now direction name }
 {
     parts_in(world.opened(), world.config().part_size, direction, name)
@@ -23,14 +23,14 @@ fn parts_in(openings: &[Opening], p: u32, direction: Direction, name: Name) -> u
     let mut parts = 0;
     for opening in openings {
         if opening.is_of(direction, name) {
-            parts = count(opening.message.as_slice().len(), p);
+            parts = parts_that_hold(opening.message.as_slice().len(), p);
         }
     }
     parts
 }
 
-// How many parts of `p` octets hold so many octets.
-pub(crate) fn count(len: usize, p: u32) -> usize
+/// How many parts of `p` octets hold so many octets.
+pub fn parts_that_hold(len: usize, p: u32) -> usize
     requires { IsPartSize p }
     ensures { result ≡ part_count len p }
 {

@@ -1,0 +1,2 @@
+mod ListLemmas
+pub mod ReadLemmas
