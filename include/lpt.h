@@ -7,10 +7,9 @@
  * been written through a pointer but what the call's comment says. docs/FORMATS.md has the layouts
  * and the faults, docs/C.md what the caller promises:
  *
- *   - a length is the true number of octets behind its pointer, and these are initialised. So is
- *     what a call only writes through, as `out` and `needed`: that it may begin without a value is
- *     not promised yet, so give it one;
- *   - no pointer is null, also where a length is 0, and each is aligned for its type;
+ *   - a length is the true number of octets behind its pointer, and what is read there is
+ *     initialised. What a call only writes through, as `out` and `needed`, may have no value yet;
+ *   - a pointer is null only where its length is 0, and is aligned for its type;
  *   - what a call writes to (a pointer without const) overlaps nothing else that it is passed, and
  *     nothing else writes there, or to what it reads, while it runs.
  *
@@ -52,8 +51,8 @@ extern "C" {
     LPT_HOLDS(structure##_##field, offsetof(structure, field) == (at))
 #define LPT_HOLDS(name, condition) typedef char lpt_holds_##name[(condition) ? 1 : -1]
 
-#if !defined(__x86_64__) || !defined(__LP64__)
-#error "The libraries are for x86-64 with 64-bit pointers"
+#if !defined(__LP64__) || !(defined(__x86_64__) || defined(__AARCH64EL__))
+#error "The libraries are for x86-64 and aarch64, little endian, with 64-bit pointers"
 #endif
 
 /* The archive's version, as LPT_VERSION_NUMBER is the header's. */

@@ -10,9 +10,9 @@
  * docs/FORMATS.md has the faults, docs/C.md what the caller promises:
  *
  *   - what include/lpt.h says of lengths, pointers and overlaps;
- *   - one call at a time uses a handle, none is made from a signal handler, and a handle stays on
- *     its thread. Calls on different handles run at once only where the three functions may that
- *     give memory;
+ *   - one call at a time uses a handle, and none is made from a signal handler. A handle may go to
+ *     another thread where a lock, or a thread's start or end, stands between. Calls on different
+ *     handles run at once only where the three functions may that give memory;
  *   - the rules of lpt_end_new, lpt_end_packet and lpt_end_retire for the two ends of a link;
  *   - the program has the three functions that give memory, LptTried rattle_alloc(..) and so on,
  *     and they do what their comments say.
@@ -83,8 +83,7 @@ typedef struct LptMemory {
 
 /*
  * Makes an end into an empty handle. The spacecraft's has these memories, which begin with octets
- * of the content; those are copied. Ground's has none, and neither list nor content is looked at,
- * but their pointers aren't null.
+ * of the content; those are copied. Ground's has none, and neither list nor content is looked at.
  * An end that was freed, or went with its program, and is made anew isn't restarted: it has
  * forgotten which names are used up. So the other end is made anew too then, and no packet of
  * before may come any more.

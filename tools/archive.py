@@ -2,9 +2,12 @@
 
     archive.py copy TOP ROOM      copies the crates of the libraries into a room in which `rt ci` is to
                                   run, with those below them and without must-fail edits
-    archive.py build ROOM TOP     writes TOP/build: for each library the archive of its crate's
+    archive.py build ROOM TOP [PROCESSOR]
+                                  writes TOP/build: for each library the archive of its crate's
                                   exports, a shared library of it, and files for pkg-config; ROOM is
-                                  such a room, or a copy of the repository in which `rt ci` has run
+                                  such a room, or a copy of the repository in which `rt ci` has run.
+                                  For aarch64 these go to TOP/build/aarch64, the shared ones where a
+                                  compiler for it is on the path
 
 `rt ci` keeps no archive of a static library, so it would be proved a second time to have one. So the
 crates for C are plain libraries, which `rt ci` keeps. The static library is written here: for each
@@ -28,6 +31,21 @@ from typing import NamedTuple
 
 sys.dont_write_bytecode = True
 from crates import KIT, libraries, prover  # noqa: E402: it stands beside this file
+
+
+class Processor(NamedTuple):
+    """A processor that libraries are built for: its end target, the folder below build, and a compiler that
+    links its shared libraries, in place of which CC may name another."""
+
+    target: str
+    folder: str
+    compiler: str
+
+
+PROCESSORS = {
+    "x86_64": Processor("x86_64-unknown-linux-gnu", ".", "cc"),
+    "aarch64": Processor("aarch64-unknown-linux-gnu", "aarch64", "aarch64-linux-gnu-gcc"),
+}
 
 
 class Library(NamedTuple):
@@ -104,12 +122,13 @@ def copy(top: pathlib.Path, room: pathlib.Path) -> None:
     shutil.copy(top / "HANDLES", room)
 
 
-def archive(room: pathlib.Path, library: Library, to: pathlib.Path) -> None:
+def archive(room: pathlib.Path, library: Library, processor: Processor, to: pathlib.Path) -> None:
     """Builds a library's archive."""
     name = f"{library.crate}_exports"
     listed = [library.crate, *libraries(room)[library.crate]]
     words = prover("build", name, "src/lib.rt", listed, room)
-    words += ["--crate-type", "staticlib", "--toolchain", f"{KIT}/toolchain", "-o", str(to)]
+    words += ["--crate-type", "staticlib", "--target", processor.target]
+    words += ["--toolchain", f"{KIT}/toolchain", "-o", str(to)]
     with tempfile.TemporaryDirectory(prefix="lpt-exports-") as folder:
         write_exports(room / "crates" / library.crate / "src", library.crate, pathlib.Path(folder))
         subprocess.run(words, cwd=folder, check=True)
@@ -121,13 +140,13 @@ def declared(header: pathlib.Path) -> list[str]:
     return sorted(set(re.findall(r"\b(lpt_\w+)\([^()]*\);", text)))
 
 
-def shared(top: pathlib.Path, library: Library, folder: pathlib.Path) -> None:
+def shared(top: pathlib.Path, library: Library, compiler: str, folder: pathlib.Path) -> None:
     """Links the shared library of an archive in a folder: it exports what the header declares alone, and
     its code can't be written to, nor its stack or what the loader has filled in be executed or changed."""
     header, name = top / f"include/{library.name}.h", f"lib{library.name}.so.0"
     script = folder / f"{name}.exports"
     script.write_text(f"{{ global: {' '.join(f'{it};' for it in declared(header))} local: *; }};\n")
-    words = [os.environ.get("CC", "cc"), "-shared", "-O2", "-fPIC", "-fvisibility=hidden", f"-I{top}/include"]
+    words = [compiler, "-shared", "-O2", "-fPIC", "-fvisibility=hidden", f"-I{top}/include"]
     words += [str(top / it) for it in library.sources]
     words += ["-Wl,--whole-archive", str(folder / f"lib{library.name}.a"), "-Wl,--no-whole-archive"]
     words += [f"-Wl,-soname,{name}", f"-Wl,--version-script={script}", "-Wl,--no-undefined-version"]
@@ -136,14 +155,15 @@ def shared(top: pathlib.Path, library: Library, folder: pathlib.Path) -> None:
     script.unlink()
 
 
-def package(top: pathlib.Path, library: Library, folder: pathlib.Path) -> None:
+def package(top: pathlib.Path, library: Library, processor: Processor, folder: pathlib.Path) -> None:
     """Writes a library's files for pkg-config: of its archive, and of the shared one."""
+    place = pathlib.PurePosixPath("build") / processor.folder
     version = (top / "docs/help/version").read_text(encoding="utf-8").strip()
     for suffix, file in (("", f"-l{library.name}"), ("_shared", f"-l:lib{library.name}.so.0")):
         lines = [
             f"prefix={top}", "", f"Name: {library.name}{suffix}", f"Description: {library.description}",
             f"Version: {version}", f"Requires: {library.requires and library.requires + suffix}",
-            "Cflags: -I${prefix}/include", f"Libs: -L${{prefix}}/build {file}", "",
+            "Cflags: -I${prefix}/include", f"Libs: -L${{prefix}}/{place} {file}", "",
         ]
         (folder / f"{library.name}{suffix}.pc").write_text("\n".join(lines), encoding="utf-8")
 
@@ -157,43 +177,58 @@ def sums(top: pathlib.Path) -> str:
     return hashlib.sha256("".join(found).encode()).hexdigest() + "\n"
 
 
-def build(room: pathlib.Path, top: pathlib.Path) -> None:
-    """Writes the libraries, and behind them the checksum of what they are made of."""
-    to = top / "build"
-    to.mkdir(exist_ok=True)
-    with tempfile.TemporaryDirectory(dir=to, prefix="room.") as name:
-        folder = pathlib.Path(name)
+def build(room: pathlib.Path, top: pathlib.Path, name: str = "x86_64") -> None:
+    """Writes the libraries for a processor, and behind them the checksum of what they are made of."""
+    processor = PROCESSORS[name]
+    to = top / "build" / processor.folder
+    to.mkdir(parents=True, exist_ok=True)
+    compiler = os.environ.get("CC", processor.compiler)
+    with tempfile.TemporaryDirectory(dir=to, prefix="room.") as made:
+        folder = pathlib.Path(made)
         (folder / "sums").write_text(sums(top), encoding="utf-8")
         with ThreadPoolExecutor() as pool:
-            list(pool.map(lambda it: archive(room, it, folder / f"lib{it.name}.a"), LIBRARIES))
+            list(pool.map(lambda it: archive(room, it, processor, folder / f"lib{it.name}.a"), LIBRARIES))
         for library in LIBRARIES:
-            shared(top, library, folder)
-            package(top, library, folder)
+            if name == "x86_64" or shutil.which(compiler):
+                shared(top, library, compiler, folder)
+            package(top, library, processor, folder)
         for file in sorted(folder.iterdir(), key=lambda it: it.name == "sums"):
             file.replace(to / file.name)
 
 
-def is_built(top: pathlib.Path) -> bool:
-    """Whether the libraries are there, of what they would be made of now."""
-    made = top / "build/sums"
+def is_built(top: pathlib.Path, name: str = "x86_64") -> bool:
+    """Whether the libraries for a processor are there, of what they would be made of now."""
+    made = top / "build" / PROCESSORS[name].folder / "sums"
     return made.is_file() and made.read_text(encoding="utf-8") == sums(top)
 
 
-def built(top: pathlib.Path) -> pathlib.Path:
+def built(top: pathlib.Path, name: str = "x86_64") -> pathlib.Path:
     """The folder of the libraries, which are built first where they aren't there: over what ./check has
     proved in this copy of the repository, or by ./build-c."""
     below = top / "crates/lpt_packet/out/rlib"
     (top / "build").mkdir(exist_ok=True)
     with open(top / "build/lock", "w", encoding="utf-8") as lock:
         fcntl.flock(lock, fcntl.LOCK_EX)
-        if not is_built(top):
+        if not is_built(top, name):
             is_room = (below / "lpt_packet.rlib").is_dir() and not (below / "stamp").exists()
-            words = [sys.executable, __file__, "build", str(top), str(top)] if is_room else [str(top / "build-c")]
+            words = [str(top / "build-c"), *(["--for", name] if name != "x86_64" else [])]
+            if is_room:
+                words = [sys.executable, __file__, "build", str(top), str(top), name]
             subprocess.run(words, stdout=subprocess.PIPE, stderr=subprocess.STDOUT, check=True)
-    return top / "build"
+    return top / "build" / PROCESSORS[name].folder
+
+
+def main(verb: str, *words: str) -> int:
+    """Does what is asked."""
+    paths = [pathlib.Path(it).resolve() for it in words[:2]]
+    if verb == "copy":
+        copy(*paths)
+    elif verb == "build":
+        build(*paths, *words[2:])
+    elif verb == "is_built":
+        return not is_built(paths[0], *words[1:])
+    return 0
 
 
 if __name__ == "__main__":
-    VERBS = {"build": build, "copy": copy, "is_built": is_built}
-    answer = VERBS[sys.argv[1]](*(pathlib.Path(it).resolve() for it in sys.argv[2:]))
-    sys.exit(answer is False)
+    sys.exit(main(*sys.argv[1:]))

@@ -37,7 +37,7 @@ int main(void) {
     LptOutcome outcome = {0, {0, 0}, 0, 0};
     size_t len = 0, i;
     uint16_t k, parts = (uint16_t)lpt_part_count(MESSAGE, PART_SIZE);
-    uint32_t fault = lpt_end_new(&ground, LPT_SIDE_GROUND, &config, memories, 0, content, 0);
+    uint32_t fault = lpt_end_new(&ground, LPT_SIDE_GROUND, &config, NULL, 0, NULL, 0);
     for (i = 0; i < MESSAGE; i++) {
         message[i] = (uint8_t)(i % 251);
     }

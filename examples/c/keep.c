@@ -323,12 +323,11 @@ static void load(const char *path, uint16_t k) {
 
 /* A pass, in which the spacecraft is stopped behind a write: whether it was; all has to be well. */
 static bool run(const char *path, unsigned stop) {
-    static const LptMemory none = {0, 0, 1};
     static Kept kept;
     FILE *file = fopen(path, "w");
     uint16_t k;
     must(file != NULL && fclose(file) == 0, "there is no file");
-    must(lpt_end_new(&ground, LPT_SIDE_GROUND, &config, &none, 0, image, 0) == LPT_DONE, "no end");
+    must(lpt_end_new(&ground, LPT_SIDE_GROUND, &config, NULL, 0, NULL, 0) == LPT_DONE, "no end");
     is_stopped = false;
     launch(path, stop);
     for (k = 0; k < REQUESTS; k++) {

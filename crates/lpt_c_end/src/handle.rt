@@ -8,7 +8,7 @@ ghost use Rattle.lpt_c_end.specs.HandleCodes.{coded_held};
 use crate::box_fields::BoxFields;
 use crate::end::End;
 use std::alloc::Global;
-use std::marker::Model;
+use std::marker::{Model, Send};
 
 /// The address of an end, or none.
 #[repr(C)]
@@ -24,6 +24,9 @@ impl Model for LptHeld {
 
     ghost also_owns = { λ h. held_by h.alloc h.at h.value };
 }
+
+// The end stands in a box that this handle alone has, so it goes where the handle goes.
+unsafe impl Send for LptHeld {}
 
 /// What C keeps of an end: zeroed it is empty.
 #[repr(C)]
