@@ -1,5 +1,5 @@
-//! A plain program beside `lpt join up --id 7` and `lpt list`, for measuring: `plain_files join FILE`,
-//! `plain_files list FILE`. It reads packets one behind the other, whose lengths are right.
+//! A plain program beside `lpt join up --id 7`, `lpt list`, `lpt link` and `lpt spacecraft`, for measuring:
+//! `plain_files join`, and so on. It reads packets one behind the other, whose lengths are right.
 
 use std::io::{self, BufWriter, Read, Write};
 use std::process::exit;
@@ -132,12 +132,37 @@ fn list(tables: &[[u16; 256]], out: &mut impl Write) {
     });
 }
 
+/// Loads the messages into a memory: a load is a packet whose parts come in their order.
+fn spacecraft(tables: &[[u16; 256]]) {
+    let mut memory = vec![0; 65_536];
+    let mut message: Vec<u8> = Vec::new();
+    packets(|_, b| {
+        if !is_packet(tables, b) || word(b, 0) & 0x7ff != 100 || b[7] != 13 {
+            return;
+        }
+        message.extend_from_slice(&b[15..b.len() - 2]);
+        if b[8] != 11 {
+            return;
+        }
+        let m = std::mem::take(&mut message);
+        let count = usize::from(word(&m, 17));
+        let octets = &m[19..19 + count];
+        if is_packet(tables, &m) && checksum(tables, octets) == word(&m, 19 + count) {
+            let at = usize::from(word(&m, 15));
+            memory[at..at + count].copy_from_slice(octets);
+        }
+    });
+    std::hint::black_box(memory);
+}
+
 fn main() {
     let tables = tables();
     let mut out = BufWriter::new(io::stdout().lock());
     match std::env::args().nth(1).as_deref() {
         Some("join") => join(&tables, &mut out),
         Some("list") => list(&tables, &mut out),
+        Some("link") => packets(|_, b| out.write_all(b).unwrap()),
+        Some("spacecraft") => spacecraft(&tables),
         _ => exit(2),
     }
     out.flush().unwrap();

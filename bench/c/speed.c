@@ -3,9 +3,13 @@
  * turn, and prints a table: octets per second of processor time, and the ratio of the times.
  *
  *     speed [ROUNDS]
+ *     speed joined
  *
  * Of each round a ratio is taken; the table has the median of the ratios, with the least and the
  * greatest, and of each side the best round.
+ *
+ * By the word joined the library joins a message of parts of 4 octets, once for each of a few times, and
+ * nothing is timed: tests/instructions counts what that takes.
  */
 #define _POSIX_C_SOURCE 199309L
 #include "lpt_end.h"
@@ -16,7 +20,7 @@
 #include <string.h>
 #include <time.h>
 
-enum { LONG = 65542, PACKET = 1024, FIELD = PACKET - 8, TURNS = 20000, JOINS = 20, MOST = 101 };
+enum { LONG = 65542, PACKET = 1024, FIELD = PACKET - 8, TURNS = 20000, JOINS = 20, FEW = 2, MOST = 101 };
 
 static uint8_t message[LONG], packet[PACKET], written[PACKET];
 /* The packets of a message in parts, one behind the other. */
@@ -24,6 +28,7 @@ static uint8_t packets[20000 * 40];
 static size_t lens[20000], parts;
 static const LptMemory no_memory[1];
 static uint32_t part_size;
+static int joins = JOINS;
 static volatile uint32_t sink;
 static int is_wrong;
 
@@ -110,7 +115,7 @@ static void join_proved(void) {
     int i;
     config.part_size = part_size;
     wants(lpt_end_new(&end, LPT_SIDE_GROUND, &config, no_memory, 0, message, 0) == LPT_DONE);
-    for (i = 0; i < JOINS; i++) {
+    for (i = 0; i < joins; i++) {
         LptOutcome said = {0, {0, 0}, 0, 0};
         size_t at = 0, k;
         for (k = 0; k < parts; k++) {
@@ -126,7 +131,7 @@ static void join_proved(void) {
 static void join_plain(void) {
     PlainEnd *end = plain_end_new(100, part_size);
     int i;
-    for (i = 0; i < JOINS; i++) {
+    for (i = 0; i < joins; i++) {
         uint32_t said = 0;
         size_t at = 0, k, len;
         for (k = 0; k < parts; k++) {
@@ -213,10 +218,16 @@ int main(int argc, char **argv) {
     int rounds = argc > 1 ? atoi(argv[1]) : 15;
     size_t i, len = 0;
     rounds = rounds < 1 ? 1 : rounds > MOST ? MOST : rounds;
-    plain_begin();
     for (i = 0; i < LONG; i++) {
         message[i] = (uint8_t)(i * 7 + (i >> 8));
     }
+    if (argc > 1 && strcmp(argv[1], "joined") == 0) {
+        joins = FEW;
+        split(4);
+        join_proved();
+        return is_wrong;
+    }
+    plain_begin();
     wants(lpt_write_packet(LPT_PACKET_TC, 100, 7, message, FIELD, packet, PACKET, &len) ==
           LPT_DONE);
     wants(plain_write_packet(LPT_PACKET_TC, 100, 7, message, FIELD, written, PACKET, &len) ==

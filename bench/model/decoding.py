@@ -36,6 +36,14 @@ def areas(body):
     return [f"memory {body[0]} areas {body[1]} address {address} length {length}"]
 
 
+def segment(octets):
+    """What is said of a segment of a message in several packets, in front of its fault."""
+    kind = "tc" if octets[0] & 0x10 else "tm"
+    which = ("continuation", "first", "last")[octets[2] >> 6]
+    apid, count = number_of(octets[:2]) & 0x7FF, number_of(octets[2:4]) & 0x3FFF
+    return f"packet {kind} apid {apid} count {count} segment {which} "
+
+
 def decode(octets, part_size):
     """What octets are as a packet, and the status."""
     try:
@@ -44,7 +52,7 @@ def decode(octets, part_size):
             return "idle\n", 0
         headers = read_headers(packet)
     except Fault as fault:
-        return f"fault {fault}\n", 1
+        return f"{segment(octets) if str(fault).startswith('4 ') else ''}fault {fault}\n", 1
     kind = f"service {headers.service} subtype {headers.subtype}"
     if packet.is_command:
         kind = f"flags {headers.nibble} {kind} source {headers.peer}"

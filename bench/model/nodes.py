@@ -3,8 +3,9 @@
 from .packets import LONGEST_PACKET, Fault, Name, Packet, write_command, write_packet
 from .parts import PART_SUBTYPES, part_count
 
-# Why a reception is broken off by a part that isn't the next one.
+# Why a reception is broken off by a part: it isn't the next one, or contradicts those that were kept.
 DISCONTINUITY = 2
+CONFLICT = 3
 
 
 class Reception:
@@ -14,6 +15,16 @@ class Reception:
         self.parts = {}
         self.count = None
         self.tick = 0
+
+    def contradicts(self, part):
+        """Whether the part differs from that of its number, or the last part isn't the last with it."""
+        if part.number in self.parts:
+            same = self.parts[part.number] == part.octets
+            return not same or (part.place == 2) != (self.count == part.number)
+        last = part.number if part.place == 2 else self.count
+        return (part.place == 2 and self.count is not None) or (
+            last is not None and last < max(part.number, *self.parts, 0)
+        )
 
     def message(self):
         """The message, where all its parts are there."""
@@ -106,6 +117,9 @@ class Node:
             return "ignored NoRoom", None
         reception = self.receptions.setdefault(name, Reception())
         reception.tick = self.clock
+        if reception.contradicts(part):
+            self._end(name)
+            return f"broken {self.receives} {text} {CONFLICT}", None
         if part.number in reception.parts:
             return f"again {self.receives} {text} {part.number}", None
         if self.settings.mode == "strict" and part.number != max(reception.parts, default=0) + 1:

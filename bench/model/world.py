@@ -3,7 +3,7 @@
 from .jobs import Jobs
 from .link import Link
 from .memories import Failure, Memories, load_body
-from .nodes import DISCONTINUITY, Node
+from .nodes import Node
 from .packets import Fault, Name, hexadecimal, number_of, read_headers, read_packet, write_command
 from .parts import ABORT_SUBTYPE, PART_SUBTYPES, read_part
 from .settings import LAST_TICK
@@ -119,7 +119,7 @@ class World:
             if message is not None:
                 self._release(node, part.name, message)
             if node.is_craft and outcome.startswith("broken"):
-                self._report(node, part.name, DISCONTINUITY)
+                self._report(node, part.name, int(outcome.split()[-1]))
             return outcome
         if node.is_craft:
             self._release(node, None, octets)
