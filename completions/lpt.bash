@@ -5,7 +5,7 @@ _lpt() {
     local command='' request='' offered='' i
     for ((i = 1; i < COMP_CWORD; i++)); do
         case $command:${COMP_WORDS[i]} in
-        :run | :threads | :shell | :lint | :chart | :decode | :list | :split | :join | :extract | :link | :spacecraft | :verify | :request | :help)
+        :run | :threads | :shell | :lint | :chart | :decode | :list | :split | :join | :extract | :link | :spacecraft | :verify | :compare | :checksum | :request | :help)
             command=${COMP_WORDS[i]}
             ;;
         request:load | request:dump | request:check | request:help)
@@ -17,20 +17,23 @@ _lpt() {
     local options='--config --apid --source --part-size --mode --help --version'
     case $command:$request in
     lint:*) options='--help --version' ;;
-    chart:*) options+=' --from --to --refused' ;;
-    list:*) options+=' --json --strict --from --to' ;;
-    split:*) options+=' --parts --count --each --whole --pcap' ;;
-    join:*) options+=' --id --first --any --each --from --to' ;;
-    extract:*) options+=' --at --from --fill --whole' ;;
-    link:*) options='--lose --repeat --damage --delay --seed --help --version' ;;
-    verify:*) options='--json --help --version' ;;
-    spacecraft:*) options+=' --memory --save --tick-every --state' ;;
+    chart:*) options+=' --stream --from --to --refused' ;;
+    decode:*) options+=' --layout' ;;
+    list:*) options+=' --json --strict --from --to --layout --quiet' ;;
+    split:*) options+=' --parts --count --each --whole --pcap --layout' ;;
+    join:*) options+=' --id --first --any --each --from --to --layout --quiet' ;;
+    extract:*) options+=' --at --from --fill --whole --join --quiet' ;;
+    link:*) options='--lose --repeat --damage --delay --seed --quiet --help --version' ;;
+    verify:*) options='--json --quiet --help --version' ;;
+    spacecraft:*) options+=' --memory --save --tick-every --reuse --log --state' ;;
+    compare:*) options+=' --quiet' ;;
+    checksum:*) options='--from --length --help --version' ;;
     request:load) options+=' --area --each --ack --count' ;;
     request:dump | request:check) options+=' --each --ack --count' ;;
     esac
     COMPREPLY=()
     case $command:$request:$before:$word in
-    *:*:--config:* | *:*:--state:*)
+    *:*:--config:* | *:*:--layout:* | *:*:--state:*)
         mapfile -t COMPREPLY < <(compgen -f -- "$word")
         return
         ;;
@@ -38,14 +41,14 @@ _lpt() {
         mapfile -t COMPREPLY < <(compgen -d -- "$word")
         return
         ;;
-    *:*:--from:* | *:*:--to:* | *:*:--at:* | *:*:--fill:* | *:*:--parts:* | *:*:--id:* | *:*:--ack:* | *:*:--count:* | *:*:--area:* | *:*:--each:* | \
-        *:*:--lose:* | *:*:--repeat:* | *:*:--damage:* | *:*:--delay:* | *:*:--seed:* | *:*:--memory:* | *:*:--tick-every:* | \
+    *:*:--from:* | *:*:--to:* | *:*:--at:* | *:*:--fill:* | *:*:--length:* | *:*:--parts:* | *:*:--id:* | *:*:--ack:* | *:*:--count:* | *:*:--area:* | *:*:--each:* | \
+        *:*:--lose:* | *:*:--repeat:* | *:*:--damage:* | *:*:--delay:* | *:*:--seed:* | *:*:--memory:* | *:*:--tick-every:* | *:*:--reuse:* | \
         *:*:--apid:* | *:*:--source:* | *:*:--part-size:*)
         return
         ;;
     *:*:--mode:*) offered='any strict' ;;
-    :*) offered='run threads shell lint chart decode list split join extract link spacecraft verify request help --help --version' ;;
-    help::help:*) offered='run threads shell lint chart decode list split join extract link spacecraft verify request help' ;;
+    :*) offered='run threads shell lint chart decode list split join extract link spacecraft verify compare checksum request help --help --version' ;;
+    help::help:*) offered='run threads shell lint chart decode list split join extract link spacecraft verify compare checksum request help' ;;
     help::request:* | request:help:help:*) offered='load dump check' ;;
     help:* | request:help:*) return ;;
     request::*) offered='load dump check help --help --version' ;;

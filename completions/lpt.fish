@@ -21,7 +21,7 @@ complete -c lpt -n '__lpt_is' -a run -d 'Run a script on a new world'
 complete -c lpt -n '__lpt_is' -a threads -d 'Run a script on a new world, and then ten threads'
 complete -c lpt -n '__lpt_is' -a shell -d "Answer lines one by one, and go on where one can't be read"
 complete -c lpt -n '__lpt_is' -a lint -d "Print every line of a script that can't be read, and why"
-complete -c lpt -n '__lpt_is' -a chart -d "Draw a script's run as an SVG"
+complete -c lpt -n '__lpt_is' -a chart -d "Draw a script's run, or a stream of packets, as an SVG"
 complete -c lpt -n '__lpt_is' -a decode -d 'Say what octets are as a packet'
 complete -c lpt -n '__lpt_is' -a list -d 'Say what each packet of a stream is'
 complete -c lpt -n '__lpt_is' -a split -d "Write the packets of a message's parts"
@@ -30,9 +30,11 @@ complete -c lpt -n '__lpt_is' -a extract -d 'Write the octets that dump reports 
 complete -c lpt -n '__lpt_is' -a link -d 'Carry packets over a link that loses'
 complete -c lpt -n '__lpt_is' -a spacecraft -d 'Take packets as the spacecraft does, and write its reports'
 complete -c lpt -n '__lpt_is' -a verify -d 'Say what became of requests, by the reports that came'
+complete -c lpt -n '__lpt_is' -a compare -d 'Compare a file with what check reports say of a memory'
+complete -c lpt -n '__lpt_is' -a checksum -d 'Print the checksum that a check report has of octets'
 complete -c lpt -n '__lpt_is' -a request -d 'Write a request to a memory as a telecommand'
 complete -c lpt -n '__lpt_is' -a help -d 'Print the help of a command'
-complete -c lpt -n '__lpt_is help' -a 'run threads shell lint chart decode list split join extract link spacecraft verify request help'
+complete -c lpt -n '__lpt_is help' -a 'run threads shell lint chart decode list split join extract link spacecraft verify compare checksum request help'
 complete -c lpt -n '__lpt_is help request; or __lpt_is request help' -a 'load dump check'
 complete -c lpt -n '__lpt_is request' -a load -d 'Load octets into a memory'
 complete -c lpt -n '__lpt_is request' -a dump -d 'Ask for octets of a memory'
@@ -44,23 +46,25 @@ complete -c lpt -n '__lpt_is split; or __lpt_is join' -a 'up down'
 complete -c lpt -n '__lpt_at run; or __lpt_at threads; or __lpt_at lint; or __lpt_at chart; or __lpt_at list' -F
 complete -c lpt -n '__lpt_at split up; or __lpt_at split down' -F
 complete -c lpt -n '__lpt_at join up; or __lpt_at join down' -F
-complete -c lpt -n '__lpt_at extract; or __lpt_at link; or __lpt_at verify' -F
+complete -c lpt -n '__lpt_at extract; or __lpt_at link; or __lpt_at verify; or __lpt_at compare; or __lpt_at checksum' -F
 complete -c lpt -n '__lpt_at request load' -F
 
 # Options.
 complete -c lpt -n 'not __lpt_at help; and not __lpt_at request help' -s h -l help -d 'Print help'
 complete -c lpt -n 'not __lpt_at help; and not __lpt_at request help' -s V -l version -d 'Print version'
-for command in run threads shell chart decode list split join extract spacecraft 'request load' 'request dump' 'request check'
+for command in run threads shell chart decode list split join extract spacecraft compare 'request load' 'request dump' 'request check'
     complete -c lpt -n "__lpt_at $command" -l config -r -F -d 'The configuration, a TOML file'
     complete -c lpt -n "__lpt_at $command" -l apid -x -d 'The APID of all packets, 0 to 2046'
     complete -c lpt -n "__lpt_at $command" -l source -x -d 'The source that is meant where none is given, 0 to 65535'
     complete -c lpt -n "__lpt_at $command" -l part-size -x -d 'The octets of a part, 4 to 1024'
     complete -c lpt -n "__lpt_at $command" -l mode -x -a 'any strict' -d 'Whether parts are taken in any order, or strictly in theirs'
 end
-complete -c lpt -n '__lpt_at chart' -l from -x -d 'The first place of the journal that is drawn'
-complete -c lpt -n '__lpt_at chart' -l to -x -d 'The last place of the journal that is drawn'
+complete -c lpt -n '__lpt_at chart' -l stream -d 'Draw the packets at the path, a row for each transaction'
+complete -c lpt -n '__lpt_at chart' -l from -x -d 'The first place of the journal that is drawn, or of the octets'
+complete -c lpt -n '__lpt_at chart' -l to -x -d 'The last place of the journal that is drawn, or the end of the octets'
 complete -c lpt -n '__lpt_at chart' -l refused -d 'Draw the lines that were refused, too'
 complete -c lpt -n '__lpt_at list; or __lpt_at verify' -l json -d 'Print each line as an object of JSON'
+complete -c lpt -n '__lpt_at decode; or __lpt_at list; or __lpt_at split; or __lpt_at join' -l layout -r -F -d "The mission's layouts of headers and parts, a TOML file"
 complete -c lpt -n '__lpt_at list' -l strict -d 'End at the first place where no packet is'
 for command in list join
     complete -c lpt -n "__lpt_at $command" -l from -x -d 'The place of the first octet that is read, as list prints it'
@@ -78,6 +82,12 @@ complete -c lpt -n '__lpt_at extract' -l at -x -d 'Write an image of this memory
 complete -c lpt -n '__lpt_at extract' -l from -x -d 'The address at which the image begins, 0 without it'
 complete -c lpt -n '__lpt_at extract' -l fill -x -d 'The octet where no area gives one, 0 to 255, 0 without it'
 complete -c lpt -n '__lpt_at extract' -l whole -d 'Write an image only where no octet of it is wanting'
+complete -c lpt -n '__lpt_at extract' -l join -d 'Take dump reports that come in parts, too'
+complete -c lpt -n '__lpt_at checksum' -l from -x -d 'The place of the first octet, 0 without it'
+complete -c lpt -n '__lpt_at checksum' -l length -x -d 'How many octets, all behind that place without it'
+for command in list join extract link verify compare
+    complete -c lpt -n "__lpt_at $command" -l quiet -d 'Say nothing on standard error but what is wrong'
+end
 complete -c lpt -n '__lpt_at request load' -l area -x -d 'Octets for another address'
 complete -c lpt -n '__lpt_at link' -l lose -x -d "How many of the packets aren't written"
 complete -c lpt -n '__lpt_at link' -l repeat -x -d 'How many of them are written twice'
@@ -87,6 +97,8 @@ complete -c lpt -n '__lpt_at link' -l seed -x -d 'The seed: the same one gives t
 complete -c lpt -n '__lpt_at spacecraft' -l memory -x -d 'A memory, and the file of its first content'
 complete -c lpt -n '__lpt_at spacecraft' -l save -d 'Write the memories back into their files at the end'
 complete -c lpt -n '__lpt_at spacecraft' -l tick-every -x -d 'Set the clock on behind each N packets'
+complete -c lpt -n '__lpt_at spacecraft' -l reuse -x -d 'Free a name N ticks after its use'
+complete -c lpt -n '__lpt_at spacecraft' -l log -d 'Tell on standard error what becomes of each packet and request'
 complete -c lpt -n '__lpt_at spacecraft' -l state -r -d 'Keep state and memories in this file, and go on where it says'
 for command in 'request load' 'request dump' 'request check'
     complete -c lpt -n "__lpt_at $command" -l each -x -d 'How many octets one request asks for at most'

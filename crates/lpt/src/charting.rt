@@ -91,8 +91,8 @@ fn tell_short(rt: &HostRuntime, words: &ChartWords<'_>, events: u64) {
     }
 }
 
-// Writes a picture.
-fn write_picture(rt: &HostRuntime, picture: &[u8]) -> Result<(), Failure> {
+/// Writes a picture.
+pub fn write_picture(rt: &HostRuntime, picture: &[u8]) -> Result<(), Failure> {
     let mut out = output(rt)?;
     let written = write_out(&mut out, picture);
     finish(rt, out)?;

@@ -95,7 +95,11 @@ fn complaint(alloc: Global, path: &str, text: &str) -> Result<String, AllocError
     }
 }
 
-fn read_file(rt: &HostRuntime, path: &str) -> Result<Vec<u8>, Failure> {
+/// The octets of the file at this path.
+///
+/// Errors: `Read` where it can't be opened or read; `Config` where it has more than 1,048,576
+/// octets; `Memory`.
+pub(crate) fn read_file(rt: &HostRuntime, path: &str) -> Result<Vec<u8>, Failure> {
     let file = match File::open(rt, path) {
         Ok(file) => file,
         Err(error) => {

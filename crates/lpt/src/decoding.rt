@@ -1,19 +1,27 @@
 //! What octets are as a packet.
 
+ghost use Rattle.std.specs.Prelude.{◌≤◌, length};
 ghost use Rattle.lpt_part.specs.Splitting.{IsPartSize};
 
 use crate::end::{Failure, Status, tell_place};
 use crate::input::{Incoming, STANDARD, opened, read_failure};
+use crate::layouts::{self, tell_hint};
 use crate::streams::{finish, output};
 use crate::work::status_of;
+use lpt_command_line::DecodeWords;
 use lpt_events::{Config, part_kind};
-use lpt_packet::{Direction, Octets, Packet, PacketKind, Seen, read_packet};
+use lpt_layout_list::{decode_layouts, hint_of, is_read};
+use lpt_list::{Form, print_refused};
+use lpt_packet::{Direction, Octets, Packet, PacketFault, PacketKind, Seen, read_packet};
 use lpt_part::{Kind, read_part};
 use lpt_pus::{read_tc, read_tm};
 use lpt_script_words::read_hex;
-use lpt_text::{End, LONGEST_TEXT, read_text};
+use lpt_text::{End, LONGEST_TEXT, read_text, write_out};
 use lpt_tool::ToolFault;
 use std::alloc::AllocError;
+
+/// A packet has at least so many octets.
+const LEAST_PACKET: usize = 7;
 
 /// How many octets of a part's body stand before the part's own.
 const PART_FIELDS: usize = 4;
@@ -61,10 +69,12 @@ impl Given {
 ///
 /// Errors: `Read`, `Write` where a read or a write failed, `Memory`. What stands for no octets is
 /// no error here: it is reported on standard error, and the status says so. Where a part isn't read
-/// for the configured part size, a note on standard error says which one fits, if one does.
-pub fn decode(rt: &HostRuntime, config: Config, hex: &str) -> Result<Status, Failure>
+/// for the configured part size, a note on standard error says which one fits, if one does. Where
+/// layouts are given, they are read by these, and the note says by which other one they would be.
+pub fn decode(rt: &HostRuntime, config: Config, words: &DecodeWords<'_>) -> Result<Status, Failure>
     requires { IsPartSize config.part_size }
 {
+    let hex = words.hex;
     let given = if hex == STANDARD {
         let text = standard_text(rt)?;
         octets_in(rt, Given::Input, text.as_slice())
@@ -74,19 +84,60 @@ pub fn decode(rt: &HostRuntime, config: Config, hex: &str) -> Result<Status, Fai
     let Some(octets) = given? else {
         return Ok(Status::Unreadable);
     };
-    decode_octets(rt, octets.as_slice(), config.part_size)
+    let octets = octets.as_slice();
+    match words.layout {
+        Some(path) if octets.len() >= LEAST_PACKET => decode_as(rt, path, octets),
+        _ => decode_octets(rt, octets, config.part_size),
+    }
+}
+
+// Prints what octets are as a packet of the layouts of the file at this path.
+fn decode_as(rt: &HostRuntime, path: &str, octets: &[u8]) -> Result<Status, Failure>
+    requires { 7 ≤ length octets.now }
+{
+    let Some(layouts) = layouts::read(rt, path)? else {
+        return Ok(Status::Unreadable);
+    };
+    let mut out = output(rt)?;
+    let decoded = decode_layouts(rt.alloc(), &layouts, octets, &mut out);
+    finish(rt, out)?;
+    decoded?;
+    tell_hint(rt, hint_of(&layouts, octets));
+    Ok(status_of(!is_read(&layouts, octets)))
 }
 
 // Prints what octets are as a packet, for parts of `p` octets.
 fn decode_octets(rt: &HostRuntime, octets: &[u8], p: u32) -> Result<Status, Failure>
     requires { IsPartSize p }
 {
+    if octets.len() >= LEAST_PACKET && matches!(read_packet(octets), Err(PacketFault::Segmented)) {
+        return decode_segment(rt, octets);
+    }
     let mut out = output(rt)?;
     let decoded = lpt_tool::decode(rt.alloc(), octets, p, &mut out);
     finish(rt, out)?;
     let is_faulty = decoded?;
     tell_size(rt, octets, p);
     Ok(status_of(is_faulty))
+}
+
+// Prints which segment of a message in several packets octets are.
+fn decode_segment(rt: &HostRuntime, octets: &[u8]) -> Result<Status, Failure>
+    requires { 7 ≤ length octets.now }
+{
+    let fault = PacketFault::Segmented;
+    let Ok(said) = print_refused(rt.alloc(), Form::Text, octets, fault) else {
+        return Err(Failure::from(ToolFault::Memory));
+    };
+    let said = said.as_str();
+    let Ok(line) = format!(in rt.alloc(); "packet{said}\n") else {
+        return Err(Failure::from(ToolFault::Memory));
+    };
+    let mut out = output(rt)?;
+    let written = write_out(&mut out, line.as_bytes());
+    finish(rt, out)?;
+    written?;
+    Ok(Status::Refused)
 }
 
 // The text of standard input.

@@ -5,12 +5,13 @@ ghost use Rattle.lpt_events.specs.Configs.{IsConfig};
 use crate::end::{Failure, Status};
 use crate::input::{Packets, opened_packets, packets_end};
 use crate::joins::{tell, tell_missing, tell_skips, tell_unfit};
+use crate::progress::Voice;
 use crate::saving::write_beside;
 use lpt_command_line::JoinWords;
 use lpt_each::{News, Taker, each_stream};
 use lpt_events::Config;
 use lpt_join::Transaction;
-use lpt_packet::Name;
+use lpt_packet::{Direction, Name};
 use lpt_skips::Skips;
 use lpt_text::StreamFault;
 use lpt_tool::ToolFault;
@@ -23,6 +24,7 @@ use std::fs;
 #[derive(Drop)]
 struct Folder<'a> {
     rt: &'a HostRuntime,
+    voice: Voice,
     config: &'a Config,
     words: &'a JoinWords<'a>,
     path: &'a str,
@@ -64,11 +66,8 @@ impl Taker for Folder<'_> {
 impl Folder<'_> {
     // Says what never became whole. The only error is out of memory.
     fn tell(&self, name: Name, news: &News) -> Result<(), AllocError> {
-        match news {
-            News::Given(_) => Ok(()),
-            News::Dropped(came) => tell_missing(self.rt, self.config, self.words, name, came),
-            News::Unfit(misfit) => tell_unfit(self.rt, self.config, self.words, name, *misfit),
-        }
+        self.voice.clear(self.rt);
+        tell_lost(self.rt, self.config, self.words.direction, name, news)
     }
 
     // Writes a message into a new file: all of it, or there is none of that name.
@@ -110,6 +109,21 @@ impl Folder<'_> {
     }
 }
 
+/// Says what of a name never became whole. The only error is out of memory.
+pub fn tell_lost(
+    rt: &HostRuntime,
+    config: &Config,
+    direction: Direction,
+    name: Name,
+    news: &News,
+) -> Result<(), AllocError> {
+    match news {
+        News::Given(_) => Ok(()),
+        News::Dropped(came) => tell_missing(rt, config, direction, true, name, came),
+        News::Unfit(misfit) => tell_unfit(rt, config, direction, name, *misfit),
+    }
+}
+
 /// Writes every message that packets carry, each into a file of its own in this folder, which is
 /// made where it isn't there.
 ///
@@ -118,15 +132,17 @@ impl Folder<'_> {
 /// `Memory`.
 pub fn join_each<'a>(
     rt: &'a HostRuntime,
+    voice: Voice,
     config: &'a Config,
     words: &'a JoinWords<'a>,
     path: &'a str,
 ) -> Result<Status, Failure>
     requires { IsConfig config.now }
 {
-    let mut source = opened_packets(rt, &words.files, words.span.from, words.span.to)?;
+    let span = words.span;
+    let mut source = opened_packets(rt, voice, &words.files, span.from, span.to)?;
     let status = match fs::create_dir_all(rt, path) {
-        Ok(()) => write_each(rt, config, words, path, &mut source),
+        Ok(()) => write_each(rt, voice, config, words, path, &mut source),
         Err(error) => {
             let place = format!(in rt.alloc(); "{path}: {error}");
             Err(Failure::at(ToolFault::Write, place))
@@ -139,6 +155,7 @@ pub fn join_each<'a>(
 // The same of packets that were opened, into a folder that is there.
 fn write_each<'a>(
     rt: &'a HostRuntime,
+    voice: Voice,
     config: &'a Config,
     words: &'a JoinWords<'a>,
     path: &'a str,
@@ -148,6 +165,7 @@ fn write_each<'a>(
 {
     let mut folder = Folder {
         rt,
+        voice,
         config,
         words,
         path,
@@ -164,7 +182,7 @@ fn write_each<'a>(
     };
     let ended = each_stream(rt.alloc(), &transaction, words.any, source, &mut folder);
     let failed = matches!(ended, Err(StreamFault::Read));
-    let failure = match packets_end(rt, source, &words.files, failed) {
+    let failure = match packets_end(rt, voice, source, &words.files, failed) {
         Some(failure) => Some(failure),
         None => folder.failure.take(),
     };

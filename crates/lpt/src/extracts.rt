@@ -1,15 +1,20 @@
 //! The octets of dump reports, from a file or standard input to standard output.
 
+ghost use Rattle.lpt_events.specs.Configs.{IsConfig};
+
 use crate::counts::tell_no_packets;
+use crate::eaches::tell_lost;
 use crate::end::{Failure, Status, tell_place};
 use crate::input::{Packets, opened_packets, packets_end};
+use crate::progress::Voice;
 use crate::streams::{finish, first_failure, output};
 use lpt_command_line::ExtractWords;
 use lpt_events::Config;
 use lpt_extract::{
-    ExtractEnd, Extracted, Gap, Listener, Notice, Others, Place, Span, Tally, Wanted,
-    extract_stream,
+    ExtractEnd, Extracted, Gap, Listener, News, Notice, Others, Outlets, Place, Span, Taker, Tally,
+    Transaction, Wanted, extract_joined, extract_stream,
 };
+use lpt_packet::{Direction, Name};
 use lpt_text::StreamFault;
 use lpt_tool::ToolFault;
 use std::alloc::{AllocError, Global};
@@ -18,6 +23,7 @@ use std::alloc::{AllocError, Global};
 #[derive(Drop)]
 struct Telling<'a> {
     rt: &'a HostRuntime,
+    voice: Voice,
 }
 
 impl Listener for Telling<'_> {
@@ -26,8 +32,40 @@ impl Listener for Telling<'_> {
     ghost heard = { λ _. None };
 
     fn tell(&mut self, notice: Notice) {
+        if matches!(notice, Notice::Taken(_)) && !self.voice.tells() {
+            return;
+        }
         if let Ok(Some(text)) = notice_text(self.rt.alloc(), notice) {
+            self.voice.clear(self.rt);
             tell_place(self.rt, text.as_str());
+        }
+    }
+}
+
+/// Standard error, which is told of parts that never became whole.
+#[derive(Drop)]
+struct Losses<'a> {
+    rt: &'a HostRuntime,
+    voice: Voice,
+    config: &'a Config,
+    // Whether there were such parts.
+    lost: bool,
+}
+
+impl Taker for Losses<'_> {
+    ghost use Rattle.std.specs.Prelude.{None};
+
+    ghost heard = { λ _. None };
+
+    fn take(&mut self, name: Name, news: &News) -> Result<(), StreamFault> {
+        if let News::Given(_) = news {
+            return Ok(());
+        }
+        self.lost = true;
+        self.voice.clear(self.rt);
+        match tell_lost(self.rt, self.config, Direction::Down, name, news) {
+            Ok(()) => Ok(()),
+            Err(_) => Err(StreamFault::Memory),
         }
     }
 }
@@ -38,9 +76,12 @@ impl Listener for Telling<'_> {
 /// `Memory`, also for an image that would be too large.
 pub fn extract(
     rt: &HostRuntime,
+    voice: Voice,
     config: &Config,
     words: &ExtractWords<'_>,
-) -> Result<Status, Failure> {
+) -> Result<Status, Failure>
+    requires { IsConfig config.now }
+{
     let Ok(at) = place(words) else {
         tell_place(rt, "--from, --fill and --whole stand beside --at");
         return Ok(Status::Unreadable);
@@ -49,8 +90,13 @@ pub fn extract(
         apid: config.apid,
         at,
     };
-    let mut source = opened_packets(rt, &words.files, None, None)?;
-    let status = extract_packets(rt, &wanted, words, &mut source);
+    let voice = voice.beside_output(rt);
+    let mut source = opened_packets(rt, voice, &words.files, None, None)?;
+    let status = if words.join {
+        join_packets(rt, voice, config, &wanted, words, &mut source)
+    } else {
+        extract_packets(rt, voice, &wanted, words, &mut source)
+    };
     drop(source);
     status
 }
@@ -58,19 +104,60 @@ pub fn extract(
 // The same of packets that were opened.
 fn extract_packets(
     rt: &HostRuntime,
+    voice: Voice,
     wanted: &Wanted,
     words: &ExtractWords<'_>,
     source: &mut Packets,
 ) -> Result<Status, Failure> {
     let mut out = output(rt)?;
-    let mut telling = Telling { rt };
+    let mut telling = Telling { rt, voice };
     let extracted = extract_stream(rt.alloc(), wanted, source, &mut out, &mut telling);
     let failed = matches!(extracted, Err(StreamFault::Read));
-    let failure = packets_end(rt, source, &words.files, failed);
+    let failure = packets_end(rt, voice, source, &words.files, failed);
     let finished = first_failure(finish(rt, out), failure);
     let status = status_of(rt, wanted, finished, &extracted);
     drop(extracted);
     status
+}
+
+// The same where reports may come in parts.
+fn join_packets(
+    rt: &HostRuntime,
+    voice: Voice,
+    config: &Config,
+    wanted: &Wanted,
+    words: &ExtractWords<'_>,
+    source: &mut Packets,
+) -> Result<Status, Failure>
+    requires { IsConfig config.now }
+{
+    let transaction = Transaction {
+        direction: Direction::Down,
+        name: Name { source: 0, id: 0 },
+        apid: config.apid,
+        part_size: config.part_size,
+    };
+    let mut outlets = Outlets {
+        out: output(rt)?,
+        listener: Telling { rt, voice },
+        taker: Losses {
+            rt,
+            voice,
+            config,
+            lost: false,
+        },
+    };
+    let extracted = extract_joined(rt.alloc(), wanted, &transaction, source, &mut outlets);
+    let failed = matches!(extracted, Err(StreamFault::Read));
+    let failure = packets_end(rt, voice, source, &words.files, failed);
+    let lost = outlets.taker.lost;
+    let finished = first_failure(finish(rt, outlets.out), failure);
+    let status = status_of(rt, wanted, finished, &extracted);
+    drop(extracted);
+    match status {
+        Ok(Status::Done) if lost => Ok(Status::Refused),
+        status => status,
+    }
 }
 
 // The status of an extraction that ended so, where its output was finished.

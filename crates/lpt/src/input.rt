@@ -1,6 +1,7 @@
 //! What is read: a file, or standard input for `-`.
 
 use crate::end::{Failure, tell_place};
+use crate::progress::{Paced, Voice};
 use crate::recalled::{Kept, Recalled, Script};
 use crate::watched::Watched;
 use lpt_capture::Captured;
@@ -26,6 +27,21 @@ pub enum Input {
     Standard(StdinLock<'static>),
 }
 
+impl Input {
+    // How many octets it has, where that is known.
+    fn size(&self) -> Option<u64> {
+        let Input::File(file) = self else {
+            return None;
+        };
+        let data = file.metadata().ok()?;
+        if data.is_file() {
+            Some(data.len())
+        } else {
+            None
+        }
+    }
+}
+
 impl Read for Input {
     fn read(&mut self, buf: &mut [u8]) -> io::Result<usize> {
         match self {
@@ -36,7 +52,7 @@ impl Read for Input {
 }
 
 /// Octets as they come from a file or standard input, which keeps why it failed.
-pub type Incoming = FromStd<Watched<Input>>;
+pub type Incoming = FromStd<Watched<Paced<Input>>>;
 
 /// Octets of packets as they come, of files one behind the other, from one place up to another: of
 /// each file the records of a capture, or what is none as it is.
@@ -46,7 +62,17 @@ pub type Packets = Span<Chain<Captured<Incoming>>>;
 ///
 /// Errors: `Read` where it can't be opened.
 pub fn opened(rt: &HostRuntime, path: &str) -> Result<Incoming, Failure> {
-    Ok(FromStd::new(Watched::new(input_at(rt, path)?)))
+    let input = Paced::new(input_at(rt, path)?, None);
+    Ok(FromStd::new(Watched::new(input)))
+}
+
+/// The same of a long reading: this voice tells how far it is.
+///
+/// Errors: `Read` where it can't be opened.
+pub fn opened_long(rt: &HostRuntime, path: &str, voice: Voice) -> Result<Incoming, Failure> {
+    let input = input_at(rt, path)?;
+    let pace = voice.pace(rt, input.size());
+    Ok(FromStd::new(Watched::new(Paced::new(input, pace))))
 }
 
 /// The same of a script, of which so much is kept.
@@ -72,17 +98,18 @@ fn input_at(rt: &HostRuntime, path: &str) -> Result<Input, Failure> {
 }
 
 /// The octets of packets in the files at these paths, `-` for standard input, from a place up to
-/// another. All are opened before any is read.
+/// another. All are opened before any is read. The voice tells how far the reading is.
 ///
 /// Errors: `Read` where one can't be opened; `Memory`.
 pub fn opened_packets(
     rt: &HostRuntime,
+    voice: Voice,
     paths: &[&str],
     from: Option<u64>,
     to: Option<u64>,
 ) -> Result<Packets, Failure> {
     let mut sources = Vec::new(rt.alloc());
-    match open_each(rt, paths, &mut sources) {
+    match open_each(rt, voice, paths, &mut sources) {
         Ok(()) => {
             let before = from.unwrap_or(0);
             let left = to.map(|to| to.saturating_sub(before));
@@ -98,11 +125,12 @@ pub fn opened_packets(
 // Opens the files at these paths.
 fn open_each(
     rt: &HostRuntime,
+    voice: Voice,
     paths: &[&str],
     sources: &mut Vec<Captured<Incoming>>,
 ) -> Result<(), Failure> {
     for path in paths {
-        let source = Captured::new(opened(rt, path)?);
+        let source = Captured::new(opened_long(rt, path, voice)?);
         if sources.push(source).is_err() {
             return Err(Failure::from(ToolFault::Memory));
         }
@@ -151,15 +179,20 @@ pub fn read_failure(rt: &HostRuntime, source: &Incoming, path: &str) -> Failure 
 }
 
 /// Why the packets that are read at these paths failed, where a read did. Else standard error is
-/// told which captures end within a record: what stands in front of that was read.
+/// told which captures end within a record, where the voice tells that: what stands in front of it
+/// was read.
 pub fn packets_end(
     rt: &HostRuntime,
+    voice: Voice,
     packets: &Packets,
     paths: &[&str],
     failed: bool,
 ) -> Option<Failure> {
     if failed {
         return Some(packets_failure(rt, packets, paths));
+    }
+    if !voice.tells() {
+        return None;
     }
     for (captured, path) in packets.source().sources().iter().zip(paths) {
         if let Some(fault) = captured.fault() {

@@ -4,6 +4,7 @@ ghost use Rattle.lpt_events.specs.Configs.{IsConfig};
 
 use crate::end::{Failure, Status, tell_place};
 use crate::input::{Packets, opened_packets, packets_end};
+use crate::progress::Voice;
 use crate::streams::{Output, finish, first_failure, output};
 use lpt_command_line::JoinWords;
 use lpt_events::{Config, name_word};
@@ -11,7 +12,7 @@ use lpt_join::{
     Gatherings, JoinEnd, JoinReport, Joining, Misfit, PartNumbers, Transaction, check_message,
     join_message, join_only, missing_list,
 };
-use lpt_packet::Name;
+use lpt_packet::{Direction, Name};
 use lpt_skips::{Reading, Skips};
 use lpt_text::StreamFault;
 use lpt_tool::ToolFault;
@@ -30,11 +31,17 @@ enum Joined {
 ///
 /// Errors: `Read` where the packets can't be opened or read, or their capture is wrong; `Write`,
 /// `Memory`.
-pub fn join(rt: &HostRuntime, config: &Config, words: &JoinWords<'_>) -> Result<Status, Failure>
+pub fn join(
+    rt: &HostRuntime,
+    voice: Voice,
+    config: &Config,
+    words: &JoinWords<'_>,
+) -> Result<Status, Failure>
     requires { IsConfig config.now }
 {
-    let mut source = opened_packets(rt, &words.files, words.span.from, words.span.to)?;
-    let status = join_from(rt, config, words, &mut source);
+    let span = words.span;
+    let mut source = opened_packets(rt, voice, &words.files, span.from, span.to)?;
+    let status = join_from(rt, voice, config, words, &mut source);
     drop(source);
     status
 }
@@ -42,6 +49,7 @@ pub fn join(rt: &HostRuntime, config: &Config, words: &JoinWords<'_>) -> Result<
 // The same of packets that were opened.
 fn join_from(
     rt: &HostRuntime,
+    voice: Voice,
     config: &Config,
     words: &JoinWords<'_>,
     source: &mut Packets,
@@ -51,7 +59,7 @@ fn join_from(
     let mut out = output(rt)?;
     let joined = join_packets(rt.alloc(), config, words, source, &mut out);
     let failed = matches!(joined, Err(StreamFault::Read));
-    let failure = packets_end(rt, source, &words.files, failed);
+    let failure = packets_end(rt, voice, source, &words.files, failed);
     let finished = first_failure(finish(rt, out), failure);
     let status = status_of(rt, config, words, finished, &joined);
     drop(joined);
@@ -191,7 +199,7 @@ fn tell_each(
         if let JoinEnd::Written(_) = end {
             let id = name_word(config.source, *name);
             let text = format!(in rt.alloc(); "whole, --id {id} writes it");
-            tell_of(rt, config, words, *name, text)?;
+            tell_of(rt, config, words.direction, *name, text)?;
         }
         let came = &gathering.came;
         tell_end(rt, config, words, *name, end, came, gathering.against)?;
@@ -233,8 +241,15 @@ fn tell_end(
         JoinEnd::Written(_) if words.first => return Ok(Status::Done),
         JoinEnd::Written(_) if against.is_none() => return Ok(Status::Done),
         JoinEnd::Written(_) | JoinEnd::BrokenOff => {}
-        JoinEnd::Unfit(misfit) => tell_unfit(rt, config, words, name, misfit)?,
-        JoinEnd::Missing => tell_missing(rt, config, words, name, came)?,
+        JoinEnd::Unfit(misfit) => tell_unfit(rt, config, words.direction, name, misfit)?,
+        JoinEnd::Missing => tell_missing(
+            rt,
+            config,
+            words.direction,
+            words.each.is_some(),
+            name,
+            came,
+        )?,
     }
     if let Some(behind) = against {
         let place = behind.saturating_add(words.span.from.unwrap_or(0));
@@ -242,7 +257,7 @@ fn tell_end(
             JoinEnd::BrokenOff => contradicting(rt.alloc(), place),
             _ => foreign(rt.alloc(), place),
         };
-        tell_of(rt, config, words, name, text)?;
+        tell_of(rt, config, words.direction, name, text)?;
     }
     Ok(Status::Refused)
 }
@@ -262,7 +277,7 @@ fn foreign(alloc: Global, place: u64) -> Result<String, AllocError> {
 pub fn tell_unfit(
     rt: &HostRuntime,
     config: &Config,
-    words: &JoinWords<'_>,
+    direction: Direction,
     name: Name,
     misfit: Misfit,
 ) -> Result<(), AllocError> {
@@ -275,7 +290,7 @@ pub fn tell_unfit(
         }
         Misfit::OtherKind => format!(in rt.alloc(); "{joined} of its direction"),
     };
-    tell_of(rt, config, words, name, text)
+    tell_of(rt, config, direction, name, text)
 }
 
 /// Says on standard error which parts are missing, as a list for `split`, or for `split --each`
@@ -283,31 +298,31 @@ pub fn tell_unfit(
 pub fn tell_missing(
     rt: &HostRuntime,
     config: &Config,
-    words: &JoinWords<'_>,
+    direction: Direction,
+    each: bool,
     name: Name,
     came: &PartNumbers,
 ) -> Result<(), AllocError> {
     let list = missing_list(rt.alloc(), came)?;
-    let text = match words.each {
-        Some(_) => {
-            let id = name.id;
-            format!(in rt.alloc(); "missing parts: {id}:{list}")
-        }
-        None => format!(in rt.alloc(); "missing parts: {list}"),
+    let text = if each {
+        let id = name.id;
+        format!(in rt.alloc(); "missing parts: {id}:{list}")
+    } else {
+        format!(in rt.alloc(); "missing parts: {list}")
     };
-    tell_of(rt, config, words, name, text)
+    tell_of(rt, config, direction, name, text)
 }
 
 // Says this of a transaction on standard error, where there was memory for it.
 fn tell_of(
     rt: &HostRuntime,
     config: &Config,
-    words: &JoinWords<'_>,
+    direction: Direction,
     name: Name,
     text: Result<String, AllocError>,
 ) -> Result<(), AllocError> {
     let text = text?;
-    let direction = words.direction.word();
+    let direction = direction.word();
     let id = name_word(config.source, name);
     tell(rt, format!(in rt.alloc(); "{direction} {id}: {text}"))
 }

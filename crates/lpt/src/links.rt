@@ -2,6 +2,7 @@
 
 use crate::end::{Failure, Status, tell_place};
 use crate::input::{Packets, opened_packets, packets_end};
+use crate::progress::Voice;
 use crate::streams::{finish, first_failure, output};
 use lpt_command_line::LinkWords;
 use lpt_lossy::{Counts, Dice, LossyEnd, Odds, lossy_stream};
@@ -11,9 +12,10 @@ use lpt_text::StreamFault;
 ///
 /// Errors: `Read` where the packets can't be opened or read, or their capture is wrong; `Write`,
 /// `Memory`.
-pub fn link(rt: &HostRuntime, words: &LinkWords<'_>) -> Result<Status, Failure> {
-    let mut source = opened_packets(rt, &words.files, None, None)?;
-    let status = carry_packets(rt, words, &mut source);
+pub fn link(rt: &HostRuntime, voice: Voice, words: &LinkWords<'_>) -> Result<Status, Failure> {
+    let voice = voice.beside_output(rt);
+    let mut source = opened_packets(rt, voice, &words.files, None, None)?;
+    let status = carry_packets(rt, voice, words, &mut source);
     drop(source);
     status
 }
@@ -21,6 +23,7 @@ pub fn link(rt: &HostRuntime, words: &LinkWords<'_>) -> Result<Status, Failure> 
 // The same of packets that were opened.
 fn carry_packets(
     rt: &HostRuntime,
+    voice: Voice,
     words: &LinkWords<'_>,
     source: &mut Packets,
 ) -> Result<Status, Failure> {
@@ -35,18 +38,20 @@ fn carry_packets(
     let carried = lossy_stream(rt.alloc(), words.delay, &mut dice, source, &mut out);
     drop(dice);
     let failed = matches!(carried, Err(StreamFault::Read));
-    let failure = packets_end(rt, source, &words.files, failed);
+    let failure = packets_end(rt, voice, source, &words.files, failed);
     first_failure(finish(rt, out), failure)?;
     match carried {
-        Ok(end) => Ok(link_status(rt, end)),
+        Ok(end) => Ok(link_status(rt, voice, end)),
         Err(fault) => Err(Failure::from(fault)),
     }
 }
 
 // The status of a run that ended so, once it was told how many packets were lost and so on, and where
 // no packet is.
-fn link_status(rt: &HostRuntime, end: LossyEnd) -> Status {
-    tell_counts(rt, &end.counts);
+fn link_status(rt: &HostRuntime, voice: Voice, end: LossyEnd) -> Status {
+    if voice.tells() {
+        tell_counts(rt, &end.counts);
+    }
     match end.stray {
         None => Status::Done,
         Some(place) => {

@@ -4,6 +4,7 @@ ghost use Rattle.lpt_events.specs.Configs.{IsConfig};
 
 use crate::end::{Failure, Status, tell_place};
 use crate::input::{Packets, opened_packets, packets_end};
+use crate::progress::Voice;
 use crate::streams::{finish, first_failure, output};
 use lpt_command_line::ListWords;
 use lpt_events::Config;
@@ -14,11 +15,18 @@ use lpt_text::StreamFault;
 ///
 /// Errors: `Read` where the packets can't be opened or read, or their capture is wrong; `Write`,
 /// `Memory`.
-pub fn list(rt: &HostRuntime, config: &Config, words: &ListWords<'_>) -> Result<Status, Failure>
+pub fn list(
+    rt: &HostRuntime,
+    voice: Voice,
+    config: &Config,
+    words: &ListWords<'_>,
+) -> Result<Status, Failure>
     requires { IsConfig config.now }
 {
-    let mut source = opened_packets(rt, &words.files, words.span.from, words.span.to)?;
-    let status = list_packets(rt, config, words, &mut source);
+    let voice = voice.beside_output(rt);
+    let span = words.span;
+    let mut source = opened_packets(rt, voice, &words.files, span.from, span.to)?;
+    let status = list_packets(rt, voice, config, words, &mut source);
     drop(source);
     status
 }
@@ -26,6 +34,7 @@ pub fn list(rt: &HostRuntime, config: &Config, words: &ListWords<'_>) -> Result<
 // The same of packets that were opened.
 fn list_packets(
     rt: &HostRuntime,
+    voice: Voice,
     config: &Config,
     words: &ListWords<'_>,
     source: &mut Packets,
@@ -38,19 +47,21 @@ fn list_packets(
     let mut out = output(rt)?;
     let listed = list_stream(rt.alloc(), form, size, strict, from, source, &mut out);
     let failed = matches!(listed, Err(StreamFault::Read));
-    let failure = packets_end(rt, source, &words.files, failed);
+    let failure = packets_end(rt, voice, source, &words.files, failed);
     first_failure(finish(rt, out), failure)?;
     match listed {
-        Ok(listed) => Ok(list_status(rt, listed)),
+        Ok(listed) => Ok(list_status(rt, voice, listed)),
         Err(fault) => Err(Failure::from(fault)),
     }
 }
 
 // The status of a list that ended so, after it was told where no packet is, or how much is none.
-fn list_status(rt: &HostRuntime, listed: Listed) -> Status {
+fn list_status(rt: &HostRuntime, voice: Voice, listed: Listed) -> Status {
     match listed.end {
         ListEnd::Whole => {
-            tell_tally(rt, listed.tally);
+            if voice.tells() {
+                tell_tally(rt, listed.tally);
+            }
             Status::Done
         }
         ListEnd::Stopped(place) => {

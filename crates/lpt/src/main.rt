@@ -9,6 +9,8 @@
 ghost use Rattle.lpt_events.specs.Configs.{IsConfig};
 
 mod charting;
+mod checksums;
+mod compares;
 mod configuration;
 mod counts;
 mod decoding;
@@ -16,12 +18,19 @@ mod eaches;
 mod end;
 mod extracts;
 mod files;
+mod glancing;
 mod input;
 mod joins;
 mod keeping;
+mod layout_joins;
+mod layout_lists;
+mod layout_splits;
+mod layouts;
 mod links;
 mod linting;
 mod lists;
+mod logging;
+mod progress;
 mod recalled;
 mod requests;
 mod saving;
@@ -36,9 +45,10 @@ mod work;
 use configuration::alone;
 use end::{Failure, Status};
 use input::STANDARD;
-use lpt_command_line::{Command, CommandLine, JoinWords, read_words};
+use lpt_command_line::{Command, CommandLine, JoinWords, ListWords, read_words};
 use lpt_events::Config;
 use lpt_tool::ToolFault;
+use progress::Voice;
 use std::process::ExitCode;
 use std::sync::Wait;
 use std::thread::Threads;
@@ -76,7 +86,14 @@ fn given_words(rt: &HostRuntime) -> Result<Vec<String>, Status> {
 // Does what the words ask for.
 fn serve<T: Threads + Wait + Sync>(rt: &HostRuntime, threads: &T, words: &[String]) -> Status {
     match read_words(rt.alloc(), words) {
-        Ok(asked) => end::told(rt, done(rt, threads, &asked)),
+        Ok(asked) => {
+            let voice = Voice::new(rt, asked.quiet);
+            let ended = done(rt, threads, voice, &asked);
+            if ended.is_err() {
+                voice.clear(rt);
+            }
+            end::told(rt, ended)
+        }
         Err(unasked) => end::explained(rt, rt.alloc(), &unasked),
     }
 }
@@ -85,6 +102,7 @@ fn serve<T: Threads + Wait + Sync>(rt: &HostRuntime, threads: &T, words: &[Strin
 fn done<T: Threads + Wait + Sync>(
     rt: &HostRuntime,
     threads: &T,
+    voice: Voice,
     asked: &CommandLine<'_>,
 ) -> Result<Status, Failure> {
     let settings = &asked.settings;
@@ -92,27 +110,57 @@ fn done<T: Threads + Wait + Sync>(
         Command::Run(script) => work::run(rt, threads, settings, RunKind::Run, script),
         Command::Threads(script) => work::run(rt, threads, settings, RunKind::Threads, script),
         Command::Shell => work::run(rt, threads, settings, RunKind::Shell, STANDARD),
+        Command::Chart(words) if words.stream => glancing::glance(
+            rt,
+            voice,
+            &alone(rt, settings)?,
+            words,
+        ),
         Command::Chart(words) => charting::chart(rt, settings, words),
         Command::Lint(script) => linting::lint(rt, script),
-        Command::Decode(hex) => decoding::decode(rt, alone(rt, settings)?, hex),
-        Command::List(words) => lists::list(rt, &alone(rt, settings)?, words),
+        Command::Decode(words) => decoding::decode(rt, alone(rt, settings)?, words),
+        Command::List(words) => listed(rt, voice, &alone(rt, settings)?, words),
         Command::Split(words) => files::split(rt, &alone(rt, settings)?, words),
         Command::SplitEach(words) => splits::split_all(rt, &alone(rt, settings)?, words),
-        Command::Join(words) => joined(rt, &alone(rt, settings)?, words),
-        Command::Link(words) => links::link(rt, words),
-        Command::Extract(words) => extracts::extract(rt, &alone(rt, settings)?, words),
+        Command::SplitLayout(words) => layout_splits::split(rt, &alone(rt, settings)?, words),
+        Command::JoinLayout(words) => layout_joins::join(rt, voice, &alone(rt, settings)?, words),
+        Command::Join(words) => joined(rt, voice, &alone(rt, settings)?, words),
+        Command::Link(words) => links::link(rt, voice, words),
+        Command::Extract(words) => extracts::extract(rt, voice, &alone(rt, settings)?, words),
         Command::Request(words) => requests::request(rt, &alone(rt, settings)?, words),
         Command::Spacecraft(words) => spacecraft::spacecraft(rt, settings, words),
-        Command::Verify(words) => verifies::verify(rt, words),
+        Command::Verify(words) => verifies::verify(rt, voice, words),
+        Command::Compare(words) => compares::compare(rt, voice, &alone(rt, settings)?, words),
+        Command::Checksum(words) => checksums::checksum(rt, words),
+    }
+}
+
+// Lists packets by the profile, or by the layouts that are given.
+fn listed(
+    rt: &HostRuntime,
+    voice: Voice,
+    config: &Config,
+    words: &ListWords<'_>,
+) -> Result<Status, Failure>
+    requires { IsConfig config.now }
+{
+    match words.layout {
+        Some(path) => layout_lists::list(rt, voice, path, words),
+        None => lists::list(rt, voice, config, words),
     }
 }
 
 // Joins one message, or each into a folder.
-fn joined(rt: &HostRuntime, config: &Config, words: &JoinWords<'_>) -> Result<Status, Failure>
+fn joined(
+    rt: &HostRuntime,
+    voice: Voice,
+    config: &Config,
+    words: &JoinWords<'_>,
+) -> Result<Status, Failure>
     requires { IsConfig config.now }
 {
     match words.each {
-        Some(folder) => eaches::join_each(rt, config, words, folder),
-        None => joins::join(rt, config, words),
+        Some(folder) => eaches::join_each(rt, voice, config, words, folder),
+        None => joins::join(rt, voice, config, words),
     }
 }

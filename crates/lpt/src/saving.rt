@@ -44,11 +44,13 @@ fn given_up(rt: &HostRuntime, part: &str, path: &str, error: &io::Error) -> Fail
     Failure::at(ToolFault::Write, place)
 }
 
+// Writes the octets under the other name, which then becomes the file's.
 fn written(rt: &HostRuntime, part: &str, path: &str, octets: &[u8]) -> io::Result<()> {
     fs::write(rt, part, octets)?;
     fs::rename(rt, part, path)
 }
 
+// The same, and waits until the octets, and then the name, are on the disk.
 fn forced(rt: &HostRuntime, part: &str, path: &str, octets: &[u8]) -> io::Result<()> {
     let mut file = File::create(rt, part)?;
     let put = put_all(&mut file, octets);
@@ -61,6 +63,7 @@ fn forced(rt: &HostRuntime, part: &str, path: &str, octets: &[u8]) -> io::Result
     put
 }
 
+// Writes all octets, and waits until they are on the disk.
 fn put_all(file: &mut File, octets: &[u8]) -> io::Result<()> {
     file.write_all(octets)?;
     file.sync_all()

@@ -9,13 +9,14 @@ use crate::configuration::read;
 use crate::end::{Failure, Status, tell_place};
 use crate::input::{STANDARD, octets_from, opened, read_failure};
 use crate::keeping::StateFile;
+use crate::logging::Log;
 use crate::saving::write_beside;
 use crate::streams::{finish, first_failure, output};
 use lpt_command_line::{SettingWords, SpacecraftWords};
 use lpt_events::Config;
 use lpt_memory::Memories;
 use lpt_packet::Octets;
-use lpt_spacecraft::{Keeper, Spacecraft, Stop, Unkept, serve_stream};
+use lpt_spacecraft::{Keeper, Pace, Spacecraft, Stop, Unkept, serve_stream};
 use lpt_text::StreamFault;
 use lpt_tool::ToolFault;
 use std::fs;
@@ -119,13 +120,13 @@ fn serve_kept(
     requires { IsIdle craft.old }
 {
     let Some(path) = words.state else {
-        return serve_input(rt, craft, words.tick_every, &mut Unkept);
+        return serve_input(rt, craft, words, &mut Unkept);
     };
     let mut keeper = StateFile::new(rt, path);
     if !keeper.keep(craft) {
         return Err(keeper.into_failure());
     }
-    let ended = serve_input(rt, craft, words.tick_every, &mut keeper);
+    let ended = serve_input(rt, craft, words, &mut keeper);
     if keeper.has_failed() {
         drop(ended);
         return Err(keeper.into_failure());
@@ -138,7 +139,7 @@ fn serve_kept(
 fn serve_input<H: Keeper>(
     rt: &HostRuntime,
     craft: &mut Spacecraft,
-    every: u64,
+    words: &SpacecraftWords<'_>,
     keeper: &mut H,
 ) -> Result<Status, Failure>
     requires idle { IsIdle craft.old }
@@ -146,7 +147,12 @@ fn serve_input<H: Keeper>(
 {
     let mut source = opened(rt, STANDARD)?;
     let mut out = output(rt)?;
-    let ended = serve_stream(craft, every, &mut source, keeper, &mut out);
+    let pace = Pace {
+        every: words.tick_every,
+        reuse: words.reuse,
+    };
+    let mut log = Log::new(rt, craft.source(), words.log);
+    let ended = serve_stream(craft, pace, &mut source, keeper, &mut log, &mut out);
     let failure = match ended {
         Err(StreamFault::Read) => Some(read_failure(rt, &source, STANDARD)),
         _ => None,

@@ -2,6 +2,7 @@
 
 use crate::end::{Failure, Status};
 use crate::input::{opened_packets, packets_end};
+use crate::progress::Voice;
 use crate::streams::{finish, output};
 use lpt_command_line::VerifyWords;
 use lpt_list::Form;
@@ -12,28 +13,33 @@ use lpt_text::StreamFault;
 ///
 /// Errors: `Read` where requests or reports can't be opened or read, or their capture is wrong;
 /// `Write`, `Memory`.
-pub fn verify(rt: &HostRuntime, words: &VerifyWords<'_>) -> Result<Status, Failure> {
-    let requests = requests_at(rt, words.requests)?;
-    let requests = reported(rt, requests, &words.reports)?;
+pub fn verify(rt: &HostRuntime, voice: Voice, words: &VerifyWords<'_>) -> Result<Status, Failure> {
+    let requests = requests_at(rt, voice, words.requests)?;
+    let requests = reported(rt, voice, requests, &words.reports)?;
     let status = told(rt, &requests, words.json);
     drop(requests);
     status
 }
 
 // The requests of the packets at this path.
-fn requests_at(rt: &HostRuntime, path: &str) -> Result<Vec<Asked>, Failure> {
+fn requests_at(rt: &HostRuntime, voice: Voice, path: &str) -> Result<Vec<Asked>, Failure> {
     let paths = [path];
-    let mut source = opened_packets(rt, &paths, None, None)?;
+    let mut source = opened_packets(rt, voice, &paths, None, None)?;
     let read = read_requests(rt.alloc(), &mut source);
     let failed = matches!(read, Err(StreamFault::Read));
-    let failure = packets_end(rt, &source, &paths, failed);
+    let failure = packets_end(rt, voice, &source, &paths, failed);
     drop(source);
     read_or(read, failure)
 }
 
 // These requests, once the reports of the packets at these paths have come.
-fn reported(rt: &HostRuntime, requests: Vec<Asked>, paths: &[&str]) -> Result<Vec<Asked>, Failure> {
-    let mut source = match opened_packets(rt, paths, None, None) {
+fn reported(
+    rt: &HostRuntime,
+    voice: Voice,
+    requests: Vec<Asked>,
+    paths: &[&str],
+) -> Result<Vec<Asked>, Failure> {
+    let mut source = match opened_packets(rt, voice, paths, None, None) {
         Ok(source) => source,
         Err(failure) => {
             drop(requests);
@@ -42,7 +48,7 @@ fn reported(rt: &HostRuntime, requests: Vec<Asked>, paths: &[&str]) -> Result<Ve
     };
     let read = read_reports(rt.alloc(), requests, &mut source);
     let failed = matches!(read, Err(StreamFault::Read));
-    let failure = packets_end(rt, &source, paths, failed);
+    let failure = packets_end(rt, voice, &source, paths, failed);
     drop(source);
     read_or(read, failure)
 }

@@ -1,6 +1,6 @@
-//! The commands that write requests to a memory, and the one that says what became of them.
+//! The commands that write requests to a memory, and those that say what became of them.
 
-use crate::commands::{COUNT, JSON, TEXT, U8};
+use crate::commands::{COUNT, JSON, QUIET, TEXT, U8};
 use crate::row::{Family, Named, Need, Row, Word};
 use clap::ArgAction;
 use clap::builder::ValueParser;
@@ -10,6 +10,20 @@ const MEMORY: Word = Word {
     value: U8,
     need: Need::One,
     help: "The memory's identifier, 0 to 255",
+};
+
+const ADDRESS: Word = Word {
+    name: "ADDRESS",
+    value: TEXT,
+    need: Need::One,
+    help: "The address of the first octet, as 16384 or 0x4000",
+};
+
+const REPORTS: Word = Word {
+    name: "REPORTS",
+    value: TEXT,
+    need: Need::Any(&["-"]),
+    help: "The reports' paths, or - for standard input",
 };
 
 const PLACES: Word = Word {
@@ -48,16 +62,64 @@ pub(crate) const VERIFY: Row = Row {
             need: Need::One,
             help: "The requests' path, or - for standard input",
         },
-        Word {
-            name: "REPORTS",
-            value: TEXT,
-            need: Need::Any(&["-"]),
-            help: "The reports' paths, or - for standard input",
-        },
+        REPORTS,
     ],
-    named: &[JSON],
+    named: &[JSON, QUIET],
     configured: false,
 };
+
+/// `compare`.
+const COMPARE: Row = Row {
+    name: "compare",
+    about: "Compare a file with what check reports say of a memory",
+    words: &[
+        MEMORY,
+        ADDRESS,
+        Word {
+            name: "FILE",
+            value: TEXT,
+            need: Need::One,
+            help: "The path of what should stand there, or - for standard input",
+        },
+        REPORTS,
+    ],
+    named: &[QUIET],
+    configured: true,
+};
+
+/// `checksum`.
+const CHECKSUM: Row = Row {
+    name: "checksum",
+    about: "Print the checksum that a check report has of octets",
+    words: &[Word {
+        name: "FILE",
+        value: TEXT,
+        need: Need::Else(&["-"]),
+        help: "The octets' path, or - for standard input",
+    }],
+    named: &[
+        Named {
+            name: "from",
+            value: TEXT,
+            behind: &["PLACE"],
+            action: ArgAction::Set,
+            other: &["0"],
+            help: "The place of the first octet, 0 without it",
+        },
+        Named {
+            name: "length",
+            value: TEXT,
+            behind: &["N"],
+            action: ArgAction::Set,
+            other: &[],
+            help: "How many octets, all behind that place without it",
+        },
+    ],
+    configured: false,
+};
+
+/// The commands that compare files with reports.
+pub(crate) static COMPARISONS: [Row; 2] = [COMPARE, CHECKSUM];
 
 /// The commands with others below them.
 pub(crate) static FAMILIES: [Family; 1] = [Family {
@@ -69,12 +131,7 @@ pub(crate) static FAMILIES: [Family; 1] = [Family {
             about: "Load octets into a memory",
             words: &[
                 MEMORY,
-                Word {
-                    name: "ADDRESS",
-                    value: TEXT,
-                    need: Need::One,
-                    help: "The address of the first octet, as 16384 or 0x4000",
-                },
+                ADDRESS,
                 Word {
                     name: "FILE",
                     value: TEXT,

@@ -1,6 +1,6 @@
 //! The program as clap reads it, from the rows of its commands.
 
-use crate::asking::FAMILIES;
+use crate::asking::{COMPARISONS, FAMILIES};
 use crate::commands::COMMANDS;
 use crate::row::{Family, Named, Row, Word};
 use crate::setting_words::SETTINGS;
@@ -24,6 +24,7 @@ Examples:
   lpt join up --id 7 packets            write the message that they carry
   lpt link --lose 5% packets            lose one in twenty of these packets
   lpt extract dumps                     write the octets of these dump reports
+  lpt compare 1 0 image checks          compare this file with these check reports
 
 Statuses:
   0  all was done
@@ -49,10 +50,17 @@ pub(crate) fn program<'a>(alloc: Global) -> Result<Command<'a>, AllocError> {
 // The commands of the program.
 fn all_commands<'a>(alloc: Global) -> Result<Vec<Command<'a>>, AllocError> {
     let mut commands = commands_of(alloc, &COMMANDS)?;
+    add_commands(alloc, &mut commands, &COMPARISONS)?;
+    add_families(alloc, &mut commands)?;
+    Ok(commands)
+}
+
+// Adds those that have others below them.
+fn add_families<'a>(alloc: Global, commands: &mut Vec<Command<'a>>) -> Result<(), AllocError> {
     for family in &FAMILIES {
         commands.push(family_of(alloc, family)?)?;
     }
-    Ok(commands)
+    Ok(())
 }
 
 // A command with those below it.
@@ -68,10 +76,20 @@ fn family_of<'a>(alloc: Global, family: &'a Family) -> Result<Command<'a>, Alloc
 // The commands of these rows.
 fn commands_of<'a>(alloc: Global, rows: &'a [Row]) -> Result<Vec<Command<'a>>, AllocError> {
     let mut commands = Vec::new(alloc);
+    add_commands(alloc, &mut commands, rows)?;
+    Ok(commands)
+}
+
+// Adds the commands of these rows.
+fn add_commands<'a>(
+    alloc: Global,
+    commands: &mut Vec<Command<'a>>,
+    rows: &'a [Row],
+) -> Result<(), AllocError> {
     for row in rows {
         commands.push(command_of(alloc, row)?)?;
     }
-    Ok(commands)
+    Ok(())
 }
 
 // A command with its words.

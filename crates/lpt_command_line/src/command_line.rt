@@ -1,15 +1,20 @@
 //! What the words of the command line ask for.
 
 use crate::building::program;
+use crate::compare_words::{ChecksumWords, CompareWords, checksum_words, compare_words};
 use crate::extract_words::{ExtractWords, extract_words};
 use crate::file_words::{
     JoinWords, ListWords, SplitWords, check_order, join_words, list_words, split_words,
 };
+use crate::layout_words::{DecodeWords, decode_words};
 use crate::link_words::{LinkWords, link_words};
 use crate::request_words::{RequestWords, request_words};
 use crate::setting_words::{SettingWords, setting_words};
 use crate::spacecraft_words::{SpacecraftWords, spacecraft_words};
 use crate::split_words::{SplitEachWords, split_each_words};
+use crate::tailored_words::{
+    JoinLayoutWords, SplitLayoutWords, join_layout_words, split_layout_words,
+};
 use crate::verify_words::{VerifyWords, verify_words};
 use crate::word_fault::WordFault;
 use clap::{ArgMatches, Error};
@@ -22,6 +27,8 @@ pub struct CommandLine<'a> {
     pub command: Command<'a>,
     /// What is given of the configuration.
     pub settings: SettingWords<'a>,
+    /// Whether standard error is told nothing but what is wrong.
+    pub quiet: bool,
 }
 
 /// A command of the program.
@@ -37,16 +44,20 @@ pub enum Command<'a> {
     Lint(&'a str),
     /// `chart SCRIPT`.
     Chart(ChartWords<'a>),
-    /// `decode HEX`: octets as hexadecimal digits.
-    Decode(&'a str),
+    /// `decode HEX`.
+    Decode(DecodeWords<'a>),
     /// `list [FILE]..`.
     List(ListWords<'a>),
     /// `split up|down ID [FILE]`.
     Split(SplitWords<'a>),
     /// `split up|down ID [FILE] --each`.
     SplitEach(SplitEachWords<'a>),
+    /// `split up|down ID [FILE] --layout FILE`.
+    SplitLayout(SplitLayoutWords<'a>),
     /// `join up|down [FILE]..`.
     Join(JoinWords<'a>),
+    /// `join up|down [FILE].. --layout FILE`.
+    JoinLayout(JoinLayoutWords<'a>),
     /// `link [FILE]..`.
     Link(LinkWords<'a>),
     /// `extract [FILE]..`.
@@ -57,16 +68,23 @@ pub enum Command<'a> {
     Spacecraft(SpacecraftWords<'a>),
     /// `verify REQUESTS [REPORTS]..`.
     Verify(VerifyWords<'a>),
+    /// `compare MEMORY ADDRESS FILE [REPORTS]..`.
+    Compare(CompareWords<'a>),
+    /// `checksum [FILE]`.
+    Checksum(ChecksumWords<'a>),
 }
 
 /// What `chart` asks for.
 #[derive(Clone, Copy)]
 pub struct ChartWords<'a> {
-    /// The script's path, or `-` for standard input.
+    /// The path of the script or of the packets, or `-` for standard input.
     pub script: &'a str,
-    /// The first place of the journal that is drawn, where one is given.
+    /// Whether packets stand there.
+    pub stream: bool,
+    /// The first place of the journal that is drawn, or of the octets, where one is given.
     pub from: Option<u64>,
-    /// The last place of the journal that is drawn, where one is given.
+    /// The last place of the journal that is drawn, or the first of the octets that isn't, where
+    /// one is given.
     pub to: Option<u64>,
     /// Whether the lines that were refused are drawn.
     pub refused: bool,
@@ -112,6 +130,7 @@ fn asked_by<'a>(alloc: Global, matches: ArgMatches<'a>) -> Result<CommandLine<'a
 
 fn meant<'a>(alloc: Global, matches: &ArgMatches<'a>) -> Result<CommandLine<'a>, WordFault<'a>> {
     let (name, inner) = matches.subcommand().ok_or(WordFault::Missing)?;
+    let quiet = inner.get_flag("quiet");
     let (settings, command) = match inner.subcommand() {
         None => (setting_words(inner), command_of(alloc, name, inner)?),
         Some((name, inner)) => {
@@ -120,7 +139,11 @@ fn meant<'a>(alloc: Global, matches: &ArgMatches<'a>) -> Result<CommandLine<'a>,
         }
     };
     let command = command.ok_or(WordFault::Missing)?;
-    Ok(CommandLine { command, settings })
+    Ok(CommandLine {
+        command,
+        settings,
+        quiet,
+    })
 }
 
 // What the words of a command of this name ask for, where none that is required is missing.
@@ -136,6 +159,12 @@ fn command_of<'a>(
         "lint" => words.get_str("SCRIPT").map(Command::Lint),
         "chart" => Some(Command::Chart(chart_words(words)?)),
         "list" => Some(Command::List(list_words(alloc, words)?)),
+        "split" if words.get_str("layout").is_some() => {
+            Some(Command::SplitLayout(split_layout_words(words)?))
+        }
+        "join" if words.get_str("layout").is_some() => {
+            Some(Command::JoinLayout(join_layout_words(alloc, words)?))
+        }
         "split" if words.get_flag("each") => {
             Some(Command::SplitEach(split_each_words(alloc, words)?))
         }
@@ -144,21 +173,27 @@ fn command_of<'a>(
         "link" => Some(Command::Link(link_words(alloc, words)?)),
         "extract" => Some(Command::Extract(extract_words(alloc, words)?)),
         "verify" => Some(Command::Verify(verify_words(alloc, words)?)),
+        "compare" => Some(Command::Compare(compare_words(alloc, words)?)),
+        "checksum" => Some(Command::Checksum(checksum_words(words)?)),
         "spacecraft" => Some(Command::Spacecraft(spacecraft_words(alloc, words)?)),
-        _ => words.get_str("HEX").map(Command::Decode),
+        _ => Some(Command::Decode(decode_words(words)?)),
     })
 }
 
 // What the words of `chart` ask for.
 //
-// Errors: `Missing`, `Order`.
+// Errors: `Missing`, `Beside`, `Order`.
 fn chart_words<'a>(words: &ArgMatches<'a>) -> Result<ChartWords<'a>, WordFault<'a>> {
     let chart = ChartWords {
         script: words.get_str("SCRIPT").ok_or(WordFault::Missing)?,
+        stream: words.get_flag("stream"),
         from: words.get_one("from"),
         to: words.get_one("to"),
         refused: words.get_flag("refused"),
     };
+    if chart.stream && chart.refused {
+        return Err(WordFault::Beside("--stream", "--refused"));
+    }
     check_order(chart.from, chart.to)?;
     Ok(chart)
 }

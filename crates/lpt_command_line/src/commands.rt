@@ -1,6 +1,7 @@
 //! The commands, and the words of each.
 
 use crate::asking::VERIFY;
+use crate::layout_words::LAYOUT;
 use crate::passes::{LINK, SPACECRAFT};
 use crate::row::{Named, Need, Row, Word};
 use clap::ArgAction;
@@ -11,6 +12,8 @@ pub(crate) const TEXT: ValueParser<'static> = ValueParser::String;
 pub(crate) const U8: ValueParser<'static> = ValueParser::Signed(0, 255);
 
 pub(crate) const U64: ValueParser<'static> = ValueParser::Unsigned(0, u64::MAX);
+
+pub(crate) const U32: ValueParser<'static> = ValueParser::Unsigned(0, u32::MAX as u64);
 
 const SCRIPT: Word = Word {
     name: "SCRIPT",
@@ -26,6 +29,15 @@ pub(crate) const JSON: Named = Named {
     action: ArgAction::SetTrue,
     other: &[],
     help: "Print each line as an object of JSON",
+};
+
+pub(crate) const QUIET: Named = Named {
+    name: "quiet",
+    value: ValueParser::Bool,
+    behind: &[],
+    action: ArgAction::SetTrue,
+    other: &[],
+    help: "Say nothing on standard error but what is wrong",
 };
 
 const DIRECTION: Word = Word {
@@ -101,16 +113,27 @@ pub(crate) static COMMANDS: [Row; 13] = [
     },
     Row {
         name: "chart",
-        about: "Draw a script's run as an SVG",
-        words: &[SCRIPT],
+        about: "Draw a script's run, or a stream of packets, as an SVG",
+        words: &[Word {
+            help: "The script's path, or the packets', or - for standard input",
+            ..SCRIPT
+        }],
         named: &[
+            Named {
+                name: "stream",
+                value: ValueParser::Bool,
+                behind: &[],
+                action: ArgAction::SetTrue,
+                other: &[],
+                help: "Draw the packets at the path, a row for each transaction",
+            },
             Named {
                 name: "from",
                 value: U64,
                 behind: &["N"],
                 action: ArgAction::Set,
                 other: &[],
-                help: "The first place of the journal that is drawn",
+                help: "The first place of the journal that is drawn, or of the octets",
             },
             Named {
                 name: "to",
@@ -118,7 +141,7 @@ pub(crate) static COMMANDS: [Row; 13] = [
                 behind: &["N"],
                 action: ArgAction::Set,
                 other: &[],
-                help: "The last place of the journal that is drawn",
+                help: "The last place of the journal that is drawn, or the end of the octets",
             },
             Named {
                 name: "refused",
@@ -140,7 +163,7 @@ pub(crate) static COMMANDS: [Row; 13] = [
             need: Need::One,
             help: "Octets as hexadecimal digits, or - for standard input",
         }],
-        named: &[],
+        named: &[LAYOUT],
         configured: true,
     },
     Row {
@@ -159,6 +182,8 @@ pub(crate) static COMMANDS: [Row; 13] = [
             },
             FROM,
             TO,
+            LAYOUT,
+            QUIET,
         ],
         configured: true,
     },
@@ -214,6 +239,7 @@ pub(crate) static COMMANDS: [Row; 13] = [
                 other: &[],
                 help: "Write the packets as a capture, a pcap file",
             },
+            LAYOUT,
         ],
         configured: true,
     },
@@ -256,6 +282,8 @@ pub(crate) static COMMANDS: [Row; 13] = [
             },
             FROM,
             TO,
+            LAYOUT,
+            QUIET,
         ],
         configured: true,
     },
@@ -296,6 +324,15 @@ pub(crate) static COMMANDS: [Row; 13] = [
                 other: &[],
                 help: "Write an image only where no octet of it is wanting",
             },
+            Named {
+                name: "join",
+                value: ValueParser::Bool,
+                behind: &[],
+                action: ArgAction::SetTrue,
+                other: &[],
+                help: "Take dump reports that come in parts, too",
+            },
+            QUIET,
         ],
         configured: true,
     },

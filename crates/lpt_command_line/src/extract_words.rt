@@ -19,6 +19,8 @@ pub struct ExtractWords<'a> {
     pub fill: Option<u8>,
     /// Whether an image is written only where nothing is wanting of it.
     pub whole: bool,
+    /// Whether reports may come in parts.
+    pub join: bool,
 }
 
 /// What the words of `extract` ask for.
@@ -34,6 +36,7 @@ pub fn extract_words<'a>(
         from: from_in(matches)?,
         fill: matches.get_one("fill"),
         whole: matches.get_flag("whole"),
+        join: matches.get_flag("join"),
     })
 }
 

@@ -2,6 +2,7 @@
 
 ghost use Rattle.std.specs.Prelude.{◌≤◌, IfSome};
 
+use crate::layout_words::layout_in;
 use crate::word_fault::WordFault;
 use clap::ArgMatches;
 use lpt_packet::{Direction, Name};
@@ -86,6 +87,8 @@ pub struct ListWords<'a> {
     pub json: bool,
     /// Whether the list ends at the first place where no packet is.
     pub strict: bool,
+    /// The path of the layouts, where one is given.
+    pub layout: Option<&'a str>,
     /// Which octets of the packets are read.
     pub span: Span,
 }
@@ -107,7 +110,7 @@ pub fn split_words<'a>(matches: &ArgMatches<'a>) -> Result<SplitWords<'a>, WordF
 }
 
 // The list of parts, of which there is one.
-fn list_in<'a>(matches: &ArgMatches<'a>) -> Result<&'a str, WordFault<'a>> {
+pub(crate) fn list_in<'a>(matches: &ArgMatches<'a>) -> Result<&'a str, WordFault<'a>> {
     match matches.get_strs("parts") {
         Some([list]) => Ok(*list),
         Some([]) | None => Err(WordFault::Missing),
@@ -147,7 +150,7 @@ pub fn join_words<'a>(
 }
 
 // Which octets are read.
-fn span_in<'a>(matches: &ArgMatches<'a>) -> Result<Span, WordFault<'a>> {
+pub(crate) fn span_in<'a>(matches: &ArgMatches<'a>) -> Result<Span, WordFault<'a>> {
     let span = Span {
         from: matches.get_one("from"),
         to: matches.get_one("to"),
@@ -204,14 +207,20 @@ pub(crate) fn name_in(word: &str) -> Option<GivenName> {
 
 /// What the words of `list` ask for.
 ///
-/// Errors: `Missing`, `Order`, `Memory`.
+/// Errors: `Beside`, `Missing`, `Order`, `Memory`.
 pub fn list_words<'a>(
     alloc: Global,
     matches: &ArgMatches<'a>,
 ) -> Result<ListWords<'a>, WordFault<'a>> {
+    let strict = matches.get_flag("strict");
+    let layout = layout_in(matches);
+    if strict && layout.is_some() {
+        return Err(WordFault::Beside("--strict", "--layout <FILE>"));
+    }
     Ok(ListWords {
         json: matches.get_flag("json"),
-        strict: matches.get_flag("strict"),
+        strict,
+        layout,
         span: span_in(matches)?,
         files: files_in(alloc, matches)?,
     })

@@ -1,6 +1,6 @@
 //! The commands that play a pass: the link, and the spacecraft's end.
 
-use crate::commands::{PACKETS, TEXT, U64};
+use crate::commands::{PACKETS, QUIET, TEXT, U32, U64};
 use crate::row::{Named, Row};
 use clap::ArgAction;
 use clap::builder::ValueParser;
@@ -51,6 +51,7 @@ pub(crate) const LINK: Row = Row {
             other: &["0"],
             help: "The seed: the same one gives the same run",
         },
+        QUIET,
     ],
     configured: false,
 };
@@ -84,6 +85,22 @@ pub(crate) const SPACECRAFT: Row = Row {
             action: ArgAction::Set,
             other: &[],
             help: "Set the clock on behind each N packets; without it, or at 0, never",
+        },
+        Named {
+            name: "reuse",
+            value: U32,
+            behind: &["N"],
+            action: ArgAction::Set,
+            other: &[],
+            help: "Free a name N ticks after its use: nothing older may be on the way",
+        },
+        Named {
+            name: "log",
+            value: ValueParser::Bool,
+            behind: &[],
+            action: ArgAction::SetTrue,
+            other: &[],
+            help: "Tell on standard error what becomes of each packet and request",
         },
         Named {
             name: "state",

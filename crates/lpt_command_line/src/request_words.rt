@@ -151,12 +151,12 @@ fn place_in<'a>(pair: &[&'a str]) -> Result<(u32, u32), WordFault<'a>> {
 }
 
 // The address that a word names.
-fn address_in<'a>(word: &'a str) -> Result<u32, WordFault<'a>> {
+pub(crate) fn address_in<'a>(word: &'a str) -> Result<u32, WordFault<'a>> {
     number_in(word).ok_or(WordFault::Address(word))
 }
 
 // The number of octets that a word names.
-fn length_in<'a>(word: &'a str) -> Result<u32, WordFault<'a>> {
+pub(crate) fn length_in<'a>(word: &'a str) -> Result<u32, WordFault<'a>> {
     match number_in(word) {
         None | Some(0) => Err(WordFault::Length(word)),
         Some(len) => Ok(len),

@@ -13,6 +13,10 @@ pub struct SpacecraftWords<'a> {
     pub save: bool,
     /// Behind how many packets a tick comes, or never at 0.
     pub tick_every: u64,
+    /// How many ticks after its use a name is free again, or never at 0.
+    pub reuse: u32,
+    /// Whether all that happens is told.
+    pub log: bool,
     /// The file in which the state and the memories are kept.
     pub state: Option<&'a str>,
 }
@@ -36,6 +40,8 @@ pub fn spacecraft_words<'a>(
         memories,
         save: matches.get_flag("save"),
         tick_every: matches.get_one("tick-every").unwrap_or(0),
+        reuse: matches.get_one("reuse").unwrap_or(0),
+        log: matches.get_flag("log"),
         state: matches.get_str("state"),
     })
 }

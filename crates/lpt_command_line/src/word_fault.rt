@@ -11,6 +11,8 @@ pub enum WordFault<'a> {
     Address(&'a str),
     /// Where this stands, this one names no message.
     Id(&'static str, &'a str),
+    /// Where this stands, this one names no message of a layout.
+    WideId(&'static str, &'a str),
     /// This one is no number of octets.
     Length(&'a str),
     /// Behind this address no number of octets stands.
@@ -47,11 +49,8 @@ impl WordFault<'_> {
         match self {
             WordFault::Missing => format!(in alloc; "a word is missing"),
             WordFault::Address(word) => invalid(alloc, word, "<ADDRESS>", 0),
-            WordFault::Id(place, word) => {
-                format!(in alloc;
-                    "invalid value '{word}' for '{place}': no ID or SOURCE/ID of 0 to 65535"
-                )
-            }
+            WordFault::Id(place, word) => no_name(alloc, word, place, 65_535),
+            WordFault::WideId(place, word) => no_name(alloc, word, place, u32::MAX),
             WordFault::Length(word) => invalid(alloc, word, "<LENGTH>", 1),
             WordFault::NoLength(word) => {
                 format!(in alloc; "no '<LENGTH>' stands behind the '<ADDRESS>' {word}")
@@ -83,6 +82,11 @@ impl WordFault<'_> {
             WordFault::Memory => format!(in alloc; "out of memory"),
         }
     }
+}
+
+// What is reported of a word that names no message, by numbers up to the greatest.
+fn no_name(alloc: Global, word: &str, place: &str, most: u32) -> Result<String, AllocError> {
+    format!(in alloc; "invalid value '{word}' for '{place}': no ID or SOURCE/ID of 0 to {most}")
 }
 
 // What is reported of a number of octets that is more than a request holds.

@@ -1,0 +1,48 @@
+//! The checksum that a check report has of a file's octets.
+
+use crate::compares::file_at;
+use crate::end::{Failure, Status, tell_place};
+use crate::streams::{finish, output};
+use lpt_command_line::ChecksumWords;
+use lpt_packet::crc16;
+use lpt_text::write_out;
+use lpt_tool::ToolFault;
+
+/// Writes the checksum of a file's octets, or of those from a place on.
+///
+/// Errors: `Read` where the file can't be opened or read; `Write`, `Memory`.
+pub fn checksum(rt: &HostRuntime, words: &ChecksumWords<'_>) -> Result<Status, Failure> {
+    let octets = file_at(rt, words.file)?;
+    let status = written(rt, words, octets.as_slice());
+    drop(octets);
+    status
+}
+
+// Writes that of the octets that the words name.
+fn written(rt: &HostRuntime, words: &ChecksumWords<'_>, octets: &[u8]) -> Result<Status, Failure> {
+    let Some(named) = named_in(words, octets) else {
+        let size = octets.len();
+        if let Ok(text) = format!(in rt.alloc(); "there are {size} octets alone") {
+            tell_place(rt, text.as_str());
+        }
+        return Ok(Status::Refused);
+    };
+    let checksum = crc16(named);
+    let Ok(line) = format!(in rt.alloc(); "{checksum:04x}\n") else {
+        return Err(Failure::from(ToolFault::Memory));
+    };
+    let mut out = output(rt)?;
+    let put = write_out(&mut out, line.as_bytes());
+    finish(rt, out)?;
+    put?;
+    Ok(Status::Done)
+}
+
+// The octets that the words name, where they are there.
+fn named_in<'a>(words: &ChecksumWords<'_>, octets: &'a [u8]) -> Option<&'a [u8]> {
+    let behind = octets.get(words.from as usize..)?;
+    match words.len {
+        Some(len) => behind.get(..len as usize),
+        None => Some(behind),
+    }
+}

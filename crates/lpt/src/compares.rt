@@ -1,0 +1,143 @@
+//! A file compared with check reports, from files or standard input to standard output.
+
+ghost use Rattle.lpt_events.specs.Configs.{IsConfig};
+
+use crate::end::{Failure, Status, tell_place};
+use crate::input::{octets_from, opened, opened_packets, packets_end};
+use crate::progress::Voice;
+use crate::streams::{Output, finish, output};
+use lpt_command_line::CompareWords;
+use lpt_compare::{Checked, Image, read_checks};
+use lpt_events::Config;
+use lpt_packet::Octets;
+use lpt_text::{StreamFault, write_out};
+use std::alloc::{AllocError, Global};
+
+/// Writes a line for each area of the check reports: whether its checksum is that of the file's
+/// octets there.
+///
+/// Errors: `Read` where the file or the packets can't be opened or read, or their capture is wrong;
+/// `Write`, `Memory`.
+pub fn compare(
+    rt: &HostRuntime,
+    voice: Voice,
+    config: &Config,
+    words: &CompareWords<'_>,
+) -> Result<Status, Failure>
+    requires { IsConfig config.now }
+{
+    let octets = file_at(rt, words.file)?;
+    let checks = checks_at(rt, voice, config.apid, words)?;
+    let status = told(rt, words, octets.as_slice(), &checks);
+    drop(checks);
+    drop(octets);
+    status
+}
+
+/// The octets of a file, or of standard input.
+///
+/// Errors: `Read` where it can't be opened or read; `Memory`.
+pub fn file_at(rt: &HostRuntime, path: &str) -> Result<Octets, Failure> {
+    let mut source = opened(rt, path)?;
+    let octets = octets_from(rt, path, &mut source);
+    drop(source);
+    octets
+}
+
+// The areas of the memory's check reports among the packets.
+fn checks_at(
+    rt: &HostRuntime,
+    voice: Voice,
+    apid: u16,
+    words: &CompareWords<'_>,
+) -> Result<Vec<Checked>, Failure> {
+    let mut source = opened_packets(rt, voice, &words.reports, None, None)?;
+    let read = read_checks(rt.alloc(), apid, words.memory, &mut source);
+    let failed = matches!(read, Err(StreamFault::Read));
+    let failure = packets_end(rt, voice, &source, &words.reports, failed);
+    drop(source);
+    match (read, failure) {
+        (Ok(checks), None) => Ok(checks),
+        (Ok(checks), Some(failure)) => {
+            drop(checks);
+            Err(failure)
+        }
+        (Err(_), Some(failure)) => Err(failure),
+        (Err(fault), None) => Err(Failure::from(fault)),
+    }
+}
+
+// Writes the lines, and gives whether all is as it should be.
+fn told(
+    rt: &HostRuntime,
+    words: &CompareWords<'_>,
+    octets: &[u8],
+    checks: &[Checked],
+) -> Result<Status, Failure> {
+    let image = Image {
+        from: words.address,
+        octets,
+    };
+    let mut out = output(rt)?;
+    let written = write_lines(rt.alloc(), words.memory, &image, checks, &mut out);
+    finish(rt, out)?;
+    let agree = written?;
+    let open = image.first_open(checks);
+    if let Some(address) = open {
+        let memory = words.memory;
+        if let Ok(text) = format!(in rt.alloc();
+            "memory {memory}: no check report agrees at address {address}"
+        ) {
+            tell_place(rt, text.as_str());
+        }
+    }
+    Ok(if agree && open.is_none() {
+        Status::Done
+    } else {
+        Status::Refused
+    })
+}
+
+// Writes a line for each area, and gives whether all of them agree.
+fn write_lines(
+    alloc: Global,
+    memory: u8,
+    image: &Image<'_>,
+    checks: &[Checked],
+    out: &mut Output<'_>,
+) -> Result<bool, StreamFault> {
+    let mut agree = true;
+    for check in checks {
+        let found = image.checksum(check);
+        agree = agree && found == Some(check.checksum);
+        let Ok(line) = line_of(alloc, memory, check, found) else {
+            return Err(StreamFault::Memory);
+        };
+        write_out(out, line.as_bytes())?;
+    }
+    Ok(agree)
+}
+
+// The line of an area, where the file's octets have this checksum there. The only error is out of
+// memory.
+fn line_of(
+    alloc: Global,
+    memory: u8,
+    check: &Checked,
+    found: Option<u16>,
+) -> Result<String, AllocError> {
+    let Checked {
+        address,
+        len,
+        checksum,
+    } = *check;
+    let mut line = format!(in alloc;
+        "memory {memory} address {address} length {len} checksum {checksum:04x}"
+    )?;
+    match found {
+        None => line.push_str(" outside\n")?,
+        Some(found) if found == checksum => line.push_str(" same\n")?,
+        Some(found) => line.write(format_args!(" differs from {found:04x}\n"))?,
+    }
+    Ok(line)
+}

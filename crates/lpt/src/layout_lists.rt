@@ -1,0 +1,86 @@
+//! Packets listed by a mission's layouts, from a file or standard input to standard output.
+
+ghost use Rattle.lpt_layout_file.specs.Layouts.{SizesFit};
+
+use crate::end::{Failure, Status, tell_place};
+use crate::input::{Packets, opened_packets, packets_end};
+use crate::layouts::{self, tell_hint};
+use crate::progress::Voice;
+use crate::streams::{finish, first_failure, output};
+use lpt_command_line::ListWords;
+use lpt_layout_file::Layouts;
+use lpt_layout_list::{Form, Hint, ListEnd, ListedAs, Told, list_layouts};
+use lpt_text::StreamFault;
+
+/// Lists the packets of a stream by the layouts of the file at this path.
+///
+/// Errors: `Read` where a file can't be opened or read, or a capture is wrong; `Config` where the
+/// layouts' file is too long; `Write`, `Memory`.
+pub fn list(
+    rt: &HostRuntime,
+    voice: Voice,
+    path: &str,
+    words: &ListWords<'_>,
+) -> Result<Status, Failure> {
+    let voice = voice.beside_output(rt);
+    let Some(layouts) = layouts::read(rt, path)? else {
+        return Ok(Status::Unreadable);
+    };
+    let span = words.span;
+    let mut source = opened_packets(rt, voice, &words.files, span.from, span.to)?;
+    let status = list_packets(rt, voice, &layouts, words, &mut source);
+    drop(source);
+    status
+}
+
+// The same of packets that were opened.
+fn list_packets(
+    rt: &HostRuntime,
+    voice: Voice,
+    layouts: &Layouts,
+    words: &ListWords<'_>,
+    source: &mut Packets,
+) -> Result<Status, Failure>
+    requires { SizesFit layouts.now }
+{
+    let form = if words.json { Form::Json } else { Form::Text };
+    let from = words.span.from.unwrap_or(0);
+    let mut out = output(rt)?;
+    let listed = list_layouts(rt.alloc(), form, layouts, from, source, &mut out);
+    let failed = matches!(listed, Err(StreamFault::Read));
+    let failure = packets_end(rt, voice, source, &words.files, failed);
+    first_failure(finish(rt, out), failure)?;
+    match listed {
+        Ok(listed) => Ok(list_status(rt, listed)),
+        Err(fault) => Err(Failure::from(fault)),
+    }
+}
+
+// The status of a list that ended so, after what was found was told.
+fn list_status(rt: &HostRuntime, listed: ListedAs) -> Status {
+    tell_found(rt, listed.told);
+    match listed.end {
+        ListEnd::Whole => Status::Done,
+        ListEnd::Stopped(place) => {
+            if let Ok(text) = format!(in rt.alloc(); "octet {place}: no packet") {
+                tell_place(rt, text.as_str());
+            }
+            Status::Refused
+        }
+    }
+}
+
+// Tells how many packets fail a test, and by which other layout a part would be read: without a
+// packet error control only where none was read, since a damaged packet may look so.
+fn tell_found(rt: &HostRuntime, told: Told) {
+    let refused = told.refused;
+    if refused > 0 {
+        if let Ok(text) = format!(in rt.alloc(); "packets that fail a test: {refused}") {
+            tell_place(rt, text.as_str());
+        }
+    }
+    match told.hint {
+        Some(Hint::Bare) if told.parts > 0 => {}
+        hint => tell_hint(rt, hint),
+    }
+}

@@ -1,0 +1,69 @@
+//! The words of the commands that compare a file with check reports.
+
+use crate::file_words::{STANDARD, paths_in};
+use crate::number_words::number_in;
+use crate::request_words::{address_in, length_in};
+use crate::word_fault::WordFault;
+use clap::ArgMatches;
+use std::alloc::Global;
+
+/// What `compare` asks for.
+#[derive(Drop)]
+pub struct CompareWords<'a> {
+    /// The memory's identifier.
+    pub memory: u8,
+    /// The address of the first octet of the file.
+    pub address: u32,
+    /// The path of what should stand there, or `-` for standard input.
+    pub file: &'a str,
+    /// The paths of the reports, one behind the other, or `-` for standard input.
+    pub reports: Vec<&'a str>,
+}
+
+/// What `checksum` asks for.
+#[derive(Clone, Copy)]
+pub struct ChecksumWords<'a> {
+    /// The path of the octets, or `-` for standard input.
+    pub file: &'a str,
+    /// The place of the first octet.
+    pub from: u32,
+    /// How many octets, where it is given.
+    pub len: Option<u32>,
+}
+
+/// What the words of `compare` ask for.
+///
+/// Errors: `Missing`, `Address`, `Twice`, `Memory`.
+pub fn compare_words<'a>(
+    alloc: Global,
+    matches: &ArgMatches<'a>,
+) -> Result<CompareWords<'a>, WordFault<'a>> {
+    let memory = matches.get_one("MEMORY").ok_or(WordFault::Missing)?;
+    let address = address_in(matches.get_str("ADDRESS").ok_or(WordFault::Missing)?)?;
+    let file = matches.get_str("FILE").ok_or(WordFault::Missing)?;
+    let reports = paths_in(alloc, matches, "REPORTS")?;
+    if file == STANDARD && reports.contains(&STANDARD) {
+        return Err(WordFault::Twice);
+    }
+    Ok(CompareWords {
+        memory,
+        address,
+        file,
+        reports,
+    })
+}
+
+/// What the words of `checksum` ask for.
+///
+/// Errors: `Missing`, `Address`, `Length`.
+pub fn checksum_words<'a>(matches: &ArgMatches<'a>) -> Result<ChecksumWords<'a>, WordFault<'a>> {
+    let from = matches.get_str("from").ok_or(WordFault::Missing)?;
+    Ok(ChecksumWords {
+        file: matches.get_str("FILE").ok_or(WordFault::Missing)?,
+        from: number_in(from).ok_or(WordFault::Address(from))?,
+        len: match matches.get_str("length") {
+            Some(word) => Some(length_in(word)?),
+            None => None,
+        },
+    })
+}

@@ -1,0 +1,40 @@
+//! The word that gives a mission's layouts, and the command that takes it for octets.
+
+use crate::commands::TEXT;
+use crate::row::Named;
+use crate::word_fault::WordFault;
+use clap::{ArgAction, ArgMatches};
+
+/// The file of a mission's layouts.
+pub(crate) const LAYOUT: Named = Named {
+    name: "layout",
+    value: TEXT,
+    behind: &["FILE"],
+    action: ArgAction::Set,
+    other: &[],
+    help: "The mission's layouts of headers and parts, a TOML file",
+};
+
+/// What `decode` asks for.
+#[derive(Clone, Copy)]
+pub struct DecodeWords<'a> {
+    /// Octets as hexadecimal digits, or `-` for standard input.
+    pub hex: &'a str,
+    /// The path of the layouts, where one is given.
+    pub layout: Option<&'a str>,
+}
+
+/// What the words of `decode` ask for.
+///
+/// Errors: `Missing`.
+pub fn decode_words<'a>(matches: &ArgMatches<'a>) -> Result<DecodeWords<'a>, WordFault<'a>> {
+    Ok(DecodeWords {
+        hex: matches.get_str("HEX").ok_or(WordFault::Missing)?,
+        layout: layout_in(matches),
+    })
+}
+
+// The path of the layouts, where one is given.
+pub(crate) fn layout_in<'a>(matches: &ArgMatches<'a>) -> Option<&'a str> {
+    matches.get_str("layout")
+}
