@@ -1,5 +1,6 @@
 pub mod RestartLemmas
 pub mod ArrivalLemmas
+mod BehindLemmas
 pub mod BodyLemmas
 pub mod ClaimLemmas
 pub mod JobLemmas

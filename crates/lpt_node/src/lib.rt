@@ -28,6 +28,7 @@ mod requesting;
 mod restart;
 mod sending;
 mod timing;
+mod walking;
 mod working;
 
 pub use accepted::Accepted;
@@ -40,5 +41,6 @@ pub use lpt_ledger::State;
 pub use lpt_memory::{Memories, Ticket};
 pub use lpt_packet::{Direction, Name, Octets};
 pub use lpt_pus::AckFlags;
+pub use lpt_table::Table;
 pub use node::Node;
 pub use parsed::Parsed;

@@ -4,11 +4,13 @@ ghost use Rattle.std.specs.Prelude.{◌≡◌, ◌+◌, true, if◌then◌else�
 ghost use Rattle.std.specs.Option.{option_map};
 ghost use Rattle.std.specs.FinMap as map;
 ghost use Rattle.lpt_node.specs.Nodes.{MessageFits};
+ghost use Rattle.lpt_table.specs.Walking.{IsNext};
 
 use lpt_packet::{Name, Octets};
 use std::alloc::Global;
 use std::collections::BTreeMap;
 use std::marker::Model;
+use std::ops::Bound;
 
 /// The messages of the open outgoing transactions, by their names.
 #[derive(Drop)]
@@ -59,6 +61,33 @@ impl Outgoing {
             None => None,
             Some(message) => Some(message.as_slice()),
         }
+    }
+
+    /// The least name behind another that has a message.
+    pub(crate) fn behind(&self, after: Option<Name>) -> Option<Name>
+        ensures { IsNext (λ name. is_some (map.get self.now.messages name)) after result }
+    {
+        match after {
+            None => self.first(),
+            Some(after) => self.next_behind(after),
+        }
+    }
+
+    // The least name that has a message.
+    fn first(&self) -> Option<Name>
+        ensures { IsNext (λ name. is_some (map.get self.now.messages name)) None result }
+    {
+        let (name, _) = self.messages.first_key_value()?;
+        Some(*name)
+    }
+
+    // The least name behind this one that has a message.
+    fn next_behind(&self, after: Name) -> Option<Name>
+        ensures { IsNext (λ name. is_some (map.get self.now.messages name)) (Some after) result }
+    {
+        let behind = (Bound::Excluded(after), Bound::Unbounded);
+        let (name, _) = self.messages.range(behind).next()?;
+        Some(*name)
     }
 
     /// Adds a message of a name that has none. Where there is no memory for it, it is handed back.

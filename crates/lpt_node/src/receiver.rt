@@ -120,6 +120,13 @@ impl Receiver {
         }
     }
 
+    /// The open receptions.
+    pub(crate) fn table(&self) -> &Table
+        ensures { result.now ≡ table_in self.now }
+    {
+        &self.table
+    }
+
     /// The name of the reception that is due at this tick.
     pub(crate) fn due(&self, now: u32) -> Option<Name>
         ensures due { result ≡ due_of (table_in self.now) now }

@@ -6,6 +6,7 @@ pub mod GreatestLemmas
 mod LessLemmas
 mod MarkLemmas
 pub mod MessageLemmas
+mod MissingLemmas
 mod NumberLemmas
 mod PairLemmas
 mod PlaceLemmas

@@ -1,6 +1,6 @@
 //! A reception that waits for parts.
 
-ghost use Rattle.std.specs.Prelude.{◌≡◌, ◌≤◌, true, false, length, IfOk, IsSome};
+ghost use Rattle.std.specs.Prelude.{◌≡◌, ◌≤◌, true, false, length, IfOk, IfSome, IsSome};
 ghost use Rattle.std.specs.FinMap as map;
 ghost use Rattle.lpt_part.specs.declared.mode.Mode.TheVariants as Mode;
 ghost use Rattle.lpt_reception.specs.PartsOf.{IsMessageOf};
@@ -40,6 +40,7 @@ impl Model for Filling {
 impl Filling {
     ghost use Rattle.lpt_reception.specs.Steps.{kept, IsNew, Answers, Takes};
     ghost use Rattle.lpt_reception.specs.Endings.{ended_by};
+    ghost use Rattle.lpt_reception.specs.Missing.{IsLastNumber, IsNextMissing};
 
     /// A reception with its first part, for parts of `p` octets. The only error is out of memory.
     #[tactic(auto, using(crate::proofs::StartLemmas::not_whole_alone))]
@@ -69,6 +70,30 @@ impl Filling {
         ensures { result ≡ self.now.id }
     {
         self.id
+    }
+
+    /// How many parts were kept.
+    pub fn kept_count(&self) -> u32
+        ensures { result ≡ map.len self.now.parts }
+    {
+        self.store.len()
+    }
+
+    /// The number of the last part, or `None` where that wasn't kept.
+    pub fn last_number(&self) -> Option<u16>
+        ensures is { IsLastNumber self.now.parts result }
+        ensures above { IfSome result (λ n. 2 ≤ n) }
+    {
+        self.store.last_number(self.p)
+    }
+
+    /// The least number from `from` on, and from 1 on, whose part wasn't kept and stands before the
+    /// last part, where that was kept; else all up to 65,535 are looked at. `None` where there is
+    /// none.
+    pub fn next_missing(&self, from: u16) -> Option<u16>
+        ensures { IsNextMissing self.now.parts from result }
+    {
+        self.store.next_missing(from, self.p)
     }
 
     /// Adds a part of this transaction, in any order. An allocation failure leaves

@@ -1,11 +1,12 @@
 //! What a reception keeps of its parts: their octets in one buffer, and a mark for each.
 
-ghost use Rattle.std.specs.Prelude.{◌≡◌, ℕ, ◌+◌, ◌<◌, ◌≤◌, true, length, OnOk, OnErr, IsSome};
+ghost use Rattle.std.specs.Prelude.{◌≡◌, ℕ, ◌+◌, ◌<◌, ◌≤◌, true, length, OnOk, OnErr, IfSome, IsSome};
 ghost use Rattle.std.specs.FinMap as map;
 ghost use Rattle.lpt_part.specs.Parts.{same_kind};
 ghost use Rattle.lpt_part.specs.Splitting.{IsPartSize, kind_at};
 ghost use Rattle.lpt_reception.specs.Steps.{kept, IsNew};
 ghost use Rattle.lpt_reception.specs.Marks.{is_marked};
+ghost use Rattle.lpt_reception.specs.Missing.{IsInner, IsLastNumber, IsNextMissing};
 ghost use Rattle.lpt_reception.specs.Received.{no_parts, with_part, same_kept, is_gap, is_last, is_whole};
 ghost use Rattle.lpt_reception.specs.Stored.{top, last_number, kept_at, stored, overruns, IsSound, IsStanding};
 
@@ -154,6 +155,52 @@ impl Store {
         ensures { result ≡ is_whole (stored p self.now) }
     {
         self.ended && self.so_many == self.top(p)
+    }
+
+    /// How many parts there are.
+    pub(crate) fn len(&self) -> u32
+        ensures { (p : ℕ) → IsSound p self.now → result ≡ map.len (stored p self.now) }
+    {
+        self.so_many
+    }
+
+    /// The number of the last part, where that is there.
+    pub(crate) fn last_number(&self, p: u32) -> Option<u16>
+        requires { IsSound p self.now }
+        ensures is { IsLastNumber (stored p self.now) result }
+        ensures above { IfSome result (λ n. 2 ≤ n) }
+    {
+        if self.ended {
+            Some(self.top(p) as u16)
+        } else {
+            None
+        }
+    }
+
+    // The numbers below this one are those of which a part may be missing.
+    fn inner_end(&self, p: u32) -> u32
+        requires { IsSound p self.now }
+        ensures inner { (n : ℕ) → n < result → IsInner (stored p self.now) n }
+        ensures below { (n : ℕ) → IsInner (stored p self.now) n → n < result }
+    {
+        match self.last_number(p) {
+            None => 65_536,
+            Some(last) => u32::from(last),
+        }
+    }
+
+    /// The least number from `from` on whose part is missing.
+    pub(crate) fn next_missing(&self, from: u16, p: u32) -> Option<u16>
+        requires { IsSound p self.now }
+        ensures { IsNextMissing (stored p self.now) from result }
+    {
+        for number in u32::from(from.max(1))..self.inner_end(p) {
+            let number = number as u16;
+            if !self.marks.has(number) {
+                return Some(number);
+            }
+        }
+        None
     }
 
     /// The octets.

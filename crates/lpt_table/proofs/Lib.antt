@@ -11,3 +11,4 @@ mod RankLemmas
 mod RenewingLemmas
 mod SpotLemmas
 mod TakingLemmas
+mod WalkingLemmas

@@ -5,3 +5,4 @@ pub mod Offering
 pub mod Offers
 pub mod Places
 pub mod Tables
+pub mod Walking

@@ -6,8 +6,9 @@ ghost use Rattle.std.specs.Option.{option_map};
 ghost use Rattle.lpt_reception.specs.Steps.{kept};
 ghost use Rattle.lpt_table.specs.Deadlines.{soonest};
 ghost use Rattle.lpt_table.specs.EntryLists.{TakesIn, last_after};
+ghost use Rattle.lpt_table.specs.Walking.{least_last, IsNext};
 
-use crate::places::{Place, first_due, rank_of, renew, spot_of};
+use crate::places::{Place, first_due, first_last, nearest, rank_of, renew, spot_of};
 use lpt_packet::Name;
 use lpt_part::{Mode, Part};
 use lpt_reception::{Filling, Took};
@@ -180,6 +181,35 @@ impl EntryList {
             (soonest timeout now (map.entries self.now.entries)) }
     {
         first_due(&self.places, timeout, now)
+    }
+
+    /// The reception of this name, and its last tick.
+    pub(crate) fn get(&self, name: Name) -> Option<(&Filling, u32)>
+        ensures { MatchOption result (map.get self.now.entries name ≡ None) (λ r.
+            IsEntry (map.get self.now.entries name) name self.now.p
+            (record { name = name; filling = r.0.now; last = r.1 })) }
+    {
+        match spot_of(&self.places, name) {
+            None => None,
+            Some(at) => {
+                let place = self.places[at];
+                Some((&self.fillings[place.key], place.last))
+            }
+        }
+    }
+
+    /// The least name of an open reception behind another.
+    pub(crate) fn nearest(&self, after: Option<Name>) -> Option<Name>
+        ensures { IsNext (λ name. is_some (map.get self.now.entries name)) after result }
+    {
+        nearest(&self.places, after)
+    }
+
+    /// The least last tick. It looks at one place.
+    pub(crate) fn first_last(&self) -> Option<u32>
+        ensures { result ≡ least_last (map.entries self.now.entries) }
+    {
+        first_last(&self.places)
     }
 }
 

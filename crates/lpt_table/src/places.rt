@@ -4,6 +4,7 @@ ghost use Rattle.std.specs.Prelude.{◌≡◌, ◌<◌, ◌≤◌, T, length, sl
 ghost use Rattle.std.specs.FinMap as map;
 ghost use Rattle.lpt_packet.specs.Names.{name_cmp};
 ghost use Rattle.lpt_table.specs.Places.{AreApart, spot, rank, when_cmp, by_name, by_moment, first_overdue, renewed};
+ghost use Rattle.lpt_table.specs.Walking.{first_last, is_behind, is_nearer, nearer, nearest};
 
 use lpt_packet::Name;
 use std::cmp::Ordering;
@@ -86,5 +87,57 @@ pub(crate) fn first_due(places: &[Place], timeout: u32, now: u32) -> Option<Name
                 None
             }
         }
+    }
+}
+
+// The least name behind another, where that is given.
+pub(crate) fn nearest(places: &[Place], after: Option<Name>) -> Option<Name>
+    ensures { result ≡ nearest after places.now }
+{
+    let mut found = None;
+    for at in (0..places.len()).rev() {
+        found = nearer(after, places[at].name, found);
+    }
+    found
+}
+
+// A name where it stands behind another and before the one that was found, else that one.
+fn nearer(after: Option<Name>, name: Name, found: Option<Name>) -> Option<Name>
+    ensures { result ≡ nearer after name found }
+{
+    if is_behind(after, name) && is_nearer(name, found) {
+        Some(name)
+    } else {
+        found
+    }
+}
+
+// Whether a name stands behind this one, where there is one.
+fn is_behind(after: Option<Name>, name: Name) -> bool
+    ensures { result ≡ is_behind after name }
+{
+    match after {
+        None => true,
+        Some(after) => after < name,
+    }
+}
+
+// Whether a name stands before one that was found.
+fn is_nearer(name: Name, found: Option<Name>) -> bool
+    ensures { result ≡ is_nearer name found }
+{
+    match found {
+        None => true,
+        Some(found) => name < found,
+    }
+}
+
+// The last tick of the first place.
+pub(crate) fn first_last(places: &[Place]) -> Option<u32>
+    ensures { result ≡ first_last places.now }
+{
+    match places {
+        [] => None,
+        [first, ..] => Some(first.last),
     }
 }

@@ -1,13 +1,15 @@
 //! The table of open receptions.
 
-ghost use Rattle.std.specs.Prelude.{◌≡◌, ◌<◌, IfOk, IfSome, IsSome, IsSomeAnd, None, Some};
+ghost use Rattle.std.specs.Prelude.{◌≡◌, ◌<◌, ℕ, IfOk, IfSome, IsSome, IsSomeAnd, None, Some, is_some};
 ghost use Rattle.std.specs.FinMap as map;
+ghost use Rattle.std.specs.Option.{option_map};
 ghost use Rattle.lpt_packet.specs.Names.{named_by};
 ghost use Rattle.lpt_reception.specs.Steps.{kept};
 ghost use Rattle.lpt_reception.specs.Received.{is_gap, no_parts};
 ghost use Rattle.lpt_table.specs.Deadlines.{IsDue, due_of};
 ghost use Rattle.lpt_table.specs.Offering.{TakesOut, is_open, offered, put_back, received_at, with_entry};
 ghost use Rattle.lpt_table.specs.Tables.{IsTableSize, no_receptions};
+ghost use Rattle.lpt_table.specs.Walking.{due_at, has_come, next_due, reception_at, IsNext};
 
 use crate::Offer;
 use crate::entries::{Entry, EntryList};
@@ -251,6 +253,43 @@ impl Table {
         ensures value { result ≡ due_of self.now now }
     {
         self.receptions.due(self.timeout, now)
+    }
+
+    /// The tick from which on some reception is overdue, or `None` where none is open.
+    pub fn next_due(&self) -> Option<u64>
+        requires settled { self.now.out ≡ None }
+        ensures value { result ≡ next_due self.now }
+        ensures due { (now : ℕ) → is_some (due_of self.now now) ≡ has_come result now }
+    {
+        let last = self.receptions.first_last()?;
+        Some(u64::from(last) + u64::from(self.timeout))
+    }
+
+    /// The least name behind another of which a reception is open. From `None` on, by the name that
+    /// it answered last, it goes through all of them.
+    pub fn open_behind(&self, after: Option<Name>) -> Option<Name>
+        requires settled { self.now.out ≡ None }
+        ensures { IsNext (is_open self.now) after result }
+    {
+        self.receptions.nearest(after)
+    }
+
+    /// The reception of this name, where one is open.
+    pub fn reception(&self, name: Name) -> Option<&Filling>
+        requires settled { self.now.out ≡ None }
+        ensures { option_map (λ f. f.now) result ≡ reception_at self.now name }
+    {
+        let (filling, _) = self.receptions.get(name)?;
+        Some(filling)
+    }
+
+    /// The tick from which on the reception of this name is overdue, where one is open.
+    pub fn due_at(&self, name: Name) -> Option<u64>
+        requires settled { self.now.out ≡ None }
+        ensures { result ≡ due_at self.now name }
+    {
+        let (_, last) = self.receptions.get(name)?;
+        Some(u64::from(last) + u64::from(self.timeout))
     }
 
     /// Removes the reception of this name, and says whether there was one.
