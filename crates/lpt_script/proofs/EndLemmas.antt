@@ -1,5 +1,5 @@
 -- How the endings of events, lines and scripts follow from one another.
-use Rattle.std.proofs.Common.{◌≡◌, ℕ, ◌+◌, List, [], ◌∷◌, ◌++◌, length, take, drop, Option, None, Some, is_some, Result, Ok, Err, true, false, refl, sym, ap, ◌∙◌, subst, append-nil, append_assoc, IfOk, IfErr, slice_index, slice_index_or, suc, ◌<◌, ◌/◌, ◌%◌, take-add, arith}
+use Rattle.std.proofs.Common.{◌≡◌, ℕ, ◌+◌, List, [], ◌∷◌, ◌++◌, length, take, drop, Option, None, Some, is_some, Result, Ok, Err, true, false, refl, sym, ap, ◌∙◌, subst, append-nil, append_assoc, IfOk, IfErr, IfSome, slice_get, slice_index, slice_index_or, suc, ◌-◌, ◌<◌, ◌/◌, ◌%◌, take-add, arith}
 use Rattle.lpt_text.proofs.StreamLemmas.{part_after, part_of_front, part_unchanged}
 use Rattle.std.specs.List.{flat_map}
 use Rattle.std.specs.Result.{OnOk}
@@ -17,10 +17,12 @@ use Rattle.lpt_text.specs.declared.fault.StreamFault.{StreamFault}
 use Rattle.lpt_text.specs.declared.fault.StreamFault.TheVariants as faults
 use Rattle.lpt_script.specs.Ends.{TextEnds, LineEnds, unrefused}
 use Rattle.lpt_script.specs.Scripts.{Ran, printed, answered, stepped, stepped_as, joined, unless_refused, and_then}
+use Rattle.lpt_events.specs.declared.entry.Entry.{Entry}
 use Rattle.lpt_events.specs.declared.event.Event.{Event}
 use Rattle.lpt_events.specs.declared.fault.StepFault.{StepFault}
 use Rattle.lpt_events.specs.declared.fault.StepFault.TheVariants.{Memory}
-use Rattle.lpt_world.specs.Worlds.{Shown, refusal_at, RefusedBy}
+use Rattle.lpt_events.specs.declared.reply.Reply.{Reply}
+use Rattle.lpt_world.specs.Worlds.{Shown, refusal_at, RefusedBy, with_entry}
 
 -- ---- printed texts
 
@@ -34,6 +36,62 @@ quiet_ends w text (Err faults.Memory) a b p = p
 quiet_ends w text (Err faults.Read) a b p = p
 
 -- ---- events
+
+-- what stands last in a list
+at_last : {X : Type 0} (xs : List X) (y : X) → slice_get (xs ++ y ∷ []) (length xs) ≡ Some y
+at_last [] y = refl
+at_last (x ∷ xs) y = at_last xs y
+
+one_longer : {X : Type 0} (xs : List X) (y : X) → length (xs ++ y ∷ []) ≡ suc (length xs)
+one_longer [] y = refl
+one_longer (x ∷ xs) y = ap suc (one_longer xs y)
+
+last_is : {X : Type 0} (xs : List X) (y : X)
+    → slice_get (xs ++ y ∷ []) (length (xs ++ y ∷ []) - 1) ≡ Some y
+last_is xs y =
+    let long = one_longer xs y in
+    let at : length (xs ++ y ∷ []) - 1 ≡ length xs = omega (arith, long) in
+    subst (λ i. slice_get (xs ++ y ∷ []) i ≡ Some y) (sym at) (at_last xs y)
+
+-- the answer of an accepted event: its entry is the last, and its line is that of its reply
+pub accepted_ends : (w v : Shown) (e : Event) (reply : Reply)
+    (r : Result (Option StepFault) StreamFault) (a b : Option (List ℕ))
+    → refusal_at w 0 e ≡ None
+    → reply ≡ answered w e
+    → v ≡ with_entry w 0 e reply
+    → IfSome (slice_get v.journal (length v.journal - 1))
+    (λ x. TextEnds (accepted_text v.config.source x.event x.reply) r a b)
+    → IfOk r (λ refused. refused ≡ None)
+    → LineEnds (stepped w e) r v a b
+accepted_ends w v e reply r a b free is same p was_accepted =
+    subst (λ x. LineEnds (stepped_as w e x) r v a b) (sym free) (told r text was_accepted)
+  where
+    entry : Entry
+    entry = record { seat = 0; event = e; reply = reply }
+
+    after : Shown
+    after = with_entry w 0 e reply
+
+    of_last : IfSome (slice_get after.journal (length after.journal - 1))
+        (λ x. TextEnds (accepted_text w.config.source x.event x.reply) r a b)
+    of_last =
+        subst (λ (u : Shown). IfSome (slice_get u.journal (length u.journal - 1))
+        (λ x. TextEnds (accepted_text u.config.source x.event x.reply) r a b)) same p
+
+    text : TextEnds (accepted_text w.config.source e (answered w e)) r a b
+    text =
+        subst (λ x. TextEnds (accepted_text w.config.source e x) r a b) is
+        (subst (λ x. IfSome x (λ x. TextEnds (accepted_text w.config.source x.event x.reply) r a b))
+        (last_is w.journal entry) of_last)
+
+    told : (r : Result (Option StepFault) StreamFault)
+        → TextEnds (accepted_text w.config.source e (answered w e)) r a b
+        → IfOk r (λ refused. refused ≡ None)
+        → LineEnds (stepped_as w e None) r v a b
+    told (Ok f) p q = (refl, q, same ∙ ap (with_entry w 0 e) is, p)
+    told (Err faults.Write) p q = p
+    told (Err faults.Memory) p q = p
+    told (Err faults.Read) p q = p
 
 -- the answer of a refused event: out of memory prints nothing
 pub refused_ends : (w v : Shown) (e : Event) (fault : StepFault) (r : Result (Option StepFault) StreamFault) (a b : Option (List ℕ))

@@ -8,12 +8,12 @@ ghost use Rattle.lpt_world.specs.Worlds.{RefusedBy, refusal_at, with_entry};
 ghost use Rattle.lpt_script.specs.Scripts.{and_then, answered, command_ran, stepped, ticked, worked};
 
 use crate::loading::run_load;
-use crate::printed::{put, put_refused};
+use crate::printed::put_refused;
 use crate::showing::run_show;
 use lpt_events::{Entry, Event, Side, StepFault, Worker};
-use lpt_script_text::print_accepted;
+use lpt_script_text::write_accepted;
 use lpt_script_words::Command;
-use lpt_text::{Sink, StreamFault};
+use lpt_text::{Sink, StreamFault, write_out};
 use lpt_world::World;
 use std::alloc::Global;
 
@@ -30,15 +30,33 @@ pub fn run_command<K: Sink>(
     ensures ends { LineEnds (command_ran command world.old) result world.new (K.contents out.old) (K.contents out.new) }
     ensures writer { WriteEnds result (K.failed out.old) (K.failed out.new) }
 {
+    let mut text = String::new(alloc);
+    let ran = run_command_in(alloc, &mut text, world, command, out);
+    drop(text);
+    ran
+}
+
+/// The same, where the text of a line is made in one that serves for many.
+pub(crate) fn run_command_in<K: Sink>(
+    alloc: Global,
+    text: &mut String,
+    world: &mut World,
+    command: Command,
+    out: &mut K,
+) -> Result<Option<StepFault>, StreamFault>
+    ensures ends { LineEnds (command_ran command world.old) result world.new
+        (K.contents out.old) (K.contents out.new) }
+    ensures writer { WriteEnds result (K.failed out.old) (K.failed out.new) }
+{
     match command {
-        Command::Event(event) => run_event(alloc, world, event, out),
-        Command::Load(load) => run_load(alloc, world, &load, out),
-        Command::Tick(side, count) => run_ticks(alloc, world, side, count, out),
+        Command::Event(event) => run_event(text, world, event, out),
+        Command::Load(load) => run_load(alloc, text, world, &load, out),
+        Command::Tick(side, count) => run_ticks(text, world, side, count, out),
         Command::Pass(lane, number) => {
             let (take, deliver) = (Event::Take(lane, number), Event::Deliver(lane));
-            run_both(alloc, world, take, deliver, out)
+            run_both(text, world, take, deliver, out)
         }
-        Command::Work => run_work(alloc, world, out),
+        Command::Work => run_work(text, world, out),
         Command::Show(show) => quietly(run_show(alloc, world, show, out)),
     }
 }
@@ -56,7 +74,7 @@ fn quietly(written: Result<(), StreamFault>) -> Result<Option<StepFault>, Stream
 /// Asks the world for an event, prints what it answers, and answers why it was refused, if it was.
 #[inline(never)]
 pub(crate) fn run_event<K: Sink>(
-    alloc: Global,
+    text: &mut String,
     world: &mut World,
     event: Event,
     out: &mut K,
@@ -65,15 +83,15 @@ pub(crate) fn run_event<K: Sink>(
     ensures writer { WriteEnds result (K.failed out.old) (K.failed out.new) }
 {
     match world.step(SESSION, event) {
-        Ok(_) => put_last(alloc, world, out),
-        Err(refused) => put_refused(alloc, refused.fault, out),
+        Ok(_) => put_last(text, world, out),
+        Err(refused) => put_refused(text, refused.fault, out),
     }
 }
 
 // Prints what the last event of the journal answered.
 #[inline(always)]
 fn put_last<K: Sink>(
-    alloc: Global,
+    text: &mut String,
     world: &World,
     out: &mut K,
 ) -> Result<Option<StepFault>, StreamFault>
@@ -85,13 +103,13 @@ fn put_last<K: Sink>(
 {
     let journal = world.journal();
     let last = &journal[journal.len() - 1];
-    put_entry(alloc, world.config().source, last, out)
+    put_entry(text, world.config().source, last, out)
 }
 
 // Prints what an accepted event answered, where this source is configured.
 #[inline(always)]
 fn put_entry<K: Sink>(
-    alloc: Global,
+    text: &mut String,
     source: u16,
     entry: &Entry,
     out: &mut K,
@@ -100,10 +118,10 @@ fn put_entry<K: Sink>(
     ensures accepted { IfOk result (λ r. r ≡ None) }
     ensures writer { WriteEnds result (K.failed out.old) (K.failed out.new) }
 {
-    match put(
-        out,
-        print_accepted(alloc, source, &entry.event, &entry.reply),
-    ) {
+    if write_accepted(text, source, &entry.event, &entry.reply).is_err() {
+        return Err(StreamFault::Memory);
+    }
+    match write_out(out, text.as_bytes()) {
         Ok(()) => Ok(None),
         Err(fault) => Err(fault),
     }
@@ -111,7 +129,7 @@ fn put_entry<K: Sink>(
 
 // Asks for two events, for the second unless the first was refused.
 fn run_both<K: Sink>(
-    alloc: Global,
+    text: &mut String,
     world: &mut World,
     first: Event,
     second: Event,
@@ -121,8 +139,8 @@ fn run_both<K: Sink>(
         result world.new (K.contents out.old) (K.contents out.new) }
     ensures writer { WriteEnds result (K.failed out.old) (K.failed out.new) }
 {
-    match run_event(alloc, world, first, out) {
-        Ok(None) => run_event(alloc, world, second, out),
+    match run_event(text, world, first, out) {
+        Ok(None) => run_event(text, world, second, out),
         Ok(Some(fault)) => Ok(Some(fault)),
         Err(fault) => Err(fault),
     }
@@ -131,7 +149,7 @@ fn run_both<K: Sink>(
 // Claims and commits a job with the first worker, and executes the oldest, up to the first of these
 // that is refused.
 fn run_work<K: Sink>(
-    alloc: Global,
+    text: &mut String,
     world: &mut World,
     out: &mut K,
 ) -> Result<Option<StepFault>, StreamFault>
@@ -139,8 +157,8 @@ fn run_work<K: Sink>(
     ensures writer { WriteEnds result (K.failed out.old) (K.failed out.new) }
 {
     let (claim, commit) = (Event::Claim(Worker::W1), Event::Commit(Worker::W1));
-    match run_both(alloc, world, claim, commit, out) {
-        Ok(None) => run_event(alloc, world, Event::Apply, out),
+    match run_both(text, world, claim, commit, out) {
+        Ok(None) => run_event(text, world, Event::Apply, out),
         Ok(Some(reason)) => Ok(Some(reason)),
         Err(fault) => Err(fault),
     }
@@ -148,7 +166,7 @@ fn run_work<K: Sink>(
 
 // Asks for so many ticks of a node's clock, up to the first that is refused, and prints the last.
 fn run_ticks<K: Sink>(
-    alloc: Global,
+    text: &mut String,
     world: &mut World,
     side: Side,
     count: u32,
@@ -161,8 +179,8 @@ fn run_ticks<K: Sink>(
         return Ok(None);
     }
     match tick_before_last(world, side, count) {
-        Ok(()) => run_event(alloc, world, Event::Tick(side), out),
-        Err(fault) => put_refused(alloc, fault, out),
+        Ok(()) => run_event(text, world, Event::Tick(side), out),
+        Err(fault) => put_refused(text, fault, out),
     }
 }
 

@@ -18,6 +18,7 @@ use std::alloc::Global;
 /// what came of it, and answers why it was refused, if it was.
 pub(crate) fn run_load<K: Sink>(
     alloc: Global,
+    text: &mut String,
     world: &mut World,
     load: &Load,
     out: &mut K,
@@ -30,7 +31,7 @@ pub(crate) fn run_load<K: Sink>(
     let config = world.config();
     match load.packet(alloc, config.apid) {
         Ok(packet) => run_event(
-            alloc,
+            text,
             world,
             Event::Open(Direction::Up, load.name(), packet),
             out,

@@ -6,7 +6,7 @@ ghost use Rattle.lpt_script_text.specs.Printing.{refused_text};
 ghost use Rattle.lpt_script.specs.Ends.{Grows, TextEnds};
 
 use lpt_events::StepFault;
-use lpt_script_text::print_refused;
+use lpt_script_text::write_refused;
 use lpt_text::{Sink, StreamFault, write_out};
 use std::alloc::{AllocError, Global};
 
@@ -28,7 +28,7 @@ pub fn put<K: Sink>(out: &mut K, text: Result<String, AllocError>) -> Result<(),
 /// which ends the run.
 #[inline(always)]
 pub(crate) fn put_refused<K: Sink>(
-    alloc: Global,
+    text: &mut String,
     fault: StepFault,
     out: &mut K,
 ) -> Result<Option<StepFault>, StreamFault>
@@ -40,7 +40,10 @@ pub(crate) fn put_refused<K: Sink>(
     if fault == StepFault::Memory {
         return Err(StreamFault::Memory);
     }
-    match put(out, print_refused(alloc, fault)) {
+    if write_refused(text, fault).is_err() {
+        return Err(StreamFault::Memory);
+    }
+    match write_out(out, text.as_bytes()) {
         Ok(()) => Ok(Some(fault)),
         Err(fault) => Err(fault),
     }

@@ -8,7 +8,7 @@ ghost use Rattle.lpt_script.specs.RunsInside.{LineTaken};
 ghost use Rattle.lpt_script.specs.Scripts.{command_ran, is_later, kept_of, line_ran, says, shows_left};
 ghost use Rattle.lpt_world.specs.Worlds.{Shown};
 
-use crate::command::run_command;
+use crate::command::run_command_in;
 use crate::printed::put;
 use crate::shows::Shows;
 use lpt_script_text::print_unreadable;
@@ -21,6 +21,8 @@ use std::alloc::Global;
 #[derive(Drop)]
 pub(crate) struct Running {
     pub alloc: Global,
+    /// The text of a line, made anew at each.
+    pub text: String,
     pub world: World,
     pub shows: Shows,
     /// The number of the unreadable line that ended the run.
@@ -77,7 +79,14 @@ impl Running {
             Ok(Reading::Skipped) => Ok(Taken::Done),
             Ok(Reading::Asks(command)) => match self.shows.keep(command) {
                 Ok(Some(command)) => {
-                    run_asked(self.alloc, &mut self.world, command, number, out)
+                    run_asked(
+                        self.alloc,
+                        &mut self.text,
+                        &mut self.world,
+                        command,
+                        number,
+                        out,
+                    )
                 }
                 Ok(None) => Ok(Taken::Done),
                 Err(_) => Err(StreamFault::Memory),
@@ -90,6 +99,7 @@ impl Running {
 // Does a command, and answers what became of the line of this number, which asks for it.
 fn run_asked<K: Sink>(
     alloc: Global,
+    text: &mut String,
     world: &mut World,
     command: Command,
     number: u64,
@@ -98,7 +108,7 @@ fn run_asked<K: Sink>(
     ensures ends { LineTaken (command_ran command world.old) number result world.new (K.contents out.old) (K.contents out.new) }
     ensures writer { WriteEnds result (K.failed out.old) (K.failed out.new) }
 {
-    match run_command(alloc, world, command, out) {
+    match run_command_in(alloc, text, world, command, out) {
         Ok(Some(_)) => Ok(Taken::Failed),
         Ok(None) => Ok(Taken::Done),
         Err(fault) => Err(fault),

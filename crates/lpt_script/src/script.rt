@@ -100,6 +100,7 @@ pub fn run_lines<S: Source, K: Sink>(
 {
     let mut running = Running {
         alloc,
+        text: String::new(alloc),
         world,
         shows,
         bad: None,
@@ -107,10 +108,12 @@ pub fn run_lines<S: Source, K: Sink>(
     let taken = each_line(alloc, reader, out, &mut running);
     let Running {
         alloc: _,
+        text,
         world,
         shows,
         bad,
     } = running;
+    drop(text);
     (script_end(taken, bad), world, shows)
 }
 

@@ -2,21 +2,24 @@
 //! what octets are when they are decoded. A text is lines of words, with a space between the words.
 //! Numbers are decimal; octets are hexadecimal digits in lower case, or `-` where there are none.
 //!
-//! Texts are made here and written nowhere; the only error is out of memory. A text is a `String`.
-//! The first calls are `print_accepted` with an event and its reply, and `print_decoded` with
-//! octets.
+//! Texts are made here and written nowhere; the only error is out of memory. A text is a `String`:
+//! a new one, or where `write` stands in the name the caller's, which is made anew and can serve
+//! for all lines. The first calls are `write_accepted` with an event and its reply, and
+//! `print_decoded` with octets.
 #![tactic(auto)]
 
+mod answers;
 mod decoding;
 mod printing;
+mod pushing;
 mod words;
 
+pub use answers::{
+    print_applied, print_expired, print_outcome, print_retired, write_accepted, write_refused,
+};
 pub use decoding::{Decoded, print_decoded};
 pub use printing::{
-    print_accepted, print_applied, print_applied_count, print_claimed, print_clear, print_clock,
-    print_committed, print_expired, print_finished, print_journal, print_lost, print_memory_front,
-    print_none, print_opened, print_outcome, print_packet, print_plain_count, print_put,
-    print_refused, print_release, print_restarted, print_retired, print_stale, print_took,
-    print_unreadable,
+    print_applied_count, print_clear, print_journal, print_memory_front, print_none, print_packet,
+    print_plain_count, print_release, print_unreadable,
 };
 pub use words::write_digits;

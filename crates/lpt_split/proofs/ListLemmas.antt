@@ -1,9 +1,9 @@
 -- The parts that a list names, item by item.
 use Rattle.std.proofs.Common.{◌≡◌, ◌∙◌, ap, sym, refl, ℕ, zero, suc, ◌+◌, ◌-◌, ◌≤◌, List, [], ◌∷◌, ◌++◌, Option, Some, None, append_assoc, arith}
-use Rattle.std.specs.List.{slice_split}
 use native.Mathlib.Numerals.{unary_clauses}
 use Rattle.lpt_split.specs.Splits.{AreNumbers}
-use Rattle.lpt_split.specs.Lists.{followed, is_comma, numbers_in, numbers_of, numbers_of_items, range_of, run}
+use Rattle.lpt_split.specs.Lists.{followed, numbers_in, numbers_of, numbers_of_items, range_of, run}
+use Rattle.lpt_text.specs.Items.{items_of}
 
 -- ---- runs
 
@@ -63,9 +63,9 @@ behind-nil (Some ys) = refl
 
 -- before any item
 pub read-first : (last : ℕ) (list : List ℕ)
-    → behind [] (numbers_of_items last (slice_split is_comma list)) ≡ numbers_of last list
+    → behind [] (numbers_of_items last (items_of list)) ≡ numbers_of last list
 unfolding numbers_of
-read-first last list = behind-nil (numbers_of_items last (slice_split is_comma list))
+read-first last list = behind-nil (numbers_of_items last (items_of list))
 
 -- an item's numbers stand in front of those of the others
 pub behind-item : (xs : List ℕ) (r : ℕ × ℕ) (rest : Option (List ℕ))
@@ -75,12 +75,12 @@ behind-item xs r (Some ys) = ap Some (sym (append_assoc xs (numbers_in r) ys))
 
 -- what is read of a list, an item further
 pub read-next : (last : ℕ) (left item more : List ℕ) (xs : List ℕ) (r : ℕ × ℕ) (all : Option (List ℕ))
-    → behind xs (numbers_of_items last (slice_split is_comma left)) ≡ all
-    → slice_split is_comma left ≡ item ∷ slice_split is_comma more
+    → behind xs (numbers_of_items last (items_of left)) ≡ all
+    → items_of left ≡ item ∷ items_of more
     → Some r ≡ range_of last item
-    → behind (xs ++ numbers_in r) (numbers_of_items last (slice_split is_comma more)) ≡ all
+    → behind (xs ++ numbers_in r) (numbers_of_items last (items_of more)) ≡ all
 read-next last left item more xs r all was cut is =
-    let rest = numbers_of_items last (slice_split is_comma more) in
+    let rest = numbers_of_items last (items_of more) in
     sym (behind-item xs r rest)
     ∙ ap (λ o. behind xs (followed o rest)) is
     ∙ sym (ap (λ items. behind xs (numbers_of_items last items)) cut)
@@ -88,8 +88,8 @@ read-next last left item more xs r all was cut is =
 
 -- an item that isn't read
 pub read-none : (last : ℕ) (left item : List ℕ) (items : List (List ℕ)) (xs : List ℕ) (all : Option (List ℕ))
-    → behind xs (numbers_of_items last (slice_split is_comma left)) ≡ all
-    → slice_split is_comma left ≡ item ∷ items
+    → behind xs (numbers_of_items last (items_of left)) ≡ all
+    → items_of left ≡ item ∷ items
     → None ≡ range_of last item
     → None ≡ all
 read-none last left item items xs all was cut is =

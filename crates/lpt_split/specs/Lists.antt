@@ -1,7 +1,7 @@
 -- Lists of parts, as a word spells them.
-use Rattle.std.specs.Prelude.{ℕ, zero, suc, ◌+◌, ◌-◌, ◌==◌, ◌&&◌, nat_le, Bool, if◌then◌else◌, List, [], ◌∷◌, ◌++◌, take, drop, position, Option, Some, None}
-use Rattle.std.specs.List.{slice_split}
+use Rattle.std.specs.Prelude.{ℕ, zero, suc, ◌+◌, ◌-◌, ◌==◌, ◌&&◌, nat_le, if◌then◌else◌, List, [], ◌∷◌, ◌++◌, take, drop, position, Option, Some, None}
 use Rattle.lpt_script_words.specs.Numbers.{number_of}
+use Rattle.lpt_text.specs.Items.{items_of}
 
 -- ---- an item
 
@@ -47,9 +47,6 @@ abbrev pub numbers_of_items : ℕ → List (List ℕ) → Option (List ℕ)
 numbers_of_items last [] = Some []
 numbers_of_items last (item ∷ items) = followed (range_of last item) (numbers_of_items last items)
 
-abbrev pub is_comma : ℕ → Bool
-is_comma b = b == 44
-
 -- the parts that a list names, of a message of so many
 unfoldable pub numbers_of : ℕ → List ℕ → Option (List ℕ)
-numbers_of last list = numbers_of_items last (slice_split is_comma list)
+numbers_of last list = numbers_of_items last (items_of list)

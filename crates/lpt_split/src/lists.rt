@@ -3,14 +3,13 @@
 //! Items stand between commas: `7` is that part, `7-9` parts 7 to 9, and `7-` part 7 and all behind
 //! it. Numbers have 1 to 10 decimal digits.
 
-ghost use Rattle.std.specs.Prelude.{◌≡◌, ◌≤◌, ◌<◌, ◌∷◌, ◌++◌, [], length, option_map, IfOk, IfSome, MatchOption, OnOk};
-ghost use Rattle.std.specs.List.{slice_split};
-ghost use Rattle.lpt_split.specs.Lists.{end_of, in_order, is_comma, numbers_in, numbers_of, range_of};
+ghost use Rattle.std.specs.Prelude.{◌≡◌, ◌≤◌, ◌++◌, option_map, IfOk, IfSome, OnOk};
+ghost use Rattle.lpt_split.specs.Lists.{end_of, in_order, numbers_in, numbers_of, range_of};
 ghost use Rattle.lpt_split.specs.Splits.{AreNumbers};
 ghost use Rattle.lpt_script_words.specs.Numbers.{number_of};
 
 use lpt_script_words::read_number;
-use lpt_text::first_place;
+use lpt_text::{cut_item, first_place};
 use std::alloc::{AllocError, Global};
 
 /// The parts that a list names, of a message of `last` parts (at most 65,535), in its order and as
@@ -37,18 +36,6 @@ pub fn read_parts(alloc: Global, list: &[u8], last: u32) -> Result<Option<Vec<u1
     };
     push_run(&mut parts, from, to)?;
     Ok(Some(parts))
-}
-
-// The item in front of the first comma, and what is behind it; none where there is no comma.
-fn cut_item(list: &[u8]) -> Option<(&[u8], &[u8])>
-    ensures items { MatchOption result (slice_split is_comma list.now ≡ list.now ∷ [])
-        (λ cut. slice_split is_comma list.now ≡ cut.0.now ∷ slice_split is_comma cut.1.now) }
-    ensures shorter { IfSome result (λ cut. length cut.1.now < length list.now) }
-{
-    match first_place(list, b',') {
-        Some(place) => Some((&list[..place], &list[place + 1..])),
-        None => None,
-    }
 }
 
 // The first and the last part of an item.

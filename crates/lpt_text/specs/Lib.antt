@@ -1,3 +1,4 @@
+pub mod Items
 pub mod Lines
 pub mod Reading
 pub mod Streams

@@ -10,7 +10,7 @@ use Rattle.lpt_script.proofs.script.run_lines.Goals as goal
 
 pub returns-clause-ends : goal.returns-clause-ends
 returns-clause-ends g c =
-    let r : Running = record { alloc = c.args.alloc; world = c.args.world; shows = c.args.shows; bad = None } in
+    let r : Running = record { alloc = c.args.alloc; text = c.new.result; world = c.args.world; shows = c.args.shows; bad = None } in
     let t = c.each_line-taken.new.taker in
     let old = g.S.Source.remaining c.args.reader.now in
     let new = g.S.Source.remaining c.each_line-taken.new.source in
@@ -25,7 +25,7 @@ returns-clause-ends g c =
 
 pub returns-clause-left : goal.returns-clause-left
 returns-clause-left g c =
-    let r : Running = record { alloc = c.args.alloc; world = c.args.world; shows = c.args.shows; bad = None } in
+    let r : Running = record { alloc = c.args.alloc; text = c.new.result; world = c.args.world; shows = c.args.shows; bad = None } in
     let t = c.each_line-taken.new.taker in
     let old = g.S.Source.remaining c.args.reader.now in
     let new = g.S.Source.remaining c.each_line-taken.new.source in
