@@ -1,5 +1,5 @@
 -- Octets that are read behind those that are held, and frames that are cut off their front.
-use Rattle.std.proofs.Common.{◌≡◌, ◌∙◌, ◌/◌, ◌==◌, ◌||◌, nat_lt, if◌then◌else◌, ap, sym, subst, inl, inr, refl, ℕ, ◌+◌, ◌-◌, ◌<◌, ◌≤◌, Bool, true, false, List, [], ◌∷◌, ◌++◌, length, take, drop, Option, Some, None, Ok, Err, arith, append_assoc, append-nil, length-append}
+use Rattle.std.proofs.Common.{◌≡◌, ◌∙◌, ◌/◌, ◌==◌, ◌||◌, nat_lt, if◌then◌else◌, ap, sym, subst, inl, inr, refl, ℕ, ◌+◌, ◌-◌, ◌<◌, Bool, true, false, List, [], ◌∷◌, ◌++◌, length, take, drop, Option, Some, None, Ok, Err, arith, append_assoc, append-nil, length-append}
 use Rattle.std.specs.List.{AllByRecursion}
 use Rattle.std.proofs.KnownBytes.{Consumes-nil, Consumes-trans}
 use Rattle.std.proofs.lemmas.Bool.Decides.{nat_tests}
@@ -9,8 +9,8 @@ use Rattle.lpt_text.specs.declared.fault.StreamFault.{StreamFault}
 use Rattle.lpt_text.specs.declared.fault.StreamFault.TheVariants as faults
 use Rattle.lpt_stream.specs.Streams.{all_octets, cut_at, front_of, wanted, IsUnfinished}
 use Rattle.lpt_stream.proofs.StreamLemmas.{framed_first}
-use Rattle.lpt_frames.specs.Buffers.{held, Adds, Fills, FindsFrame, Stands}
-use Rattle.lpt_frames.specs.Frames.{may_begin, IsCut, IsFound, IsFrame, Stops}
+use Rattle.lpt_frames.specs.Buffers.{held, Adds, Fills, Finds, IsFoundBy, IsLast, Stands}
+use Rattle.lpt_frames.specs.Frames.{may_begin, IsCut, IsFrame, Stops}
 use Rattle.lpt_frames.specs.declared.buffer.FrameBuffer.{FrameBuffer}
 use Rattle.lpt_frames.specs.declared.front.Front.{Front}
 use Rattle.lpt_frames.specs.declared.front.Front.TheVariants.{Frame, Stray, End}
@@ -43,45 +43,47 @@ nearer mid new b c more few added some =
     omega arith
 
 -- what is found stands there
-pub found-stands : (front : Front) (b : List ℕ) (after : Option (List ℕ))
-    → IsFound front b
-    → Stands front b after
-found-stands (Frame len) b after h = h
-found-stands Stray b after h = h
-found-stands End b after h = absurd h
+pub found-stands : (s : Bool) (front : Front) (b : List ℕ) (after : Option (List ℕ))
+    → IsFoundBy s front b
+    → Stands s front b after
+found-stands s (Frame len) b after h = h
+found-stands s Stray b after h = h
+found-stands true End b after h = absurd h
+found-stands false End b after h = absurd h
 
 -- a read that failed, or for which memory ran out, ends the search
-pub fill-fault : (fault : StreamFault) (old mid new : FrameBuffer) (a b c : Option (List ℕ))
+pub fill-fault : (s : Bool) (fault : StreamFault) (old mid new : FrameBuffer)
+    (a b c : Option (List ℕ))
     (read : List ℕ) (had told failed : Bool)
     → Adds old mid a b read
     → told ≡ had
     → Fills (Err fault) mid new b c told failed
-    → FindsFrame (Err fault) old new a c had failed
-fill-fault faults.Read old mid new a b c read had told failed p same q =
+    → Finds s (Err fault) old new a c had failed
+fill-fault s faults.Read old mid new a b c read had told failed p same q =
     (read ++ [], adds-more old mid new a b c read [] p q.0, q.1)
-fill-fault faults.Write old mid new a b c read had told failed p same q = absurd q
-fill-fault faults.Memory old mid new a b c read had told failed p same q =
+fill-fault s faults.Write old mid new a b c read had told failed p same q = absurd q
+fill-fault s faults.Memory old mid new a b c read had told failed p same q =
     (read ++ q.0, Consumes-trans a b c read q.0 p.consumed q.1, q.2 ∙ same)
 
 -- the end of the stream
-pub end-found : (old mid new : FrameBuffer) (a b c : Option (List ℕ)) (read : List ℕ)
+pub end-found : (s : Bool) (old mid new : FrameBuffer) (a b c : Option (List ℕ)) (read : List ℕ)
     (had told failed : Bool)
     → Adds old mid a b read
     → told ≡ had
-    → IsUnfinished (held mid)
+    → IsLast s (held mid)
     → Fills (Ok false) mid new b c told failed
-    → FindsFrame (Ok End) old new a c had failed
-end-found old mid new a b c read had told failed p same few q = (
+    → Finds s (Ok End) old new a c had failed
+end-found s old mid new a b c read had told failed p same few q = (
   read ++ [],
   adds-more old mid new a b c read [] p q.0,
-  (subst IsUnfinished (sym (q.0.behind ∙ append-nil (held mid))) few, q.1),
+  (subst (IsLast s) (sym (q.0.behind ∙ append-nil (held mid))) few, q.1),
   q.2 ∙ same,
 )
 
 -- ---- one way
 
 -- the version stands in the first octet, whatever comes behind
-begins-front : (b rest : List ℕ) → 6 ≤ length b → may_begin (b ++ rest) ≡ may_begin b
+pub begins-front : (b rest : List ℕ) → 0 < length b → may_begin (b ++ rest) ≡ may_begin b
 begins-front [] rest h = absurd (omega arith)
 begins-front (x ∷ xs) rest h =
     let long : (length ((x ∷ xs) ++ rest) == 0) ≡ (length (x ∷ xs) == 0) =
@@ -116,7 +118,8 @@ no_frame f more h (inl few) =
     none_or (front_of (f ++ more)) (f, more) (framed_first f more h.framed)
     (unfinished_front (f ++ more) few)
 no_frame f more h (inr stray) =
-    let begins = sym (begins-front f more h.framed.headed ∙ h.begins) ∙ stray in cc begins
+    let begins = sym (begins-front f more (omega (arith, h.framed.headed)) ∙ h.begins) ∙ stray in
+    cc begins
 
 one_cut : (fs gs : List (List ℕ)) (rest left : List ℕ)
     → AllByRecursion IsFrame fs

@@ -1,1 +1,4 @@
+pub mod AgainLemmas
 pub mod FrameLemmas
+pub mod RunLemmas
+pub mod StretchLemmas

@@ -3,7 +3,7 @@
 ghost use Rattle.std.specs.Prelude.{◌≤◌, length};
 ghost use Rattle.lpt_frames.specs.Frames.{most_kept};
 
-use crate::front::front_in;
+use crate::front::front_by;
 use crate::{Front, Peer};
 use lpt_text::{Sink, StreamFault, flush_out};
 use std::alloc::Global;
@@ -27,7 +27,7 @@ impl FrameBuffer {
     ghost use Rattle.std.specs.Io.KnownBytes.{Keeps};
     ghost use Rattle.lpt_text.specs.Streams.{WriteEnds};
     ghost use Rattle.lpt_packet.specs.Sizes.{longest_packet};
-    ghost use Rattle.lpt_frames.specs.Buffers.{held, kept, Fills, FindsFrame};
+    ghost use Rattle.lpt_frames.specs.Buffers.{held, kept, Fills, Finds, FindsFrame};
 
     /// A stream of which nothing was read.
     pub fn new(alloc: Global) -> Self
@@ -76,8 +76,23 @@ impl FrameBuffer {
         ensures same { Keeps (K.contents out.old) (K.contents out.new) }
         ensures writer { WriteEnds result (K.failed out.old) (K.failed out.new) }
     {
+        self.find(true, peer, out)
+    }
+
+    // The same by the rule that holds in front: in step, or behind octets that are no packet.
+    pub(crate) fn find<P: Peer, K: Sink>(
+        &mut self,
+        in_step: bool,
+        peer: &mut P,
+        out: &mut K,
+    ) -> Result<Front, StreamFault>
+        ensures finds { Finds in_step result self.old self.new (P.remaining peer.old)
+            (P.remaining peer.new) (P.failed peer.old) (P.failed peer.new) }
+        ensures same { Keeps (K.contents out.old) (K.contents out.new) }
+        ensures writer { WriteEnds result (K.failed out.old) (K.failed out.new) }
+    {
         loop {
-            match front_in(self.held()) {
+            match front_by(self.held(), in_step) {
                 Some(front) => return Ok(front),
                 None => {}
             }

@@ -1,8 +1,7 @@
 -- What is noted of a packet or a tick, and the names that are freed.
-use Rattle.std.proofs.Common.{◌≡◌, ◌∙◌, ap, sym, subst, refl, ℕ, ◌+◌, ◌<◌, Bool, true, false, if◌then◌else◌, List, [], ◌∷◌, ◌++◌, length, drop, Option, Some, None, append-nil, append_assoc, get_or, add-one, drop-cons, arith}
+use Rattle.std.proofs.Common.{◌≡◌, ◌∙◌, ap, sym, subst, refl, ℕ, ◌+◌, ◌<◌, Bool, true, false, if◌then◌else◌, List, [], ◌∷◌, ◌++◌, length, drop, Option, Some, None, append-nil, append_assoc, get_or, add-one, drop-cons}
 use Rattle.std.specs.Io.KnownBytes.{Appends}
 use Rattle.std.proofs.KnownBytes.{Appends-nil}
-use Rattle.lpt_memory.specs.Memories.{Contents}
 use Rattle.lpt_node.specs.Nodes.{NodeData}
 use Rattle.lpt_stream.specs.Streams.{all_octets}
 use Rattle.lpt_spacecraft.specs.Flights.{cleared, clearing, due_now, freed, is_due, noting, state_of, told_first, told_freed, use_of, uses_of}

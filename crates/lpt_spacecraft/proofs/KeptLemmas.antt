@@ -6,7 +6,6 @@ use Rattle.std.proofs.Math.Seq.{drop-append_seam, take-append_seam}
 use Rattle.lpt_memory.specs.Memories.{content_of, Contents}
 use Rattle.lpt_packet.specs.Checksums.{checksum}
 use Rattle.lpt_packet.specs.Numbers.{be}
-use Rattle.lpt_packet.specs.Packets.{sealed}
 use Rattle.lpt_spacecraft.specs.Keeping.{kept_head, kept_memories, kept_memory, kept_octets, HasLength, HaveLengths, KeptIsRead}
 use Rattle.lpt_node.specs.Nodes.{NodeView}
 use Rattle.lpt_state.proofs.LawLemmas.{written_is_read}

@@ -1,7 +1,9 @@
+pub mod EventLemmas
 pub mod FlightLemmas
 pub mod FoldLemmas
 pub mod KeepingLemmas
 pub mod KeptLemmas
+pub mod NoiseLemmas
 pub mod ReaderLemmas
 pub mod ServingLemmas
 pub mod StreamLemmas

@@ -1,18 +1,20 @@
 -- The spacecraft's end as a stream goes on: what comes, and the names that are freed.
-use Rattle.std.specs.Prelude.{ℕ, Bool, true, false, ◌+◌, ◌==◌, nat_le, if◌then◌else◌, List, [], ◌∷◌, ◌++◌, Option, Some, None}
+use Rattle.std.specs.Prelude.{ℕ, zero, suc, Bool, true, false, ◌+◌, ◌==◌, nat_le, if◌then◌else◌, List, [], ◌∷◌, ◌++◌, length, Option, Some, None}
 use Rattle.lpt_events.specs.declared.config.Config.{Config}
 use Rattle.lpt_events.specs.declared.side.Side.TheVariants.{Craft}
+use Rattle.lpt_frames.specs.Stretches.{Stretch, Framed, Passed}
 use Rattle.lpt_ledger.specs.declared.state.State.{State}
 use Rattle.lpt_ledger.specs.declared.state.State.TheVariants.{Free, Open, Closed}
 use Rattle.lpt_node.specs.Nodes.{NodeData}
 use Rattle.lpt_node.specs.Restarts.{name_state, retired}
 use Rattle.lpt_packet.specs.Names.{Name}
 use Rattle.lpt_packet.specs.declared.direction.Direction.{Direction}
+use Rattle.lpt_stream.specs.Pieces.{up_to_limit}
 use Rattle.lpt_spacecraft.specs.Serving.{Onboard, beaten, taken}
 use Rattle.lpt_spacecraft.specs.Telling.{all_noted, ended, given_up, taken_in, took}
 use Rattle.lpt_spacecraft.specs.declared.pace.Use.{Use}
 use Rattle.lpt_spacecraft.specs.declared.told.Told.{Told}
-use Rattle.lpt_spacecraft.specs.declared.told.Told.TheVariants.{Freed}
+use Rattle.lpt_spacecraft.specs.declared.told.Told.TheVariants.{Freed, Skipped}
 
 -- the end, after how many ticks a name that was used is free again, or never at 0, and the names
 -- that were used and aren't free yet, the oldest use first; where none is freed none is kept
@@ -25,11 +27,13 @@ pub record Flight : Type 0 where
 abbrev pub new_flight : (reuse : ℕ) → Onboard → Flight
 new_flight reuse s = record { end = s; reuse = reuse; uses = [] }
 
--- what comes to the spacecraft: a packet, a tick of its clock, and that names are freed
+-- what comes to the spacecraft: a packet, a tick of its clock, that names are freed, and so many
+-- octets at a place that are no packet
 pub data Input : Type 0 where
   Came : (octets : List ℕ) → Input
   Ticked : Input
   Cleared : Input
+  Astray : (place len : ℕ) → Input
 
 -- what came of it: the end, the packets that it made, in their order, and what is told
 pub record Made : Type 0 where
@@ -122,6 +126,8 @@ abbrev pub step : Config → Flight → Input → Made
 step c f (Came b) = noting f (taken c f.end b) (took (taken_in c f.end b))
 step c f Ticked = noting f (beaten c f.end) (given_up c f.end)
 step c f Cleared = clearing f (cleared f.reuse f.end.node f.uses)
+step c f (Astray place len) =
+    record { flight = f; packets = []; told = Skipped place len ∷ [] }
 
 -- more was made before
 abbrev pub behind_made : Made → Made → Made
@@ -150,8 +156,62 @@ tick_at every since = if since == every then Ticked ∷ Cleared ∷ [] else []
 abbrev pub counted_on : (every since : ℕ) → ℕ
 counted_on every since = if since + 1 == every then 0 else since + 1
 
--- packets with a tick behind each that many; behind none where that is 0
-abbrev pub with_ticks : (every since : ℕ) → List (List ℕ) → List Input
-with_ticks every since [] = []
-with_ticks every since (b ∷ bs) =
-    Came b ∷ (tick_at every (since + 1) ++ with_ticks every (counted_on every since) bs)
+-- a packet comes, and a tick behind it, where that many came
+abbrev pub came_with : (every since : ℕ) → List ℕ → List Input
+came_with every since b = Came b ∷ tick_at every (since + 1)
+
+-- ---- ticks by a clock
+
+-- so many ticks, with names freed behind each
+abbrev pub clock_ticks : ℕ → List Input
+clock_ticks zero = []
+clock_ticks (suc n) = clock_ticks n ++ (Ticked ∷ Cleared ∷ [])
+
+-- ---- a stream
+
+-- what is found in a stream: a packet, before which so many ticks are due by the clock, and octets
+-- that are passed over
+pub data Event : Type 0 where
+  Packet : (due : ℕ) → (octets : List ℕ) → Event
+  Noise : (octets : List ℕ) → Event
+
+-- as it was cut
+abbrev pub stretch_of : Event → Stretch
+stretch_of (Packet due b) = Framed b
+stretch_of (Noise b) = Passed b
+
+abbrev pub stretches_of : List Event → List Stretch
+stretches_of [] = []
+stretches_of (e ∷ es) = stretch_of e ∷ stretches_of es
+
+-- how many ticks are due before packets, in front of those before others
+abbrev pub due_before : Event → List ℕ → List ℕ
+due_before (Packet due b) ns = due ∷ ns
+due_before (Noise b) ns = ns
+
+-- how many are due before each packet
+abbrev pub dues_of : List Event → List ℕ
+dues_of [] = []
+dues_of (e ∷ es) = due_before e (dues_of es)
+
+-- how many octets it has
+abbrev pub size_of : Event → ℕ
+size_of (Packet due b) = length b
+size_of (Noise b) = length b
+
+-- what comes with it at a place
+abbrev pub inputs_by : (every since place : ℕ) → Event → List Input
+inputs_by every since place (Packet due b) = clock_ticks due ++ came_with every since b
+inputs_by every since place (Noise b) = Astray (up_to_limit place) (length b) ∷ []
+
+-- how many packets came since the last tick by packets, with it
+abbrev pub since_by : (every since : ℕ) → Event → ℕ
+since_by every since (Packet due b) = counted_on every since
+since_by every since (Noise b) = since
+
+-- what comes with all of them, from a place on
+abbrev pub inputs_of : (every since place : ℕ) → List Event → List Input
+inputs_of every since place [] = []
+inputs_of every since place (e ∷ es) =
+    inputs_by every since place e
+    ++ inputs_of every (since_by every since e) (place + size_of e) es

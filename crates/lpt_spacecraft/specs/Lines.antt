@@ -6,7 +6,7 @@ use Rattle.lpt_packet.specs.Names.{Name}
 use Rattle.lpt_packet.specs.declared.direction.Direction.TheVariants.{Up, Down}
 use Rattle.lpt_script_text.specs.Printing.{applied_text, expired_text, line_of, outcome_text, retired_text, transaction_line}
 use Rattle.lpt_spacecraft.specs.declared.told.Told.{Told}
-use Rattle.lpt_spacecraft.specs.declared.told.Told.TheVariants.{Took, Did, GaveUp, Freed, UsedUp}
+use Rattle.lpt_spacecraft.specs.declared.told.Told.TheVariants.{Took, Did, GaveUp, Freed, UsedUp, Skipped}
 
 -- The first argument is the configured source, whose names have no source in them.
 
@@ -26,3 +26,5 @@ told_text source (GaveUp name) = expired_text source Up name
 told_text source (Freed way name) = retired_text source way name
 told_text source (UsedUp way from) =
     line_of (codes "full" ∷ direction_word way ∷ decimal from ∷ [])
+told_text source (Skipped place len) =
+    line_of (codes "skipped" ∷ decimal place ∷ decimal len ∷ [])

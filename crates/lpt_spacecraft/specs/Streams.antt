@@ -1,5 +1,6 @@
 -- What the spacecraft's end makes of a stream.
-use Rattle.std.specs.Prelude.{◌≡◌, ◌⊎◌, ◌-◌, ◌^◌, ◌<◌, ◌++◌, ℕ, List, [], ◌∷◌, length, Option, Some, None, Result, Ok, Err, option_to_list}
+use Rattle.std.specs.Prelude.{◌≡◌, ◌⊎◌, ◌-◌, ◌^◌, ◌<◌, ◌≤◌, ◌++◌, ℕ, Bool, true, false, List, [], ◌∷◌, length, Option, Some, None, Result, Ok, Err, option_to_list}
+use Rattle.std.specs.List.{AllByRecursion}
 use Rattle.std.specs.Io.KnownBytes.{Appends, Consumes, IsAtEnd}
 use Rattle.lpt_memory.specs.Memories.{Contents}
 use Rattle.lpt_jobs.specs.Jobs.{numbered}
@@ -11,8 +12,9 @@ use Rattle.lpt_text.specs.declared.fault.StreamFault.{StreamFault}
 use Rattle.lpt_text.specs.declared.fault.StreamFault.TheVariants as faults
 use Rattle.lpt_stream.specs.Pieces.{up_to_limit}
 use Rattle.lpt_stream.specs.Streams.{all_octets, IsUnfinished}
-use Rattle.lpt_frames.specs.Frames.{IsCut, IsStray}
-use Rattle.lpt_spacecraft.specs.Flights.{Flight, Made, new_flight, served, with_ticks}
+use Rattle.lpt_frames.specs.Frames.{IsStray}
+use Rattle.lpt_frames.specs.Stretches.{stretch_octets, IsCutInto}
+use Rattle.lpt_spacecraft.specs.Flights.{Event, Flight, Made, dues_of, inputs_of, new_flight, served, stretches_of}
 use Rattle.lpt_spacecraft.specs.Serving.{Onboard}
 use Rattle.lpt_spacecraft.specs.Telling.{Hears}
 use Rattle.lpt_spacecraft.specs.declared.pace.Course.{Course}
@@ -72,67 +74,89 @@ pub record Flies (x : Made) (s : Spacecraft) (q : Course) (old new : Option (Lis
 
 -- ---- a stream
 
--- what these packets make of a spacecraft at this pace
-abbrev pub served_by : Pace → Spacecraft → List (List ℕ) → Made
-served_by pace s packets =
-    served s.config (new_flight pace.reuse (onboard s)) (with_ticks pace.every 0 packets)
+-- what these events make of a spacecraft at this pace
+abbrev pub served_by : Pace → Spacecraft → List Event → Made
+served_by pace s events =
+    served s.config (new_flight pace.reuse (onboard s)) (inputs_of pace.every 0 0 events)
 
--- octets were read, and cut into packets and a rest of which this holds; those that are lost were
+-- The clock answered so, one answer after the other, where it is asked; where it isn't, no tick is
+-- due.
+abbrev pub Answers : (is_asked : Bool) → (before after : Option (List ℕ)) → List ℕ → Type 0
+Answers true before after dues = Consumes before after dues
+Answers false before after dues = (after ≡ before) × AllByRecursion (λ n. n ≡ 0) dues
+
+-- octets were read, and cut into events and a rest of which this holds; those that are lost were
 -- read behind them
-abbrev pub ReadsCut : (before after : Option (List ℕ)) → (lost : List ℕ)
-    → (List (List ℕ) → List ℕ → Type 0) → Type 0
-ReadsCut before after lost P =
-    (stream : List ℕ) × (packets : List (List ℕ)) × (rest : List ℕ)
-    × Consumes before after (stream ++ lost) × IsCut stream packets rest × P packets rest
+abbrev pub ReadsCut : (passing : Bool) → (before after : Option (List ℕ)) → (lost : List ℕ)
+    → (List Event → List ℕ → Type 0) → Type 0
+ReadsCut passing before after lost P =
+    (stream : List ℕ) × (events : List Event) × (rest : List ℕ)
+    × Consumes before after (stream ++ lost) × IsCutInto passing stream (stretches_of events) rest
+    × P events rest
+
+-- how many octets events have
+abbrev pub length_of : List Event → ℕ
+length_of events = length (stretch_octets (stretches_of events))
 
 -- where a stream ends, with these octets left behind its packets, at this place
 abbrev pub end_at : (place : ℕ) → List ℕ → Stop
 end_at place [] = End
 end_at place (b ∷ bs) = Cut place
 
--- work stops there: behind so many octets of packets, before this rest
-abbrev pub StopsAt : Stop → (len : ℕ) → (rest : List ℕ) → (after : Option (List ℕ)) → Type 0
-StopsAt End len rest after = (rest ≡ []) × IsAtEnd after
-StopsAt (Cut place) len rest after =
+-- Work stops there: behind so many octets, before this rest; and before octets with which no packet
+-- begins only where these aren't passed over.
+abbrev pub StopsAt : (passing : Bool) → Stop → (len : ℕ) → (rest : List ℕ)
+    → (after : Option (List ℕ)) → Type 0
+StopsAt passing End len rest after = (rest ≡ []) × IsAtEnd after
+StopsAt passing (Cut place) len rest after =
     (place ≡ up_to_limit len) × IsUnfinished rest × (0 < length rest) × IsAtEnd after
-StopsAt (Stray place) len rest after = (place ≡ up_to_limit len) × IsStray rest
+StopsAt passing (Stray place) len rest after =
+    (place ≡ up_to_limit len) × IsStray rest × (passing ≡ false)
 
--- all of these packets were taken, what they make was written, and what they tell was told
-pub record Serves (pace : Pace) (s t : Spacecraft) (old new : Option (List ℕ))
-    (had has : Option (List Told)) (packets : List (List ℕ)) : Type 0 where
-  pub writes : Writes (plain (served_by pace s packets)) t old new
-  pub told : Hears had has (served_by pace s packets).told
+-- all of these were taken, what they make was written, and what they tell was told; the clock
+-- answered so before each packet
+pub record Serves (pace : Pace) (s t : Spacecraft) (old new asked answered : Option (List ℕ))
+    (had has : Option (List Told)) (events : List Event) : Type 0 where
+  pub writes : Writes (plain (served_by pace s events)) t old new
+  pub told : Hears had has (served_by pace s events).told
+  pub answers : Answers pace.clocked asked answered (dues_of events)
 
--- The packets before the last were taken, and what they tell was told; what all make was written in
+-- The events before the last were taken, and what they tell was told; what all make was written in
 -- part; the memories are as before the last or as it leaves them. Or there is none at which work
 -- broke off.
-pub record BreaksOff (pace : Pace) (s t : Spacecraft) (old new : Option (List ℕ))
-    (had has : Option (List Told)) (packets : List (List ℕ)) : Type 0 where
-  pub taken : List (List ℕ)
-  pub last : Option (List ℕ)
-  pub are : packets ≡ taken ++ option_to_list last
+pub record BreaksOff (pace : Pace) (s t : Spacecraft) (old new asked answered : Option (List ℕ))
+    (had has : Option (List Told)) (events : List Event) : Type 0 where
+  pub taken : List Event
+  pub last : Option Event
+  pub are : events ≡ taken ++ option_to_list last
   pub breaks : Breaks (served_by pace s taken).flight.end.memories
-      (plain (served_by pace s packets)) t.memories old new
+      (plain (served_by pace s events)) t.memories old new
   pub told : Hears had has (served_by pace s taken).told
+  pub answers : Answers pace.clocked asked answered (dues_of events)
 
--- How work on a stream ends. Ok: where it stops, all packets before that were taken. Read: the
--- same, and no more was read. Write, Memory: it broke off; octets that found no memory are lost.
+-- How work on a stream ends. Ok: where it stops, all events before that were taken. Read: the same,
+-- and no more was read. Write, Memory: it broke off; octets that found no memory are lost.
 abbrev pub ServesTo : Pace → Result Stop StreamFault → (s t : Spacecraft)
-    → (before after old new : Option (List ℕ)) → (had has : Option (List Told)) → Type 0
-ServesTo pace (Ok stop) s t before after old new had has =
-    ReadsCut before after [] (λ packets rest.
-    StopsAt stop (length (all_octets packets)) rest after
-    × Serves pace s t old new had has packets)
-ServesTo pace (Err faults.Read) s t before after old new had has =
-    ReadsCut before after [] (λ packets rest. Serves pace s t old new had has packets)
-ServesTo pace (Err faults.Write) s t before after old new had has =
-    ReadsCut before after [] (λ packets rest. BreaksOff pace s t old new had has packets)
-ServesTo pace (Err faults.Memory) s t before after old new had has =
+    → (before after old new asked answered : Option (List ℕ)) → (had has : Option (List Told))
+    → Type 0
+ServesTo pace (Ok stop) s t before after old new asked answered had has =
+    ReadsCut pace.passing before after [] (λ events rest.
+    StopsAt pace.passing stop (length_of events) rest after
+    × Serves pace s t old new asked answered had has events)
+ServesTo pace (Err faults.Read) s t before after old new asked answered had has =
+    ReadsCut pace.passing before after [] (λ events rest.
+    Serves pace s t old new asked answered had has events)
+ServesTo pace (Err faults.Write) s t before after old new asked answered had has =
+    ReadsCut pace.passing before after [] (λ events rest.
+    BreaksOff pace s t old new asked answered had has events)
+ServesTo pace (Err faults.Memory) s t before after old new asked answered had has =
     (lost : List ℕ)
-    × ReadsCut before after lost (λ packets rest. BreaksOff pace s t old new had has packets)
+    × ReadsCut pace.passing before after lost (λ events rest.
+    BreaksOff pace s t old new asked answered had has events)
 
--- 2^64 - 1 packets were read, or as many requests released
-abbrev pub IsEndless : Spacecraft → (before after : Option (List ℕ)) → Type 0
-IsEndless t before after =
-    ReadsCut before after [] (λ packets rest. length packets ≡ 2 ^ 64 - 1)
-    ⊎ (numbered t.node.at.jobs ≡ 2 ^ 64 - 1)
+-- 2^64 - 1 packets and runs were read, or as many requests released, or octets passed over
+abbrev pub IsEndless : (passing : Bool) → Spacecraft → (before after : Option (List ℕ)) → Type 0
+IsEndless passing t before after =
+    ReadsCut passing before after [] (λ events rest. length events ≡ 2 ^ 64 - 1)
+    ⊎ ((numbered t.node.at.jobs ≡ 2 ^ 64 - 1)
+    ⊎ ((octets : List ℕ) × Consumes before after octets × (2 ^ 64 - 1 ≤ length octets)))

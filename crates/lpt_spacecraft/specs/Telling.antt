@@ -22,7 +22,7 @@ use Rattle.lpt_spacecraft.specs.Serving.{Onboard, first_expired, read_over, tick
 use Rattle.lpt_spacecraft.specs.declared.told.Done.{Done}
 use Rattle.lpt_spacecraft.specs.declared.told.Taken.{Taken}
 use Rattle.lpt_spacecraft.specs.declared.told.Told.{Told}
-use Rattle.lpt_spacecraft.specs.declared.told.Told.TheVariants.{Took, Did, GaveUp, Freed, UsedUp}
+use Rattle.lpt_spacecraft.specs.declared.told.Told.TheVariants.{Took, Did, GaveUp, Freed, UsedUp, Skipped}
 
 -- what is known to have been told grows by these
 abbrev pub Hears : (old new : Option (List Told)) → List Told → Type 0
@@ -101,6 +101,7 @@ ended (Did d) = option_map (λ x. (Down, x.0)) d.sent
 ended (GaveUp name) = Some (Up, name)
 ended (Freed way name) = None
 ended (UsedUp way source) = None
+ended (Skipped place len) = None
 
 -- what an end knows of the names of a direction
 abbrev pub names_at : NodeData → Direction → Marks

@@ -4,7 +4,7 @@ ghost use Rattle.std.specs.Prelude.{◌≡◌, ◌∷◌, ◌⊎◌, ◌+◌, �
 ghost use Rattle.lpt_jobs.specs.Jobs.{numbered};
 ghost use Rattle.lpt_stream.specs.Streams.{all_octets};
 ghost use Rattle.lpt_text.specs.Streams.{AppendsPart, WriteEnds};
-ghost use Rattle.lpt_spacecraft.specs.Flights.{Came, Ticked, Cleared, counted_on, served, step, with_ticks};
+ghost use Rattle.lpt_spacecraft.specs.Flights.{Came, Ticked, Cleared, came_with, clock_ticks, counted_on, served, step};
 ghost use Rattle.lpt_spacecraft.specs.Serving.{beaten, taken};
 ghost use Rattle.lpt_spacecraft.specs.Streams.{flight_of, onboard, plain, Breaks, Flies, IsIdle};
 
@@ -12,9 +12,76 @@ use crate::pace::Course;
 use crate::{Spacecraft, Told};
 use lpt_text::{Sink, StreamFault};
 
-// Takes a packet, and ticks behind it where that is due, and writes what they make; adds what there
-// is to tell.
+// Ticks as often as is due by the clock, takes a packet, and ticks behind it where that is due, and
+// writes what they make; adds what there is to tell.
 pub(crate) fn serve_one<K: Sink>(
+    craft: &mut Spacecraft,
+    course: &mut Course,
+    due: u64,
+    octets: &[u8],
+    told: &mut Vec<Told>,
+    out: &mut K,
+) -> Result<(), StreamFault>
+    requires idle { IsIdle craft.old }
+    requires room { numbered craft.old.node.at.jobs + 1 < 2 ^ 64 }
+    requires since { course.old.since + 1 < 2 ^ 64 }
+    ensures ok { OnOk result (Flies (served craft.old.config (flight_of craft.old course.old)
+        (clock_ticks due ++ came_with course.old.pace.every course.old.since octets.now))
+        craft.new course.new (K.contents out.old) (K.contents out.new)
+        (Some told.old.items) (Some told.new.items)) }
+    ensures since { OnOk result (course.new.since
+        ≡ counted_on course.old.pace.every course.old.since) }
+    ensures idle { OnOk result (IsIdle craft.new) }
+
+    ensures pace { course.new.pace ≡ course.old.pace }
+    ensures config { craft.new.config ≡ craft.old.config }
+
+    ensures fault { IfErr result (λ e. (e ≡ StreamFault.Write) ⊎ (e ≡ StreamFault.Memory)) }
+    ensures writer { WriteEnds result (K.failed out.old) (K.failed out.new) }
+    ensures breaks { IfErr result (λ _. Breaks craft.old.memories
+        (plain (served craft.old.config (flight_of craft.old course.old)
+        (clock_ticks due ++ came_with course.old.pace.every course.old.since octets.now)))
+        craft.new.memories (K.contents out.old) (K.contents out.new)) }
+{
+    tick_all(craft, course, due, told, out)?;
+    take_next(craft, course, octets, told, out)?;
+    Ok(())
+}
+
+// Ticks so many times, and adds what there is to tell.
+fn tick_all<K: Sink>(
+    craft: &mut Spacecraft,
+    course: &mut Course,
+    due: u64,
+    told: &mut Vec<Told>,
+    out: &mut K,
+) -> Result<(), StreamFault>
+    requires idle { IsIdle craft.old }
+    ensures ok { OnOk result (Flies (served craft.old.config (flight_of craft.old course.old)
+        (clock_ticks due)) craft.new course.new (K.contents out.old) (K.contents out.new)
+        (Some told.old.items) (Some told.new.items)) }
+    ensures idle { OnOk result (IsIdle craft.new) }
+    ensures jobs { OnOk result (craft.new.node.at.jobs ≡ craft.old.node.at.jobs) }
+
+    ensures since { course.new.since ≡ course.old.since }
+    ensures pace { course.new.pace ≡ course.old.pace }
+    ensures config { craft.new.config ≡ craft.old.config }
+    ensures memories { craft.new.memories ≡ craft.old.memories }
+
+    ensures fault { IfErr result (λ e. (e ≡ StreamFault.Write) ⊎ (e ≡ StreamFault.Memory)) }
+    ensures writer { WriteEnds result (K.failed out.old) (K.failed out.new) }
+    ensures part { IfErr result (λ _. AppendsPart (K.contents out.old) (K.contents out.new)
+        (all_octets (served craft.old.config (flight_of craft.old course.old)
+        (clock_ticks due)).packets)) }
+{
+    for k in 0..due {
+        tick_one(craft, course, told, out)?;
+    }
+    Ok(())
+}
+
+// Takes a packet, and ticks behind it where that is due, and adds what there is to tell.
+fn take_next<K: Sink>(
     craft: &mut Spacecraft,
     course: &mut Course,
     octets: &[u8],
@@ -25,7 +92,7 @@ pub(crate) fn serve_one<K: Sink>(
     requires room { numbered craft.old.node.at.jobs + 1 < 2 ^ 64 }
     requires since { course.old.since + 1 < 2 ^ 64 }
     ensures ok { OnOk result (Flies (served craft.old.config (flight_of craft.old course.old)
-        (with_ticks course.old.pace.every course.old.since (octets.now ∷ []))) craft.new course.new
+        (came_with course.old.pace.every course.old.since octets.now)) craft.new course.new
         (K.contents out.old) (K.contents out.new) (Some told.old.items) (Some told.new.items)) }
     ensures since { OnOk result (course.new.since
         ≡ counted_on course.old.pace.every course.old.since) }
@@ -38,7 +105,7 @@ pub(crate) fn serve_one<K: Sink>(
     ensures writer { WriteEnds result (K.failed out.old) (K.failed out.new) }
     ensures breaks { IfErr result (λ _. Breaks craft.old.memories
         (plain (served craft.old.config (flight_of craft.old course.old)
-        (with_ticks course.old.pace.every course.old.since (octets.now ∷ []))))
+        (came_with course.old.pace.every course.old.since octets.now)))
         craft.new.memories (K.contents out.old) (K.contents out.new)) }
 {
     match take_one(craft, course, octets, told, out) {
@@ -103,6 +170,7 @@ fn tick_one<K: Sink>(
         (Ticked ∷ Cleared ∷ [])) craft.new course.new (K.contents out.old) (K.contents out.new)
         (Some told.old.items) (Some told.new.items)) }
     ensures idle { OnOk result (IsIdle craft.new) }
+    ensures jobs { OnOk result (craft.new.node.at.jobs ≡ craft.old.node.at.jobs) }
 
     ensures since { course.new.since ≡ course.old.since }
     ensures pace { course.new.pace ≡ course.old.pace }

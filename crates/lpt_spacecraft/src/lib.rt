@@ -1,13 +1,14 @@
 //! The spacecraft's end over a stream of packets. Each packet goes to a node; each request that is
 //! released is read and executed at once; what is reported of it is written, in order, and a
-//! report that is too long for a packet in all its parts. Ticks come every so many packets, and
-//! what is due then is given up; so many ticks after its use a name is free again, where that is
-//! asked for. What outlasts a machine that dies is kept before anything that was made is written.
-//! What happens is told.
+//! report that is too long for a packet in all its parts. Ticks come every so many packets, or by a
+//! clock, and what is due then is given up; so many ticks after its use a name is free again, where
+//! that is asked for. What outlasts a machine that dies is kept before anything that was made is
+//! written. What happens is told.
 //!
 //! The main type is `Spacecraft`. The first calls are `Spacecraft::new` and `serve_stream`.
 #![tactic(auto)]
 
+mod clock;
 mod flying;
 mod keeping;
 mod kept_file;
@@ -24,6 +25,7 @@ mod ticking;
 mod told;
 mod writing;
 
+pub use clock::Clock;
 pub use keeping::{Keeper, Unkept};
 pub use kept_file::KeptFault;
 pub use lines::print_told;

@@ -14,7 +14,8 @@ use std::alloc::{AllocError, Global};
 /// The lines that tell this: what became of a packet, as `kept up 7 3`; of a request, as
 /// `applied done`, with `reports 4` behind it, and `sent down 0 235` where a report went in so many
 /// parts; `expired up 7`; `retired up 7` where the name is free again; `full up 1` where that
-/// source has no free name left. The only error is out of memory.
+/// source has no free name left; `skipped 52 13` where so many octets at a place are no packet. The
+/// only error is out of memory.
 pub fn print_told(alloc: Global, source: u16, told: Told) -> Result<String, AllocError>
     ensures { IfOk result (λ t. string_bytes t ≡ told_text source told) }
 {
@@ -27,6 +28,7 @@ pub fn print_told(alloc: Global, source: u16, told: Told) -> Result<String, Allo
             let direction = direction.word();
             format!(in alloc; "full {direction} {from}\n")
         }
+        Told::Skipped(place, len) => format!(in alloc; "skipped {place} {len}\n"),
     }
 }
 

@@ -1,4 +1,4 @@
-//! When ticks come, and when a name that was used is free again.
+//! When ticks come, when a name that was used is free again, and how a stream is cut.
 
 ghost use Rattle.std.specs.Prelude.{◌≡◌, ◌∷◌, [], ◌++◌, IfErr, OnOk, Some};
 ghost use Rattle.lpt_spacecraft.specs.Flights.{cleared, due_now, freed, state_of, told_freed, use_of, uses_of};
@@ -11,13 +11,17 @@ use lpt_text::StreamFault;
 use std::alloc::Global;
 use std::collections::VecDeque;
 
-/// When ticks come, and when a name that was used is free again.
+/// When ticks come, when a name that was used is free again, and how a stream is cut.
 #[derive(Clone, Copy)]
 pub struct Pace {
     /// Behind how many packets a tick comes; at 0 never.
     pub every: u64,
+    /// Whether the clock is asked before each packet how many ticks are due.
+    pub clocked: bool,
     /// How many ticks after its use a name is free again; at 0 never.
     pub reuse: u32,
+    /// Whether octets with which no packet can begin are passed over; else they end the stream.
+    pub passing: bool,
 }
 
 /// A name that was used: its reception ended, or its report was sent.

@@ -1,18 +1,19 @@
 //! A stream of packets, served as it comes.
 
-ghost use Rattle.std.specs.Prelude.{◌≡◌, ◌∷◌, ◌⊎◌, ◌+◌, ◌<◌, ◌^◌, [], IfErr, IfOk, OnErr, OnOk, IsOk, Some};
+ghost use Rattle.std.specs.Prelude.{◌≡◌, ◌⊎◌, ◌+◌, ◌<◌, ◌^◌, ◌++◌, IfErr, IfOk, OnErr, OnOk, IsOk, Some};
 ghost use Rattle.std.specs.Io.KnownBytes.{Keeps};
 ghost use Rattle.lpt_jobs.specs.Jobs.{numbered};
 ghost use Rattle.lpt_text.specs.Streams.{ReadEnds, WriteEnds};
-ghost use Rattle.lpt_spacecraft.specs.Flights.{counted_on, served, with_ticks};
+ghost use Rattle.lpt_spacecraft.specs.Flights.{came_with, clock_ticks, counted_on, served};
 ghost use Rattle.lpt_spacecraft.specs.Keeping.{IsKeptAs};
 ghost use Rattle.lpt_spacecraft.specs.Streams.{end_at, flight_of, plain, Breaks, Flies, IsEndless, IsIdle, ServesTo};
 ghost use Rattle.lpt_spacecraft.specs.Telling.{Hears};
 
+use crate::clock::due_by;
 use crate::flying::serve_one;
 use crate::keeping::pass_on;
 use crate::pace::Course;
-use crate::{Keeper, Listener, Pace, Spacecraft, Stop, Told};
+use crate::{Clock, Keeper, Listener, Pace, Spacecraft, Stop, Told};
 use lpt_frames::{FrameBuffer, Front, Peer};
 use lpt_text::{FromStd, Sink, StreamFault, flush_out};
 
@@ -21,14 +22,20 @@ use lpt_text::{FromStd, Sink, StreamFault, flush_out};
 /// the spacecraft is kept, then what it made is written, and then what there is to tell is told.
 /// Before each read, and at the end, `out` passes on all that was written.
 ///
+/// Where the pace says so, such octets are passed over, up to the next packet whose checksum is
+/// right, and that is told; and before a packet is taken the clock is asked, and all ticks that are
+/// due by it come.
+///
 /// Errors: `Read` where a read failed, after all packets before it; or where 2^64 - 1 packets came,
-/// or as many requests; `Write` where a write failed; `Memory`, also where the spacecraft couldn't
-/// be kept. The memories are then as before the last packet or as that leaves them, a front part of
-/// what would be reported stays written, and of the last packet nothing is told.
-pub fn serve_stream<P: Peer, H: Keeper, L: Listener, K: Sink>(
+/// or as many requests, or so many octets are passed over; `Write` where a write failed; `Memory`,
+/// also where the spacecraft couldn't be kept. The memories are then as before the last packet or
+/// as that leaves them, a front part of what would be reported stays written, and of the last
+/// packet nothing is told.
+pub fn serve_stream<P: Peer, C: Clock, H: Keeper, L: Listener, K: Sink>(
     craft: &mut Spacecraft,
     pace: Pace,
     peer: &mut P,
+    clock: &mut C,
     keeper: &mut H,
     listener: &mut L,
     out: &mut K,
@@ -37,15 +44,16 @@ pub fn serve_stream<P: Peer, H: Keeper, L: Listener, K: Sink>(
     requires kept { IsKeptAs (H.kept keeper.old) craft.old }
     ensures ends { ServesTo pace result craft.old craft.new (P.remaining peer.old)
         (P.remaining peer.new) (K.contents out.old) (K.contents out.new)
-        (L.heard listener.old) (L.heard listener.new) }
+        (C.answers clock.old) (C.answers clock.new) (L.heard listener.old)
+        (L.heard listener.new) }
 
     // What was kept last is the spacecraft as it is.
     ensures kept { IsOk result → IsKeptAs (H.kept keeper.new) craft.new }
 
     // All that was written is passed on.
     ensures passed { IsOk result → K.flushed out.new ≡ K.contents out.new }
-    ensures reader { ReadEnds (IsEndless craft.new (P.remaining peer.old) (P.remaining peer.new))
-        result (P.failed peer.old) (P.failed peer.new) }
+    ensures reader { ReadEnds (IsEndless pace.passing craft.new (P.remaining peer.old)
+        (P.remaining peer.new)) result (P.failed peer.old) (P.failed peer.new) }
     ensures writer { WriteEnds result (K.failed out.old) (K.failed out.new) }
 {
     let mut buffer = FrameBuffer::new(craft.alloc);
@@ -54,21 +62,27 @@ pub fn serve_stream<P: Peer, H: Keeper, L: Listener, K: Sink>(
     for count in 0..u64::MAX {
         let len = match buffer.find_frame(peer, out) {
             Ok(Front::Frame(len)) => len,
-            Ok(Front::Stray) => return stop_at(Stop::Stray(place), out),
+            Ok(Front::Stray) => {
+                if !pace.passing {
+                    return stop_at(Stop::Stray(place), out);
+                }
+                let run = buffer.find_again(peer, out)?;
+                listener.tell(Told::Skipped(place, run.len));
+                place = place.saturating_add(run.len);
+                if run.is_end {
+                    return stop_at(end_at(place, buffer.held()), out);
+                }
+                continue;
+            }
             Ok(Front::End) => return stop_at(end_at(place, buffer.held()), out),
             Err(fault) => return Err(fault),
         };
         if craft.is_full() {
             return Err(StreamFault::Read);
         }
-        match serve_packet(
-            craft,
-            &mut course,
-            &buffer.held()[..len],
-            keeper,
-            listener,
-            out,
-        ) {
+        let due = due_by(clock, pace.clocked);
+        let octets = &buffer.held()[..len];
+        match serve_packet(craft, &mut course, due, octets, keeper, listener, out) {
             Ok(()) => {}
             Err(fault) => return Err(fault),
         }
@@ -78,11 +92,12 @@ pub fn serve_stream<P: Peer, H: Keeper, L: Listener, K: Sink>(
     Err(StreamFault::Read)
 }
 
-// Takes a packet, and ticks behind it where that is due. What they make is written once the
-// spacecraft is kept, and then what there is to tell is told.
+// Ticks as often as is due, takes a packet, and ticks behind it where that is due. What they make
+// is written once the spacecraft is kept, and then what there is to tell is told.
 fn serve_packet<H: Keeper, L: Listener, K: Sink>(
     craft: &mut Spacecraft,
     course: &mut Course,
+    due: u64,
     octets: &[u8],
     keeper: &mut H,
     listener: &mut L,
@@ -92,8 +107,9 @@ fn serve_packet<H: Keeper, L: Listener, K: Sink>(
     requires room { numbered craft.old.node.at.jobs + 1 < 2 ^ 64 }
     requires since { course.old.since + 1 < 2 ^ 64 }
     ensures ok { OnOk result (Flies (served craft.old.config (flight_of craft.old course.old)
-        (with_ticks course.old.pace.every course.old.since (octets.now ∷ []))) craft.new course.new
-        (K.contents out.old) (K.contents out.new) (L.heard listener.old) (L.heard listener.new)) }
+        (clock_ticks due ++ came_with course.old.pace.every course.old.since octets.now))
+        craft.new course.new (K.contents out.old) (K.contents out.new) (L.heard listener.old)
+        (L.heard listener.new)) }
     ensures since { OnOk result (course.new.since
         ≡ counted_on course.old.pace.every course.old.since) }
     ensures idle { OnOk result (IsIdle craft.new) }
@@ -106,13 +122,13 @@ fn serve_packet<H: Keeper, L: Listener, K: Sink>(
     ensures writer { WriteEnds result (K.failed out.old) (K.failed out.new) }
     ensures breaks { IfErr result (λ _. Breaks craft.old.memories
         (plain (served craft.old.config (flight_of craft.old course.old)
-        (with_ticks course.old.pace.every course.old.since (octets.now ∷ []))))
+        (clock_ticks due ++ came_with course.old.pace.every course.old.since octets.now)))
         craft.new.memories (K.contents out.old) (K.contents out.new)) }
     ensures untold { OnErr result (L.heard listener.new ≡ L.heard listener.old) }
 {
     let mut told = Vec::new(craft.alloc);
     let mut made = FromStd::new(Vec::new(craft.alloc));
-    match serve_one(craft, course, octets, &mut told, &mut made) {
+    match serve_one(craft, course, due, octets, &mut told, &mut made) {
         Ok(()) => {}
         Err(_) => return Err(StreamFault::Memory),
     }

@@ -25,6 +25,7 @@ impl Spacecraft {
         ensures told { OnOk result (told.new.items
             ≡ told.old.items ++ given_up self.old.config (onboard self.old)) }
         ensures idle { IsIdle self.old → OnOk result (IsIdle self.new) }
+        ensures jobs { OnOk result (self.new.node.at.jobs ≡ self.old.node.at.jobs) }
 
         ensures config { self.new.config ≡ self.old.config }
         ensures memories { self.new.memories ≡ self.old.memories }

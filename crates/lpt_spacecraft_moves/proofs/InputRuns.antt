@@ -1,5 +1,5 @@
 -- Whatever comes to the spacecraft's end is a run of its moves.
-use Rattle.std.proofs.Common.{◌≡◌, ◌∙◌, ap, ℕ, List, [], ◌∷◌, Option, Some, None}
+use Rattle.std.proofs.Common.{◌≡◌, ◌∙◌, ap, refl, ℕ, List, [], ◌∷◌, Option, Some, None}
 use Rattle.std.specs.Prelude.{option_to_list, IfSome}
 use Rattle.lpt_packet.specs.Numbers.{IsOctets}
 use Rattle.lpt_events.specs.Arrivals.{arrival}
@@ -16,7 +16,7 @@ use Rattle.lpt_model.specs.Tickets.{no_tickets}
 use Rattle.lpt_packet.specs.declared.direction.Direction.TheVariants.{Up}
 use Rattle.lpt_apart.specs.Moves.{Pair, Do, CanMove}
 use Rattle.lpt_apart.specs.Steps.{Accept}
-use Rattle.lpt_spacecraft.specs.Flights.{Flight, Input, Came, Ticked, Cleared, cleared}
+use Rattle.lpt_spacecraft.specs.Flights.{Flight, Input, Astray, Came, Ticked, Cleared, cleared}
 use Rattle.lpt_spacecraft.specs.Serving.{Onboard, all_sent, beaten, read_over, taken, worked, worked_if}
 use Rattle.lpt_spacecraft.specs.Streams.{WaitsFor}
 use Rattle.lpt_spacecraft.proofs.ServingLemmas.{executed-jobs, read_over-jobs}
@@ -114,6 +114,8 @@ input-moves c p f Ticked good at may octets =
       };
       put = r.put;
     }
+input-moves c p f (Astray place len) good at may octets =
+    record { moves = []; own = tt; can = tt; are = at; put = refl }
 input-moves c p f Cleared good at may octets =
     let x = cleared f.reuse f.end.node f.uses in
     let r = clear-run c f.reuse p f.end.node f.uses at.node may in

@@ -12,10 +12,10 @@ use Rattle.lpt_model.specs.Tickets.{no_tickets}
 use Rattle.lpt_apart.specs.Ends.{PutOut, without}
 use Rattle.lpt_apart.specs.Moves.{Pair, Move, Do, Free, CanMove, moved}
 use Rattle.lpt_apart.specs.Steps.{Accept, Apply, Claim, Commit, Expire, Finish, Retire, Send, Tick}
-use Rattle.lpt_spacecraft.specs.Flights.{Flight, Input, Came, Ticked, Cleared, step}
+use Rattle.lpt_spacecraft.specs.Flights.{Flight, Input, Astray, Came, Ticked, Cleared, step}
 use Rattle.lpt_spacecraft.specs.Serving.{Onboard}
 use Rattle.lpt_spacecraft.specs.declared.told.Told.{Told}
-use Rattle.lpt_spacecraft.specs.declared.told.Told.TheVariants.{Took, Did, GaveUp, Freed, UsedUp}
+use Rattle.lpt_spacecraft.specs.declared.told.Told.TheVariants.{Took, Did, GaveUp, Freed, UsedUp, Skipped}
 
 -- ---- moves, the oldest first
 
@@ -46,6 +46,7 @@ free_move (Took o) = []
 free_move (Did d) = []
 free_move (GaveUp name) = []
 free_move (UsedUp way source) = []
+free_move (Skipped place len) = []
 
 -- the moves by which the names are freed of which that is told
 abbrev pub free_moves : List Told → List Move
@@ -56,6 +57,7 @@ free_moves (t ∷ ts) = free_move t ++ free_moves ts
 abbrev pub MayBring : Config → Pair → Flight → Input → Type 0
 MayBring c p f (Came b) = CanMove c p (Do (Accept Up b))
 MayBring c p f Ticked = ⊤
+MayBring c p f (Astray place len) = ⊤
 MayBring c p f Cleared = CanMakeAll c p (free_moves (step c f Cleared).told)
 
 -- the message that it releases, where it releases one, is octets
@@ -63,6 +65,7 @@ abbrev pub ReleasesOctets : Config → Onboard → Input → Type 0
 ReleasesOctets c s (Came b) =
     IfSome (accepted Craft c s.node (arrival Craft c.apid c.part_size b)).1.released IsOctets
 ReleasesOctets c s Ticked = ⊤
+ReleasesOctets c s (Astray place len) = ⊤
 ReleasesOctets c s Cleared = ⊤
 
 -- a move is one of the spacecraft's end alone
@@ -90,6 +93,7 @@ still_there (Took o) ps = ps
 still_there (Did d) ps = ps
 still_there (GaveUp name) ps = ps
 still_there (UsedUp way source) ps = ps
+still_there (Skipped place len) ps = ps
 
 abbrev pub all_still_there : List Told → List PutOut → List PutOut
 all_still_there [] ps = ps
@@ -99,6 +103,7 @@ all_still_there (t ∷ ts) ps = all_still_there ts (still_there t ps)
 abbrev pub left_by : Input → List Told → List PutOut → List PutOut
 left_by (Came b) ts ps = ps
 left_by Ticked ts ps = ps
+left_by (Astray place len) ts ps = ps
 left_by Cleared ts ps = all_still_there ts ps
 
 -- Moves of the spacecraft's end alone, each of which can be made, that come to the same end and put

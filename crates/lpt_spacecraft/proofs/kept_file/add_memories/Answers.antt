@@ -1,5 +1,5 @@
 -- Identifier by identifier.
-use Rattle.std.proofs.Common.{◌≡◌, ◌∙◌, ap, sym, subst, inl, inr, ℕ, ◌<◌, ◌++◌, append-nil, append_assoc, arith}
+use Rattle.std.proofs.Common.{◌≡◌, ◌∙◌, ap, sym, subst, inl, inr, ℕ, ◌++◌, append-nil, append_assoc, arith}
 use Rattle.std.proofs.lemmas.Bool.Decides.{eqb_tells}
 use Rattle.lpt_memory.specs.Memories.{content_of}
 use Rattle.lpt_spacecraft.specs.Keeping.{kept_memories, kept_memory, HasLength}

@@ -2,7 +2,7 @@ use Rattle.std.proofs.Common.{◌≡◌}
 use Rattle.lpt_frames.specs.Buffers.{held}
 use Rattle.lpt_spacecraft.specs.Keeping.{IsKeptAs}
 use Rattle.lpt_spacecraft.specs.Streams.{IsIdle}
-use Rattle.lpt_spacecraft.proofs.StreamLemmas.{IsServed}
+use Rattle.lpt_spacecraft.proofs.EventLemmas.{IsServed}
 use Rattle.lpt_spacecraft.proofs.serving.serve_stream.Given as goal
 
 -- the packets that came were taken, and nothing waits
@@ -13,6 +13,8 @@ invariant-loop-count g l = record {
     after = g.P.Peer.remaining l.peer;
     old = g.K.Sink.contents l.fn.out;
     new = g.K.Sink.contents l.out;
+    asked = g.C.Clock.answers l.fn.clock;
+    answered = g.C.Clock.answers l.clock;
     had = g.L.Listener.heard l.fn.listener;
     has = g.L.Listener.heard l.listener;
   }) (held l.buffer) l.count l.place;

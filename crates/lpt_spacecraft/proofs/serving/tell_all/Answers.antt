@@ -1,7 +1,7 @@
 -- One thing after another.
 use Rattle.std.proofs.Common.{[], refl}
 use Rattle.lpt_spacecraft.proofs.FoldLemmas.{hears-none}
-use Rattle.lpt_spacecraft.proofs.FlightLemmas.{tells-all, tells-next}
+use Rattle.lpt_spacecraft.proofs.FlightLemmas.{tells-next}
 use Rattle.lpt_spacecraft.proofs.serving.tell_all.Goals as goal
 
 pub loop-one-init : goal.loop-one-init

@@ -1,7 +1,7 @@
 -- Name after name.
-use Rattle.std.proofs.Common.{◌≡◌, ◌∙◌, refl, sym}
+use Rattle.std.proofs.Common.{◌∙◌, refl, sym}
 use Rattle.lpt_spacecraft.specs.Flights.{due_now}
-use Rattle.lpt_spacecraft.proofs.FlightLemmas.{clears-end, clears-next, clears-none}
+use Rattle.lpt_spacecraft.proofs.FlightLemmas.{clears-next, clears-none}
 use Rattle.lpt_spacecraft.proofs.pace.Course.clear.Goals as goal
 
 pub loop-used-init : goal.loop-used-init

@@ -1,10 +1,9 @@
 -- Read after read, until what is held shows what stands in front.
 use Rattle.std.proofs.Common.{◌∙◌, ◌<◌, [], ◌++◌, length, refl, subst, Bool, Ok}
 use Rattle.std.proofs.KnownBytes.{Keeps-refl, Keeps-trans}
-use Rattle.lpt_frames.specs.Buffers.{Fills, Stands}
-use Rattle.lpt_stream.specs.Streams.{IsUnfinished}
+use Rattle.lpt_frames.specs.Buffers.{Fills, IsLast, Stands}
 use Rattle.lpt_frames.proofs.FrameLemmas.{adds-nothing, adds-more, end-found, fill-fault, found-stands, nearer}
-use Rattle.lpt_frames.proofs.buffer.FrameBuffer.find_frame.Goals as goal
+use Rattle.lpt_frames.proofs.buffer.FrameBuffer.find.Goals as goal
 
 pub loop-front-init : goal.loop-front-init
 loop-front-init g c = record {
@@ -19,8 +18,9 @@ pub returns-in-Some-clause-finds : goal.returns-in-Some-clause-finds
 returns-in-Some-clause-finds g c = (
   c.loop-front.invariant.read.0,
   c.loop-front.invariant.read.1,
-  subst (λ b. Stands c.in-Some.front b (g.P.Peer.remaining c.loop-front.peer)) c.held.ensures
-      (found-stands c.in-Some.front _ _ c.in-Some.ensures.found),
+  subst (λ b. Stands c.args.in_step c.in-Some.front b (g.P.Peer.remaining c.loop-front.peer))
+      c.held.ensures
+      (found-stands c.args.in_step c.in-Some.front _ _ c.in-Some.ensures.found),
   c.loop-front.invariant.told,
 )
 
@@ -59,12 +59,13 @@ returns-in-Ok-false-clause-finds g c =
     (g.P.Peer.remaining c.loop-front.peer) (g.P.Peer.remaining c.fill.new.peer)
     (g.P.Peer.failed c.loop-front.peer) (g.P.Peer.failed c.fill.new.peer))
     c.in-Ok-false.field-0-test c.in-Ok-false.ensures in
-    end-found c.args.self.now c.loop-front.self c.fill.new.self _ _ _ _ _ _ _
+    end-found c.args.in_step c.args.self.now c.loop-front.self c.fill.new.self _ _ _ _ _ _ _
     c.loop-front.invariant.read.1 c.loop-front.invariant.told
-    (subst IsUnfinished c.held.ensures (c.in-None.ensures.none refl)) filled
+    (subst (IsLast c.args.in_step) c.held.ensures (c.in-None.ensures.last refl)) filled
 
 -- a read failed, or memory ran out
 pub returns-in-Err-clause-finds : goal.returns-in-Err-clause-finds
 returns-in-Err-clause-finds g c =
-    fill-fault c.in-Err.fault c.args.self.now c.loop-front.self c.fill.new.self _ _ _ _ _ _ _
+    fill-fault c.args.in_step c.in-Err.fault c.args.self.now c.loop-front.self c.fill.new.self _ _
+    _ _ _ _ _
     c.loop-front.invariant.read.1 c.loop-front.invariant.told c.in-Err.ensures

@@ -1,7 +1,7 @@
 use Rattle.std.proofs.Common.{◌≡◌, ◌-◌, ℕ, List, length}
 use Rattle.std.specs.Io.KnownBytes.{Keeps}
 use Rattle.lpt_frames.specs.Buffers.{held, Adds}
-use Rattle.lpt_frames.proofs.buffer.FrameBuffer.find_frame.Given as goal
+use Rattle.lpt_frames.proofs.buffer.FrameBuffer.find.Given as goal
 
 -- what was read is held behind the rest
 abbrev pub invariant-loop-front : goal.invariant-loop-front
