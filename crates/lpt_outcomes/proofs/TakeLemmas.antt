@@ -1,16 +1,17 @@
 -- What one more piece of a stream gives.
-use Rattle.std.proofs.Common.{◌≡◌, ◌∙◌, ap, sym, refl, ℕ, List, [], ◌∷◌, ◌++◌, map, length, take, drop, Option, Some, None, append-nil, arith, take_all}
+use Rattle.std.proofs.Common.{◌≡◌, ◌∙◌, ap, sym, refl, ℕ, List, [], ◌∷◌, ◌++◌, Option, Some, None, append-nil}
 use Rattle.std.specs.List.{filter_map, cons_option}
-use Rattle.std.proofs.lemmas.List.{drop_all, length-map}
 use Rattle.std.proofs.lemmas.List.Elements.{filter_map-append}
 use Rattle.lpt_stream.specs.declared.piece_kind.PieceKind.{PieceKind}
 use Rattle.lpt_stream.specs.declared.piece_kind.PieceKind.TheVariants.{Whole, Damaged, Stray}
 use Rattle.lpt_stream.specs.Pieces.{Piece, packet_before, packets_of}
 use Rattle.lpt_stream.proofs.CutLemmas.{packets-next}
-use Rattle.lpt_outcomes.specs.declared.asked.Asked.{Asked}
 use Rattle.lpt_outcomes.specs.declared.news.News.{News}
+use Rattle.lpt_outcomes.specs.declared.outcome.Outcome.{Outcome}
+use Rattle.lpt_outcomes.specs.Answers.{heard_at, told_at}
 use Rattle.lpt_outcomes.specs.Requests.{in_piece}
-use Rattle.lpt_outcomes.specs.Reports.{all_heard, heard, news_in, news_of}
+use Rattle.lpt_outcomes.specs.Reports.{news_in, news_of}
+use Rattle.lpt_outcomes.proofs.AnswerLemmas.{told_at-next}
 
 -- ---- a piece
 
@@ -49,40 +50,20 @@ some-next read ps p x some =
 
 -- ---- reports
 
--- one more
-heard-next : (requests : List Asked) (ns : List News) (n : News)
-    → all_heard requests (ns ++ n ∷ []) ≡ map (heard n) (all_heard requests ns)
-heard-next requests [] n = refl
-heard-next requests (m ∷ ns) n = heard-next (map (heard m) requests) ns n
-
 -- a piece that is none
-pub unheard : (first now : List Asked) (ps : List Piece) (p : Piece)
-    → now ≡ all_heard first (news_of ps)
+pub unheard : (id : ℕ) (first now : Option Outcome) (ps : List Piece) (p : Piece)
+    → now ≡ told_at id (news_of ps) first
     → in_piece news_in p.kind p.octets ≡ None
-    → now ≡ all_heard first (news_of (ps ++ p ∷ []))
-unheard first now ps p h none = h ∙ ap (all_heard first) (sym (none-next news_in ps p none))
+    → now ≡ told_at id (news_of (ps ++ p ∷ [])) first
+unheard id first now ps p h none =
+    h ∙ ap (λ ns. told_at id ns first) (sym (none-next news_in ps p none))
 
 -- and one that is
-pub heard_more : (first now more : List Asked) (ps : List Piece) (p : Piece) (n : News)
-    → now ≡ all_heard first (news_of ps)
+pub heard_more : (id : ℕ) (first now more : Option Outcome) (ps : List Piece) (p : Piece) (n : News)
+    → now ≡ told_at id (news_of ps) first
     → in_piece news_in p.kind p.octets ≡ Some n
-    → more ≡ map (heard n) now
-    → more ≡ all_heard first (news_of (ps ++ p ∷ []))
-heard_more first now more ps p n h some e =
-    e ∙ ap (map (heard n)) h ∙ sym (heard-next first (news_of ps) n)
-    ∙ ap (all_heard first) (sym (some-next news_in ps p n some))
-
--- requests that were written over, each by what it becomes
-pub written_over : (len : ℕ) (new seen old : List Asked) (f : Asked → Asked)
-    → new ≡ map f seen
-    → seen ≡ old
-    → length old ≡ len
-    → take len (new ++ drop (length new) old) ≡ map f old
-written_over len new seen old f is same size =
-    let whole : new ≡ map f old = is ∙ ap (map f) same in
-    let as_many : length new ≡ length old = ap length whole ∙ length-map old f in
-    let gone : drop (length new) old ≡ [] = drop_all (length new) old (omega (arith, as_many)) in
-    ap (λ rest. take len (new ++ rest)) gone
-    ∙ ap (take len) (append-nil new)
-    ∙ take_all len new (omega (arith, as_many, size))
-    ∙ whole
+    → more ≡ heard_at id n now
+    → more ≡ told_at id (news_of (ps ++ p ∷ [])) first
+heard_more id first now more ps p n h some e =
+    e ∙ ap (heard_at id n) h ∙ sym (told_at-next id (news_of ps) n first)
+    ∙ ap (λ ns. told_at id ns first) (sym (some-next news_in ps p n some))

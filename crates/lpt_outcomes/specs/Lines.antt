@@ -89,9 +89,17 @@ line_of form n a =
     ++ items_text form (shared_said n)
     ++ closing form
 
+-- whether a request has this request ID
+abbrev pub has_id : (id : ℕ) → Asked → Bool
+has_id id a = a.request.value == id
+
+-- how many of these requests have it
+abbrev pub with_id : List Asked → (id : ℕ) → ℕ
+with_id requests id = count_by (has_id id) requests
+
 -- how many of these requests have the request ID of this one
 abbrev pub sharers : List Asked → Asked → ℕ
-sharers requests a = count_by (λ other. other.request.value == a.request.value) requests
+sharers requests a = with_id requests a.request.value
 
 -- a line for each request
 abbrev pub lines_of : Form → List Asked → List ℕ

@@ -4,9 +4,9 @@ ghost use Rattle.std.specs.Prelude.{◌↔◌, IsTrue, All};
 ghost use Rattle.lpt_outcomes.specs.Settled.{is_settled};
 
 use crate::Outcome;
-use crate::news::News;
 use lpt_areas::Areas;
 use lpt_pus::RequestId;
+use std::collections::BTreeMap;
 
 /// A telecommand of a stream, and what reports have told of it.
 #[derive(Clone, Copy)]
@@ -32,15 +32,15 @@ pub struct Asked {
 
 impl Asked {
     ghost use Rattle.std.specs.Prelude.{◌≡◌};
-    ghost use Rattle.lpt_outcomes.specs.Reports.{heard};
+    ghost use Rattle.lpt_outcomes.specs.Answers.{answered_by};
     ghost use Rattle.lpt_outcomes.specs.Settled.{is_settled};
 
-    // Takes what a report tells, where it is on this request's ID.
-    pub(crate) fn hear(&mut self, news: &News)
-        ensures { self.new ≡ heard news.now self.old }
+    // Takes what was told on its request ID, where that is there.
+    pub(crate) fn answer(&mut self, outcomes: &BTreeMap<u32, Outcome>)
+        ensures { self.new ≡ answered_by outcomes.now self.old }
     {
-        if self.request.value == news.report.request.value {
-            self.outcome = self.outcome.told(news);
+        if let Some(outcome) = outcomes.get(&self.request.value) {
+            self.outcome = self.outcome.joined(outcome);
         }
     }
 

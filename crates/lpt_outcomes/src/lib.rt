@@ -12,6 +12,7 @@
 //! calls are `read_requests` and `read_reports`, each with a source, and then `write_outcomes`.
 #![tactic(auto)]
 
+mod answers;
 mod asked;
 pub mod laws;
 mod lines;

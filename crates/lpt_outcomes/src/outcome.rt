@@ -20,6 +20,7 @@ impl Outcome {
     ghost use Rattle.std.specs.Prelude.{◌≡◌};
     ghost use Rattle.lpt_outcomes.specs.Requests.{nothing_told};
     ghost use Rattle.lpt_outcomes.specs.Reports.{told};
+    ghost use Rattle.lpt_outcomes.specs.Answers.{joined};
     ghost use Rattle.lpt_outcomes.specs.Settled.{has_last};
 
     // Before any report.
@@ -46,6 +47,18 @@ impl Outcome {
             (None, _) => outcome.completed = true,
         }
         outcome
+    }
+
+    // With what was told after.
+    pub(crate) fn joined(self, after: &Outcome) -> Outcome
+        ensures { result ≡ joined self after.now }
+    {
+        Outcome {
+            accepted: self.accepted || after.accepted,
+            started: self.started || after.started,
+            completed: self.completed || after.completed,
+            failure: self.failure.or(after.failure),
+        }
     }
 
     // Whether the last report of success that these flags ask for has come.

@@ -1,20 +1,21 @@
 //! What the reports of a stream tell of requests.
 
-ghost use Rattle.std.specs.Prelude.{◌≡◌, ◌⊎◌, map, IfErr, IfOk};
+ghost use Rattle.std.specs.Prelude.{◌≡◌, ◌⊎◌, IfErr, IfOk};
 ghost use Rattle.lpt_text.specs.Streams.{ReadEnds};
 ghost use Rattle.lpt_stream.specs.Reads.{IsEndless, ReadsPieces};
-ghost use Rattle.lpt_outcomes.specs.Reports.{all_heard, heard, news_of};
+ghost use Rattle.lpt_outcomes.specs.Reports.{all_heard, news_of};
 
-use crate::Asked;
-use crate::news::News;
+use crate::answers::{answer, hear, untold};
 use crate::reading::news_in_piece;
+use crate::{Asked, Outcome};
 use lpt_stream::{PieceKind, PieceTaker, each_piece};
 use lpt_text::{Source, StreamFault};
 use std::alloc::Global;
+use std::collections::BTreeMap;
 
 /// The requests, once the verification reports among the packets of a stream have come, one after
 /// the other: each is told of all requests with its request ID. All else in the stream is passed
-/// over. A report costs a look at each request.
+/// over. A report is looked up by its request ID.
 ///
 /// Errors: `Read` where a read failed, or where 2^64 - 1 pieces came; `Memory`.
 pub fn read_reports<S: Source>(
@@ -29,22 +30,30 @@ pub fn read_reports<S: Source>(
         (S.failed source.old) (S.failed source.new) }
     ensures fault { IfErr result (λ e. (e ≡ StreamFault.Read) ⊎ (e ≡ StreamFault.Memory)) }
 {
-    let last = each_piece(alloc, source, ReportTaker { requests }, &mut ())?;
-    Ok(last.requests)
+    let mut requests = requests;
+    let first = ReportTaker {
+        outcomes: untold(alloc, &requests)?,
+    };
+    let last = each_piece(alloc, source, first, &mut ())?;
+    answer(&mut requests, &last.outcomes);
+    Ok(requests)
 }
 
-// The requests, with what was told of them so far.
+// What was told so far on each request ID of the requests.
 #[derive(Drop)]
 struct ReportTaker {
-    requests: Vec<Asked>,
+    outcomes: BTreeMap<u32, Outcome>,
 }
 
 impl PieceTaker<()> for ReportTaker {
-    ghost use Rattle.std.specs.Prelude.{◌≡◌};
-    ghost use Rattle.lpt_outcomes.specs.Reports.{all_heard, news_of};
+    ghost use Rattle.std.specs.Prelude.{◌≡◌, ℕ};
+    ghost use Rattle.std.specs.BTreeMap.{get};
+    ghost use Rattle.std.specs.Ordering.{nat_cmp};
+    ghost use Rattle.lpt_outcomes.specs.Answers.{told_at};
+    ghost use Rattle.lpt_outcomes.specs.Reports.{news_of};
 
-    ghost takes = { λ first now old new pieces. now.requests.items
-        ≡ all_heard first.requests.items (news_of pieces) };
+    ghost takes = { λ first now old new pieces. (id : ℕ) → get nat_cmp now.outcomes id
+        ≡ told_at id (news_of pieces) (get nat_cmp first.outcomes id) };
 
     ghost fails = { λ e. ⊥ };
 
@@ -56,22 +65,13 @@ impl PieceTaker<()> for ReportTaker {
         kind: PieceKind,
         octets: &[u8],
     ) -> Result<ReportTaker, StreamFault> {
-        let ReportTaker { mut requests } = self;
+        let ReportTaker { mut outcomes } = self;
         match news_in_piece(kind, octets) {
-            None => Ok(ReportTaker { requests }),
+            None => Ok(ReportTaker { outcomes }),
             Some(news) => {
-                hear(&mut requests, &news);
-                Ok(ReportTaker { requests })
+                hear(&mut outcomes, &news);
+                Ok(ReportTaker { outcomes })
             }
         }
-    }
-}
-
-// Tells each request that it is on what a report tells.
-fn hear(requests: &mut [Asked], news: &News)
-    ensures { requests.new ≡ map (heard news.now) requests.old }
-{
-    for asked in requests.iter_mut() {
-        asked.hear(news);
     }
 }

@@ -4,9 +4,10 @@ ghost use Rattle.std.specs.Prelude.{◌≡◌, ◌⊎◌, IfErr, IfOk, IsOk, OnO
 ghost use Rattle.std.specs.Io.KnownBytes.{Appends};
 ghost use Rattle.std.specs.String.{string_bytes};
 ghost use Rattle.lpt_text.specs.Streams.{AppendsPart, WriteEnds};
-ghost use Rattle.lpt_outcomes.specs.Lines.{lines_of, sharers};
+ghost use Rattle.lpt_outcomes.specs.Lines.{lines_of};
 
 use crate::Asked;
+use crate::answers::{count_sharers, sharers};
 use crate::lines::print_line;
 use lpt_list::Form;
 use lpt_text::{Sink, StreamFault, flush_out, write_out};
@@ -42,21 +43,11 @@ pub fn write_outcomes<K: Sink>(
 fn print_lines(alloc: Global, form: Form, requests: &[Asked]) -> Result<String, AllocError>
     ensures { IfOk result (λ t. string_bytes t ≡ lines_of form requests.now) }
 {
+    let counts = count_sharers(alloc, requests)?;
     let mut text = String::new(alloc);
     for asked in requests {
-        let line = print_line(alloc, form, sharers(requests, asked), asked)?;
+        let line = print_line(alloc, form, sharers(&counts, asked), asked)?;
         text.push_str(line.as_str())?;
     }
     Ok(text)
-}
-
-// How many requests have the request ID of this one.
-fn sharers(requests: &[Asked], asked: &Asked) -> u64
-    ensures { result ≡ sharers requests.now asked.now }
-{
-    let id = asked.request.value;
-    requests
-        .iter()
-        .filter(|other| other.request.value == id)
-        .count() as u64
 }
