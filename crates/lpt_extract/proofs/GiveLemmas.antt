@@ -8,6 +8,7 @@ use Rattle.std.specs.Io.KnownBytes.{Appends, Keeps}
 use Rattle.lpt_text.specs.Streams.{AppendsPart}
 use Rattle.lpt_stream.specs.Pieces.{Piece, octets_in, up_to_limit}
 use Rattle.lpt_text.proofs.StreamLemmas.{part_after, part_of_front, part_of_nothing, part_whole}
+use Rattle.lpt_text.specs.declared.fault.StreamFault.{StreamFault}
 use Rattle.lpt_text.specs.declared.fault.StreamFault.TheVariants as faults
 use Rattle.lpt_memory.specs.declared.request.Area.{Area}
 use Rattle.lpt_memory.specs.Meanings.{area}
@@ -131,6 +132,11 @@ image-held-next None before a i j is e g h =
     (e ∙ ap (λ k. max k (end_of a)) h.0 ∙ sym (extent-more before a), g ∙ h.1)
 image-held-next (Some p) before a i j is e g h = absurd cc
 
+-- nothing is written of none
+pub first-none : (at : Option Place) → written_first at [] ≡ []
+first-none None = refl
+first-none (Some p) = refl
+
 pub wrote-none : (at : Option Place) (a : Option (List ℕ)) → Appends a a (written_first at [])
 wrote-none None a = Appends-nil a
 wrote-none (Some p) a = Appends-nil a
@@ -253,16 +259,14 @@ ends-by (Some p) areas u NotWhole a b c h k = (k.0, k.1, k.2, Appends-trans a b 
 -- ---- what a fault leaves
 
 -- a front part of what is written first
-pub leaves-first : (at : Option Place) (areas : List Area) (a b : Option (List ℕ))
+pub leaves-first : (e : StreamFault) (at : Option Place) (areas : List Area) (a b : Option (List ℕ))
     → AppendsPart a b (written_first at areas)
-    → LeavesFront faults.Memory at areas a b × LeavesFront faults.Read at areas a b
-    × LeavesFront faults.Write at areas a b
-leaves-first at areas a b h = (
-  h,
-  h,
-  subst (AppendsPart a b) (written-both at areas)
-      (part_of_front a b _ (written_last at areas) h),
-)
+    → LeavesFront e at areas a b
+leaves-first faults.Read at areas a b h = h
+leaves-first faults.Memory at areas a b h = h
+leaves-first faults.Write at areas a b h =
+    subst (AppendsPart a b) (written-both at areas)
+    (part_of_front a b _ (written_last at areas) h)
 
 -- and of the image
 pub leaves-last : (at : Option Place) (areas : List Area) (a b c : Option (List ℕ))

@@ -1,12 +1,17 @@
 -- What is read and told where parts are joined, with a piece more.
-use Rattle.std.proofs.Common.{◌≡◌, ◌∙◌, ap, sym, subst, refl, ℕ, ◌+◌, false, List, [], ◌∷◌, ◌++◌, length, Option, Some, None, append-nil, append_assoc, arith}
+use Rattle.std.proofs.Common.{◌≡◌, ◌∙◌, ◌⊎◌, inl, inr, ap, sym, subst, refl, ℕ, ◌+◌, Bool, false, Result, Ok, Err, List, [], ◌∷◌, ◌++◌, length, Option, Some, None, append-nil, append_assoc, arith}
 use Rattle.std.specs.Io.KnownBytes.{Appends}
+use Rattle.std.specs.Prelude.{IfErr, OnOk}
+use Rattle.lpt_text.specs.Streams.{failed_write, AppendsPart, WriteEnds}
+use Rattle.lpt_text.specs.declared.fault.StreamFault.{StreamFault}
+use Rattle.lpt_text.specs.declared.fault.StreamFault.TheVariants as faults
 use Rattle.lpt_packet.specs.Names.{Name}
 use Rattle.lpt_events.specs.NamedParts.{NamedPart}
 use Rattle.lpt_stream.specs.declared.piece_kind.PieceKind.{PieceKind}
 use Rattle.lpt_stream.specs.declared.piece_kind.PieceKind.TheVariants.{Whole, Damaged, Stray}
 use Rattle.lpt_stream.specs.Pieces.{Piece, packet_before, packets_of, octets_in, up_to_limit}
 use Rattle.lpt_stream.proofs.CutLemmas.{packets-next}
+use Rattle.lpt_stream.proofs.EndLemmas.{writer-after}
 use Rattle.lpt_join.specs.Offers.{named_in, piece_in}
 use Rattle.lpt_join.specs.declared.transaction.Transaction.{Transaction}
 use Rattle.lpt_each.specs.declared.news.News as code_news
@@ -22,7 +27,7 @@ use Rattle.lpt_extract.specs.ExtractsInside.{EndsAs, Held}
 use Rattle.lpt_extract.specs.Joined.{joined_at, joined_in, message_of, messages_in, notices_by, reads, reads_by, reads_from, ExtractsJoined}
 use Rattle.lpt_extract.specs.Notices.{Hears}
 use Rattle.lpt_extract.specs.Reports.{report_in}
-use Rattle.lpt_extract.proofs.GiveLemmas.{areas-append, ends-by, held-as, hears-more, wrote-more}
+use Rattle.lpt_extract.proofs.GiveLemmas.{areas-append, ends-by, held-as, hears-more, part-more, wrote-more}
 
 -- ---- more
 
@@ -119,42 +124,52 @@ joined-part w t bs n Stray b q e = absurd (nothing_named q e)
 
 -- ---- what is held, written and told
 
--- with a piece more, that gives these areas and notices
-module _ (w : Wanted) (t : Transaction) (ps : List Piece) (p : Piece) (place : ℕ)
-    (at : place ≡ up_to_limit (octets_in ps)) (areas : List Area)
+-- with a piece more, that gives these areas
+module _ (w : Wanted) (t : Transaction) (ps : List Piece) (p : Piece) (areas : List Area)
     (gives : areas ≡ areas_in w (reads_from t (packets_of ps) (packet_before p.kind p.octets [])))
-    (ns : List Notice) (tells : ns ≡ joined_at w t (packets_of ps) place p.kind p.octets) where
-  more_areas : areas_in w (reads t (packets_of ps)) ++ areas
-      ≡ areas_in w (reads t (packets_of (ps ++ p ∷ [])))
-  more_areas =
-      ap (λ xs. areas_in w (reads t (packets_of ps)) ++ xs) gives ∙ sym (areas-next w t ps p)
+  where
+    more_areas : areas_in w (reads t (packets_of ps)) ++ areas
+        ≡ areas_in w (reads t (packets_of (ps ++ p ∷ [])))
+    more_areas =
+        ap (λ xs. areas_in w (reads t (packets_of ps)) ++ xs) gives ∙ sym (areas-next w t ps p)
 
-  more_notices : joined_in w t [] 0 ps ++ ns ≡ joined_in w t [] 0 (ps ++ p ∷ [])
-  more_notices =
-      ap (λ xs. joined_in w t [] 0 ps ++ xs)
-      (tells ∙ ap (λ n. joined_at w t (packets_of ps) n p.kind p.octets) (omega (arith, at)))
-      ∙ sym (joined-next w t [] 0 ps p)
+    pub wrote-next : (old mid new : Option (List ℕ))
+        → Appends old mid (written_first w.at (areas_in w (reads t (packets_of ps))))
+        → Appends mid new (written_first w.at areas)
+        → Appends old new (written_first w.at (areas_in w (reads t (packets_of (ps ++ p ∷ [])))))
+    wrote-next old mid new was more =
+        subst (λ xs. Appends old new (written_first w.at xs)) more_areas
+        (wrote-more w.at old mid new _ areas was more)
 
-  pub held-next : (h : Holding)
-      → Held w.at (areas_in w (reads t (packets_of ps)) ++ areas) (joined_in w t [] 0 ps ++ ns) h
-      → Held w.at (areas_in w (reads t (packets_of (ps ++ p ∷ []))))
-      (joined_in w t [] 0 (ps ++ p ∷ [])) h
-  held-next h held = held-as w.at _ _ _ _ h more_areas more_notices held
+    pub part-next : (old mid new : Option (List ℕ))
+        → Appends old mid (written_first w.at (areas_in w (reads t (packets_of ps))))
+        → AppendsPart mid new (written_first w.at areas)
+        → AppendsPart old new (written_first w.at (areas_in w (reads t (packets_of (ps ++ p ∷ [])))))
+    part-next old mid new was part =
+        subst (λ xs. AppendsPart old new (written_first w.at xs)) more_areas
+        (part-more w.at old mid new _ areas was part)
 
-  pub wrote-next : (old mid new : Option (List ℕ))
-      → Appends old mid (written_first w.at (areas_in w (reads t (packets_of ps))))
-      → Appends mid new (written_first w.at areas)
-      → Appends old new (written_first w.at (areas_in w (reads t (packets_of (ps ++ p ∷ [])))))
-  wrote-next old mid new was more =
-      subst (λ xs. Appends old new (written_first w.at xs)) more_areas
-      (wrote-more w.at old mid new _ areas was more)
+    -- and these notices
+    module _ (place : ℕ) (at : place ≡ up_to_limit (octets_in ps)) (ns : List Notice)
+        (tells : ns ≡ joined_at w t (packets_of ps) place p.kind p.octets) where
+      more_notices : joined_in w t [] 0 ps ++ ns ≡ joined_in w t [] 0 (ps ++ p ∷ [])
+      more_notices =
+          ap (λ xs. joined_in w t [] 0 ps ++ xs)
+          (tells ∙ ap (λ n. joined_at w t (packets_of ps) n p.kind p.octets) (omega (arith, at)))
+          ∙ sym (joined-next w t [] 0 ps p)
 
-  pub hears-next : (heard hear hears : Option (List Notice))
-      → Hears heard hear (joined_in w t [] 0 ps)
-      → Hears hear hears ns
-      → Hears heard hears (joined_in w t [] 0 (ps ++ p ∷ []))
-  hears-next heard hear hears was more =
-      subst (Hears heard hears) more_notices (hears-more heard hear hears _ ns was more)
+      pub held-next : (h : Holding)
+          → Held w.at (areas_in w (reads t (packets_of ps)) ++ areas) (joined_in w t [] 0 ps ++ ns) h
+          → Held w.at (areas_in w (reads t (packets_of (ps ++ p ∷ []))))
+          (joined_in w t [] 0 (ps ++ p ∷ [])) h
+      held-next h held = held-as w.at _ _ _ _ h more_areas more_notices held
+
+      pub hears-next : (heard hear hears : Option (List Notice))
+          → Hears heard hear (joined_in w t [] 0 ps)
+          → Hears hear hears ns
+          → Hears heard hears (joined_in w t [] 0 (ps ++ p ∷ []))
+      hears-next heard hear hears was more =
+          subst (Hears heard hears) more_notices (hears-more heard hear hears _ ns was more)
 
 -- ---- what a part tells
 
@@ -212,3 +227,29 @@ joined-ends w t x ps old mid new heard hears wrote told ends = record {
   told = told;
   counted = ends.counted;
 }
+
+-- ---- the writer
+
+-- work that leaves it so, behind work that left it as it was
+pub ends-ok : {A : Type 0} (r : Result A StreamFault) (first had failed : Bool)
+    → WriteEnds r had failed
+    → had ≡ first
+    → OnOk r (failed ≡ first)
+ends-ok (Ok x) first had failed h same = h ∙ same
+ends-ok (Err e) first had failed h same = tt
+
+pub ends-failed : {A : Type 0} (r : Result A StreamFault) (first had failed : Bool)
+    → WriteEnds r had failed
+    → had ≡ first
+    → IfErr r (λ e. (e ≡ faults.Write) ⊎ (failed ≡ failed_write e first))
+ends-failed (Ok x) first had failed h same = tt
+ends-failed (Err e) first had failed h same = inr (writer-after e first had failed h same)
+
+-- where the taker failed in its place
+pub taker-failed : (e : StreamFault) (first now : Bool)
+    → (e ≡ faults.Write) ⊎ (e ≡ faults.Memory)
+    → now ≡ first
+    → (e ≡ faults.Write) ⊎ (now ≡ failed_write e first)
+taker-failed e first now (inl h) same = inl h
+taker-failed e first now (inr h) same =
+    inr (subst (λ (f : StreamFault). now ≡ failed_write f first) (sym h) same)

@@ -1,7 +1,7 @@
 mod CoverLemmas
 mod GapLemmas
-mod GiveLemmas
+pub mod GiveLemmas
 mod ImageLemmas
 mod JoinedLemmas
-mod ReadLemmas
+pub mod ReadLemmas
 mod SeenLemmas

@@ -1,5 +1,5 @@
 -- What octets are seen as, and the dump report in them.
-use Rattle.std.proofs.Common.{◌≡◌, ap, sym, refl, ℕ, List, Some, None, Err}
+use Rattle.std.proofs.Common.{◌≡◌, ap, sym, refl, ℕ, List, Option, Some, None, Err}
 use Rattle.std.specs.Result.{result_ok}
 use Rattle.lpt_packet.specs.declared.fault.PacketFault.{PacketFault}
 use Rattle.lpt_packet.specs.Packets.{Fields, IdlePacket, APacket, seen, verdict}
@@ -27,3 +27,10 @@ pub report-none : (apid : ℕ) (b : List ℕ) (e : PacketFault)
     → Other ≡ report_in apid b
 unfolding report_in
 report-none apid b e law h = ap (said_in apid) (dump-none b (seen-unread b e law h))
+
+-- what the dump report says that octets are is what they say
+pub report-said : (apid : ℕ) (b : List ℕ) (d : Option (ℕ × List ℕ))
+    → d ≡ dump_in b
+    → said_in apid d ≡ report_in apid b
+unfolding report_in
+report-said apid b d e = ap (said_in apid) e

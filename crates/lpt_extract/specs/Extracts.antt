@@ -21,6 +21,7 @@ use Rattle.lpt_extract.specs.declared.wanted.Place.{Place}
 use Rattle.lpt_extract.specs.declared.wanted.Wanted.{Wanted}
 use Rattle.lpt_extract.specs.Areas.{all_octets, extent, image, image_limit}
 use Rattle.lpt_extract.specs.Gaps.{is_given, AreGaps}
+use Rattle.lpt_extract.specs.Leaving.{PiecesLeave}
 use Rattle.lpt_extract.specs.Notices.{is_whole, notice, Hears}
 use Rattle.lpt_extract.specs.Reports.{Saying, Other, Foreign, Unread, Areas, report_in}
 use Rattle.lpt_extract.specs.Tallies.{IsTally}
@@ -161,13 +162,8 @@ LeavesFront faults.Write at areas old new = AppendsPart old new (written at area
 LeavesFront faults.Read at areas old new = AppendsPart old new (written_first at areas)
 LeavesFront faults.Memory at areas old new = AppendsPart old new (written_first at areas)
 
--- the packets that were found before a fault, and maybe octets behind them that were read
-pub record ExtractLeaves (w : Wanted) (e : StreamFault) (before after old new : Option (List ℕ)) : Type 0 where
-  pub stream : List ℕ
-  pub others : List ℕ
-  pub pieces : List Piece
-  pub in_step : Bool
-  pub rest : List ℕ
-  pub consumed : Consumes before after (stream ++ others)
-  pub leads : Leads true stream pieces in_step rest
-  pub front : LeavesFront e w.at (areas_in w (packets_of pieces)) old new
+-- a front part of what the pieces give that were found before a fault
+abbrev pub ExtractLeaves : Wanted → StreamFault → (before after old new : Option (List ℕ)) → Type 0
+ExtractLeaves w e before after old new =
+    PiecesLeave before after
+    (λ pieces. LeavesFront e w.at (areas_in w (packets_of pieces)) old new)

@@ -1,10 +1,12 @@
 -- What is held and told as areas are taken.
 use Rattle.std.specs.Prelude.{◌≡◌, ◌<◌, ◌≤◌, ℕ, Bool, true, false, List, [], map, Option, Some, None}
 use Rattle.std.specs.Io.KnownBytes.{Appends}
+use Rattle.lpt_stream.specs.Pieces.{Piece, packets_of}
 use Rattle.lpt_memory.specs.declared.request.Area.{Area}
 use Rattle.lpt_extract.specs.declared.extracted.ExtractEnd.{ExtractEnd}
 use Rattle.lpt_extract.specs.declared.extracted.ExtractEnd.TheVariants.{Written, Nothing, TooLarge, NotWhole}
 use Rattle.lpt_extract.specs.declared.extracted.Extracted.{Extracted}
+use Rattle.lpt_extract.specs.declared.extracting.Extraction.{Extraction}
 use Rattle.lpt_extract.specs.declared.holding.Holding.{Holding}
 use Rattle.lpt_extract.specs.declared.image.Image.{Image}
 use Rattle.lpt_extract.specs.declared.notice.Notice.{Notice}
@@ -12,9 +14,9 @@ use Rattle.lpt_extract.specs.declared.seen_area.SeenArea.{SeenArea}
 use Rattle.lpt_extract.specs.declared.wanted.Place.{Place}
 use Rattle.lpt_extract.specs.Areas.{extent, image}
 use Rattle.lpt_extract.specs.CoversInside.{gaps_of}
-use Rattle.lpt_extract.specs.Extracts.{is_unbroken, AreMissing, start, suits, whole_areas, Fits, IsTooLarge}
+use Rattle.lpt_extract.specs.Extracts.{areas_in, is_unbroken, notices_in, AreMissing, start, suits, whole_areas, Fits, IsTooLarge}
 use Rattle.lpt_extract.specs.ImagesInside.{end_of_image, Imaged}
-use Rattle.lpt_extract.specs.Notices.{notice}
+use Rattle.lpt_extract.specs.Notices.{notice, Hears}
 use Rattle.lpt_extract.specs.ReportsInside.{load_area}
 use Rattle.lpt_extract.specs.Tallies.{IsTally}
 
@@ -64,3 +66,11 @@ pub record EndsAs (at : Option Place) (areas : List Area) (ns : List Notice) (x 
   pub by : EndsBy at areas (is_unbroken x.gaps.items x.tally.passed) x.end old new
   pub missing : AreMissing at areas x.gaps.items
   pub counted : IsTally ns x.tally
+
+-- what the packets among pieces give is held, and was told
+pub record IsExtracted (first now : Extraction) (heard hears : Option (List Notice))
+    (ps : List Piece) : Type 0 where
+  pub same : now.wanted ≡ first.wanted
+  pub held : Held now.wanted.at (areas_in now.wanted (packets_of ps))
+      (notices_in now.wanted 0 ps) now.holding
+  pub hears_is : Hears heard hears (notices_in now.wanted 0 ps)

@@ -2,6 +2,7 @@
 use Rattle.std.specs.Prelude.{ℕ, ◌+◌, false, List, [], ◌∷◌, ◌++◌, length, Option, Some, None}
 use Rattle.std.specs.List.{flat_map}
 use Rattle.lpt_events.specs.NamedParts.{NamedPart}
+use Rattle.lpt_text.specs.declared.fault.StreamFault.{StreamFault}
 use Rattle.lpt_stream.specs.declared.piece_kind.PieceKind.{PieceKind}
 use Rattle.lpt_stream.specs.declared.piece_kind.PieceKind.TheVariants.{Whole, Damaged, Stray}
 use Rattle.lpt_stream.specs.Pieces.{Piece, packet_before, packets_of, up_to_limit}
@@ -13,7 +14,8 @@ use Rattle.lpt_extract.specs.declared.extracted.Extracted.{Extracted}
 use Rattle.lpt_extract.specs.declared.notice.Notice.{Notice}
 use Rattle.lpt_extract.specs.declared.notice.Notice.TheVariants as notices
 use Rattle.lpt_extract.specs.declared.wanted.Wanted.{Wanted}
-use Rattle.lpt_extract.specs.Extracts.{areas_in, is_unbroken, notices_of, AreMissing, Ends}
+use Rattle.lpt_extract.specs.Extracts.{areas_in, is_unbroken, notices_of, AreMissing, Ends, LeavesFront}
+use Rattle.lpt_extract.specs.Leaving.{PiecesLeave}
 use Rattle.lpt_extract.specs.Notices.{Hears}
 use Rattle.lpt_extract.specs.Reports.{report_in}
 use Rattle.lpt_extract.specs.Tallies.{IsTally}
@@ -79,3 +81,12 @@ pub record ExtractsJoined (w : Wanted) (t : Transaction) (x : Extracted) (pieces
   pub missing : AreMissing w.at (areas_in w (reads t (packets_of pieces))) x.gaps.items
   pub told : Hears heard hears (joined_in w t [] 0 pieces)
   pub counted : IsTally (joined_in w t [] 0 pieces) x.tally
+
+-- ---- faults
+
+-- a front part of what the pieces give that were found before a fault
+abbrev pub JoinedLeaves :
+    Wanted → Transaction → StreamFault → (before after old new : Option (List ℕ)) → Type 0
+JoinedLeaves w t e before after old new =
+    PiecesLeave before after
+    (λ pieces. LeavesFront e w.at (areas_in w (reads t (packets_of pieces))) old new)

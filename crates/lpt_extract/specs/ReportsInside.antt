@@ -1,7 +1,8 @@
 -- What the code's reports stand for.
-use Rattle.std.specs.Prelude.{map}
+use Rattle.std.specs.Prelude.{ℕ, List, map, Option, Some, None}
 use Rattle.lpt_memory.specs.Requests.{LoadArea}
 use Rattle.lpt_extract.specs.declared.seen_area.SeenArea.{SeenArea}
+use Rattle.lpt_extract.specs.declared.report.Dump.{Dump}
 use Rattle.lpt_extract.specs.declared.report.Report.{Report}
 use Rattle.lpt_extract.specs.declared.report.Report.TheVariants as seen
 use Rattle.lpt_extract.specs.Reports.{Saying, Other, Foreign, Unread, Areas}
@@ -16,3 +17,8 @@ said seen.Other = Other
 said (seen.Foreign apid) = Foreign apid
 said (seen.Unread n) = Unread n
 said (seen.Areas m areas) = Areas (record { memory = m; areas = map load_area areas.items })
+
+-- a dump report that was found
+abbrev pub found : Option Dump → Option (ℕ × List ℕ)
+found None = None
+found (Some d) = Some (d.apid, d.body.now)

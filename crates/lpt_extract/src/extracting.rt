@@ -7,9 +7,10 @@ ghost use Rattle.lpt_extract.specs.Extracts.{ExtractLeaves, ExtractsTo};
 
 use crate::ending::end_extract;
 use crate::holding::Holding;
+use crate::passing::{PassingTaker, each_piece_passing};
 use crate::taking::take_piece;
 use crate::{Extracted, Listener, Wanted};
-use lpt_stream::PacketBuffer;
+use lpt_stream::PieceKind;
 use lpt_text::{Sink, Source, StreamFault};
 use std::alloc::Global;
 
@@ -42,31 +43,49 @@ pub fn extract_stream<S: Source, K: Sink, L: Listener>(
         (S.failed source.old) (S.failed source.new) }
     ensures writer { WriteEnds result (K.failed out.old) (K.failed out.new) }
 {
-    let mut buffer = PacketBuffer::new(alloc);
-    let mut holding = Holding::new(alloc);
-    let mut place: u64 = 0;
-    for count in 0..u64::MAX {
-        let found = match buffer.find_piece_passing(source, out) {
-            Ok(Some(found)) => found,
-            Ok(None) => return end_extract(wanted, holding, out),
-            Err(fault) => return Err(fault),
-        };
-        let octets = &buffer.held()[..found.len];
-        match take_piece(
-            alloc,
+    let holding = Holding::new(alloc);
+    let first = Extraction {
+        wanted: *wanted,
+        holding,
+    };
+    let last = each_piece_passing(alloc, source, first, out, listener)?;
+    end_extract(wanted, last.holding, out)
+}
+
+// What a stream's pieces have given so far.
+#[derive(Drop)]
+struct Extraction {
+    wanted: Wanted,
+    holding: Holding,
+}
+
+impl<K: Sink, L: Listener> PassingTaker<K, L> for Extraction {
+    ghost use Rattle.lpt_stream.specs.Pieces.{packets_of};
+    ghost use Rattle.lpt_extract.specs.Extracts.{areas_in, written_first};
+    ghost use Rattle.lpt_extract.specs.ExtractsInside.{IsExtracted};
+
+    ghost takes = { λ first now old new pieces. IsExtracted first now
+        (L.heard old) (L.heard new) pieces };
+
+    ghost writes = { λ first pieces.
+        written_first first.wanted.at (areas_in first.wanted (packets_of pieces)) };
+
+    ghost others = { λ _. ⊥ };
+
+    fn take(
+        self,
+        alloc: Global,
+        out: &mut K,
+        lent: &mut L,
+        place: u64,
+        kind: PieceKind,
+        octets: &[u8],
+    ) -> Result<Extraction, StreamFault> {
+        let Extraction {
             wanted,
-            place,
-            found.kind,
-            octets,
-            &mut holding,
-            out,
-            listener,
-        ) {
-            Ok(()) => {}
-            Err(fault) => return Err(fault),
-        }
-        place = place.saturating_add(found.len as u64);
-        buffer.skip(found);
+            mut holding,
+        } = self;
+        take_piece(alloc, &wanted, place, kind, octets, &mut holding, out, lent)?;
+        Ok(Extraction { wanted, holding })
     }
-    Err(StreamFault::Read)
 }

@@ -6,7 +6,7 @@ use std::alloc::Global;
 
 /// The image, as far as areas give it, and how much wasn't taken.
 #[derive(Drop)]
-pub(crate) struct Holding {
+pub struct Holding {
     pub(crate) image: Image,
     pub(crate) tally: Tally,
 }
@@ -20,8 +20,8 @@ impl Holding {
     ghost use Rattle.lpt_extract.specs.ExtractsInside.{is_unbroken_so_far, Held};
     ghost use Rattle.lpt_extract.specs.Notices.{Hears};
 
-    // Of nothing.
-    pub(crate) fn new(alloc: Global) -> Holding
+    /// Of nothing.
+    pub fn new(alloc: Global) -> Holding
         ensures { (at : Option Place) → Held at [] [] result }
     {
         Holding {
@@ -37,8 +37,8 @@ impl Holding {
         !self.image.has_gaps() && self.tally.passed == 0
     }
 
-    // Tells something, and counts it.
-    pub(crate) fn tell<L: Listener>(&mut self, listener: &mut L, notice: Notice)
+    /// Tells something, and counts it.
+    pub fn tell<L: Listener>(&mut self, listener: &mut L, notice: Notice)
         ensures held { (at : Option Place) (areas : List Area) (ns : List Notice)
             → Held at areas ns self.old → Held at areas (ns ++ notice ∷ []) self.new }
         ensures heard { Hears (L.heard listener.old) (L.heard listener.new) (notice ∷ []) }

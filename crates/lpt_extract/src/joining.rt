@@ -2,7 +2,7 @@
 
 ghost use Rattle.std.specs.Prelude.{◌≡◌, ◌≢◌, ◌⊎◌, ◌∷◌, ◌++◌, ℕ, List, [], false, Some, IfErr, IfOk, IsOk, OnOk};
 ghost use Rattle.std.specs.Io.KnownBytes.{Appends};
-ghost use Rattle.lpt_text.specs.Streams.{ReadEnds};
+ghost use Rattle.lpt_text.specs.Streams.{failed_write, AppendsPart, ReadEnds};
 ghost use Rattle.lpt_stream.specs.Pieces.{packets_of};
 ghost use Rattle.lpt_stream.specs.Reads.{IsEndless, ReadsPieces};
 ghost use Rattle.lpt_events.specs.NamedParts.{named};
@@ -15,26 +15,25 @@ ghost use Rattle.lpt_memory.specs.declared.request.Area.{Area};
 ghost use Rattle.lpt_extract.specs.declared.notice.Notice.{Notice};
 ghost use Rattle.lpt_extract.specs.Extracts.{areas_in, written_first};
 ghost use Rattle.lpt_extract.specs.ExtractsInside.{Held};
-ghost use Rattle.lpt_extract.specs.Joined.{message_of, notices_by, reads_by, ExtractsJoined};
+ghost use Rattle.lpt_extract.specs.Joined.{message_of, notices_by, reads_by, ExtractsJoined, JoinedLeaves};
 ghost use Rattle.lpt_extract.specs.Notices.{Hears};
 
 use crate::ending::end_extract;
 use crate::holding::Holding;
+use crate::passing::{PassingTaker, each_piece_passing};
 use crate::taking::{take_message, take_piece};
 use crate::{Extracted, Listener, Wanted};
 use lpt_each::{Helds, News, Taker, leave};
 use lpt_join::{Transaction, named_part_in};
 use lpt_packet::Name;
 use lpt_part::Part;
-use lpt_stream::{PieceKind, PieceTaker, each_piece};
+use lpt_stream::PieceKind;
 use lpt_text::{Sink, Source, StreamFault};
 use std::alloc::Global;
 
-/// What is written to, and who is told.
+/// Who is told of what.
 #[derive(Drop)]
-pub struct Outlets<K, L, T> {
-    /// To what octets are written.
-    pub out: K,
+pub struct Hearers<L, T> {
     /// Who is told of areas, of reports that aren't taken, and of what is no packet.
     pub listener: L,
     /// Who is told what becomes of parts.
@@ -48,27 +47,38 @@ pub struct Outlets<K, L, T> {
 /// what is left of each name.
 ///
 /// Errors: `Read` where a read failed, or where 2^64 - 1 pieces came; `Write` where a write failed;
-/// `Memory`; those of the taker.
+/// `Memory`; those of the taker. A front part of the octets stays written; of an image, only where
+/// a write failed.
 pub fn extract_joined<S: Source, K: Sink, L: Listener, T: Taker>(
     alloc: Global,
     wanted: &Wanted,
     transaction: &Transaction,
     source: &mut S,
-    outlets: &mut Outlets<K, L, T>,
+    out: &mut K,
+    hearers: &mut Hearers<L, T>,
 ) -> Result<Extracted, StreamFault>
     // The stream is read to its end.
     ensures ends { IfOk result (λ x. ReadsPieces (S.remaining source.old) (S.remaining source.new)
         (λ pieces. ExtractsJoined wanted.now transaction.now x pieces
-        (K.contents outlets.old.out) (K.contents outlets.new.out)
-        (L.heard outlets.old.listener) (L.heard outlets.new.listener)
+        (K.contents out.old) (K.contents out.new)
+        (L.heard hearers.old.listener) (L.heard hearers.new.listener)
         × Tells transaction.now false (packets_of pieces)
-        (T.heard outlets.old.taker) (T.heard outlets.new.taker))) }
+        (T.heard hearers.old.taker) (T.heard hearers.new.taker))) }
 
     // All that was written is passed on.
-    ensures passed { IsOk result
-        → K.flushed outlets.new.out ≡ K.contents outlets.new.out }
+    ensures passed { IsOk result → K.flushed out.new ≡ K.contents out.new }
+
+    // What a fault leaves.
+    ensures leaves { IfErr result (λ e. JoinedLeaves wanted.now transaction.now e
+        (S.remaining source.old) (S.remaining source.new)
+        (K.contents out.old) (K.contents out.new)) }
     ensures reader { ReadEnds (IsEndless (S.remaining source.old) (S.remaining source.new)) result
         (S.failed source.old) (S.failed source.new) }
+
+    // Of a fault of a write it may be the taker that failed.
+    ensures writer { OnOk result (K.failed out.new ≡ K.failed out.old) }
+    ensures failed { IfErr result (λ e. (e ≡ StreamFault.Write)
+        ⊎ (K.failed out.new ≡ failed_write e (K.failed out.old))) }
 {
     let helds = Helds::new(alloc);
     let holding = Holding::new(alloc);
@@ -78,9 +88,9 @@ pub fn extract_joined<S: Source, K: Sink, L: Listener, T: Taker>(
         helds,
         holding,
     };
-    let last = each_piece(alloc, source, first, outlets)?;
-    leave(last.helds, &mut outlets.taker)?;
-    end_extract(wanted, last.holding, &mut outlets.out)
+    let last = each_piece_passing(alloc, source, first, out, hearers)?;
+    leave(last.helds, &mut hearers.taker)?;
+    end_extract(wanted, last.holding, out)
 }
 
 // What a stream's pieces have given so far.
@@ -93,39 +103,48 @@ struct Joiner {
     holding: Holding,
 }
 
-impl<K: Sink, L: Listener, T: Taker> PieceTaker<Outlets<K, L, T>> for Joiner {
-    ghost use Rattle.std.specs.Prelude.{◌≡◌, ◌⊎◌};
+impl<K: Sink, L: Listener, T: Taker> PassingTaker<K, Hearers<L, T>> for Joiner {
+    ghost use Rattle.std.specs.Prelude.{◌≡◌};
     ghost use Rattle.lpt_text.specs.declared.fault.StreamFault.TheVariants as faults;
+    ghost use Rattle.lpt_stream.specs.Pieces.{packets_of};
+    ghost use Rattle.lpt_extract.specs.Extracts.{areas_in, written_first};
+    ghost use Rattle.lpt_extract.specs.Joined.{reads};
     ghost use Rattle.lpt_extract.specs.JoinedInside.{IsTaken};
 
     ghost takes = { λ first now old new pieces. IsTaken first now
-        (K.contents old.out) (K.contents new.out)
         (L.heard old.listener) (L.heard new.listener)
         (T.heard old.taker) (T.heard new.taker) pieces };
 
-    ghost fails = { λ e. (e ≡ faults.Write) ⊎ (e ≡ faults.Memory) };
+    ghost writes = { λ first pieces. written_first first.wanted.at
+        (areas_in first.wanted (reads first.transaction (packets_of pieces))) };
+
+    ghost others = { λ e. e ≡ faults.Write };
 
     fn take(
         self,
         alloc: Global,
-        lent: &mut Outlets<K, L, T>,
+        out: &mut K,
+        lent: &mut Hearers<L, T>,
         place: u64,
         kind: PieceKind,
         octets: &[u8],
     ) -> Result<Joiner, StreamFault> {
-        let mut joiner = self;
-        let Some((name, part)) = named_part_in(kind, octets, &joiner.transaction) else {
-            let (out, listener) = (&mut lent.out, &mut lent.listener);
-            let (wanted, holding) = (&joiner.wanted, &mut joiner.holding);
-            take_piece(alloc, wanted, place, kind, octets, holding, out, listener)?;
-            return Ok(joiner);
-        };
         let Joiner {
             wanted,
             transaction,
             helds,
             mut holding,
-        } = joiner;
+        } = self;
+        let Some((name, part)) = named_part_in(kind, octets, &transaction) else {
+            let (held, listener) = (&mut holding, &mut lent.listener);
+            take_piece(alloc, &wanted, place, kind, octets, held, out, listener)?;
+            return Ok(Joiner {
+                wanted,
+                transaction,
+                helds,
+                holding,
+            });
+        };
         let helds = take_part(
             alloc,
             &wanted,
@@ -135,6 +154,7 @@ impl<K: Sink, L: Listener, T: Taker> PieceTaker<Outlets<K, L, T>> for Joiner {
             &part,
             helds,
             &mut holding,
+            out,
             lent,
         )?;
         Ok(Joiner {
@@ -156,7 +176,8 @@ fn take_part<K: Sink, L: Listener, T: Taker>(
     part: &Part<'_>,
     helds: Helds,
     holding: &mut Holding,
-    outlets: &mut Outlets<K, L, T>,
+    out: &mut K,
+    hearers: &mut Hearers<L, T>,
 ) -> Result<Helds, StreamFault>
     requires kept { (bs : List (List ℕ)) × HoldsEach transaction.now false bs helds }
     requires id { part.now.id ≡ name.id }
@@ -173,20 +194,28 @@ fn take_part<K: Sink, L: Listener, T: Taker>(
         (reads_by transaction.now bs b (piece_in transaction.now b))) holding.new) }
     ensures wrote { (bs : List (List ℕ)) (b : List ℕ) → HoldsEach transaction.now false bs helds
         → Some (named name.source (piece part.now)) ≡ piece_in transaction.now b
-        → OnOk result (Appends (K.contents outlets.old.out) (K.contents outlets.new.out)
+        → OnOk result (Appends (K.contents out.old) (K.contents out.new)
         (written_first wanted.now.at (areas_in wanted.now
         (reads_by transaction.now bs b (piece_in transaction.now b))))) }
     ensures heard { (bs : List (List ℕ)) (b : List ℕ) → HoldsEach transaction.now false bs helds
         → Some (named name.source (piece part.now)) ≡ piece_in transaction.now b
-        → OnOk result (Hears (L.heard outlets.old.listener)
-        (L.heard outlets.new.listener) (notices_by wanted.now place
+        → OnOk result (Hears (L.heard hearers.old.listener)
+        (L.heard hearers.new.listener) (notices_by wanted.now place
         (reads_by transaction.now bs b (piece_in transaction.now b)))) }
     ensures told { (bs : List (List ℕ)) (b : List ℕ) → HoldsEach transaction.now false bs helds
         → Some (named name.source (piece part.now)) ≡ piece_in transaction.now b
-        → OnOk result (teller.Hears (T.heard outlets.old.taker)
-        (T.heard outlets.new.taker)
+        → OnOk result (teller.Hears (T.heard hearers.old.taker)
+        (T.heard hearers.new.taker)
         (told_by transaction.now false bs b (piece_in transaction.now b))) }
     ensures fault { IfErr result (λ e. (e ≡ StreamFault.Write) ⊎ (e ≡ StreamFault.Memory)) }
+    ensures part { (bs : List (List ℕ)) (b : List ℕ) → HoldsEach transaction.now false bs helds
+        → Some (named name.source (piece part.now)) ≡ piece_in transaction.now b
+        → IfErr result (λ _. AppendsPart (K.contents out.old) (K.contents out.new)
+        (written_first wanted.now.at (areas_in wanted.now
+        (reads_by transaction.now bs b (piece_in transaction.now b))))) }
+    ensures writer { OnOk result (K.failed out.new ≡ K.failed out.old) }
+    ensures failed { IfErr result (λ e. (e ≡ StreamFault.Write)
+        ⊎ (K.failed out.new ≡ failed_write e (K.failed out.old))) }
 {
     let (helds, event) = match helds.take(alloc, transaction, false, name, part) {
         Ok(taken) => taken,
@@ -195,7 +224,7 @@ fn take_part<K: Sink, L: Listener, T: Taker>(
     let Some((name, news)) = event else {
         return Ok(helds);
     };
-    take_news(alloc, wanted, place, name, &news, holding, outlets)?;
+    take_news(alloc, wanted, place, name, &news, holding, out, hearers)?;
     Ok(helds)
 }
 
@@ -207,32 +236,41 @@ fn take_news<K: Sink, L: Listener, T: Taker>(
     name: Name,
     news: &News,
     holding: &mut Holding,
-    outlets: &mut Outlets<K, L, T>,
+    out: &mut K,
+    hearers: &mut Hearers<L, T>,
 ) -> Result<(), StreamFault>
     ensures held { (areas : List Area) (ns : List Notice) → Held wanted.now.at areas ns holding.old
         → OnOk result (Held wanted.now.at
         (areas ++ areas_in wanted.now (message_of (news_of news.now)))
         (ns ++ notices_by wanted.now place (message_of (news_of news.now))) holding.new) }
-    ensures wrote { OnOk result (Appends (K.contents outlets.old.out) (K.contents outlets.new.out)
+    ensures wrote { OnOk result (Appends (K.contents out.old) (K.contents out.new)
         (written_first wanted.now.at (areas_in wanted.now (message_of (news_of news.now))))) }
-    ensures heard { OnOk result (Hears (L.heard outlets.old.listener)
-        (L.heard outlets.new.listener)
+    ensures heard { OnOk result (Hears (L.heard hearers.old.listener)
+        (L.heard hearers.new.listener)
         (notices_by wanted.now place (message_of (news_of news.now)))) }
-    ensures told { OnOk result (teller.Hears (T.heard outlets.old.taker)
-        (T.heard outlets.new.taker) ((name, news_of news.now) ∷ [])) }
+    ensures told { OnOk result (teller.Hears (T.heard hearers.old.taker)
+        (T.heard hearers.new.taker) ((name, news_of news.now) ∷ [])) }
     ensures fault { IfErr result (λ e. (e ≡ StreamFault.Write) ⊎ (e ≡ StreamFault.Memory)) }
+    ensures part { IfErr result (λ _. AppendsPart (K.contents out.old) (K.contents out.new)
+        (written_first wanted.now.at (areas_in wanted.now (message_of (news_of news.now))))) }
+    ensures writer { OnOk result (K.failed out.new ≡ K.failed out.old) }
+    ensures failed { IfErr result (λ e. (e ≡ StreamFault.Write)
+        ⊎ (K.failed out.new ≡ failed_write e (K.failed out.old))) }
 {
-    outlets.taker.take(name, news)?;
+    hearers.taker.take(name, news)?;
     match news {
-        News::Given(message) => take_message(
-            alloc,
-            wanted,
-            place,
-            message.as_slice(),
-            holding,
-            &mut outlets.out,
-            &mut outlets.listener,
-        ),
+        News::Given(message) => {
+            let listener = &mut hearers.listener;
+            take_message(
+                alloc,
+                wanted,
+                place,
+                message.as_slice(),
+                holding,
+                out,
+                listener,
+            )
+        }
         News::Dropped(_) => Ok(()),
         News::Unfit(_) => Ok(()),
     }

@@ -7,7 +7,8 @@
 //!
 //! The main type is `Wanted`. The first call is `extract_stream`, with a stream of packets, a sink
 //! for the octets, and a `Listener`, who is told of each area; or `extract_joined`, where reports
-//! may come in parts.
+//! may come in parts. Who reads packets otherwise keeps a `Holding`, gives each `Dump` that is found
+//! to `take_dump`, and ends with `end_extract`.
 #![tactic(auto)]
 
 mod cover;
@@ -19,18 +20,23 @@ mod holding;
 mod image;
 mod joining;
 mod notice;
+mod passing;
 mod report;
 mod seen_area;
 mod taking;
 mod tally;
 mod wanted;
 
+pub use ending::end_extract;
 pub use extracted::{ExtractEnd, Extracted};
 pub use extracting::extract_stream;
 pub use gap::Gap;
-pub use joining::{Outlets, extract_joined};
+pub use holding::Holding;
+pub use joining::{Hearers, extract_joined};
 pub use lpt_each::{Name, News, Taker, Transaction};
 pub use lpt_text::{Sink, Source, StreamFault};
 pub use notice::{Listener, Notice, Span};
+pub use report::Dump;
+pub use taking::take_dump;
 pub use tally::{Others, Tally};
 pub use wanted::{Place, Wanted};

@@ -5,8 +5,8 @@ ghost use Rattle.lpt_memory.specs.Fields.{all_areas};
 ghost use Rattle.lpt_packet.specs.Packets.{fields, verdict};
 ghost use Rattle.lpt_packet.specs.declared.fault.PacketFault.TheVariants.{Checksum};
 ghost use Rattle.lpt_memory.specs.Requests.{front_load_area};
-ghost use Rattle.lpt_extract.specs.Reports.{body_report, dump_in, dump_in_packet, report_in};
-ghost use Rattle.lpt_extract.specs.ReportsInside.{load_area, said};
+ghost use Rattle.lpt_extract.specs.Reports.{body_report, dump_in, dump_in_packet, said_in};
+ghost use Rattle.lpt_extract.specs.ReportsInside.{found, load_area, said};
 
 use crate::seen_area::SeenArea;
 use lpt_memory::fields;
@@ -21,6 +21,15 @@ const MEMORY: u8 = 6;
 /// The message subtype of a report that answers a dump.
 const DUMP_REPORT: u8 = 6;
 
+/// A dump report, as it was found.
+#[derive(Clone, Copy)]
+pub struct Dump<'a> {
+    /// Its application process identifier.
+    pub apid: u16,
+    /// Its body.
+    pub body: &'a [u8],
+}
+
 /// What octets say of a memory.
 #[derive(Drop)]
 pub(crate) enum Report<'a> {
@@ -34,32 +43,27 @@ pub(crate) enum Report<'a> {
     Areas(u8, Vec<SeenArea<'a>>),
 }
 
-// The dump report of this APID that the octets of a whole piece are, whose checksum was taken
-// before. The only error is out of memory.
-#[tactic(auto, unfolding(crate::specs::Reports::report_in))]
+// What a dump report says to whom wants those of this APID. The only error is out of memory.
 pub(crate) fn read_report<'a>(
     alloc: Global,
     apid: u16,
-    octets: &'a [u8],
+    dump: Option<Dump<'a>>,
 ) -> Result<Report<'a>, AllocError>
-    requires { verdict octets.now ≢ Err Checksum }
-    ensures { IfOk result (λ r. said r ≡ report_in apid octets.now) }
+    ensures { IfOk result (λ r. said r ≡ said_in apid (found dump.entry)) }
 {
-    match dump_in(octets) {
-        None => Ok(Report::Other),
-        Some((of, body)) => {
-            if of != apid {
-                return Ok(Report::Foreign(of));
-            }
-            read_body(alloc, body)
-        }
+    let Some(dump) = dump else {
+        return Ok(Report::Other);
+    };
+    if dump.apid != apid {
+        return Ok(Report::Foreign(dump.apid));
     }
+    read_body(alloc, dump.body)
 }
 
-// The APID and the body of the dump report that they are.
-fn dump_in<'a>(octets: &'a [u8]) -> Option<(u16, &'a [u8])>
+// The dump report that the octets of a whole piece are, whose checksum was taken before.
+pub(crate) fn dump_in<'a>(octets: &'a [u8]) -> Option<Dump<'a>>
     requires { verdict octets.now ≢ Err Checksum }
-    ensures { option_map (λ x. (x.0, x.1.now)) result ≡ dump_in octets.now }
+    ensures { found result ≡ dump_in octets.now }
 {
     seen_is_read();
     match read_sealed(octets) {
@@ -69,9 +73,9 @@ fn dump_in<'a>(octets: &'a [u8]) -> Option<(u16, &'a [u8])>
     }
 }
 
-// Those of the dump report that a packet is.
-fn dump_in_packet<'a>(packet: &Packet<'a>) -> Option<(u16, &'a [u8])>
-    ensures { option_map (λ x. (x.0, x.1.now)) result ≡ dump_in_packet (fields packet.now) }
+// That which a packet is.
+fn dump_in_packet<'a>(packet: &Packet<'a>) -> Option<Dump<'a>>
+    ensures { found result ≡ dump_in_packet (fields packet.now) }
 {
     let Ok((head, body)) = read_tm(packet) else {
         return None;
@@ -79,7 +83,10 @@ fn dump_in_packet<'a>(packet: &Packet<'a>) -> Option<(u16, &'a [u8])>
     if head.service != MEMORY || head.subtype != DUMP_REPORT {
         return None;
     }
-    Some((head.apid, body))
+    Some(Dump {
+        apid: head.apid,
+        body,
+    })
 }
 
 // What the body of a dump report says. The only error is out of memory.

@@ -13,11 +13,11 @@ ghost use Rattle.lpt_extract.specs.Extracts.{areas_in, areas_of, notices_at, not
 ghost use Rattle.lpt_extract.specs.ExtractsInside.{given, told_of, Held};
 ghost use Rattle.lpt_extract.specs.Joined.{notices_by};
 ghost use Rattle.lpt_extract.specs.Notices.{Hears};
-ghost use Rattle.lpt_extract.specs.Reports.{report_in};
-ghost use Rattle.lpt_extract.specs.ReportsInside.{load_area};
+ghost use Rattle.lpt_extract.specs.Reports.{report_in, said_in};
+ghost use Rattle.lpt_extract.specs.ReportsInside.{found, load_area};
 
 use crate::holding::Holding;
-use crate::report::{Report, read_report};
+use crate::report::{Dump, Report, dump_in, read_report};
 use crate::seen_area::SeenArea;
 use crate::{Listener, Notice, Span, Wanted};
 use lpt_packet::laws::seen_is_read;
@@ -84,6 +84,9 @@ pub(crate) fn take_message<K: Sink, L: Listener>(
     ensures heard { OnOk result (Hears (L.heard listener.old) (L.heard listener.new)
         (notices_by wanted.now place (octets.now ∷ []))) }
     ensures fault { IfErr result (λ e. (e ≡ StreamFault.Write) ⊎ (e ≡ StreamFault.Memory)) }
+    ensures part { IfErr result (λ _. AppendsPart (K.contents out.old) (K.contents out.new)
+        (written_first wanted.now.at (areas_in wanted.now (octets.now ∷ [])))) }
+    ensures writer { WriteEnds result (K.failed out.old) (K.failed out.new) }
 {
     seen_is_read();
     match read_packet(octets) {
@@ -118,7 +121,48 @@ fn take_packet<K: Sink, L: Listener>(
         (areas_of wanted.now.at (report_in wanted.now.apid octets.now)))) }
     ensures writer { WriteEnds result (K.failed out.old) (K.failed out.new) }
 {
-    let report = match read_report(alloc, wanted.apid, octets) {
+    take_dump(
+        alloc,
+        wanted,
+        place,
+        dump_in(octets),
+        holding,
+        out,
+        listener,
+    )
+}
+
+/// Takes what a dump report gives that was found in the packet at this place of a stream, or
+/// nothing, where none was: the areas that are wanted of it are written or put into the image, and
+/// the listener is told.
+///
+/// Errors: `Write` where a write failed, behind a front part of what is written; `Memory`.
+pub fn take_dump<K: Sink, L: Listener>(
+    alloc: Global,
+    wanted: &Wanted,
+    place: u64,
+    dump: Option<Dump<'_>>,
+    holding: &mut Holding,
+    out: &mut K,
+    listener: &mut L,
+) -> Result<(), StreamFault>
+    ensures held { (areas : List Area) (ns : List Notice) → Held wanted.now.at areas ns holding.old
+        → OnOk result (Held wanted.now.at
+        (areas ++ areas_of wanted.now.at (said_in wanted.now.apid (found dump.entry)))
+        (ns ++ notices_of wanted.now.at place (said_in wanted.now.apid (found dump.entry)))
+        holding.new) }
+    ensures wrote { OnOk result (Appends (K.contents out.old) (K.contents out.new)
+        (written_first wanted.now.at
+        (areas_of wanted.now.at (said_in wanted.now.apid (found dump.entry))))) }
+    ensures heard { OnOk result (Hears (L.heard listener.old) (L.heard listener.new)
+        (notices_of wanted.now.at place (said_in wanted.now.apid (found dump.entry)))) }
+    ensures fault { IfErr result (λ e. (e ≡ StreamFault.Write) ⊎ (e ≡ StreamFault.Memory)) }
+    ensures part { IfErr result (λ _. AppendsPart (K.contents out.old) (K.contents out.new)
+        (written_first wanted.now.at
+        (areas_of wanted.now.at (said_in wanted.now.apid (found dump.entry))))) }
+    ensures writer { WriteEnds result (K.failed out.old) (K.failed out.new) }
+{
+    let report = match read_report(alloc, wanted.apid, dump) {
         Ok(report) => report,
         Err(_) => return Err(StreamFault::Memory),
     };

@@ -1,2 +1,3 @@
+mod FrontLemmas
 mod ItemLemmas
 mod StreamLemmas

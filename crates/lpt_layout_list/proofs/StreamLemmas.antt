@@ -1,5 +1,5 @@
 -- A list by layouts, a frame further.
-use Rattle.std.proofs.Common.{◌≡◌, ◌⊎◌, ◌∙◌, ap, sym, subst, refl, inl, inr, ℕ, ◌+◌, ◌<◌, ◌≤◌, ◌==◌, ◌||◌, Bool, true, false, List, [], ◌∷◌, ◌++◌, length, take, drop, Option, Result, Ok, Err, append-nil, append_assoc, length-append, arith}
+use Rattle.std.proofs.Common.{◌≡◌, ◌⊎◌, ◌∙◌, ap, sym, subst, refl, inl, inr, ℕ, ◌+◌, ◌<◌, ◌≤◌, Bool, true, false, List, [], ◌∷◌, ◌++◌, length, take, drop, Option, Result, Ok, Err, append-nil, append_assoc, length-append, arith}
 use Rattle.std.specs.Io.KnownBytes.{Appends, Consumes, IsAtEnd, Keeps}
 use Rattle.std.proofs.KnownBytes.{Appends-kept, Appends-nil, Appends-trans, Consumes-nil, Consumes-trans}
 use Rattle.std.proofs.lemmas.List.{length-take-le}
@@ -12,8 +12,8 @@ use Rattle.lpt_stream.proofs.EndLemmas.{other-fault, reader-kept}
 use Rattle.lpt_stream.specs.Streams.{all_octets, IsUnfinished}
 use Rattle.lpt_frames.specs.declared.buffer.FrameBuffer.{FrameBuffer}
 use Rattle.lpt_frames.specs.Buffers.{held, FindsFrame}
-use Rattle.lpt_frames.specs.Frames.{may_begin, IsCut, IsFrame, IsStray}
-use Rattle.lpt_frames.proofs.FrameLemmas.{cut-more, cut-next, cut-none, octets-next}
+use Rattle.lpt_frames.specs.Frames.{IsCut, IsFrame, IsStray}
+use Rattle.lpt_frames.proofs.FrameLemmas.{cut-more, cut-next, cut-none}
 use Rattle.lpt_layout_file.specs.declared.layouts.Layouts.{Layouts}
 use Rattle.lpt_list.specs.declared.form.Form.{Form}
 use Rattle.lpt_list.specs.declared.list_end.ListEnd.{ListEnd}
@@ -40,7 +40,7 @@ place-next : (place : ℕ) (fs : List (List ℕ)) (f : List ℕ)
 place-next place [] f = refl
 place-next place (g ∷ gs) f = place-next (place + length g) gs f
 
-told-next : (l : Layouts) (t : Told) (fs : List (List ℕ)) (f : List ℕ)
+pub told-next : (l : Layouts) (t : Told) (fs : List (List ℕ)) (f : List ℕ)
     → told_after l t (fs ++ f ∷ []) ≡ told_with l f (told_after l t fs)
 told-next l t [] f = refl
 told-next l t (g ∷ gs) f = told-next l (told_with l g t) gs f

@@ -1,9 +1,11 @@
 -- By which other layout a part would be read.
-use Rattle.std.specs.Prelude.{ℕ, ◌+◌, min, Bool, true, false, if◌then◌else◌, List, Option, Some, None, is_some, Result, Ok, Err}
+use Rattle.std.specs.Prelude.{ℕ, ◌+◌, min, Bool, false, if◌then◌else◌, List, Option, Some, None, is_some, Result, Ok, Err}
 use Rattle.std.specs.Option.{option_map_or}
 use Rattle.lpt_packet.specs.declared.fault.PacketFault.{PacketFault}
 use Rattle.lpt_packet.specs.declared.packet.PacketKind.{PacketKind}
-use Rattle.lpt_packet.specs.Packets.{Fields, Sight, IdlePacket, APacket}
+use Rattle.lpt_packet.specs.declared.packet.PacketKind.TheVariants.{Tm, Tc}
+use Rattle.lpt_packet.specs.Numbers.{word_at}
+use Rattle.lpt_packet.specs.Packets.{Sight, IdlePacket, APacket, kind_of}
 use Rattle.lpt_pus.specs.declared.fault.PusFault.{PusFault}
 use Rattle.lpt_events.specs.Arrivals.{carried_kind}
 use Rattle.lpt_layout.specs.Messages.{Said, message_verdict}
@@ -11,7 +13,7 @@ use Rattle.lpt_layout.specs.Packets.{verdict_as}
 use Rattle.lpt_layout_file.specs.declared.layouts.Layouts.{Layouts}
 use Rattle.lpt_layout_file.specs.declared.layouts.Tailored.{Tailored}
 use Rattle.lpt_layout_list.specs.declared.hints.Hint.{Hint}
-use Rattle.lpt_layout_list.specs.declared.hints.Hint.TheVariants.{Time, Bare}
+use Rattle.lpt_layout_list.specs.declared.hints.Hint.TheVariants.{Time, Spare, Bare}
 use Rattle.lpt_layout_list.specs.Items.{direction_of, layout_in, part_at}
 
 -- whether a message carries a part that is read
@@ -39,27 +41,35 @@ shows_part t b = is_part_seen t (verdict_as t.packets.has_checksum b)
 abbrev pub is_part_as : Layouts → List ℕ → Bool
 is_part_as l b = shows_part (layout_in l b) b
 
--- a layout with so many octets of time more
-abbrev pub longer : ℕ → Tailored → Tailored
-longer more t = record t { packets = record t.packets { time = min (t.packets.time + more) 255 } }
+-- a layout with so many octets more: of time, or spare ones of telecommands, which have no time
+abbrev pub longer : PacketKind → ℕ → Tailored → Tailored
+longer Tm more t =
+    record t { packets = record t.packets { time = min (t.packets.time + more) 255 } }
+longer Tc more t =
+    record t { packets = record t.packets { spare = min (t.packets.spare + more) 255 } }
+
+-- what is told of that
+abbrev pub hint_longer : PacketKind → ℕ → Tailored → Hint
+hint_longer Tm more t = Time (longer Tm more t).packets.time
+hint_longer Tc more t = Spare (longer Tc more t).packets.spare
 
 -- the same without a packet error control
 abbrev pub bare : Tailored → Tailored
 bare t = record t { packets = record t.packets { has_checksum = false } }
 
 -- the first of the other layouts by which octets are a packet that carries a part
-abbrev pub hint_for : Tailored → List ℕ → Option Hint
-hint_for t b =
-    if shows_part (longer 1 t) b then Some (Time (longer 1 t).packets.time)
-    else if shows_part (longer 2 t) b then Some (Time (longer 2 t).packets.time)
-    else if shows_part (longer 3 t) b then Some (Time (longer 3 t).packets.time)
-    else if shows_part (longer 4 t) b then Some (Time (longer 4 t).packets.time)
+abbrev pub hint_for : PacketKind → Tailored → List ℕ → Option Hint
+hint_for kind t b =
+    if shows_part (longer kind 1 t) b then Some (hint_longer kind 1 t)
+    else if shows_part (longer kind 2 t) b then Some (hint_longer kind 2 t)
+    else if shows_part (longer kind 3 t) b then Some (hint_longer kind 3 t)
+    else if shows_part (longer kind 4 t) b then Some (hint_longer kind 4 t)
     else if shows_part (bare t) b then Some Bare
     else None
 
 -- the same, where they are none by their own
-abbrev pub hint_unless : Tailored → List ℕ → Option Hint
-hint_unless t b = if shows_part t b then None else hint_for t b
+abbrev pub hint_unless : PacketKind → Tailored → List ℕ → Option Hint
+hint_unless kind t b = if shows_part t b then None else hint_for kind t b
 
 abbrev pub hint_of : Layouts → List ℕ → Option Hint
-hint_of l b = hint_unless (layout_in l b) b
+hint_of l b = hint_unless (kind_of (word_at b 0)) (layout_in l b) b

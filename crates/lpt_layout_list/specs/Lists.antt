@@ -3,7 +3,7 @@ use Rattle.std.specs.Prelude.{◌≡◌, ◌⊎◌, ℕ, ◌+◌, ◌<◌, ◌�
 use Rattle.std.specs.Io.KnownBytes.{Appends, Consumes, IsAtEnd}
 use Rattle.lpt_text.specs.Streams.{AppendsPart}
 use Rattle.lpt_stream.specs.Streams.{IsUnfinished}
-use Rattle.lpt_frames.specs.Frames.{IsCut, IsStray}
+use Rattle.lpt_frames.specs.Frames.{IsCut, IsStray, Stops}
 use Rattle.lpt_packet.specs.declared.fault.PacketFault.{PacketFault}
 use Rattle.lpt_packet.specs.Packets.{Sight, IdlePacket, APacket}
 use Rattle.lpt_layout.specs.declared.layout.Layout.{Layout}
@@ -87,6 +87,14 @@ told_none = record { refused = 0; parts = 0; hint = None }
 abbrev pub told_after : Layouts → Told → List (List ℕ) → Told
 told_after l t [] = t
 told_after l t (b ∷ bs) = told_after l (told_with l b t) bs
+
+-- what is found in octets: in the packets in front, one behind the other, as many as there are
+pub record IsTold (l : Layouts) (b : List ℕ) (told : Told) : Type 0 where
+  pub frames : List (List ℕ)
+  pub rest : List ℕ
+  pub cut : IsCut b frames rest
+  pub stops : Stops rest
+  pub counted : told ≡ told_after l told_none frames
 
 -- ---- a stream
 

@@ -4,7 +4,7 @@ ghost use Rattle.std.specs.Prelude.{◌≡◌, ◌≤◌, length};
 ghost use Rattle.lpt_layout.specs.Messages.{message_verdict, said};
 ghost use Rattle.lpt_layout.specs.Packets.{fields};
 ghost use Rattle.lpt_layout_file.specs.Layouts.{SizeFits, SizesFit};
-ghost use Rattle.lpt_layout_list.specs.Hints.{bare, hint_for, hint_of, is_part, is_part_in, longer, shows_part};
+ghost use Rattle.lpt_layout_list.specs.Hints.{bare, hint_for, hint_longer, hint_of, is_part, is_part_in, longer, shows_part};
 
 use crate::choice::{direction_of, kind_in};
 use crate::parts::part_at;
@@ -16,15 +16,17 @@ use lpt_packet::PacketKind;
 /// Another layout by which parts would be read.
 #[derive(Clone, Copy)]
 pub enum Hint {
-    /// With so many octets of time.
+    /// With so many octets of time, of telemetry.
     Time(u8),
+    /// With so many spare octets, of telecommands, which have no time.
+    Spare(u8),
     /// Without a packet error control.
     Bare,
 }
 
 /// By which other layout of its packet type octets would be read as a part, where they aren't by
-/// this one: with 1 to 4 octets of time more, or without a packet error control, the first that
-/// fits. `None` where they are read, and where no such layout fits.
+/// this one: with 1 to 4 octets more of time, or spare ones of telecommands, or without a packet
+/// error control, the first that fits. `None` where they are read, and where no such layout fits.
 pub fn hint_of(layouts: &Layouts, octets: &[u8]) -> Option<Hint>
     requires sizes { SizesFit layouts.now }
     requires header { 7 ≤ length octets.now }
@@ -35,25 +37,25 @@ pub fn hint_of(layouts: &Layouts, octets: &[u8]) -> Option<Hint>
     if shows_part(tailored, octets) {
         return None;
     }
-    hint_for(tailored, octets)
+    hint_for(kind, tailored, octets)
 }
 
 // The first of the other layouts by which octets would be read as a part.
-fn hint_for(tailored: &Tailored, octets: &[u8]) -> Option<Hint>
+fn hint_for(kind: PacketKind, tailored: &Tailored, octets: &[u8]) -> Option<Hint>
     requires { SizeFits tailored.now }
-    ensures { result ≡ hint_for tailored.now octets.now }
+    ensures { result ≡ hint_for kind tailored.now octets.now }
 {
-    if shows_part(&longer(tailored, 1), octets) {
-        return Some(Hint::Time(longer(tailored, 1).packets.time));
+    if shows_part(&longer(kind, tailored, 1), octets) {
+        return Some(hint_longer(kind, tailored, 1));
     }
-    if shows_part(&longer(tailored, 2), octets) {
-        return Some(Hint::Time(longer(tailored, 2).packets.time));
+    if shows_part(&longer(kind, tailored, 2), octets) {
+        return Some(hint_longer(kind, tailored, 2));
     }
-    if shows_part(&longer(tailored, 3), octets) {
-        return Some(Hint::Time(longer(tailored, 3).packets.time));
+    if shows_part(&longer(kind, tailored, 3), octets) {
+        return Some(hint_longer(kind, tailored, 3));
     }
-    if shows_part(&longer(tailored, 4), octets) {
-        return Some(Hint::Time(longer(tailored, 4).packets.time));
+    if shows_part(&longer(kind, tailored, 4), octets) {
+        return Some(hint_longer(kind, tailored, 4));
     }
     if shows_part(&bare(tailored), octets) {
         return Some(Hint::Bare);
@@ -61,16 +63,35 @@ fn hint_for(tailored: &Tailored, octets: &[u8]) -> Option<Hint>
     None
 }
 
-// The same with so many octets of time more, up to 255.
-fn longer(tailored: &Tailored, more: u8) -> Tailored
-    ensures { result ≡ longer more tailored.now }
+// The same with so many octets more, up to 255: of time, or spare ones of telecommands.
+fn longer(kind: PacketKind, tailored: &Tailored, more: u8) -> Tailored
+    ensures { result ≡ longer kind more tailored.now }
 {
-    Tailored {
-        packets: Layout {
-            time: tailored.packets.time.saturating_add(more),
-            ..tailored.packets
+    let packets = tailored.packets;
+    let packets = match kind {
+        PacketKind::Tm => Layout {
+            time: packets.time.saturating_add(more),
+            ..packets
         },
+        PacketKind::Tc => Layout {
+            spare: packets.spare.saturating_add(more),
+            ..packets
+        },
+    };
+    Tailored {
+        packets,
         ..*tailored
+    }
+}
+
+// What is told of that.
+fn hint_longer(kind: PacketKind, tailored: &Tailored, more: u8) -> Hint
+    ensures { result ≡ hint_longer kind more tailored.now }
+{
+    let packets = longer(kind, tailored, more).packets;
+    match kind {
+        PacketKind::Tm => Hint::Time(packets.time),
+        PacketKind::Tc => Hint::Spare(packets.spare),
     }
 }
 

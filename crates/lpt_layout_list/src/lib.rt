@@ -10,6 +10,7 @@
 
 mod choice;
 mod decoding;
+mod fronts;
 mod headers;
 mod heads;
 mod hints;
@@ -18,6 +19,7 @@ mod parts;
 mod told;
 
 pub use decoding::decode_layouts;
+pub use fronts::told_in;
 pub use heads::print_items;
 pub use hints::{Hint, hint_of};
 pub use listing::list_layouts;

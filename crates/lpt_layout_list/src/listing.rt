@@ -95,7 +95,7 @@ fn list_frames<S: Source, K: Sink>(
 }
 
 // Nothing was found.
-fn nothing_told() -> Told
+pub(crate) fn nothing_told() -> Told
     ensures { result ≡ told_none }
 {
     Told {

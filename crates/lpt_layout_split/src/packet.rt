@@ -3,7 +3,9 @@
 ghost use Rattle.std.specs.Prelude.{◌≡◌};
 ghost use Rattle.lpt_events.specs.Arrivals.{part_subtype};
 ghost use Rattle.lpt_layout.specs.Parts.{piece};
-ghost use Rattle.lpt_layout_split.specs.Splits.{MakesBody, MakesPart};
+ghost use Rattle.lpt_layout.specs.Messages.{HeadFits};
+ghost use Rattle.lpt_layout.specs.Writes.{Writes};
+ghost use Rattle.lpt_layout_split.specs.Splits.{MakesPart, made_of, said_of};
 
 use crate::WantedAs;
 use lpt_layout::{LayoutFault, Message, Octets, PartAs, write_part_as, write_tc_as, write_tm_as};
@@ -38,7 +40,8 @@ fn body_packet(
     kind: Kind,
     body: &[u8],
 ) -> Result<Octets, LayoutFault>
-    ensures { MakesBody wanted.now count kind body.now result }
+    ensures { Writes (HeadFits wanted.now.layout (said_of wanted.now count kind body.now))
+        (made_of wanted.now count kind body.now) result }
 {
     let message = Message {
         apid: wanted.apid,

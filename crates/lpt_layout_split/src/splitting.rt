@@ -5,7 +5,7 @@ ghost use Rattle.lpt_packet.specs.Sizes.{longest_packet};
 ghost use Rattle.lpt_part.specs.Splitting.{part_count};
 ghost use Rattle.lpt_split.specs.Splits.{AreNumbers, next_count};
 ghost use Rattle.lpt_text.specs.Streams.{WriteEnds};
-ghost use Rattle.lpt_layout_split.specs.Splits.{LeavesNumbers, LeavesSplit, WritesNumbers, WritesSplit, all_octets};
+ghost use Rattle.lpt_layout_split.specs.Splits.{AreMade, FirstFault, LeavesNumbers, LeavesSplit, WritesNumbers, WritesSplit, all_octets};
 
 use crate::{SplitAs, WantedAs, part_packet_as};
 use lpt_layout::{LayoutFault, count_as, part_at_as};
@@ -95,8 +95,11 @@ fn packets(
     requires short { length message.now ≤ longest_packet }
     requires numbers { AreNumbers (part_count (length message.now) wanted.now.part_size)
         numbers.now }
-    ensures { IfOk result (λ o. o.items
+    ensures octets { IfOk result (λ o. o.items
         ≡ all_octets wanted.now message.now wanted.now.first numbers.now) }
+    ensures made { IfOk result (λ _. AreMade wanted.now message.now wanted.now.first numbers.now) }
+    ensures fault { IfErr result (λ e.
+        FirstFault wanted.now message.now wanted.now.first numbers.now e) }
 {
     let mut octets = Vec::new(alloc);
     let mut count = wanted.first;

@@ -1,11 +1,13 @@
-//! Sources over other sources: several, one behind the other, and the octets of one from one place
-//! up to another.
+//! Sources over other sources: several, one behind the other; the octets of one from one place up
+//! to another; and one of which the first octets are kept.
 //!
-//! The main types are `Chain` and `Span`. The first calls are their `new`.
+//! The main types are `Chain`, `Span` and `Keeping`. The first calls are their `new`.
 #![tactic(auto)]
 
 mod chain;
+mod keeping;
 mod span;
 
 pub use chain::Chain;
+pub use keeping::Keeping;
 pub use span::Span;

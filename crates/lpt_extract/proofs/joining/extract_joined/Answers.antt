@@ -1,30 +1,80 @@
 -- Nothing was taken of nothing; and at the end what was taken is written.
-use Rattle.std.proofs.Common.{subst, refl, [], false}
+use Rattle.std.proofs.Common.{◌≡◌, sym, subst, refl, [], false}
+use Rattle.std.proofs.lemmas.Result.{err_from_is_err_and}
 use Rattle.std.specs.Io.KnownBytes.{Appends}
+use Rattle.lpt_text.specs.declared.fault.StreamFault.{StreamFault}
+use Rattle.lpt_text.specs.declared.fault.StreamFault.TheVariants as faults
+use Rattle.lpt_text.specs.Streams.{AppendsPart}
+use Rattle.lpt_text.proofs.StreamLemmas.{part_whole}
 use Rattle.lpt_stream.specs.Pieces.{packets_of}
+use Rattle.lpt_stream.proofs.EndLemmas.{other-fault, reader-all, reader-kept}
 use Rattle.lpt_each.proofs.ReadLemmas.{told-all}
 use Rattle.lpt_each.proofs.TellLemmas as each
 use Rattle.lpt_each.specs.Streams.{Tells}
-use Rattle.lpt_extract.specs.Extracts.{areas_in, written_first}
-use Rattle.lpt_extract.specs.ExtractsInside.{Held}
-use Rattle.lpt_extract.specs.Joined.{joined_in, reads}
+use Rattle.lpt_extract.specs.Extracts.{areas_in, written_first, LeavesFront}
+use Rattle.lpt_extract.specs.ExtractsInside.{written_last, Held}
+use Rattle.lpt_extract.specs.Joined.{joined_in, reads, JoinedLeaves}
 use Rattle.lpt_extract.specs.Notices.{Hears}
-use Rattle.lpt_extract.proofs.GiveLemmas.{hears-nothing, wrote-none}
-use Rattle.lpt_extract.proofs.JoinedLemmas.{as-wanted, joined-ends}
-use Rattle.lpt_extract.proofs.ReadLemmas.{if-ok}
+use Rattle.lpt_extract.proofs.GiveLemmas.{first-none, hears-nothing, leaves-first, leaves-last}
+use Rattle.lpt_extract.proofs.JoinedLemmas.{as-wanted, ends-failed, ends-ok, joined-ends, taker-failed}
+use Rattle.lpt_extract.proofs.ReadLemmas.{if-ok, if-err, leave-all, leave-as}
 use Rattle.lpt_extract.proofs.joining.extract_joined.Goals as goal
 
-pub each_piece-requires : goal.each_piece-requires
-each_piece-requires g c = record {
-  same_wanted = refl;
-  same = refl;
-  helds_are = c.new-helds.ensures c.args.transaction.now false;
-  held = c.new-holding.ensures c.args.wanted.now.at;
-  wrote = wrote-none c.args.wanted.now.at (g.K.Sink.contents c.args.outlets.now.out);
-  hears_is = hears-nothing (g.L.Listener.heard c.args.outlets.now.listener);
-  tells_is = each.hears-nothing (g.T.Taker.heard c.args.outlets.now.taker);
+pub each_piece_passing-requires : goal.each_piece_passing-requires
+each_piece_passing-requires g c = record {
+  taken = record {
+    same_wanted = refl;
+    same = refl;
+    helds_are = c.new-helds.ensures c.args.transaction.now false;
+    held = c.new-holding.ensures c.args.wanted.now.at;
+    hears_is = hears-nothing (g.L.Listener.heard c.args.hearers.now.listener);
+    tells_is = each.hears-nothing (g.T.Taker.heard c.args.hearers.now.taker);
+  };
+  nothing = first-none c.args.wanted.now.at;
 }
 
+-- it wasn't read to its end
+pub returns-in_err-last-clause-leaves : goal.returns-in_err-last-clause-leaves
+returns-in_err-last-clause-leaves g c =
+    let w = c.args.wanted.now in
+    let t = c.args.transaction.now in
+    let e = c.in_err-last.field-0.0 in
+    let old = g.K.Sink.contents c.args.out.now in
+    let new = g.K.Sink.contents c.each_piece_passing.new.out in
+    let p = err_from_is_err_and c.from_residual.result c.from_residual.ensures.1 in
+    rw (p.1, p.2)
+    (leave-as _ _
+    (λ ps. AppendsPart old new (written_first w.at (areas_in w (reads t (packets_of ps)))))
+    (λ ps. LeavesFront e w.at (areas_in w (reads t (packets_of ps))) old new)
+    (λ ps part. leaves-first e w.at (areas_in w (reads t (packets_of ps))) old new part)
+    c.in_err-last.ensures.leaves)
+
+-- the taker failed at what is left
+pub returns-in_err-leave-clause-leaves : goal.returns-in_err-leave-clause-leaves
+returns-in_err-leave-clause-leaves g c =
+    let w = c.args.wanted.now in
+    let t = c.args.transaction.now in
+    let e = c.in_err-leave.field-0.0 in
+    let read = c.in_ok-last.ensures.taken in
+    let old = g.K.Sink.contents c.args.out.now in
+    let mid = g.K.Sink.contents c.each_piece_passing.new.out in
+    let p = err_from_is_err_and c.from_residual-in_err-leave.result
+    c.from_residual-in_err-leave.ensures.1 in
+    rw (p.1, p.2)
+    (leave-all _ _ (λ ps. LeavesFront e w.at (areas_in w (reads t (packets_of ps))) old mid)
+    read.0 read.1 read.2 read.4
+    (leaves-first e w.at (areas_in w (reads t (packets_of read.1))) old mid
+    (part_whole old mid _ read.5.1)))
+
+pub returns-in_err-leave-clause-reader : goal.returns-in_err-leave-clause-reader
+returns-in_err-leave-clause-reader g c =
+    let p = err_from_is_err_and c.from_residual-in_err-leave.result
+    c.from_residual-in_err-leave.ensures.1 in
+    rw (p.1, p.2)
+    (reader-kept _ c.in_err-leave.field-0.0 _ _
+    (other-fault c.in_err-leave.field-0.0 c.in_err-leave.ensures.fault) c.in_ok-last.ensures.reader)
+
+-- it was read to its end
 pub returns-clause-ends : goal.returns-clause-ends
 returns-clause-ends g c =
     let w = c.args.wanted.now in
@@ -33,11 +83,11 @@ returns-clause-ends g c =
     let last = c.in_ok-last.last in
     let ps = read.1 in
     let bs = packets_of ps in
-    let taken = read.5 in
-    let first = c.args.outlets.now in
-    let lent = c.each_piece.new.lent in
-    let old = g.K.Sink.contents first.out in
-    let mid = g.K.Sink.contents lent.out in
+    let taken = read.5.0 in
+    let first = c.args.hearers.now in
+    let lent = c.each_piece_passing.new.lent in
+    let old = g.K.Sink.contents c.args.out.now in
+    let mid = g.K.Sink.contents c.each_piece_passing.new.out in
     let new = g.K.Sink.contents c.end_extract.new.out in
     let heard = g.L.Listener.heard first.listener in
     let hears = g.L.Listener.heard lent.listener in
@@ -46,8 +96,6 @@ returns-clause-ends g c =
     let held = as-wanted
     (λ w t. Held w.at (areas_in w (reads t bs)) (joined_in w t [] 0 ps) last.holding)
     last.wanted w last.transaction t taken.same_wanted taken.same taken.held in
-    let wrote = as-wanted (λ w t. Appends old mid (written_first w.at (areas_in w (reads t bs))))
-    last.wanted w last.transaction t taken.same_wanted taken.same taken.wrote in
     let hear = as-wanted (λ w t. Hears heard hears (joined_in w t [] 0 ps))
     last.wanted w last.transaction t taken.same_wanted taken.same taken.hears_is in
     let tell = subst (λ t. Tells t false bs told tells) taken.same
@@ -60,6 +108,55 @@ returns-clause-ends g c =
       read.2,
       read.3,
       read.4,
-      (joined-ends w t x ps old mid new heard hears wrote hear ends, tell),
+      (joined-ends w t x ps old mid new heard hears read.5.1 hear ends, tell),
     ))
     (c.end_extract.ensures.ends (areas_in w (reads t bs)) (joined_in w t [] 0 ps) held)
+
+pub returns-clause-leaves : goal.returns-clause-leaves
+returns-clause-leaves g c =
+    let w = c.args.wanted.now in
+    let t = c.args.transaction.now in
+    let read = c.in_ok-last.ensures.taken in
+    let last = c.in_ok-last.last in
+    let ps = read.1 in
+    let bs = packets_of ps in
+    let taken = read.5.0 in
+    let old = g.K.Sink.contents c.args.out.now in
+    let mid = g.K.Sink.contents c.each_piece_passing.new.out in
+    let new = g.K.Sink.contents c.end_extract.new.out in
+    let areas = areas_in w (reads t bs) in
+    let held = as-wanted
+    (λ w t. Held w.at (areas_in w (reads t bs)) (joined_in w t [] 0 ps) last.holding)
+    last.wanted w last.transaction t taken.same_wanted taken.same taken.held in
+    if-err (λ e. e ≡ faults.Write) (λ e. AppendsPart mid new (written_last w.at areas))
+    (λ e. JoinedLeaves w t e _ _ old new) c.end_extract.result
+    (λ e is part. leave-all _ _
+    (λ ps. LeavesFront e w.at (areas_in w (reads t (packets_of ps))) old new)
+    read.0 ps read.2 read.4
+    (subst (λ (f : StreamFault). LeavesFront f w.at areas old new) (sym is)
+    (leaves-last w.at areas old mid new read.5.1 part)))
+    c.end_extract.ensures.fault
+    (c.end_extract.ensures.part areas (joined_in w t [] 0 ps) held)
+
+pub returns-clause-reader : goal.returns-clause-reader
+returns-clause-reader g c =
+    reader-all _ c.end_extract.result _ _ c.end_extract.ensures.fault c.in_ok-last.ensures.reader
+
+-- ---- the writer
+
+pub returns-in_err-leave-clause-failed : goal.returns-in_err-leave-clause-failed
+returns-in_err-leave-clause-failed g c =
+    let p = err_from_is_err_and c.from_residual-in_err-leave.result
+    c.from_residual-in_err-leave.ensures.1 in
+    rw (p.1, p.2)
+    (taker-failed c.in_err-leave.field-0.0 (g.K.Sink.failed c.args.out.now)
+    (g.K.Sink.failed c.each_piece_passing.new.out) c.in_err-leave.ensures.fault
+    c.in_ok-last.ensures.writer)
+
+pub returns-clause-writer : goal.returns-clause-writer
+returns-clause-writer g c =
+    ends-ok c.end_extract.result _ _ _ c.end_extract.ensures.writer c.in_ok-last.ensures.writer
+
+pub returns-clause-failed : goal.returns-clause-failed
+returns-clause-failed g c =
+    ends-failed c.end_extract.result _ _ _ c.end_extract.ensures.writer c.in_ok-last.ensures.writer

@@ -1,6 +1,8 @@
 -- What a part tells is read.
 use Rattle.std.proofs.Common.{◌≡◌, ◌++◌, [], rules, sym, subst, Some, append-nil}
 use Rattle.std.specs.Io.KnownBytes.{Appends}
+use Rattle.lpt_text.specs.Streams.{AppendsPart}
+use Rattle.lpt_text.proofs.StreamLemmas.{part_unchanged}
 use Rattle.lpt_part.specs.Parts.{piece}
 use Rattle.lpt_events.specs.NamedParts.{named}
 use Rattle.lpt_extract.specs.Extracts.{areas_in, written_first}
@@ -9,6 +11,7 @@ use Rattle.lpt_extract.specs.Joined.{notices_by}
 use Rattle.lpt_extract.specs.Notices.{Hears}
 use Rattle.lpt_extract.proofs.GiveLemmas.{held-as, hears-nothing, wrote-none}
 use Rattle.lpt_extract.proofs.JoinedLemmas.{reads-none, reads-some}
+use Rattle.lpt_extract.proofs.ReadLemmas.{any-err}
 use Rattle.lpt_extract.proofs.joining.take_part.Goals as goal
 
 -- nothing is told
@@ -26,7 +29,7 @@ pub returns-in_default-clause-wrote : goal.returns-in_default-clause-wrote
 returns-in_default-clause-wrote g c = λ bs b h e.
     let w = c.args.wanted.now in
     let q = named c.args.name.source (piece c.args.part.now) in
-    let out = g.K.Sink.contents c.args.outlets.now.out in
+    let out = g.K.Sink.contents c.args.out.now in
     subst (λ ms. Appends out out (written_first w.at (areas_in w ms)))
     (reads-none c.args.transaction.now bs b q c.in-Ok.taken.1 e (c.in-Ok.ensures.told bs b h e)
     c.in_default.is)
@@ -36,7 +39,7 @@ pub returns-in_default-clause-heard : goal.returns-in_default-clause-heard
 returns-in_default-clause-heard g c = λ bs b h e.
     let w = c.args.wanted.now in
     let q = named c.args.name.source (piece c.args.part.now) in
-    let heard = g.L.Listener.heard c.args.outlets.now.listener in
+    let heard = g.L.Listener.heard c.args.hearers.now.listener in
     subst (λ ms. Hears heard heard (notices_by w c.args.place ms))
     (reads-none c.args.transaction.now bs b q c.in-Ok.taken.1 e (c.in-Ok.ensures.told bs b h e)
     c.in_default.is)
@@ -59,8 +62,8 @@ returns-clause-wrote g c = λ bs b h e.
     let w = c.args.wanted.now in
     let q = named c.args.name.source (piece c.args.part.now) in
     let some : c.in-Ok.taken.1 ≡ Some (c.in-Some.name, c.in-Some.news) = search rules in
-    subst (λ ms. Appends (g.K.Sink.contents c.args.outlets.now.out)
-    (g.K.Sink.contents c.take_news.new.outlets.out) (written_first w.at (areas_in w ms)))
+    subst (λ ms. Appends (g.K.Sink.contents c.args.out.now)
+    (g.K.Sink.contents c.take_news.new.out) (written_first w.at (areas_in w ms)))
     (reads-some c.args.transaction.now bs b q c.in-Ok.taken.1 c.in-Some.name c.in-Some.news e
     (c.in-Ok.ensures.told bs b h e) some)
     c.in_ok-take_news.ensures.wrote
@@ -70,8 +73,26 @@ returns-clause-heard g c = λ bs b h e.
     let w = c.args.wanted.now in
     let q = named c.args.name.source (piece c.args.part.now) in
     let some : c.in-Ok.taken.1 ≡ Some (c.in-Some.name, c.in-Some.news) = search rules in
-    subst (λ ms. Hears (g.L.Listener.heard c.args.outlets.now.listener)
-    (g.L.Listener.heard c.take_news.new.outlets.listener) (notices_by w c.args.place ms))
+    subst (λ ms. Hears (g.L.Listener.heard c.args.hearers.now.listener)
+    (g.L.Listener.heard c.take_news.new.hearers.listener) (notices_by w c.args.place ms))
     (reads-some c.args.transaction.now bs b q c.in-Ok.taken.1 c.in-Some.name c.in-Some.news e
     (c.in-Ok.ensures.told bs b h e) some)
     c.in_ok-take_news.ensures.heard
+
+-- ---- faults
+
+pub returns-in-Err-clause-part : goal.returns-in-Err-clause-part
+returns-in-Err-clause-part g c = λ bs b h e.
+    part_unchanged (g.K.Sink.contents c.args.out.now) _
+
+pub returns-in_err-take_news-clause-part : goal.returns-in_err-take_news-clause-part
+returns-in_err-take_news-clause-part g c = λ bs b h e.
+    let w = c.args.wanted.now in
+    let q = named c.args.name.source (piece c.args.part.now) in
+    let some : c.in-Ok.taken.1 ≡ Some (c.in-Some.name, c.in-Some.news) = search rules in
+    any-err _ c.from_residual.result
+    (subst (λ ms. AppendsPart (g.K.Sink.contents c.args.out.now)
+    (g.K.Sink.contents c.take_news.new.out) (written_first w.at (areas_in w ms)))
+    (reads-some c.args.transaction.now bs b q c.in-Ok.taken.1 c.in-Some.name c.in-Some.news e
+    (c.in-Ok.ensures.told bs b h e) some)
+    c.in_err-take_news.ensures.part)

@@ -1,7 +1,11 @@
 -- Octets that aren't read give nothing.
-use Rattle.std.proofs.Common.{sym, subst, arith, [], ◌++◌, append-nil}
+use Rattle.std.proofs.Common.{sym, subst, arith, List, [], ◌++◌, append-nil}
+use Rattle.std.specs.Prelude.{IfErr}
 use Rattle.lpt_packet.specs.Numbers.{IsOctets}
 use Rattle.std.specs.Io.KnownBytes.{Appends}
+use Rattle.lpt_memory.specs.declared.request.Area.{Area}
+use Rattle.lpt_text.specs.Streams.{AppendsPart}
+use Rattle.lpt_extract.specs.Reports.{report_in}
 use Rattle.lpt_extract.specs.Extracts.{areas_of, notices_of, written_first}
 use Rattle.lpt_extract.specs.ExtractsInside.{Held}
 use Rattle.lpt_extract.specs.Notices.{Hears}
@@ -41,3 +45,13 @@ returns-in-Err-clause-heard g c =
     (report-none w.apid b c.in-Err.field-0 (c.seen_is_read.ensures.tests b octets)
     c.in-Err.ensures.exact)
     (hears-nothing heard)
+
+-- and of a packet what it gives
+pub returns-in-Ok-clause-part : goal.returns-in-Ok-clause-part
+returns-in-Ok-clause-part g c =
+    let w = c.args.wanted.now in
+    subst (λ (areas : List Area). IfErr c.take_packet.result
+    (λ e. AppendsPart (g.K.Sink.contents c.args.out.now) (g.K.Sink.contents c.take_packet.new.out)
+    (written_first w.at areas)))
+    (sym (append-nil (areas_of w.at (report_in w.apid c.args.octets.now))))
+    c.take_packet.ensures.part

@@ -1,50 +1,46 @@
--- What the areas of a report give is what it gives.
-use Rattle.std.proofs.Common.{◌≡◌, ◌∙◌, ap, sym, subst, rules, true, false, List, ◌++◌}
-use Rattle.std.specs.Prelude.{IfErr}
+-- What the dump report gives that octets are is what they give.
+use Rattle.std.proofs.Common.{◌≡◌, ap, subst, List, ◌++◌}
+use Rattle.std.specs.Prelude.{IfErr, OnOk}
+use Rattle.std.specs.Io.KnownBytes.{Appends}
 use Rattle.lpt_memory.specs.declared.request.Area.{Area}
 use Rattle.lpt_text.specs.Streams.{AppendsPart}
-use Rattle.lpt_extract.specs.Extracts.{is_of, areas_of, notices_of, written_first}
+use Rattle.lpt_extract.specs.declared.notice.Notice.{Notice}
+use Rattle.lpt_extract.specs.Extracts.{areas_of, notices_of, written_first}
 use Rattle.lpt_extract.specs.ExtractsInside.{Held}
-use Rattle.lpt_extract.specs.Reports.{report_in}
-use Rattle.lpt_extract.specs.ReportsInside.{said}
-use Rattle.lpt_extract.proofs.GiveLemmas.{areas-said, held-other, held-same}
+use Rattle.lpt_extract.specs.Notices.{Hears}
+use Rattle.lpt_extract.specs.Reports.{Saying}
+use Rattle.lpt_extract.proofs.SeenLemmas.{report-said}
 use Rattle.lpt_extract.proofs.taking.take_packet.Goals as goal
 
--- it is of another application process
-pub returns-in-Foreign-clause-held : goal.returns-in-Foreign-clause-held
-returns-in-Foreign-clause-held g c = λ areas ns h.
+pub returns-clause-held : goal.returns-clause-held
+returns-clause-held g c = λ areas ns h.
     let at = c.args.wanted.now.at in
-    subst (λ r. Held at (areas ++ areas_of at r) (ns ++ notices_of at c.args.place r) c.tell.new.self)
-    (ap said (sym c.in-Foreign.is) ∙ c.in-Ok.ensures)
-    (held-same at areas _ c.tell.new.self (c.tell.ensures.held at areas ns h))
+    subst (λ (r : Saying). OnOk c.take_dump.result (Held at (areas ++ areas_of at r)
+    (ns ++ notices_of at c.args.place r) c.take_dump.new.holding))
+    (report-said c.args.wanted.now.apid c.args.octets.now _ c.dump_in.ensures)
+    (c.take_dump.ensures.held areas ns h)
 
--- its body isn't read
-pub returns-in-Unread-clause-held : goal.returns-in-Unread-clause-held
-returns-in-Unread-clause-held g c = λ areas ns h.
+pub returns-clause-wrote : goal.returns-clause-wrote
+returns-clause-wrote g c =
     let at = c.args.wanted.now.at in
-    subst (λ r. Held at (areas ++ areas_of at r) (ns ++ notices_of at c.args.place r) c.tell-in-Unread.new.self)
-    (ap said (sym c.in-Unread.is) ∙ c.in-Ok.ensures)
-    (held-same at areas _ c.tell-in-Unread.new.self (c.tell-in-Unread.ensures.held at areas ns h))
+    subst (λ (r : Saying). OnOk c.take_dump.result (Appends (g.K.Sink.contents c.args.out.now)
+    (g.K.Sink.contents c.take_dump.new.out) (written_first at (areas_of at r))))
+    (report-said c.args.wanted.now.apid c.args.octets.now _ c.dump_in.ensures)
+    c.take_dump.ensures.wrote
 
--- it is of another memory
-pub returns-then-not-is_of-clause-held : goal.returns-then-not-is_of-clause-held
-returns-then-not-is_of-clause-held g c = λ areas ns h.
+pub returns-clause-heard : goal.returns-clause-heard
+returns-clause-heard g c =
     let at = c.args.wanted.now.at in
-    let other : is_of at c.in-Areas.memory ≡ false = search rules in
-    subst (λ r. Held at (areas ++ areas_of at r) (ns ++ notices_of at c.args.place r) c.tell-then-not-is_of.new.self)
-    (ap said (sym c.in-Areas.is) ∙ c.in-Ok.ensures)
-    (held-other at _ c.args.place areas ns c.tell-then-not-is_of.new.self other (c.tell-then-not-is_of.ensures.held at areas ns h))
+    subst (λ (r : Saying). OnOk c.take_dump.result (Hears (g.L.Listener.heard c.args.listener.now)
+    (g.L.Listener.heard c.take_dump.new.listener) (notices_of at c.args.place r)))
+    (report-said c.args.wanted.now.apid c.args.octets.now _ c.dump_in.ensures)
+    c.take_dump.ensures.heard
 
--- its areas were taken
-
-pub returns-else-not-is_of-clause-part : goal.returns-else-not-is_of-clause-part
-returns-else-not-is_of-clause-part g c =
+pub returns-clause-part : goal.returns-clause-part
+returns-clause-part g c =
     let at = c.args.wanted.now.at in
-    let old = g.K.Sink.contents c.args.out.now in
-    let new = g.K.Sink.contents c.take_areas.new.out in
-    let mine : is_of at c.in-Areas.memory ≡ true = search rules in
-    subst (λ (areas : List Area). IfErr c.take_areas.result (λ e. AppendsPart old new (written_first at areas)))
-    (areas-said at c.in-Areas.memory c.in-Areas.areas.items c.deref.result.now
-    (report_in c.args.wanted.now.apid c.args.octets.now)
-    (ap said (sym c.in-Areas.is) ∙ c.in-Ok.ensures) mine c.deref.ensures.value)
-    c.take_areas.ensures.part
+    subst (λ (r : Saying). IfErr c.take_dump.result (λ _. AppendsPart
+    (g.K.Sink.contents c.args.out.now) (g.K.Sink.contents c.take_dump.new.out)
+    (written_first at (areas_of at r))))
+    (report-said c.args.wanted.now.apid c.args.octets.now _ c.dump_in.ensures)
+    c.take_dump.ensures.part

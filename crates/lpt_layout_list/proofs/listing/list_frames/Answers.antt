@@ -1,5 +1,5 @@
 -- Frame after frame, until none is left.
-use Rattle.std.proofs.Common.{◌≡◌, ◌∙◌, ◌≤◌, ap, sym, subst, refl, inr, take, [], Ok, arith}
+use Rattle.std.proofs.Common.{◌∙◌, ◌≤◌, ap, sym, subst, refl, inr, take, [], Ok, arith}
 use Rattle.std.specs.Io.KnownBytes.{Appends}
 use Rattle.std.proofs.KnownBytes.{Consumes-nil, Keeps-refl}
 use Rattle.std.proofs.lemmas.List.{length-take-le}
