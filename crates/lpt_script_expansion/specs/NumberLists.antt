@@ -1,8 +1,9 @@
 -- The numbers that a word lists, as `1-3,5`.
-use Rattle.std.specs.Prelude.{ℕ, ◌+◌, ◌-◌, ◌==◌, ◌||◌, nat_lt, Bool, if◌then◌else◌, List, [], ◌∷◌, ◌++◌, length, take, drop, position, Option, Some, None, option_map}
-use Rattle.std.specs.List.{range_with_len, slice_split}
+use Rattle.std.specs.Prelude.{ℕ, ◌+◌, ◌-◌, ◌==◌, ◌||◌, nat_lt, if◌then◌else◌, List, [], ◌∷◌, ◌++◌, length, take, drop, position, Option, Some, None, option_map}
+use Rattle.std.specs.List.{range_with_len}
 use Rattle.std.specs.Option.{option_zip}
 use Rattle.lpt_script_words.specs.Names.{packet_number_of}
+use Rattle.lpt_text.specs.Items.{items_of}
 
 -- the first and the last number of an item, by where its hyphen is
 abbrev pub range_by : List ℕ → Option ℕ → Option (ℕ × ℕ)
@@ -22,9 +23,6 @@ with_range ns (Some r) =
     if nat_lt r.1 r.0 || nat_lt 65535 (length ns + (r.1 + 1 - r.0)) then None
     else Some (ns ++ range_with_len r.0 (r.1 + 1 - r.0))
 
-abbrev pub is_comma : ℕ → Bool
-is_comma b = b == 44
-
 -- numbers, where there are any, and those of these items behind them
 abbrev pub listed : Option (List ℕ) → List (List ℕ) → Option (List ℕ)
 listed None items = None
@@ -33,4 +31,4 @@ listed (Some ns) (item ∷ items) = listed (with_range ns (range_of item)) items
 
 -- the numbers that a word lists
 abbrev pub numbers_of : List ℕ → Option (List ℕ)
-numbers_of word = listed (Some []) (slice_split is_comma word)
+numbers_of word = listed (Some []) (items_of word)

@@ -24,7 +24,8 @@ use std::alloc::{AllocError, Global};
 /// for the lane, which may be no line: the link holds it, and no lane has taken it yet. In place of
 /// the number of `send`, `pass` and `lose` may stand a list, as `1-3,5`, of up to 65,535 numbers.
 /// And `open DIRECTION ID "TEXT"` stands for the line with the octets of the text, up to the quote
-/// that ends the line. A line of more than 140,000 octets isn't looked at, and one that would stand
+/// that ends the line, and `open DIRECTION ID @HEX`, as `filled` makes it of a file, for the line
+/// without the `@`. A line of more than 140,000 octets isn't looked at, and one that would stand
 /// for a line that no script reads stands for none. The only error is out of memory.
 pub fn expand(alloc: Global, world: &World, line: &[u8]) -> Result<Option<Vec<Octets>>, AllocError>
     ensures { IfOk result (λ r. option_map (λ v. v.items) r ≡ expansion world.now line.now) }

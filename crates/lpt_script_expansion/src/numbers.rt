@@ -1,12 +1,12 @@
 //! The numbers that a word lists.
 
-ghost use Rattle.std.specs.Prelude.{◌≡◌, ◌≤◌, ◌<◌, ◌-◌, ◌+◌, ◌∷◌, ◌++◌, [], length, option_map, IfOk, IfSome, MatchOption, OnOk, Some};
-ghost use Rattle.std.specs.List.{range_with_len, slice_split};
-ghost use Rattle.lpt_script_expansion.specs.NumberLists.{is_comma, numbers_of, range_of, with_range};
+ghost use Rattle.std.specs.Prelude.{◌≡◌, ◌≤◌, ◌-◌, ◌+◌, ◌++◌, option_map, IfOk, IfSome, OnOk};
+ghost use Rattle.std.specs.List.{range_with_len};
+ghost use Rattle.lpt_script_expansion.specs.NumberLists.{numbers_of, range_of, with_range};
 ghost use Rattle.lpt_script_expansion.specs.ListingInside.{added};
 
 use lpt_script_words::{GREATEST_NUMBER, read_number};
-use lpt_text::first_place;
+use lpt_text::{cut_item, first_place};
 use std::alloc::{AllocError, Global};
 
 /// The most numbers that a word lists: as many as a message has parts at most.
@@ -29,18 +29,6 @@ pub(crate) fn read_numbers(alloc: Global, word: &[u8]) -> Result<Option<Vec<u64>
         return Ok(None);
     }
     Ok(Some(numbers))
-}
-
-// The item in front of the first comma, and what is behind it; none where there is no comma.
-fn cut_item(list: &[u8]) -> Option<(&[u8], &[u8])>
-    ensures items { MatchOption result (slice_split is_comma list.now ≡ list.now ∷ [])
-        (λ cut. slice_split is_comma list.now ≡ cut.0.now ∷ slice_split is_comma cut.1.now) }
-    ensures shorter { IfSome result (λ cut. length cut.1.now < length list.now) }
-{
-    match first_place(list, b',') {
-        Some(place) => Some((&list[..place], &list[place + 1..])),
-        None => None,
-    }
 }
 
 // Adds the numbers of an item, and answers whether it has any and they aren't too many.

@@ -26,7 +26,7 @@ topics =
     ∷ (codes "show", codes "show released, show packet N, show memory ID ADDR LEN, show clear DIRECTION ID, show journal")
     ∷ (codes "show", codes "show link, show receptions, show senders, show jobs, show packets FROM TO: in a shell alone")
     ∷ (codes "help", codes "help, help WORD: the lines, or those that begin with a word: in a shell alone")
-    ∷ (codes "open", codes "open DIRECTION ID, and a text in quotes: in a shell alone")
+    ∷ (codes "open", codes "open DIRECTION ID, and a text in quotes or @FILE: in a shell alone")
     ∷ (codes "send", codes "send DIRECTION ID all, or K as 1-3,5: in a shell alone")
     ∷ (codes "lose", codes "lose N as 3-9: in a shell alone")
     ∷ (codes "pass", codes "pass LANE all, or N as 1-3,5: in a shell alone")
@@ -54,7 +54,7 @@ words_told =
     ∷ codes "LANE: s1 or s2, which carry up, g1 or g2, which carry down; WORKER: w1 or w2"
     ∷ codes "ID: a message's, 0 to 65535, or SOURCE/ID; behind show memory a memory's, 0 to 255"
     ∷ codes "K: the number of a part, from 1; N: that of a packet, from 0, as show link tells it"
-    ∷ codes "HEX: octets, each as two hexadecimal digits; - is no octets"
+    ∷ codes "HEX: octets, each as two hexadecimal digits; - is no octets; FILE: a path"
     ∷ codes "SERVICE, SUBTYPE: types of a request, 0 to 255; SEQ: its sequence count, 0 to 16383"
     ∷ codes "FLAGS: 0 to 15, the sum of 1 acceptance, 2 start, 4 progress and 8 completion"
     ∷ codes "MEM: a memory, 0 to 255; ADDR, LEN: address and octets; COUNT: ticks, 1 to 100000"

@@ -79,7 +79,7 @@ static TOPICS: [(&str, &str); 28] = [
     ),
     (
         "open",
-        "open DIRECTION ID, and a text in quotes: in a shell alone",
+        "open DIRECTION ID, and a text in quotes or @FILE: in a shell alone",
     ),
     (
         "send",
@@ -104,7 +104,7 @@ static WORDS: [&str; 8] = [
     "LANE: s1 or s2, which carry up, g1 or g2, which carry down; WORKER: w1 or w2",
     "ID: a message's, 0 to 65535, or SOURCE/ID; behind show memory a memory's, 0 to 255",
     "K: the number of a part, from 1; N: that of a packet, from 0, as show link tells it",
-    "HEX: octets, each as two hexadecimal digits; - is no octets",
+    "HEX: octets, each as two hexadecimal digits; - is no octets; FILE: a path",
     "SERVICE, SUBTYPE: types of a request, 0 to 255; SEQ: its sequence count, 0 to 16383",
     "FLAGS: 0 to 15, the sum of 1 acceptance, 2 start, 4 progress and 8 completion",
     "MEM: a memory, 0 to 255; ADDR, LEN: address and octets; COUNT: ticks, 1 to 100000",
