@@ -1,5 +1,5 @@
 -- What draws a flight, and what draws none.
-use Rattle.std.proofs.Common.{◌≡◌, ◌∙◌, ℕ, zero, suc, ◌-◌, ◌==◌, Bool, true, false, List, [], ◌∷◌, length, refl, Option, Some, None, if◌then◌else◌}
+use Rattle.std.proofs.Common.{◌≡◌, ◌∙◌, ℕ, zero, suc, ◌-◌, ◌==◌, true, false, List, [], ◌∷◌, length, refl, Option, Some, None, if◌then◌else◌}
 use Rattle.std.specs.Option.{option_map_or}
 use Rattle.lpt_packet.specs.declared.direction.Direction.{Direction}
 use Rattle.lpt_packet.specs.declared.direction.Direction.TheVariants.{Up, Down}
@@ -104,21 +104,6 @@ came_to-flights p held d (outcome.Broken name reason) = refl
 came_to-flights p held d (outcome.Again name k) = refl
 came_to-flights p held d (outcome.ReportNoted service subtype) = refl
 came_to-flights p held d (outcome.Ignored why) = refl
-
--- ---- where an answer tells something
-
--- what it tells draws no flight
-pub told-flights : {A : Type 0} (f : A → Picture) (x : Option A) (q p : Picture)
-    → ((y : A) → (f y).flights ≡ p.flights)
-    → q.flights ≡ p.flights
-    → (option_map_or f x q).flights ≡ p.flights
-told-flights f (Some y) q p told other = told y
-told-flights f None q p told other = other
-
--- nor does what it says to be so
-pub so-flights : (b : Bool) (q p : Picture) → q.flights ≡ p.flights → (if b then q else p).flights ≡ p.flights
-so-flights true q p e = e
-so-flights false q p e = refl
 
 -- a message is opened
 pub opened-flights : (p : Picture) (d : Direction) (name : Name) (m : List ℕ) (n : ℕ)

@@ -1,5 +1,5 @@
 -- What loops over entries, columns and own packets draw.
-use Rattle.std.proofs.Common.{◌≡◌, ◌∙◌, ℕ, ◌+◌, ◌<◌, ◌++◌, List, ◌∷◌, drop, take, length, ap, sym, append_assoc, add-one, Option, None, get_or, option_to_list}
+use Rattle.std.proofs.Common.{◌≡◌, ◌∙◌, ℕ, ◌+◌, ◌<◌, ◌++◌, List, ◌∷◌, drop, take, length, ap, sym, append_assoc, add-one, Option, get_or, option_to_list}
 use Rattle.std.specs.Prelude.{◌*◌, ◌/◌, ◌%◌}
 use Rattle.std.proofs.Math.Seq.{drop-cons}
 use Rattle.lpt_events.specs.declared.entry.Entry.{Entry}

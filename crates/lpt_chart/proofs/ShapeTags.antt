@@ -17,6 +17,7 @@ use Rattle.lpt_chart.specs.declared.shape.Sign.TheVariants as sign
 use Rattle.lpt_chart.specs.declared.style.Letters.{Letters}
 use Rattle.lpt_chart.specs.declared.style.Letters.TheVariants.{Title, Grey, Place, Small, Words, Node, Bead, BeadWhite, Key}
 use Rattle.lpt_chart.specs.declared.style.Style.{Style}
+use Rattle.lpt_chart.specs.declared.svg.TheConstants.{DESC_HEAD, LETTERS_HEAD}
 use Rattle.lpt_chart.specs.declared.style.Style.TheVariants.{Paper, Ground, Ink, InkEdge, Life, Hair, Lane, Way, WayAgain, WayNoise, InHand, Waiting, Late, Cross, Expired, Hollow, Kept, Dashed, Noted, Ring, Retiring, Opened, Finished, Sender, Reception, JobWaits, JobHollow, JobFilled, Tick, Restart, Refused, Filled, Noise, Light, JobEdge}
 use Rattle.lpt_chart.specs.declared.style.Weight.TheVariants.{Quiet, Plain, Strong}
 use Rattle.lpt_chart.specs.Charts.{chart_shapes, chart_text, counts, keys_of, picture_text}
@@ -24,7 +25,7 @@ use Rattle.lpt_chart.specs.Choices.{frame_of}
 use Rattle.lpt_chart.specs.Events.{picture}
 use Rattle.lpt_chart.specs.Frames.{half, whole_high, y_of}
 use Rattle.lpt_chart.specs.Pictures.{Picture}
-use Rattle.lpt_chart.specs.Shapes.{bead_text, box_text, closing_text, desc_head, end_text, escaped, group_text, letters_head, line_text, opening_text, part_text, place_text, said_text, seen_text, shape_text, sign_steps, sign_text, size_text, text_of, widest}
+use Rattle.lpt_chart.specs.Shapes.{bead_text, box_text, closing_text, end_text, escaped, group_text, line_text, opening_text, part_text, place_text, said_text, seen_text, shape_text, sign_steps, sign_text, size_text, text_of, widest}
 use Rattle.lpt_chart.specs.Styles.{letters_text, style_text}
 use Rattle.lpt_chart.specs.Texts.{words_text}
 use Rattle.lpt_chart.specs.Words.{joined}
@@ -222,15 +223,15 @@ unfolding opening_text
 opening-tagged wide high title counts =
     let size = joined
     (codes "<svg xmlns='http://www.w3.org/2000/svg' width='" ∷ decimal wide ∷ codes "' height='" ∷ decimal high
-    ∷ codes "'" ∷ letters_head ∷ []) in
+    ∷ codes "'" ∷ LETTERS_HEAD.now ∷ []) in
     let front = size ++ escaped title in
-    tagged-append (front ++ desc_head ++ escaped counts) (codes "</desc>" ++ 10 ∷ [])
-    (tagged-append (front ++ desc_head) (escaped counts)
-    (tagged-append front desc_head
+    tagged-append (front ++ DESC_HEAD.now ++ escaped counts) (codes "</desc>" ++ 10 ∷ [])
+    (tagged-append (front ++ DESC_HEAD.now) (escaped counts)
+    (tagged-append front DESC_HEAD.now
     (tagged-append size (escaped title)
     (joined-tagged
     (codes "<svg xmlns='http://www.w3.org/2000/svg' width='" ∷ decimal wide ∷ codes "' height='" ∷ decimal high
-    ∷ codes "'" ∷ letters_head ∷ [])
+    ∷ codes "'" ∷ LETTERS_HEAD.now ∷ [])
     (refl, (decimal-tagged wide, (refl, (decimal-tagged high, (refl, (refl, refl)))))))
     (escaped-tagged title)) refl)
     (escaped-tagged counts)) refl

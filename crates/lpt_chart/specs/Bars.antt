@@ -5,11 +5,8 @@ use Rattle.lpt_packet.specs.declared.direction.Direction.TheVariants.{Up, Down}
 use Rattle.lpt_events.specs.declared.side.Side.{Side}
 use Rattle.lpt_events.specs.declared.side.Side.TheVariants.{Ground, Craft}
 use Rattle.lpt_events.specs.Sides.{direction_to}
-use Rattle.lpt_chart.specs.declared.frame.Frame.{Frame}
-use Rattle.lpt_chart.specs.declared.marks.Bar.{Bar}
-use Rattle.lpt_chart.specs.declared.marks.Stage.{Stage}
+use Rattle.lpt_chart.specs.Types.{Bar, Frame, Shape, Stage}
 use Rattle.lpt_chart.specs.declared.marks.Stage.TheVariants.{Sending, Kept, Waits, Claimed, Committed}
-use Rattle.lpt_chart.specs.declared.shape.Shape.{Shape}
 use Rattle.lpt_chart.specs.declared.shape.Shape.TheVariants.{Box, Group, GroupEnd}
 use Rattle.lpt_chart.specs.declared.shape.Words.TheVariants.{Piece}
 use Rattle.lpt_chart.specs.declared.style.Style.TheVariants.{Filled, JobEdge, JobFilled, JobHollow, JobWaits, Light, Reception, Sender}

@@ -1,23 +1,15 @@
 -- The whole of a picture: its shapes, layer by layer, and their text as one SVG.
-use Rattle.std.specs.Prelude.{ℕ, ◌+◌, ◌-◌, ◌==◌, ◌&&◌, if◌then◌else◌, List, [], ◌∷◌, ◌++◌, length, None}
+use Rattle.std.specs.Prelude.{ℕ, ◌+◌, ◌-◌, ◌==◌, ◌&&◌, not, if◌then◌else◌, List, [], ◌∷◌, ◌++◌, length, None}
 use Rattle.std.specs.List.{flat_map}
 use Rattle.lpt_events.specs.declared.entry.Entry.{Entry}
 use Rattle.lpt_events.specs.declared.lane.Lane.{Lane}
 use Rattle.lpt_events.specs.declared.lane.Lane.TheVariants.{S1, S2, G1, G2}
 use Rattle.lpt_events.specs.declared.side.Side.{Side}
 use Rattle.lpt_events.specs.declared.side.Side.TheVariants.{Ground, Craft}
-use Rattle.lpt_chart.specs.declared.choice.Choice.{Choice}
-use Rattle.lpt_chart.specs.declared.frame.Frame.{Frame}
-use Rattle.lpt_chart.specs.declared.marks.Kind.{Kind}
-use Rattle.lpt_chart.specs.declared.marks.Opened.{Opened}
-use Rattle.lpt_chart.specs.declared.marks.Row.{Row}
-use Rattle.lpt_chart.specs.declared.refusal.Refusal.{Refusal}
+use Rattle.lpt_chart.specs.Types.{Choice, Frame, Kind, Opened, Refusal, Row, Shape, Style, Words}
 use Rattle.lpt_chart.specs.declared.style.Letters.TheVariants.{Title, Grey, Small, Node}
-use Rattle.lpt_chart.specs.declared.shape.Shape.{Shape}
 use Rattle.lpt_chart.specs.declared.shape.Shape.TheVariants.{Line, Box, Text, Part, PartEnd}
-use Rattle.lpt_chart.specs.declared.shape.Words.{Words}
 use Rattle.lpt_chart.specs.declared.shape.Words.TheVariants as words
-use Rattle.lpt_chart.specs.declared.style.Style.{Style}
 use Rattle.lpt_chart.specs.declared.style.Style.TheVariants as style
 use Rattle.lpt_chart.specs.Bars.{bar_shapes}
 use Rattle.lpt_chart.specs.Choices.{frame_of, hidden_above, hidden_below, title_line, title_wide}
@@ -26,7 +18,7 @@ use Rattle.lpt_chart.specs.Flights.{flight_shapes, held_shapes, loss_shapes, wai
 use Rattle.lpt_chart.specs.Frames.{foot_y, lane_x, legend_high, legend_y, rows_high, side_x, top_of, whole_high}
 use Rattle.lpt_chart.specs.Legends.{legend_shapes, used_keys}
 use Rattle.lpt_chart.specs.Pictures.{Picture}
-use Rattle.lpt_chart.specs.Rows.{base_shapes, row_shapes}
+use Rattle.lpt_chart.specs.Rows.{base_shapes, row_shapes, where_so}
 use Rattle.lpt_chart.specs.Shapes.{closing_text, opening_text, text_of}
 use Rattle.lpt_chart.specs.Texts.{words_text}
 
@@ -35,8 +27,8 @@ use Rattle.lpt_chart.specs.Texts.{words_text}
 -- a line of the title, where there is one
 abbrev pub line_shapes : (title : List ℕ) → (line most y : ℕ) → List Shape
 line_shapes title line most y =
-    if length (title_line title line most) == 0 then []
-    else Text 24 y Title (words.Title line most) ∷ []
+    where_so (not (length (title_line title line most) == 0))
+    (Text 24 y Title (words.Title line most))
 
 -- a title of up to three lines
 unfoldable pub title_shapes : (title : List ℕ) → (most : ℕ) → List Shape

@@ -1,16 +1,13 @@
 -- Which rows are drawn, how wide a picture is, and the lines of its title.
-use Rattle.std.specs.Prelude.{ℕ, ◌+◌, ◌-◌, ◌*◌, ◌/◌, ◌==◌, min, max, nat_le, nat_lt, Bool, true, false, if◌then◌else◌, List, [], ◌∷◌, length, take, drop, position, slice_get, fold, is_none}
+use Rattle.std.specs.Prelude.{ℕ, ◌+◌, ◌-◌, ◌*◌, ◌/◌, ◌==◌, min, max, nat_le, nat_lt, if◌then◌else◌, List, [], ◌∷◌, length, take, drop, position, slice_get, fold, is_none}
 use Rattle.std.specs.Option.{option_map_or}
 use Rattle.lpt_events.specs.declared.side.Side.{Side}
 use Rattle.lpt_events.specs.declared.side.Side.TheVariants.{Ground, Craft}
 use Rattle.lpt_events.specs.Sides.{same_side}
-use Rattle.lpt_chart.specs.declared.choice.Choice.{Choice}
-use Rattle.lpt_chart.specs.declared.frame.Frame.{Frame}
-use Rattle.lpt_chart.specs.declared.marks.Row.{Row}
-use Rattle.lpt_chart.specs.declared.marks.Saying.{Saying}
-use Rattle.lpt_chart.specs.declared.refusal.Refusal.{Refusal}
+use Rattle.lpt_chart.specs.Types.{Choice, Frame, Refusal, Row, Saying}
 use Rattle.lpt_chart.specs.Pictures.{Picture}
-use Rattle.lpt_chart.specs.Sayings.{row_words, saying_side}
+use Rattle.lpt_chart.specs.Sayings.{row_words}
+use Rattle.lpt_chart.specs.Tellings.{told}
 
 -- ---- which rows are drawn
 
@@ -89,7 +86,7 @@ wide_of n = (29 * n + 3) / 4
 -- how many letters a row has at a side
 unfoldable pub letters_at : (source : ℕ) → List Refusal → Side → Saying → ℕ
 letters_at source refused side saying =
-    if same_side side (saying_side saying) then min (length (row_words source refused saying)) 60 else 0
+    if same_side side (told saying).0 then min (length (row_words source refused saying)) 60 else 0
 
 -- how many letters the widest row has at a side, 16 at least
 abbrev pub widest_at : (source : ℕ) → List Refusal → Side → List Row → ℕ
@@ -113,7 +110,6 @@ frame_with c title p left right =
       wide = frame_wide p left right;
       head = 92 + room;
       window = 130 + room;
-      margin = 8;
       top = height_of p (hidden_above c p.rows);
       bottom = height_of p (row_end c p.rows);
     }

@@ -1,5 +1,5 @@
 -- The deliveries and the releases of a journal, and those that are drawn.
-use Rattle.std.specs.Prelude.{◌≡◌, ℕ, ◌+◌, Bool, true, false, List, [], ◌∷◌, ◌++◌, map, filter, Option, Some, None}
+use Rattle.std.specs.Prelude.{◌≡◌, ℕ, ◌+◌, Bool, true, false, List, [], ◌∷◌, ◌++◌, map, filter}
 use Rattle.lpt_events.specs.declared.entry.Entry.{Entry}
 use Rattle.lpt_events.specs.declared.event.Event.{Event}
 use Rattle.lpt_events.specs.declared.event.Event.TheVariants.{Deliver}
@@ -7,11 +7,8 @@ use Rattle.lpt_events.specs.declared.lane.Lane.{Lane}
 use Rattle.lpt_events.specs.declared.outcome.Outcome.{Outcome}
 use Rattle.lpt_events.specs.declared.outcome.Outcome.TheVariants.{Released, PlainReleased}
 use Rattle.lpt_events.specs.declared.reply.Answer.{Answer}
-use Rattle.lpt_chart.specs.declared.marks.Flight.{Flight}
-use Rattle.lpt_chart.specs.declared.marks.Kind.{Kind}
-use Rattle.lpt_chart.specs.declared.marks.Opened.{Opened}
-use Rattle.lpt_chart.specs.declared.refusal.Refusal.{Refusal}
-use Rattle.lpt_chart.specs.Answers.{outcome_in}
+use Rattle.lpt_events.specs.declared.reply.Answer.TheVariants.{Delivered}
+use Rattle.lpt_chart.specs.Types.{Flight, Kind, Opened, Refusal}
 use Rattle.lpt_chart.specs.Events.{picture}
 
 -- a delivery: its place in the journal, its lane, and what became of the packet
@@ -20,15 +17,11 @@ pub record Delivery : Type 0 where
   pub lane : Lane
   pub outcome : Outcome
 
--- the delivery of this outcome, where there is one
-abbrev pub delivery_told : ℕ → Lane → Option Outcome → List Delivery
-delivery_told place l (Some o) = record { place = place; lane = l; outcome = o } ∷ []
-delivery_told place l None = []
-
 -- the delivery of an entry, where it is one
 abbrev pub delivery_in : ℕ → Event → Answer → List Delivery
-delivery_in place (Deliver l) a = delivery_told place l (outcome_in a)
-delivery_in place _ a = []
+delivery_in place (Deliver l) (Delivered o) =
+    record { place = place; lane = l; outcome = o } ∷ []
+delivery_in place _ _ = []
 
 -- the deliveries of a journal from this place on
 abbrev pub deliveries_from : ℕ → List Entry → List Delivery

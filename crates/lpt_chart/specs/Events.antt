@@ -1,12 +1,12 @@
 -- What each event draws, and the picture of a journal.
-use Rattle.std.specs.Prelude.{ℕ, ◌+◌, ◌-◌, ◌^◌, min, nat_lt, if◌then◌else◌, List, [], ◌∷◌, ◌++◌, length, take, drop, fold, position, slice_get, Option, Some, None, option_to_list}
+use Rattle.std.specs.Prelude.{ℕ, ◌+◌, ◌-◌, ◌^◌, min, nat_lt, List, [], ◌∷◌, ◌++◌, length, take, drop, fold, position, slice_get, Option, Some, None, option_to_list}
 use Rattle.std.specs.Option.{option_map_or}
 use Rattle.lpt_packet.specs.declared.direction.Direction.{Direction}
 use Rattle.lpt_packet.specs.declared.direction.Direction.TheVariants.{Up, Down}
 use Rattle.lpt_packet.specs.Names.{Name}
 use Rattle.lpt_events.specs.Lanes.{lane_direction}
 use Rattle.lpt_events.specs.declared.applied.Applied.{Applied}
-use Rattle.lpt_events.specs.declared.applied.Applied.TheVariants.{Done, Silent, Code}
+use Rattle.lpt_events.specs.declared.applied.Applied.TheVariants.{Done}
 use Rattle.lpt_events.specs.declared.entry.Entry.{Entry}
 use Rattle.lpt_events.specs.declared.event.Event.{Event}
 use Rattle.lpt_events.specs.declared.event.Event.TheVariants.{Open, Send, Plain, Finish, Lose, Damage, Take, Deliver, Tick, Expire, Claim, Commit, Apply, Retire, Restart}
@@ -14,25 +14,16 @@ use Rattle.lpt_events.specs.declared.lane.Lane.{Lane}
 use Rattle.lpt_events.specs.declared.outcome.Outcome.{Outcome}
 use Rattle.lpt_events.specs.declared.outcome.Outcome.TheVariants as outcome
 use Rattle.lpt_events.specs.declared.reply.Answer.{Answer}
+use Rattle.lpt_events.specs.declared.reply.Answer.TheVariants as answer
 use Rattle.lpt_events.specs.declared.reply.Puts.{Puts}
 use Rattle.lpt_events.specs.declared.side.Side.{Side}
 use Rattle.lpt_events.specs.declared.side.Side.TheVariants.{Ground, Craft}
 use Rattle.lpt_events.specs.Sides.{receiver_side, sender_side}
-use Rattle.lpt_chart.specs.declared.marks.Content.{Content}
-use Rattle.lpt_chart.specs.declared.marks.Content.TheVariants.{Part, Request, Report, Noise}
-use Rattle.lpt_chart.specs.declared.marks.Held.{Held}
-use Rattle.lpt_chart.specs.declared.marks.Kind.{Kind}
-use Rattle.lpt_chart.specs.declared.marks.Opened.{Opened}
-use Rattle.lpt_chart.specs.declared.marks.Saying.{Saying}
+use Rattle.lpt_chart.specs.Types.{Content, Held, Kind, Opened, Refusal, Saying, Sent, Stage, Task, Track}
+use Rattle.lpt_chart.specs.declared.marks.Content.TheVariants.{Part, Request, Noise}
 use Rattle.lpt_chart.specs.declared.marks.Saying.TheVariants as say
-use Rattle.lpt_chart.specs.declared.marks.Sent.{Sent}
-use Rattle.lpt_chart.specs.declared.marks.Stage.{Stage}
 use Rattle.lpt_chart.specs.declared.marks.Stage.TheVariants.{Sending, Kept, Claimed, Committed}
-use Rattle.lpt_chart.specs.declared.marks.Task.{Task}
 use Rattle.lpt_chart.specs.declared.marks.Thing.TheVariants.{Sender, Reception, Job}
-use Rattle.lpt_chart.specs.declared.marks.Track.{Track}
-use Rattle.lpt_chart.specs.declared.refusal.Refusal.{Refusal}
-use Rattle.lpt_chart.specs.Answers.{applied_in, boot_in, claimed_in, clock_in, committed_in, expired_in, is_finished, is_lost, is_retired, is_taken, number_put, outcome_in, parts_opened, stale_in}
 use Rattle.lpt_chart.specs.Pictures.{Picture, at_side, blank, cleared, flown, hand_in, landed, lost, one_more, parts_opened_now, put, reported, said, taken, task_next, ticked, tracked, with_job, without_job}
 use Rattle.lpt_chart.specs.Tasks.{asked_from, asked_in}
 use Rattle.lpt_chart.specs.Tracks.{all_bars, kept_in, parts_in, stage_of, task_in}
@@ -44,9 +35,7 @@ direction_of sent = option_map_or (λ s. s.direction) sent Up
 -- of how many parts the message of a packet is
 abbrev pub parts_in_content : Content → ℕ
 parts_in_content (Part name k n) = n
-parts_in_content (Request service subtype) = 0
-parts_in_content (Report service subtype) = 0
-parts_in_content (Noise octets) = 0
+parts_in_content _ = 0
 
 -- of how many parts the message of a packet in a hand is; 0 where that isn't known
 unfoldable pub parts_held : Option Held → ℕ
@@ -82,9 +71,7 @@ came_to p held d (outcome.Released name len) = released_by p (task_held held) d 
 came_to p held d (outcome.PlainReleased len) = with_job p (task_held held)
 came_to p held d (outcome.AbortNoted name reason) = tracked p Ground (Sender name) None
 came_to p held d (outcome.Broken name reason) = tracked p (receiver_side d) (Reception name) None
-came_to p held d (outcome.Again name k) = p
-came_to p held d (outcome.ReportNoted service subtype) = p
-came_to p held d (outcome.Ignored why) = p
+came_to p held d _ = p
 
 -- a delivery
 abbrev pub delivered : Picture → Lane → Outcome → Picture
@@ -123,9 +110,7 @@ packet_lost p n = lost (said p (say.Lost (direction_of (slice_get p.sent n)) n))
 abbrev pub opened_by : Picture → Applied → Picture
 opened_by p (Done (Some name)) =
     tracked p Craft (Sender name) (Some (Sending (parts_opened_now p) None))
-opened_by p (Done None) = p
-opened_by p Silent = p
-opened_by p (Code code) = p
+opened_by p _ = p
 
 -- a job is executed
 abbrev pub executed : Picture → Applied → Picture
@@ -158,24 +143,24 @@ worked p saying job stage = tracked (said p saying) Craft (Job job) (Some stage)
 
 -- what an accepted event draws by its answer; nothing for an answer that isn't the event's own
 abbrev pub drawn : Picture → Event → Answer → Picture
-drawn p (Open d name m) a = option_map_or (λ n. message_opened p d name m n) (parts_opened a) p
-drawn p (Send d name k) a = option_map_or (λ n. part_put p d name k n) (number_put a) p
-drawn p (Plain source flags service subtype body) a =
-    option_map_or (λ n. packet_put p Up n (Request service subtype) (Some (asked_from service subtype body 0))) (number_put a) p
-drawn p (Finish d name) a = if is_finished a then finished p d name else p
-drawn p (Lose n) a = if is_lost a then packet_lost p n else p
-drawn p (Damage d b) a = option_map_or (λ n. packet_put p d n (Noise (length b)) None) (number_put a) p
-drawn p (Take l n) a = if is_taken a then packet_taken p l n else p
-drawn p (Deliver l) a = option_map_or (λ o. delivered p l o) (outcome_in a) p
-drawn p (Tick side) a = option_map_or (λ t. ticked p side t) (clock_in a) p
-drawn p (Expire side) a = option_map_or (λ x. expired p x.0 x.1) (expired_in a) p
-drawn p (Claim w) a = option_map_or (λ x. worked p (say.Claimed w x.0 x.1) x.1 Claimed) (claimed_in a) p
-drawn p (Commit w) a =
-    option_map_or (λ x. worked p (say.Committed w x.0 x.1) x.1 Committed) (committed_in a)
-    (option_map_or (λ x. said p (say.Stale w x.0 x.1)) (stale_in a) p)
-drawn p Apply a = option_map_or (λ x. executed p x) (applied_in a) p
-drawn p (Retire d name) a = if is_retired a then said p (say.Retired d name) else p
-drawn p (Restart side) a = option_map_or (λ boot. restarted p side boot) (boot_in a) p
+drawn p (Open d name m) (answer.Opened n) = message_opened p d name m n
+drawn p (Send d name k) (answer.Put n) = part_put p d name k n
+drawn p (Plain source flags service subtype body) (answer.Put n) =
+    packet_put p Up n (Request service subtype) (Some (asked_from service subtype body 0))
+drawn p (Finish d name) answer.Finished = finished p d name
+drawn p (Lose n) answer.Lost = packet_lost p n
+drawn p (Damage d b) (answer.Put n) = packet_put p d n (Noise (length b)) None
+drawn p (Take l n) (answer.Took k) = packet_taken p l n
+drawn p (Deliver l) (answer.Delivered o) = delivered p l o
+drawn p (Tick side) (answer.Clock clock) = ticked p side clock
+drawn p (Expire side) (answer.Expired d name) = expired p d name
+drawn p (Claim w) (answer.Claimed boot job) = worked p (say.Claimed w boot job) job Claimed
+drawn p (Commit w) (answer.Committed boot job) = worked p (say.Committed w boot job) job Committed
+drawn p (Commit w) (answer.Stale boot job) = said p (say.Stale w boot job)
+drawn p Apply (answer.Applied a) = executed p a
+drawn p (Retire d name) answer.Retired = said p (say.Retired d name)
+drawn p (Restart side) (answer.Restarted boot) = restarted p side boot
+drawn p _ _ = p
 
 -- how many packets of its own an event puts
 abbrev pub own_puts : Event → Option Puts → ℕ

@@ -1,5 +1,5 @@
 -- How deliveries and losses are drawn.
-use Rattle.std.specs.Prelude.{ℕ, ◌+◌, ◌-◌, ◌*◌, ◌||◌, Bool, true, false, if◌then◌else◌, List, [], ◌∷◌, ◌++◌, Option, Some, None}
+use Rattle.std.specs.Prelude.{ℕ, ◌+◌, ◌-◌, ◌*◌, ◌||◌, Bool, true, false, not, if◌then◌else◌, List, [], ◌∷◌, ◌++◌, Option, Some, None}
 use Rattle.lpt_packet.specs.declared.direction.Direction.{Direction}
 use Rattle.lpt_packet.specs.declared.direction.Direction.TheVariants.{Up, Down}
 use Rattle.lpt_events.specs.Lanes.{lane_direction}
@@ -8,22 +8,15 @@ use Rattle.lpt_events.specs.declared.outcome.Outcome.{Outcome}
 use Rattle.lpt_events.specs.declared.outcome.Outcome.TheVariants as outcome
 use Rattle.lpt_events.specs.declared.side.Side.TheVariants.{Ground, Craft}
 use Rattle.lpt_events.specs.Sides.{receiver_side}
-use Rattle.lpt_chart.specs.declared.frame.Frame.{Frame}
-use Rattle.lpt_chart.specs.declared.marks.Content.{Content}
+use Rattle.lpt_chart.specs.Types.{Content, Flight, Frame, Held, Sent, Shape, Style}
 use Rattle.lpt_chart.specs.declared.marks.Content.TheVariants.{Noise}
-use Rattle.lpt_chart.specs.declared.marks.Flight.{Flight}
-use Rattle.lpt_chart.specs.declared.marks.Held.{Held}
-use Rattle.lpt_chart.specs.declared.marks.Loss.{Loss}
-use Rattle.lpt_chart.specs.declared.marks.Sent.{Sent}
 use Rattle.lpt_chart.specs.declared.style.Letters.TheVariants as letters
-use Rattle.lpt_chart.specs.declared.shape.Shape.{Shape}
 use Rattle.lpt_chart.specs.declared.shape.Shape.TheVariants.{Line, Box, Bead, Sign, Text, Group, GroupEnd}
 use Rattle.lpt_chart.specs.declared.shape.Sign.TheVariants as sign
 use Rattle.lpt_chart.specs.declared.shape.Words.TheVariants.{Number, Packet}
-use Rattle.lpt_chart.specs.declared.style.Style.{Style}
 use Rattle.lpt_chart.specs.declared.style.Style.TheVariants as style
 use Rattle.lpt_chart.specs.Frames.{half, holds, lane_x, middle_x, side_x, toward, y_of}
-use Rattle.lpt_chart.specs.Rows.{start_x}
+use Rattle.lpt_chart.specs.Rows.{start_x, where_so}
 
 -- whether a packet is what noise left
 abbrev pub is_noise : Content → Bool
@@ -93,34 +86,31 @@ bead_shapes x to number d (outcome.AbortNoted name reason) =
 bead_shapes x to number d (outcome.Again name k) = Bead x to number 7 (style.Dashed d) (letters.Bead d) ∷ []
 bead_shapes x to number d (outcome.Ignored why) = Bead x to number 7 (style.Dashed d) (letters.Bead d) ∷ []
 
--- the end of a packet's way, from a lane's hand to the node
-abbrev pub arrival_shapes : Frame → Lane → (to number : ℕ) → Outcome → List Shape
-arrival_shapes f l to number o =
-    let d : Direction = lane_direction l in
-    let end : ℕ = side_x f (receiver_side d) in
-    (Line (lane_x f l) (y_of to) end (y_of to) (style.Way d) ∷ tip f d to number o ∷ [])
-    ++ bead_shapes end to number d o
-
--- the same, where the packet was delivered and the height is drawn
+-- the end of a packet's way, from a lane's hand to the node, where the packet was delivered and the
+-- height is drawn
 abbrev pub end_shapes : Frame → Lane → (to number : ℕ) → Option Outcome → List Shape
 end_shapes f l to number None = []
-end_shapes f l to number (Some o) = if holds f to then arrival_shapes f l to number o else []
+end_shapes f l to number (Some o) =
+    let d : Direction = lane_direction l in
+    let end : ℕ = side_x f (receiver_side d) in
+    if holds f to
+    then (Line (lane_x f l) (y_of to) end (y_of to) (style.Way d) ∷ tip f d to number o ∷ [])
+    ++ bead_shapes end to number d o
+    else []
 
--- a packet that a lane took: its way to the lane's hand, in it, and from there to the node
-abbrev pub carried_shapes : Frame → Lane → (to : ℕ) → Option Outcome → Held → Sent → List Shape
-carried_shapes f l to o h s =
-    (packet h.number s ∷ [])
+-- a packet that a lane took, where one of its three heights is drawn: its way to the lane's hand, in
+-- it, and from there to the node
+abbrev pub sent_shapes : Frame → Lane → (to : ℕ) → Option Outcome → Held → Option Sent → List Shape
+sent_shapes f l to o h None = []
+sent_shapes f l to o h (Some s) =
+    if holds f s.at || holds f h.at || holds f to
+    then (packet h.number s ∷ [])
     ++ path_shapes f h.number s.direction (start_x f s.direction s.content) s.at (lane_x f l) h.at
     (way_style s)
     ++ path_shapes f h.number s.direction (lane_x f l) h.at (lane_x f l) to
     (style.InHand s.direction)
     ++ end_shapes f l to h.number o ++ (GroupEnd ∷ [])
-
--- the same, where there is such a packet, and one of its three heights is drawn
-abbrev pub sent_shapes : Frame → Lane → (to : ℕ) → Option Outcome → Held → Option Sent → List Shape
-sent_shapes f l to o h None = []
-sent_shapes f l to o h (Some s) =
-    if holds f s.at || holds f h.at || holds f to then carried_shapes f l to o h s else []
+    else []
 
 -- what a lane took: up to its delivery, or in its hand up to a height
 abbrev pub held_shapes : Frame → Lane → (to : ℕ) → Option Outcome → Option Held → List Shape
@@ -135,11 +125,6 @@ flight_shapes f fl = held_shapes f fl.lane fl.to (Some fl.outcome) fl.held
 abbrev pub loss_style : Sent → Style
 loss_style s = if s.gone then style.Late else style.Way s.direction
 
--- where a packet was lost: a cross in the middle of the link
-abbrev pub cross_shapes : Frame → (at : ℕ) → List Shape
-cross_shapes f at =
-    if holds f at then Sign (middle_x f) (y_of at) sign.Cross style.Cross ∷ [] else []
-
 -- a loss of this packet, where one of its heights is drawn
 abbrev pub lost_shapes : Frame → (number at : ℕ) → Option Sent → List Shape
 lost_shapes f number at None = []
@@ -148,11 +133,12 @@ lost_shapes f number at (Some s) =
     then (packet number s ∷ [])
     ++ path_shapes f number s.direction (start_x f s.direction s.content) s.at (middle_x f) at
     (loss_style s)
-    ++ cross_shapes f at ++ (GroupEnd ∷ [])
+    ++ where_so (holds f at) (Sign (middle_x f) (y_of at) sign.Cross style.Cross)
+    ++ (GroupEnd ∷ [])
     else []
 
 -- a loss
-abbrev pub loss_shapes : Frame → Loss → List Shape
+abbrev pub loss_shapes : Frame → Held → List Shape
 loss_shapes f l = lost_shapes f l.number l.at l.sent
 
 -- a short line with a ring at its end
@@ -169,4 +155,4 @@ open_sent f s =
 
 -- a packet that is on the link to the end, as no lane took it and it wasn't lost
 abbrev pub waiting_shapes : Frame → Sent → List Shape
-waiting_shapes f s = if s.gone then [] else if holds f s.at then open_sent f s else []
+waiting_shapes f s = if s.gone || not (holds f s.at) then [] else open_sent f s

@@ -4,7 +4,7 @@ use Rattle.lpt_events.specs.declared.lane.Lane.{Lane}
 use Rattle.lpt_events.specs.declared.lane.Lane.TheVariants.{S1, S2, G1, G2}
 use Rattle.lpt_events.specs.declared.side.Side.{Side}
 use Rattle.lpt_events.specs.declared.side.Side.TheVariants.{Ground, Craft}
-use Rattle.lpt_chart.specs.declared.frame.Frame.{Frame}
+use Rattle.lpt_chart.specs.Types.{Frame}
 
 -- a height in pixels: the middle of the row there
 unfoldable pub y_of : ℕ → ℕ
@@ -71,7 +71,7 @@ rows_high f = 11 * (f.bottom - f.top)
 
 -- the top of the nodes' boxes below the rows, and of the legend
 unfoldable pub foot_y : Frame → ℕ
-foot_y f = f.window + rows_high f + f.margin
+foot_y f = f.window + rows_high f + 8
 
 unfoldable pub legend_y : Frame → ℕ
 legend_y f = foot_y f + 44

@@ -1,7 +1,7 @@
 -- What the styles stand for that the legend explains.
 use Rattle.std.specs.Prelude.{ℕ, List, [], codes}
 use Rattle.lpt_packet.specs.declared.direction.Direction.TheVariants as way
-use Rattle.lpt_chart.specs.declared.style.Style.{Style}
+use Rattle.lpt_chart.specs.Types.{Style}
 use Rattle.lpt_chart.specs.declared.style.Style.TheVariants as style
 
 -- the words for a style; none for one that explains itself, or is explained with another

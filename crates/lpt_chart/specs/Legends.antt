@@ -4,13 +4,13 @@ use Rattle.std.specs.List.{flat_map, list_any}
 use Rattle.std.specs.Str.{bytes_eq}
 use Rattle.lpt_packet.specs.declared.direction.Direction.TheVariants as way
 use Rattle.lpt_events.specs.declared.side.Side.TheVariants.{Ground, Craft}
+use Rattle.lpt_chart.specs.declared.legend.TheConstants.{KEYS}
 use Rattle.lpt_chart.specs.declared.marks.Stage.TheVariants as stage
-use Rattle.lpt_chart.specs.declared.shape.Shape.{Shape}
+use Rattle.lpt_chart.specs.Types.{Shape, Style}
 use Rattle.lpt_chart.specs.declared.shape.Shape.TheVariants.{Line, Box, Bead, Sign, Text}
 use Rattle.lpt_chart.specs.declared.shape.Sign.TheVariants as sign
 use Rattle.lpt_chart.specs.declared.shape.Words.TheVariants as words
 use Rattle.lpt_chart.specs.declared.style.Letters.TheVariants as letters
-use Rattle.lpt_chart.specs.declared.style.Style.{Style}
 use Rattle.lpt_chart.specs.declared.style.Style.TheVariants as style
 use Rattle.lpt_chart.specs.Bars.{stage_shapes}
 use Rattle.lpt_chart.specs.Flights.{open_shapes, released_shapes}
@@ -19,19 +19,6 @@ use Rattle.lpt_chart.specs.Keys.{key_words}
 use Rattle.lpt_chart.specs.Rows.{crossed, double, ring, square}
 
 -- ---- which styles are explained
-
--- what the legend can explain: packets on the link, what becomes of them, and what is open
-abbrev pub keys : List Style
-keys =
-    style.Way way.Up ∷ style.Way way.Down ∷ style.WayAgain way.Up ∷ style.WayNoise way.Up
-    ∷ style.InHand way.Up
-    ∷ style.Waiting way.Up ∷ style.Late ∷ style.Cross ∷ style.Expired ∷ style.Hollow way.Up
-    ∷ style.Kept way.Up
-    ∷ style.Dashed way.Up ∷ style.Noted way.Down ∷ style.Ring way.Up ∷ style.Retiring
-    ∷ style.Opened ∷ style.Finished
-    ∷ style.Sender way.Up ∷ style.Reception way.Up ∷ style.JobWaits ∷ style.JobHollow
-    ∷ style.JobFilled ∷ style.Tick
-    ∷ style.Restart ∷ style.Refused ∷ []
 
 -- the style of a shape; the ground's where it has none
 abbrev pub style_of : Shape → Style
@@ -55,7 +42,7 @@ used_key shapes look = if is_used shapes look then look ∷ [] else []
 
 -- what the legend explains of a picture with these shapes
 abbrev pub used_keys : List Shape → List Style
-used_keys shapes = flat_map (used_key shapes) keys
+used_keys shapes = flat_map (used_key shapes) KEYS
 
 -- ---- how
 

@@ -1,4 +1,3 @@
-pub mod Answers
 pub mod Bars
 pub mod Charts
 pub mod Choices
@@ -18,4 +17,5 @@ pub mod Tasks
 pub mod Tellings
 pub mod Texts
 pub mod Tracks
+pub mod Types
 pub mod Words

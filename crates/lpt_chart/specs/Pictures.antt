@@ -1,6 +1,6 @@
 -- What is drawn of a run, entry after entry.
 use Rattle.std.specs.Prelude.{ℕ, zero, suc, ◌+◌, ◌-◌, ◌^◌, min, ◌==◌, not, Bool, true, false, if◌then◌else◌, List, [], ◌∷◌, ◌++◌, length, replicate, slice_get, slice_set, Option, Some, None, option_to_list, position}
-use Rattle.std.specs.Option.{option_map_or}
+use Rattle.std.specs.Option.{option_flatten, option_map_or}
 use Rattle.lpt_packet.specs.declared.direction.Direction.{Direction}
 use Rattle.lpt_packet.specs.declared.direction.Direction.TheVariants.{Down}
 use Rattle.lpt_events.specs.declared.lane.Lane.{Lane}
@@ -9,25 +9,11 @@ use Rattle.lpt_events.specs.declared.outcome.Outcome.{Outcome}
 use Rattle.lpt_events.specs.declared.side.Side.{Side}
 use Rattle.lpt_events.specs.declared.side.Side.TheVariants.{Ground, Craft}
 use Rattle.lpt_events.specs.Lanes.{same_lane}
-use Rattle.lpt_chart.specs.declared.marks.Bar.{Bar}
-use Rattle.lpt_chart.specs.declared.marks.Content.{Content}
+use Rattle.lpt_chart.specs.Types.{Bar, Content, Flight, Hands, Held, Kind, Opened, Row, Saying, Sent, Stage, Task, Thing, Track}
 use Rattle.lpt_chart.specs.declared.marks.Content.TheVariants.{Report}
-use Rattle.lpt_chart.specs.declared.marks.Flight.{Flight}
-use Rattle.lpt_chart.specs.declared.marks.Hands.{Hands}
-use Rattle.lpt_chart.specs.declared.marks.Held.{Held}
-use Rattle.lpt_chart.specs.declared.marks.Kind.{Kind}
-use Rattle.lpt_chart.specs.declared.marks.Loss.{Loss}
-use Rattle.lpt_chart.specs.declared.marks.Opened.{Opened}
-use Rattle.lpt_chart.specs.declared.marks.Row.{Row}
-use Rattle.lpt_chart.specs.declared.marks.Saying.{Saying}
 use Rattle.lpt_chart.specs.declared.marks.Saying.TheVariants as say
-use Rattle.lpt_chart.specs.declared.marks.Sent.{Sent}
-use Rattle.lpt_chart.specs.declared.marks.Stage.{Stage}
 use Rattle.lpt_chart.specs.declared.marks.Stage.TheVariants.{Waits}
-use Rattle.lpt_chart.specs.declared.marks.Task.{Task}
-use Rattle.lpt_chart.specs.declared.marks.Thing.{Thing}
 use Rattle.lpt_chart.specs.declared.marks.Thing.TheVariants.{Job}
-use Rattle.lpt_chart.specs.declared.marks.Track.{Track}
 use Rattle.lpt_chart.specs.Tracks.{all_bars, bar_of, moved}
 
 -- ---- a picture
@@ -60,7 +46,7 @@ pub record Picture : Type 0 where
   pub refused : ℕ
   -- what was drawn beside rows
   pub flights : List Flight
-  pub losses : List Loss
+  pub losses : List Held
   pub bars : List Bar
 
 -- nothing is in a hand
@@ -273,12 +259,8 @@ with_job p task =
     record (tracked p Craft (Job (length p.tasks)) (Some Waits)) { tasks = p.tasks ++ task ∷ [] }
 
 -- what the job asks for that is executed next
-abbrev pub task_known : Option (Option Task) → Option Task
-task_known (Some task) = task
-task_known None = None
-
 abbrev pub task_next : Picture → Option Task
-task_next p = task_known (slice_get p.tasks p.applied)
+task_next p = option_flatten (slice_get p.tasks p.applied)
 
 -- a job was executed
 unfoldable pub without_job : Picture → Picture

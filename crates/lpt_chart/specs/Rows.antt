@@ -1,26 +1,20 @@
 -- How a row is drawn: its ground, its place, its words, and its mark on a line of life.
-use Rattle.std.specs.Prelude.{ℕ, ◌+◌, ◌-◌, if◌then◌else◌, List, [], ◌∷◌, ◌++◌}
+use Rattle.std.specs.Prelude.{ℕ, ◌+◌, ◌-◌, Bool, if◌then◌else◌, List, [], ◌∷◌, ◌++◌}
 use Rattle.lpt_packet.specs.declared.direction.Direction.{Direction}
 use Rattle.lpt_events.specs.declared.applied.Applied.TheVariants.{Done, Silent, Code}
 use Rattle.lpt_events.specs.declared.side.Side.{Side}
 use Rattle.lpt_events.specs.declared.side.Side.TheVariants.{Ground, Craft}
 use Rattle.lpt_events.specs.Sides.{receiver_side, sender_side}
-use Rattle.lpt_chart.specs.declared.frame.Frame.{Frame}
-use Rattle.lpt_chart.specs.declared.marks.Content.{Content}
-use Rattle.lpt_chart.specs.declared.marks.Content.TheVariants.{Part, Request, Report, Noise}
-use Rattle.lpt_chart.specs.declared.marks.Row.{Row}
-use Rattle.lpt_chart.specs.declared.marks.Saying.{Saying}
+use Rattle.lpt_chart.specs.Types.{Content, Frame, Row, Saying, Shape, Style}
+use Rattle.lpt_chart.specs.declared.marks.Content.TheVariants.{Noise}
 use Rattle.lpt_chart.specs.declared.marks.Saying.TheVariants as say
 use Rattle.lpt_chart.specs.declared.style.Letters.TheVariants as letters
-use Rattle.lpt_chart.specs.declared.shape.Shape.{Shape}
 use Rattle.lpt_chart.specs.declared.shape.Shape.TheVariants.{Line, Box, Bead, Sign, Text}
 use Rattle.lpt_chart.specs.declared.shape.Sign.TheVariants.{Cross, Hourglass}
 use Rattle.lpt_chart.specs.declared.shape.Words.TheVariants as words
-use Rattle.lpt_chart.specs.declared.style.Style.{Style}
 use Rattle.lpt_chart.specs.declared.style.Style.TheVariants as style
 use Rattle.lpt_chart.specs.Frames.{across_from, across_to, middle_x, shows, side_x, top_of, y_of}
-use Rattle.lpt_chart.specs.Sayings.{saying_side}
-use Rattle.lpt_chart.specs.Tellings.{has_line, has_place, has_words, weight_of}
+use Rattle.lpt_chart.specs.Tellings.{has_line, has_place, has_words, told}
 
 -- a small square, and a ring, round a point
 abbrev pub square : (x at : ℕ) → Style → Shape
@@ -41,17 +35,12 @@ double from to at =
 -- where a packet that is put begins: noise has no sender, and begins in the middle of the link
 abbrev pub start_x : Frame → Direction → Content → ℕ
 start_x f d (Noise octets) = middle_x f
-start_x f d (Part name k n) = side_x f (sender_side d)
-start_x f d (Request service subtype) = side_x f (sender_side d)
-start_x f d (Report service subtype) = side_x f (sender_side d)
+start_x f d _ = side_x f (sender_side d)
 
 -- the bead of a packet that is put; what noise left has a square one
 abbrev pub put_bead : (x at number : ℕ) → Direction → Content → Shape
 put_bead x at number d (Noise octets) = Bead x at number 0 (style.Noise d) (letters.Bead d)
-put_bead x at number d (Part name k n) = Bead x at number 7 (style.Hollow d) (letters.Bead d)
-put_bead x at number d (Request service subtype) = Bead x at number 7 (style.Hollow d) (letters.Bead d)
-put_bead x at number d (Report service subtype) =
-    Bead x at number 7 (style.Hollow d) (letters.Bead d)
+put_bead x at number d _ = Bead x at number 7 (style.Hollow d) (letters.Bead d)
 
 -- the mark of a row on a line of life; deliveries, losses and what is open have marks of their own;
 -- that of a refused line stands in place of a row's place
@@ -83,35 +72,29 @@ unfoldable pub leader : Frame → (y : ℕ) → Side → Shape
 leader f y Ground = Line (f.words + 4) y (side_x f Ground) y style.Hair
 leader f y Craft = Line (side_x f Craft) y (f.right - 4) y style.Hair
 
--- a row's ground, where it is dark
-abbrev pub dark_shapes : Frame → Row → List Shape
-dark_shapes f r = if r.dark then Box 16 (top_of r.at) (f.wide - 32) 22 0 style.Ground ∷ [] else []
+-- a shape, where this is so
+abbrev pub where_so : Bool → Shape → List Shape
+where_so so shape = if so then shape ∷ [] else []
 
--- a row's ground and its line to the words, where its height is drawn
+-- a row's ground, where it is dark, and its line to the words, where its height is drawn
 abbrev pub base_shapes : Frame → Row → List Shape
 base_shapes f r =
     if shows f r.at r.at
-    then dark_shapes f r ++ (if has_line r.saying then leader f (y_of r.at) (saying_side r.saying) ∷ [] else [])
+    then where_so r.dark (Box 16 (top_of r.at) (f.wide - 32) 22 0 style.Ground)
+    ++ where_so (has_line r.saying) (leader f (y_of r.at) (told r.saying).0)
     else []
-
--- a row's place in the journal, where it shows it
-abbrev pub place_shapes : Row → List Shape
-place_shapes r = if has_place r.saying then Text 52 (y_of r.at + 4) letters.Place (words.Number r.place) ∷ [] else []
 
 -- where the words at a node's side begin or end
 abbrev pub words_x : Frame → Side → ℕ
 words_x f Ground = f.words
 words_x f Craft = f.right
 
--- a row's words, where it has some
-abbrev pub said_shapes : Frame → Row → List Shape
-said_shapes f r =
-    if has_words r.saying
-    then Text (words_x f (saying_side r.saying)) (y_of r.at + 4)
-    (letters.Words (saying_side r.saying) (weight_of r.saying)) (words.Row r.saying) ∷ []
-    else []
-
--- a row, where its height is drawn
+-- a row, where its height is drawn: its place in the journal, its words, and its mark
 abbrev pub row_shapes : Frame → Row → List Shape
 row_shapes f r =
-    if shows f r.at r.at then place_shapes r ++ said_shapes f r ++ mark_shapes f r.at r.saying else []
+    if shows f r.at r.at
+    then where_so (has_place r.saying) (Text 52 (y_of r.at + 4) letters.Place (words.Number r.place))
+    ++ where_so (has_words r.saying) (Text (words_x f (told r.saying).0) (y_of r.at + 4)
+    (letters.Words (told r.saying).0 (told r.saying).1) (words.Row r.saying))
+    ++ mark_shapes f r.at r.saying
+    else []

@@ -1,28 +1,23 @@
 -- The words of a row. The first argument of those that have a name in them is the configured source.
 use Rattle.std.specs.Prelude.{ℕ, ◌-◌, ◌==◌, nat_le, ◌&&◌, if◌then◌else◌, Bool, List, [], ◌∷◌, codes, decimal, slice_get, Option, Some, None}
 use Rattle.std.specs.Option.{option_map_or}
+use Rattle.lpt_packet.specs.Directions.{direction_word}
 use Rattle.lpt_packet.specs.declared.direction.Direction.{Direction}
 use Rattle.lpt_packet.specs.declared.direction.Direction.TheVariants.{Up, Down}
 use Rattle.lpt_packet.specs.Names.{Name}
-use Rattle.lpt_pus.specs.Codes.{number_of}
 use Rattle.lpt_events.specs.FaultNames.{code_of, name_of}
 use Rattle.lpt_events.specs.Lanes.{lane_direction}
 use Rattle.lpt_events.specs.NameTexts.{name_text}
+use Rattle.lpt_events.specs.Whys.{why_name}
 use Rattle.lpt_events.specs.declared.applied.Applied.{Applied}
 use Rattle.lpt_events.specs.declared.applied.Applied.TheVariants.{Done, Silent, Code}
 use Rattle.lpt_events.specs.declared.outcome.Outcome.{Outcome}
 use Rattle.lpt_events.specs.declared.outcome.Outcome.TheVariants as outcome
-use Rattle.lpt_events.specs.declared.side.Side.{Side}
-use Rattle.lpt_events.specs.declared.side.Side.TheVariants.{Craft}
 use Rattle.lpt_events.specs.declared.worker.Worker.{Worker}
-use Rattle.lpt_events.specs.Sides.{receiver_side, sender_side}
-use Rattle.lpt_chart.specs.declared.marks.Content.{Content}
+use Rattle.lpt_chart.specs.Types.{Content, Refusal, Saying, Task}
 use Rattle.lpt_chart.specs.declared.marks.Content.TheVariants.{Part, Request, Report, Noise}
-use Rattle.lpt_chart.specs.declared.marks.Saying.{Saying}
 use Rattle.lpt_chart.specs.declared.marks.Saying.TheVariants as say
-use Rattle.lpt_chart.specs.declared.marks.Task.{Task}
-use Rattle.lpt_chart.specs.declared.refusal.Refusal.{Refusal}
-use Rattle.lpt_chart.specs.Words.{code_word, direction_word, joined, lane_word, plural, reason_word, report_word, request_word, why_word, worker_word}
+use Rattle.lpt_chart.specs.Words.{code_word, joined, lane_word, plural, reason_word, report_word, request_word, worker_word}
 
 -- of how many parts, where that is known
 unfoldable pub of_words : (parts : ℕ) → List ℕ
@@ -66,7 +61,7 @@ delivered_words source d (outcome.AbortNoted name reason) kept parts =
     joined (codes "broken off: up " ∷ name_text source name ∷ codes ", " ∷ reason_word reason ∷ [])
 delivered_words source d (outcome.Broken name reason) kept parts =
     joined (codes "broken " ∷ direction_word d ∷ codes " " ∷ name_text source name ∷ codes ": " ∷ reason_word reason ∷ [])
-delivered_words source d (outcome.Ignored why) kept parts = joined (codes "ignored: " ∷ why_word why ∷ [])
+delivered_words source d (outcome.Ignored why) kept parts = joined (codes "ignored: " ∷ why_name why ∷ [])
 
 -- what an executed request is called, and whether it is a load, which changes a memory
 abbrev pub task_word : Option Task → List ℕ
@@ -96,7 +91,7 @@ unfoldable pub ended_words : (source : ℕ) → Option Task → Applied → List
 ended_words source task (Done None) = joined (codes ": done" ∷ change_words task ∷ [])
 ended_words source task (Done (Some name)) = joined (codes ": done, opens down " ∷ name_text source name ∷ [])
 ended_words source task Silent = codes ": no request, nothing done"
-ended_words source task (Code code) = joined (codes ": refused, " ∷ code_word (number_of code) ∷ [])
+ended_words source task (Code code) = joined (codes ": refused, " ∷ code_word code ∷ [])
 
 -- a job, what it is, and what its execution came to
 unfoldable pub applied_words : (source : ℕ) → (boot job : ℕ) → Option Task → Applied → List ℕ
@@ -149,22 +144,3 @@ unfoldable pub row_words : (source : ℕ) → List Refusal → Saying → List �
 row_words source refused (say.Refused side k) =
     option_map_or (λ r. refusal_words r) (slice_get refused k) []
 row_words source refused saying = saying_words source saying
-
--- the node at whose side the words stand
-unfoldable pub saying_side : Saying → Side
-saying_side (say.Opened d name len parts) = sender_side d
-saying_side (say.Put d number content) = sender_side d
-saying_side (say.Finished d name) = sender_side d
-saying_side (say.Lost d number) = sender_side d
-saying_side (say.Taken l number) = receiver_side (lane_direction l)
-saying_side (say.Passed l number) = receiver_side (lane_direction l)
-saying_side (say.Delivered l o first second) = receiver_side (lane_direction l)
-saying_side (say.Ticked side clock run) = side
-saying_side (say.Expired d name kept parts) = receiver_side d
-saying_side (say.Claimed w boot job) = Craft
-saying_side (say.Committed w boot job) = Craft
-saying_side (say.Stale w boot job) = Craft
-saying_side (say.Applied boot job task a) = Craft
-saying_side (say.Retired d name) = sender_side d
-saying_side (say.Restarted side boot) = side
-saying_side (say.Refused side k) = side

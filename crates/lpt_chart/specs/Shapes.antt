@@ -1,15 +1,11 @@
 -- The text of shapes: each is an element, one behind the other.
 use Rattle.std.specs.Prelude.{ℕ, ◌+◌, ◌-◌, ◌*◌, nat_lt, nat_le, not, ◌==◌, ◌||◌, ◌&&◌, Bool, if◌then◌else◌, List, [], ◌∷◌, ◌++◌, length, take, codes, decimal}
 use Rattle.std.specs.List.{flat_map}
-use Rattle.lpt_chart.specs.declared.refusal.Refusal.{Refusal}
-use Rattle.lpt_chart.specs.declared.style.Letters.{Letters}
-use Rattle.lpt_chart.specs.declared.shape.Shape.{Shape}
+use Rattle.lpt_chart.specs.declared.svg.TheConstants.{DESC_HEAD, LETTERS_HEAD}
+use Rattle.lpt_chart.specs.Types.{Letters, Refusal, Shape, Sign, Style, Words}
 use Rattle.lpt_chart.specs.declared.shape.Shape.TheVariants as shape
-use Rattle.lpt_chart.specs.declared.shape.Words.{Words}
 use Rattle.lpt_chart.specs.declared.shape.Words.TheVariants as words
-use Rattle.lpt_chart.specs.declared.shape.Sign.{Sign}
 use Rattle.lpt_chart.specs.declared.shape.Sign.TheVariants.{HeadRight, HeadLeft, Cross, Hourglass}
-use Rattle.lpt_chart.specs.declared.style.Style.{Style}
 use Rattle.lpt_chart.specs.Frames.{half, y_of}
 use Rattle.lpt_chart.specs.Styles.{letters_text, style_text}
 use Rattle.lpt_chart.specs.Texts.{words_text}
@@ -115,23 +111,12 @@ part_text y wide high top =
 abbrev pub closing_text : List ℕ
 closing_text = codes "</svg>" ++ 10 ∷ []
 
--- the letters of a picture, and the beginning of its title
-abbrev pub letters_head : List ℕ
-letters_head =
-    codes " role='img' font-family='DejaVu Sans Mono, Menlo, Consolas, monospace' font-size='12' fill='#1a1a1a'>"
-    ++ 10 ∷ codes "<title>"
-
--- how a picture is read, in front of how much has happened
-abbrev pub desc_head : List ℕ
-desc_head =
-    codes "</title>" ++ 10 ∷ codes "<desc>Time goes down: ground at the left, the spacecraft at the right, packets between. "
-
 -- the beginning of a picture: its size, its letters, its title, and what it shows
 unfoldable pub opening_text : (wide high : ℕ) → (title counts : List ℕ) → List ℕ
 opening_text wide high title counts =
     joined (codes "<svg xmlns='http://www.w3.org/2000/svg' width='" ∷ decimal wide ∷ codes "' height='" ∷ decimal high
-    ∷ codes "'" ∷ letters_head ∷ [])
-    ++ escaped title ++ desc_head ++ escaped counts ++ (codes "</desc>" ++ 10 ∷ [])
+    ∷ codes "'" ∷ LETTERS_HEAD.now ∷ [])
+    ++ escaped title ++ DESC_HEAD.now ++ escaped counts ++ (codes "</desc>" ++ 10 ∷ [])
 
 -- ---- shapes
 

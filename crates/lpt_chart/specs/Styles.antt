@@ -2,9 +2,8 @@
 use Rattle.std.specs.Prelude.{ℕ, List, codes}
 use Rattle.lpt_packet.specs.declared.direction.Direction.TheVariants.{Up, Down}
 use Rattle.lpt_events.specs.declared.side.Side.TheVariants as side
-use Rattle.lpt_chart.specs.declared.style.Letters.{Letters}
+use Rattle.lpt_chart.specs.Types.{Letters, Style}
 use Rattle.lpt_chart.specs.declared.style.Letters.TheVariants.{Title, Grey, Place, Small, Words, Node, Bead, BeadWhite, Key}
-use Rattle.lpt_chart.specs.declared.style.Style.{Style}
 use Rattle.lpt_chart.specs.declared.style.Style.TheVariants.{Paper, Ground, Ink, InkEdge, Life, Hair, Lane, Way, WayAgain, WayNoise, InHand, Waiting, Late, Cross, Expired, Hollow, Kept, Dashed, Noted, Ring, Retiring, Opened, Finished, Sender, Reception, JobWaits, JobHollow, JobFilled, Tick, Restart, Refused, Filled, Noise, Light, JobEdge}
 use Rattle.lpt_chart.specs.declared.style.Weight.TheVariants.{Quiet, Plain, Strong}
 

@@ -1,18 +1,12 @@
 -- What a request asks of a memory, by the places of its fields.
-use Rattle.std.specs.Prelude.{ℕ, ◌+◌, ◌*◌, List, slice_get, Option, Some, None}
+use Rattle.std.specs.Prelude.{ℕ, ◌+◌, ◌*◌, List, slice_get, unwrap_or, Option, Some, None}
 use Rattle.lpt_packet.specs.declared.direction.Direction.{Direction}
 use Rattle.lpt_packet.specs.declared.direction.Direction.TheVariants.{Up, Down}
-use Rattle.lpt_chart.specs.declared.marks.Kind.{Kind}
-use Rattle.lpt_chart.specs.declared.marks.Task.{Task}
-
--- an octet, 0 where there is none
-abbrev pub octet_of : Option ℕ → ℕ
-octet_of (Some octet) = octet
-octet_of None = 0
+use Rattle.lpt_chart.specs.Types.{Kind, Task}
 
 -- the octet at a place, 0 where there is none
 abbrev pub octet_at : List ℕ → ℕ → ℕ
-octet_at octets i = octet_of (slice_get octets i)
+octet_at octets i = unwrap_or (slice_get octets i) 0
 
 -- what a packet says that it is, at the places of its service type and its message subtype
 abbrev pub kind_in : List ℕ → Kind

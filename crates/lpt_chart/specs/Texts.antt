@@ -1,22 +1,19 @@
 -- What the texts of a picture say.
 use Rattle.std.specs.Prelude.{ℕ, ◌==◌, if◌then◌else◌, List, [], ◌∷◌, codes, decimal}
+use Rattle.lpt_packet.specs.Directions.{direction_word}
 use Rattle.lpt_packet.specs.declared.direction.Direction.{Direction}
 use Rattle.lpt_events.specs.NameTexts.{name_text}
 use Rattle.lpt_events.specs.declared.side.Side.{Side}
 use Rattle.lpt_events.specs.Sides.{direction_to}
-use Rattle.lpt_chart.specs.declared.marks.Content.{Content}
-use Rattle.lpt_chart.specs.declared.marks.Stage.{Stage}
+use Rattle.lpt_chart.specs.Types.{Content, Refusal, Stage, Thing, Words}
 use Rattle.lpt_chart.specs.declared.marks.Stage.TheVariants.{Sending, Kept, Waits, Claimed, Committed}
-use Rattle.lpt_chart.specs.declared.marks.Thing.{Thing}
 use Rattle.lpt_chart.specs.declared.marks.Thing.TheVariants.{Sender, Reception, Job}
-use Rattle.lpt_chart.specs.declared.refusal.Refusal.{Refusal}
-use Rattle.lpt_chart.specs.declared.shape.Words.{Words}
 use Rattle.lpt_chart.specs.declared.shape.Words.TheVariants as words
 use Rattle.lpt_chart.specs.Bars.{sends}
 use Rattle.lpt_chart.specs.Choices.{title_line}
 use Rattle.lpt_chart.specs.Keys.{key_words}
 use Rattle.lpt_chart.specs.Sayings.{content_words, row_words}
-use Rattle.lpt_chart.specs.Words.{direction_word, joined, lane_word, node_word, plural}
+use Rattle.lpt_chart.specs.Words.{joined, lane_word, node_word, plural}
 
 -- how much has happened
 unfoldable pub counts_words : (events packets flights losses : ℕ) → List ℕ

@@ -1,15 +1,11 @@
 -- What is open at a node, each in a column of its own.
 use Rattle.std.specs.Prelude.{ℕ, ◌+◌, nat_lt, ◌==◌, Bool, false, if◌then◌else◌, List, [], ◌∷◌, ◌++◌, length, position, slice_get, slice_set, Option, Some, None, is_none, option_to_list}
-use Rattle.std.specs.Option.{option_map}
+use Rattle.std.specs.Option.{option_flatten, option_map}
 use Rattle.lpt_packet.specs.Names.{same_name}
 use Rattle.lpt_events.specs.declared.side.Side.{Side}
-use Rattle.lpt_chart.specs.declared.marks.Bar.{Bar}
-use Rattle.lpt_chart.specs.declared.marks.Stage.{Stage}
+use Rattle.lpt_chart.specs.Types.{Bar, Stage, Task, Thing, Track}
 use Rattle.lpt_chart.specs.declared.marks.Stage.TheVariants.{Sending, Kept}
-use Rattle.lpt_chart.specs.declared.marks.Task.{Task}
-use Rattle.lpt_chart.specs.declared.marks.Thing.{Thing}
 use Rattle.lpt_chart.specs.declared.marks.Thing.TheVariants.{Sender, Reception, Job}
-use Rattle.lpt_chart.specs.declared.marks.Track.{Track}
 
 -- whether two things are the same: senders or receptions of one name, or jobs of one number
 abbrev pub same_thing : Thing → Thing → Bool
@@ -51,11 +47,6 @@ abbrev pub moved : ℕ → List (Option Track) → Thing → Option Stage → Li
 moved here columns thing stage =
     placed columns (column_of columns thing) (option_map (track_from here thing) stage)
 
--- the track in a column, which may not be there
-abbrev pub track_at : Option (Option Track) → Option Track
-track_at (Some track) = track
-track_at None = None
-
 -- the piece of a column's track, up to here
 abbrev pub bar_up_to : Side → (here i : ℕ) → Option Track → Option Bar
 bar_up_to side here i (Some t) = Some (record { side = side; column = i; track = t; to = here })
@@ -63,7 +54,7 @@ bar_up_to side here i None = None
 
 -- the piece of the track that this column has
 abbrev pub bar_in : Side → (here : ℕ) → List (Option Track) → Option ℕ → Option Bar
-bar_in side here columns (Some i) = bar_up_to side here i (track_at (slice_get columns i))
+bar_in side here columns (Some i) = bar_up_to side here i (option_flatten (slice_get columns i))
 bar_in side here columns None = None
 
 -- the piece of a track that comes to its next stage or its end
@@ -78,7 +69,7 @@ all_bars side here i (track ∷ columns) =
 
 -- the stage of the track that this column has
 abbrev pub stage_in : List (Option Track) → Option ℕ → Option Stage
-stage_in columns (Some i) = option_map (λ t. t.stage) (track_at (slice_get columns i))
+stage_in columns (Some i) = option_map (λ t. t.stage) (option_flatten (slice_get columns i))
 stage_in columns None = None
 
 -- the stage of this thing's track, where there is one

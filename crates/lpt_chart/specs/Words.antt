@@ -1,13 +1,11 @@
 -- The words for what has few cases.
 use Rattle.std.specs.Prelude.{ℕ, ◌==◌, ◌&&◌, not, if◌then◌else◌, List, [], ◌∷◌, ◌++◌, codes}
-use Rattle.lpt_packet.specs.declared.direction.Direction.{Direction}
-use Rattle.lpt_packet.specs.declared.direction.Direction.TheVariants.{Up, Down}
 use Rattle.lpt_part.specs.declared.reason.Reason.{Reason}
 use Rattle.lpt_part.specs.declared.reason.Reason.TheVariants.{Expired, Discontinuity, Conflict}
+use Rattle.lpt_pus.specs.declared.failure_code.FailureCode.{FailureCode}
+use Rattle.lpt_pus.specs.declared.failure_code.FailureCode.TheVariants.{UnknownRequest, MalformedBody, UnknownMemory, OutOfRange, WrongChecksum, ReplyTooLong, NoFreeIdentifier, TooManyOpen}
 use Rattle.lpt_events.specs.declared.lane.Lane.{Lane}
 use Rattle.lpt_events.specs.declared.lane.Lane.TheVariants.{S1, S2, G1, G2}
-use Rattle.lpt_events.specs.declared.outcome.Why.{Why}
-use Rattle.lpt_events.specs.declared.outcome.Why.TheVariants.{Unreadable, Idle, ForeignApid, BadPart, Closed, NoRoom}
 use Rattle.lpt_events.specs.declared.side.Side.{Side}
 use Rattle.lpt_events.specs.declared.side.Side.TheVariants.{Ground, Craft}
 use Rattle.lpt_events.specs.declared.worker.Worker.{Worker}
@@ -22,11 +20,6 @@ joined (w ∷ v ∷ ws) = w ++ joined (v ∷ ws)
 -- what makes a word of more than one thing, behind it
 abbrev pub plural : (count : ℕ) → List ℕ
 plural count = if count == 1 then [] else codes "s"
-
--- a direction's word
-abbrev pub direction_word : Direction → List ℕ
-direction_word Up = codes "up"
-direction_word Down = codes "down"
 
 -- a node's name
 abbrev pub node_word : Side → List ℕ
@@ -50,15 +43,6 @@ abbrev pub reason_word : Reason → List ℕ
 reason_word Expired = codes "expired"
 reason_word Discontinuity = codes "discontinuity"
 reason_word Conflict = codes "conflict"
-
--- why nothing was made of a packet
-abbrev pub why_word : Why → List ℕ
-why_word Unreadable = codes "Unreadable"
-why_word Idle = codes "Idle"
-why_word ForeignApid = codes "ForeignApid"
-why_word BadPart = codes "BadPart"
-why_word Closed = codes "Closed"
-why_word NoRoom = codes "NoRoom"
 
 -- what a request of a type is called
 unfoldable pub request_word : (service subtype : ℕ) → List ℕ
@@ -89,14 +73,13 @@ report_word service subtype =
     else if subtype == 10 then codes " check"
     else []
 
--- why a request failed, by the number of its failure code
-unfoldable pub code_word : ℕ → List ℕ
-code_word code =
-    if code == 1 then codes "1 no such service"
-    else if code == 2 then codes "2 malformed"
-    else if code == 3 then codes "3 no such memory"
-    else if code == 4 then codes "4 out of range"
-    else if code == 5 then codes "5 wrong checksum"
-    else if code == 6 then codes "6 reply too long"
-    else if code == 7 then codes "7 no free identifier"
-    else codes "8 too many open"
+-- why a request failed
+abbrev pub code_word : FailureCode → List ℕ
+code_word UnknownRequest = codes "1 no such service"
+code_word MalformedBody = codes "2 malformed"
+code_word UnknownMemory = codes "3 no such memory"
+code_word OutOfRange = codes "4 out of range"
+code_word WrongChecksum = codes "5 wrong checksum"
+code_word ReplyTooLong = codes "6 reply too long"
+code_word NoFreeIdentifier = codes "7 no free identifier"
+code_word TooManyOpen = codes "8 too many open"

@@ -99,7 +99,7 @@ fn parts_in(content: Content) -> u16
 {
     match content {
         Content::Part(_, _, parts) => parts,
-        Content::Request(_, _) | Content::Report(_, _) | Content::Noise(_) => 0,
+        _ => 0,
     }
 }
 

@@ -9,7 +9,7 @@ use crate::marks::{Row, Saying};
 use crate::picture::Picture;
 use crate::refusal::Refusal;
 use crate::saying::row_words;
-use crate::telling::saying_side;
+use crate::telling::told;
 use crate::title::{title_room, title_wide};
 use lpt_events::Side;
 use std::alloc::{AllocError, Global};
@@ -127,7 +127,7 @@ fn letters_at(
     ensures value { IfOk result (λ n. n ≡ letters_at source refused.now side saying) }
     ensures small { IfOk result (λ n. n ≤ 60) }
 {
-    if !is_side(side, saying_side(saying)) {
+    if !is_side(side, told(saying).0) {
         return Ok(0);
     }
     let words = row_words(alloc, source, refused, saying)?;
@@ -171,7 +171,6 @@ fn frame_with(choice: Choice, title: &[u8], picture: &Picture, left: u32, right:
         wide,
         head: 92 + room,
         window: 130 + room,
-        margin: 8,
         top: height_of(picture, hidden_above(choice, picture.rows.as_slice())),
         bottom: height_of(picture, row_end(choice, picture.rows.as_slice())),
     }

@@ -1,11 +1,12 @@
 //! How deliveries and losses are drawn.
 
 ghost use Rattle.std.specs.Prelude.{◌≡◌, ◌<◌, ◌^◌, ◌++◌, OnOk};
-ghost use Rattle.lpt_chart.specs.Flights.{arrival_shapes, bead_shapes, carried_shapes, cross_shapes, end_shapes, flight_shapes, held_shapes, loss_shapes, loss_style, open_shapes, packet, path_shapes, released_shapes, stub_shapes, tip, waiting_shapes, way_style};
+ghost use Rattle.lpt_chart.specs.Flights.{bead_shapes, end_shapes, held_shapes, loss_shapes, loss_style, open_shapes, packet, path_shapes, released_shapes, stub_shapes, tip, waiting_shapes, way_style};
 
 use crate::frame::{Frame, half, holds, lane_x, middle_x, side_x, toward, y_of};
 use crate::mark::start_x;
-use crate::marks::{Content, Flight, Held, Loss, Sent};
+use crate::marks::{Content, Held, Sent};
+use crate::row::add_if;
 use crate::shape::{Shape, Sign, Words};
 use crate::style::{Letters, Style};
 use lpt_events::{Lane, Outcome, Side};
@@ -19,13 +20,8 @@ fn way_style(sent: Sent) -> Style
 {
     match sent.content {
         Content::Noise(_) => Style::WayNoise(sent.direction),
-        Content::Part(_, _, _) | Content::Request(_, _) | Content::Report(_, _) => {
-            if sent.gone {
-                Style::WayAgain(sent.direction)
-            } else {
-                Style::Way(sent.direction)
-            }
-        }
+        _ if sent.gone => Style::WayAgain(sent.direction),
+        _ => Style::Way(sent.direction),
     }
 }
 
@@ -79,16 +75,12 @@ fn add_path(
         (out.new.items ≡ out.old.items ++ path_shapes frame number direction x at to end style) }
 {
     let (y, y_end) = (y_of(at), y_of(end));
-    if holds(frame, at) {
-        if holds(frame, end) {
-            return out.extend_from_slice(&[Shape::Line(x, y, to, y_end, style)]);
-        }
-        return add_stub(out, number, direction, x, y, to, y + 7, style);
+    match (holds(frame, at), holds(frame, end)) {
+        (true, true) => out.extend_from_slice(&[Shape::Line(x, y, to, y_end, style)]),
+        (true, false) => add_stub(out, number, direction, x, y, to, y + 7, style),
+        (false, true) => add_stub(out, number, direction, to, y_end, x, y_end - 7, style),
+        (false, false) => Ok(()),
     }
-    if holds(frame, end) {
-        return add_stub(out, number, direction, to, y_end, x, y_end - 7, style);
-    }
-    Ok(())
 }
 
 // Where a way ends, in front of the bead: an arrow, or a bar across it where nothing was made of the
@@ -162,18 +154,25 @@ fn add_bead(
     }
 }
 
-// Adds the end of a packet's way, from a lane's hand to the node.
-fn add_arrival(
+// Adds the end of a packet's way, from a lane's hand to the node, where the packet was delivered and
+// the height is drawn.
+fn add_end(
     out: &mut Vec<Shape>,
     frame: Frame,
     lane: Lane,
     to: u32,
     number: u64,
-    outcome: Outcome,
+    outcome: Option<Outcome>,
 ) -> Result<(), AllocError>
     ensures { OnOk result
-        (out.new.items ≡ out.old.items ++ arrival_shapes frame lane to number outcome) }
+        (out.new.items ≡ out.old.items ++ end_shapes frame lane to number outcome) }
 {
+    let Some(outcome) = outcome else {
+        return Ok(());
+    };
+    if !holds(frame, to) {
+        return Ok(());
+    }
     let direction = lane.direction();
     let (x, end) = (
         lane_x(frame, lane),
@@ -186,64 +185,8 @@ fn add_arrival(
     add_bead(out, end, to, number, direction, outcome)
 }
 
-// The same, where the packet was delivered and the height is drawn.
-fn add_end(
-    out: &mut Vec<Shape>,
-    frame: Frame,
-    lane: Lane,
-    to: u32,
-    number: u64,
-    outcome: Option<Outcome>,
-) -> Result<(), AllocError>
-    ensures { OnOk result
-        (out.new.items ≡ out.old.items ++ end_shapes frame lane to number outcome) }
-{
-    match outcome {
-        Some(outcome) => {
-            if holds(frame, to) {
-                return add_arrival(out, frame, lane, to, number, outcome);
-            }
-            Ok(())
-        }
-        None => Ok(()),
-    }
-}
-
-// Adds a packet that a lane took: its way to the lane's hand, in it, and from there to the node.
-fn add_carried(
-    out: &mut Vec<Shape>,
-    frame: Frame,
-    lane: Lane,
-    to: u32,
-    outcome: Option<Outcome>,
-    held: Held,
-    sent: Sent,
-) -> Result<(), AllocError>
-    ensures { OnOk result
-        (out.new.items ≡ out.old.items ++ carried_shapes frame lane to outcome held sent) }
-{
-    let (number, direction) = (held.number, sent.direction);
-    let from = start_x(frame, direction, sent.content);
-    let (x, hand) = (lane_x(frame, lane), Style::InHand(direction));
-    out.extend_from_slice(&[packet(number, sent)])?;
-    add_path(
-        out,
-        frame,
-        number,
-        direction,
-        from,
-        sent.at,
-        x,
-        held.at,
-        way_style(sent),
-    )?;
-    add_path(out, frame, number, direction, x, held.at, x, to, hand)?;
-    add_end(out, frame, lane, to, number, outcome)?;
-    out.extend_from_slice(&[Shape::GroupEnd])
-}
-
-/// Adds what a lane took, up to its delivery, or in its hand up to a height; where one of its
-/// heights is drawn.
+/// Adds what a lane took, where one of its heights is drawn: its way to the lane's hand, in it up to
+/// a height, and from there to the node, where it was delivered.
 pub(crate) fn add_held(
     out: &mut Vec<Shape>,
     frame: Frame,
@@ -261,28 +204,17 @@ pub(crate) fn add_held(
     let Some(sent) = held.sent else {
         return Ok(());
     };
-    if holds(frame, sent.at) || holds(frame, held.at) || holds(frame, to) {
-        return add_carried(out, frame, lane, to, outcome, held, sent);
+    let (number, at, d) = (held.number, held.at, sent.direction);
+    if !(holds(frame, sent.at) || holds(frame, at) || holds(frame, to)) {
+        return Ok(());
     }
-    Ok(())
-}
-
-/// Adds a delivery.
-pub(crate) fn add_flight(
-    out: &mut Vec<Shape>,
-    frame: Frame,
-    flight: Flight,
-) -> Result<(), AllocError>
-    ensures { OnOk result (out.new.items ≡ out.old.items ++ flight_shapes frame flight) }
-{
-    add_held(
-        out,
-        frame,
-        flight.lane,
-        flight.to,
-        Some(flight.outcome),
-        flight.held,
-    )
+    let from = start_x(frame, d, sent.content);
+    let (x, hand) = (lane_x(frame, lane), Style::InHand(d));
+    out.extend_from_slice(&[packet(number, sent)])?;
+    add_path(out, frame, number, d, from, sent.at, x, at, way_style(sent))?;
+    add_path(out, frame, number, d, x, at, x, to, hand)?;
+    add_end(out, frame, lane, to, number, outcome)?;
+    out.extend_from_slice(&[Shape::GroupEnd])
 }
 
 // The way of a packet to where it was lost: dotted where a lane took it before.
@@ -296,34 +228,23 @@ fn loss_style(sent: Sent) -> Style
     }
 }
 
-// Adds a cross in the middle of the link, where its height is drawn.
-fn add_cross(out: &mut Vec<Shape>, frame: Frame, at: u32) -> Result<(), AllocError>
-    ensures { OnOk result (out.new.items ≡ out.old.items ++ cross_shapes frame at) }
-{
-    if !holds(frame, at) {
-        return Ok(());
-    }
-    out.extend_from_slice(&[Shape::Sign(middle_x(frame), y_of(at), Sign::Cross, Style::Cross)])
-}
-
 /// Adds a loss, where one of its heights is drawn: a line to a cross in the middle of the link.
-pub(crate) fn add_loss(out: &mut Vec<Shape>, frame: Frame, loss: Loss) -> Result<(), AllocError>
+pub(crate) fn add_loss(out: &mut Vec<Shape>, frame: Frame, loss: Held) -> Result<(), AllocError>
     ensures { OnOk result (out.new.items ≡ out.old.items ++ loss_shapes frame loss) }
 {
     let Some(sent) = loss.sent else {
         return Ok(());
     };
-    if !holds(frame, sent.at) && !holds(frame, loss.at) {
+    let (number, at, d) = (loss.number, loss.at, sent.direction);
+    if !(holds(frame, sent.at) || holds(frame, at)) {
         return Ok(());
     }
-    let (number, direction) = (loss.number, sent.direction);
-    let from = start_x(frame, direction, sent.content);
+    let from = start_x(frame, d, sent.content);
     let (to, style) = (middle_x(frame), loss_style(sent));
     out.extend_from_slice(&[packet(number, sent)])?;
-    add_path(
-        out, frame, number, direction, from, sent.at, to, loss.at, style,
-    )?;
-    add_cross(out, frame, loss.at)?;
+    add_path(out, frame, number, d, from, sent.at, to, at, style)?;
+    let cross = Shape::Sign(to, y_of(at), Sign::Cross, Style::Cross);
+    add_if(out, holds(frame, at), cross)?;
     out.extend_from_slice(&[Shape::GroupEnd])
 }
 
@@ -349,10 +270,7 @@ pub(crate) fn add_open(
 pub(crate) fn add_waiting(out: &mut Vec<Shape>, frame: Frame, sent: Sent) -> Result<(), AllocError>
     ensures { OnOk result (out.new.items ≡ out.old.items ++ waiting_shapes frame sent) }
 {
-    if sent.gone {
-        return Ok(());
-    }
-    if !holds(frame, sent.at) {
+    if sent.gone || !holds(frame, sent.at) {
         return Ok(());
     }
     let x = start_x(frame, sent.direction, sent.content);

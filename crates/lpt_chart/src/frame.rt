@@ -20,8 +20,6 @@ pub struct Frame {
     pub head: u32,
     /// The top of the rows.
     pub window: u32,
-    /// The room between the rows and what stands below them.
-    pub margin: u32,
     /// The first height that is drawn.
     pub top: u32,
     /// The height at which the drawing ends.
@@ -177,7 +175,7 @@ pub(crate) fn foot_y(frame: Frame) -> u64
     ensures value { result ≡ foot_y frame }
     ensures small { result < 2 ^ 41 }
 {
-    u64::from(frame.window) + rows_high(frame) + u64::from(frame.margin)
+    u64::from(frame.window) + rows_high(frame) + 8
 }
 
 /// The top of the legend.

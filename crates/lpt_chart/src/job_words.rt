@@ -80,7 +80,7 @@ fn ended_words(
         }
         Applied::Silent => String::from_str(alloc, ": no request, nothing done"),
         Applied::Code(code) => {
-            let word = code_word(code.number());
+            let word = code_word(code);
             format!(in alloc; ": refused, {word}")
         }
     }

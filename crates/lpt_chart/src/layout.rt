@@ -2,21 +2,21 @@
 
 ghost use Rattle.std.specs.Prelude.{◌≡◌, ◌≤◌, ◌++◌, length, IfOk, OnOk};
 ghost use Rattle.std.specs.List.{flat_map};
+ghost use Rattle.lpt_chart.specs.Flights.{flight_shapes, loss_shapes, waiting_shapes};
 ghost use Rattle.lpt_chart.specs.Bars.{bar_shapes};
 ghost use Rattle.lpt_chart.specs.Charts.{chart_shapes, counts, ends_shapes, foot_shapes, grounds_shapes, hands_shapes, head_shapes, hidden_shapes, keys_of, lane_shapes, line_shapes, node_shapes, rest_shapes, title_shapes, window, window_shapes};
-ghost use Rattle.lpt_chart.specs.Flights.{flight_shapes, loss_shapes, waiting_shapes};
 ghost use Rattle.lpt_chart.specs.Rows.{base_shapes, row_shapes};
 
 use crate::bar::add_bar;
 use crate::choice::{Choice, hidden_above, hidden_below};
-use crate::flight::{add_flight, add_held, add_loss, add_waiting};
+use crate::flight::{add_held, add_loss, add_waiting};
 use crate::frame::{
     Frame, foot_y, lane_x, legend_high, legend_y, rows_high, side_x, top_of, whole_high,
 };
 use crate::legend::{add_legend, used_keys};
-use crate::marks::{Bar, Flight, Loss, Row, Sent};
+use crate::marks::{Bar, Flight, Held, Row, Sent};
 use crate::picture::Picture;
-use crate::row::{add_base, add_row};
+use crate::row::{add_base, add_if, add_row};
 use crate::shape::{Shape, Words};
 use crate::style::{Letters, Style};
 use crate::title::{title_line, title_wide};
@@ -33,11 +33,8 @@ fn add_line(
 ) -> Result<(), AllocError>
     ensures { OnOk result (out.new.items ≡ out.old.items ++ line_shapes title.now line most y) }
 {
-    if title_line(title, line, most).is_empty() {
-        return Ok(());
-    }
-    let words = Words::Title(line, most as u64);
-    out.extend_from_slice(&[Shape::Text(24, y, Letters::Title, words)])
+    let shape = Shape::Text(24, y, Letters::Title, Words::Title(line, most as u64));
+    add_if(out, !title_line(title, line, most).is_empty(), shape)
 }
 
 // A title of up to three lines.
@@ -162,51 +159,44 @@ fn add_bases(out: &mut Vec<Shape>, frame: Frame, rows: &[Row]) -> Result<(), All
     Ok(())
 }
 
-// The pieces of tracks.
-fn add_bars(out: &mut Vec<Shape>, frame: Frame, bars: &[Bar]) -> Result<(), AllocError>
-    ensures { OnOk result (out.new.items ≡ out.old.items ++ flat_map (bar_shapes frame) bars.now) }
+// What is under deliveries: the pieces of tracks, the packets that are on the link to the end, and
+// the losses.
+fn add_under(
+    out: &mut Vec<Shape>,
+    frame: Frame,
+    bars: &[Bar],
+    packets: &[Sent],
+    losses: &[Held],
+) -> Result<(), AllocError>
+    ensures { OnOk result (out.new.items ≡ out.old.items ++ flat_map (bar_shapes frame) bars.now
+        ++ flat_map (waiting_shapes frame) packets.now ++ flat_map (loss_shapes frame) losses.now) }
 {
     for bar in bars {
         add_bar(out, frame, *bar)?;
     }
-    Ok(())
-}
-
-// The packets that are on the link to the end.
-fn add_waits(out: &mut Vec<Shape>, frame: Frame, packets: &[Sent]) -> Result<(), AllocError>
-    ensures { OnOk result
-        (out.new.items ≡ out.old.items ++ flat_map (waiting_shapes frame) packets.now) }
-{
     for sent in packets {
         add_waiting(out, frame, *sent)?;
     }
-    Ok(())
-}
-
-// The losses.
-fn add_losses(out: &mut Vec<Shape>, frame: Frame, losses: &[Loss]) -> Result<(), AllocError>
-    ensures { OnOk result (out.new.items ≡ out.old.items ++ flat_map (loss_shapes frame) losses.now) }
-{
     for loss in losses {
         add_loss(out, frame, *loss)?;
     }
     Ok(())
 }
 
-// The deliveries.
-fn add_flights(out: &mut Vec<Shape>, frame: Frame, flights: &[Flight]) -> Result<(), AllocError>
-    ensures { OnOk result (out.new.items ≡ out.old.items ++ flat_map (flight_shapes frame) flights.now) }
+// The deliveries, and the rows over them.
+fn add_over(
+    out: &mut Vec<Shape>,
+    frame: Frame,
+    flights: &[Flight],
+    rows: &[Row],
+) -> Result<(), AllocError>
+    ensures { OnOk result (out.new.items ≡ out.old.items ++ flat_map (flight_shapes frame) flights.now
+        ++ flat_map (row_shapes frame) rows.now) }
 {
     for flight in flights {
-        add_flight(out, frame, *flight)?;
+        let f = *flight;
+        add_held(out, frame, f.lane, f.to, Some(f.outcome), f.held)?;
     }
-    Ok(())
-}
-
-// The rows.
-fn add_rows(out: &mut Vec<Shape>, frame: Frame, rows: &[Row]) -> Result<(), AllocError>
-    ensures { OnOk result (out.new.items ≡ out.old.items ++ flat_map (row_shapes frame) rows.now) }
-{
     for row in rows {
         add_row(out, frame, *row)?;
     }
@@ -226,12 +216,17 @@ fn window(frame: Frame) -> Shape
 fn add_window(out: &mut Vec<Shape>, frame: Frame, picture: &Picture) -> Result<(), AllocError>
     ensures { OnOk result (out.new.items ≡ out.old.items ++ window_shapes frame picture.now) }
 {
-    add_bars(out, frame, picture.bars.as_slice())?;
-    add_waits(out, frame, picture.sent.as_slice())?;
-    add_losses(out, frame, picture.losses.as_slice())?;
+    let (bars, sent, losses) = (&picture.bars, &picture.sent, &picture.losses);
+    add_under(
+        out,
+        frame,
+        bars.as_slice(),
+        sent.as_slice(),
+        losses.as_slice(),
+    )?;
     add_hands(out, frame, picture)?;
-    add_flights(out, frame, picture.flights.as_slice())?;
-    add_rows(out, frame, picture.rows.as_slice())
+    let (flights, rows) = (&picture.flights, &picture.rows);
+    add_over(out, frame, flights.as_slice(), rows.as_slice())
 }
 
 // The grounds of the rows, under all else.

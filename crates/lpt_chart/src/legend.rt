@@ -17,7 +17,7 @@ use lpt_packet::Direction;
 use std::alloc::{AllocError, Global};
 
 /// What the legend can explain: packets on the link, what becomes of them, and what is open.
-static KEYS: [Style; 25] = [
+const KEYS: [Style; 25] = [
     Style::Way(Direction::Up),
     Style::Way(Direction::Down),
     Style::WayAgain(Direction::Up),

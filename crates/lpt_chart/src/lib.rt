@@ -40,8 +40,7 @@ mod words;
 pub use choice::Choice;
 pub use frame::Frame;
 pub use marks::{
-    Bar, Content, Flight, Hands, Held, Kind, Loss, Opened, Row, Saying, Sent, Stage, Task, Thing,
-    Track,
+    Bar, Content, Flight, Hands, Held, Kind, Opened, Row, Saying, Sent, Stage, Task, Thing, Track,
 };
 pub use picture::Picture;
 pub use refusal::Refusal;

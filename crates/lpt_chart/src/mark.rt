@@ -7,6 +7,7 @@ use crate::frame::{Frame, across_from, across_to, middle_x, side_x, y_of};
 use crate::marks::{Content, Saying};
 use crate::shape::{Shape, Sign};
 use crate::style::{Letters, Style};
+use crate::telling::told;
 use lpt_events::{Applied, Side};
 use lpt_packet::Direction;
 use std::alloc::AllocError;
@@ -56,9 +57,7 @@ pub(crate) fn start_x(frame: Frame, direction: Direction, content: Content) -> u
 {
     match content {
         Content::Noise(_) => middle_x(frame),
-        Content::Part(_, _, _) | Content::Request(_, _) | Content::Report(_, _) => {
-            side_x(frame, Side::sender(direction))
-        }
+        _ => side_x(frame, Side::sender(direction)),
     }
 }
 
@@ -69,15 +68,13 @@ fn put_bead(x: u64, at: u32, number: u64, direction: Direction, content: Content
     let letters = Letters::Bead(direction);
     match content {
         Content::Noise(_) => Shape::Bead(x, at, number, 0, Style::Noise(direction), letters),
-        Content::Part(_, _, _) | Content::Request(_, _) | Content::Report(_, _) => {
-            Shape::Bead(x, at, number, 7, Style::Hollow(direction), letters)
-        }
+        _ => Shape::Bead(x, at, number, 7, Style::Hollow(direction), letters),
     }
 }
 
 // The mark of a row on a line of life. Deliveries, losses and what is open have marks of their own;
 // that of a refused line stands in place of a row's place.
-#[tactic(auto, unfolding(crate::specs::Rows::mark_shapes))]
+#[tactic(auto, unfolding(crate::specs::Rows::mark_shapes, crate::specs::Tellings::told))]
 pub(crate) fn add_mark(
     out: &mut Vec<Shape>,
     frame: Frame,
@@ -86,57 +83,44 @@ pub(crate) fn add_mark(
 ) -> Result<(), AllocError>
     ensures { OnOk result (out.new.items ≡ out.old.items ++ mark_shapes frame at saying) }
 {
-    let y = y_of(at);
-    let (ground, craft) = (side_x(frame, Side::Ground), side_x(frame, Side::Craft));
+    let (x, y) = (side_x(frame, told(saying).0), y_of(at));
     match saying {
-        Saying::Opened(direction, _, _, _) => {
-            let x = side_x(frame, Side::sender(direction));
+        Saying::Opened(_, _, _, _) | Saying::Applied(_, _, _, Applied::Silent) => {
             out.extend_from_slice(&[square(x, at, Style::Opened)])
         }
         Saying::Put(direction, number, content) => {
             let x = start_x(frame, direction, content);
             out.extend_from_slice(&[put_bead(x, at, number, direction, content)])
         }
-        Saying::Finished(direction, _) => {
-            let x = side_x(frame, Side::sender(direction));
+        Saying::Finished(_, _) | Saying::Applied(_, _, _, Applied::Done(_)) => {
             out.extend_from_slice(&[square(x, at, Style::Finished)])
         }
-        Saying::Ticked(side, _, _) => {
-            let x = side_x(frame, side);
-            let left = x.saturating_sub(5);
-            out.extend_from_slice(&[Shape::Line(left, y, x + 5, y, Style::Tick)])
+        Saying::Ticked(_, _, _) => {
+            out.extend_from_slice(&[Shape::Line(x.saturating_sub(5), y, x + 5, y, Style::Tick)])
         }
-        Saying::Expired(direction, _, _, _) => {
-            let x = side_x(frame, Side::receiver(direction));
+        Saying::Expired(_, _, _, _) => {
             out.extend_from_slice(&[Shape::Sign(x, y, Sign::Hourglass, Style::Expired)])
         }
         Saying::Stale(_, _, _) => {
-            out.extend_from_slice(&[Shape::Sign(craft, y, Sign::Cross, Style::Life)])
-        }
-        Saying::Applied(_, _, _, Applied::Done(_)) => {
-            out.extend_from_slice(&[square(craft, at, Style::Finished)])
-        }
-        Saying::Applied(_, _, _, Applied::Silent) => {
-            out.extend_from_slice(&[square(craft, at, Style::Opened)])
+            out.extend_from_slice(&[Shape::Sign(x, y, Sign::Cross, Style::Life)])
         }
         Saying::Applied(_, _, _, Applied::Code(_)) => {
-            let cross = Shape::Sign(craft, y, Sign::Cross, Style::Life);
-            out.extend_from_slice(&[square(craft, at, Style::InkEdge), cross])
+            let cross = Shape::Sign(x, y, Sign::Cross, Style::Life);
+            out.extend_from_slice(&[square(x, at, Style::InkEdge), cross])
         }
         Saying::Retired(_, _) => {
+            let (ground, craft) = (side_x(frame, Side::Ground), side_x(frame, Side::Craft));
             let line = Shape::Line(ground, y, craft, y, Style::Retiring);
-            out.extend_from_slice(&[
-                line,
+            let (left, right) = (
                 ring(ground, at, Style::InkEdge),
                 ring(craft, at, Style::InkEdge),
-            ])
+            );
+            out.extend_from_slice(&[line, left, right])
         }
         Saying::Restarted(side, _) => {
             add_double(out, across_from(frame, side), across_to(frame, side), at)
         }
         Saying::Refused(_, _) => add_crossed(out, 44, at),
-        Saying::Lost(_, _) | Saying::Taken(_, _) | Saying::Passed(_, _) => Ok(()),
-        Saying::Delivered(_, _, _, _) => Ok(()),
-        Saying::Claimed(_, _, _) | Saying::Committed(_, _, _) => Ok(()),
+        _ => Ok(()),
     }
 }

@@ -68,14 +68,14 @@ pub struct Sent {
     pub gone: bool,
 }
 
-/// A packet in a lane's hand.
+/// A packet that a lane took, or that was lost.
 #[derive(Clone, Copy)]
 pub struct Held {
     /// Its number.
     pub number: u64,
-    /// The packet as it was before it was taken; none where no packet has the number.
+    /// The packet as it was before; none where no packet has the number.
     pub sent: Option<Sent>,
-    /// The height of the row in which it was taken.
+    /// The height of the row in which it was taken or lost.
     pub at: u32,
 }
 
@@ -92,17 +92,6 @@ pub struct Flight {
     pub to: u32,
     /// What became of the packet.
     pub outcome: Outcome,
-}
-
-/// A packet that was lost.
-#[derive(Clone, Copy)]
-pub struct Loss {
-    /// Its number.
-    pub number: u64,
-    /// The packet as it was; none where no packet has the number.
-    pub sent: Option<Sent>,
-    /// The height of the row in which it was lost.
-    pub at: u32,
 }
 
 /// What is open at a node.

@@ -4,7 +4,7 @@ ghost use Rattle.std.specs.Prelude.{◌≡◌, IfOk, string_bytes};
 ghost use Rattle.lpt_chart.specs.Sayings.{content_words, delivered_words, of_words, released_words, report_words};
 
 use crate::marks::Content;
-use crate::words::{direction_word, plural, reason_word, report_word, request_word, why_word};
+use crate::words::{plural, reason_word, report_word, request_word};
 use lpt_events::{Outcome, name_word};
 use lpt_packet::{Direction, Name};
 use std::alloc::{AllocError, Global};
@@ -42,7 +42,7 @@ pub(crate) fn content_words(
     match content {
         Content::Part(name, part, parts) => {
             let of = of_words(alloc, u64::from(parts))?;
-            let (way, name) = (direction_word(direction), name_word(source, name));
+            let (way, name) = (direction.word(), name_word(source, name));
             format!(in alloc; "{way} {name} part {part}{of}")
         }
         Content::Request(service, subtype) => {
@@ -89,7 +89,7 @@ pub(crate) fn delivered_words(
 ) -> Result<String, AllocError>
     ensures { IfOk result (λ t. string_bytes t ≡ delivered_words source direction outcome first second) }
 {
-    let way = direction_word(direction);
+    let way = direction.word();
     match outcome {
         Outcome::Kept(name, part) => {
             let of = of_words(alloc, second)?;
@@ -116,7 +116,7 @@ pub(crate) fn delivered_words(
             format!(in alloc; "broken {way} {name}: {reason}")
         }
         Outcome::Ignored(why) => {
-            let why = why_word(why);
+            let why = why.name();
             format!(in alloc; "ignored: {why}")
         }
     }

@@ -10,8 +10,7 @@ ghost use Rattle.lpt_chart.specs.Pictures.{at_side, blank, cleared, flown, hand_
 use crate::hands::{in_hand, no_hands, with_hand};
 use crate::last_row::{other_ground, passed, run_in, same_ground, takes_last, told_again};
 use crate::marks::{
-    Bar, Content, Flight, Hands, Held, Kind, Loss, Opened, Row, Saying, Sent, Stage, Task, Thing,
-    Track,
+    Bar, Content, Flight, Hands, Held, Kind, Opened, Row, Saying, Sent, Stage, Task, Thing, Track,
 };
 use crate::pieces::{add_both, end_all, move_track};
 use lpt_events::{Lane, Outcome, Side};
@@ -38,7 +37,7 @@ pub struct Picture {
     pub(crate) applied: u64,
     pub(crate) refused: u64,
     pub(crate) flights: Vec<Flight>,
-    pub(crate) losses: Vec<Loss>,
+    pub(crate) losses: Vec<Held>,
     pub(crate) bars: Vec<Bar>,
 }
 
@@ -254,7 +253,7 @@ impl Picture {
     {
         let sent = self.packet(number);
         mark_gone(self.sent.as_mut_slice(), number);
-        self.losses.push(Loss {
+        self.losses.push(Held {
             number,
             sent,
             at: self.here,
@@ -291,10 +290,7 @@ impl Picture {
     pub(crate) fn task_next(&self) -> Option<Task>
         ensures { result ≡ task_next self.now }
     {
-        match self.tasks.get(self.applied as usize) {
-            Some(task) => *task,
-            None => None,
-        }
+        self.tasks.get(self.applied as usize).copied().flatten()
     }
 
     // A job was executed.

@@ -1,14 +1,14 @@
 //! How a row is drawn: its ground, its place, its words, and its mark.
 
 ghost use Rattle.std.specs.Prelude.{◌≡◌, ◌++◌, OnOk};
-ghost use Rattle.lpt_chart.specs.Rows.{base_shapes, dark_shapes, leader, place_shapes, row_shapes, said_shapes};
+ghost use Rattle.lpt_chart.specs.Rows.{base_shapes, leader, row_shapes, where_so, words_x};
 
 use crate::frame::{Frame, shows, side_x, top_of, y_of};
 use crate::mark::add_mark;
 use crate::marks::Row;
 use crate::shape::{Shape, Words};
 use crate::style::{Letters, Style};
-use crate::telling::{has_line, has_place, has_words, saying_side, weight};
+use crate::telling::{has_line, has_place, has_words, told};
 use lpt_events::Side;
 use std::alloc::AllocError;
 
@@ -27,66 +27,53 @@ fn leader(frame: Frame, y: u64, side: Side) -> Shape
     }
 }
 
-// A row's ground, where it is dark.
-fn add_dark(out: &mut Vec<Shape>, frame: Frame, row: Row) -> Result<(), AllocError>
-    ensures { OnOk result (out.new.items ≡ out.old.items ++ dark_shapes frame row) }
+// Adds a shape, where this is so.
+pub(crate) fn add_if(out: &mut Vec<Shape>, so: bool, shape: Shape) -> Result<(), AllocError>
+    ensures { OnOk result (out.new.items ≡ out.old.items ++ where_so so shape) }
 {
-    if !row.dark {
+    if !so {
         return Ok(());
     }
-    let wide = u64::from(frame.wide).saturating_sub(32);
-    out.extend_from_slice(&[Shape::Box(16, top_of(row.at), wide, 22, 0, Style::Ground)])
+    out.extend_from_slice(&[shape])
 }
 
-/// Adds a row's ground and its line to the words, where its height is drawn.
+/// Adds a row's ground, where it is dark, and its line to the words, where its height is drawn.
 pub(crate) fn add_base(out: &mut Vec<Shape>, frame: Frame, row: Row) -> Result<(), AllocError>
     ensures { OnOk result (out.new.items ≡ out.old.items ++ base_shapes frame row) }
 {
     if !shows(frame, row.at, row.at) {
         return Ok(());
     }
-    add_dark(out, frame, row)?;
-    if !has_line(row.saying) {
-        return Ok(());
-    }
-    out.extend_from_slice(&[leader(frame, y_of(row.at), saying_side(row.saying))])
+    let wide = u64::from(frame.wide).saturating_sub(32);
+    let ground = Shape::Box(16, top_of(row.at), wide, 22, 0, Style::Ground);
+    add_if(out, row.dark, ground)?;
+    let line = leader(frame, y_of(row.at), told(row.saying).0);
+    add_if(out, has_line(row.saying), line)
 }
 
-// A row's place in the journal, where it shows it.
-fn add_place(out: &mut Vec<Shape>, row: Row) -> Result<(), AllocError>
-    ensures { OnOk result (out.new.items ≡ out.old.items ++ place_shapes row) }
+// Where the words at a node's side begin or end.
+fn words_x(frame: Frame, side: Side) -> u64
+    ensures { result ≡ words_x frame side }
 {
-    if !has_place(row.saying) {
-        return Ok(());
-    }
-    let (y, place) = (y_of(row.at) + 4, Words::Number(row.place));
-    out.extend_from_slice(&[Shape::Text(52, y, Letters::Place, place)])
-}
-
-// A row's words, where it has some.
-fn add_words(out: &mut Vec<Shape>, frame: Frame, row: Row) -> Result<(), AllocError>
-    ensures { OnOk result (out.new.items ≡ out.old.items ++ said_shapes frame row) }
-{
-    if !has_words(row.saying) {
-        return Ok(());
-    }
-    let side = saying_side(row.saying);
-    let x = match side {
+    match side {
         Side::Ground => u64::from(frame.words),
         Side::Craft => u64::from(frame.right),
-    };
-    let (y, letters) = (y_of(row.at) + 4, Letters::Words(side, weight(row.saying)));
-    out.extend_from_slice(&[Shape::Text(x, y, letters, Words::Row(row.saying))])
+    }
 }
 
-/// Adds a row, where its height is drawn.
+/// Adds a row, where its height is drawn: its place in the journal, its words, and its mark.
 pub(crate) fn add_row(out: &mut Vec<Shape>, frame: Frame, row: Row) -> Result<(), AllocError>
     ensures { OnOk result (out.new.items ≡ out.old.items ++ row_shapes frame row) }
 {
     if !shows(frame, row.at, row.at) {
         return Ok(());
     }
-    add_place(out, row)?;
-    add_words(out, frame, row)?;
+    let y = y_of(row.at) + 4;
+    let place = Shape::Text(52, y, Letters::Place, Words::Number(row.place));
+    add_if(out, has_place(row.saying), place)?;
+    let (side, weight) = told(row.saying);
+    let (x, letters) = (words_x(frame, side), Letters::Words(side, weight));
+    let words = Shape::Text(x, y, letters, Words::Row(row.saying));
+    add_if(out, has_words(row.saying), words)?;
     add_mark(out, frame, row.at, row.saying)
 }

@@ -7,7 +7,7 @@ use crate::job_words::applied_words;
 use crate::marks::Saying;
 use crate::packet_words::{content_words, delivered_words, of_words};
 use crate::refusal::Refusal;
-use crate::words::{direction_word, lane_word, worker_word};
+use crate::words::{lane_word, worker_word};
 use lpt_events::{Worker, name_word};
 use lpt_packet::{Direction, Name};
 use std::alloc::{AllocError, Global};
@@ -34,7 +34,7 @@ fn name_words(
 ) -> Result<String, AllocError>
     ensures { IfOk result (λ t. string_bytes t ≡ name_words source word.now direction name) }
 {
-    let (way, name) = (direction_word(direction), name_word(source, name));
+    let (way, name) = (direction.word(), name_word(source, name));
     format!(in alloc; "{word} {way} {name}")
 }
 
@@ -61,7 +61,7 @@ fn saying_words(alloc: Global, source: u16, saying: Saying) -> Result<String, Al
 {
     match saying {
         Saying::Opened(direction, name, octets, parts) => {
-            let (way, name) = (direction_word(direction), name_word(source, name));
+            let (way, name) = (direction.word(), name_word(source, name));
             format!(in alloc; "open {way} {name}: {octets} octets, {parts} parts")
         }
         Saying::Put(direction, _, content) => content_words(alloc, source, direction, content),
@@ -81,7 +81,7 @@ fn saying_words(alloc: Global, source: u16, saying: Saying) -> Result<String, Al
         }
         Saying::Expired(direction, name, kept, parts) => {
             let of = of_words(alloc, u64::from(parts))?;
-            let (way, name) = (direction_word(direction), name_word(source, name));
+            let (way, name) = (direction.word(), name_word(source, name));
             format!(in alloc; "expired {way} {name}: {kept}{of}")
         }
         Saying::Claimed(worker, boot, job) => job_text(alloc, worker, "claims", boot, job, ""),

@@ -3,7 +3,7 @@
 ghost use Rattle.std.specs.Prelude.{◌≡◌, ◌<◌, ◌-◌, ◌++◌, length, take, IfOk, OnOk, [], string_bytes};
 ghost use Rattle.std.specs.List.{flat_map};
 ghost use Rattle.lpt_chart.specs.Charts.{chart_text, picture_text};
-ghost use Rattle.lpt_chart.specs.Shapes.{bead_text, box_text, desc_head, escaped, escaped_octet, group_text, letters_head, line_text, opening_text, part_text, place_text, said_text, seen_text, shape_text, sign_steps, sign_text, size_text, text_of, widest};
+ghost use Rattle.lpt_chart.specs.Shapes.{bead_text, box_text, escaped, escaped_octet, group_text, line_text, opening_text, part_text, place_text, said_text, seen_text, shape_text, sign_steps, sign_text, size_text, text_of, widest};
 
 use crate::choice::{Choice, frame_of};
 use crate::drawing::draw_journal;
@@ -20,6 +20,14 @@ use std::alloc::{AllocError, Global};
 
 /// The most characters of a text that are seen, but for a title.
 const WIDEST: usize = 60;
+
+/// The letters of a picture, and the beginning of its title.
+const LETTERS_HEAD: &str =
+    " role='img' font-family='DejaVu Sans Mono, Menlo, Consolas, monospace' font-size='12' fill='#1a1a1a'>\n<title>";
+
+/// How a picture is read, in front of how much has happened.
+const DESC_HEAD: &str =
+    "</title>\n<desc>Time goes down: ground at the left, the spacecraft at the right, packets between. ";
 
 // A line.
 #[tactic(auto, unfolding(crate::specs::Shapes::line_text))]
@@ -271,20 +279,6 @@ fn write_shapes(
     Ok(())
 }
 
-// The letters of a picture, and the beginning of its title.
-fn letters_head() -> &'static str
-    ensures { result.now ≡ letters_head }
-{
-    " role='img' font-family='DejaVu Sans Mono, Menlo, Consolas, monospace' font-size='12' fill='#1a1a1a'>\n<title>"
-}
-
-// How a picture is read, in front of how much has happened.
-fn desc_head() -> &'static str
-    ensures { result.now ≡ desc_head }
-{
-    "</title>\n<desc>Time goes down: ground at the left, the spacecraft at the right, packets between. "
-}
-
 // The first element, the title, and what the picture shows.
 #[tactic(auto, unfolding(crate::specs::Shapes::opening_text))]
 fn print_opening(
@@ -296,12 +290,12 @@ fn print_opening(
 ) -> Result<String, AllocError>
     ensures { IfOk result (λ t. string_bytes t ≡ opening_text wide high title.now counts.now) }
 {
-    let letters = letters_head();
+    let letters = LETTERS_HEAD;
     let mut out = format!(in alloc;
         "<svg xmlns='http://www.w3.org/2000/svg' width='{wide}' height='{high}'{letters}"
     )?;
     write_escaped(&mut out, title)?;
-    out.push_str(desc_head())?;
+    out.push_str(DESC_HEAD)?;
     write_escaped(&mut out, counts)?;
     out.push_str("</desc>\n")?;
     Ok(out)

@@ -10,10 +10,7 @@ use lpt_packet::Direction;
 fn octet_at(octets: &[u8], at: u16) -> u8
     ensures { result ≡ octet_at octets.now at }
 {
-    match octets.get(usize::from(at)) {
-        Some(octet) => *octet,
-        None => 0,
-    }
+    octets.get(usize::from(at)).copied().unwrap_or(0)
 }
 
 impl Kind {

@@ -1,35 +1,11 @@
 //! How the words of a row are drawn: where, and in which letters.
 
 ghost use Rattle.std.specs.Prelude.{◌≡◌};
-ghost use Rattle.lpt_chart.specs.Sayings.{saying_side};
-ghost use Rattle.lpt_chart.specs.Tellings.{has_line, has_place, has_words, outcome_weight, weight_of};
+ghost use Rattle.lpt_chart.specs.Tellings.{has_line, has_place, has_words, outcome_weight, told};
 
 use crate::marks::{Content, Saying};
 use crate::style::Weight;
 use lpt_events::{Outcome, Side};
-
-// The node at whose side the words stand.
-#[tactic(auto, unfolding(crate::specs::Sayings::saying_side))]
-pub(crate) fn saying_side(saying: Saying) -> Side
-    ensures { result ≡ saying_side saying }
-{
-    match saying {
-        Saying::Opened(direction, _, _, _)
-        | Saying::Put(direction, _, _)
-        | Saying::Finished(direction, _)
-        | Saying::Lost(direction, _)
-        | Saying::Retired(direction, _) => Side::sender(direction),
-        Saying::Taken(lane, _) | Saying::Passed(lane, _) | Saying::Delivered(lane, _, _, _) => {
-            Side::receiver(lane.direction())
-        }
-        Saying::Expired(direction, _, _, _) => Side::receiver(direction),
-        Saying::Ticked(side, _, _) | Saying::Restarted(side, _) | Saying::Refused(side, _) => side,
-        Saying::Claimed(_, _, _)
-        | Saying::Committed(_, _, _)
-        | Saying::Stale(_, _, _)
-        | Saying::Applied(_, _, _, _) => Side::Craft,
-    }
-}
 
 // How an outcome is drawn: what is released or broken off is bold, what changed nothing grey.
 fn outcome_weight(outcome: Outcome) -> Weight
@@ -39,35 +15,31 @@ fn outcome_weight(outcome: Outcome) -> Weight
         Outcome::Released(_, _) | Outcome::PlainReleased(_) | Outcome::Broken(_, _) => {
             Weight::Strong
         }
-        Outcome::Kept(_, _) | Outcome::ReportNoted(_, _) | Outcome::AbortNoted(_, _) => {
-            Weight::Plain
-        }
         Outcome::Again(_, _) | Outcome::Ignored(_) => Weight::Quiet,
+        _ => Weight::Plain,
     }
 }
 
-// How a row's words are drawn.
-#[tactic(auto, unfolding(crate::specs::Tellings::weight_of))]
-pub(crate) fn weight(saying: Saying) -> Weight
-    ensures { result ≡ weight_of saying }
+// The node at whose side the words stand, and how they are drawn.
+#[tactic(auto, unfolding(crate::specs::Tellings::told))]
+pub(crate) fn told(saying: Saying) -> (Side, Weight)
+    ensures { result ≡ told saying }
 {
     match saying {
-        Saying::Delivered(_, outcome, _, _) => outcome_weight(outcome),
-        Saying::Expired(_, _, _, _) | Saying::Applied(_, _, _, _) | Saying::Restarted(_, _) => {
-            Weight::Strong
+        Saying::Put(direction, _, _) => (Side::sender(direction), Weight::Quiet),
+        Saying::Opened(direction, _, _, _)
+        | Saying::Finished(direction, _)
+        | Saying::Lost(direction, _)
+        | Saying::Retired(direction, _) => (Side::sender(direction), Weight::Plain),
+        Saying::Taken(lane, _) | Saying::Passed(lane, _) => (lane.receiver(), Weight::Quiet),
+        Saying::Delivered(lane, outcome, _, _) => (lane.receiver(), outcome_weight(outcome)),
+        Saying::Expired(direction, _, _, _) => (Side::receiver(direction), Weight::Strong),
+        Saying::Ticked(side, _, _) | Saying::Refused(side, _) => (side, Weight::Quiet),
+        Saying::Restarted(side, _) => (side, Weight::Strong),
+        Saying::Applied(_, _, _, _) => (Side::Craft, Weight::Strong),
+        Saying::Claimed(_, _, _) | Saying::Committed(_, _, _) | Saying::Stale(_, _, _) => {
+            (Side::Craft, Weight::Plain)
         }
-        Saying::Put(_, _, _)
-        | Saying::Taken(_, _)
-        | Saying::Passed(_, _)
-        | Saying::Ticked(_, _, _)
-        | Saying::Refused(_, _) => Weight::Quiet,
-        Saying::Opened(_, _, _, _)
-        | Saying::Finished(_, _)
-        | Saying::Lost(_, _)
-        | Saying::Claimed(_, _, _)
-        | Saying::Committed(_, _, _)
-        | Saying::Stale(_, _, _)
-        | Saying::Retired(_, _) => Weight::Plain,
     }
 }
 
@@ -75,20 +47,14 @@ pub(crate) fn weight(saying: Saying) -> Weight
 pub(crate) fn has_words(saying: Saying) -> bool
     ensures { result ≡ has_words saying }
 {
-    match saying {
-        Saying::Passed(_, _) => false,
-        _ => true,
-    }
+    !matches!(saying, Saying::Passed(_, _))
 }
 
 // Whether a row has a line to its words. A refused line changed no node.
 pub(crate) fn has_line(saying: Saying) -> bool
     ensures { result ≡ has_line saying }
 {
-    match saying {
-        Saying::Passed(_, _) | Saying::Refused(_, _) => false,
-        _ => true,
-    }
+    !matches!(saying, Saying::Passed(_, _) | Saying::Refused(_, _))
 }
 
 // Whether a row shows its place. A packet that the spacecraft puts of its own goes on with its
@@ -96,8 +62,8 @@ pub(crate) fn has_line(saying: Saying) -> bool
 pub(crate) fn has_place(saying: Saying) -> bool
     ensures { result ≡ has_place saying }
 {
-    match saying {
-        Saying::Put(_, _, Content::Report(_, _)) | Saying::Refused(_, _) => false,
-        _ => true,
-    }
+    !matches!(
+        saying,
+        Saying::Put(_, _, Content::Report(_, _)) | Saying::Refused(_, _)
+    )
 }

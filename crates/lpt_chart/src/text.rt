@@ -11,7 +11,7 @@ use crate::refusal::Refusal;
 use crate::saying::row_words;
 use crate::shape::Words;
 use crate::title::title_line;
-use crate::words::{direction_word, lane_word, node_word, plural};
+use crate::words::{lane_word, node_word, plural};
 use lpt_events::{Side, name_word};
 use lpt_packet::Direction;
 use std::alloc::{AllocError, Global};
@@ -81,11 +81,11 @@ fn piece_words(alloc: Global, side: Side, name: &str, stage: Stage) -> Result<St
 {
     match stage {
         Stage::Sending(_, _) => {
-            let way = direction_word(sends(side));
+            let way = sends(side).word();
             format!(in alloc; "sender of {way} {name}")
         }
         Stage::Kept(kept, _) => {
-            let way = direction_word(side.receives());
+            let way = side.receives().word();
             format!(in alloc; "reception of {way} {name}: kept {kept}")
         }
         Stage::Waits => format!(in alloc; "job {name} waits"),

@@ -1,7 +1,7 @@
 //! What is open at a node, each in a column of its own.
 
 ghost use Rattle.std.specs.Prelude.{◌≡◌, ◌<◌, length, slice_get, IfSome, OnOk};
-ghost use Rattle.lpt_chart.specs.Tracks.{bar_of, bar_up_to, begun, column_of, free_column, has_track, kept_in, moved, parts_in, same_thing, stage_of, task_in, track_at};
+ghost use Rattle.lpt_chart.specs.Tracks.{bar_of, bar_up_to, begun, column_of, free_column, has_track, kept_in, moved, parts_in, same_thing, stage_of, task_in};
 
 use crate::marks::{Bar, Stage, Task, Thing, Track};
 use lpt_events::Side;
@@ -63,16 +63,6 @@ fn begin(columns: &mut Vec<Option<Track>>, track: Track) -> Result<(), AllocErro
     Ok(())
 }
 
-// The track that a column has.
-fn track_at(columns: &[Option<Track>], at: usize) -> Option<Track>
-    ensures { result ≡ track_at (slice_get columns.now at) }
-{
-    match columns.get(at) {
-        Some(track) => *track,
-        None => None,
-    }
-}
-
 // The piece of a column's track up to here, where it has one.
 pub(crate) fn piece_up_to(side: Side, here: u32, column: u64, track: Option<Track>) -> Option<Bar>
     ensures { result ≡ bar_up_to side here column track }
@@ -93,7 +83,7 @@ pub(crate) fn piece(columns: &[Option<Track>], side: Side, here: u32, thing: Thi
     ensures { result ≡ bar_of side here columns.now thing }
 {
     match column(columns, thing) {
-        Some(at) => piece_up_to(side, here, at as u64, track_at(columns, at)),
+        Some(at) => piece_up_to(side, here, at as u64, columns.get(at).copied().flatten()),
         None => None,
     }
 }
@@ -131,7 +121,7 @@ pub(crate) fn stage_of(columns: &[Option<Track>], thing: Thing) -> Option<Stage>
     ensures { result ≡ stage_of columns.now thing }
 {
     match column(columns, thing) {
-        Some(at) => match track_at(columns, at) {
+        Some(at) => match columns.get(at).copied().flatten() {
             Some(track) => Some(track.stage),
             None => None,
         },
