@@ -11,7 +11,8 @@
  *     initialised. What a call only writes through, as `out` and `needed`, may have no value yet;
  *   - a pointer is null only where its length is 0, and is aligned for its type;
  *   - what a call writes to (a pointer without const) overlaps nothing else that it is passed, and
- *     nothing else writes there, or to what it reads, while it runs.
+ *     nothing else writes there, or to what it reads, while it runs. What stands in the buffer
+ *     already, where it is to be, is for the calls lpt_build_..
  *
  * Calls over different buffers may run at once, on whatever threads.
  */
@@ -367,6 +368,15 @@ LPT_MUST_USE
 uint32_t lpt_write_packet(uint32_t kind, uint16_t apid, uint16_t count, const uint8_t *field,
                           size_t field_len, uint8_t *out, size_t out_len, size_t *needed);
 
+/*
+ * Builds a packet in place, around a field of so many octets that stands in the buffer already, from
+ * out[6] on. It stays where it is. Answers as lpt_write_packet does of those octets, and at anything
+ * but LPT_DONE the buffer is as it was.
+ */
+LPT_MUST_USE
+uint32_t lpt_build_packet(uint32_t kind, uint16_t apid, uint16_t count, size_t field_len,
+                          uint8_t *out, size_t out_len, size_t *needed);
+
 /* ---- telecommands and telemetry ---- */
 
 /* What a telecommand's headers say. */
@@ -400,6 +410,12 @@ uint32_t lpt_read_tc(const uint8_t *octets, size_t octets_len, LptTc *out);
 LPT_MUST_USE
 uint32_t lpt_write_tc(const LptTcHead *head, const uint8_t *body, size_t body_len, uint8_t *out,
                       size_t out_len, size_t *needed);
+
+/* Builds a telecommand's packet in place, around a body of so many octets that stands in the buffer
+   already, from out[11] on: as lpt_build_packet. Answers as lpt_write_tc. */
+LPT_MUST_USE
+uint32_t lpt_build_tc(const LptTcHead *head, size_t body_len, uint8_t *out, size_t out_len,
+                      size_t *needed);
 
 /* Gives the request ID of a telecommand of this head: the first four octets of its packet.
    LPT_DONE, and *id is written; LPT_E_RANGE as lpt_write_tc. */
@@ -438,6 +454,12 @@ uint32_t lpt_read_tm(const uint8_t *octets, size_t octets_len, LptTm *out);
 LPT_MUST_USE
 uint32_t lpt_write_tm(const LptTmHead *head, const uint8_t *body, size_t body_len, uint8_t *out,
                       size_t out_len, size_t *needed);
+
+/* Builds telemetry's packet in place, around a body of so many octets that stands in the buffer
+   already, from out[17] on: as lpt_build_packet. Answers as lpt_write_tm. */
+LPT_MUST_USE
+uint32_t lpt_build_tm(const LptTmHead *head, size_t body_len, uint8_t *out, size_t out_len,
+                      size_t *needed);
 
 /* ---- parts of large messages ---- */
 
@@ -490,6 +512,13 @@ LPT_MUST_USE
 uint32_t lpt_write_part(uint32_t kind, uint16_t id, uint16_t number, const uint8_t *octets,
                         size_t octets_len, uint32_t part_size, uint8_t *out, size_t out_len,
                         size_t *needed);
+
+/* Builds the body of a part in place, around so many octets that stand in the buffer already, from
+   out[4] on: as lpt_build_packet. Answers as lpt_write_part. So a part that stands at packet[15]
+   becomes a body by packet + 11, and then a telecommand's packet by lpt_build_tc. */
+LPT_MUST_USE
+uint32_t lpt_build_part(uint32_t kind, uint16_t id, uint16_t number, size_t octets_len,
+                        uint32_t part_size, uint8_t *out, size_t out_len, size_t *needed);
 
 /* What an abortion report says: of which transaction, and why: 1 expired, 2 discontinuity, 3
    conflict. */

@@ -237,6 +237,23 @@ uint32_t lpt_end_read(LptEnd *end);
 LPT_MUST_USE
 uint32_t lpt_end_asked(LptEnd *end, uint8_t *service, uint8_t *subtype);
 
+/* An area of a memory. */
+typedef struct LptArea {
+    uint8_t memory;   /* its identifier */
+    uint32_t address; /* of the area's first octet */
+    size_t len;
+} LptArea;
+
+/*
+ * Says where an area goes of the load that the oldest request asks for that was released and not
+ * read yet, by the area's number from 0. Where lpt_end_execute says LPT_APPLIED_CARRIED_OUT of it,
+ * its areas were written just there, in their order, and else nothing was. LPT_DONE, and *area is
+ * written; LPT_E_EMPTY; LPT_E_NO_JOB, as always on ground; LPT_E_NOTHING where the request is no
+ * load, or has no such area with the checksum of its octets.
+ */
+LPT_MUST_USE
+uint32_t lpt_end_asked_area(LptEnd *end, size_t number, LptArea *area);
+
 /*
  * Drops the oldest request that was released and not read yet, in place of lpt_end_read: it is
  * never executed. What stands in its place asks nothing: lpt_end_execute lets it go in its turn,
@@ -263,6 +280,12 @@ uint32_t lpt_end_execute(LptEnd *end, LptApplied *applied);
  */
 LPT_MUST_USE
 uint32_t lpt_end_memory(LptEnd *end, uint8_t id, uint8_t *out, size_t out_len, size_t *needed);
+
+/* Fills a buffer with the octets of a memory from an address on. LPT_DONE; LPT_E_EMPTY;
+   LPT_E_NOTHING where the end has no such memory; LPT_E_RANGE where it has fewer octets there. */
+LPT_MUST_USE
+uint32_t lpt_end_memory_range(LptEnd *end, uint8_t id, uint32_t address, uint8_t *out,
+                              size_t out_len);
 
 /* ---- the clock, names, and a restart ---- */
 
@@ -300,16 +323,54 @@ uint32_t lpt_end_name(LptEnd *end, uint32_t direction, const LptName *name, uint
 
 /* What an end has to do, in numbers. */
 typedef struct LptView {
-    uint32_t clock;  /* in ticks */
-    uint32_t due;    /* 1 where lpt_end_expire has a reception to give up, else 0 */
-    size_t outgoing; /* packets that are to be sent */
-    size_t unread;   /* requests that weren't read */
-    size_t requests; /* requests that weren't executed, read or not */
+    uint32_t clock;    /* in ticks */
+    uint32_t due;      /* 1 where lpt_end_expire has a reception to give up, else 0 */
+    uint64_t next_due; /* the clock's value from which on it has; 0 where none is open */
+    size_t outgoing;   /* packets that are to be sent */
+    size_t unread;     /* requests that weren't read */
+    size_t requests;   /* requests that weren't executed, read or not */
 } LptView;
 
 /* Tells what the end has to do, and changes nothing. LPT_DONE, and *view is written; LPT_E_EMPTY. */
 LPT_MUST_USE
 uint32_t lpt_end_view(LptEnd *end, LptView *view);
+
+/* ---- what is open, one by one; nothing changes ---- */
+
+/* A reception that is open. */
+typedef struct LptReception {
+    LptName name;
+    uint32_t kept; /* how many of its parts were kept */
+    uint32_t last; /* the number of its last part, 0 where that hasn't come */
+    uint64_t due;  /* the clock's value from which on it is overdue, unless a part comes */
+} LptReception;
+
+/* Tells an open reception by its number from 0, in the order of sources, and of one source in that
+   of identifiers. LPT_DONE, and *reception is written; LPT_E_EMPTY; LPT_E_NOTHING where no more
+   are open. */
+LPT_MUST_USE
+uint32_t lpt_end_reception(LptEnd *end, size_t number, LptReception *reception);
+
+/*
+ * Tells which part of an open reception is missing next, from this number on: of the numbers from 1
+ * on, and before that of the last part where that has come, the least whose part wasn't kept.
+ * LPT_DONE, and *number is that part's; LPT_E_EMPTY; LPT_E_NOT_OPEN where no reception of the name
+ * is open; LPT_E_NOTHING where none is missing from there on.
+ */
+LPT_MUST_USE
+uint32_t lpt_end_missing(LptEnd *end, const LptName *name, uint16_t from, uint16_t *number);
+
+/* A message that is open to be sent. */
+typedef struct LptSender {
+    LptName name;
+    uint32_t parts; /* how many it has */
+    size_t len;     /* its octets */
+} LptSender;
+
+/* Tells a message that is open to be sent by its number from 0, in the same order. LPT_DONE, and
+   *sender is written; LPT_E_EMPTY; LPT_E_NOTHING where no more are open. */
+LPT_MUST_USE
+uint32_t lpt_end_sender(LptEnd *end, size_t number, LptSender *sender);
 
 /*
  * Restarts the end. Its open messages are closed and let go, its open receptions and what it
@@ -402,12 +463,29 @@ LPT_FIELD(LptApplied, kind, 0);
 LPT_FIELD(LptApplied, name, 4);
 LPT_FIELD(LptApplied, value, 8);
 
-LPT_LAYOUT(LptView, 32, 8);
+LPT_LAYOUT(LptArea, 16, 8);
+LPT_FIELD(LptArea, memory, 0);
+LPT_FIELD(LptArea, address, 4);
+LPT_FIELD(LptArea, len, 8);
+
+LPT_LAYOUT(LptView, 40, 8);
 LPT_FIELD(LptView, clock, 0);
 LPT_FIELD(LptView, due, 4);
-LPT_FIELD(LptView, outgoing, 8);
-LPT_FIELD(LptView, unread, 16);
-LPT_FIELD(LptView, requests, 24);
+LPT_FIELD(LptView, next_due, 8);
+LPT_FIELD(LptView, outgoing, 16);
+LPT_FIELD(LptView, unread, 24);
+LPT_FIELD(LptView, requests, 32);
+
+LPT_LAYOUT(LptReception, 24, 8);
+LPT_FIELD(LptReception, name, 0);
+LPT_FIELD(LptReception, kept, 4);
+LPT_FIELD(LptReception, last, 8);
+LPT_FIELD(LptReception, due, 16);
+
+LPT_LAYOUT(LptSender, 16, 8);
+LPT_FIELD(LptSender, name, 0);
+LPT_FIELD(LptSender, parts, 4);
+LPT_FIELD(LptSender, len, 8);
 
 LPT_LAYOUT(LptTried, 16, 8);
 LPT_FIELD(LptTried, ok, 0);

@@ -32,7 +32,7 @@ from __future__ import annotations
 
 from . import faults
 from ._library import VERSION as __version__
-from .end import Applied, Config, End, Outcome, View, WrongThread
+from .end import Applied, Config, End, Outcome, Reception, Sender, View, WrongThread
 from .faults import Fault
 from .joining import Joined, NotJoined, join, join_each
 from .kinds import (
@@ -59,7 +59,7 @@ __all__ = [
     "Checked", "Config", "Direction", "Dump", "DumpReport", "End", "Failure", "Fault", "Joined",
     "LONGEST_PACKET", "Load", "Loaded", "Mode", "Name", "NameState", "NotJoined", "Outcome",
     "OutcomeKind",
-    "Packet", "PacketKind", "Part", "PartKind", "PieceKind", "Reason", "ReportKind", "Side",
+    "Packet", "PacketKind", "Part", "PartKind", "PieceKind", "Reason", "Reception", "ReportKind", "Sender", "Side",
     "Telecommand",
     "Telemetry", "VerificationReport", "View", "Why", "WrongThread", "crc16", "faults",
     "find_piece", "join", "join_each",

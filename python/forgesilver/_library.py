@@ -21,7 +21,7 @@ VERSION = "0.1.0"
 VERSION_NUMBER = 1000
 CODECS, END = "liblpt.so.0", "liblpt_end.so.0"
 
-U8, U16, U32 = ctypes.c_uint8, ctypes.c_uint16, ctypes.c_uint32
+U8, U16, U32, U64 = ctypes.c_uint8, ctypes.c_uint16, ctypes.c_uint32, ctypes.c_uint64
 SIZE, POINTER = ctypes.c_size_t, ctypes.c_void_p
 
 
@@ -61,10 +61,13 @@ LptName = _structure("LptName", source=U16, id=U16)
 LptMemory = _structure("LptMemory", id=U8, at=SIZE, len=SIZE)
 LptOutcome = _structure("LptOutcome", kind=U32, name=LptName, first=U32, second=U32)
 LptApplied = _structure("LptApplied", kind=U32, name=LptName, value=U32)
+LptArea = _structure("LptArea", memory=U8, address=U32, len=SIZE)
 
 LptView = _structure(
-    "LptView", clock=U32, due=U32, outgoing=SIZE, unread=SIZE, requests=SIZE
+    "LptView", clock=U32, due=U32, next_due=U64, outgoing=SIZE, unread=SIZE, requests=SIZE
 )
+LptReception = _structure("LptReception", name=LptName, kept=U32, last=U32, due=U64)
+LptSender = _structure("LptSender", name=LptName, parts=U32, len=SIZE)
 
 # What the calls take. A pointer is octets or an address, and in front of its length.
 _READ, _WRITE = (POINTER, SIZE), (POINTER, SIZE, POINTER)
@@ -75,16 +78,20 @@ _OF_CODECS: dict[str, tuple[Any, ...]] = {
     "lpt_find_piece": (*_READ, U32, U32, POINTER, POINTER),
     "lpt_read_packet": (*_READ, POINTER),
     "lpt_write_packet": (U32, U16, U16, *_READ, *_WRITE),
+    "lpt_build_packet": (U32, U16, U16, SIZE, *_WRITE),
     "lpt_read_tc": (*_READ, POINTER),
     "lpt_write_tc": (POINTER, *_READ, *_WRITE),
+    "lpt_build_tc": (POINTER, SIZE, *_WRITE),
     "lpt_request_id": (POINTER, POINTER),
     "lpt_read_tm": (*_READ, POINTER),
     "lpt_write_tm": (POINTER, *_READ, *_WRITE),
+    "lpt_build_tm": (POINTER, SIZE, *_WRITE),
     "lpt_part_kind": (U32, U8, U8),
     "lpt_part_count": (SIZE, U32),
     "lpt_slice_part": (*_READ, U32, U16, U16, POINTER, *_WRITE),
     "lpt_read_part": (U32, *_READ, U32, POINTER),
     "lpt_write_part": (U32, U16, U16, *_READ, U32, *_WRITE),
+    "lpt_build_part": (U32, U16, U16, SIZE, U32, *_WRITE),
     "lpt_read_abort": (*_READ, POINTER),
     "lpt_write_abort": (U16, U16, *_WRITE),
     "lpt_read_report": (U8, *_READ, POINTER),
@@ -110,14 +117,19 @@ _OF_END: dict[str, tuple[Any, ...]] = {
     "lpt_end_read": (POINTER,),
     "lpt_end_execute": (POINTER, POINTER),
     "lpt_end_memory": (POINTER, U8, *_WRITE),
+    "lpt_end_memory_range": (POINTER, U8, U32, *_READ),
     "lpt_end_tick": (POINTER,),
     "lpt_end_retire": (POINTER, U32, POINTER),
     "lpt_end_name": (POINTER, U32, POINTER, POINTER),
     "lpt_end_view": (POINTER, POINTER),
+    "lpt_end_reception": (POINTER, SIZE, POINTER),
+    "lpt_end_missing": (POINTER, POINTER, U16, POINTER),
+    "lpt_end_sender": (POINTER, SIZE, POINTER),
     "lpt_end_restart": (POINTER,),
     "lpt_end_state": (POINTER, *_WRITE),
     "lpt_end_resume": (POINTER, U32, POINTER, *_READ, POINTER, SIZE, *_READ),
     "lpt_end_asked": (POINTER, POINTER, POINTER),
+    "lpt_end_asked_area": (POINTER, SIZE, POINTER),
     "lpt_end_drop": (POINTER,),
 }
 

@@ -12,13 +12,13 @@ from types import TracebackType
 from typing import Any, Iterable, Iterator, Mapping, Optional
 
 from . import _library
-from ._library import U32, Given, Octets, Room, number
+from ._library import U16, U32, Given, Octets, Room, number
 from .faults import Empty, NoSuchPart, raise_fault
 from .kinds import (
     Acknowledge, AppliedKind, Direction, Failure, Mode, NameState, OutcomeKind, Reason, Side, Why,
 )
 from .memory import SERVICE as MEMORY_SERVICE
-from .memory import Request
+from .memory import Area, Request
 from .parts import Name, Named, name_of, part_count
 
 _end = _library.end
@@ -95,12 +95,38 @@ class View:
     clock: int
     #: Whether `expire` has a reception to give up.
     is_due: bool
+    #: The clock's value from which on it has; None where no reception is open.
+    next_due: Optional[int]
     #: Packets that are to be sent.
     outgoing: int
     #: Requests that weren't read.
     unread: int
     #: Requests that weren't executed, read or not.
     requests: int
+
+
+@dataclass(frozen=True)
+class Reception:
+    """A reception that is open."""
+
+    name: Name
+    #: How many parts were kept.
+    kept: int
+    #: The number of the last part; None where that hasn't come.
+    last: Optional[int]
+    #: The clock's value from which on it is overdue, unless a part comes.
+    due: int
+
+
+@dataclass(frozen=True)
+class Sender:
+    """A message that is open to be sent."""
+
+    name: Name
+    #: How many parts it has.
+    parts: int
+    #: Its octets.
+    length: int
 
 
 class WrongThread(RuntimeError):
@@ -362,6 +388,19 @@ class End:
             return None
         return service.value, subtype.value
 
+    def asked_areas(self) -> list[tuple[int, Area]]:
+        """Where the areas go of the load that the oldest request asks for that wasn't read: of each,
+        in their order, the memory's identifier, and the area. If `execute` carries it out, they are
+        written just there; if not, nothing is. None of another request."""
+        out = _library.LptArea()
+        found: list[tuple[int, Area]] = []
+        while True:
+            fault = self._call(_end.lpt_end_asked_area, len(found), byref(out))
+            if fault in (_NO_JOB, _NOTHING):
+                return found
+            raise_fault(fault)
+            found.append((out.memory, Area(out.address, out.len)))
+
     def drop(self) -> bool:
         """Drops the oldest request that wasn't read, in place of `read`: it is never executed, and
         `execute` says that it was silent. False where there is none."""
@@ -386,6 +425,18 @@ class End:
     def memory(self, identifier: int) -> Optional[bytes]:
         """A copy of a memory; None where the end has no such memory."""
         return self._copied(_end.lpt_end_memory, Room(0), number(identifier, 255, "the identifier"))
+
+    def memory_range(self, identifier: int, area: Area) -> Optional[bytes]:
+        """A copy of an area of a memory; None where the end has no such memory. Raises `Range`
+        where the memory ends before."""
+        room = Room(number(area.length, 1 << 20, "the length"))
+        memory = number(identifier, 255, "the identifier")
+        start = number(area.start, 0xFFFFFFFF, "the start")
+        call = self._call(_end.lpt_end_memory_range, memory, start, room.at, room.len)
+        if self._unless(_NOTHING, call):
+            return None
+        room.needed.value = area.length
+        return room.octets()
 
     # ---- the clock, names, and a restart ----
 
@@ -412,7 +463,42 @@ class End:
         """What the end has to do, in numbers; nothing changes."""
         told = _library.LptView()
         self._done(_end.lpt_end_view, byref(told))
-        return View(told.clock, bool(told.due), told.outgoing, told.unread, told.requests)
+        due = told.next_due or None
+        return View(told.clock, bool(told.due), due, told.outgoing, told.unread, told.requests)
+
+    def receptions(self) -> list[Reception]:
+        """The receptions that are open, in the order of their names."""
+        return [
+            Reception(Name(it.name.source, it.name.id), it.kept, it.last or None, it.due)
+            for it in self._each(_end.lpt_end_reception, _library.LptReception)
+        ]
+
+    def missing(self, name: Named, start: int = 1) -> Iterator[int]:
+        """The numbers from this one on of parts that are missing of an open reception, one by one.
+        They end before the last part; where that hasn't come, at 65,535. Raises `NotOpen`, also
+        where the reception ends meanwhile."""
+        named, found = _c_name(name), U16(0)
+        start = number(start, 0xFFFF, "the part's number")
+        while start <= 0xFFFF:
+            call = self._call(_end.lpt_end_missing, byref(named), start, byref(found))
+            if self._unless(_NOTHING, call):
+                return
+            yield found.value
+            start = found.value + 1
+
+    def senders(self) -> list[Sender]:
+        """The messages that are open to be sent, in the order of their names."""
+        return [
+            Sender(Name(it.name.source, it.name.id), it.parts, it.len)
+            for it in self._each(_end.lpt_end_sender, _library.LptSender)
+        ]
+
+    def _each(self, function: Any, structure: Any) -> Iterator[Any]:
+        """What a call tells by numbers from 0."""
+        at, told = 0, structure()
+        while not self._unless(_NOTHING, self._call(function, at, byref(told))):
+            yield told
+            at += 1
 
     def restart(self) -> None:
         """Restarts the end. Its open messages and receptions are let go, and what it keeps of

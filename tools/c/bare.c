@@ -104,6 +104,10 @@ static void codecs(void) {
     EXPECT(lpt_write_tm(&tm, OCTETS, 4, packet, sizeof packet, &needed) == LPT_DONE);
     EXPECT(lpt_read_tm(packet, needed, &told) == LPT_DONE && told.len == 4);
     EXPECT(lpt_read_report(1, OCTETS, 4, &report) == LPT_DONE && report.request == 0x01020304);
+    WRITES(lpt_build_packet(LPT_PACKET_TM, 100, 0, 0, out, out_len, &needed), 8u);
+    WRITES(lpt_build_tc(&tc, 0, out, out_len, &needed), 13u);
+    WRITES(lpt_build_tm(&tm, 0, out, out_len, &needed), 19u);
+    EXPECT(lpt_build_part(LPT_PART_LAST, 7, 3, 4, 8, NULL, 0, &needed) == LPT_E_ROOM && needed == 8);
 }
 
 /* The ends of a link. */
@@ -117,6 +121,10 @@ static void ends(void) {
     LptOutcome outcome;
     LptApplied applied;
     LptView view;
+    LptReception reception;
+    LptSender sender;
+    uint16_t number;
+    LptArea area;
 
     EXPECT(lpt_end_new(&ground, LPT_SIDE_GROUND, &config, NULL, 0, NULL, 0) == LPT_DONE);
     EXPECT(lpt_end_new(&craft, LPT_SIDE_SPACECRAFT, &config, NULL, 0, NULL, 0) == LPT_E_MEMORIES);
@@ -132,11 +140,21 @@ static void ends(void) {
     EXPECT(lpt_end_packet(&craft, packet, needed, &outcome) == LPT_DONE);
     EXPECT(outcome.kind == LPT_OUTCOME_PLAIN_RELEASED && outcome.first == 13);
     EXPECT(lpt_end_released(&craft, NULL, 0, &needed) == LPT_E_ROOM && needed == 13);
+    EXPECT(lpt_end_asked_area(&craft, 0, &area) == LPT_E_NOTHING);
     EXPECT(lpt_end_read(&craft) == LPT_DONE);
     EXPECT(lpt_end_execute(&craft, &applied) == LPT_DONE && applied.kind == LPT_APPLIED_REFUSED);
     EXPECT(lpt_end_view(&craft, &view) == LPT_DONE && view.requests == 0 && view.outgoing != 0);
     EXPECT(lpt_end_memory(&craft, 1, NULL, 0, &needed) == LPT_E_ROOM && needed == sizeof OCTETS);
     EXPECT(lpt_end_memory(&craft, 1, packet, sizeof packet, &needed) == LPT_DONE && packet[1] == 2);
+    EXPECT(lpt_end_open(&ground, &NAME, OCTETS, 9) == LPT_DONE);
+    EXPECT(lpt_end_sender(&ground, 0, &sender) == LPT_DONE && sender.parts == 2);
+    EXPECT(lpt_end_part(&ground, &NAME, 2) == LPT_DONE);
+    EXPECT(lpt_end_outgoing(&ground, packet, sizeof packet, &needed) == LPT_DONE);
+    EXPECT(lpt_end_packet(&craft, packet, needed, &outcome) == LPT_DONE);
+    EXPECT(lpt_end_reception(&craft, 0, &reception) == LPT_DONE && reception.last == 2);
+    EXPECT(lpt_end_missing(&craft, &NAME, 0, &number) == LPT_DONE && number == 1);
+    EXPECT(lpt_end_memory_range(&craft, 1, sizeof OCTETS, NULL, 0) == LPT_DONE);
+    EXPECT(lpt_end_memory_range(&craft, 1, 1, packet, 2) == LPT_DONE && packet[1] == 3);
     EXPECT(lpt_end_state(&ground, NULL, 0, &needed) == LPT_E_ROOM && needed <= sizeof state);
     EXPECT(lpt_end_state(&ground, state, sizeof state, &needed) == LPT_DONE);
     lpt_end_free(&ground);

@@ -72,6 +72,28 @@ static int holds(const uint8_t *out, size_t len, const void *octets, size_t octe
         }                                                                                          \
     } while (0)
 
+/* Calls what builds a TEXT in place, CALL with out, out_len and needed, around LEN octets of it that
+   stand in the buffer already, from AT on, on buffers that have room and one that has none. */
+#define BUILDS(CALL, AT, LEN, TEXT, TEXT_LEN)                                                      \
+    do {                                                                                           \
+        size_t out_len, text_len = (TEXT_LEN);                                                     \
+        for (out_len = text_len - 1; out_len <= text_len + 5; out_len += 2) {                      \
+            size_t needed = 99999;                                                                 \
+            uint8_t *out = buffer(out_len), *was = buffer(out_len);                                \
+            size_t room = out_len - (AT), len = (LEN);                                             \
+            uint32_t said;                                                                         \
+            memcpy(out + (AT), (TEXT) + (AT), room < len ? room : len);                            \
+            memcpy(was, out, out_len);                                                             \
+            memcpy(was, (TEXT), out_len < text_len ? 0 : text_len);                                \
+            said = (CALL);                                                                         \
+            EXPECT(said == (uint32_t)(out_len < text_len ? LPT_E_ROOM : LPT_DONE));                \
+            EXPECT(needed == text_len);                                                            \
+            EXPECT(memcmp(out, was, out_len) == 0);                                                \
+            free(out);                                                                             \
+            free(was);                                                                             \
+        }                                                                                          \
+    } while (0)
+
 /* Calls a writer that has to refuse. */
 #define REFUSES(CALL, FAULT)                                                                       \
     do {                                                                                           \
@@ -401,6 +423,34 @@ static void parts(void) {
     free(long_message);
 }
 
+/* What stands in the buffer already, where it is to stand. */
+static void in_place(void) {
+    LptTcHead tc = {100, 0, 0, 13, 9, 1};
+    LptTmHead tm = {100, 0, 5, 13, 16, 0, 1, 19};
+    uint8_t packet[sizeof FIRST];
+    size_t needed = 9;
+    BUILDS(lpt_build_packet(LPT_PACKET_TC, 100, 0, sizeof FIRST - 8, out, out_len, &needed), 6,
+           sizeof FIRST - 8, FIRST, sizeof FIRST);
+    BUILDS(lpt_build_tc(&tc, sizeof FIRST - 13, out, out_len, &needed), 11, sizeof FIRST - 13,
+           FIRST, sizeof FIRST);
+    BUILDS(lpt_build_tm(&tm, 3, out, out_len, &needed), 17, 3, ABORTED, sizeof ABORTED);
+    BUILDS(lpt_build_part(LPT_PART_FIRST, 7, 1, 8, 8, out, out_len, &needed), 4, 8, FIRST + 11, 12);
+
+    memcpy(packet + 15, FIRST + 15, 8);
+    EXPECT(lpt_build_part(LPT_PART_FIRST, 7, 1, 8, 8, packet + 11, 12, &needed) == LPT_DONE);
+    EXPECT(lpt_build_tc(&tc, needed, packet, sizeof packet, &needed) == LPT_DONE);
+    EXPECT(needed == sizeof FIRST && memcmp(packet, FIRST, sizeof FIRST) == 0);
+    EXPECT(lpt_build_tc(&tc, 65530, packet, sizeof packet, &needed) == LPT_E_TOO_LONG);
+    EXPECT(lpt_build_tm(&tm, (size_t)-1, packet, sizeof packet, &needed) == LPT_E_TOO_LONG);
+    EXPECT(lpt_build_packet(LPT_PACKET_TM, 100, 0, 65535, NULL, 0, &needed) == LPT_E_TOO_LONG);
+    EXPECT(lpt_build_packet(2, 100, 0, 9, packet, sizeof packet, &needed) == LPT_E_RANGE);
+    EXPECT(lpt_build_part(LPT_PART_LAST, 7, 3, 9, 8, packet, sizeof packet, &needed) ==
+           LPT_E_PART_LENGTH);
+    EXPECT(needed == sizeof FIRST && memcmp(packet, FIRST, sizeof FIRST) == 0);
+    EXPECT(lpt_build_tc(&tc, 65529, packet, sizeof packet, &needed) == LPT_E_ROOM);
+    EXPECT(needed == 65542 && memcmp(packet, FIRST, sizeof FIRST) == 0);
+}
+
 static void aborts(void) {
     LptAbort aborted = {9, 9};
     static const uint8_t other[] = {0, 7, 4};
@@ -497,6 +547,7 @@ int main(void) {
     commands();
     telemetry();
     parts();
+    in_place();
     aborts();
     reports();
     requests();

@@ -86,7 +86,7 @@ static int take_packet(LptEnd *end) {
 /* Whether an end tells that so much is to be done. */
 static int has(LptEnd *end, uint32_t clock, uint32_t due, size_t outgoing, size_t unread,
                size_t requests) {
-    LptView view = {9, 9, 9, 9, 9};
+    LptView view = {9, 9, 9, 9, 9, 9};
     return lpt_end_view(end, &view) == LPT_DONE && view.clock == clock && view.due == due &&
            view.outgoing == outgoing && view.unread == unread && view.requests == requests;
 }
@@ -312,6 +312,7 @@ static void executed(void) {
     uint8_t dump[] = {9, 1, 0, 0, 0, 0, 0, 1};
     LptTcHead head = {100, 0, 11, 6, 2, 1};
     LptApplied applied = {9, NAME, 9};
+    LptArea area = {9, 9, 9};
     LptEnd craft = LPT_END_EMPTY, ground = LPT_END_EMPTY;
     uint16_t sum = lpt_crc16(load + 8, 3);
     size_t len = 0;
@@ -326,7 +327,12 @@ static void executed(void) {
     EXPECT(
         told(command(&craft, head, load, sizeof load), LPT_OUTCOME_PLAIN_RELEASED, &NONE, 26, 0));
     EXPECT(lpt_end_execute(&craft, &applied) == LPT_E_NOT_READ && applied.kind == 9);
+    EXPECT(lpt_end_asked_area(&craft, 1, &area) == LPT_E_NOTHING && area.memory == 9);
+    EXPECT(lpt_end_asked_area(&ground, 0, &area) == LPT_E_NO_JOB && area.address == 9);
+    DONE(lpt_end_asked_area(&craft, 0, &area));
+    EXPECT(area.memory == 1 && area.address == 2 && area.len == 3);
     DONE(lpt_end_read(&craft));
+    EXPECT(lpt_end_asked_area(&craft, 0, &area) == LPT_E_NO_JOB && area.len == 3);
     EXPECT(lpt_end_read(&craft) == LPT_E_NO_JOB);
     DONE(lpt_end_execute(&craft, &applied));
     EXPECT(applied.kind == LPT_APPLIED_CARRIED_OUT && applied.value == 0);
@@ -334,9 +340,17 @@ static void executed(void) {
     EXPECT(lpt_end_memory(&ground, 1, got, sizeof got, &len) == LPT_E_NOTHING);
     DONE(lpt_end_memory(&craft, 1, got, sizeof got, &len));
     EXPECT(len == sizeof MEMORY && got[1] == 0 && got[2] == 7 && got[4] == 9 && got[5] == 0);
+    DONE(lpt_end_memory_range(&craft, area.memory, area.address, got, area.len));
+    EXPECT(got[0] == 7 && got[1] == 8 && got[2] == 9 && got[3] == 8);
+    DONE(lpt_end_memory_range(&craft, 1, sizeof MEMORY, got, 0));
+    EXPECT(lpt_end_memory_range(&craft, 1, sizeof MEMORY - 1, got, 2) == LPT_E_RANGE);
+    EXPECT(lpt_end_memory_range(&craft, 1, 0xffffffff, got, 1) == LPT_E_RANGE && got[0] == 7);
+    EXPECT(lpt_end_memory_range(&craft, 2, 0, got, 1) == LPT_E_NOTHING);
+    EXPECT(lpt_end_memory_range(&ground, 1, 0, got, 1) == LPT_E_NOTHING);
     head.subtype = 5;
     EXPECT(
         told(command(&craft, head, dump, sizeof dump), LPT_OUTCOME_PLAIN_RELEASED, &NONE, 21, 0));
+    EXPECT(lpt_end_asked_area(&craft, 0, &area) == LPT_E_NOTHING && area.len == 3);
     DONE(lpt_end_read(&craft));
     EXPECT(lpt_end_execute(&craft, &applied) == LPT_E_UNSENT);
     for (subtype = 1; subtype < 8; subtype = subtype == 3 ? 7 : subtype + 2) {
@@ -510,7 +524,11 @@ static void refused_calls(void) {
     LptConfig config = CONFIG;
     LptEnd end = LPT_END_EMPTY;
     LptOutcome said = {7, NAME, 7, 7};
-    LptView view = {9, 9, 9, 9, 9};
+    LptView view = {9, 9, 9, 9, 9, 9};
+    LptReception reception = {NAME, 9, 9, 9};
+    LptSender sender = {NAME, 9, 9};
+    uint16_t number = 9;
+    LptArea area = {9, 9, 9};
     size_t len = 99;
     uint32_t state = 9;
     LptName name = NAME;
@@ -526,8 +544,13 @@ static void refused_calls(void) {
     EXPECT(lpt_end_retire(&end, 2, &NAME) == LPT_E_EMPTY && lpt_end_restart(&end) == LPT_E_EMPTY);
     EXPECT(lpt_end_name(&end, 0, &NAME, &state) == LPT_E_EMPTY && state == 9);
     EXPECT(lpt_end_view(&end, &view) == LPT_E_EMPTY && view.clock == 9 && view.requests == 9);
+    EXPECT(lpt_end_reception(&end, 0, &reception) == LPT_E_EMPTY && reception.due == 9);
+    EXPECT(lpt_end_missing(&end, &NAME, 1, &number) == LPT_E_EMPTY && number == 9);
+    EXPECT(lpt_end_sender(&end, 0, &sender) == LPT_E_EMPTY && sender.len == 9);
     EXPECT(lpt_end_read(&end) == LPT_E_EMPTY);
     EXPECT(lpt_end_plain(&end, 1, 16, 13, 9, got, 9) == LPT_E_EMPTY);
+    EXPECT(lpt_end_memory_range(&end, 1, 0, got, 1) == LPT_E_EMPTY);
+    EXPECT(lpt_end_asked_area(&end, 0, &area) == LPT_E_EMPTY && area.len == 9);
     EXPECT(lpt_end_memory(&end, 1, got, sizeof got, &len) == LPT_E_EMPTY && len == 99);
 
     config.clock = 4294967294u;
@@ -701,6 +724,61 @@ static void dropped(void) {
     lpt_end_free(&craft);
 }
 
+/* Whether an end tells this of its open reception of a number, or of its open message. */
+static int reception_is(LptEnd *end, size_t number, const LptName *name, uint32_t kept,
+                        uint32_t last, uint64_t due) {
+    LptReception it = {NONE, 9, 9, 9};
+    return lpt_end_reception(end, number, &it) == LPT_DONE && same(it.name, name) &&
+           it.kept == kept && it.last == last && it.due == due;
+}
+
+static int sender_is(LptEnd *end, size_t number, const LptName *name, uint32_t parts, size_t len) {
+    LptSender it = {NONE, 9, 9};
+    return lpt_end_sender(end, number, &it) == LPT_DONE && same(it.name, name) &&
+           it.parts == parts && it.len == len;
+}
+
+/* Whether this part is missing next. */
+static int misses(LptEnd *end, const LptName *name, uint16_t from, uint16_t wanted) {
+    uint16_t number = 9;
+    return lpt_end_missing(end, name, from, &number) == LPT_DONE && number == wanted;
+}
+
+/* What is open is told one by one, and which of its parts are missing. */
+static void open_ones(void) {
+    LptEnd ground = LPT_END_EMPTY, craft = LPT_END_EMPTY;
+    LptReception reception = {NONE, 9, 9, 9};
+    LptSender sender = {NONE, 9, 9};
+    LptView view = {9, 9, 9, 9, 9, 9};
+    uint16_t number = 9;
+    make(&ground, LPT_SIDE_GROUND, &CONFIG);
+    make(&craft, LPT_SIDE_SPACECRAFT, &CONFIG);
+    EXPECT(lpt_end_reception(&craft, 0, &reception) == LPT_E_NOTHING && reception.kept == 9);
+    EXPECT(lpt_end_sender(&ground, 0, &sender) == LPT_E_NOTHING && sender.parts == 9);
+    EXPECT(lpt_end_view(&craft, &view) == LPT_DONE && view.next_due == 0);
+    DONE(lpt_end_open(&ground, &OTHER, message, 20));
+    DONE(lpt_end_open(&ground, &NAME, message, 50));
+    EXPECT(told(carry(&ground, &craft, &OTHER, 3), LPT_OUTCOME_KEPT, &OTHER, 3, 0));
+    DONE(lpt_end_tick(&craft));
+    EXPECT(told(carry(&ground, &craft, &NAME, 4), LPT_OUTCOME_KEPT, &NAME, 4, 0));
+    EXPECT(told(carry(&ground, &craft, &NAME, 2), LPT_OUTCOME_KEPT, &NAME, 2, 0));
+    EXPECT(lpt_end_view(&craft, &view) == LPT_DONE && view.next_due == 19 && view.due == 0);
+
+    EXPECT(reception_is(&craft, 0, &NAME, 2, 0, 20) && reception_is(&craft, 1, &OTHER, 1, 3, 19));
+    EXPECT(lpt_end_reception(&craft, 2, &reception) == LPT_E_NOTHING);
+    EXPECT(lpt_end_reception(&craft, SIZE_MAX, &reception) == LPT_E_NOTHING && reception.due == 9);
+    EXPECT(misses(&craft, &OTHER, 0, 1) && misses(&craft, &OTHER, 2, 2));
+    EXPECT(lpt_end_missing(&craft, &OTHER, 3, &number) == LPT_E_NOTHING && number == 9);
+    EXPECT(misses(&craft, &NAME, 1, 1) && misses(&craft, &NAME, 2, 3) && misses(&craft, &NAME, 4, 5));
+    EXPECT(misses(&craft, &NAME, 65535, 65535));
+    EXPECT(lpt_end_missing(&craft, named(8), 1, &number) == LPT_E_NOT_OPEN && number == 9);
+    EXPECT(lpt_end_missing(&ground, &NAME, 1, &number) == LPT_E_NOT_OPEN && number == 9);
+    EXPECT(sender_is(&ground, 0, &NAME, 7, 50) && sender_is(&ground, 1, &OTHER, 3, 20));
+    EXPECT(lpt_end_sender(&ground, 2, &sender) == LPT_E_NOTHING && sender.len == 9);
+    lpt_end_free(&ground);
+    lpt_end_free(&craft);
+}
+
 int main(void) {
     size_t k;
     for (k = 0; k < sizeof message; k++) {
@@ -720,6 +798,7 @@ int main(void) {
     kept();
     refused_states();
     dropped();
+    open_ones();
     executed();
     requests();
     printf("%u passed, %u failed\n", passed, failed);

@@ -11,5 +11,6 @@ pub mod Pieces
 pub mod Readings
 pub mod Reports
 pub mod Requests
+pub mod Standing
 pub mod Streams
 pub mod Telemetry

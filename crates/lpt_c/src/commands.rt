@@ -7,9 +7,11 @@ ghost use Rattle.lpt_c.specs.Buffers.{code_for, left_by, needed_by};
 ghost use Rattle.lpt_c.specs.Codes.{done, range};
 ghost use Rattle.lpt_c.specs.Commands.{tc_fits, tc_packet, tc_text, tc_read, tc_told};
 ghost use Rattle.lpt_c.specs.Readings.{code_read, left_in};
+ghost use Rattle.lpt_c.specs.Standing.{rest_in, rest_len, standing};
 
 use crate::codes::{DONE, IDLE, RANGE, TOO_LONG};
 use crate::filling::fill_packet;
+use crate::rest::Rest;
 use lpt_packet::{PRIMARY_HEADER, PacketKind, Seen, read_packet};
 use lpt_pus::{LONGEST_TC_BODY, TC_HEADER, read_tc};
 
@@ -81,10 +83,37 @@ pub fn lpt_read_tc(octets: &[u8], out: &mut LptTc) -> u32
 /// 0; 102 where the APID is above 2046, the count above 16,383 or the flags above 15; 14 where the
 /// packet would have more than 65,542 octets; 103 where the buffer is too short. At 0 and at 103
 /// `needed` says how many octets the packet has, 13 more than the body.
+#[tactic(auto, unfolding(crate::specs::Standing::rest_in))]
 pub fn lpt_write_tc(head: &LptTcHead, body: &[u8], out: &mut [u8], needed: &mut usize) -> u32
     ensures code { result ≡ code_for (tc_text head.now body.now) out.old }
     ensures buffer { out.new ≡ left_by (tc_text head.now body.now) out.old }
     ensures needed { needed.new ≡ needed_by (tc_text head.now body.now) needed.old }
+{
+    write_tc(head, Rest::Given(body), out, needed)
+}
+
+/// Does the same of a body of so many octets that stands in the buffer already, from `out[11]` on,
+/// where it stands in the packet.
+///
+/// It answers as `lpt_write_tc` does of those octets. Where the answer isn't 0 the buffer is as it
+/// was.
+#[tactic(auto, unfolding(crate::specs::Standing::rest_in))]
+pub fn lpt_build_tc(head: &LptTcHead, body_len: usize, out: &mut [u8], needed: &mut usize) -> u32
+    ensures code { result ≡ code_for (tc_text head.now (standing 11 body_len out.old)) out.old }
+    ensures buffer { out.new ≡ left_by (tc_text head.now (standing 11 body_len out.old)) out.old }
+    ensures needed { needed.new ≡ needed_by (tc_text head.now
+        (standing 11 body_len out.old)) needed.old }
+{
+    write_tc(head, Rest::Standing(body_len), out, needed)
+}
+
+// Writes a telecommand's whole packet to the front of a buffer.
+#[tactic(auto, using(crate::proofs::RestLemmas::length_rest))]
+fn write_tc(head: &LptTcHead, body: Rest<'_>, out: &mut [u8], needed: &mut usize) -> u32
+    ensures code { result ≡ code_for (tc_text head.now (rest_in body.entry 11 out.old)) out.old }
+    ensures buffer { out.new ≡ left_by (tc_text head.now (rest_in body.entry 11 out.old)) out.old }
+    ensures needed { needed.new ≡ needed_by (tc_text head.now
+        (rest_in body.entry 11 out.old)) needed.old }
 {
     if head.apid > 2046 || head.count > 16383 || head.flags > 15 {
         return RANGE;
@@ -96,12 +125,14 @@ pub fn lpt_write_tc(head: &LptTcHead, body: &[u8], out: &mut [u8], needed: &mut 
 }
 
 // Writes a telecommand that fits to the front of a buffer, where it has room.
-fn fill_tc(head: &LptTcHead, body: &[u8], out: &mut [u8], needed: &mut usize) -> u32
+fn fill_tc(head: &LptTcHead, body: Rest<'_>, out: &mut [u8], needed: &mut usize) -> u32
     requires head { IsTrue (tc_fits head.now) }
-    requires body { length body.now ≤ longest_tc_body }
-    ensures code { result ≡ code_for (Ok (tc_packet head.now body.now)) out.old }
-    ensures buffer { out.new ≡ left_by (Ok (tc_packet head.now body.now)) out.old }
-    ensures needed { needed.new ≡ length (tc_packet head.now body.now) }
+    requires body { rest_len body ≤ longest_tc_body }
+    ensures code { result ≡ code_for (Ok (tc_packet head.now
+        (rest_in body.entry 11 out.old))) out.old }
+    ensures buffer { out.new ≡ left_by (Ok (tc_packet head.now
+        (rest_in body.entry 11 out.old))) out.old }
+    ensures needed { needed.new ≡ length (tc_packet head.now (rest_in body.entry 11 out.old)) }
 {
     let source = head.source.to_be_bytes();
     let header = [

@@ -24,6 +24,7 @@ mod parts;
 mod pieces;
 mod reports;
 mod requests;
+mod rest;
 mod streams;
 mod telemetry;
 mod version;
@@ -31,16 +32,17 @@ mod version;
 pub use aborts::{LptAbort, lpt_read_abort, lpt_write_abort};
 pub use checks::{LptChecked, lpt_read_check};
 pub use checksum::lpt_crc16;
-pub use commands::{LptTc, LptTcHead, lpt_read_tc, lpt_request_id, lpt_write_tc};
+pub use commands::{LptTc, LptTcHead, lpt_build_tc, lpt_read_tc, lpt_request_id, lpt_write_tc};
 pub use dumps::{LptDumped, lpt_read_dump};
 pub use loads::lpt_write_load;
-pub use packets::{LptPacket, lpt_read_packet, lpt_write_packet};
+pub use packets::{LptPacket, lpt_build_packet, lpt_read_packet, lpt_write_packet};
 pub use parts::{
-    LptPart, lpt_part_count, lpt_part_kind, lpt_read_part, lpt_slice_part, lpt_write_part,
+    LptPart, lpt_build_part, lpt_part_count, lpt_part_kind, lpt_read_part, lpt_slice_part,
+    lpt_write_part,
 };
 pub use pieces::lpt_find_piece;
 pub use reports::{LptReport, lpt_read_report, lpt_write_report};
 pub use requests::{LptRange, lpt_write_check, lpt_write_dump};
 pub use streams::lpt_packet_length;
-pub use telemetry::{LptTm, LptTmHead, lpt_read_tm, lpt_write_tm};
+pub use telemetry::{LptTm, LptTmHead, lpt_build_tm, lpt_read_tm, lpt_write_tm};
 pub use version::lpt_version;

@@ -6,7 +6,8 @@ ghost use Rattle.lpt_c.specs.Codes.{done};
 ghost use Rattle.lpt_c.specs.Loads.{area_of, load_body, load_told, MeansLoad};
 
 use crate::codes::{BAD_AREA, LONG_LOAD};
-use crate::filling::fill_three;
+use crate::filling::fill_behind;
+use crate::rest::Rest;
 use lpt_memory::{AREA_HEADER, AREA_ROOM};
 use lpt_packet::crc16;
 
@@ -15,6 +16,7 @@ use lpt_packet::crc16;
 ///
 /// 0; 28 where there are no octets, 27 where there are more than 65,519; 103 where the buffer is
 /// too short. At 0 and at 103 `needed` says how many octets the body has, 10 more than these.
+#[tactic(auto, unfolding(crate::specs::Standing::rest_in, crate::specs::Standing::rest_len))]
 pub fn lpt_write_load(
     memory: u8,
     address: u32,
@@ -40,5 +42,6 @@ pub fn lpt_write_load(
     let at = address.to_be_bytes();
     let len = (octets.len() as u16).to_be_bytes();
     let head = [memory, 1, at[0], at[1], at[2], at[3], len[0], len[1]];
-    fill_three(&head, octets, &crc16(octets).to_be_bytes(), out, needed)
+    let checksum = crc16(octets).to_be_bytes();
+    fill_behind(&head, octets, Rest::Given(&checksum), out, needed)
 }

@@ -4,9 +4,11 @@ ghost use Rattle.std.specs.Prelude.{◌≡◌};
 ghost use Rattle.lpt_c.specs.Buffers.{code_for, left_by, needed_by};
 ghost use Rattle.lpt_c.specs.Packets.{kind_of_number, packet_text, packet_told};
 ghost use Rattle.lpt_c.specs.Readings.{code_read, left_in, packet_read};
+ghost use Rattle.lpt_c.specs.Standing.{rest_in, standing};
 
 use crate::codes::{DONE, IDLE, RANGE, TOO_LONG};
 use crate::filling::fill_packet;
+use crate::rest::Rest;
 use lpt_packet::{LONGEST_FIELD, PRIMARY_HEADER, PacketKind, Seen, read_packet};
 
 /// A packet that was read.
@@ -57,6 +59,7 @@ pub fn lpt_read_packet(octets: &[u8], out: &mut LptPacket) -> u32
 /// 0; 102 where the kind is another, the APID above 2046 or the count above 16,383; 14 where the
 /// packet would have more than 65,542 octets; 103 where the buffer is too short. At 0 and at 103
 /// `needed` says how many octets the packet has.
+#[tactic(auto, unfolding(crate::specs::Standing::rest_in))]
 pub fn lpt_write_packet(
     kind: u32,
     apid: u16,
@@ -71,6 +74,56 @@ pub fn lpt_write_packet(
         ≡ left_by (packet_text (kind_of_number kind) apid count field.now) out.old }
     ensures needed { needed.new
         ≡ needed_by (packet_text (kind_of_number kind) apid count field.now) needed.old }
+{
+    write_packet(kind, apid, count, Rest::Given(field), out, needed)
+}
+
+/// Does the same of a data field of so many octets that stands in the buffer already, from `out[6]`
+/// on, where it stands in the packet.
+///
+/// It answers as `lpt_write_packet` does of those octets. Where the answer isn't 0 the buffer is as
+/// it was.
+#[tactic(auto, unfolding(crate::specs::Standing::rest_in))]
+pub fn lpt_build_packet(
+    kind: u32,
+    apid: u16,
+    count: u16,
+    field_len: usize,
+    out: &mut [u8],
+    needed: &mut usize,
+) -> u32
+    ensures code { result
+        ≡ code_for (packet_text (kind_of_number kind) apid count
+        (standing 6 field_len out.old)) out.old }
+    ensures buffer { out.new
+        ≡ left_by (packet_text (kind_of_number kind) apid count
+        (standing 6 field_len out.old)) out.old }
+    ensures needed { needed.new
+        ≡ needed_by (packet_text (kind_of_number kind) apid count
+        (standing 6 field_len out.old)) needed.old }
+{
+    write_packet(kind, apid, count, Rest::Standing(field_len), out, needed)
+}
+
+// Writes a packet with this data field to the front of a buffer.
+#[tactic(auto, using(crate::proofs::RestLemmas::length_rest))]
+fn write_packet(
+    kind: u32,
+    apid: u16,
+    count: u16,
+    field: Rest<'_>,
+    out: &mut [u8],
+    needed: &mut usize,
+) -> u32
+    ensures code { result
+        ≡ code_for (packet_text (kind_of_number kind) apid count
+        (rest_in field.entry 6 out.old)) out.old }
+    ensures buffer { out.new
+        ≡ left_by (packet_text (kind_of_number kind) apid count
+        (rest_in field.entry 6 out.old)) out.old }
+    ensures needed { needed.new
+        ≡ needed_by (packet_text (kind_of_number kind) apid count
+        (rest_in field.entry 6 out.old)) needed.old }
 {
     let kind = match kind {
         0 => PacketKind::Tm,

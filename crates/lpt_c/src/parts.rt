@@ -7,9 +7,11 @@ ghost use Rattle.lpt_c.specs.Buffers.{code_for, left_by, needed_by};
 ghost use Rattle.lpt_c.specs.Packets.{kind_of_number};
 ghost use Rattle.lpt_c.specs.Parts.{carried_kind, count_told, kind_in, kind_named, kind_number, kind_told, part_read, part_text, part_told, piece_of, slice_text};
 ghost use Rattle.lpt_c.specs.Readings.{code_read, left_in};
+ghost use Rattle.lpt_c.specs.Standing.{rest_in, rest_len, standing};
 
 use crate::codes::{DONE, KIND_NUMBER, LONG, NO_SUCH_PART, PART_LENGTH, RANGE, SHORT, ZERO};
-use crate::filling::fill;
+use crate::filling::fill_behind;
+use crate::rest::Rest;
 use lpt_packet::LONGEST_PACKET;
 use lpt_part::{Kind, count, length_fits, number_fits, read_part, slice};
 
@@ -92,6 +94,7 @@ pub fn lpt_read_part(kind: u32, body: &[u8], part_size: u32, out: &mut LptPart) 
 /// 0; 102 where the kind isn't 1 to 3 or the size isn't 4 to 1024; 21, 22 or 23 where there is no
 /// part of this kind, number and length; 103 where the buffer is too short. At 0 and at 103
 /// `needed` says how many octets the body has, 4 more than the part.
+#[tactic(auto, unfolding(crate::specs::Standing::rest_in))]
 pub fn lpt_write_part(
     kind: u32,
     id: u16,
@@ -107,6 +110,74 @@ pub fn lpt_write_part(
         ≡ left_by (part_text (kind_named kind) id number part_size octets.now) out.old }
     ensures needed { needed.new
         ≡ needed_by (part_text (kind_named kind) id number part_size octets.now) needed.old }
+{
+    write_part(
+        kind,
+        id,
+        number,
+        Rest::Given(octets),
+        part_size,
+        out,
+        needed,
+    )
+}
+
+/// Does the same of a part of so many octets that stands in the buffer already, from `out[4]` on,
+/// where it stands in the body.
+///
+/// It answers as `lpt_write_part` does of those octets. Where the answer isn't 0 the buffer is as
+/// it was.
+#[tactic(auto, unfolding(crate::specs::Standing::rest_in))]
+pub fn lpt_build_part(
+    kind: u32,
+    id: u16,
+    number: u16,
+    octets_len: usize,
+    part_size: u32,
+    out: &mut [u8],
+    needed: &mut usize,
+) -> u32
+    ensures code { result
+        ≡ code_for (part_text (kind_named kind) id number part_size
+        (standing 4 octets_len out.old)) out.old }
+    ensures buffer { out.new
+        ≡ left_by (part_text (kind_named kind) id number part_size
+        (standing 4 octets_len out.old)) out.old }
+    ensures needed { needed.new
+        ≡ needed_by (part_text (kind_named kind) id number part_size
+        (standing 4 octets_len out.old)) needed.old }
+{
+    write_part(
+        kind,
+        id,
+        number,
+        Rest::Standing(octets_len),
+        part_size,
+        out,
+        needed,
+    )
+}
+
+// Writes the body of a message that carries a part to the front of a buffer.
+#[tactic(auto, using(crate::proofs::RestLemmas::length_rest))]
+fn write_part(
+    kind: u32,
+    id: u16,
+    number: u16,
+    octets: Rest<'_>,
+    part_size: u32,
+    out: &mut [u8],
+    needed: &mut usize,
+) -> u32
+    ensures code { result
+        ≡ code_for (part_text (kind_named kind) id number part_size
+        (rest_in octets.entry 4 out.old)) out.old }
+    ensures buffer { out.new
+        ≡ left_by (part_text (kind_named kind) id number part_size
+        (rest_in octets.entry 4 out.old)) out.old }
+    ensures needed { needed.new
+        ≡ needed_by (part_text (kind_named kind) id number part_size
+        (rest_in octets.entry 4 out.old)) needed.old }
 {
     let Some(of_kind) = named(kind) else {
         return RANGE;
@@ -132,6 +203,7 @@ pub fn lpt_write_part(
 /// 0; 102 where the size isn't 4 to 1024; 42 where the message isn't longer than a part, 43 where
 /// it has more than 65,542 octets; 46 where it has no part of that number; 103 where the buffer is
 /// too short. At 0 and at 103 the kind is written, and `needed` says how many octets the body has.
+#[tactic(auto, unfolding(crate::specs::Standing::rest_in, crate::specs::Standing::rest_len))]
 pub fn lpt_slice_part(
     message: &[u8],
     part_size: u32,
@@ -168,7 +240,7 @@ pub fn lpt_slice_part(
         of_kind,
         id,
         number,
-        part(message, part_size, number),
+        Rest::Given(part(message, part_size, number)),
         out,
         needed,
     )
@@ -203,19 +275,30 @@ fn fill_part(
     kind: Kind,
     id: u16,
     number: u16,
-    octets: &[u8],
+    octets: Rest<'_>,
     out: &mut [u8],
     needed: &mut usize,
 ) -> u32
-    requires { length octets.now ≤ 1024 }
-    ensures code { result ≡ code_for (Ok (body_of (piece_of id number kind octets.now))) out.old }
-    ensures buffer { out.new ≡ left_by (Ok (body_of (piece_of id number kind octets.now))) out.old }
-    ensures needed { needed.new ≡ length (body_of (piece_of id number kind octets.now)) }
+    requires { rest_len octets ≤ 1024 }
+    ensures code { result
+        ≡ code_for (Ok (body_of (piece_of id number kind
+        (rest_in octets.entry 4 out.old)))) out.old }
+    ensures buffer { out.new
+        ≡ left_by (Ok (body_of (piece_of id number kind
+        (rest_in octets.entry 4 out.old)))) out.old }
+    ensures needed { needed.new
+        ≡ length (body_of (piece_of id number kind (rest_in octets.entry 4 out.old))) }
 {
     let _ = kind;
     let id = id.to_be_bytes();
     let number = number.to_be_bytes();
-    fill(&[id[0], id[1], number[0], number[1]], octets, out, needed)
+    fill_behind(
+        &[],
+        &[id[0], id[1], number[0], number[1]],
+        octets,
+        out,
+        needed,
+    )
 }
 
 // The kind of a number.

@@ -4,10 +4,12 @@ ghost use Rattle.std.specs.Prelude.{◌≡◌, ◌+◌, ◌≤◌, length, Ok, I
 ghost use Rattle.lpt_pus.specs.Sizes.{longest_tm_body};
 ghost use Rattle.lpt_c.specs.Buffers.{code_for, left_by, needed_by};
 ghost use Rattle.lpt_c.specs.Readings.{code_read, left_in};
+ghost use Rattle.lpt_c.specs.Standing.{rest_in, rest_len, standing};
 ghost use Rattle.lpt_c.specs.Telemetry.{tm_fits, tm_packet, tm_text, tm_read, tm_told};
 
 use crate::codes::{DONE, IDLE, RANGE, TOO_LONG};
 use crate::filling::fill_packet;
+use crate::rest::Rest;
 use lpt_packet::{PRIMARY_HEADER, PacketKind, Seen, read_packet};
 use lpt_pus::{LONGEST_TM_BODY, TM_HEADER, read_tm};
 
@@ -86,10 +88,37 @@ pub fn lpt_read_tm(octets: &[u8], out: &mut LptTm) -> u32
 /// 0; 102 where the APID is above 2046, the count above 16,383 or the status above 15; 14 where the
 /// packet would have more than 65,542 octets; 103 where the buffer is too short. At 0 and at 103
 /// `needed` says how many octets the packet has, 19 more than the body.
+#[tactic(auto, unfolding(crate::specs::Standing::rest_in))]
 pub fn lpt_write_tm(head: &LptTmHead, body: &[u8], out: &mut [u8], needed: &mut usize) -> u32
     ensures code { result ≡ code_for (tm_text head.now body.now) out.old }
     ensures buffer { out.new ≡ left_by (tm_text head.now body.now) out.old }
     ensures needed { needed.new ≡ needed_by (tm_text head.now body.now) needed.old }
+{
+    write_tm(head, Rest::Given(body), out, needed)
+}
+
+/// Does the same of a body of so many octets that stands in the buffer already, from `out[17]` on,
+/// where it stands in the packet.
+///
+/// It answers as `lpt_write_tm` does of those octets. Where the answer isn't 0 the buffer is as it
+/// was.
+#[tactic(auto, unfolding(crate::specs::Standing::rest_in))]
+pub fn lpt_build_tm(head: &LptTmHead, body_len: usize, out: &mut [u8], needed: &mut usize) -> u32
+    ensures code { result ≡ code_for (tm_text head.now (standing 17 body_len out.old)) out.old }
+    ensures buffer { out.new ≡ left_by (tm_text head.now (standing 17 body_len out.old)) out.old }
+    ensures needed { needed.new ≡ needed_by (tm_text head.now
+        (standing 17 body_len out.old)) needed.old }
+{
+    write_tm(head, Rest::Standing(body_len), out, needed)
+}
+
+// Writes telemetry's whole packet to the front of a buffer.
+#[tactic(auto, using(crate::proofs::RestLemmas::length_rest))]
+fn write_tm(head: &LptTmHead, body: Rest<'_>, out: &mut [u8], needed: &mut usize) -> u32
+    ensures code { result ≡ code_for (tm_text head.now (rest_in body.entry 17 out.old)) out.old }
+    ensures buffer { out.new ≡ left_by (tm_text head.now (rest_in body.entry 17 out.old)) out.old }
+    ensures needed { needed.new ≡ needed_by (tm_text head.now
+        (rest_in body.entry 17 out.old)) needed.old }
 {
     if head.apid > 2046 || head.count > 16383 || head.status > 15 {
         return RANGE;
@@ -101,12 +130,14 @@ pub fn lpt_write_tm(head: &LptTmHead, body: &[u8], out: &mut [u8], needed: &mut 
 }
 
 // Writes telemetry that fits to the front of a buffer, where it has room.
-fn fill_tm(head: &LptTmHead, body: &[u8], out: &mut [u8], needed: &mut usize) -> u32
+fn fill_tm(head: &LptTmHead, body: Rest<'_>, out: &mut [u8], needed: &mut usize) -> u32
     requires head { IsTrue (tm_fits head.now) }
-    requires body { length body.now ≤ longest_tm_body }
-    ensures code { result ≡ code_for (Ok (tm_packet head.now body.now)) out.old }
-    ensures buffer { out.new ≡ left_by (Ok (tm_packet head.now body.now)) out.old }
-    ensures needed { needed.new ≡ length (tm_packet head.now body.now) }
+    requires body { rest_len body ≤ longest_tm_body }
+    ensures code { result ≡ code_for (Ok (tm_packet head.now
+        (rest_in body.entry 17 out.old))) out.old }
+    ensures buffer { out.new ≡ left_by (Ok (tm_packet head.now
+        (rest_in body.entry 17 out.old))) out.old }
+    ensures needed { needed.new ≡ length (tm_packet head.now (rest_in body.entry 17 out.old)) }
 {
     let counter = head.counter.to_be_bytes();
     let destination = head.destination.to_be_bytes();

@@ -1,3 +1,4 @@
 pub mod AsBox
 pub mod MemoryLemmas
+mod NextLemmas
 pub mod ReadyLemmas

@@ -23,6 +23,10 @@ memory = step.code_of step_fault.Memory
 abbrev pub still_open : ℕ
 still_open = step.code_of step_fault.StillOpen
 
+-- no transaction of the name is open
+abbrev pub not_open : ℕ
+not_open = step.code_of step_fault.NotOpen
+
 -- there is no job to be read or executed
 abbrev pub no_job : ℕ
 no_job = step.code_of step_fault.NoJob

@@ -22,3 +22,15 @@ left_by (Err fault) old = old
 abbrev pub needed_by : Text → ℕ → ℕ
 needed_by (Ok text) old = length text
 needed_by (Err fault) old = old
+
+-- ---- a buffer that is filled whole
+
+-- what is answered
+abbrev pub code_of : Text → ℕ
+code_of (Ok text) = done
+code_of (Err fault) = fault
+
+-- what the buffer holds afterwards: the text, or all that was there, where there is none
+abbrev pub filled_by : Text → List ℕ → List ℕ
+filled_by (Ok text) old = text
+filled_by (Err fault) old = old

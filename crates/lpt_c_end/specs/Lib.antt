@@ -1,3 +1,4 @@
+pub mod Areas
 pub mod Calls
 pub mod Changes
 pub mod Codes
@@ -9,4 +10,5 @@ pub mod Keeping
 pub mod Ready
 pub mod Refusals
 pub mod Views
+pub mod Walks
 pub mod Words

@@ -6,6 +6,9 @@ pub(crate) const DONE: u32 = 0;
 // A memory of no octets, or of too many.
 pub(crate) const BAD_MEMORIES: u32 = 25;
 
+// No transaction of the name is open.
+pub(crate) const NOT_OPEN: u32 = 45;
+
 // There is no job to be read or executed.
 pub(crate) const NO_JOB: u32 = 51;
 

@@ -39,9 +39,9 @@ pub fn lpt_end_read(alloc: Global, end: &mut LptEnd) -> u32
 /// Executes the oldest request, which has been read: does what it asks of a memory, and says what
 /// became of it. Its reports are to be sent.
 ///
-/// 0; 106 where the handle is empty; 51 where there is no request, as always on ground; 52 where the
-/// oldest wasn't read; 110 where packets are to be sent first; 58 when out of memory. Then nothing
-/// has changed.
+/// 0; 106 where the handle is empty; 51 where there is no request, as always on ground; 52 where
+/// the oldest wasn't read; 110 where packets are to be sent first; 58 when out of memory. Then
+/// nothing has changed.
 pub fn lpt_end_execute(alloc: Global, end: &mut LptEnd, applied: &mut LptApplied) -> u32
     ensures code { IsAnswer (refusal_by execute_refusal end.old.held.value) result }
     ensures done { result ≡ 0 → IfBoth IsExecuted end.old.held.value end.new.held.value }
@@ -86,7 +86,7 @@ pub fn lpt_end_memory(
 
 impl End {
     // The octets of a memory.
-    fn content(&self, id: u8) -> Option<&[u8]>
+    pub(crate) fn content(&self, id: u8) -> Option<&[u8]>
         ensures { option_map (λ x. x.now) result ≡ content_by id self.now.memories }
     {
         match &self.memories {

@@ -1,6 +1,6 @@
 //! One end of the link for C: a whole node, with its memories, behind a handle. The types are those
-//! of `include/lpt_end.h`; the first calls are `lpt_end_new` and `lpt_end_packet`, and docs/C.md has
-//! the rest. `tools/archive.py` makes a static library of these calls.
+//! of `include/lpt_end.h`; the first calls are `lpt_end_new` and `lpt_end_packet`, and docs/C.md
+//! has the rest. `tools/archive.py` makes a static library of these calls.
 //!
 //! Each call is total. It answers 0, or the number of the first fault that applies, and then the
 //! end is as it was; where nothing else refuses it, a call that takes memory may answer that there
@@ -12,6 +12,7 @@
 //! is plain code above `take` and `put`.
 #![tactic(auto)]
 
+mod areas;
 mod box_fields;
 mod codes;
 mod copying;
@@ -28,8 +29,10 @@ mod requesting;
 mod sending;
 mod upkeep;
 mod viewing;
+mod walking;
 mod words;
 
+pub use areas::{LptArea, lpt_end_asked_area, lpt_end_memory_range};
 pub use dropping::{lpt_end_asked, lpt_end_drop};
 pub use executing::{lpt_end_execute, lpt_end_memory, lpt_end_read};
 pub use handle::{LptEnd, LptHeld};
@@ -41,4 +44,5 @@ pub use requesting::lpt_end_plain;
 pub use sending::{lpt_end_finish, lpt_end_open, lpt_end_outgoing, lpt_end_part, lpt_end_sent};
 pub use upkeep::{lpt_end_name, lpt_end_restart, lpt_end_retire, lpt_end_tick};
 pub use viewing::{LptView, lpt_end_view};
+pub use walking::{LptReception, LptSender, lpt_end_missing, lpt_end_reception, lpt_end_sender};
 pub use words::{LptApplied, LptConfig, LptName, LptOutcome};

@@ -19,6 +19,8 @@ pub struct LptView {
     pub clock: u32,
     /// 1 where a reception is due, else 0.
     pub due: u32,
+    /// The value of the clock from which on one is, 0 where no reception is open.
+    pub next_due: u64,
     /// How many packets are to be sent.
     pub outgoing: usize,
     /// How many requests weren't read.
@@ -27,7 +29,8 @@ pub struct LptView {
     pub requests: usize,
 }
 
-/// Tells the clock, whether a reception is due, and how many packets and requests wait.
+/// Tells the clock, whether a reception is due and when the next one is, and how many packets and
+/// requests wait.
 ///
 /// 0; 106 where the handle is empty. The end stays as it is.
 pub fn lpt_end_view(alloc: Global, end: &mut LptEnd, view: &mut LptView) -> u32
@@ -52,6 +55,7 @@ impl End {
         LptView {
             clock: self.node.clock(),
             due: u32::from(is_due),
+            next_due: self.node.receptions().next_due().unwrap_or(0),
             outgoing: self.outbox.len(),
             unread: self.node.waiting() as usize,
             requests: self.node.queued() as usize,

@@ -4,6 +4,7 @@ pub mod Clockless
 pub mod Dropping
 pub mod GroundReports
 pub mod Lemmas
+pub mod Loading
 pub mod Resuming
 pub mod Running
 pub mod Waiting

@@ -2,6 +2,7 @@
 
 ghost use Rattle.lpt_c_pair.specs.Answers.{ZeroIsAlwaysDone};
 ghost use Rattle.lpt_c_pair.specs.Drops.{DroppedIsPassedOver, DropsOldest};
+ghost use Rattle.lpt_c_pair.specs.Loads.{LoadsGoWhereTheySay};
 ghost use Rattle.lpt_c_pair.specs.Pairs.{CallsAreMoves};
 ghost use Rattle.lpt_c_pair.specs.Runs.{EndsOfCKeepThePromise};
 
@@ -33,4 +34,11 @@ pub fn zero_is_done()
 pub fn dropped_is_never_executed()
     ensures drop { DropsOldest }
     ensures execute { DroppedIsPassedOver }
+{}
+
+/// A load that is executed, once it is the oldest request of all, is carried out or refused. Where
+/// it is carried out, its areas are written over the memory that it names, in their order, and
+/// nothing else is; where it is refused, nothing is.
+pub fn loads_go_where_they_say()
+    ensures { LoadsGoWhereTheySay }
 {}
