@@ -1,20 +1,54 @@
 """The spacecraft's end over a stream of packets."""
 
-from .packets import Fault, number_of
+from .packets import Fault, number_of, read_packet
 from .parts import part_count
 from .world import World, parsed
 
 
-def cut(stream):
-    """The packets of a stream, by the lengths that their headers say, and where the rest begins."""
-    packets, at = [], 0
-    while at < len(stream) and stream[at] >> 5 == 0:
-        end = at + 7 + number_of(stream[at + 4 : at + 6])
-        if len(stream) < at + 6 or len(stream) < end:
-            break
-        packets.append(stream[at:end])
+def framed(stream, at):
+    """Where the packet that begins at a place ends, as its header says, or `None` where that is further on."""
+    end = at + 7 + number_of(stream[at + 4 : at + 6])
+    return None if len(stream) < at + 6 or len(stream) < end else end
+
+
+def is_sound(stream, at):
+    """Whether a packet that is no idle one, with a right checksum, begins at a place."""
+    end = framed(stream, at)
+    try:
+        return end is not None and read_packet(stream[at:end]) is not None
+    except Fault:
+        return False
+
+
+def may_come(stream, at):
+    """Whether one may begin there of which more is to come: nothing of its header is wrong."""
+    first, second, third = (stream[at + place : at + place + 2] for place in (0, 2, 4))
+    if framed(stream, at) is not None or first[:1] and first[0] >> 5:
+        return False
+    if len(first) == 2 and (number_of(first) >> 11 & 1 == 0 or number_of(first) & 0x7FF == 0x7FF):
+        return False
+    return not (len(second) == 2 and number_of(second) >> 14 != 3 or len(third) == 2 and number_of(third) == 0)
+
+
+def cut(stream, again=False):
+    """The packets of a stream, by the lengths that their headers say, in their order with the places and
+    the numbers of octets that are passed over, and where the rest begins."""
+    events, at = [], 0
+    while at < len(stream):
+        if stream[at] >> 5:
+            if not again:
+                break
+            end = at + 1
+            while end < len(stream) and not is_sound(stream, end) and not may_come(stream, end):
+                end += 1
+            events.append((at, end - at))
+        else:
+            end = framed(stream, at)
+            if end is None:
+                break
+            events.append(stream[at:end])
         at = end
-    return packets, at
+    return events, at
 
 
 class Spacecraft(World):
@@ -84,13 +118,19 @@ class Spacecraft(World):
         return [octets for direction, octets in self.link.packets if direction == "down"]
 
 
-def serve(settings, contents, stream, every=0, reuse=0):
+def serve(settings, contents, stream, every=0, reuse=0, again=False):
     """What is written, what the memories hold then, where octets are behind the packets, or `None`, and
-    the lines of the log, sorted: a set has no order in which names are freed."""
+    the lines of the log, sorted: a set has no order in which names are freed. Octets that are no packet
+    end it, or are passed over."""
     craft = Spacecraft(settings, contents, reuse)
-    packets, at = cut(stream)
-    for number, packet in enumerate(packets, 1):
-        craft.noting(craft.take_packet, packet)
+    events, at = cut(stream, again)
+    number = 0
+    for event in events:
+        if isinstance(event, tuple):
+            craft.log.append(f"skipped {event[0]} {event[1]}")
+            continue
+        number += 1
+        craft.noting(craft.take_packet, event)
         if every and number % every == 0:
             craft.noting(craft.beat)
             craft.free()
