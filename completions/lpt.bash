@@ -22,10 +22,10 @@ _lpt() {
     list:*) options+=' --json --strict --from --to --layout --quiet' ;;
     split:*) options+=' --parts --count --each --whole --pcap --layout' ;;
     join:*) options+=' --id --first --any --each --from --to --layout --quiet' ;;
-    extract:*) options+=' --at --from --fill --whole --join --quiet' ;;
+    extract:*) options+=' --at --from --fill --whole --join --layout --quiet' ;;
     link:*) options='--lose --repeat --damage --delay --seed --quiet --help --version' ;;
     verify:*) options='--json --quiet --help --version' ;;
-    spacecraft:*) options+=' --memory --save --tick-every --reuse --log --state' ;;
+    spacecraft:*) options+=' --memory --save --tick-every --tick --reuse --resync --log --state' ;;
     compare:*) options+=' --quiet' ;;
     checksum:*) options='--from --length --help --version' ;;
     request:load) options+=' --area --each --ack --count' ;;

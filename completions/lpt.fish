@@ -64,7 +64,7 @@ complete -c lpt -n '__lpt_at chart' -l from -x -d 'The first place of the journa
 complete -c lpt -n '__lpt_at chart' -l to -x -d 'The last place of the journal that is drawn, or the end of the octets'
 complete -c lpt -n '__lpt_at chart' -l refused -d 'Draw the lines that were refused, too'
 complete -c lpt -n '__lpt_at list; or __lpt_at verify' -l json -d 'Print each line as an object of JSON'
-complete -c lpt -n '__lpt_at decode; or __lpt_at list; or __lpt_at split; or __lpt_at join' -l layout -r -F -d "The mission's layouts of headers and parts, a TOML file"
+complete -c lpt -n '__lpt_at decode; or __lpt_at list; or __lpt_at split; or __lpt_at join; or __lpt_at extract' -l layout -r -F -d "The mission's layouts of headers and parts, a TOML file"
 complete -c lpt -n '__lpt_at list' -l strict -d 'End at the first place where no packet is'
 for command in list join
     complete -c lpt -n "__lpt_at $command" -l from -x -d 'The place of the first octet that is read, as list prints it'
@@ -97,7 +97,9 @@ complete -c lpt -n '__lpt_at link' -l seed -x -d 'The seed: the same one gives t
 complete -c lpt -n '__lpt_at spacecraft' -l memory -x -d 'A memory, and the file of its first content'
 complete -c lpt -n '__lpt_at spacecraft' -l save -d 'Write the memories back into their files at the end'
 complete -c lpt -n '__lpt_at spacecraft' -l tick-every -x -d 'Set the clock on behind each N packets'
+complete -c lpt -n '__lpt_at spacecraft' -l tick -x -d 'Set the clock on every MS milliseconds'
 complete -c lpt -n '__lpt_at spacecraft' -l reuse -x -d 'Free a name N ticks after its use'
+complete -c lpt -n '__lpt_at spacecraft' -l resync -d 'Go on behind octets that are no packet'
 complete -c lpt -n '__lpt_at spacecraft' -l log -d 'Tell on standard error what becomes of each packet and request'
 complete -c lpt -n '__lpt_at spacecraft' -l state -r -d 'Keep state and memories in this file, and go on where it says'
 for command in 'request load' 'request dump' 'request check'

@@ -6,12 +6,13 @@ use crate::counts::tell_no_packets;
 use crate::eaches::tell_lost;
 use crate::end::{Failure, Status, tell_place};
 use crate::input::{Packets, opened_packets, packets_end};
+use crate::layout_extracts;
 use crate::progress::Voice;
 use crate::streams::{finish, first_failure, output};
 use lpt_command_line::ExtractWords;
 use lpt_events::Config;
 use lpt_extract::{
-    ExtractEnd, Extracted, Gap, Listener, News, Notice, Others, Outlets, Place, Span, Taker, Tally,
+    ExtractEnd, Extracted, Gap, Hearers, Listener, News, Notice, Others, Place, Span, Taker, Tally,
     Transaction, Wanted, extract_joined, extract_stream,
 };
 use lpt_packet::{Direction, Name};
@@ -21,9 +22,9 @@ use std::alloc::{AllocError, Global};
 
 /// Standard error, which is told of each area, and of each report that isn't read.
 #[derive(Drop)]
-struct Telling<'a> {
-    rt: &'a HostRuntime,
-    voice: Voice,
+pub struct Telling<'a> {
+    pub rt: &'a HostRuntime,
+    pub voice: Voice,
 }
 
 impl Listener for Telling<'_> {
@@ -91,6 +92,9 @@ pub fn extract(
         at,
     };
     let voice = voice.beside_output(rt);
+    if let Some(path) = words.layout {
+        return layout_extracts::extract(rt, voice, path, &wanted, &words.files);
+    }
     let mut source = opened_packets(rt, voice, &words.files, None, None)?;
     let status = if words.join {
         join_packets(rt, voice, config, &wanted, words, &mut source)
@@ -137,8 +141,8 @@ fn join_packets(
         apid: config.apid,
         part_size: config.part_size,
     };
-    let mut outlets = Outlets {
-        out: output(rt)?,
+    let mut out = output(rt)?;
+    let mut hearers = Hearers {
         listener: Telling { rt, voice },
         taker: Losses {
             rt,
@@ -147,11 +151,12 @@ fn join_packets(
             lost: false,
         },
     };
-    let extracted = extract_joined(rt.alloc(), wanted, &transaction, source, &mut outlets);
+    let alloc = rt.alloc();
+    let extracted = extract_joined(alloc, wanted, &transaction, source, &mut out, &mut hearers);
     let failed = matches!(extracted, Err(StreamFault::Read));
     let failure = packets_end(rt, voice, source, &words.files, failed);
-    let lost = outlets.taker.lost;
-    let finished = first_failure(finish(rt, outlets.out), failure);
+    let lost = hearers.taker.lost;
+    let finished = first_failure(finish(rt, out), failure);
     let status = status_of(rt, wanted, finished, &extracted);
     drop(extracted);
     match status {
@@ -190,9 +195,9 @@ fn place(words: &ExtractWords<'_>) -> Result<Option<Place>, ()> {
     }
 }
 
-// The status of an extraction that ended so, after it was told why nothing was written, what is
-// missing, and what was no packet.
-fn extract_status(
+/// The status of an extraction that ended so, after it was told why nothing was written, what is
+/// missing, and what was no packet.
+pub fn extract_status(
     rt: &HostRuntime,
     wanted: &Wanted,
     extracted: &Extracted,

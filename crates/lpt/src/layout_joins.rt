@@ -140,7 +140,8 @@ fn told(
     if !matches!(joined.end, EndAs::Written(_)) {
         tell_skips(rt, reading, from, joined)?;
     }
-    Ok(match tell_left(rt, from, joined)? {
+    let place = joined.heard.place.saturating_add(from);
+    Ok(match tell_left(rt, place, joined.left)? {
         Status::Done => ended,
         status => status,
     })
@@ -313,11 +314,10 @@ fn skip_text(alloc: Global, skip: SkipAs) -> Result<String, AllocError> {
     format!(in alloc; "fault {code} {name}")
 }
 
-// Says where the packets end, where something is left behind them, and gives the status of that.
-// The only error is out of memory.
-fn tell_left(rt: &HostRuntime, from: u64, joined: &JoinedAs) -> Result<Status, AllocError> {
-    let place = joined.heard.place.saturating_add(from);
-    let text = match joined.left {
+/// Says that the packets end at this place, where something is left behind them, and gives the
+/// status of that. The only error is out of memory.
+pub fn tell_left(rt: &HostRuntime, place: u64, left: LeftAs) -> Result<Status, AllocError> {
+    let text = match left {
         LeftAs::Nothing => return Ok(Status::Done),
         LeftAs::Unfinished => format!(in rt.alloc(); "octet {place}: less than a packet"),
         LeftAs::Stray => format!(in rt.alloc(); "octet {place}: no packet"),

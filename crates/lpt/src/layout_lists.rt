@@ -4,12 +4,12 @@ ghost use Rattle.lpt_layout_file.specs.Layouts.{SizesFit};
 
 use crate::end::{Failure, Status, tell_place};
 use crate::input::{Packets, opened_packets, packets_end};
-use crate::layouts::{self, tell_hint};
+use crate::layouts;
 use crate::progress::Voice;
 use crate::streams::{finish, first_failure, output};
 use lpt_command_line::ListWords;
 use lpt_layout_file::Layouts;
-use lpt_layout_list::{Form, Hint, ListEnd, ListedAs, Told, list_layouts};
+use lpt_layout_list::{Form, ListEnd, ListedAs, Told, list_layouts};
 use lpt_text::StreamFault;
 
 /// Lists the packets of a stream by the layouts of the file at this path.
@@ -70,8 +70,7 @@ fn list_status(rt: &HostRuntime, listed: ListedAs) -> Status {
     }
 }
 
-// Tells how many packets fail a test, and by which other layout a part would be read: without a
-// packet error control only where none was read, since a damaged packet may look so.
+// Tells how many packets fail a test, and by which other layout a part would be read.
 fn tell_found(rt: &HostRuntime, told: Told) {
     let refused = told.refused;
     if refused > 0 {
@@ -79,8 +78,5 @@ fn tell_found(rt: &HostRuntime, told: Told) {
             tell_place(rt, text.as_str());
         }
     }
-    match told.hint {
-        Some(Hint::Bare) if told.parts > 0 => {}
-        hint => tell_hint(rt, hint),
-    }
+    layouts::tell_found(rt, told);
 }

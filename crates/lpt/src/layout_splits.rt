@@ -12,6 +12,7 @@ use lpt_command_line::SplitLayoutWords;
 use lpt_events::Config;
 use lpt_layout_file::{Layouts, Tailored};
 use lpt_layout_split::{SplitAs, WantedAs, split_as};
+use lpt_text::write_out;
 use std::alloc::{AllocError, Global};
 
 /// The most octets of time or spare octets.
@@ -65,17 +66,26 @@ fn split_octets(
         user: user_of(words.name, u32::from(config.source), tailored.packets.user),
         id: words.name.id,
         list: words.parts.as_bytes(),
-        first: words.first.min(16_383),
+        first: words.first,
         time: front(&time, time_octets),
         spare: front(&spare, spare_octets),
     };
     let mut out = output(rt)?;
-    let split = split_as(rt.alloc(), &wanted, message, &mut out);
+    let split = if words.whole && is_small(&wanted, message) {
+        write_out(&mut out, message).map(|_| SplitAs::Written)
+    } else {
+        split_as(rt.alloc(), &wanted, message, &mut out)
+    };
     finish(rt, out)?;
     match split {
         Ok(end) => Ok(split_status(rt, &wanted, words, end)),
         Err(fault) => Err(Failure::from(fault)),
     }
+}
+
+// Whether a message has no more octets than a part, and some.
+fn is_small(wanted: &WantedAs<'_>, message: &[u8]) -> bool {
+    !message.is_empty() && message.len() <= wanted.part_size as usize
 }
 
 // So many of these octets, from the first on.

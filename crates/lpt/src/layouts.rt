@@ -6,7 +6,7 @@ ghost use Rattle.lpt_layout_file.specs.Layouts.{SizesFit};
 use crate::configuration::read_file;
 use crate::end::{Failure, tell_place};
 use lpt_layout_file::{Layouts, read_layouts, why_refused};
-use lpt_layout_list::Hint;
+use lpt_layout_list::{Hint, Told, told_in};
 use std::alloc::{AllocError, Global};
 use std::str;
 
@@ -49,12 +49,40 @@ fn complaint(alloc: Global, path: &str, text: &str) -> Result<String, AllocError
 
 /// Says on standard error by which other layout a part would be read, where there is one.
 pub fn tell_hint(rt: &HostRuntime, hint: Option<Hint>) {
+    tell_other(rt, "this layout", "", hint);
+}
+
+/// The same of what was found: that parts would be read without a packet error control is said only
+/// where several packets fail a test and no part is read, since a damaged one may look so.
+pub fn tell_found(rt: &HostRuntime, told: Told) {
+    tell_hint(rt, fit_hint(told));
+}
+
+/// The same of the packets at the front of octets that were read by this project's profile.
+pub fn tell_front(rt: &HostRuntime, octets: &[u8]) {
+    let told = told_in(&Layouts::own(), octets);
+    tell_other(rt, "the profile", " in a file for --layout", fit_hint(told));
+}
+
+// The hint that is told of what was found.
+fn fit_hint(told: Told) -> Option<Hint> {
+    match told.hint {
+        Some(Hint::Bare) if told.parts > 0 || told.refused < 2 => None,
+        hint => hint,
+    }
+}
+
+// Says that a part isn't read by a layout, but would be by another, and where that stands.
+fn tell_other(rt: &HostRuntime, layout: &str, place: &str, hint: Option<Hint>) {
     let text = match hint {
         Some(Hint::Time(octets)) => format!(in rt.alloc();
-            "a part isn't read by this layout, but would be with time = {octets}"
+            "a part isn't read by {layout}, but would be with time = {octets}{place}"
+        ),
+        Some(Hint::Spare(octets)) => format!(in rt.alloc();
+            "a part isn't read by {layout}, but would be with spare = {octets}{place}"
         ),
         Some(Hint::Bare) => format!(in rt.alloc();
-            "a part isn't read by this layout, but would be with checksum = false"
+            "a part isn't read by {layout}, but would be with checksum = false{place}"
         ),
         None => return,
     };

@@ -4,12 +4,17 @@ ghost use Rattle.lpt_events.specs.Configs.{IsConfig};
 
 use crate::end::{Failure, Status, tell_place};
 use crate::input::{Packets, opened_packets, packets_end};
+use crate::layouts::tell_front;
 use crate::progress::Voice;
 use crate::streams::{finish, first_failure, output};
 use lpt_command_line::ListWords;
 use lpt_events::Config;
 use lpt_list::{Form, ListEnd, Listed, Tally, list_stream};
+use lpt_sources::Keeping;
 use lpt_text::StreamFault;
+
+/// So many octets in front are looked at for parts of another layout.
+const FRONT: usize = 131_072;
 
 /// Lists the packets of a stream.
 ///
@@ -25,7 +30,8 @@ pub fn list(
 {
     let voice = voice.beside_output(rt);
     let span = words.span;
-    let mut source = opened_packets(rt, voice, &words.files, span.from, span.to)?;
+    let packets = opened_packets(rt, voice, &words.files, span.from, span.to)?;
+    let mut source = Keeping::new(rt.alloc(), packets, FRONT);
     let status = list_packets(rt, voice, config, words, &mut source);
     drop(source);
     status
@@ -37,7 +43,7 @@ fn list_packets(
     voice: Voice,
     config: &Config,
     words: &ListWords<'_>,
-    source: &mut Packets,
+    source: &mut Keeping<Packets>,
 ) -> Result<Status, Failure>
     requires { IsConfig config.now }
 {
@@ -47,10 +53,15 @@ fn list_packets(
     let mut out = output(rt)?;
     let listed = list_stream(rt.alloc(), form, size, strict, from, source, &mut out);
     let failed = matches!(listed, Err(StreamFault::Read));
-    let failure = packets_end(rt, voice, source, &words.files, failed);
+    let failure = packets_end(rt, voice, source.source(), &words.files, failed);
     first_failure(finish(rt, out), failure)?;
     match listed {
-        Ok(listed) => Ok(list_status(rt, voice, listed)),
+        Ok(listed) => {
+            if voice.tells() {
+                tell_front(rt, source.kept());
+            }
+            Ok(list_status(rt, voice, listed))
+        }
         Err(fault) => Err(Failure::from(fault)),
     }
 }

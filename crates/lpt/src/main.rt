@@ -18,10 +18,12 @@ mod eaches;
 mod end;
 mod extracts;
 mod files;
+mod filling;
 mod glancing;
 mod input;
 mod joins;
 mod keeping;
+mod layout_extracts;
 mod layout_joins;
 mod layout_lists;
 mod layout_splits;
@@ -38,13 +40,13 @@ mod shelling;
 mod spacecraft;
 mod splits;
 mod streams;
+mod ticker;
 mod verifies;
 mod watched;
 mod work;
 
 use configuration::alone;
 use end::{Failure, Status};
-use input::STANDARD;
 use lpt_command_line::{Command, CommandLine, JoinWords, ListWords, read_words};
 use lpt_events::Config;
 use lpt_tool::ToolFault;
@@ -109,7 +111,7 @@ fn done<T: Threads + Wait + Sync>(
     match &asked.command {
         Command::Run(script) => work::run(rt, threads, settings, RunKind::Run, script),
         Command::Threads(script) => work::run(rt, threads, settings, RunKind::Threads, script),
-        Command::Shell => work::run(rt, threads, settings, RunKind::Shell, STANDARD),
+        Command::Shell => shelling::answer(rt, settings),
         Command::Chart(words) if words.stream => glancing::glance(
             rt,
             voice,

@@ -12,6 +12,7 @@ use crate::keeping::StateFile;
 use crate::logging::Log;
 use crate::saving::write_beside;
 use crate::streams::{finish, first_failure, output};
+use crate::ticker::Ticker;
 use lpt_command_line::{SettingWords, SpacecraftWords};
 use lpt_events::Config;
 use lpt_memory::Memories;
@@ -23,7 +24,8 @@ use std::fs;
 
 /// Takes the packets of standard input as the spacecraft does, and writes its reports to standard
 /// output. With `--save` the memories go back into their files, whatever ended it. With `--state`
-/// it goes on from that file, if it is there, and is kept in it before anything is written.
+/// it goes on from that file, if it is there, and is kept in it before anything is written. Octets
+/// that are no packet end it, or with `--resync` are passed over: the status is then the same.
 ///
 /// Errors: `Read` where a file or standard input can't be read, or a file isn't what was kept;
 /// `Config` where the files make no memories; `Write`, also where a file can't be written;
@@ -145,14 +147,25 @@ fn serve_input<H: Keeper>(
     requires idle { IsIdle craft.old }
     requires kept { IsKeptAs (H.kept keeper.old) craft.old }
 {
+    let mut clock = Ticker::new(rt, words.tick)?;
     let mut source = opened(rt, STANDARD)?;
     let mut out = output(rt)?;
     let pace = Pace {
         every: words.tick_every,
+        clocked: words.tick != 0,
         reuse: words.reuse,
+        passing: words.resync,
     };
     let mut log = Log::new(rt, craft.source(), words.log);
-    let ended = serve_stream(craft, pace, &mut source, keeper, &mut log, &mut out);
+    let ended = serve_stream(
+        craft,
+        pace,
+        &mut source,
+        &mut clock,
+        keeper,
+        &mut log,
+        &mut out,
+    );
     let failure = match ended {
         Err(StreamFault::Read) => Some(read_failure(rt, &source, STANDARD)),
         _ => None,
@@ -160,14 +173,15 @@ fn serve_input<H: Keeper>(
     drop(source);
     first_failure(finish(rt, out), failure)?;
     match ended {
-        Ok(stop) => Ok(status_at(rt, stop)),
+        Ok(stop) => Ok(status_at(rt, stop, log.has_skipped())),
         Err(fault) => Err(Failure::from(fault)),
     }
 }
 
-// The status of work that stopped there, which is told.
-fn status_at(rt: &HostRuntime, stop: Stop) -> Status {
+// The status of work that stopped there, which is told, and that passed over octets or didn't.
+fn status_at(rt: &HostRuntime, stop: Stop, has_skipped: bool) -> Status {
     let text = match stop {
+        Stop::End if has_skipped => return Status::Refused,
         Stop::End => return Status::Done,
         Stop::Cut(place) => format!(in rt.alloc(); "octet {place}: the last packet isn't whole"),
         Stop::Stray(place) => format!(in rt.alloc(); "octet {place}: no packet begins there"),

@@ -5,7 +5,6 @@ use crate::end::{Failure, Status, tell_place};
 use crate::input::{name_of, opened_script};
 use crate::linting::tell_unreadable;
 use crate::recalled::{Kept, Script};
-use crate::shelling::answer_lines;
 use crate::streams::{finish, output};
 use lpt_command_line::SettingWords;
 use lpt_events::{Config, Turns};
@@ -25,8 +24,6 @@ pub enum RunKind {
     Run,
     /// They are run, and ten threads after their events.
     Threads,
-    /// They are answered one by one.
-    Shell,
 }
 
 /// Runs a script on a new world: the one at this path, or standard input for `-`. The world is that of
@@ -78,7 +75,6 @@ fn lines_run<T: Threads + Wait + Sync>(
     let alloc = rt.alloc();
     let ran = match way {
         RunKind::Run => run_script(alloc, config, memories, source, &mut out),
-        RunKind::Shell => answer_lines(rt, config, memories, source, &mut out),
         RunKind::Threads => {
             let ran = run_threads_script(alloc, threads, config, memories, turns, source, &mut out);
             told_full(rt, turns, ran)

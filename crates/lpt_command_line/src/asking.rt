@@ -52,7 +52,7 @@ const ACK: Named = Named {
 };
 
 /// `verify`.
-pub(crate) const VERIFY: Row = Row {
+const VERIFY: Row = Row {
     name: "verify",
     about: "Say what became of requests, by the reports that came",
     words: &[
@@ -118,8 +118,8 @@ const CHECKSUM: Row = Row {
     configured: false,
 };
 
-/// The commands that compare files with reports.
-pub(crate) static COMPARISONS: [Row; 2] = [COMPARE, CHECKSUM];
+/// The commands that look at reports.
+pub(crate) static COMPARISONS: [Row; 3] = [VERIFY, COMPARE, CHECKSUM];
 
 /// The commands with others below them.
 pub(crate) static FAMILIES: [Family; 1] = [Family {

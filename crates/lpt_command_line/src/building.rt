@@ -2,6 +2,7 @@
 
 use crate::asking::{COMPARISONS, FAMILIES};
 use crate::commands::COMMANDS;
+use crate::passes::PASSES;
 use crate::row::{Family, Named, Row, Word};
 use crate::setting_words::SETTINGS;
 use clap::builder::ValueParser;
@@ -50,9 +51,20 @@ pub(crate) fn program<'a>(alloc: Global) -> Result<Command<'a>, AllocError> {
 // The commands of the program.
 fn all_commands<'a>(alloc: Global) -> Result<Vec<Command<'a>>, AllocError> {
     let mut commands = commands_of(alloc, &COMMANDS)?;
-    add_commands(alloc, &mut commands, &COMPARISONS)?;
+    add_passes(alloc, &mut commands)?;
+    add_comparisons(alloc, &mut commands)?;
     add_families(alloc, &mut commands)?;
     Ok(commands)
+}
+
+// Adds those of a pass.
+fn add_passes<'a>(alloc: Global, commands: &mut Vec<Command<'a>>) -> Result<(), AllocError> {
+    add_commands(alloc, commands, &PASSES)
+}
+
+// Adds those that look at reports.
+fn add_comparisons<'a>(alloc: Global, commands: &mut Vec<Command<'a>>) -> Result<(), AllocError> {
+    add_commands(alloc, commands, &COMPARISONS)
 }
 
 // Adds those that have others below them.

@@ -1,8 +1,6 @@
 //! The commands, and the words of each.
 
-use crate::asking::VERIFY;
 use crate::layout_words::LAYOUT;
-use crate::passes::{LINK, SPACECRAFT};
 use crate::row::{Named, Need, Row, Word};
 use clap::ArgAction;
 use clap::builder::ValueParser;
@@ -82,7 +80,7 @@ pub(crate) const COUNT: Named = Named {
 };
 
 /// The commands without others below them.
-pub(crate) static COMMANDS: [Row; 13] = [
+pub(crate) static COMMANDS: [Row; 10] = [
     Row {
         name: "run",
         about: "Run a script on a new world",
@@ -332,11 +330,9 @@ pub(crate) static COMMANDS: [Row; 13] = [
                 other: &[],
                 help: "Take dump reports that come in parts, too",
             },
+            LAYOUT,
             QUIET,
         ],
         configured: true,
     },
-    SPACECRAFT,
-    LINK,
-    VERIFY,
 ];

@@ -1,6 +1,7 @@
 //! The words of the command that extracts the octets of dump reports.
 
 use crate::file_words::files_in;
+use crate::layout_words::layout_in;
 use crate::number_words::number_in;
 use crate::word_fault::WordFault;
 use clap::ArgMatches;
@@ -21,22 +22,29 @@ pub struct ExtractWords<'a> {
     pub whole: bool,
     /// Whether reports may come in parts.
     pub join: bool,
+    /// The path of the layouts, where one is given.
+    pub layout: Option<&'a str>,
 }
 
 /// What the words of `extract` ask for.
 ///
-/// Errors: `Missing`, `Memory`, `Address`.
+/// Errors: `Beside`, `Missing`, `Memory`, `Address`.
 pub fn extract_words<'a>(
     alloc: Global,
     matches: &ArgMatches<'a>,
 ) -> Result<ExtractWords<'a>, WordFault<'a>> {
+    let (join, layout) = (matches.get_flag("join"), layout_in(matches));
+    if join && layout.is_some() {
+        return Err(WordFault::Beside("--join", "--layout <FILE>"));
+    }
     Ok(ExtractWords {
         files: files_in(alloc, matches)?,
         at: matches.get_one("at"),
         from: from_in(matches)?,
         fill: matches.get_one("fill"),
         whole: matches.get_flag("whole"),
-        join: matches.get_flag("join"),
+        join,
+        layout,
     })
 }
 

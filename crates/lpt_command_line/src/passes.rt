@@ -6,7 +6,7 @@ use clap::ArgAction;
 use clap::builder::ValueParser;
 
 /// `link`.
-pub(crate) const LINK: Row = Row {
+const LINK: Row = Row {
     name: "link",
     about: "Carry packets over a link that loses",
     words: &[PACKETS],
@@ -57,7 +57,7 @@ pub(crate) const LINK: Row = Row {
 };
 
 /// `spacecraft`.
-pub(crate) const SPACECRAFT: Row = Row {
+const SPACECRAFT: Row = Row {
     name: "spacecraft",
     about: "Take packets of standard input as the spacecraft does, and write its reports",
     words: &[],
@@ -87,12 +87,28 @@ pub(crate) const SPACECRAFT: Row = Row {
             help: "Set the clock on behind each N packets; without it, or at 0, never",
         },
         Named {
+            name: "tick",
+            value: ValueParser::Unsigned(1, u32::MAX as u64),
+            behind: &["MS"],
+            action: ArgAction::Set,
+            other: &[],
+            help: "Set the clock on every MS milliseconds, as the next packet comes",
+        },
+        Named {
             name: "reuse",
             value: U32,
             behind: &["N"],
             action: ArgAction::Set,
             other: &[],
             help: "Free a name N ticks after its use: nothing older may be on the way",
+        },
+        Named {
+            name: "resync",
+            value: ValueParser::Bool,
+            behind: &[],
+            action: ArgAction::SetTrue,
+            other: &[],
+            help: "Go on behind octets that are no packet: what one carries may be taken for one",
         },
         Named {
             name: "log",
@@ -113,3 +129,6 @@ pub(crate) const SPACECRAFT: Row = Row {
     ],
     configured: true,
 };
+
+/// The commands of a pass.
+pub(crate) static PASSES: [Row; 2] = [SPACECRAFT, LINK];

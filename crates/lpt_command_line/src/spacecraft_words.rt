@@ -13,8 +13,12 @@ pub struct SpacecraftWords<'a> {
     pub save: bool,
     /// Behind how many packets a tick comes, or never at 0.
     pub tick_every: u64,
+    /// After how many milliseconds one comes, or never at 0.
+    pub tick: u32,
     /// How many ticks after its use a name is free again, or never at 0.
     pub reuse: u32,
+    /// Whether octets with which no packet can begin are passed over.
+    pub resync: bool,
     /// Whether all that happens is told.
     pub log: bool,
     /// The file in which the state and the memories are kept.
@@ -23,11 +27,16 @@ pub struct SpacecraftWords<'a> {
 
 /// What the words of `spacecraft` ask for.
 ///
-/// Errors: `Memory`, and what is wrong with a memory's word.
+/// Errors: `Beside`, `Memory`, and what is wrong with a memory's word.
 pub fn spacecraft_words<'a>(
     alloc: Global,
     matches: &ArgMatches<'a>,
 ) -> Result<SpacecraftWords<'a>, WordFault<'a>> {
+    let every: Option<u64> = matches.get_one("tick-every");
+    let tick: Option<u32> = matches.get_one("tick");
+    if every.is_some() && tick.is_some() {
+        return Err(WordFault::Beside("--tick <MS>", "--tick-every <N>"));
+    }
     let mut memories = Vec::new(alloc);
     if let Some(words) = matches.get_strs("memory") {
         for word in words {
@@ -39,8 +48,10 @@ pub fn spacecraft_words<'a>(
     Ok(SpacecraftWords {
         memories,
         save: matches.get_flag("save"),
-        tick_every: matches.get_one("tick-every").unwrap_or(0),
+        tick_every: every.unwrap_or(0),
+        tick: tick.unwrap_or(0),
         reuse: matches.get_one("reuse").unwrap_or(0),
+        resync: matches.get_flag("resync"),
         log: matches.get_flag("log"),
         state: matches.get_str("state"),
     })

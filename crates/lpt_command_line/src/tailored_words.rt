@@ -34,6 +34,8 @@ pub struct SplitLayoutWords<'a> {
     pub parts: &'a str,
     /// The first sequence count, 0 to 16,383.
     pub first: u16,
+    /// Whether a message that has no more octets than a part is written as it is.
+    pub whole: bool,
     ghost counts: { first ≤ 16383 },
 }
 
@@ -62,9 +64,9 @@ pub struct JoinLayoutWords<'a> {
 pub fn split_layout_words<'a>(
     matches: &ArgMatches<'a>,
 ) -> Result<SplitLayoutWords<'a>, WordFault<'a>> {
-    for flag in ["each", "whole", "pcap"] {
+    for (flag, word) in [("each", "--each"), ("pcap", "--pcap")] {
         if matches.get_flag(flag) {
-            return Err(beside(flag));
+            return Err(WordFault::Beside(word, "--layout <FILE>"));
         }
     }
     let word = matches.get_str("ID").ok_or(WordFault::Missing)?;
@@ -75,17 +77,8 @@ pub fn split_layout_words<'a>(
         file: matches.get_str("FILE").ok_or(WordFault::Missing)?,
         parts: list_in(matches)?,
         first: count_in(matches).ok_or(WordFault::Missing)?,
+        whole: matches.get_flag("whole"),
     })
-}
-
-// That this flag doesn't stand beside a layout.
-fn beside<'a>(flag: &str) -> WordFault<'a> {
-    let word = match flag {
-        "each" => "--each",
-        "whole" => "--whole",
-        _ => "--pcap",
-    };
-    WordFault::Beside(word, "--layout <FILE>")
 }
 
 /// What the words of `join --layout` ask for.
