@@ -1,16 +1,15 @@
 -- Where a packet begins behind octets that are none.
-use Rattle.std.proofs.Common.{◌≡◌, ◌⊎◌, ◌∙◌, ◌==◌, ◌&&◌, ◌||◌, not, nat_lt, nat_le, if◌then◌else◌, ap, sym, subst, inl, inr, refl, ℕ, ◌+◌, ◌*◌, ◌/◌, ◌<◌, ◌≤◌, Bool, true, false, List, ◌++◌, length, take, drop, Some, None, arith, take_all}
+use Rattle.std.proofs.Common.{◌≡◌, ◌⊎◌, ◌∙◌, ◌==◌, ◌&&◌, ◌||◌, not, nat_lt, nat_le, if◌then◌else◌, ap, sym, subst, inl, inr, refl, ℕ, ◌+◌, ◌<◌, ◌≤◌, Bool, true, false, List, ◌++◌, length, take, drop, Some, None, arith, take_all}
 use Rattle.std.proofs.lemmas.Bool.Decides.{nat_tests}
-use Rattle.std.proofs.lemmas.List.{take-append-drop, length-take-le}
-use Rattle.std.specs.Prelude.{slice_index}
+use Rattle.std.proofs.lemmas.List.{nil_from_length, take-append-drop, length-take-le}
 use Rattle.lpt_packet.specs.Numbers.{word_at, IsOctets}
 use Rattle.lpt_stream.specs.declared.found.Found.{Found}
 use Rattle.lpt_stream.specs.declared.piece_kind.PieceKind.{PieceKind}
 use Rattle.lpt_stream.specs.declared.piece_kind.PieceKind.TheVariants.{Whole, Damaged, Stray}
 use Rattle.lpt_stream.specs.Fronts.{found_in, shown_piece, Stays}
-use Rattle.lpt_stream.specs.Pieces.{Piece, begins, first_fits, flags_fit, is_framed, is_passed, lookahead, may_begin, piece_at, size_fits, waits}
+use Rattle.lpt_stream.specs.Pieces.{Piece, begins, is_framed, is_passed, lookahead, may_begin, piece_at, waits}
 use Rattle.lpt_stream.proofs.StreamLemmas.{word_at-front}
-use Rattle.lpt_frames.specs.Stretches.{begins_again, IsFront}
+use Rattle.lpt_frames.specs.Stretches.{begins_again, IsFront, NeverBegins}
 
 -- ---- what was found
 
@@ -42,7 +41,7 @@ packet-again b f stays is more =
 pub none-again : (b : List ℕ) (f : Found)
     → Stays false false b (found_in b f)
     → (f.kind ≡ Damaged) ⊎ (f.kind ≡ Stray)
-    → (more : List ℕ) → begins_again (b ++ more) ≡ false
+    → NeverBegins b
 unfolding piece_at
 none-again b f stays is more =
     other_kind (begins false (take lookahead (b ++ more)))
@@ -64,21 +63,6 @@ waiting_parts : (framed step may : Bool)
     → (framed ≡ false) × (may ≡ true)
 waiting_parts true step may h = absurd cc
 waiting_parts false step may h = (refl, h)
-
-first_part : (p q r : Bool) → (p && q && r) ≡ true → p ≡ true
-first_part true q r h = refl
-first_part false true r h = absurd cc
-first_part false false r h = absurd cc
-
-version_part : (p q : Bool) → (p && q) ≡ true → p ≡ true
-version_part true q h = refl
-version_part false q h = absurd cc
-
--- the version's bits alone
-version_alone : (x y : ℕ) (none : Bool) → (256 * x + y) / 8192 ≡ 0 → (none || (x / 32 == 0)) ≡ true
-version_alone x y true h = refl
-version_alone x y false h =
-    let e : x / 32 ≡ 0 = omega (arith, h) in grind (arith, nat_tests, e)
 
 unfinished : (n w : ℕ) → n < 7 + w → n < (if nat_lt n 6 then 6 else 7 + w)
 unfinished n w h = grind (arith, h)
@@ -130,7 +114,7 @@ front-again b octets none =
           omega (arith, size),
           (
             unfinished (length b) (word_at b 4) (omega (arith, size)),
-            ap (λ t. t || (slice_index b 0 / 32 == 0)) e,
+            subst (λ x. may_begin x ≡ true) (sym (nil_from_length b size)) refl,
           ),
         )
     go (inr h) =
@@ -140,12 +124,4 @@ front-again b octets none =
         let may : may_begin b ≡ true = subst (λ x. may_begin x ≡ true) short.1 parts.1 in
         let wants : is_framed b ≡ false = subst (λ x. is_framed x ≡ false) short.1 parts.0 in
         let less : length b < 7 + word_at b 4 = unframed (length b) (word_at b 4) wants in
-        let first : (word_at b 0 / 8192 == 0) ≡ true =
-        version_part _ _ (first_part (first_fits b) (flags_fit b) (size_fits b) may) in
-        let version : word_at b 0 / 8192 ≡ 0 = grind (arith, nat_tests, first) in (
-          short.0,
-          (
-            unfinished (length b) (word_at b 4) less,
-            version_alone (slice_index b 0) (slice_index b 1) (length b == 0) version,
-          ),
-        )
+        (short.0, (unfinished (length b) (word_at b 4) less, may))

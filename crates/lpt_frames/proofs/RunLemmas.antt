@@ -9,7 +9,7 @@ use Rattle.lpt_text.specs.declared.fault.StreamFault.{StreamFault}
 use Rattle.lpt_text.specs.declared.fault.StreamFault.TheVariants as faults
 use Rattle.lpt_frames.specs.Buffers.{held, Finds, FindsAgain, IsFoundAgain}
 use Rattle.lpt_frames.specs.Frames.{IsStray}
-use Rattle.lpt_frames.specs.Stretches.{begins_again, IsFront, IsRun}
+use Rattle.lpt_frames.specs.Stretches.{begins_again, IsFront, IsRun, NeverBegins}
 use Rattle.lpt_frames.specs.declared.buffer.FrameBuffer.{FrameBuffer}
 use Rattle.lpt_frames.specs.declared.front.Front.TheVariants.{Stray}
 use Rattle.lpt_frames.proofs.FrameLemmas.{begins-front}
@@ -21,8 +21,16 @@ pub record Passes (first now : List ℕ) (n : ℕ) (before after : Option (List 
   pub some : 0 < n
   pub within : n ≤ length (first ++ read)
   pub left : now ≡ drop n (first ++ read)
-  pub none : (k : ℕ) → 0 < k → k < n → (more : List ℕ)
-      → begins_again (drop k ((first ++ read) ++ more)) ≡ false
+  pub none : (k : ℕ) → 0 < k → k < n → NeverBegins (drop k (first ++ read))
+
+-- behind a place among octets where none begins, with more behind them
+never-behind : (k : ℕ) (w more : List ℕ)
+    → k ≤ length w
+    → NeverBegins (drop k w)
+    → NeverBegins (drop k (w ++ more))
+never-behind k w more within none =
+    subst NeverBegins (sym (drop-append-le k w more within))
+    (λ rest. ap begins_again (append_assoc (drop k w) more rest) ∙ none (more ++ rest))
 
 -- there are such octets
 pub stray-some : (b : List ℕ) → IsStray b → 1 ≤ length b
@@ -51,7 +59,7 @@ passes-first first now a stray left =
       some = omega arith;
       within = subst (λ x. 1 ≤ length x) (sym (append-nil first)) some;
       left = left ∙ ap (drop 1) (sym (append-nil first));
-      none = λ k low high more. absurd (omega (arith, low, high));
+      none = λ k low high. absurd (omega (arith, low, high));
     }
 
 -- more is read
@@ -72,9 +80,9 @@ passes-read first now mid n a b d more h came is =
       within = subst (λ x. n ≤ length x) all (omega (arith, sum, h.within));
       left = is ∙ ap (λ x. x ++ more) h.left
           ∙ sym (drop-append-le n (first ++ h.read) more h.within) ∙ ap (drop n) all;
-      none = λ k low high rest. subst (λ x. begins_again (drop k x) ≡ false)
-          (sym (append_assoc (first ++ h.read) more rest) ∙ ap (λ x. x ++ rest) all)
-          (h.none k low high (more ++ rest));
+      none = λ k low high. subst (λ x. NeverBegins (drop k x)) all
+          (never-behind k (first ++ h.read) more (omega (arith, high, h.within))
+          (h.none k low high));
     }
 
 -- one more is passed over
@@ -93,20 +101,18 @@ passes-on first now next n a b h found is =
       some = omega (arith, h.some);
       within = omega (arith, size, some);
       left = is ∙ ap (drop 1) h.left ∙ drop-drop 1 n w;
-      none = λ k low high more. go k low high more (nat_lt k n) refl;
+      none = λ k low high. go k low high (nat_lt k n) refl;
     }
   where
     length-dropped : (w : List ℕ) (n : ℕ) → n ≤ length w → length (drop n w) + n ≡ length w
     length-dropped w n within = omega (arith, length-drop n w, within)
 
-    go : (k : ℕ) → 0 < k → k < n + 1 → (more : List ℕ) → (t : Bool) → nat_lt k n ≡ t
-        → begins_again (drop k ((first ++ h.read) ++ more)) ≡ false
-    go k low high more true e = h.none k low (grind (arith, nat_tests, e)) more
-    go k low high more false e =
+    go : (k : ℕ) → 0 < k → k < n + 1 → (t : Bool) → nat_lt k n ≡ t
+        → NeverBegins (drop k (first ++ h.read))
+    go k low high true e = h.none k low (grind (arith, nat_tests, e))
+    go k low high false e =
         let same : n ≡ k = grind (arith, nat_tests, e, high) in
-        subst (λ m. begins_again (drop m ((first ++ h.read) ++ more)) ≡ false) same
-        (ap begins_again (drop-append-le n (first ++ h.read) more h.within
-        ∙ ap (λ x. x ++ more) (sym h.left)) ∙ found.1 more)
+        subst (λ m. NeverBegins (drop m (first ++ h.read))) same (subst NeverBegins h.left found.1)
 
 -- both
 pub passes-next : (first now mid next : List ℕ) (n : ℕ) (a b d : Option (List ℕ)) (more : List ℕ)
@@ -135,7 +141,8 @@ run-here first now n a b more h stray next =
       some = h.some;
       within = omega (arith, sum, h.within);
       stray = stray-more (first ++ h.read) more (stray-more first h.read stray);
-      none = λ k low high. h.none k low high more;
+      none = λ k low high. never-behind k (first ++ h.read) more (omega (arith, high, h.within))
+          (h.none k low high);
       next = subst (λ x. (begins_again x ≡ true) ⊎ IsFront x) (sym behind) next;
     }
 

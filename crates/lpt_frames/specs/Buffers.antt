@@ -9,7 +9,7 @@ use Rattle.lpt_frames.specs.declared.buffer.FrameBuffer.{FrameBuffer}
 use Rattle.lpt_frames.specs.declared.front.Front.{Front}
 use Rattle.lpt_frames.specs.declared.front.Front.TheVariants.{Frame, Stray, End}
 use Rattle.lpt_frames.specs.Frames.{IsFound}
-use Rattle.lpt_frames.specs.Stretches.{begins_again, IsFront, IsRun}
+use Rattle.lpt_frames.specs.Stretches.{begins_again, IsFront, IsRun, NeverBegins}
 
 -- the octets that were read and not passed over yet
 abbrev pub held : FrameBuffer → List ℕ
@@ -44,7 +44,7 @@ Fills (Err faults.Memory) old new before after had failed =
 -- checksum, whatever comes behind, or none.
 abbrev pub IsFoundAgain : Front → List ℕ → Type 0
 IsFoundAgain (Frame len) b = (more : List ℕ) → begins_again (b ++ more) ≡ true
-IsFoundAgain Stray b = (0 < length b) × ((more : List ℕ) → begins_again (b ++ more) ≡ false)
+IsFoundAgain Stray b = (0 < length b) × NeverBegins b
 IsFoundAgain End b = ⊥
 
 -- the same by the rule that holds there, in step or behind such octets

@@ -1,8 +1,8 @@
 -- A stream cut into packets, where octets with which none can begin are passed over.
 use Rattle.std.specs.Prelude.{◌≡◌, ◌⊎◌, ◌<◌, ◌≤◌, ◌++◌, ℕ, Bool, true, false, List, [], ◌∷◌, length, take, drop, ⊤}
-use Rattle.lpt_stream.specs.Pieces.{begins, lookahead}
+use Rattle.lpt_stream.specs.Pieces.{begins, lookahead, may_begin}
 use Rattle.lpt_stream.specs.Streams.{IsUnfinished}
-use Rattle.lpt_frames.specs.Frames.{may_begin, IsFrame, IsStray}
+use Rattle.lpt_frames.specs.Frames.{IsFrame, IsStray}
 
 -- octets of a stream: a frame, or a run that was passed over
 pub data Stretch : Type 0 where
@@ -33,17 +33,21 @@ frames_in (s ∷ ss) = frame_before s (frames_in ss)
 abbrev pub begins_again : List ℕ → Bool
 begins_again b = begins false (take lookahead b)
 
--- less than a packet, with which one may begin
+-- none does, whatever comes behind them
+abbrev pub NeverBegins : List ℕ → Type 0
+NeverBegins b = (more : List ℕ) → begins_again (b ++ more) ≡ false
+
+-- less than a packet, with which one that isn't idle may begin, as far as its header has come
 abbrev pub IsFront : List ℕ → Type 0
 IsFront b = IsUnfinished b × (may_begin b ≡ true)
 
--- The first n of these octets are a run: with them no packet begins, nor does one within them;
--- behind them one does, or less than a packet comes.
+-- The first n of these octets are a run: with them no packet begins, nor can one within them,
+-- whatever comes behind them all; behind them one does, or less than a packet comes.
 pub record IsRun (n : ℕ) (b : List ℕ) : Type 0 where
   pub some : 0 < n
   pub within : n ≤ length b
   pub stray : IsStray b
-  pub none : (k : ℕ) → 0 < k → k < n → begins_again (drop k b) ≡ false
+  pub none : (k : ℕ) → 0 < k → k < n → NeverBegins (drop k b)
   pub next : (begins_again (drop n b) ≡ true) ⊎ IsFront (drop n b)
 
 -- each is a frame, or, where runs are passed over, a run, with the others and a rest behind it

@@ -1,1 +1,2 @@
+pub mod KeepingLemmas
 mod SpanLemmas
