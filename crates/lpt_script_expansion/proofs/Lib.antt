@@ -1,2 +1,3 @@
+pub mod FilledLemmas
 mod ListLemmas
 pub mod ReadLemmas

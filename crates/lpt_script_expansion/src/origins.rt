@@ -12,7 +12,11 @@ use std::alloc::{AllocError, Global};
 #[derive(Clone, Copy)]
 pub enum Origin {
     /// The part of this number of a message.
-    Part(Direction, Name, u16),
+    Part {
+        direction: Direction,
+        name: Name,
+        number: u16,
+    },
     /// A plain request of ground.
     Request,
     /// A report of the spacecraft.
@@ -27,7 +31,7 @@ impl Origin {
         ensures { result ≡ way_of self }
     {
         match self {
-            Origin::Part(direction, _, _) | Origin::Noise(direction) => direction,
+            Origin::Part { direction, .. } | Origin::Noise(direction) => direction,
             Origin::Request => Direction::Up,
             Origin::Report => Direction::Down,
         }
@@ -62,7 +66,11 @@ fn origin_by(event: &Event) -> Origin
     ensures { result ≡ origin_by event.now }
 {
     match event {
-        Event::Send(direction, name, part) => Origin::Part(*direction, *name, *part),
+        Event::Send(direction, name, part) => Origin::Part {
+            direction: *direction,
+            name: *name,
+            number: *part,
+        },
         Event::Plain(_, _, _, _, _) => Origin::Request,
         Event::Damage(direction, _) => Origin::Noise(*direction),
         _ => Origin::Report,
