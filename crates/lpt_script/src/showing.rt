@@ -38,7 +38,7 @@ pub fn run_show<K: Sink>(
     match show {
         Show::Released => { show_released(alloc, world.config().source, world.released(), out) }
         Show::Packet(number) => put(out, print_packet(alloc, number, world.packet(number))),
-        Show::Memory(id, address, len) => show_memory(alloc, world, id, address, len, out),
+        Show::Memory { id, address, len } => show_memory(alloc, world, id, address, len, out),
         Show::Clear(direction, name) => show_clear(alloc, world, direction, name, out),
         Show::Journal => put(out, print_journal(alloc, world.journal().len() as u64)),
     }

@@ -71,9 +71,15 @@ fn add_origin(text: &mut String, source: u16, origin: Option<Origin>) -> Result<
         ≡ string_bytes text.old ++ origin_text source origin) }
 {
     match origin {
-        Some(Origin::Part(direction, name, part)) => {
+        Some(
+            Origin::Part {
+                direction,
+                name,
+                number,
+            },
+        ) => {
             let (way, message) = (direction.word(), name_word(source, name));
-            write!(text, " {way} {message} {part}")
+            write!(text, " {way} {message} {number}")
         }
         Some(Origin::Request) => text.push_str(" up request"),
         Some(Origin::Report) => text.push_str(" down report"),

@@ -25,7 +25,7 @@ pub(crate) enum View {
     /// `show jobs`: the jobs that aren't executed.
     Jobs,
     /// `show packets FROM TO`: the packets of these numbers.
-    Packets(u64, u64),
+    Packets { from: u64, last: u64 },
 }
 
 // What a line prints that only a shell reads; nothing is said of another.
@@ -93,7 +93,7 @@ fn read_view(line: &[u8]) -> Option<View>
         return None;
     }
     let (from, last) = two_numbers(rest)?;
-    Some(View::Packets(from, last))
+    Some(View::Packets { from, last })
 }
 
 // What is shown whole.
@@ -149,7 +149,7 @@ fn add_view(alloc: Global, text: &mut String, world: &World, view: View) -> Resu
         View::Senders => add_messages(alloc, text, world, Half::Sender),
         View::Receptions => add_messages(alloc, text, world, Half::Receiver),
         View::Jobs => add_jobs(text, world),
-        View::Packets(from, last) => {
+        View::Packets { from, last } => {
             let to = up_to(last, world.packets());
             add_packets(alloc, text, world, from, to)
         }

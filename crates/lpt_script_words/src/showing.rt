@@ -17,7 +17,7 @@ pub enum Show {
     /// `show packet N`: the octets of the packet of this number.
     Packet(u64),
     /// `show memory ID ADDR LEN`: so many octets of a memory, from an address on.
-    Memory(u8, u32, u32),
+    Memory { id: u8, address: u32, len: u32 },
     /// `show clear DIRECTION ID`: whether nothing is left of this transaction.
     Clear(Direction, Name),
     /// `show journal`: how long the journal is.
@@ -57,7 +57,7 @@ fn read_show_memory(rest: &[u8]) -> Option<Show>
     let (id, address, len) = three_words(rest)?;
     let id = read_u8(id)?;
     let (address, len) = read_u32(address).zip(read_u32(len))?;
-    Some(Show::Memory(id, address, len))
+    Some(Show::Memory { id, address, len })
 }
 
 // The words after `show clear`.

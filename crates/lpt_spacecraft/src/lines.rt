@@ -28,7 +28,7 @@ pub fn print_told(alloc: Global, source: u16, told: Told) -> Result<String, Allo
             let direction = direction.word();
             format!(in alloc; "full {direction} {from}\n")
         }
-        Told::Skipped(place, len) => format!(in alloc; "skipped {place} {len}\n"),
+        Told::Skipped { place, len } => format!(in alloc; "skipped {place} {len}\n"),
     }
 }
 

@@ -67,7 +67,8 @@ pub fn serve_stream<P: Peer, C: Clock, H: Keeper, L: Listener, K: Sink>(
                     return stop_at(Stop::Stray(place), out);
                 }
                 let run = buffer.find_again(peer, out)?;
-                listener.tell(Told::Skipped(place, run.len));
+                let len = run.len;
+                listener.tell(Told::Skipped { place, len });
                 place = place.saturating_add(run.len);
                 if run.is_end {
                     return stop_at(end_at(place, buffer.held()), out);

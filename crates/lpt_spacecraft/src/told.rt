@@ -16,8 +16,8 @@ pub enum Told {
     Freed(Direction, Name),
     /// This source has no free name left in this direction.
     UsedUp(Direction, u16),
-    /// So many octets at this place were passed over, the place first: no packet begins there.
-    Skipped(u64, u64),
+    /// So many octets at this place were passed over: no packet begins there.
+    Skipped { place: u64, len: u64 },
 }
 
 /// What became of a packet, and of the request that it released, where it released one.
