@@ -9,11 +9,11 @@ use Rattle.lpt_layout_file.specs.declared.layouts.Tailored.{Tailored}
 
 -- the profile's telemetry, of a part size that isn't known
 abbrev pub own_telemetry : Tailored
-own_telemetry = record { packets = own_tm; parts = own_parts; part_size = None }
+own_telemetry = record { packets = own_tm; time = None; parts = own_parts; part_size = None }
 
 -- and its telecommands
 abbrev pub own_telecommands : Tailored
-own_telecommands = record { packets = own_tc; parts = own_parts; part_size = None }
+own_telecommands = record { packets = own_tc; time = None; parts = own_parts; part_size = None }
 
 -- the profile
 abbrev pub own_layouts : Layouts

@@ -9,6 +9,7 @@ use Rattle.lpt_layout.specs.declared.width.Width.TheVariants.{Absent}
 use Rattle.lpt_layout_file.specs.declared.layouts.Layouts.{Layouts}
 use Rattle.lpt_layout_file.specs.declared.layouts.Tailored.{Tailored}
 use Rattle.lpt_layout_file.specs.Layouts.{own_telemetry, own_telecommands}
+use Rattle.lpt_layout_file.specs.Times.{time_at}
 use Rattle.lpt_layout_file.specs.Values.{flag_at, version_at, header_bits_at, part_bits_at, size_at}
 
 -- the tables that there are
@@ -18,7 +19,7 @@ known_tables = codes "telemetry" ∷ codes "telecommands" ∷ []
 -- the keys of telemetry
 abbrev pub telemetry_keys : List (List ℕ)
 telemetry_keys = codes "checksum" ∷ codes "version" ∷ codes "counter" ∷ codes "destination"
-    ∷ codes "time" ∷ codes "spare" ∷ codes "transaction_id" ∷ codes "part_number"
+    ∷ codes "time" ∷ codes "epoch" ∷ codes "spare" ∷ codes "transaction_id" ∷ codes "part_number"
     ∷ codes "part_size" ∷ []
 
 -- the keys of telecommands
@@ -41,7 +42,7 @@ telemetry_in members =
       version ← version_at members
       counter ← header_bits_at (codes "counter") members
       user ← header_bits_at (codes "destination") members
-      time ← number_at (codes "time") 0 16 (Some 4) members
+      time ← time_at members
       spare ← number_at (codes "spare") 0 255 (Some 0) members
       parts ← parts_in members
       part_size ← size_at members
@@ -51,9 +52,10 @@ telemetry_in members =
           version = version;
           counter = counter;
           user = user;
-          time = time;
+          time = time.octets;
           spare = spare;
         };
+        time = time.code;
         parts = parts;
         part_size = part_size;
       }))
@@ -78,6 +80,7 @@ telecommands_in members =
           time = 0;
           spare = spare;
         };
+        time = None;
         parts = parts;
         part_size = part_size;
       }))

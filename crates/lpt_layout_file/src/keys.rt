@@ -4,12 +4,13 @@
 pub(crate) const TABLES: [&str; 2] = ["telemetry", "telecommands"];
 
 /// The keys of the table of telemetry.
-pub(crate) const TELEMETRY_KEYS: [&str; 9] = [
+pub(crate) const TELEMETRY_KEYS: [&str; 10] = [
     "checksum",
     "version",
     "counter",
     "destination",
     "time",
+    "epoch",
     "spare",
     "transaction_id",
     "part_number",

@@ -4,6 +4,7 @@ ghost use Rattle.std.specs.Prelude.{◌≡◌};
 ghost use Rattle.lpt_layout_file.specs.Layouts.{own_layouts, tailored};
 
 use lpt_layout::{Layout, PartLayout};
+use lpt_layout_time::TimeCode;
 use lpt_packet::Direction;
 
 /// How a mission lays out packets of one type, and the parts in them.
@@ -11,6 +12,8 @@ use lpt_packet::Direction;
 pub struct Tailored {
     /// The headers.
     pub packets: Layout,
+    /// How the time of telemetry says a date, where it is known.
+    pub time: Option<TimeCode>,
     /// The bodies of parts.
     pub parts: PartLayout,
     /// The octets of a part that isn't the last, 1 to 65,535, where they are known.
@@ -34,11 +37,13 @@ impl Layouts {
         Layouts {
             telemetry: Tailored {
                 packets: Layout::own_tm(),
+                time: None,
                 parts: PartLayout::own(),
                 part_size: None,
             },
             telecommands: Tailored {
                 packets: Layout::own_tc(),
+                time: None,
                 parts: PartLayout::own(),
                 part_size: None,
             },

@@ -15,13 +15,16 @@
 //! | `counter` | telemetry | 0, 8 or 16 bits | 16 |
 //! | `destination` | telemetry | 0, 8 or 16 bits | 16 |
 //! | `source` | telecommands | 0, 8 or 16 bits | 16 |
-//! | `time` | telemetry | 0 to 16 octets | 4 |
+//! | `time` | telemetry | 0 to 16 octets, or `"cuc C F"` | 4 |
+//! | `epoch` | telemetry | a day of the years 1900 to 9999 | 1958-01-01 |
 //! | `spare` | both | 0 to 255 octets | 0 |
 //! | `transaction_id` | both | 16 or 32 bits | 16 |
 //! | `part_number` | both | 16 or 32 bits | 16 |
 //! | `part_size` | both | 1 to 65,535 octets | it isn't known |
 //!
-//! Each table and each key may be absent, and there is no other.
+//! Each table and each key may be absent, and there is no other. A time named `cuc C F` has C
+//! octets of seconds, 1 to 4, and F of parts of one, 0 to 3, and with ` p` behind them a preamble
+//! field of one octet in front. Only such a time has an epoch, a date or a text that is one.
 #![tactic(auto)]
 
 mod complaint;
@@ -29,11 +32,13 @@ mod keys;
 mod layouts;
 mod reading;
 mod tables;
+mod times;
 mod values;
 
 pub use complaint::why_refused;
 pub use layouts::{Layouts, Tailored};
 pub use lpt_layout::{Layout, PartLayout};
+pub use lpt_layout_time::TimeCode;
 pub use lpt_packet::Direction;
 pub use lpt_settings::Complaint;
 pub use reading::read_layouts;

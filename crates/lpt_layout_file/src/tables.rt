@@ -8,6 +8,7 @@ ghost use Rattle.lpt_layout_file.specs.Tables.{parts_in, telecommands_at, teleco
 
 use crate::Tailored;
 use crate::keys::{TELECOMMAND_KEYS, TELEMETRY_KEYS};
+use crate::times::time_field;
 use crate::values::{flag, header_bits, part_bits, part_size, version};
 use lpt_layout::{Layout, PartLayout, Width};
 use lpt_settings::{Place, Reason, Wrong, has_only, number, unknown_key};
@@ -22,6 +23,7 @@ pub(crate) fn telemetry(table: &Table) -> Result<Tailored, Wrong<'_>>
         Some(value) => telemetry_of(value),
         None => Ok(Tailored {
             packets: Layout::own_tm(),
+            time: None,
             parts: PartLayout::own(),
             part_size: None,
         }),
@@ -54,7 +56,7 @@ fn telemetry_in(table: &Table) -> Result<Tailored, Wrong<'_>>
     let version = version(table)?;
     let counter = header_bits(table, "counter")?;
     let user = header_bits(table, "destination")?;
-    let time = number(table, "time", 0, 16, Some(4))?;
+    let time = time_field(table)?;
     let spare = number(table, "spare", 0, 255, Some(0))?;
     let parts = parts_in(table)?;
     let part_size = part_size(table)?;
@@ -64,9 +66,10 @@ fn telemetry_in(table: &Table) -> Result<Tailored, Wrong<'_>>
             version,
             counter,
             user,
-            time: time as u8,
+            time: time.octets,
             spare: spare as u8,
         },
+        time: time.code,
         parts,
         part_size,
     })
@@ -81,6 +84,7 @@ pub(crate) fn telecommands(table: &Table) -> Result<Tailored, Wrong<'_>>
         Some(value) => telecommands_of(value),
         None => Ok(Tailored {
             packets: Layout::own_tc(),
+            time: None,
             parts: PartLayout::own(),
             part_size: None,
         }),
@@ -124,6 +128,7 @@ fn telecommands_in(table: &Table) -> Result<Tailored, Wrong<'_>>
             time: 0,
             spare: spare as u8,
         },
+        time: None,
         parts,
         part_size,
     })

@@ -170,13 +170,13 @@ module _ (form : Form) (l : Layouts) (from : ℕ) where
 
   -- or a front part of it
   pub listed-end-part : {A : Type 0} (a b old between new : Option (List ℕ)) (held line : List ℕ)
-      (place : ℕ) (told : Told) (r : Result A StreamFault)
+      (place : ℕ) (told : Told) (end : ListEnd) (r : Result A StreamFault)
       → (h : IsListed form l from a b old between held place told)
-      → (line ≡ []) ⊎ (line ≡ none_line form (place_after from h.frames))
+      → EndsAs form end (place_after from h.frames) held b line
       → IfErr r (λ _. AppendsPart between new line)
       → IfErr r (λ _. ListLeaves form l from a b old new)
-  listed-end-part a b old between new held line place told (Ok x) h which part = tt
-  listed-end-part a b old between new held line place told (Err e) h which part = record {
+  listed-end-part a b old between new held line place told end (Ok x) h ends part = tt
+  listed-end-part a b old between new held line place told end (Err e) h ends part = record {
     stream = h.stream;
     lost = [];
     frames = h.frames;
@@ -184,7 +184,7 @@ module _ (form : Form) (l : Layouts) (from : ℕ) where
     line = line;
     consumed = none_lost a b h.stream h.consumed;
     cut = h.cut;
-    ends = which;
+    ends = inr (end, refl, ends);
     written = part_after old between new _ _ h.writes part;
   }
 
@@ -205,12 +205,6 @@ module _ (form : Form) (l : Layouts) (from : ℕ) where
   rest-ends place at b [] is few at_end = (refl, at_end, refl)
   rest-ends place at b (x ∷ xs) is few at_end =
       (is, inl (few, at_end), omega arith, ap (none_line form) is)
-
-  pub rest-which : (place at : ℕ) (held : List ℕ)
-      → place ≡ at
-      → (rest_line form place held ≡ []) ⊎ (rest_line form place held ≡ none_line form at)
-  rest-which place at [] is = inl refl
-  rest-which place at (x ∷ xs) is = inr (ap (none_line form) is)
 
   -- a front part of the line of the frame in front
   pub listed-part : (a b old between new : Option (List ℕ)) (held : List ℕ) (place len : ℕ)
@@ -300,13 +294,9 @@ module _ (form : Form) (l : Layouts) (from : ℕ) where
         line = h.line;
         consumed = none_lost a b h.stream h.consumed;
         cut = h.cut;
-        ends = last-line end h;
+        ends = inr (end, refl, h.ends);
         written = part_whole old new lines (Appends-kept old mid new lines h.written kept);
-      } where
-        last-line : (end : ListEnd) (h : ListsTo form l from end told a b old mid)
-            → (h.line ≡ []) ⊎ (h.line ≡ none_line form (place_after from h.frames))
-        last-line Whole h = inl h.ends.2
-        last-line (Stopped place) h = inr h.ends.3
+      }
 
 -- how a fault leaves the reader
 pub find-reader : (Over : Type 0) (fault : StreamFault) (x y : FrameBuffer) (a b : Option (List ℕ))

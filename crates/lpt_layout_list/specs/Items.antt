@@ -16,12 +16,13 @@ use Rattle.lpt_part.specs.declared.kind.Kind.{Kind}
 use Rattle.lpt_part.specs.Parts.{Piece}
 use Rattle.lpt_events.specs.Arrivals.{carried_kind}
 use Rattle.lpt_areas.specs.Areas.{areas_in}
-use Rattle.lpt_layout.specs.declared.layout.Layout.{Layout}
 use Rattle.lpt_layout.specs.declared.width.Width.{Width}
 use Rattle.lpt_layout.specs.declared.width.Width.TheVariants.{Absent, Octet, Word, Long}
 use Rattle.lpt_layout.specs.Messages.{Said, message_verdict}
 use Rattle.lpt_layout.specs.Packets.{verdict_as}
 use Rattle.lpt_layout.specs.Parts.{a_size, octets_at, part_verdict_as}
+use Rattle.lpt_layout_time.specs.declared.code.TimeCode.{TimeCode}
+use Rattle.lpt_layout_time.specs.Times.{time_text}
 use Rattle.lpt_layout_file.specs.declared.layouts.Layouts.{Layouts}
 use Rattle.lpt_layout_file.specs.declared.layouts.Tailored.{Tailored}
 use Rattle.lpt_layout_file.specs.Layouts.{tailored}
@@ -66,13 +67,27 @@ abbrev pub octets_items : List ℕ → List ℕ → List Item
 octets_items word [] = []
 octets_items word (b ∷ bs) = AWord word word (encode_lower (b ∷ bs)) ∷ []
 
+-- a date and time of day, where there is one
+abbrev pub date_items : Option (List ℕ) → List Item
+date_items None = []
+date_items (Some text) = AWord (codes "date") (codes "date") text ∷ []
+
+-- the date that octets say, where a code is known by which they say one
+abbrev pub date_said : Option TimeCode → List ℕ → List Item
+date_said None b = []
+date_said (Some c) b = date_items (time_text c b)
+
+-- a time, with its date
+abbrev pub time_items : Option TimeCode → List ℕ → List Item
+time_items code b = octets_items (codes "time") b ++ date_said code b
+
 -- the secondary header of a message
-abbrev pub message_items : Layout → PacketKind → Said → List Item
-message_items l kind s =
+abbrev pub message_items : Tailored → PacketKind → Said → List Item
+message_items t kind s =
     head_items kind s
-    ++ (width_items l.counter (codes "counter") (codes "message_type_counter") s.counter
-    ++ (user_items l.user kind s.user
-    ++ (octets_items (codes "time") s.time ++ octets_items (codes "spare") s.spare)))
+    ++ (width_items t.packets.counter (codes "counter") (codes "message_type_counter") s.counter
+    ++ (user_items t.packets.user kind s.user
+    ++ (time_items t.time s.time ++ octets_items (codes "spare") s.spare)))
 
 -- ---- what it carries
 
@@ -116,7 +131,7 @@ carried_as t kind s =
 
 -- a message: its secondary header, and what it carries
 abbrev pub message_as : Tailored → PacketKind → Said → List Item
-message_as t kind s = message_items t.packets kind s ++ carried_as t kind s
+message_as t kind s = message_items t kind s ++ carried_as t kind s
 
 -- what is behind the primary header, where it is read; or the first test that it fails
 abbrev pub field_as : Tailored → PacketKind → Result Said PusFault → List Item

@@ -136,7 +136,7 @@ IsTooLong from before after =
     (stream : List ℕ) × Consumes before after stream × (18446744073709420531 ≤ from + length stream)
 
 -- the stream was read up to a fault, and a front part of the lines of what was read before is
--- written
+-- written, with the last line only where the stream was read up to where the list ends
 pub record ListLeaves (form : Form) (l : Layouts) (from : ℕ)
     (before after old new : Option (List ℕ)) : Type 0 where
   pub stream : List ℕ
@@ -146,5 +146,6 @@ pub record ListLeaves (form : Form) (l : Layouts) (from : ℕ)
   pub line : List ℕ
   pub consumed : Consumes before after (stream ++ lost)
   pub cut : IsCut stream frames rest
-  pub ends : (line ≡ []) ⊎ (line ≡ none_line form (place_after from frames))
+  pub ends : (line ≡ []) ⊎ ((end : ListEnd) × (lost ≡ [])
+      × EndsAs form end (place_after from frames) rest after line)
   pub written : AppendsPart old new (frame_lines form l from frames ++ line)

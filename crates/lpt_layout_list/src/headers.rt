@@ -4,9 +4,11 @@ ghost use Rattle.std.specs.Prelude.{◌≡◌, ◌≤◌, length, IfOk};
 ghost use Rattle.std.specs.String.{string_bytes};
 ghost use Rattle.lpt_list.specs.Items.{Number, Word, item_text, items_text};
 ghost use Rattle.lpt_layout.specs.Messages.{said};
-ghost use Rattle.lpt_layout_list.specs.Items.{head_items, message_items, octets_items, user_items, width_items};
+ghost use Rattle.lpt_layout_list.specs.Items.{date_said, head_items, message_items, octets_items, time_items, user_items, width_items};
 
-use lpt_layout::{Layout, Message, Width};
+use lpt_layout::{Message, Width};
+use lpt_layout_file::Tailored;
+use lpt_layout_time::{TimeCode, time_text};
 use lpt_list::{Form, joined};
 use lpt_packet::PacketKind;
 use std::alloc::{AllocError, Global};
@@ -16,24 +18,24 @@ use std::alloc::{AllocError, Global};
 pub(crate) fn print_message(
     alloc: Global,
     form: Form,
-    layout: &Layout,
+    tailored: &Tailored,
     kind: PacketKind,
     message: &Message<'_>,
 ) -> Result<String, AllocError>
     ensures { IfOk result (λ t. string_bytes t
-        ≡ items_text form (message_items layout.now kind (said message.now))) }
+        ≡ items_text form (message_items tailored.now kind (said message.now))) }
 {
     let front = print_front(alloc, form, kind, message)?;
     let counter = print_width(
         alloc,
         form,
-        layout.counter,
+        tailored.packets.counter,
         "counter",
         "message_type_counter",
         message.counter,
     )?;
-    let user = print_user(alloc, form, layout.user, kind, message.user)?;
-    let time = print_octets(alloc, form, "time", message.time)?;
+    let user = print_user(alloc, form, tailored.packets.user, kind, message.user)?;
+    let time = print_time(alloc, form, tailored.time, message.time)?;
     let spare = print_octets(alloc, form, "spare", message.spare)?;
     joined(front, joined(counter, joined(user, joined(time, spare)?)?)?)
 }
@@ -114,6 +116,38 @@ fn print_number(
     match form {
         Form::Text => format!(in alloc; " {word} {number}"),
         Form::Json => format!(in alloc; ",\"{name}\":{number}"),
+    }
+}
+
+// A time, with its date where a code is known by which it says one.
+#[tactic(auto, using(lpt_list::proofs::ItemLemmas::items_append))]
+fn print_time(
+    alloc: Global,
+    form: Form,
+    code: Option<TimeCode>,
+    time: &[u8],
+) -> Result<String, AllocError>
+    ensures { IfOk result (λ t. string_bytes t ≡ items_text form (time_items code time.now)) }
+{
+    let octets = print_octets(alloc, form, "time", time)?;
+    joined(octets, print_date(alloc, form, code, time)?)
+}
+
+// The date that a time says, where a code is known by which it says one.
+fn print_date(
+    alloc: Global,
+    form: Form,
+    code: Option<TimeCode>,
+    time: &[u8],
+) -> Result<String, AllocError>
+    ensures { IfOk result (λ t. string_bytes t ≡ items_text form (date_said code time.now)) }
+{
+    let Some(code) = code else {
+        return Ok(String::new(alloc));
+    };
+    match time_text(alloc, &code, time)? {
+        Some(text) => print_word(alloc, form, "date", text.as_str()),
+        None => Ok(String::new(alloc)),
     }
 }
 

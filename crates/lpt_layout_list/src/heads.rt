@@ -96,7 +96,7 @@ fn print_read(
     ensures { IfOk result (λ t. string_bytes t
         ≡ items_text form (message_as tailored.now kind (said message.now))) }
 {
-    let front = print_message(alloc, form, &tailored.packets, kind, message)?;
+    let front = print_message(alloc, form, tailored, kind, message)?;
     joined(front, print_carried(alloc, form, tailored, kind, message)?)
 }
 

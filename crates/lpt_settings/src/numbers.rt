@@ -48,7 +48,7 @@ pub fn number_of_value(
     };
     match natural(integer, least, greatest) {
         Some(number) => Ok(number),
-        None => Err(Wrong::at(key, Reason::OutOfRange(least, greatest))),
+        None => Err(Wrong::at(key, Reason::OutOfRange { least, greatest })),
     }
 }
 

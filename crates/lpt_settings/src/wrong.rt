@@ -13,8 +13,8 @@ pub enum Reason {
     Missing,
     /// The value isn't an integer.
     NotInteger,
-    /// The integer isn't from the first number to the second.
-    OutOfRange(u32, u32),
+    /// The integer isn't from the least to the greatest.
+    OutOfRange { least: u32, greatest: u32 },
     /// The value names no mode.
     NotMode,
     /// The value is neither true nor false.
@@ -23,6 +23,12 @@ pub enum Reason {
     NotHeaderBits,
     /// The value isn't how many bits a field of a part has.
     NotPartBits,
+    /// The value is neither how many octets a time has nor the name of a time code.
+    NotTime,
+    /// The value is no day of the years 1900 to 9999.
+    NotDay,
+    /// No time code is named whose epoch this is.
+    NoTimeCode,
     /// The value isn't an array.
     NotArray,
     /// The value, or the item of the array, isn't a table.
@@ -40,13 +46,16 @@ impl fmt::Display for Reason {
             Reason::Unknown => "no such key",
             Reason::Missing => "has no value",
             Reason::NotInteger => "not an integer",
-            Reason::OutOfRange(least, greatest) => {
+            Reason::OutOfRange { least, greatest } => {
                 return write!(f, "not from {least} to {greatest}");
             }
             Reason::NotMode => "neither \"any\" nor \"strict\"",
             Reason::NotFlag => "neither true nor false",
             Reason::NotHeaderBits => "not 0, 8 or 16",
             Reason::NotPartBits => "neither 16 nor 32",
+            Reason::NotTime => "neither 0 to 16 octets nor a code such as \"cuc 4 3\"",
+            Reason::NotDay => "not a day from 1900-01-01 to 9999-12-31",
+            Reason::NoTimeCode => "means something only where time names a code",
             Reason::NotArray => "not an array of tables",
             Reason::NotTable => "not a table",
             Reason::Count => "not 1 to 16 tables",

@@ -1,9 +1,8 @@
 -- A blank text is a document with no members, which means the profile.
-use Rattle.std.proofs.Common.{◌≡◌, ◌∙◌, None, Some, ap}
+use Rattle.std.proofs.Common.{◌≡◌, ◌∙◌, ap}
 use Rattle.toml.specs.Data.{no_members}
 use Rattle.toml.specs.View.{table_view}
 use Rattle.lpt_settings.proofs.TableLemmas.{parse_document-blank}
-use Rattle.lpt_layout_file.specs.Layouts.{own_layouts}
 use Rattle.lpt_layout_file.specs.Tables.{layouts_of}
 use Rattle.lpt_layout_file.proofs.TableLemmas.{layouts_of-none}
 use Rattle.lpt_layout_file.proofs.reading.read_layouts.Goals as goal

@@ -11,7 +11,7 @@ use Rattle.lpt_frames.specs.Buffers.{held, FindsFrame}
 use Rattle.lpt_list.specs.declared.list_end.ListEnd.TheVariants.{Stopped}
 use Rattle.lpt_list.specs.Lists.{none_line}
 use Rattle.lpt_layout_list.specs.Lists.{frame_line, place_after, rest_end, rest_line, told_with, EndsAs}
-use Rattle.lpt_layout_list.proofs.StreamLemmas.{any-err, find-reader, frame-some, listed-end, listed-end-part, listed-fault, listed-lost, listed-more, listed-most, listed-next, listed-none, listed-part, none-reader, rest-ends, rest-which, stray-ends, told-fits}
+use Rattle.lpt_layout_list.proofs.StreamLemmas.{any-err, find-reader, frame-some, listed-end, listed-end-part, listed-fault, listed-lost, listed-more, listed-most, listed-next, listed-none, listed-part, none-reader, rest-ends, stray-ends, told-fits}
 use Rattle.lpt_layout_list.proofs.listing.list_frames.Goals as goal
 
 pub loop-place-init : goal.loop-place-init
@@ -54,8 +54,9 @@ returns-in-Stray-clause-leaves g c =
     c.loop-place.invariant.at found.1.consumed found.1.behind c.in_ok-len.ensures.same in
     listed-end-part c.args.form c.args.layouts.now c.args.from _ _ _ _ _
     (held c.find_frame.new.self) (none_line c.args.form c.loop-place.place) c.loop-place.place
-    c.loop-place.told c.list_none.result at (inr (ap (none_line c.args.form) at.place_is))
-    c.list_none.ensures.part
+    c.loop-place.told (Stopped c.loop-place.place) c.list_none.result at
+    (stray-ends c.args.form c.args.layouts.now c.args.from c.loop-place.place _ _
+    (held c.find_frame.new.self) at.place_is found.2) c.list_none.ensures.part
 
 pub returns-in-Stray-clause-reader : goal.returns-in-Stray-clause-reader
 returns-in-Stray-clause-reader g c =
@@ -102,11 +103,16 @@ returns-in-End-clause-leaves g c =
     let at = listed-more c.args.form c.args.layouts.now c.args.from _ _ _ _ _ _ _
     (held c.find_frame.new.self) found.0 c.loop-place.place c.loop-place.told
     c.loop-place.invariant.at found.1.consumed found.1.behind c.in_ok-len.ensures.same in
+    let left = c.held.result.now in
+    let after = g.S.Source.remaining c.find_frame.new.peer in
     listed-end-part c.args.form c.args.layouts.now c.args.from _ _ _ _ _
-    (held c.find_frame.new.self) (rest_line c.args.form c.loop-place.place c.held.result.now)
-    c.loop-place.place c.loop-place.told c.list_rest.result at
-    (rest-which c.args.form c.args.layouts.now c.args.from c.loop-place.place _ c.held.result.now
-    at.place_is) c.list_rest.ensures.part
+    (held c.find_frame.new.self) (rest_line c.args.form c.loop-place.place left) c.loop-place.place
+    c.loop-place.told (rest_end c.loop-place.place left) c.list_rest.result at
+    (subst (λ o. EndsAs c.args.form (rest_end c.loop-place.place o)
+    (place_after c.args.from at.frames) (held c.find_frame.new.self) after
+    (rest_line c.args.form c.loop-place.place o)) (sym c.held.ensures)
+    (rest-ends c.args.form c.args.layouts.now c.args.from c.loop-place.place _ _
+    (held c.find_frame.new.self) at.place_is found.2.0 found.2.1)) c.list_rest.ensures.part
 
 pub returns-in-End-clause-reader : goal.returns-in-End-clause-reader
 returns-in-End-clause-reader g c =

@@ -1,0 +1,17 @@
+use Rattle.std.proofs.Common.{◌∙◌, refl, codes}
+use Rattle.toml.proofs.Views.{table_get}
+use Rattle.lpt_layout_file.proofs.times.time.Goals as goal
+
+-- the key is there
+pub returns-in-Some : goal.returns-in-Some
+returns-in-Some c =
+    let entries = c.args.table.now.entries in
+    let found = table_get c.get.result (codes "time") entries c.get.ensures.value in
+    c.time_in.ensures ∙ rw (← rw c.in-Some.is at found) refl
+
+-- the key is absent
+pub returns-in-None : goal.returns-in-None
+returns-in-None c =
+    let entries = c.args.table.now.entries in
+    let found = table_get c.get.result (codes "time") entries c.get.ensures.value in
+    rw (← rw c.in-None.is at found) refl

@@ -1,0 +1,157 @@
+//! How the time of telemetry is laid out.
+
+ghost use Rattle.std.specs.Prelude.{◌≡◌, None, Some, codes};
+ghost use Rattle.std.specs.Result.{result_ok};
+ghost use Rattle.toml.specs.Data.{get_member};
+ghost use Rattle.toml.specs.View.{view, table_view};
+ghost use Rattle.lpt_settings.specs.Numbers.{number_in};
+ghost use Rattle.lpt_layout_file.specs.Times.{code_in, code_or, counted, counts_in, date_or, day_in, day_of, since, time_at, time_in, time_or};
+
+use lpt_layout_time::{EPOCH_1958, TimeCode, day_number};
+use lpt_settings::{Reason, Wrong, number_of_value};
+use toml::{Table, Value};
+use toml_datetime::Datetime;
+
+// The time of telemetry: its octets, and how they say a date where that is known.
+#[derive(Clone, Copy)]
+pub(crate) struct TimeField {
+    pub octets: u8,
+    pub code: Option<TimeCode>,
+}
+
+// The time of a table of telemetry.
+pub(crate) fn time_field(table: &Table) -> Result<TimeField, Wrong<'static>>
+    ensures { result_ok result ≡ time_at (table_view table.now) }
+{
+    let field = time(table)?;
+    match table.get("epoch") {
+        Some(value) => since(field, day_in(value)),
+        None => Ok(field),
+    }
+}
+
+// The same since the epoch of the standard.
+fn time(table: &Table) -> Result<TimeField, Wrong<'static>>
+    ensures { result_ok result ≡ time_or (get_member (codes "time") (table_view table.now)) }
+{
+    match table.get("time") {
+        Some(value) => time_in(value),
+        None => Ok(TimeField {
+            octets: 4,
+            code: None,
+        }),
+    }
+}
+
+// The time that a value says.
+fn time_in(value: &Value) -> Result<TimeField, Wrong<'static>>
+    ensures { result_ok result ≡ time_in (view value.now) }
+{
+    let field = match value.as_str() {
+        Some(text) => code_in(text.as_bytes()),
+        None => octets_in(value),
+    };
+    match field {
+        Some(field) => Ok(field),
+        None => Err(Wrong::at("time", Reason::NotTime)),
+    }
+}
+
+// So many octets as a value says, of which nothing more is known.
+fn octets_in(value: &Value) -> Option<TimeField>
+    ensures { result ≡ code_or None (number_in 0 16 (view value.now)) }
+{
+    match number_of_value(value, "time", 0, 16) {
+        Ok(octets) => Some(TimeField {
+            octets: octets as u8,
+            code: None,
+        }),
+        Err(_) => None,
+    }
+}
+
+// The time by the code of this name.
+fn code_in(text: &[u8]) -> Option<TimeField>
+    ensures { result ≡ code_in text.now }
+{
+    match text {
+        [b'c', b'u', b'c', b' ', counts @ ..] => counts_in(counts),
+        _ => None,
+    }
+}
+
+// The same by what is behind the name's word.
+fn counts_in(counts: &[u8]) -> Option<TimeField>
+    ensures { result ≡ counts_in counts.now }
+{
+    match counts {
+        [coarse, b' ', fine] => counted(false, *coarse, *fine),
+        [coarse, b' ', fine, b' ', b'p'] => counted(true, *coarse, *fine),
+        _ => None,
+    }
+}
+
+// A time of as many octets of seconds, and of parts of one, as two digits say.
+fn counted(preamble: bool, coarse: u8, fine: u8) -> Option<TimeField>
+    ensures { result ≡ counted preamble coarse fine }
+{
+    if !(b'1'..=b'4').contains(&coarse) || !(b'0'..=b'3').contains(&fine) {
+        return None;
+    }
+    let (coarse, fine) = (coarse - b'0', fine - b'0');
+    Some(TimeField {
+        octets: u8::from(preamble) + coarse + fine,
+        code: Some(TimeCode {
+            epoch: EPOCH_1958,
+            preamble,
+            coarse,
+            fine,
+        }),
+    })
+}
+
+// The number of the day that a value is.
+fn day_in(value: &Value) -> Option<u32>
+    ensures { result ≡ day_in (view value.now) }
+{
+    match value.as_datetime() {
+        Some(when) => day_of(*when),
+        None => day_in_text(value.as_str()?),
+    }
+}
+
+// The number of the day that a text is.
+fn day_in_text(text: &str) -> Option<u32>
+    ensures { result ≡ date_or None (Some text.now) }
+{
+    match text.parse::<Datetime>() {
+        Ok(when) => day_of(when),
+        Err(_) => None,
+    }
+}
+
+// The number of the day that is said without a time of day.
+fn day_of(when: Datetime) -> Option<u32>
+    ensures { result ≡ day_of when }
+{
+    match (when.date, when.time) {
+        (Some(date), None) => day_number(date.year, date.month, date.day),
+        _ => None,
+    }
+}
+
+// A time by a code since the beginning of a day.
+fn since(field: TimeField, day: Option<u32>) -> Result<TimeField, Wrong<'static>>
+    ensures { result_ok result ≡ since field field.code day }
+{
+    let Some(code) = field.code else {
+        return Err(Wrong::at("epoch", Reason::NoTimeCode));
+    };
+    let Some(epoch) = day else {
+        return Err(Wrong::at("epoch", Reason::NotDay));
+    };
+    Ok(TimeField {
+        code: Some(TimeCode { epoch, ..code }),
+        ..field
+    })
+}
