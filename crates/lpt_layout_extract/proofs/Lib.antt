@@ -1,2 +1,3 @@
+mod JoinedLemmas
 pub mod OwnLemmas
 pub mod TakeLemmas

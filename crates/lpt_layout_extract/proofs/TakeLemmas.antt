@@ -48,7 +48,8 @@ notices-next w l n (c ∷ bs) b =
     ∙ ap (λ k. notices_in w l (n + length c) bs ++ notices_as w l (up_to_limit k) b) (omega arith))
     ∙ sym (append_assoc first (notices_in w l (n + length c) bs) _)
 
-octets-next : (bs : List (List ℕ)) (b : List ℕ) → octets_in (bs ++ b ∷ []) ≡ octets_in bs + length b
+pub octets-next : (bs : List (List ℕ)) (b : List ℕ)
+    → octets_in (bs ++ b ∷ []) ≡ octets_in bs + length b
 octets-next [] b = omega arith
 octets-next (c ∷ bs) b =
     let more = octets-next bs b in

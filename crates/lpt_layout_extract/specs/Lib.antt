@@ -1,2 +1,4 @@
 pub mod Extracts
 pub mod Inside
+pub mod Joined
+pub mod JoinedInside

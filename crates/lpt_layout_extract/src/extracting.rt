@@ -5,7 +5,7 @@ ghost use Rattle.lpt_text.specs.Streams.{AppendsPart, ReadEnds, WriteEnds};
 ghost use Rattle.lpt_stream.specs.Pieces.{up_to_limit};
 ghost use Rattle.lpt_extract.specs.Extracts.{written_first};
 ghost use Rattle.lpt_layout_join.specs.Hearing as hearing;
-ghost use Rattle.lpt_layout_join.specs.Hearing.{IsEndless, left_at};
+ghost use Rattle.lpt_layout_join.specs.Hearing.{IsEndless};
 ghost use Rattle.lpt_layout_extract.specs.Extracts.{areas_in, octets_in, ExtractsAs, LeavesAs, PacketsLeave};
 ghost use Rattle.lpt_layout_extract.specs.Inside.{IsTaken};
 
@@ -14,7 +14,7 @@ use crate::taking::take_frame;
 use lpt_extract::{Holding, Listener, Wanted, end_extract};
 use lpt_frames::{FrameBuffer, Front};
 use lpt_layout::Layout;
-use lpt_layout_join::LeftAs;
+use lpt_layout_join::{LeftAs, left_at};
 use lpt_text::{Sink, Source, StreamFault};
 use std::alloc::Global;
 
@@ -132,15 +132,4 @@ fn take_frames<S: Source, K: Sink, L: Listener>(
         buffer.skip(len);
     }
     Err(StreamFault::Read)
-}
-
-// What is left at the end of a stream, where these octets are.
-fn left_at(left: &[u8]) -> LeftAs
-    ensures { result ≡ left_at left.now }
-{
-    if left.is_empty() {
-        LeftAs::Nothing
-    } else {
-        LeftAs::Unfinished
-    }
 }

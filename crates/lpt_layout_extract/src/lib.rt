@@ -7,17 +7,20 @@
 //! packets of a layout may have no checksum.
 //!
 //! The main type is `ExtractedAs`. The first call is `extract_as`, with a source, a sink for the
-//! octets, and a `Listener`.
+//! octets, and a `Listener`; or `extract_joined_as`, where reports may come in parts.
 #![tactic(auto)]
 
 mod extracted;
 mod extracting;
+mod joining;
 pub mod laws;
 mod taking;
 
 pub use extracted::ExtractedAs;
 pub use extracting::extract_as;
-pub use lpt_extract::{Extracted, Listener, Wanted};
+pub use joining::extract_joined_as;
+pub use lpt_extract::{Extracted, Hearers, Listener, Wanted};
 pub use lpt_layout::Layout;
-pub use lpt_layout_join::LeftAs;
+pub use lpt_layout_each::TakerAs;
+pub use lpt_layout_join::{LeftAs, ReadingAs};
 pub use lpt_text::{Sink, Source, StreamFault};

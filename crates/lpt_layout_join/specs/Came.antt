@@ -87,6 +87,10 @@ abbrev pub contradicts : List Piece → Piece → Bool
 contradicts qs q =
     is_against (octets_of qs q.number) (size_of qs) (last_of qs) (highest qs) q
 
+-- whether this very part is among those that came
+abbrev pub has_part : List Piece → Piece → Bool
+has_part qs q = if contradicts qs q then false else is_some (octets_of qs q.number)
+
 -- ---- what is kept
 
 -- the parts before the first that contradicts those before it, and the place of its packet

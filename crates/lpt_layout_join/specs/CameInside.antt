@@ -1,11 +1,16 @@
 -- What a value holds of the parts that came.
 use Rattle.std.specs.Prelude.{◌≡◌, ◌≤◌, ℕ, ◌-◌, List, length, Option}
 use Rattle.lpt_layout_join.specs.declared.came.CameAs.{CameAs}
+use Rattle.lpt_layout_join.specs.declared.last_part.LastPart.{LastPart}
 use Rattle.lpt_layout_join.specs.Came.{Came, at, octets_of, size_of, last_of, highest}
 
 -- the octets of the part of a number
 abbrev pub part_at : CameAs → ℕ → Option (List ℕ)
 part_at s n = at s.slots.items (n - 1)
+
+-- the last part
+abbrev pub last_in : CameAs → Option LastPart
+last_in s = s.last
 
 -- what is held is what came
 pub record Shows (c : Came) (s : CameAs) : Type 0 where

@@ -1,5 +1,5 @@
 -- How a message is joined from one stream to another.
-use Rattle.std.specs.Prelude.{◌≡◌, ◌⊎◌, ℕ, Bool, true, false, if◌then◌else◌, ◌&&◌, not, List, length, Option, Some, None, is_some, Result, Ok, Err}
+use Rattle.std.specs.Prelude.{◌≡◌, ℕ, Bool, true, false, if◌then◌else◌, ◌&&◌, not, List, [], length, Option, Some, None, is_some, Result, Ok, Err}
 use Rattle.std.specs.Io.KnownBytes.{Appends, Keeps}
 use Rattle.lpt_layout.specs.Messages.{is_kind}
 use Rattle.lpt_layout.specs.Packets.{verdict_as}
@@ -65,9 +65,18 @@ WritesEnd Missing m old new = Keeps old new
 WritesEnd (BrokenOff place) m old new = Keeps old new
 WritesEnd Several m old new = Keeps old new
 
--- nothing was written, or a front part of the message
-abbrev pub LeavesEnd : Option (List ℕ) → (old new : Option (List ℕ)) → Type 0
-LeavesEnd m old new = Keeps old new ⊎ ((o : List ℕ) × (m ≡ Some o) × AppendsPart old new o)
+-- what is written where it ends so
+abbrev pub written_at : EndAs → (m : Option (List ℕ)) → List ℕ
+written_at (Written n) (Some m) = m
+written_at (Written n) None = []
+written_at (Unfit e) m = []
+written_at Missing m = []
+written_at (BrokenOff place) m = []
+written_at Several m = []
+
+-- a front part of that is written
+abbrev pub LeavesEnd : EndAs → (m : Option (List ℕ)) → (old new : Option (List ℕ)) → Type 0
+LeavesEnd end m old new = AppendsPart old new (written_at end m)
 
 -- it ends so, and that is written
 pub record Ends (r : ReadingAs) (any asked : Bool) (h : Heard) (end : EndAs)

@@ -30,7 +30,7 @@ impl CameAs {
     ghost use Rattle.std.specs.Prelude.{◌≡◌, ◌≤◌, ◌∷◌, ◌++◌, [], length, OnOk, IfOk, None, is_some};
     ghost use Rattle.lpt_packet.specs.Sizes.{longest_packet};
     ghost use Rattle.lpt_layout.specs.Parts.{piece};
-    ghost use Rattle.lpt_layout_join.specs.Came.{Came, nothing_came, highest, is_against, last_of, message_of, octets_of, size_of, step};
+    ghost use Rattle.lpt_layout_join.specs.Came.{Came, nothing_came, has_part, highest, is_against, last_of, message_of, octets_of, size_of, step};
     ghost use Rattle.lpt_layout_join.specs.CameInside.{Shows, part_at};
 
     /// Nothing has come.
@@ -126,6 +126,18 @@ impl CameAs {
         ensures { (c : Came) → Shows c self.now → result ≡ highest c.parts }
     {
         self.slots.len()
+    }
+
+    /// Whether this very part came.
+    pub fn has_part(&self, part: &PartAs<'_>) -> bool
+        requires number { 1 ≤ part.now.number }
+        requires short { length part.now.octets.now ≤ longest_packet }
+        ensures { (c : Came) → Shows c self.now → result ≡ has_part c.parts (piece part.now) }
+    {
+        if self.contradicts(part) {
+            return false;
+        }
+        self.has(part.number)
     }
 
     /// Whether a part of this number came.

@@ -104,7 +104,10 @@ fn in_message<'a>(reading: &ReadingAs, message: &Message<'a>) -> Result<CarriedA
 {
     match part_kind(reading.direction, message.service, message.subtype) {
         Some(kind) => in_body(reading, message, kind),
-        None => Err(SkipAs::OtherType(message.service, message.subtype)),
+        None => Err(SkipAs::OtherType {
+            service: message.service,
+            subtype: message.subtype,
+        }),
     }
 }
 

@@ -5,7 +5,7 @@ ghost use Rattle.std.specs.Io.KnownBytes.{Keeps};
 ghost use Rattle.lpt_text.specs.Streams.{ReadEnds, WriteEnds};
 ghost use Rattle.lpt_layout_join.specs.Came.{message_of};
 ghost use Rattle.lpt_layout_join.specs.Hearing.{Heard, Hears, IsEndless, ShowsHeard, heard};
-ghost use Rattle.lpt_layout_join.specs.Writes.{Ends, LeavesEnd, WritesEnd, end_missing, end_whole, kind_misfit, unfit};
+ghost use Rattle.lpt_layout_join.specs.Writes.{Ends, LeavesEnd, WritesEnd, end_missing, end_of, end_whole, kind_misfit, unfit};
 ghost use Rattle.lpt_layout_join.specs.declared.hearing.LeftAs.{LeftAs};
 
 use crate::{EndAs, HeardAs, JoinedAs, MisfitAs, NameAs, ReadingAs, hear};
@@ -37,7 +37,9 @@ pub fn join_as<S: Source, K: Sink>(
     // What a fault leaves.
     ensures leaves { IfErr result (λ _. Keeps (K.contents out.old) (K.contents out.new)
         ⊎ ((left : LeftAs) × Hears (S.remaining source.old) (S.remaining source.new) left
-        (λ packets. LeavesEnd (message_of (heard reading.now name packets).came.parts)
+        (λ packets. LeavesEnd
+        (end_of reading.now any (is_some name) (heard reading.now name packets))
+        (message_of (heard reading.now name packets).came.parts)
         (K.contents out.old) (K.contents out.new)))) }
     ensures reader { ReadEnds (IsEndless (S.remaining source.old) (S.remaining source.new)) result
         (S.failed source.old) (S.failed source.new) }
@@ -69,7 +71,8 @@ fn write_heard<K: Sink>(
         Ends reading.now any asked h end (K.contents out.old) (K.contents out.new)) }
     ensures fault { IfErr result (λ e. (e ≡ StreamFault.Write) ⊎ (e ≡ StreamFault.Memory)) }
     ensures leaves { (h : Heard) → ShowsHeard h heard.now → IfErr result (λ _.
-        LeavesEnd (message_of h.came.parts) (K.contents out.old) (K.contents out.new)) }
+        LeavesEnd (end_of reading.now any asked h) (message_of h.came.parts)
+        (K.contents out.old) (K.contents out.new)) }
     ensures writer { WriteEnds result (K.failed out.old) (K.failed out.new) }
 {
     if !asked && heard.other.is_some() {
@@ -104,7 +107,8 @@ fn write_message<K: Sink>(
     ensures ok { IfOk result (λ end. WritesEnd end (Some message.now)
         (K.contents out.old) (K.contents out.new)) }
     ensures fault { IfErr result (λ e. e ≡ StreamFault.Write) }
-    ensures leaves { IfErr result (λ _. LeavesEnd (Some message.now)
+    ensures leaves { IfErr result (λ _. LeavesEnd
+        (end_whole message.now (unfit reading.now any message.now)) (Some message.now)
         (K.contents out.old) (K.contents out.new)) }
     ensures writer { WriteEnds result (K.failed out.old) (K.failed out.new) }
 {
@@ -115,8 +119,9 @@ fn write_message<K: Sink>(
     Ok(EndAs::Written(message.len()))
 }
 
-// Why octets aren't fit to be written, where they aren't.
-fn unfit(reading: &ReadingAs, any: bool, octets: &[u8]) -> Option<MisfitAs>
+/// Why octets are no packet of the layout and the direction, where they aren't, and not any are
+/// taken.
+pub fn unfit(reading: &ReadingAs, any: bool, octets: &[u8]) -> Option<MisfitAs>
     ensures { result ≡ unfit reading.now any octets.now }
 {
     if any {

@@ -16,7 +16,7 @@ pub enum SkipAs {
     /// It isn't read as a message of the layout and the direction.
     NoMessage(PusFault),
     /// It is of this service and message subtype, which carries no part.
-    OtherType(u8, u8),
+    OtherType { service: u8, subtype: u8 },
     /// Its body isn't read as a part.
     NoPart(PartFault),
 }

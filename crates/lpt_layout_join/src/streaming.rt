@@ -51,8 +51,8 @@ pub fn hear<S: Source, K: Sink>(
     Err(StreamFault::Read)
 }
 
-// What is left at the end of a stream, where these octets are.
-fn left_at(left: &[u8]) -> LeftAs
+/// What is left at the end of a stream, where these octets are.
+pub fn left_at(left: &[u8]) -> LeftAs
     ensures { result ≡ left_at left.now }
 {
     if left.is_empty() {

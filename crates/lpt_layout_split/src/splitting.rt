@@ -36,7 +36,7 @@ pub fn split_as<K: Sink>(
         (K.contents out.old) (K.contents out.new)) }
     ensures writer { WriteEnds result (K.failed out.old) (K.failed out.new) }
 {
-    let (p, _size) = (wanted.part_size, wanted.first);
+    let p = wanted.part_size;
     if message.len() <= p as usize {
         return Ok(SplitAs::Short(message.len()));
     }
@@ -105,10 +105,7 @@ fn packets(
     let mut count = wanted.first;
     for number in numbers {
         let part = part_at_as(message, wanted.part_size, wanted.id, u32::from(*number));
-        let packet = match part_packet_as(alloc, wanted, count, &part) {
-            Ok(packet) => packet,
-            Err(fault) => return Err(fault),
-        };
+        let packet = part_packet_as(alloc, wanted, count, &part)?;
         match octets.extend_from_slice(packet.as_slice()) {
             Ok(()) => {}
             Err(_) => return Err(LayoutFault::Memory),

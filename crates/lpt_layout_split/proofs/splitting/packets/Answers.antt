@@ -1,5 +1,6 @@
 -- A packet was made, or why not.
 use Rattle.std.proofs.Common.{◌∙◌, ap, length, subst}
+use Rattle.std.proofs.lemmas.Result.{err_from_is_err_and}
 use Rattle.lpt_part.specs.Splitting.{part_count}
 use Rattle.lpt_layout_split.specs.Splits.{packet_as, nth, IsMade, WhyNot}
 use Rattle.lpt_layout_split.proofs.SplitLemmas.{made-more, all-more, fault-more, fault-here, numbers-next}
@@ -16,28 +17,30 @@ loop-number-preserved c =
     let less = c.loop-number-test.true in
     let is = c.next_count-count.ensures.next in
     let part = c.part_at_as-part.ensures ∙ ap (nth w m) c.from.ensures in
-    let made = subst (IsMade w count) part c.in-Ok.ensures.0 in
+    let made = subst (IsMade w count) part c.in_ok-packet.ensures.0 in
     record {
       count = c.next_count-count.ensures.fits;
       left = numbers-next (part_count (length m) w.part_size) ns i less
           c.loop-number.invariant.left;
       made = made-more w m ns c.loop-number.octets.items _ _ i count next less is
-          (c.as_slice.ensures.same ∙ c.in-Ok.ensures.1 ∙ ap (packet_as w count) part)
-          c.in-Ok-extend_from_slice.ensures.items c.loop-number.invariant.made;
+          (c.as_slice.ensures.same ∙ c.in_ok-packet.ensures.1 ∙ ap (packet_as w count) part)
+          c.in-Ok.ensures.items c.loop-number.invariant.made;
       all = λ rest. c.loop-number.invariant.all (all-more w m ns i count next less is made rest);
       first = λ e rest. c.loop-number.invariant.first e
           (fault-more w m ns i count next e less is made rest);
     }
 
 -- why one wasn't
-pub returns-in-Err-clause-fault : goal.returns-in-Err-clause-fault
-returns-in-Err-clause-fault c =
+pub returns-in_err-packet-clause-fault : goal.returns-in_err-packet-clause-fault
+returns-in_err-packet-clause-fault c =
     let w = c.args.wanted.now in
     let m = c.args.message.now in
     let ns = c.args.numbers.now in
     let count = c.loop-number.count in
-    let fault = c.in-Err.fault in
+    let fault = c.in_err-packet.field-0.0 in
     let part = c.part_at_as-part.ensures ∙ ap (nth w m) c.from.ensures in
-    let why = subst (λ q. WhyNot w count q fault) part c.in-Err.ensures in
-    c.loop-number.invariant.first fault
-    (fault-here w m ns c.loop-number.number-index count fault c.loop-number-test.true why)
+    let why = subst (λ q. WhyNot w count q fault) part c.in_err-packet.ensures in
+    let p = err_from_is_err_and c.from_residual.result c.from_residual.ensures.1 in
+    rw (p.1, p.2)
+    (c.loop-number.invariant.first fault
+    (fault-here w m ns c.loop-number.number-index count fault c.loop-number-test.true why))

@@ -1,0 +1,6 @@
+pub mod EachLemmas
+pub mod HeldsLemmas
+mod NameLemmas
+mod StepLemmas
+pub mod TellLemmas
+mod TurnLemmas

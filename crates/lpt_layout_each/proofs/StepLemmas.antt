@@ -1,0 +1,169 @@
+-- What is kept and told, by what a part makes of the others.
+use Rattle.std.proofs.Common.{◌≡◌, ◌∙◌, ap, sym, subst, refl, ℕ, ◌+◌, ◌≤◌, Bool, true, false, if◌then◌else◌, List, Option, Some, None, arith}
+use Rattle.std.specs.Option.{option_map}
+use Rattle.lpt_part.specs.Parts.{Piece}
+use Rattle.lpt_layout_join.specs.declared.came.CameAs.{CameAs}
+use Rattle.lpt_layout_join.specs.declared.reading.ReadingAs.{ReadingAs}
+use Rattle.lpt_layout_join.specs.declared.ending.MisfitAs.{MisfitAs}
+use Rattle.lpt_layout_join.specs.Came.{Came, nothing_came}
+use Rattle.lpt_layout_join.specs.CameInside.{Shows, last_in, part_at}
+use Rattle.lpt_layout_each.specs.declared.held.HeldAs.{HeldAs}
+use Rattle.lpt_layout_each.specs.declared.news.NewsAs.TheVariants as said
+use Rattle.lpt_layout_each.specs.declared.turn.Turn.TheVariants as code
+use Rattle.lpt_layout_each.specs.Eaches.{Held, Turn, Waits, GivesUp, Gives, after, after_all, all_turn, alone, begun, given, is_old, more, step, turn}
+use Rattle.lpt_layout_each.specs.Helds.{Holds, IsTurnOfAll, ShowsSome, Takes}
+use Rattle.lpt_layout_each.specs.News.{News, Dropped, Unfit, dropped}
+
+-- ---- a step
+
+module _ (r : ReadingAs) (any : Bool) (h : Held) (q : Piece) where
+  -- of a part of the last message
+  pub step-old : is_old h.last q ≡ true
+      → after_all h.last h.new (all_turn r any h.all q) ≡ step r any h q
+  unfolding step
+  step-old e =
+      ap (λ (b : Bool). after h.last (if b then Waits h.new else turn r any h.new q)
+      (all_turn r any h.all q)) (sym e)
+
+  -- of another, by what it makes of the new parts
+  new_step : (now : Turn)
+      → is_old h.last q ≡ false
+      → turn r any h.new q ≡ now
+      → after h.last now (all_turn r any h.all q) ≡ step r any h q
+  unfolding step
+  new_step now e is =
+      ap (λ (u : Turn). after h.last u (all_turn r any h.all q)) (sym is)
+      ∙ ap (λ (b : Bool). after h.last (if b then Waits h.new else turn r any h.new q)
+      (all_turn r any h.all q)) (sym e)
+
+  pub step-waits : (c : Came)
+      → is_old h.last q ≡ false
+      → turn r any h.new q ≡ Waits c
+      → after_all h.last c (all_turn r any h.all q) ≡ step r any h q
+  step-waits c e is = new_step (Waits c) e is
+
+  pub step-gives_up : (w : News) (c : Came)
+      → is_old h.last q ≡ false
+      → turn r any h.new q ≡ GivesUp w c
+      → ◌≡◌ {A = Held × Option News} (begun h.last c, Some w) (step r any h q)
+  step-gives_up w c e is = new_step (GivesUp w c) e is
+
+  pub step-gives : (c : Came) (m : List ℕ)
+      → is_old h.last q ≡ false
+      → turn r any h.new q ≡ Gives c m
+      → given c m ≡ step r any h q
+  step-gives c m e is = new_step (Gives c m) e is
+
+-- ---- all parts
+
+-- behind a message, or none
+pub begun-none : (l : Option Came) (last all : Option CameAs) (c : Came)
+    → last ≡ None
+    → all ≡ None
+    → ShowsSome l last
+    → ShowsSome (option_map (λ _. c) l) all
+begun-none None last None c e k h = tt
+begun-none None last (Some s) c e k h = absurd cc
+begun-none (Some d) None all c e k h = absurd h
+begun-none (Some d) (Some t) all c e k h = absurd cc
+
+pub begun-some : (l : Option Came) (last : Option CameAs) (t s : CameAs) (c : Came)
+    → last ≡ Some t
+    → ShowsSome l last
+    → Shows c s
+    → ShowsSome (option_map (λ _. c) l) (Some s)
+begun-some None None t s c e h k = absurd cc
+begun-some None (Some u) t s c e h k = absurd h
+begun-some (Some d) last t s c e h k = k
+
+-- ---- what is told
+
+-- parts that are given up, as they are held
+pub dropped-shown : (c : Came) (s : CameAs)
+    → Shows c s
+    → ◌≡◌ {A = News} (Dropped (λ n. part_at s (n + 1)) (last_in s)) (dropped c)
+dropped-shown c s h =
+    let least : (n : ℕ) → 1 ≤ n + 1 = λ n. omega arith in
+    λ i. Dropped (λ n. h.parts_are (n + 1) (least n) i) (h.last_is i)
+
+-- ---- by what a part makes of all
+
+module _ (l a : Option Came) (c : Came) (q : Piece) (last : Option CameAs) (new : CameAs) where
+  -- they aren't kept
+  pub after_none : (o : Option Turn)
+      → ShowsSome l last
+      → Shows c new
+      → IsTurnOfAll a q None o
+      → Takes (record { last = last; all = None; new = new }, None) (after_all l c o)
+  after_none None h k t = record { holds = record { last = h; all = tt; new = k }; tells = refl }
+  after_none (Some now) h k t = absurd t
+
+  -- parts are missing
+  pub after_waits : (s : CameAs) (o : Option Turn)
+      → ShowsSome l last
+      → Shows c new
+      → IsTurnOfAll a q (Some (code.Waits s)) o
+      → Takes (record { last = last; all = Some s; new = new }, None) (after_all l c o)
+  after_waits s None h k t = absurd t
+  after_waits s (Some now) h k t = go a t where
+    go : (b : Option Came)
+        → IsTurnOfAll b q (Some (code.Waits s)) (Some now)
+        → Takes (record { last = last; all = Some s; new = new }, None) (after_all l c (Some now))
+    go None u = absurd u
+    go (Some d) u =
+        subst (λ (n : Turn). Takes (record { last = last; all = Some s; new = new }, None)
+        (after_all l c (Some n))) (sym u.1)
+        (record { holds = record { last = h; all = u.0; new = k }; tells = refl })
+
+  -- they are given up
+  given_up : (o : Option Turn) (w : News) (d : Came)
+      → o ≡ Some (GivesUp w d)
+      → ShowsSome l last
+      → Shows c new
+      → Takes (record { last = last; all = None; new = new }, None) (after_all l c o)
+  given_up o w d is h k =
+      subst (λ (p : Option Turn). Takes (record { last = last; all = None; new = new }, None)
+      (after_all l c p)) (sym is)
+      (record { holds = record { last = h; all = tt; new = k }; tells = refl })
+
+  pub after_broken : (s : CameAs) (o : Option Turn)
+      → ShowsSome l last
+      → Shows c new
+      → IsTurnOfAll a q (Some (code.Broken s)) o
+      → Takes (record { last = last; all = None; new = new }, None) (after_all l c o)
+  after_broken s None h k t = absurd t
+  after_broken s (Some now) h k t = go a t where
+    go : (b : Option Came)
+        → IsTurnOfAll b q (Some (code.Broken s)) (Some now)
+        → Takes (record { last = last; all = None; new = new }, None) (after_all l c (Some now))
+    go None u = absurd u
+    go (Some d) u = given_up (Some now) (dropped (more d q)) (alone q) (ap Some u.1) h k
+
+  pub after_unfit : (e : MisfitAs) (o : Option Turn)
+      → ShowsSome l last
+      → Shows c new
+      → IsTurnOfAll a q (Some (code.Unfit e)) o
+      → Takes (record { last = last; all = None; new = new }, None) (after_all l c o)
+  after_unfit e None h k t = absurd t
+  after_unfit e (Some now) h k t = go a t where
+    go : (b : Option Came)
+        → IsTurnOfAll b q (Some (code.Unfit e)) (Some now)
+        → Takes (record { last = last; all = None; new = new }, None) (after_all l c (Some now))
+    go None u = absurd u
+    go (Some d) u = given_up (Some now) (Unfit e) nothing_came (ap Some u) h k
+
+-- they are joined to a message
+pub after_gives : (l a : Option Came) (c : Came) (q : Piece) (s : CameAs) (m : List ℕ) (g : HeldAs)
+    (o : Option Turn)
+    → ((b : Option Came) → ShowsSome b (Some s) → Holds (begun b nothing_came) g)
+    → IsTurnOfAll a q (Some (code.Gives s m)) o
+    → Takes (g, Some (said.Given m)) (after_all l c o)
+after_gives l a c q s m g None holds t = absurd t
+after_gives l a c q s m g (Some now) holds t = go a t where
+  go : (b : Option Came)
+      → IsTurnOfAll b q (Some (code.Gives s m)) (Some now)
+      → Takes (g, Some (said.Given m)) (after_all l c (Some now))
+  go None u = absurd u
+  go (Some d) u =
+      subst (λ (n : Turn). Takes (g, Some (said.Given m)) (after_all l c (Some n))) (sym u.1)
+      (record { holds = holds (Some (more d q)) u.0; tells = refl })

@@ -1,0 +1,169 @@
+-- What was told, and what is told further.
+use Rattle.std.proofs.Common.{◌≡◌, ◌≢◌, ◌∙◌, ap, sym, subst, refl, ℕ, Bool, true, false, cond, ◌||◌, ◌==◌, List, [], ◌∷◌, ◌++◌, Option, Some, None, append-nil, append_assoc}
+use Rattle.std.specs.List.{flat_map, list_any}
+use Rattle.std.specs.List.Sorted.{IsStrictlySortedBy}
+use Rattle.std.specs.BTreeMap.{BTreeMap, get, is_at, keys}
+use Rattle.std.specs.Map.{keys_of, lookup}
+use Rattle.std.specs.Ordering.{is_eq}
+use Rattle.std.proofs.lemmas.List.Concat.{flat_map-append}
+use Rattle.lpt_layout_join.specs.declared.came.CameAs.{CameAs}
+use Rattle.lpt_layout_join.specs.declared.names.NameAs.{NameAs}
+use Rattle.lpt_layout_join.specs.declared.reading.ReadingAs.{ReadingAs}
+use Rattle.lpt_layout_join.specs.Came.{highest}
+use Rattle.lpt_layout_join.specs.CameInside.{Shows, last_in, part_at}
+use Rattle.lpt_layout_join.specs.Carried.{carried, same_name}
+use Rattle.lpt_layout_each.specs.declared.held.HeldAs.{HeldAs}
+use Rattle.lpt_layout_each.specs.declared.helds.HeldsAs.{HeldsAs}
+use Rattle.lpt_layout_each.specs.Eaches.{Held, held, left, nothing}
+use Rattle.lpt_layout_each.specs.Helds.{Holds, HoldsEach, IsHeld}
+use Rattle.lpt_layout_each.specs.Names.{name_cmp}
+use Rattle.lpt_layout_each.specs.News.{Event, Hears, News, Dropped, dropped}
+use Rattle.lpt_layout_each.specs.Streams.{Leaves, events_from, left_of, of, told_by}
+use Rattle.lpt_layout_each.proofs.NameLemmas.{name_tied}
+
+-- ---- what was heard
+
+pub hears-nothing : (a : Option (List Event)) → Hears a a []
+hears-nothing None = tt
+hears-nothing (Some xs) = sym (append-nil xs)
+
+pub hears-more : (a b c : Option (List Event)) (xs ys : List Event)
+    → Hears a b xs
+    → Hears b c ys
+    → Hears a c (xs ++ ys)
+hears-more None b c xs ys h k = tt
+hears-more (Some us) None c xs ys h k = absurd h
+hears-more (Some us) (Some vs) None xs ys h k = absurd k
+hears-more (Some us) (Some vs) (Some ws) xs ys h k =
+    k ∙ ap (λ l. l ++ ys) h ∙ append_assoc us xs ys
+
+-- ---- a packet more
+
+pub events-next : (r : ReadingAs) (any : Bool) (before bs : List (List ℕ)) (b : List ℕ)
+    → events_from r any before (bs ++ b ∷ [])
+    ≡ events_from r any before bs ++ told_by r any (before ++ bs) b (carried r b)
+events-next r any before [] b =
+    append-nil (told_by r any before b (carried r b))
+    ∙ ap (λ xs. told_by r any xs b (carried r b)) (sym (append-nil before))
+events-next r any before (x ∷ bs) b =
+    ap (λ es. told_by r any before x (carried r x) ++ es)
+    (events-next r any (before ++ x ∷ []) bs b
+    ∙ ap (λ xs. events_from r any (before ++ x ∷ []) bs ++ told_by r any xs b (carried r b))
+    (append_assoc before (x ∷ []) bs))
+    ∙ sym (append_assoc (told_by r any before x (carried r x))
+    (events_from r any (before ++ x ∷ []) bs)
+    (told_by r any (before ++ x ∷ bs) b (carried r b)))
+
+-- ---- the end
+
+-- nothing is left where nothing came
+left-nothing : left nothing ≡ []
+left-nothing = refl
+
+no_some : {A : Type 0} (x : A) → ◌≡◌ {A = Option A} None (Some x) → ⊥
+no_some x h = cc
+
+-- a name at which something is kept is among the keys
+key-there : (n : NameAs) (es : List (NameAs × HeldAs)) (g : HeldAs)
+    → lookup (is_at (name_cmp n)) es ≡ Some g
+    → list_any (same_name n) (keys_of es) ≡ true
+key-there n [] g h = absurd (no_some g h)
+key-there n (e ∷ es) g h = there (is_eq (name_cmp n e.0)) refl h (key-there n es g) where
+  there : (b : Bool)
+      → is_eq (name_cmp n e.0) ≡ b
+      → cond b (Some e.1) (lookup (is_at (name_cmp n)) es) ≡ Some g
+      → (lookup (is_at (name_cmp n)) es ≡ Some g → list_any (same_name n) (keys_of es) ≡ true)
+      → list_any (same_name n) (keys_of (e ∷ es)) ≡ true
+  there true is k rest =
+      ap (λ b. b || list_any (same_name n) (keys_of es)) (sym (name_tied n e.0) ∙ is)
+  there false is k rest =
+      ap (λ b. b || list_any (same_name n) (keys_of es)) (sym (name_tied n e.0) ∙ is) ∙ rest k
+
+-- these names were told of, and those that are kept still weren't
+pub record IsLeft (r : ReadingAs) (any : Bool) (bs : List (List ℕ))
+    (first now : BTreeMap NameAs HeldAs) (heard hears : Option (List Event)) : Type 0 where
+  pub names : List NameAs
+  pub keys_are : keys first ≡ names ++ keys now
+  pub holds : (n : NameAs) (g : HeldAs) → get name_cmp now n ≡ Some g → Holds (held r any n bs) g
+  pub told : Hears heard hears (flat_map (left_of r any bs) names)
+
+pub left-first : (r : ReadingAs) (any : Bool) (bs : List (List ℕ)) (g : HeldsAs)
+    (heard : Option (List Event))
+    → HoldsEach r any bs g
+    → IsLeft r any bs g.kept g.kept heard heard
+left-first r any bs g heard h = record {
+  names = [];
+  keys_are = refl;
+  holds = λ n k is. subst (λ (o : Option HeldAs). IsHeld (held r any n bs) o) is (h.each n);
+  told = hears-nothing heard;
+}
+
+one_more : (r : ReadingAs) (any : Bool) (bs : List (List ℕ)) (names : List NameAs) (n : NameAs)
+    → flat_map (left_of r any bs) (names ++ n ∷ [])
+    ≡ flat_map (left_of r any bs) names ++ left_of r any bs n
+one_more r any bs names n =
+    flat_map-append (left_of r any bs) names (n ∷ [])
+    ∙ ap (λ es. flat_map (left_of r any bs) names ++ es) (append-nil (left_of r any bs n))
+
+pub left-next : (r : ReadingAs) (any : Bool) (bs : List (List ℕ))
+    (first old new : BTreeMap NameAs HeldAs) (n : NameAs) (g : HeldAs)
+    (heard hear hears : Option (List Event))
+    → IsLeft r any bs first old heard hear
+    → old.entries ≡ (n, g) ∷ new.entries
+    → ((q : NameAs) → get name_cmp new q ≡ cond (is_at (name_cmp n) q) None (get name_cmp old q))
+    → Hears hear hears (left_of r any bs n)
+    → IsLeft r any bs first new heard hears
+left-next r any bs first old new n g heard hear hears h pops gets told = record {
+  names = h.names ++ n ∷ [];
+  keys_are =
+      h.keys_are ∙ ap (λ (es : List (NameAs × HeldAs)). h.names ++ keys_of es) pops
+      ∙ sym (append_assoc h.names (n ∷ []) (keys new));
+  holds = λ q k is. h.holds q k (still q k (is_at (name_cmp n) q) (sym (gets q) ∙ is));
+  told = subst (Hears heard hears) (sym (one_more r any bs h.names n))
+      (hears-more heard hear hears _ _ h.told told);
+} where
+  still : (q : NameAs) (k : HeldAs) (b : Bool)
+      → cond b None (get name_cmp old q) ≡ Some k
+      → get name_cmp old q ≡ Some k
+  still q k true e = absurd (no_some k e)
+  still q k false e = e
+
+pub left-all : (r : ReadingAs) (any : Bool) (bs : List (List ℕ)) (g : HeldsAs)
+    (now : BTreeMap NameAs HeldAs) (heard hears : Option (List Event))
+    → HoldsEach r any bs g
+    → IsLeft r any bs g.kept now heard hears
+    → now.entries ≡ []
+    → (es : List Event) × Leaves r any bs es × Hears heard hears es
+left-all r any bs g now heard hears each h none =
+    let all : keys g.kept ≡ h.names =
+    h.keys_are ∙ ap (λ (es : List (NameAs × HeldAs)). h.names ++ keys_of es) none
+    ∙ append-nil h.names in (
+      flat_map (left_of r any bs) h.names,
+      record {
+        names = h.names;
+        in_order = subst (IsStrictlySortedBy name_cmp) all each.in_order;
+        all = λ n some. subst (λ (ns : List NameAs). list_any (same_name n) ns ≡ true) all
+            (among n some (get name_cmp g.kept n) refl);
+        are = refl;
+      },
+      h.told,
+    ) where
+      among : (n : NameAs)
+          → left_of r any bs n ≢ []
+          → (o : Option HeldAs)
+          → get name_cmp g.kept n ≡ o
+          → list_any (same_name n) (keys g.kept) ≡ true
+      among n some None is =
+          let nothing_came = subst (λ (o : Option HeldAs). IsHeld (held r any n bs) o) is
+          (each.each n) in
+          absurd (some (ap (λ (k : Held). of n (left k)) nothing_came ∙ ap (of n) left-nothing))
+      among n some (Some k) is = key-there n g.kept.entries k is
+
+-- what is left of a name is told
+pub left-told : (n : NameAs) (w : News) (h : Held)
+    → w ≡ dropped h.new
+    → (highest h.new.parts == 0) ≡ false
+    → ◌≡◌ {A = List Event} ((n, w) ∷ []) (of n (left h))
+left-told n w h is some =
+    ap (λ (x : News). (n, x) ∷ []) is
+    ∙ sym (ap (λ (b : Bool). of n (cond b [] (dropped h.new ∷ []))) some)

@@ -1,0 +1,27 @@
+-- What becomes of the parts of a name.
+use Rattle.std.specs.Prelude.{◌≡◌, ℕ, ◌+◌, List, ◌++◌, Option, Some, None, ⊤}
+use Rattle.lpt_layout_join.specs.declared.ending.MisfitAs.{MisfitAs}
+use Rattle.lpt_layout_join.specs.declared.last_part.LastPart.{LastPart}
+use Rattle.lpt_layout_join.specs.declared.names.NameAs.{NameAs}
+use Rattle.lpt_layout_join.specs.Came.{Came, last_of, octets_of}
+
+-- A message became whole; parts were given up that weren't: the octets of part n + 1, where it
+-- came, and the last part, where that did; what parts were joined to is no packet of the direction.
+pub data News : Type 0 where
+  Given : List ℕ → News
+  Dropped : (parts : ℕ → Option (List ℕ)) → (last : Option LastPart) → News
+  Unfit : MisfitAs → News
+
+-- what is told of parts that are given up
+abbrev pub dropped : Came → News
+dropped c = Dropped (λ n. octets_of c.parts (n + 1)) (last_of c.parts)
+
+-- news of a name
+abbrev pub Event : Type 0
+Event = NameAs × News
+
+-- what is known to have been told grows by these
+abbrev pub Hears : (old new : Option (List Event)) → List Event → Type 0
+Hears None new es = ⊤
+Hears (Some xs) None es = ⊥
+Hears (Some xs) (Some ys) es = ys ≡ xs ++ es

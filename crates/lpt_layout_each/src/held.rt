@@ -1,0 +1,172 @@
+//! What is kept of one name.
+
+ghost use Rattle.std.specs.Prelude.{◌≡◌, ◌≤◌, ◌==◌, Bool, Option, length, IfOk};
+ghost use Rattle.std.specs.Option.{option_map};
+ghost use Rattle.lpt_packet.specs.Sizes.{longest_packet};
+ghost use Rattle.lpt_part.specs.Parts.{Piece};
+ghost use Rattle.lpt_layout.specs.Parts.{piece};
+ghost use Rattle.lpt_layout_join.specs.declared.reading.ReadingAs.{ReadingAs};
+ghost use Rattle.lpt_layout_join.specs.Came.{Came, highest, nothing_came};
+ghost use Rattle.lpt_layout_join.specs.CameInside.{Shows};
+ghost use Rattle.lpt_layout_each.specs.Eaches as each;
+ghost use Rattle.lpt_layout_each.specs.Helds.{Holds, IsTurnOfAll, ShowsSome, Takes};
+
+use crate::NewsAs;
+use crate::turn::{Turn, alone, turn_with};
+use lpt_layout::PartAs;
+use lpt_layout_join::{CameAs, ReadingAs};
+use std::alloc::{AllocError, Global};
+
+/// What is kept of one name.
+#[derive(Drop)]
+pub(crate) struct HeldAs {
+    // The parts of the last whole message.
+    pub(crate) last: Option<CameAs>,
+    // All parts that came behind it, as long as they may be parts of one message.
+    pub(crate) all: Option<CameAs>,
+    // Those of them that aren't parts of it.
+    pub(crate) new: CameAs,
+}
+
+impl HeldAs {
+    // Nothing came behind this message.
+    pub(crate) fn behind(alloc: Global, last: Option<CameAs>) -> HeldAs
+        ensures { (l : Option Came) → ShowsSome l last
+            → Holds (each.begun l nothing_came) result }
+    {
+        let all = match &last {
+            None => None,
+            Some(_) => Some(CameAs::new(alloc)),
+        };
+        HeldAs {
+            last,
+            all,
+            new: CameAs::new(alloc),
+        }
+    }
+
+    // Whether nothing is left of what came.
+    pub(crate) fn is_empty(&self) -> bool
+        ensures { (h : each.Held) → Holds h self.now → result ≡ (highest h.new.parts == 0) }
+    {
+        self.new.highest() == 0
+    }
+
+    // What is left.
+    pub(crate) fn into_new(self) -> CameAs
+        ensures { result ≡ self.new }
+    {
+        self.new
+    }
+
+    // Takes a part of the name, and gives what is told of it. The only error is out of memory.
+    pub(crate) fn take(
+        self,
+        alloc: Global,
+        reading: &ReadingAs,
+        any: bool,
+        part: &PartAs<'_>,
+    ) -> Result<(HeldAs, Option<NewsAs>), AllocError>
+        requires number { 1 ≤ part.now.number }
+        requires short { length part.now.octets.now ≤ longest_packet }
+        ensures { (h : each.Held) → Holds h self → IfOk result (λ r.
+            Takes r (each.step reading.now any h (piece part.now))) }
+    {
+        let HeldAs { last, all, new } = self;
+        let old = is_old(&last, part);
+        let all = turn_of_all(alloc, reading, any, all, part)?;
+        if old {
+            return Ok(after_all(alloc, last, new, all));
+        }
+        match turn_with(alloc, reading, any, new, part)? {
+            Turn::Waits(new) => Ok(after_all(alloc, last, new, all)),
+            Turn::Broken(came) => {
+                let held = begin(alloc, last, part)?;
+                Ok((held, Some(NewsAs::Dropped(came))))
+            }
+            Turn::Unfit(misfit) => Ok((HeldAs::behind(alloc, last), Some(NewsAs::Unfit(misfit)))),
+            Turn::Gives(came, message) => Ok((
+                HeldAs::behind(alloc, Some(came)),
+                Some(NewsAs::Given(message)),
+            )),
+        }
+    }
+}
+
+// Whether it is a part of the last message.
+fn is_old(last: &Option<CameAs>, part: &PartAs<'_>) -> bool
+    requires number { 1 ≤ part.now.number }
+    requires short { length part.now.octets.now ≤ longest_packet }
+    ensures { (l : Option Came) → ShowsSome l last.now
+        → result ≡ each.is_old l (piece part.now) }
+{
+    match last {
+        None => false,
+        Some(came) => came.has_part(part),
+    }
+}
+
+// Adds a part to all parts, where they are kept. The only error is out of memory.
+fn turn_of_all(
+    alloc: Global,
+    reading: &ReadingAs,
+    any: bool,
+    all: Option<CameAs>,
+    part: &PartAs<'_>,
+) -> Result<Option<Turn>, AllocError>
+    requires number { 1 ≤ part.now.number }
+    requires short { length part.now.octets.now ≤ longest_packet }
+    ensures { (l : Option Came) → ShowsSome l all → IfOk result (λ o.
+        IsTurnOfAll l (piece part.now) o
+        (each.all_turn reading.now any l (piece part.now))) }
+{
+    match all {
+        None => Ok(None),
+        Some(came) => Ok(Some(turn_with(alloc, reading, any, came, part)?)),
+    }
+}
+
+// This part alone came behind a message. The only error is out of memory.
+fn begin(alloc: Global, last: Option<CameAs>, part: &PartAs<'_>) -> Result<HeldAs, AllocError>
+    requires number { 1 ≤ part.now.number }
+    requires short { length part.now.octets.now ≤ longest_packet }
+    ensures { (l : Option Came) → ShowsSome l last → IfOk result
+        (Holds (each.begun l (each.alone (piece part.now)))) }
+{
+    let all = match &last {
+        None => None,
+        Some(_) => Some(alone(alloc, part)?),
+    };
+    let new = alone(alloc, part)?;
+    Ok(HeldAs { last, all, new })
+}
+
+// What is kept and told by what a part made of all, where it left these new ones.
+fn after_all(
+    alloc: Global,
+    last: Option<CameAs>,
+    new: CameAs,
+    all: Option<Turn>,
+) -> (HeldAs, Option<NewsAs>)
+    ensures { (l a : Option Came) (c : Came) (q : Piece) (o : Option each.Turn)
+        → ShowsSome l last → Shows c new → IsTurnOfAll a q all o
+        → Takes result (each.after_all l c o) }
+{
+    match all {
+        Some(Turn::Gives(came, message)) => {
+            let held = HeldAs::behind(alloc, Some(came));
+            (held, Some(NewsAs::Given(message)))
+        }
+        Some(Turn::Waits(came)) => (held_with(last, Some(came), new), None),
+        Some(Turn::Broken(_came)) => (held_with(last, None, new), None),
+        Some(Turn::Unfit(_misfit)) => (held_with(last, None, new), None),
+        None => (held_with(last, None, new), None),
+    }
+}
+
+// These are kept.
+fn held_with(last: Option<CameAs>, all: Option<CameAs>, new: CameAs) -> HeldAs
+    ensures { result ≡ record { last = last; all = all; new = new } }
+{
+    HeldAs { last, all, new }
+}

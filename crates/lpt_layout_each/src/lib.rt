@@ -1,0 +1,27 @@
+//! The messages of a mission's layout among the packets of a stream, each of every name, in the
+//! order in which they become whole, and what never becomes whole: as `lpt_each` has them of this
+//! project's own profile.
+//!
+//! A name is used again: behind a whole message the next one begins. Parts of the last message that
+//! come again late do no harm, and a next message that has parts of the last one is joined too.
+//!
+//! The main types are `NewsAs`, and `TakerAs`, who is told of them. The first call is `each_as`.
+//! Who does something else with each packet, too, keeps `HeldsAs`, and calls `leave_as` at the end.
+#![tactic(auto)]
+
+mod each;
+mod held;
+mod helds;
+mod leaving;
+mod news;
+mod passing;
+mod turn;
+
+pub use each::{EachedAs, each_as};
+pub use helds::HeldsAs;
+pub use leaving::leave_as;
+pub use lpt_layout::Octets;
+pub use lpt_layout_join::{CameAs, CarriedAs, LeftAs, MisfitAs, NameAs, ReadingAs, SkipAs};
+pub use lpt_text::{Sink, Source, StreamFault};
+pub use news::{NewsAs, TakerAs};
+pub use passing::PassedAs;

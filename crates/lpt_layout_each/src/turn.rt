@@ -1,0 +1,64 @@
+//! What a further part makes of those that came before it.
+
+ghost use Rattle.std.specs.Prelude.{◌≤◌, length, IfOk};
+ghost use Rattle.lpt_packet.specs.Sizes.{longest_packet};
+ghost use Rattle.lpt_layout.specs.Parts.{piece};
+ghost use Rattle.lpt_layout_join.specs.Came.{Came};
+ghost use Rattle.lpt_layout_join.specs.CameInside.{Shows};
+ghost use Rattle.lpt_layout_each.specs.Eaches.{alone, turn};
+ghost use Rattle.lpt_layout_each.specs.Helds.{IsTurn};
+
+use lpt_layout::{Octets, PartAs};
+use lpt_layout_join::{CameAs, MisfitAs, ReadingAs, unfit};
+use std::alloc::{AllocError, Global};
+
+/// What a further part makes of those that came before it.
+#[derive(Drop)]
+pub(crate) enum Turn {
+    /// Parts are missing.
+    Waits(CameAs),
+    /// It contradicts them.
+    Broken(CameAs),
+    /// What they are joined to isn't given out.
+    Unfit(MisfitAs),
+    /// They are whole, and joined to this message.
+    Gives(CameAs, Octets),
+}
+
+// Adds a part to others. The only error is out of memory.
+pub(crate) fn turn_with(
+    alloc: Global,
+    reading: &ReadingAs,
+    any: bool,
+    came: CameAs,
+    part: &PartAs<'_>,
+) -> Result<Turn, AllocError>
+    requires number { 1 ≤ part.now.number }
+    requires short { length part.now.octets.now ≤ longest_packet }
+    ensures { (c : Came) → Shows c came → IfOk result (λ t.
+        IsTurn c (piece part.now) t (turn reading.now any c (piece part.now))) }
+{
+    let mut came = came;
+    came.take(alloc, 0, part)?;
+    if came.against().is_some() {
+        return Ok(Turn::Broken(came));
+    }
+    match came.message(alloc)? {
+        None => Ok(Turn::Waits(came)),
+        Some(message) => match unfit(reading, any, message.as_slice()) {
+            None => Ok(Turn::Gives(came, message)),
+            Some(misfit) => Ok(Turn::Unfit(misfit)),
+        },
+    }
+}
+
+// The parts with which a part begins anew. The only error is out of memory.
+pub(crate) fn alone(alloc: Global, part: &PartAs<'_>) -> Result<CameAs, AllocError>
+    requires number { 1 ≤ part.now.number }
+    requires short { length part.now.octets.now ≤ longest_packet }
+    ensures { IfOk result (Shows (alone (piece part.now))) }
+{
+    let mut came = CameAs::new(alloc);
+    came.take(alloc, 0, part)?;
+    Ok(came)
+}
