@@ -137,9 +137,8 @@ enum LptFault {
     LPT_E_MORE = 104,
     /* The body is no such report. */
     LPT_E_NO_REPORT = 105,
-    /* The handle holds no end; it holds one already. */
+    /* Of an end: it was let go. Bindings say so; no call answers it of the address of an end. */
     LPT_E_EMPTY = 106,
-    LPT_E_FULL = 107,
     /* Of an end: no number is left for a job, or for a restart. */
     LPT_E_NO_NUMBER = 108,
     /* Of an end: there is nothing to copy, or to let go. */
@@ -249,8 +248,6 @@ static inline const char *lpt_fault_name(uint32_t fault) {
         return "no report";
     case LPT_E_EMPTY:
         return "empty";
-    case LPT_E_FULL:
-        return "full";
     case LPT_E_NO_NUMBER:
         return "no number";
     case LPT_E_NOTHING:

@@ -3,16 +3,18 @@
  * spacecraft: which names it knows, what it sends in parts, what it joins, and when it gives a
  * reception up.
  *
- * An end stands behind a handle, an LptEnd, which begins as LPT_END_EMPTY. It is read and written
- * by these calls alone, and is never copied. Each call answers LPT_DONE, or the number of the first
- * thing that is wrong, in the order of its comment; then the end is as it was, and nothing has been
- * written through a pointer but what the comment says. LPT_E_ALLOCATION, out of memory, comes last.
- * docs/FORMATS.md has the faults, docs/C.md what the caller promises:
+ * A program has the address of an end, an LptEnd *, which lpt_end_new or lpt_end_resume gives and
+ * lpt_end_free takes back. A copy of the address names the same end, and what stands there is the
+ * library's. Each call answers LPT_DONE, or the number of the first thing that is wrong, in the
+ * order of its comment; then the end is as it was, and nothing has been written through a pointer
+ * but what the comment says. LPT_E_ALLOCATION, out of memory, comes last. docs/FORMATS.md has the
+ * faults, docs/C.md what the caller promises:
  *
  *   - what include/lpt.h says of lengths, pointers and overlaps;
- *   - one call at a time uses a handle, and none is made from a signal handler. A handle may go to
- *     another thread where a lock, or a thread's start or end, stands between. Calls on different
- *     handles run at once only where the three functions may that give memory;
+ *   - the address of an end is one that was given, and lpt_end_free hasn't taken it back;
+ *   - one call at a time uses an end, and none is made from a signal handler. An end may go to
+ *     another thread where a lock, or a thread's start or end, stands between. Calls of different
+ *     ends run at once only where the three functions may that give memory;
  *   - the rules of lpt_end_new, lpt_end_packet and lpt_end_retire for the two ends of a link;
  *   - the program has the three functions that give memory, LptTried rattle_alloc(..) and so on,
  *     and they do what their comments say.
@@ -37,24 +39,10 @@ enum LptDirection { LPT_DIRECTION_UP = 0, LPT_DIRECTION_DOWN = 1 };
 /* In which order parts are taken: in any, or strictly in that of their numbers. */
 enum LptMode { LPT_MODE_ANY = 0, LPT_MODE_STRICT = 1 };
 
-/* ---- the handle ---- */
+/* ---- an end ---- */
 
-/* The address of an end; not for the caller. */
-typedef struct LptHeld {
-    uint8_t *at;
-} LptHeld;
-
-/* A handle. */
-typedef struct LptEnd {
-    bool full;
-    LptHeld held;
-} LptEnd;
-
-/* A handle that holds no end, to begin with. */
-#define LPT_END_EMPTY                                                                              \
-    {                                                                                              \
-        false, { NULL }                                                                            \
-    }
+/* An end. */
+typedef struct LptEnd LptEnd;
 
 /* What is fixed of an end. Both ends of a link have the same, in every value but the clock. */
 typedef struct LptConfig {
@@ -82,21 +70,22 @@ typedef struct LptMemory {
 } LptMemory;
 
 /*
- * Makes an end into an empty handle. The spacecraft's has these memories, which begin with octets
- * of the content; those are copied. Ground's has none, and neither list nor content is looked at.
+ * Makes an end. The spacecraft's has these memories, which begin with octets of the content; those
+ * are copied. Ground's has none, and neither list nor content is looked at.
  * An end that was freed, or went with its program, and is made anew isn't restarted: it has
  * forgotten which names are used up. So the other end is made anew too then, and no packet of
  * before may come any more.
- * LPT_DONE; LPT_E_FULL; LPT_E_RANGE for another side or mode; LPT_E_CONFIG_APID to
+ * LPT_DONE, and *end is its address; LPT_E_RANGE for another side or mode; LPT_E_CONFIG_APID to
  * LPT_E_CONFIG_OUTGOING; LPT_E_MEMORIES where the spacecraft's aren't 1 to 16 with distinct
  * identifiers, of 1 to 1,048,576 octets each, all of the content; LPT_E_ALLOCATION.
  */
 LPT_MUST_USE
-uint32_t lpt_end_new(LptEnd *end, uint32_t side, const LptConfig *config, const LptMemory *memories,
-                     size_t memories_len, const uint8_t *content, size_t content_len);
+uint32_t lpt_end_new(LptEnd **end, uint32_t side, const LptConfig *config,
+                     const LptMemory *memories, size_t memories_len, const uint8_t *content,
+                     size_t content_len);
 
-/* Lets an end go, and gives all its memory back. The handle is empty then; of an empty handle
-   nothing changes. */
+/* Lets an end go, and gives all its memory back: its address is used no more. Of NULL nothing
+   happens. */
 void lpt_end_free(LptEnd *end);
 
 /* ---- receiving ---- */
@@ -139,14 +128,14 @@ typedef struct LptOutcome {
  * next is taken. A spacecraft that aborts a reception has a report of it to be sent.
  * Where packets begin and end is for the link below to say. Don't search damaged octets for the
  * next packet: a message may hold packets, and one of those would be taken as if it had been sent.
- * LPT_DONE, and *outcome is written; LPT_E_EMPTY; LPT_E_NO_NUMBER; LPT_E_ALLOCATION.
+ * LPT_DONE, and *outcome is written; LPT_E_NO_NUMBER; LPT_E_ALLOCATION.
  */
 LPT_MUST_USE
 uint32_t lpt_end_packet(LptEnd *end, const uint8_t *octets, size_t octets_len, LptOutcome *outcome);
 
 /*
  * Copies the message that the last packet released to the front of a buffer, and leaves the rest of
- * it as it was. LPT_DONE; LPT_E_EMPTY; LPT_E_NOTHING; LPT_E_ROOM. At LPT_DONE and LPT_E_ROOM
+ * it as it was. LPT_DONE; LPT_E_NOTHING; LPT_E_ROOM. At LPT_DONE and LPT_E_ROOM
  * *needed is the message's length.
  */
 LPT_MUST_USE
@@ -156,7 +145,7 @@ uint32_t lpt_end_released(LptEnd *end, uint8_t *out, size_t out_len, size_t *nee
  * Gives a reception up that took no part for as long as the time-out: the one that has waited
  * longest, of equal ones that of the least source, and of one source that of the least identifier.
  * A spacecraft has a report of it to be sent.
- * LPT_DONE, and *name is its name; LPT_E_EMPTY; LPT_E_NOTHING_DUE; LPT_E_ALLOCATION.
+ * LPT_DONE, and *name is its name; LPT_E_NOTHING_DUE; LPT_E_ALLOCATION.
  */
 LPT_MUST_USE
 uint32_t lpt_end_expire(LptEnd *end, LptName *name);
@@ -165,7 +154,7 @@ uint32_t lpt_end_expire(LptEnd *end, LptName *name);
 
 /*
  * Takes a message to be sent in parts, under a free name. It is copied.
- * LPT_DONE; LPT_E_EMPTY; LPT_E_IN_USE; LPT_E_SHORT_MESSAGE; LPT_E_LONG_MESSAGE; LPT_E_TOO_MANY;
+ * LPT_DONE; LPT_E_IN_USE; LPT_E_SHORT_MESSAGE; LPT_E_LONG_MESSAGE; LPT_E_TOO_MANY;
  * LPT_E_ALLOCATION.
  */
 LPT_MUST_USE
@@ -173,7 +162,7 @@ uint32_t lpt_end_open(LptEnd *end, const LptName *name, const uint8_t *message, 
 
 /* Makes the packet of the part of this number, from 1, of an open message: it is to be sent, behind
    those that are.
-   LPT_DONE; LPT_E_EMPTY; LPT_E_NOT_OPEN; LPT_E_NO_SUCH_PART; LPT_E_ALLOCATION. */
+   LPT_DONE; LPT_E_NOT_OPEN; LPT_E_NO_SUCH_PART; LPT_E_ALLOCATION. */
 LPT_MUST_USE
 uint32_t lpt_end_part(LptEnd *end, const LptName *name, uint16_t number);
 
@@ -182,7 +171,7 @@ uint32_t lpt_end_part(LptEnd *end, const LptName *name, uint16_t number);
  * message subtype and body: it is to be sent, behind those that are. Ground alone makes them. Its
  * reports go to that source. Each delivery of the packet is a request of its own, so it is executed
  * as often as it is delivered.
- * LPT_DONE; LPT_E_EMPTY; LPT_E_RANGE for flags above 15, and at the spacecraft; LPT_E_PART_REQUEST;
+ * LPT_DONE; LPT_E_RANGE for flags above 15, and at the spacecraft; LPT_E_PART_REQUEST;
  * LPT_E_LONG_MESSAGE where the packet would have more octets than the part size and 23;
  * LPT_E_ALLOCATION.
  */
@@ -190,19 +179,19 @@ LPT_MUST_USE
 uint32_t lpt_end_plain(LptEnd *end, uint16_t source, uint8_t flags, uint8_t service,
                        uint8_t subtype, const uint8_t *body, size_t body_len);
 
-/* Closes an open message, and lets it go. LPT_DONE; LPT_E_EMPTY; LPT_E_NOT_OPEN. */
+/* Closes an open message, and lets it go. LPT_DONE; LPT_E_NOT_OPEN. */
 LPT_MUST_USE
 uint32_t lpt_end_finish(LptEnd *end, const LptName *name);
 
 /*
  * Copies the packet that is to be sent first to the front of a buffer, and leaves the rest of it as
- * it was. LPT_DONE; LPT_E_EMPTY; LPT_E_NOTHING; LPT_E_ROOM. At LPT_DONE and LPT_E_ROOM *needed is
+ * it was. LPT_DONE; LPT_E_NOTHING; LPT_E_ROOM. At LPT_DONE and LPT_E_ROOM *needed is
  * the packet's length. The packet is to be sent still, until lpt_end_sent.
  */
 LPT_MUST_USE
 uint32_t lpt_end_outgoing(LptEnd *end, uint8_t *out, size_t out_len, size_t *needed);
 
-/* Lets the packet go that is to be sent first. LPT_DONE; LPT_E_EMPTY; LPT_E_NOTHING. */
+/* Lets the packet go that is to be sent first. LPT_DONE; LPT_E_NOTHING. */
 LPT_MUST_USE
 uint32_t lpt_end_sent(LptEnd *end);
 
@@ -223,7 +212,7 @@ typedef struct LptApplied {
     uint32_t value;
 } LptApplied;
 
-/* Reads the oldest request that was released and not read yet. LPT_DONE; LPT_E_EMPTY; LPT_E_NO_JOB,
+/* Reads the oldest request that was released and not read yet. LPT_DONE; LPT_E_NO_JOB,
    as always on ground; LPT_E_ALLOCATION. */
 LPT_MUST_USE
 uint32_t lpt_end_read(LptEnd *end);
@@ -231,7 +220,7 @@ uint32_t lpt_end_read(LptEnd *end);
 /*
  * Says which service type and message subtype the oldest request has that was released and not
  * read yet, so that a program sees whether it is of memory management, of service 6, or of a
- * service of its own. LPT_DONE, and *service and *subtype are written; LPT_E_EMPTY; LPT_E_NO_JOB,
+ * service of its own. LPT_DONE, and *service and *subtype are written; LPT_E_NO_JOB,
  * as always on ground; LPT_E_NOTHING where the request is no telecommand of the end's APID.
  */
 LPT_MUST_USE
@@ -248,7 +237,7 @@ typedef struct LptArea {
  * Says where an area goes of the load that the oldest request asks for that was released and not
  * read yet, by the area's number from 0. Where lpt_end_execute says LPT_APPLIED_CARRIED_OUT of it,
  * its areas were written just there, in their order, and else nothing was. LPT_DONE, and *area is
- * written; LPT_E_EMPTY; LPT_E_NO_JOB, as always on ground; LPT_E_NOTHING where the request is no
+ * written; LPT_E_NO_JOB, as always on ground; LPT_E_NOTHING where the request is no
  * load, or has no such area with the checksum of its octets.
  */
 LPT_MUST_USE
@@ -258,7 +247,7 @@ uint32_t lpt_end_asked_area(LptEnd *end, size_t number, LptArea *area);
  * Drops the oldest request that was released and not read yet, in place of lpt_end_read: it is
  * never executed. What stands in its place asks nothing: lpt_end_execute lets it go in its turn,
  * says LPT_APPLIED_SILENT of it, and makes no report. A request that was read isn't dropped any
- * more. LPT_DONE; LPT_E_EMPTY; LPT_E_NO_JOB, as always on ground; LPT_E_ALLOCATION.
+ * more. LPT_DONE; LPT_E_NO_JOB, as always on ground; LPT_E_ALLOCATION.
  */
 LPT_MUST_USE
 uint32_t lpt_end_drop(LptEnd *end);
@@ -267,7 +256,7 @@ uint32_t lpt_end_drop(LptEnd *end);
  * Executes the oldest request, which has to be read: does what it asks of a memory, and says what
  * became of it. Its reports are to be sent; a report that is too long for a packet is opened as a
  * message.
- * LPT_DONE, and *applied is written; LPT_E_EMPTY; LPT_E_NO_JOB, as always on ground;
+ * LPT_DONE, and *applied is written; LPT_E_NO_JOB, as always on ground;
  * LPT_E_NOT_READ; LPT_E_UNSENT; LPT_E_ALLOCATION.
  */
 LPT_MUST_USE
@@ -275,13 +264,13 @@ uint32_t lpt_end_execute(LptEnd *end, LptApplied *applied);
 
 /*
  * Copies a memory to the front of a buffer, and leaves the rest of it as it was. LPT_DONE;
- * LPT_E_EMPTY; LPT_E_NOTHING where the end has no such memory; LPT_E_ROOM. At LPT_DONE and
+ * LPT_E_NOTHING where the end has no such memory; LPT_E_ROOM. At LPT_DONE and
  * LPT_E_ROOM *needed is the memory's length.
  */
 LPT_MUST_USE
 uint32_t lpt_end_memory(LptEnd *end, uint8_t id, uint8_t *out, size_t out_len, size_t *needed);
 
-/* Fills a buffer with the octets of a memory from an address on. LPT_DONE; LPT_E_EMPTY;
+/* Fills a buffer with the octets of a memory from an address on. LPT_DONE;
    LPT_E_NOTHING where the end has no such memory; LPT_E_RANGE where it has fewer octets there. */
 LPT_MUST_USE
 uint32_t lpt_end_memory_range(LptEnd *end, uint8_t id, uint32_t address, uint8_t *out,
@@ -289,7 +278,7 @@ uint32_t lpt_end_memory_range(LptEnd *end, uint8_t id, uint32_t address, uint8_t
 
 /* ---- the clock, names, and a restart ---- */
 
-/* Sets the clock one tick on. LPT_DONE; LPT_E_EMPTY; LPT_E_CLOCK_END. */
+/* Sets the clock one tick on. LPT_DONE; LPT_E_CLOCK_END. */
 LPT_MUST_USE
 uint32_t lpt_end_tick(LptEnd *end);
 
@@ -302,7 +291,7 @@ uint32_t lpt_end_tick(LptEnd *end);
  *   3. The receiver's end answers LPT_DONE to this call.
  *   4. The sender's end does.
  * The call looks at its own end's names alone: not at the other end, and not at what is to be sent.
- * LPT_DONE, also of a name that is free; LPT_E_EMPTY; LPT_E_RANGE for another direction;
+ * LPT_DONE, also of a name that is free; LPT_E_RANGE for another direction;
  * LPT_E_STILL_OPEN where a message of this name is open to be sent in this direction, or a
  * reception of it is.
  */
@@ -316,7 +305,7 @@ enum LptNameState { LPT_NAME_FREE = 0, LPT_NAME_OPEN = 1, LPT_NAME_CLOSED = 2 };
 /*
  * Tells the state of a transaction's name at this end, and changes nothing. LPT_DONE, and *state is
  * an LptNameState: in the direction in which the end sends that of its message, in the other that
- * of its reception. LPT_E_EMPTY; LPT_E_RANGE for another direction.
+ * of its reception. LPT_E_RANGE for another direction.
  */
 LPT_MUST_USE
 uint32_t lpt_end_name(LptEnd *end, uint32_t direction, const LptName *name, uint32_t *state);
@@ -331,7 +320,7 @@ typedef struct LptView {
     size_t requests;   /* requests that weren't executed, read or not */
 } LptView;
 
-/* Tells what the end has to do, and changes nothing. LPT_DONE, and *view is written; LPT_E_EMPTY. */
+/* Tells what the end has to do, and changes nothing. It answers LPT_DONE, and *view is written. */
 LPT_MUST_USE
 uint32_t lpt_end_view(LptEnd *end, LptView *view);
 
@@ -346,7 +335,7 @@ typedef struct LptReception {
 } LptReception;
 
 /* Tells an open reception by its number from 0, in the order of sources, and of one source in that
-   of identifiers. LPT_DONE, and *reception is written; LPT_E_EMPTY; LPT_E_NOTHING where no more
+   of identifiers. LPT_DONE, and *reception is written; LPT_E_NOTHING where no more
    are open. */
 LPT_MUST_USE
 uint32_t lpt_end_reception(LptEnd *end, size_t number, LptReception *reception);
@@ -354,7 +343,7 @@ uint32_t lpt_end_reception(LptEnd *end, size_t number, LptReception *reception);
 /*
  * Tells which part of an open reception is missing next, from this number on: of the numbers from 1
  * on, and before that of the last part where that has come, the least whose part wasn't kept.
- * LPT_DONE, and *number is that part's; LPT_E_EMPTY; LPT_E_NOT_OPEN where no reception of the name
+ * LPT_DONE, and *number is that part's; LPT_E_NOT_OPEN where no reception of the name
  * is open; LPT_E_NOTHING where none is missing from there on.
  */
 LPT_MUST_USE
@@ -368,7 +357,7 @@ typedef struct LptSender {
 } LptSender;
 
 /* Tells a message that is open to be sent by its number from 0, in the same order. LPT_DONE, and
-   *sender is written; LPT_E_EMPTY; LPT_E_NOTHING where no more are open. */
+   *sender is written; LPT_E_NOTHING where no more are open. */
 LPT_MUST_USE
 uint32_t lpt_end_sender(LptEnd *end, size_t number, LptSender *sender);
 
@@ -376,7 +365,7 @@ uint32_t lpt_end_sender(LptEnd *end, size_t number, LptSender *sender);
  * Restarts the end. Its open messages are closed and let go, its open receptions and what it
  * keeps of released requests are dropped, and it counts its packets from 0. It knows other names,
  * the clock and the memories as before. What was released last, and what is to be sent, stays.
- * LPT_DONE; LPT_E_EMPTY; LPT_E_NO_NUMBER.
+ * LPT_DONE; LPT_E_NO_NUMBER.
  */
 LPT_MUST_USE
 uint32_t lpt_end_restart(LptEnd *end);
@@ -387,23 +376,23 @@ uint32_t lpt_end_restart(LptEnd *end);
  * Copies the state of the end to the front of a buffer, and leaves the rest of it as it was: the
  * names that it knows, its clock, and which start it is. Memories are copied by lpt_end_memory.
  * docs/FORMATS.md has the octets, and docs/C.md says when to keep them. It takes no memory.
- * LPT_DONE; LPT_E_EMPTY; LPT_E_ROOM. At LPT_DONE and LPT_E_ROOM *needed is the state's length: 57,
+ * LPT_DONE; LPT_E_ROOM. At LPT_DONE and LPT_E_ROOM *needed is the state's length: 57,
  * and 6 for each run of names, of which there are at most as many as names in use.
  */
 LPT_MUST_USE
 uint32_t lpt_end_state(LptEnd *end, uint8_t *out, size_t out_len, size_t *needed);
 
 /*
- * Makes an end of a state into an empty handle, in place of lpt_end_new: what lpt_end_restart would
- * have left of the end whose state it is, with these memories, nothing released and nothing to be
- * sent. The clock is the state's; that of the configuration isn't looked at.
- * LPT_DONE; LPT_E_FULL; LPT_E_RANGE for another side or mode; LPT_E_CONFIG_APID to
+ * Makes an end of a state, in place of lpt_end_new: what lpt_end_restart would have left of the end
+ * whose state it is, with these memories, nothing released and nothing to be sent. The clock is the
+ * state's; that of the configuration isn't looked at.
+ * LPT_DONE, and *end is its address; LPT_E_RANGE for another side or mode; LPT_E_CONFIG_APID to
  * LPT_E_CONFIG_OUTGOING; LPT_E_MEMORIES as of lpt_end_new; LPT_E_STATE_SHORT to
  * LPT_E_STATE_CHECKSUM, in that order; LPT_E_NO_NUMBER where no start follows the state's;
  * LPT_E_STATE_ORDER; LPT_E_ALLOCATION.
  */
 LPT_MUST_USE
-uint32_t lpt_end_resume(LptEnd *end, uint32_t side, const LptConfig *config, const uint8_t *state,
+uint32_t lpt_end_resume(LptEnd **end, uint32_t side, const LptConfig *config, const uint8_t *state,
                         size_t state_len, const LptMemory *memories, size_t memories_len,
                         const uint8_t *content, size_t content_len);
 
@@ -426,13 +415,6 @@ LptTried rattle_realloc(void *block, size_t kept, size_t n, size_t align);
 void rattle_dealloc(void *block);
 
 /* ---- what is so of the structures in the archive: size, alignment, offsets ---- */
-
-LPT_LAYOUT(LptHeld, 8, 8);
-LPT_FIELD(LptHeld, at, 0);
-
-LPT_LAYOUT(LptEnd, 16, 8);
-LPT_FIELD(LptEnd, full, 0);
-LPT_FIELD(LptEnd, held, 8);
 
 LPT_LAYOUT(LptConfig, 28, 4);
 LPT_FIELD(LptConfig, apid, 0);

@@ -111,7 +111,7 @@ static void split(uint32_t p) {
 static void join_proved(void) {
     LptConfig config = {100, 0, 10, 4, 4, 0, LPT_MODE_ANY};
     static const LptName name = {1, 5};
-    LptEnd end = LPT_END_EMPTY;
+    LptEnd *end = NULL;
     int i;
     config.part_size = part_size;
     wants(lpt_end_new(&end, LPT_SIDE_GROUND, &config, no_memory, 0, message, 0) == LPT_DONE);
@@ -119,13 +119,13 @@ static void join_proved(void) {
         LptOutcome said = {0, {0, 0}, 0, 0};
         size_t at = 0, k;
         for (k = 0; k < parts; k++) {
-            wants(lpt_end_packet(&end, packets + at, lens[k], &said) == LPT_DONE);
+            wants(lpt_end_packet(end, packets + at, lens[k], &said) == LPT_DONE);
             at += lens[k];
         }
         wants(said.kind == LPT_OUTCOME_RELEASED && said.first == LONG);
-        wants(lpt_end_retire(&end, LPT_DIRECTION_DOWN, &name) == LPT_DONE);
+        wants(lpt_end_retire(end, LPT_DIRECTION_DOWN, &name) == LPT_DONE);
     }
-    lpt_end_free(&end);
+    lpt_end_free(end);
 }
 
 static void join_plain(void) {
@@ -154,7 +154,7 @@ static uint8_t state[STATE];
  * each so far from the one before. */
 static void state_row(const char *name, uint32_t names, uint32_t step) {
     static const LptConfig config = {100, 8, 10, 4, 4, 0, LPT_MODE_ANY};
-    LptEnd end = LPT_END_EMPTY, again = LPT_END_EMPTY;
+    LptEnd *end = NULL, *again = NULL;
     LptName used = {1, 0};
     size_t len = 0;
     uint32_t i;
@@ -163,12 +163,12 @@ static void state_row(const char *name, uint32_t names, uint32_t step) {
     for (i = 0; i < names; i++) {
         used.id = (uint16_t)(i * step);
         used.source = (uint16_t)(1 + i * step / NAMES);
-        wants(lpt_end_open(&end, &used, message, 9) == LPT_DONE);
-        wants(lpt_end_finish(&end, &used) == LPT_DONE);
+        wants(lpt_end_open(end, &used, message, 9) == LPT_DONE);
+        wants(lpt_end_finish(end, &used) == LPT_DONE);
     }
     from = now();
     for (i = 0; i < STATES; i++) {
-        wants(lpt_end_state(&end, state, sizeof state, &len) == LPT_DONE);
+        wants(lpt_end_state(end, state, sizeof state, &len) == LPT_DONE);
     }
     written_in = (now() - from) / STATES;
     for (i = 0; i < STATES; i++) {
@@ -176,9 +176,9 @@ static void state_row(const char *name, uint32_t names, uint32_t step) {
         wants(lpt_end_resume(&again, LPT_SIDE_GROUND, &config, state, len, no_memory, 0, message, 0) ==
               LPT_DONE);
         made_in += (now() - from) / STATES;
-        lpt_end_free(&again);
+        lpt_end_free(again);
     }
-    lpt_end_free(&end);
+    lpt_end_free(end);
     printf("| %s | %zu | %.3f | %.3f |\n", name, len, written_in * 1e3, made_in * 1e3);
 }
 

@@ -33,7 +33,7 @@ int main(void) {
     static const LptConfig config = {100, PART_SIZE, 10, 4, 4, 0, LPT_MODE_ANY};
     static const LptMemory memories[] = {{1, 0, 1024}};
     static uint8_t message[MESSAGE], received[MESSAGE], content[1024];
-    LptEnd ground = LPT_END_EMPTY, spacecraft = LPT_END_EMPTY;
+    LptEnd *ground = NULL, *spacecraft = NULL;
     LptOutcome outcome = {0, {0, 0}, 0, 0};
     size_t len = 0, i;
     uint16_t k, parts = (uint16_t)lpt_part_count(MESSAGE, PART_SIZE);
@@ -46,29 +46,29 @@ int main(void) {
                             sizeof content);
     }
     if (fault == LPT_DONE) {
-        fault = lpt_end_open(&ground, &name, message, MESSAGE);
+        fault = lpt_end_open(ground, &name, message, MESSAGE);
     }
     for (k = 1; k <= parts && fault == LPT_DONE; k++) {
         if (k != 3) {
-            fault = carry(&ground, &spacecraft, k, &outcome);
+            fault = carry(ground, spacecraft, k, &outcome);
         }
     }
     printf("%u parts, the last %s\n", parts,
            outcome.kind == LPT_OUTCOME_KEPT ? "kept" : "not kept");
     if (fault == LPT_DONE) {
-        fault = carry(&ground, &spacecraft, 3, &outcome);
+        fault = carry(ground, spacecraft, 3, &outcome);
     }
     if (fault == LPT_DONE && outcome.kind == LPT_OUTCOME_RELEASED) {
-        fault = lpt_end_released(&spacecraft, received, sizeof received, &len);
+        fault = lpt_end_released(spacecraft, received, sizeof received, &len);
         for (i = 0; i < MESSAGE && received[i] == message[i]; i++) {
         }
         printf("released: %u octets, %s\n", (unsigned)len, i == MESSAGE ? "the same" : "others");
     }
     if (fault == LPT_DONE) {
-        fault = lpt_end_finish(&ground, &name);
+        fault = lpt_end_finish(ground, &name);
     }
     printf("fault %u\n", (unsigned)fault);
-    lpt_end_free(&ground);
-    lpt_end_free(&spacecraft);
+    lpt_end_free(ground);
+    lpt_end_free(spacecraft);
     return fault != LPT_DONE;
 }

@@ -172,7 +172,7 @@ static bool take(int from, uint8_t *octets, size_t *len) {
 /* ---- the spacecraft ---- */
 
 /* What a restart leaves of the end that was kept, or a new one where nothing was yet. */
-static void start(LptEnd *end, int file, Kept *kept) {
+static void start(LptEnd **end, int file, Kept *kept) {
     static const LptMemory memory = {MEMORY, 0, SIZE};
     uint32_t fault;
     if (read_kept(file, kept)) {
@@ -205,29 +205,29 @@ static void serve(LptEnd *end, int file, Kept *kept, const uint8_t *packet, size
 /* The spacecraft's process: what each packet makes it send goes back, until ground is done. */
 static void spacecraft(int link, const char *path) {
     static Kept kept;
-    LptEnd end = LPT_END_EMPTY;
+    LptEnd *end = NULL;
     uint8_t packet[LONGEST] = {0};
     size_t len = 0;
     FILE *file = fopen(path, "r+");
     must(file != NULL, "there is no file");
     start(&end, fileno(file), &kept);
     while (take(link, packet, &len)) {
-        serve(&end, fileno(file), &kept, packet, len);
-        while (lpt_end_outgoing(&end, packet, sizeof packet, &len) == LPT_DONE) {
-            must(pass(link, packet, len) && lpt_end_sent(&end) == LPT_DONE, "a report is lost");
+        serve(end, fileno(file), &kept, packet, len);
+        while (lpt_end_outgoing(end, packet, sizeof packet, &len) == LPT_DONE) {
+            must(pass(link, packet, len) && lpt_end_sent(end) == LPT_DONE, "a report is lost");
             count_write();
         }
         must(pass(link, packet, 0), "ground is gone");
         count_write();
     }
-    lpt_end_free(&end);
+    lpt_end_free(end);
     fclose(file);
     exit(EXIT_SUCCESS);
 }
 
 /* ---- ground ---- */
 
-static LptEnd ground = LPT_END_EMPTY;
+static LptEnd *ground = NULL;
 static pid_t child;
 static int to_child = -1;
 static bool is_stopped; /* in this pass */
@@ -241,7 +241,7 @@ static void launch(const char *path, unsigned stop) {
     must(child >= 0, "there is no process");
     if (child == 0) {
         close(both[0]);
-        lpt_end_free(&ground);
+        lpt_end_free(ground);
         stops_at = stop;
         spacecraft(both[1], path);
     }
@@ -262,7 +262,7 @@ static bool was_stopped(void) {
 static void note(const uint8_t *packet, size_t len) {
     LptOutcome outcome = {0, {0, 0}, 0, 0};
     LptTm tm = {{0, 0, 0, 0, 0, 0, 0, 0}, 0, 0};
-    must(lpt_end_packet(&ground, packet, len, &outcome) == LPT_DONE, "a report isn't taken");
+    must(lpt_end_packet(ground, packet, len, &outcome) == LPT_DONE, "a report isn't taken");
     if (outcome.kind == LPT_OUTCOME_REPORT_NOTED && outcome.first == 6 && outcome.second == 10 &&
         lpt_read_tm(packet, len, &tm) == LPT_DONE && tm.len == 10) {
         seen = (uint32_t)number(packet + tm.at + 8, 2);
@@ -274,9 +274,9 @@ static void note(const uint8_t *packet, size_t len) {
 static void send_up(const char *path) {
     uint8_t packet[LONGEST] = {0};
     size_t len = 0;
-    while (lpt_end_outgoing(&ground, packet, sizeof packet, &len) == LPT_DONE) {
+    while (lpt_end_outgoing(ground, packet, sizeof packet, &len) == LPT_DONE) {
         bool is_there = pass(to_child, packet, len);
-        must(lpt_end_sent(&ground) == LPT_DONE, "a packet stays");
+        must(lpt_end_sent(ground) == LPT_DONE, "a packet stays");
         while (is_there && (is_there = take(to_child, packet, &len)) && len > 0) {
             note(packet, len);
         }
@@ -308,17 +308,17 @@ static void load(const char *path, uint16_t k) {
     memcpy(body + at, octets, OCTETS);
     put(body + at + OCTETS, sum, 2);
     must(lpt_write_tc(&head, body, sizeof body, request, sizeof request, &len) == LPT_DONE &&
-             lpt_end_open(&ground, &name, request, len) == LPT_DONE,
+             lpt_end_open(ground, &name, request, len) == LPT_DONE,
          "a request isn't opened");
     do {
         seen = UINT32_MAX;
-        for (part = 1; lpt_end_part(&ground, &name, part) == LPT_DONE; part++) {
+        for (part = 1; lpt_end_part(ground, &name, part) == LPT_DONE; part++) {
             send_up(path);
         }
-        must(lpt_end_plain(&ground, SOURCE, 0, 6, 9, body, 8) == LPT_DONE, "no check is asked");
+        must(lpt_end_plain(ground, SOURCE, 0, 6, 9, body, 8) == LPT_DONE, "no check is asked");
         send_up(path);
     } while (seen != sum);
-    must(lpt_end_finish(&ground, &name) == LPT_DONE, "a request isn't finished");
+    must(lpt_end_finish(ground, &name) == LPT_DONE, "a request isn't finished");
 }
 
 /* A pass, in which the spacecraft is stopped behind a write: whether it was; all has to be well. */
@@ -334,7 +334,7 @@ static bool run(const char *path, unsigned stop) {
         load(path, k);
     }
     is_stopped = was_stopped() || is_stopped;
-    lpt_end_free(&ground);
+    lpt_end_free(ground);
     file = fopen(path, "r");
     must(file != NULL && read_kept(fileno(file), &kept), "nothing was kept");
     fclose(file);

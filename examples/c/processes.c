@@ -34,7 +34,7 @@ static uint8_t image[OCTETS];
 
 /* Each process has its own of these: its end and its ends of the pipes, how many packets of each
    outcome came, how many names both ends have freed, and of which an 'R' is owed. */
-static LptEnd end = LPT_END_EMPTY;
+static LptEnd *end = NULL;
 static uint32_t side = LPT_SIDE_GROUND;
 static int in = -1, out = -1;
 static unsigned seen[LPT_OUTCOME_IGNORED + 1], freed;
@@ -57,7 +57,7 @@ static void take_line(const uint8_t *line) {
     uint32_t direction =
         (side == LPT_SIDE_GROUND) != is_receiver ? LPT_DIRECTION_UP : LPT_DIRECTION_DOWN;
     memcpy(&name, line + 1, sizeof name);
-    must(lpt_end_retire(&end, direction, &name) == LPT_DONE, "a name isn't freed");
+    must(lpt_end_retire(end, direction, &name) == LPT_DONE, "a name isn't freed");
     if (is_receiver) {
         must(!is_owed, "two lines are owed");
         is_owed = true;
@@ -90,12 +90,12 @@ static void take(const uint8_t *octets, size_t len) {
         take_line(octets);
         return;
     }
-    must(lpt_end_packet(&end, octets, len, &outcome) == LPT_DONE, "a packet isn't taken");
+    must(lpt_end_packet(end, octets, len, &outcome) == LPT_DONE, "a packet isn't taken");
     seen[outcome.kind]++;
     if (outcome.kind == LPT_OUTCOME_REPORT_NOTED) {
         print(octets, len);
     } else if (outcome.kind == LPT_OUTCOME_RELEASED && side == LPT_SIDE_GROUND) {
-        must(lpt_end_released(&end, message, sizeof message, &len) == LPT_DONE, "no message");
+        must(lpt_end_released(end, message, sizeof message, &len) == LPT_DONE, "no message");
         print(message, len);
     }
 }
@@ -180,9 +180,9 @@ static void flush(uint16_t k) {
     uint8_t packet[LONGEST] = {0};
     size_t len = 0;
     uint32_t fault;
-    while ((fault = lpt_end_outgoing(&end, packet, sizeof packet, &len)) == LPT_DONE) {
+    while ((fault = lpt_end_outgoing(end, packet, sizeof packet, &len)) == LPT_DONE) {
         carry(k, packet, len);
-        must(lpt_end_sent(&end) == LPT_DONE, "nothing is to be sent");
+        must(lpt_end_sent(end) == LPT_DONE, "nothing is to be sent");
     }
     must(fault == LPT_E_NOTHING, "a packet is too long");
 }
@@ -191,23 +191,23 @@ static void flush(uint16_t k) {
 static void send_message(const LptName *name) {
     uint32_t fault;
     uint16_t k;
-    for (k = 1; (fault = lpt_end_part(&end, name, k)) == LPT_DONE; k++) {
+    for (k = 1; (fault = lpt_end_part(end, name, k)) == LPT_DONE; k++) {
         flush(k);
     }
     must(fault == LPT_E_NO_SUCH_PART, "a part isn't made");
-    must(lpt_end_part(&end, name, LOST) == LPT_DONE, "a part isn't made again");
+    must(lpt_end_part(end, name, LOST) == LPT_DONE, "a part isn't made again");
     flush(0);
-    must(lpt_end_finish(&end, name) == LPT_DONE, "a message isn't closed");
+    must(lpt_end_finish(end, name) == LPT_DONE, "a message isn't closed");
 }
 
 /* Executes a request, if one was released: whether one was. On ground none ever is. */
 static bool serve(void) {
     LptApplied applied = {0, {0, 0}, 0};
-    uint32_t fault = lpt_end_read(&end);
+    uint32_t fault = lpt_end_read(end);
     must(fault == LPT_DONE || fault == LPT_E_NO_JOB, "a request isn't read");
     if (fault == LPT_DONE) {
         flush(0);
-        must(lpt_end_execute(&end, &applied) == LPT_DONE, "a request isn't executed");
+        must(lpt_end_execute(end, &applied) == LPT_DONE, "a request isn't executed");
         flush(0);
     }
     if (applied.kind == LPT_APPLIED_OPENED) {
@@ -247,7 +247,7 @@ static void load(uint32_t len, uint16_t count) {
     body[at++] = (uint8_t)(lpt_crc16(image, len) >> 8);
     body[at++] = (uint8_t)lpt_crc16(image, len);
     must(lpt_write_tc(&head, body, at, request, sizeof request, &request_len) == LPT_DONE &&
-             lpt_end_open(&end, &load_name, request, request_len) == LPT_DONE,
+             lpt_end_open(end, &load_name, request, request_len) == LPT_DONE,
          "a load isn't opened");
     send_message(&load_name);
     while (seen[LPT_OUTCOME_REPORT_NOTED] < reports) {
@@ -258,7 +258,7 @@ static void load(uint32_t len, uint16_t count) {
 static void ground(void) {
     uint8_t body[8] = {0};
     load(OCTETS, 16383); /* no other request has this count */
-    must(lpt_end_plain(&end, SOURCE, 1 + 8, 6, 5, body, put_area(body, OCTETS)) == LPT_DONE,
+    must(lpt_end_plain(end, SOURCE, 1 + 8, 6, 5, body, put_area(body, OCTETS)) == LPT_DONE,
          "a dump isn't asked for");
     flush(0);
     while (seen[LPT_OUTCOME_RELEASED] < 1) {
@@ -294,7 +294,7 @@ static void run(uint32_t which, const int *reads, const int *writes) {
     printf("%s: %u parts kept, %u again; %u messages and %u plain requests released\n",
            side == LPT_SIDE_GROUND ? "ground" : "spacecraft", seen[LPT_OUTCOME_KEPT],
            seen[LPT_OUTCOME_AGAIN], seen[LPT_OUTCOME_RELEASED], seen[LPT_OUTCOME_PLAIN_RELEASED]);
-    lpt_end_free(&end);
+    lpt_end_free(end);
     must(fflush(stdout) == 0 && close(out) == 0, "a pipe isn't closed");
 }
 

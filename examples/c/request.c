@@ -14,7 +14,7 @@ enum { APID = 100, SOURCE = 1, PART_SIZE = 256, LONGEST = PART_SIZE + 23 };
 enum { MEMORY = 1, SIZE = 4096, ADDRESS = 16, OCTETS = 1000 };
 
 static const LptName load_name = {SOURCE, 7};
-static LptEnd ground = LPT_END_EMPTY, spacecraft = LPT_END_EMPTY;
+static LptEnd *ground = NULL, *spacecraft = NULL;
 static uint8_t image[OCTETS];
 
 /* What telemetry says that ground has noted: a verification report. */
@@ -34,7 +34,7 @@ static void print_dump(void) {
     LptTm tm = {{0, 0, 0, 0, 0, 0, 0, 0}, 0, 0};
     LptDumped area = {0, 0, 0, 0, 0};
     size_t len = 0;
-    if (lpt_end_released(&ground, message, sizeof message, &len) == LPT_DONE &&
+    if (lpt_end_released(ground, message, sizeof message, &len) == LPT_DONE &&
         lpt_read_tm(message, len, &tm) == LPT_DONE &&
         lpt_read_dump(message + tm.at, tm.len, 0, &area) == LPT_DONE && area.len == OCTETS) {
         printf("dump: %d octets, %s\n", OCTETS,
@@ -47,8 +47,8 @@ static void send_down(void) {
     uint8_t packet[LONGEST] = {0};
     size_t len = 0;
     LptOutcome outcome = {0, {0, 0}, 0, 0};
-    while (lpt_end_outgoing(&spacecraft, packet, sizeof packet, &len) == LPT_DONE) {
-        if (lpt_end_packet(&ground, packet, len, &outcome) != LPT_DONE) {
+    while (lpt_end_outgoing(spacecraft, packet, sizeof packet, &len) == LPT_DONE) {
+        if (lpt_end_packet(ground, packet, len, &outcome) != LPT_DONE) {
             return; /* memory ran out: the packet still waits */
         }
         if (outcome.kind == LPT_OUTCOME_REPORT_NOTED) {
@@ -56,7 +56,7 @@ static void send_down(void) {
         } else if (outcome.kind == LPT_OUTCOME_RELEASED) {
             print_dump();
         }
-        if (lpt_end_sent(&spacecraft) != LPT_DONE) {
+        if (lpt_end_sent(spacecraft) != LPT_DONE) {
             return;
         }
     }
@@ -66,16 +66,16 @@ static void send_down(void) {
 static void serve(void) {
     LptApplied applied = {0, {0, 0}, 0};
     uint16_t k;
-    while (lpt_end_read(&spacecraft) == LPT_DONE) {
+    while (lpt_end_read(spacecraft) == LPT_DONE) {
     }
     send_down(); /* nothing is executed while a packet waits */
-    while (lpt_end_execute(&spacecraft, &applied) == LPT_DONE) {
+    while (lpt_end_execute(spacecraft, &applied) == LPT_DONE) {
         send_down();
         if (applied.kind == LPT_APPLIED_OPENED) {
-            for (k = 1; lpt_end_part(&spacecraft, &applied.name, k) == LPT_DONE; k++) {
+            for (k = 1; lpt_end_part(spacecraft, &applied.name, k) == LPT_DONE; k++) {
                 send_down();
             }
-            if (lpt_end_finish(&spacecraft, &applied.name) != LPT_DONE) {
+            if (lpt_end_finish(spacecraft, &applied.name) != LPT_DONE) {
                 return;
             }
         }
@@ -87,11 +87,11 @@ static void send_up(void) {
     uint8_t packet[LONGEST] = {0};
     size_t len = 0;
     LptOutcome outcome = {0, {0, 0}, 0, 0};
-    while (lpt_end_outgoing(&ground, packet, sizeof packet, &len) == LPT_DONE) {
-        if (lpt_end_packet(&spacecraft, packet, len, &outcome) != LPT_DONE) {
+    while (lpt_end_outgoing(ground, packet, sizeof packet, &len) == LPT_DONE) {
+        if (lpt_end_packet(spacecraft, packet, len, &outcome) != LPT_DONE) {
             return;
         }
-        if (lpt_end_sent(&ground) != LPT_DONE) {
+        if (lpt_end_sent(ground) != LPT_DONE) {
             return;
         }
         if (outcome.kind == LPT_OUTCOME_RELEASED || outcome.kind == LPT_OUTCOME_PLAIN_RELEASED) {
@@ -113,14 +113,14 @@ static uint32_t load(void) {
         fault = lpt_write_tc(&head, body, body_len, request, sizeof request, &len);
     }
     if (fault == LPT_DONE) {
-        fault = lpt_end_open(&ground, &load_name, request, len);
+        fault = lpt_end_open(ground, &load_name, request, len);
     }
     if (fault == LPT_DONE) {
-        for (k = 1; (fault = lpt_end_part(&ground, &load_name, k)) == LPT_DONE; k++) {
+        for (k = 1; (fault = lpt_end_part(ground, &load_name, k)) == LPT_DONE; k++) {
             send_up();
         }
     }
-    return fault == LPT_E_NO_SUCH_PART ? lpt_end_finish(&ground, &load_name) : fault;
+    return fault == LPT_E_NO_SUCH_PART ? lpt_end_finish(ground, &load_name) : fault;
 }
 
 /* Asks for the same octets, by a plain request. */
@@ -130,7 +130,7 @@ static uint32_t dump(void) {
     size_t len = 0;
     uint32_t fault = lpt_write_dump(MEMORY, &range, 1, body, sizeof body, &len);
     if (fault == LPT_DONE) {
-        fault = lpt_end_plain(&ground, SOURCE, 1 + 8, 6, 5, body, len);
+        fault = lpt_end_plain(ground, SOURCE, 1 + 8, 6, 5, body, len);
     }
     send_up();
     return fault;
@@ -155,7 +155,7 @@ int main(void) {
         fault = dump();
     }
     printf("fault %u\n", (unsigned)fault);
-    lpt_end_free(&ground);
-    lpt_end_free(&spacecraft);
+    lpt_end_free(ground);
+    lpt_end_free(spacecraft);
     return fault != LPT_DONE;
 }

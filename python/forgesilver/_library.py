@@ -51,8 +51,6 @@ LptChecked = _structure(
     "LptChecked", memory=U8, areas=U8, address=U32, len=U16, checksum=U16
 )
 
-LptHeld = _structure("LptHeld", at=POINTER)
-LptEnd = _structure("LptEnd", full=ctypes.c_bool, held=LptHeld)
 LptConfig = _structure(
     "LptConfig", apid=U16, part_size=U32, timeout=U32, receptions=U32, outgoing=U32, clock=U32,
     mode=U32,

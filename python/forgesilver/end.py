@@ -148,7 +148,7 @@ class End:
     of another type raise TypeError.
     """
 
-    __slots__ = ("config", "side", "_at", "_handle", "_length", "_lock", "_thread", "__weakref__")
+    __slots__ = ("config", "side", "_at", "_length", "_lock", "_thread", "__weakref__")
 
     def __init__(
         self,
@@ -166,8 +166,8 @@ class End:
         `Range`, `ConfigApid` to `ConfigOutgoing`, or `Memories`; of a state `StateShort` to
         `StateOrder`, or `NoNumber`.
         """
-        self._handle, self._length = _library.LptEnd(), 0
-        self._at = addressof(self._handle)
+        self._at: Optional[int] = None
+        self._length, place = 0, _library.POINTER()
         self._lock, self._thread = threading.Lock(), threading.get_ident()
         self.side, self.config = Side(side), config if config is not None else Config()
         if not isinstance(self.config, Config):
@@ -176,24 +176,30 @@ class End:
         listed, content = _memories_of(memories or {})
         given = Given(content)
         begun = addressof(listed), len(memories or {}), given.at, given.len
-        ours = self._at, int(self.side), byref(made)
+        ours = byref(place), int(self.side), byref(made)
         if state is None:
             raise_fault(_end.lpt_end_new(*ours, *begun))
         else:
             kept = Given(state)
             raise_fault(_end.lpt_end_resume(*ours, kept.at, kept.len, *begun))
+        self._at = place.value
 
     # ---- its life ----
 
     def close(self) -> None:
         """Lets the end go, and gives all its memory back. Of a closed end nothing changes."""
-        if self._handle.full:
-            self._call(_end.lpt_end_free)
+        if self._at is not None:
+            self._call(self._let_go)
+
+    def _let_go(self, at: int) -> None:
+        """Gives the end's memory back."""
+        self._at = None
+        _end.lpt_end_free(at)
 
     @property
     def is_closed(self) -> bool:
         """Whether the end was closed."""
-        return not self._handle.full
+        return self._at is None
 
     def __enter__(self) -> End:
         if self.is_closed:
@@ -209,7 +215,7 @@ class End:
         self.close()
 
     def __del__(self) -> None:
-        if not hasattr(self, "_handle") or not self._handle.full:
+        if getattr(self, "_at", None) is None:
             return
         try:
             warnings.warn(f"{self!r} wasn't closed", ResourceWarning, stacklevel=2, source=self)
@@ -226,12 +232,14 @@ class End:
         return f"<End of {self.side.name.lower()}{closed}>"
 
     def _call(self, function: Any, *words: Any) -> int:
-        """Calls a function of the library, on this end: its answer."""
+        """Calls a function of the library, on this end: its answer, or that the end was closed."""
         if threading.get_ident() != self._thread:
             raise WrongThread("the end is of another thread")
         if not self._lock.acquire(blocking=False):
             raise WrongThread("a call of the end is under way")
         try:
+            if self._at is None:
+                return Empty.number
             return function(self._at, *words)  # type: ignore[no-any-return]
         finally:
             self._lock.release()

@@ -276,12 +276,6 @@ class Empty(Fault, ValueError):
     number = 106
 
 
-class Full(Fault, ValueError):
-    """The handle holds an end already."""
-
-    number = 107
-
-
 class NoNumber(Fault, ValueError):
     """No number is left for a job, or for a restart."""
 

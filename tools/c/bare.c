@@ -114,7 +114,7 @@ static void codecs(void) {
 static void ends(void) {
     LptConfig config = {100, 8, 10, 2, 2, 0, LPT_MODE_ANY};
     LptMemory memory = {1, 0, sizeof OCTETS};
-    LptEnd ground = LPT_END_EMPTY, craft = LPT_END_EMPTY;
+    LptEnd *ground = NULL, *craft = NULL;
     uint8_t packet[64], state[256];
     size_t needed;
     uint32_t fault;
@@ -130,40 +130,40 @@ static void ends(void) {
     EXPECT(lpt_end_new(&craft, LPT_SIDE_SPACECRAFT, &config, NULL, 0, NULL, 0) == LPT_E_MEMORIES);
     EXPECT(lpt_end_new(&craft, LPT_SIDE_SPACECRAFT, &config, &memory, 1, OCTETS, sizeof OCTETS) ==
            LPT_DONE);
-    EXPECT(lpt_end_open(&ground, &NAME, NULL, 0) == LPT_E_SHORT_MESSAGE);
-    EXPECT(lpt_end_packet(&craft, NULL, 0, &outcome) == LPT_DONE);
+    EXPECT(lpt_end_open(ground, &NAME, NULL, 0) == LPT_E_SHORT_MESSAGE);
+    EXPECT(lpt_end_packet(craft, NULL, 0, &outcome) == LPT_DONE);
     EXPECT(outcome.kind == LPT_OUTCOME_IGNORED && outcome.first == LPT_WHY_UNREADABLE);
-    EXPECT(lpt_end_plain(&ground, 1, 9, 17, 1, NULL, 0) == LPT_DONE);
-    EXPECT(lpt_end_outgoing(&ground, NULL, 0, &needed) == LPT_E_ROOM && needed == 13);
-    EXPECT(lpt_end_outgoing(&ground, packet, sizeof packet, &needed) == LPT_DONE);
-    EXPECT(lpt_end_sent(&ground) == LPT_DONE);
-    EXPECT(lpt_end_packet(&craft, packet, needed, &outcome) == LPT_DONE);
+    EXPECT(lpt_end_plain(ground, 1, 9, 17, 1, NULL, 0) == LPT_DONE);
+    EXPECT(lpt_end_outgoing(ground, NULL, 0, &needed) == LPT_E_ROOM && needed == 13);
+    EXPECT(lpt_end_outgoing(ground, packet, sizeof packet, &needed) == LPT_DONE);
+    EXPECT(lpt_end_sent(ground) == LPT_DONE);
+    EXPECT(lpt_end_packet(craft, packet, needed, &outcome) == LPT_DONE);
     EXPECT(outcome.kind == LPT_OUTCOME_PLAIN_RELEASED && outcome.first == 13);
-    EXPECT(lpt_end_released(&craft, NULL, 0, &needed) == LPT_E_ROOM && needed == 13);
-    EXPECT(lpt_end_asked_area(&craft, 0, &area) == LPT_E_NOTHING);
-    EXPECT(lpt_end_read(&craft) == LPT_DONE);
-    EXPECT(lpt_end_execute(&craft, &applied) == LPT_DONE && applied.kind == LPT_APPLIED_REFUSED);
-    EXPECT(lpt_end_view(&craft, &view) == LPT_DONE && view.requests == 0 && view.outgoing != 0);
-    EXPECT(lpt_end_memory(&craft, 1, NULL, 0, &needed) == LPT_E_ROOM && needed == sizeof OCTETS);
-    EXPECT(lpt_end_memory(&craft, 1, packet, sizeof packet, &needed) == LPT_DONE && packet[1] == 2);
-    EXPECT(lpt_end_open(&ground, &NAME, OCTETS, 9) == LPT_DONE);
-    EXPECT(lpt_end_sender(&ground, 0, &sender) == LPT_DONE && sender.parts == 2);
-    EXPECT(lpt_end_part(&ground, &NAME, 2) == LPT_DONE);
-    EXPECT(lpt_end_outgoing(&ground, packet, sizeof packet, &needed) == LPT_DONE);
-    EXPECT(lpt_end_packet(&craft, packet, needed, &outcome) == LPT_DONE);
-    EXPECT(lpt_end_reception(&craft, 0, &reception) == LPT_DONE && reception.last == 2);
-    EXPECT(lpt_end_missing(&craft, &NAME, 0, &number) == LPT_DONE && number == 1);
-    EXPECT(lpt_end_memory_range(&craft, 1, sizeof OCTETS, NULL, 0) == LPT_DONE);
-    EXPECT(lpt_end_memory_range(&craft, 1, 1, packet, 2) == LPT_DONE && packet[1] == 3);
-    EXPECT(lpt_end_state(&ground, NULL, 0, &needed) == LPT_E_ROOM && needed <= sizeof state);
-    EXPECT(lpt_end_state(&ground, state, sizeof state, &needed) == LPT_DONE);
-    lpt_end_free(&ground);
+    EXPECT(lpt_end_released(craft, NULL, 0, &needed) == LPT_E_ROOM && needed == 13);
+    EXPECT(lpt_end_asked_area(craft, 0, &area) == LPT_E_NOTHING);
+    EXPECT(lpt_end_read(craft) == LPT_DONE);
+    EXPECT(lpt_end_execute(craft, &applied) == LPT_DONE && applied.kind == LPT_APPLIED_REFUSED);
+    EXPECT(lpt_end_view(craft, &view) == LPT_DONE && view.requests == 0 && view.outgoing != 0);
+    EXPECT(lpt_end_memory(craft, 1, NULL, 0, &needed) == LPT_E_ROOM && needed == sizeof OCTETS);
+    EXPECT(lpt_end_memory(craft, 1, packet, sizeof packet, &needed) == LPT_DONE && packet[1] == 2);
+    EXPECT(lpt_end_open(ground, &NAME, OCTETS, 9) == LPT_DONE);
+    EXPECT(lpt_end_sender(ground, 0, &sender) == LPT_DONE && sender.parts == 2);
+    EXPECT(lpt_end_part(ground, &NAME, 2) == LPT_DONE);
+    EXPECT(lpt_end_outgoing(ground, packet, sizeof packet, &needed) == LPT_DONE);
+    EXPECT(lpt_end_packet(craft, packet, needed, &outcome) == LPT_DONE);
+    EXPECT(lpt_end_reception(craft, 0, &reception) == LPT_DONE && reception.last == 2);
+    EXPECT(lpt_end_missing(craft, &NAME, 0, &number) == LPT_DONE && number == 1);
+    EXPECT(lpt_end_memory_range(craft, 1, sizeof OCTETS, NULL, 0) == LPT_DONE);
+    EXPECT(lpt_end_memory_range(craft, 1, 1, packet, 2) == LPT_DONE && packet[1] == 3);
+    EXPECT(lpt_end_state(ground, NULL, 0, &needed) == LPT_E_ROOM && needed <= sizeof state);
+    EXPECT(lpt_end_state(ground, state, sizeof state, &needed) == LPT_DONE);
+    lpt_end_free(ground);
     fault = lpt_end_resume(&ground, LPT_SIDE_GROUND, &config, NULL, 0, NULL, 0, NULL, 0);
     EXPECT(fault == LPT_E_STATE_SHORT);
     fault = lpt_end_resume(&ground, LPT_SIDE_GROUND, &config, state, needed, NULL, 0, NULL, 0);
     EXPECT(fault == LPT_DONE);
-    lpt_end_free(&ground);
-    lpt_end_free(&craft);
+    lpt_end_free(ground);
+    lpt_end_free(craft);
 }
 
 int main(void) {

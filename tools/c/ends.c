@@ -72,7 +72,7 @@ static int told(LptOutcome said, uint32_t kind, const LptName *name, uint32_t fi
            said.second == second;
 }
 
-static void make(LptEnd *end, uint32_t side, const LptConfig *config) {
+static void make(LptEnd **end, uint32_t side, const LptConfig *config) {
     DONE(lpt_end_new(end, side, config, MEMORIES, 1, MEMORY, sizeof MEMORY));
 }
 
@@ -123,185 +123,185 @@ static LptOutcome command(LptEnd *end, LptTcHead head, const uint8_t *body, size
 
 /* A message in three parts, and its name used again. */
 static void first_path(void) {
-    LptEnd ground = LPT_END_EMPTY, craft = LPT_END_EMPTY;
+    LptEnd *ground = NULL, *craft = NULL;
     size_t len = 99;
     uint32_t state = 9;
     make(&ground, LPT_SIDE_GROUND, &CONFIG);
     make(&craft, LPT_SIDE_SPACECRAFT, &CONFIG);
-    DONE(lpt_end_open(&ground, &NAME, message, 20));
-    DONE(lpt_end_part(&ground, &NAME, 1));
-    EXPECT(lpt_end_outgoing(&ground, packet, 24, &len) == LPT_E_ROOM && len == sizeof FIRST);
-    EXPECT(take_packet(&ground) && packet_is(FIRST, sizeof FIRST));
-    EXPECT(told(taken(&craft, packet, packet_len), LPT_OUTCOME_KEPT, &NAME, 1, 0));
-    EXPECT(told(taken(&craft, packet, packet_len), LPT_OUTCOME_AGAIN, &NAME, 1, 0));
-    EXPECT(told(carry(&ground, &craft, &NAME, 2), LPT_OUTCOME_KEPT, &NAME, 2, 0));
-    EXPECT(lpt_end_released(&craft, got, sizeof got, &len) == LPT_E_NOTHING);
-    EXPECT(told(carry(&ground, &craft, &NAME, 3), LPT_OUTCOME_RELEASED, &NAME, 20, 0));
+    DONE(lpt_end_open(ground, &NAME, message, 20));
+    DONE(lpt_end_part(ground, &NAME, 1));
+    EXPECT(lpt_end_outgoing(ground, packet, 24, &len) == LPT_E_ROOM && len == sizeof FIRST);
+    EXPECT(take_packet(ground) && packet_is(FIRST, sizeof FIRST));
+    EXPECT(told(taken(craft, packet, packet_len), LPT_OUTCOME_KEPT, &NAME, 1, 0));
+    EXPECT(told(taken(craft, packet, packet_len), LPT_OUTCOME_AGAIN, &NAME, 1, 0));
+    EXPECT(told(carry(ground, craft, &NAME, 2), LPT_OUTCOME_KEPT, &NAME, 2, 0));
+    EXPECT(lpt_end_released(craft, got, sizeof got, &len) == LPT_E_NOTHING);
+    EXPECT(told(carry(ground, craft, &NAME, 3), LPT_OUTCOME_RELEASED, &NAME, 20, 0));
     EXPECT(packet_is(LAST, sizeof LAST));
     len = 99;
     memset(got, 0xee, sizeof got);
-    EXPECT(lpt_end_released(&craft, got, 19, &len) == LPT_E_ROOM && len == 20 && got[0] == 0xee);
-    DONE(lpt_end_released(&craft, got, 21, &len));
+    EXPECT(lpt_end_released(craft, got, 19, &len) == LPT_E_ROOM && len == 20 && got[0] == 0xee);
+    DONE(lpt_end_released(craft, got, 21, &len));
     EXPECT(len == 20 && memcmp(got, message, 20) == 0 && got[20] == 0xee);
-    EXPECT(told(taken(&craft, packet, packet_len), LPT_OUTCOME_IGNORED, &NONE, LPT_WHY_CLOSED, 0));
-    EXPECT(lpt_end_released(&craft, got, sizeof got, &len) == LPT_E_NOTHING);
-    EXPECT(lpt_end_outgoing(&craft, got, sizeof got, &len) == LPT_E_NOTHING && len == 20);
+    EXPECT(told(taken(craft, packet, packet_len), LPT_OUTCOME_IGNORED, &NONE, LPT_WHY_CLOSED, 0));
+    EXPECT(lpt_end_released(craft, got, sizeof got, &len) == LPT_E_NOTHING);
+    EXPECT(lpt_end_outgoing(craft, got, sizeof got, &len) == LPT_E_NOTHING && len == 20);
 
-    EXPECT(lpt_end_retire(&ground, LPT_DIRECTION_UP, &NAME) == LPT_E_STILL_OPEN);
-    EXPECT(lpt_end_name(&ground, LPT_DIRECTION_UP, &NAME, &state) == LPT_DONE &&
+    EXPECT(lpt_end_retire(ground, LPT_DIRECTION_UP, &NAME) == LPT_E_STILL_OPEN);
+    EXPECT(lpt_end_name(ground, LPT_DIRECTION_UP, &NAME, &state) == LPT_DONE &&
            state == LPT_NAME_OPEN);
-    DONE(lpt_end_finish(&ground, &NAME));
-    EXPECT(lpt_end_open(&ground, &NAME, message, 20) == LPT_E_IN_USE);
-    EXPECT(lpt_end_name(&craft, LPT_DIRECTION_UP, &NAME, &state) == LPT_DONE &&
+    DONE(lpt_end_finish(ground, &NAME));
+    EXPECT(lpt_end_open(ground, &NAME, message, 20) == LPT_E_IN_USE);
+    EXPECT(lpt_end_name(craft, LPT_DIRECTION_UP, &NAME, &state) == LPT_DONE &&
            state == LPT_NAME_CLOSED);
-    EXPECT(lpt_end_name(&ground, LPT_DIRECTION_DOWN, &NAME, &state) == LPT_DONE &&
+    EXPECT(lpt_end_name(ground, LPT_DIRECTION_DOWN, &NAME, &state) == LPT_DONE &&
            state == LPT_NAME_FREE);
-    DONE(lpt_end_retire(&ground, LPT_DIRECTION_UP, &NAME));
-    DONE(lpt_end_retire(&craft, LPT_DIRECTION_UP, &NAME));
-    DONE(lpt_end_retire(&craft, LPT_DIRECTION_DOWN, &NAME));
-    DONE(lpt_end_open(&ground, &NAME, message, 9));
-    EXPECT(told(carry(&ground, &craft, &NAME, 2), LPT_OUTCOME_KEPT, &NAME, 2, 0));
-    EXPECT(lpt_end_retire(&craft, LPT_DIRECTION_UP, &NAME) == LPT_E_STILL_OPEN);
-    EXPECT(told(carry(&ground, &craft, &NAME, 1), LPT_OUTCOME_RELEASED, &NAME, 9, 0));
-    lpt_end_free(&ground);
-    lpt_end_free(&craft);
+    DONE(lpt_end_retire(ground, LPT_DIRECTION_UP, &NAME));
+    DONE(lpt_end_retire(craft, LPT_DIRECTION_UP, &NAME));
+    DONE(lpt_end_retire(craft, LPT_DIRECTION_DOWN, &NAME));
+    DONE(lpt_end_open(ground, &NAME, message, 9));
+    EXPECT(told(carry(ground, craft, &NAME, 2), LPT_OUTCOME_KEPT, &NAME, 2, 0));
+    EXPECT(lpt_end_retire(craft, LPT_DIRECTION_UP, &NAME) == LPT_E_STILL_OPEN);
+    EXPECT(told(carry(ground, craft, &NAME, 1), LPT_OUTCOME_RELEASED, &NAME, 9, 0));
+    lpt_end_free(ground);
+    lpt_end_free(craft);
 }
 
 /* A part that is lost: the reception is given up, and ground hears of it. */
 static void lost_part(void) {
-    LptEnd ground = LPT_END_EMPTY, craft = LPT_END_EMPTY;
+    LptEnd *ground = NULL, *craft = NULL;
     LptName name = NONE;
     unsigned tick;
     make(&ground, LPT_SIDE_GROUND, &CONFIG);
     make(&craft, LPT_SIDE_SPACECRAFT, &CONFIG);
-    DONE(lpt_end_open(&ground, &NAME, message, 20));
-    EXPECT(told(carry(&ground, &craft, &NAME, 1), LPT_OUTCOME_KEPT, &NAME, 1, 0));
-    EXPECT(told(carry(&ground, &craft, &NAME, 3), LPT_OUTCOME_KEPT, &NAME, 3, 0));
+    DONE(lpt_end_open(ground, &NAME, message, 20));
+    EXPECT(told(carry(ground, craft, &NAME, 1), LPT_OUTCOME_KEPT, &NAME, 1, 0));
+    EXPECT(told(carry(ground, craft, &NAME, 3), LPT_OUTCOME_KEPT, &NAME, 3, 0));
     for (tick = 0; tick < 19; tick++) {
-        EXPECT(lpt_end_expire(&craft, &name) == LPT_E_NOTHING_DUE && same(name, &NONE));
-        EXPECT(has(&craft, CONFIG.clock + tick, 0, 0, 0, 0));
-        DONE(lpt_end_tick(&craft));
+        EXPECT(lpt_end_expire(craft, &name) == LPT_E_NOTHING_DUE && same(name, &NONE));
+        EXPECT(has(craft, CONFIG.clock + tick, 0, 0, 0, 0));
+        DONE(lpt_end_tick(craft));
     }
-    EXPECT(has(&craft, CONFIG.clock + 19, 1, 0, 0, 0));
-    EXPECT(lpt_end_expire(&craft, &name) == LPT_DONE && same(name, &NAME));
-    EXPECT(has(&craft, CONFIG.clock + 19, 0, 1, 0, 0));
-    EXPECT(take_packet(&craft) && packet_is(ABORTED, sizeof ABORTED));
-    EXPECT(told(taken(&ground, ABORTED, sizeof ABORTED), LPT_OUTCOME_ABORT_NOTED, &NAME, 1, 0));
-    EXPECT(lpt_end_part(&ground, &NAME, 2) == LPT_E_NOT_OPEN);
-    EXPECT(lpt_end_finish(&ground, &NAME) == LPT_E_NOT_OPEN);
-    EXPECT(lpt_end_sent(&craft) == LPT_E_NOTHING);
-    lpt_end_free(&ground);
-    lpt_end_free(&craft);
+    EXPECT(has(craft, CONFIG.clock + 19, 1, 0, 0, 0));
+    EXPECT(lpt_end_expire(craft, &name) == LPT_DONE && same(name, &NAME));
+    EXPECT(has(craft, CONFIG.clock + 19, 0, 1, 0, 0));
+    EXPECT(take_packet(craft) && packet_is(ABORTED, sizeof ABORTED));
+    EXPECT(told(taken(ground, ABORTED, sizeof ABORTED), LPT_OUTCOME_ABORT_NOTED, &NAME, 1, 0));
+    EXPECT(lpt_end_part(ground, &NAME, 2) == LPT_E_NOT_OPEN);
+    EXPECT(lpt_end_finish(ground, &NAME) == LPT_E_NOT_OPEN);
+    EXPECT(lpt_end_sent(craft) == LPT_E_NOTHING);
+    lpt_end_free(ground);
+    lpt_end_free(craft);
 }
 
 /* One identifier of two sources: two messages, of which each is sent, released, freed, opened again
    and given up by itself. */
 static void two_sources(void) {
-    LptEnd ground = LPT_END_EMPTY, craft = LPT_END_EMPTY;
+    LptEnd *ground = NULL, *craft = NULL;
     LptName name = NONE;
     size_t len = 0;
     unsigned tick;
     make(&ground, LPT_SIDE_GROUND, &CONFIG);
     make(&craft, LPT_SIDE_SPACECRAFT, &CONFIG);
-    DONE(lpt_end_open(&ground, &NAME, message, 20));
-    DONE(lpt_end_open(&ground, &OTHER, message, 9));
-    EXPECT(lpt_end_open(&ground, &OTHER, message, 9) == LPT_E_IN_USE);
-    EXPECT(told(carry(&ground, &craft, &NAME, 1), LPT_OUTCOME_KEPT, &NAME, 1, 0));
-    EXPECT(told(carry(&ground, &craft, &OTHER, 1), LPT_OUTCOME_KEPT, &OTHER, 1, 0));
+    DONE(lpt_end_open(ground, &NAME, message, 20));
+    DONE(lpt_end_open(ground, &OTHER, message, 9));
+    EXPECT(lpt_end_open(ground, &OTHER, message, 9) == LPT_E_IN_USE);
+    EXPECT(told(carry(ground, craft, &NAME, 1), LPT_OUTCOME_KEPT, &NAME, 1, 0));
+    EXPECT(told(carry(ground, craft, &OTHER, 1), LPT_OUTCOME_KEPT, &OTHER, 1, 0));
     EXPECT(packet_is(FIRST_OF_OTHER, sizeof FIRST_OF_OTHER));
-    EXPECT(told(carry(&ground, &craft, &OTHER, 2), LPT_OUTCOME_RELEASED, &OTHER, 9, 0));
-    DONE(lpt_end_released(&craft, got, sizeof got, &len));
+    EXPECT(told(carry(ground, craft, &OTHER, 2), LPT_OUTCOME_RELEASED, &OTHER, 9, 0));
+    DONE(lpt_end_released(craft, got, sizeof got, &len));
     EXPECT(len == 9 && memcmp(got, message, 9) == 0);
-    EXPECT(told(carry(&ground, &craft, &OTHER, 2), LPT_OUTCOME_IGNORED, &NONE, LPT_WHY_CLOSED, 0));
+    EXPECT(told(carry(ground, craft, &OTHER, 2), LPT_OUTCOME_IGNORED, &NONE, LPT_WHY_CLOSED, 0));
 
-    DONE(lpt_end_finish(&ground, &OTHER));
-    DONE(lpt_end_retire(&ground, LPT_DIRECTION_UP, &OTHER));
-    DONE(lpt_end_retire(&craft, LPT_DIRECTION_UP, &OTHER));
-    EXPECT(lpt_end_retire(&ground, LPT_DIRECTION_UP, &NAME) == LPT_E_STILL_OPEN);
-    EXPECT(lpt_end_retire(&craft, LPT_DIRECTION_UP, &NAME) == LPT_E_STILL_OPEN);
-    DONE(lpt_end_open(&ground, &OTHER, message, 20));
-    EXPECT(told(carry(&ground, &craft, &OTHER, 3), LPT_OUTCOME_KEPT, &OTHER, 3, 0));
+    DONE(lpt_end_finish(ground, &OTHER));
+    DONE(lpt_end_retire(ground, LPT_DIRECTION_UP, &OTHER));
+    DONE(lpt_end_retire(craft, LPT_DIRECTION_UP, &OTHER));
+    EXPECT(lpt_end_retire(ground, LPT_DIRECTION_UP, &NAME) == LPT_E_STILL_OPEN);
+    EXPECT(lpt_end_retire(craft, LPT_DIRECTION_UP, &NAME) == LPT_E_STILL_OPEN);
+    DONE(lpt_end_open(ground, &OTHER, message, 20));
+    EXPECT(told(carry(ground, craft, &OTHER, 3), LPT_OUTCOME_KEPT, &OTHER, 3, 0));
 
     for (tick = 0; tick < 19; tick++) {
-        DONE(lpt_end_tick(&craft));
+        DONE(lpt_end_tick(craft));
     }
-    EXPECT(lpt_end_expire(&craft, &name) == LPT_DONE && same(name, &NAME));
-    EXPECT(lpt_end_expire(&craft, &name) == LPT_DONE && same(name, &OTHER));
-    EXPECT(take_packet(&craft) && packet_is(ABORTED, sizeof ABORTED));
-    EXPECT(take_packet(&craft) && packet_is(OTHER_ABORTED, sizeof OTHER_ABORTED));
-    EXPECT(told(taken(&ground, packet, packet_len), LPT_OUTCOME_ABORT_NOTED, &OTHER, 1, 0));
-    EXPECT(lpt_end_part(&ground, &OTHER, 1) == LPT_E_NOT_OPEN);
-    DONE(lpt_end_part(&ground, &NAME, 2));
-    lpt_end_free(&ground);
-    lpt_end_free(&craft);
+    EXPECT(lpt_end_expire(craft, &name) == LPT_DONE && same(name, &NAME));
+    EXPECT(lpt_end_expire(craft, &name) == LPT_DONE && same(name, &OTHER));
+    EXPECT(take_packet(craft) && packet_is(ABORTED, sizeof ABORTED));
+    EXPECT(take_packet(craft) && packet_is(OTHER_ABORTED, sizeof OTHER_ABORTED));
+    EXPECT(told(taken(ground, packet, packet_len), LPT_OUTCOME_ABORT_NOTED, &OTHER, 1, 0));
+    EXPECT(lpt_end_part(ground, &OTHER, 1) == LPT_E_NOT_OPEN);
+    DONE(lpt_end_part(ground, &NAME, 2));
+    lpt_end_free(ground);
+    lpt_end_free(craft);
 }
 
 /* Parts that break their reception off, and two reports that wait to be sent. */
 static void broken(void) {
     LptConfig strict = CONFIG;
-    LptEnd ground = LPT_END_EMPTY, craft = LPT_END_EMPTY;
-    LptEnd twin = LPT_END_EMPTY, other = LPT_END_EMPTY;
+    LptEnd *ground = NULL, *craft = NULL;
+    LptEnd *twin = NULL, *other = NULL;
     static uint8_t another[20];
     make(&ground, LPT_SIDE_GROUND, &CONFIG);
     make(&craft, LPT_SIDE_SPACECRAFT, &CONFIG);
     make(&twin, LPT_SIDE_GROUND, &CONFIG);
-    DONE(lpt_end_open(&ground, &NAME, message, 20));
-    DONE(lpt_end_open(&ground, named(8), message, 20));
-    DONE(lpt_end_open(&twin, &NAME, another, 20));
-    DONE(lpt_end_open(&twin, named(8), another, 20));
-    EXPECT(told(carry(&ground, &craft, &NAME, 1), LPT_OUTCOME_KEPT, &NAME, 1, 0));
-    EXPECT(told(carry(&ground, &craft, named(8), 3), LPT_OUTCOME_KEPT, named(8), 3, 0));
-    EXPECT(told(carry(&twin, &craft, &NAME, 1), LPT_OUTCOME_BROKEN, &NAME, 3, 0));
-    EXPECT(told(carry(&twin, &craft, named(8), 3), LPT_OUTCOME_BROKEN, named(8), 3, 0));
-    EXPECT(take_packet(&craft));
-    EXPECT(told(taken(&ground, packet, packet_len), LPT_OUTCOME_ABORT_NOTED, &NAME, 3, 0));
-    EXPECT(take_packet(&craft));
-    EXPECT(told(taken(&ground, packet, packet_len), LPT_OUTCOME_ABORT_NOTED, named(8), 3, 0));
-    EXPECT(!take_packet(&craft));
+    DONE(lpt_end_open(ground, &NAME, message, 20));
+    DONE(lpt_end_open(ground, named(8), message, 20));
+    DONE(lpt_end_open(twin, &NAME, another, 20));
+    DONE(lpt_end_open(twin, named(8), another, 20));
+    EXPECT(told(carry(ground, craft, &NAME, 1), LPT_OUTCOME_KEPT, &NAME, 1, 0));
+    EXPECT(told(carry(ground, craft, named(8), 3), LPT_OUTCOME_KEPT, named(8), 3, 0));
+    EXPECT(told(carry(twin, craft, &NAME, 1), LPT_OUTCOME_BROKEN, &NAME, 3, 0));
+    EXPECT(told(carry(twin, craft, named(8), 3), LPT_OUTCOME_BROKEN, named(8), 3, 0));
+    EXPECT(take_packet(craft));
+    EXPECT(told(taken(ground, packet, packet_len), LPT_OUTCOME_ABORT_NOTED, &NAME, 3, 0));
+    EXPECT(take_packet(craft));
+    EXPECT(told(taken(ground, packet, packet_len), LPT_OUTCOME_ABORT_NOTED, named(8), 3, 0));
+    EXPECT(!take_packet(craft));
 
     strict.mode = LPT_MODE_STRICT;
     make(&other, LPT_SIDE_SPACECRAFT, &strict);
-    EXPECT(told(carry(&twin, &other, &NAME, 1), LPT_OUTCOME_KEPT, &NAME, 1, 0));
-    EXPECT(told(carry(&twin, &other, &NAME, 3), LPT_OUTCOME_BROKEN, &NAME, 2, 0));
-    lpt_end_free(&ground);
-    lpt_end_free(&craft);
-    lpt_end_free(&twin);
-    lpt_end_free(&other);
+    EXPECT(told(carry(twin, other, &NAME, 1), LPT_OUTCOME_KEPT, &NAME, 1, 0));
+    EXPECT(told(carry(twin, other, &NAME, 3), LPT_OUTCOME_BROKEN, &NAME, 2, 0));
+    lpt_end_free(ground);
+    lpt_end_free(craft);
+    lpt_end_free(twin);
+    lpt_end_free(other);
 }
 
 /* What is neither a part nor an abortion, and what nothing is made of. */
 static void other_packets(void) {
     LptTcHead head = {100, 0, 0, 6, 5, 1};
     LptTmHead report = {100, 0, 0, 1, 7, 0, 1, 0};
-    LptEnd ground = LPT_END_EMPTY, craft = LPT_END_EMPTY;
+    LptEnd *ground = NULL, *craft = NULL;
     uint8_t body[12] = {0, 1, 0, 1, 1, 2, 3, 4, 5, 6, 7, 8};
     size_t len = 0;
     make(&ground, LPT_SIDE_GROUND, &CONFIG);
     make(&craft, LPT_SIDE_SPACECRAFT, &CONFIG);
-    EXPECT(told(command(&craft, head, body, 3), LPT_OUTCOME_PLAIN_RELEASED, &NONE, 16, 0));
-    DONE(lpt_end_released(&craft, got, sizeof got, &len));
+    EXPECT(told(command(craft, head, body, 3), LPT_OUTCOME_PLAIN_RELEASED, &NONE, 16, 0));
+    DONE(lpt_end_released(craft, got, sizeof got, &len));
     EXPECT(len == packet_len && memcmp(got, packet, len) == 0);
-    EXPECT(told(taken(&ground, packet, packet_len), LPT_OUTCOME_IGNORED, &NONE, LPT_WHY_UNREADABLE,
+    EXPECT(told(taken(ground, packet, packet_len), LPT_OUTCOME_IGNORED, &NONE, LPT_WHY_UNREADABLE,
                 0));
     DONE(lpt_write_tm(&report, body, 4, packet, sizeof packet, &packet_len));
-    EXPECT(told(taken(&ground, packet, packet_len), LPT_OUTCOME_REPORT_NOTED, &NONE, 1, 7));
-    EXPECT(told(taken(&craft, packet, 5), LPT_OUTCOME_IGNORED, &NONE, LPT_WHY_UNREADABLE, 0));
-    EXPECT(told(taken(&craft, packet, 0), LPT_OUTCOME_IGNORED, &NONE, LPT_WHY_UNREADABLE, 0));
-    EXPECT(told(taken(&craft, IDLE, sizeof IDLE), LPT_OUTCOME_IGNORED, &NONE, LPT_WHY_IDLE, 0));
+    EXPECT(told(taken(ground, packet, packet_len), LPT_OUTCOME_REPORT_NOTED, &NONE, 1, 7));
+    EXPECT(told(taken(craft, packet, 5), LPT_OUTCOME_IGNORED, &NONE, LPT_WHY_UNREADABLE, 0));
+    EXPECT(told(taken(craft, packet, 0), LPT_OUTCOME_IGNORED, &NONE, LPT_WHY_UNREADABLE, 0));
+    EXPECT(told(taken(craft, IDLE, sizeof IDLE), LPT_OUTCOME_IGNORED, &NONE, LPT_WHY_IDLE, 0));
     head.apid = 101;
     EXPECT(
-        told(command(&craft, head, body, 3), LPT_OUTCOME_IGNORED, &NONE, LPT_WHY_FOREIGN_APID, 0));
+        told(command(craft, head, body, 3), LPT_OUTCOME_IGNORED, &NONE, LPT_WHY_FOREIGN_APID, 0));
     head.apid = 100;
     head.service = 13;
     head.subtype = 9;
-    EXPECT(told(command(&craft, head, body, 11), LPT_OUTCOME_IGNORED, &NONE, LPT_WHY_BAD_PART, 0));
-    EXPECT(told(command(&craft, head, body, 12), LPT_OUTCOME_KEPT, named(1), 1, 0));
+    EXPECT(told(command(craft, head, body, 11), LPT_OUTCOME_IGNORED, &NONE, LPT_WHY_BAD_PART, 0));
+    EXPECT(told(command(craft, head, body, 12), LPT_OUTCOME_KEPT, named(1), 1, 0));
     body[1] = 2;
-    EXPECT(told(command(&craft, head, body, 12), LPT_OUTCOME_KEPT, named(2), 1, 0));
+    EXPECT(told(command(craft, head, body, 12), LPT_OUTCOME_KEPT, named(2), 1, 0));
     body[1] = 3;
-    EXPECT(told(command(&craft, head, body, 12), LPT_OUTCOME_IGNORED, &NONE, LPT_WHY_NO_ROOM, 0));
-    lpt_end_free(&ground);
-    lpt_end_free(&craft);
+    EXPECT(told(command(craft, head, body, 12), LPT_OUTCOME_IGNORED, &NONE, LPT_WHY_NO_ROOM, 0));
+    lpt_end_free(ground);
+    lpt_end_free(craft);
 }
 
 /* A request that loads three octets into the memory, read and executed, with its three reports; and
@@ -313,7 +313,7 @@ static void executed(void) {
     LptTcHead head = {100, 0, 11, 6, 2, 1};
     LptApplied applied = {9, NAME, 9};
     LptArea area = {9, 9, 9};
-    LptEnd craft = LPT_END_EMPTY, ground = LPT_END_EMPTY;
+    LptEnd *craft = NULL, *ground = NULL;
     uint16_t sum = lpt_crc16(load + 8, 3);
     size_t len = 0;
     unsigned subtype;
@@ -321,47 +321,47 @@ static void executed(void) {
     load[12] = (uint8_t)sum;
     make(&craft, LPT_SIDE_SPACECRAFT, &CONFIG);
     make(&ground, LPT_SIDE_GROUND, &CONFIG);
-    EXPECT(lpt_end_read(&ground) == LPT_E_NO_JOB && lpt_end_read(&craft) == LPT_E_NO_JOB);
-    EXPECT(lpt_end_execute(&ground, &applied) == LPT_E_NO_JOB);
-    EXPECT(lpt_end_execute(&craft, &applied) == LPT_E_NO_JOB && applied.kind == 9);
+    EXPECT(lpt_end_read(ground) == LPT_E_NO_JOB && lpt_end_read(craft) == LPT_E_NO_JOB);
+    EXPECT(lpt_end_execute(ground, &applied) == LPT_E_NO_JOB);
+    EXPECT(lpt_end_execute(craft, &applied) == LPT_E_NO_JOB && applied.kind == 9);
     EXPECT(
-        told(command(&craft, head, load, sizeof load), LPT_OUTCOME_PLAIN_RELEASED, &NONE, 26, 0));
-    EXPECT(lpt_end_execute(&craft, &applied) == LPT_E_NOT_READ && applied.kind == 9);
-    EXPECT(lpt_end_asked_area(&craft, 1, &area) == LPT_E_NOTHING && area.memory == 9);
-    EXPECT(lpt_end_asked_area(&ground, 0, &area) == LPT_E_NO_JOB && area.address == 9);
-    DONE(lpt_end_asked_area(&craft, 0, &area));
+        told(command(craft, head, load, sizeof load), LPT_OUTCOME_PLAIN_RELEASED, &NONE, 26, 0));
+    EXPECT(lpt_end_execute(craft, &applied) == LPT_E_NOT_READ && applied.kind == 9);
+    EXPECT(lpt_end_asked_area(craft, 1, &area) == LPT_E_NOTHING && area.memory == 9);
+    EXPECT(lpt_end_asked_area(ground, 0, &area) == LPT_E_NO_JOB && area.address == 9);
+    DONE(lpt_end_asked_area(craft, 0, &area));
     EXPECT(area.memory == 1 && area.address == 2 && area.len == 3);
-    DONE(lpt_end_read(&craft));
-    EXPECT(lpt_end_asked_area(&craft, 0, &area) == LPT_E_NO_JOB && area.len == 3);
-    EXPECT(lpt_end_read(&craft) == LPT_E_NO_JOB);
-    DONE(lpt_end_execute(&craft, &applied));
+    DONE(lpt_end_read(craft));
+    EXPECT(lpt_end_asked_area(craft, 0, &area) == LPT_E_NO_JOB && area.len == 3);
+    EXPECT(lpt_end_read(craft) == LPT_E_NO_JOB);
+    DONE(lpt_end_execute(craft, &applied));
     EXPECT(applied.kind == LPT_APPLIED_CARRIED_OUT && applied.value == 0);
-    EXPECT(lpt_end_memory(&craft, 2, got, sizeof got, &len) == LPT_E_NOTHING);
-    EXPECT(lpt_end_memory(&ground, 1, got, sizeof got, &len) == LPT_E_NOTHING);
-    DONE(lpt_end_memory(&craft, 1, got, sizeof got, &len));
+    EXPECT(lpt_end_memory(craft, 2, got, sizeof got, &len) == LPT_E_NOTHING);
+    EXPECT(lpt_end_memory(ground, 1, got, sizeof got, &len) == LPT_E_NOTHING);
+    DONE(lpt_end_memory(craft, 1, got, sizeof got, &len));
     EXPECT(len == sizeof MEMORY && got[1] == 0 && got[2] == 7 && got[4] == 9 && got[5] == 0);
-    DONE(lpt_end_memory_range(&craft, area.memory, area.address, got, area.len));
+    DONE(lpt_end_memory_range(craft, area.memory, area.address, got, area.len));
     EXPECT(got[0] == 7 && got[1] == 8 && got[2] == 9 && got[3] == 8);
-    DONE(lpt_end_memory_range(&craft, 1, sizeof MEMORY, got, 0));
-    EXPECT(lpt_end_memory_range(&craft, 1, sizeof MEMORY - 1, got, 2) == LPT_E_RANGE);
-    EXPECT(lpt_end_memory_range(&craft, 1, 0xffffffff, got, 1) == LPT_E_RANGE && got[0] == 7);
-    EXPECT(lpt_end_memory_range(&craft, 2, 0, got, 1) == LPT_E_NOTHING);
-    EXPECT(lpt_end_memory_range(&ground, 1, 0, got, 1) == LPT_E_NOTHING);
+    DONE(lpt_end_memory_range(craft, 1, sizeof MEMORY, got, 0));
+    EXPECT(lpt_end_memory_range(craft, 1, sizeof MEMORY - 1, got, 2) == LPT_E_RANGE);
+    EXPECT(lpt_end_memory_range(craft, 1, 0xffffffff, got, 1) == LPT_E_RANGE && got[0] == 7);
+    EXPECT(lpt_end_memory_range(craft, 2, 0, got, 1) == LPT_E_NOTHING);
+    EXPECT(lpt_end_memory_range(ground, 1, 0, got, 1) == LPT_E_NOTHING);
     head.subtype = 5;
     EXPECT(
-        told(command(&craft, head, dump, sizeof dump), LPT_OUTCOME_PLAIN_RELEASED, &NONE, 21, 0));
-    EXPECT(lpt_end_asked_area(&craft, 0, &area) == LPT_E_NOTHING && area.len == 3);
-    DONE(lpt_end_read(&craft));
-    EXPECT(lpt_end_execute(&craft, &applied) == LPT_E_UNSENT);
+        told(command(craft, head, dump, sizeof dump), LPT_OUTCOME_PLAIN_RELEASED, &NONE, 21, 0));
+    EXPECT(lpt_end_asked_area(craft, 0, &area) == LPT_E_NOTHING && area.len == 3);
+    DONE(lpt_end_read(craft));
+    EXPECT(lpt_end_execute(craft, &applied) == LPT_E_UNSENT);
     for (subtype = 1; subtype < 8; subtype = subtype == 3 ? 7 : subtype + 2) {
-        EXPECT(take_packet(&craft) && packet[7] == 1 && packet[8] == subtype);
+        EXPECT(take_packet(craft) && packet[7] == 1 && packet[8] == subtype);
     }
-    DONE(lpt_end_execute(&craft, &applied));
+    DONE(lpt_end_execute(craft, &applied));
     EXPECT(applied.kind == LPT_APPLIED_REFUSED && applied.value == 3);
-    EXPECT(take_packet(&craft) && packet[8] == 1 && take_packet(&craft) && packet[8] == 4);
-    EXPECT(!take_packet(&craft) && lpt_end_execute(&craft, &applied) == LPT_E_NO_JOB);
-    lpt_end_free(&craft);
-    lpt_end_free(&ground);
+    EXPECT(take_packet(craft) && packet[8] == 1 && take_packet(craft) && packet[8] == 4);
+    EXPECT(!take_packet(craft) && lpt_end_execute(craft, &applied) == LPT_E_NO_JOB);
+    lpt_end_free(craft);
+    lpt_end_free(ground);
 }
 
 /* What ground has to send, given to the spacecraft, whose requests are executed; and what that has
@@ -385,7 +385,7 @@ static void requests(void) {
     /* Memory 9, one area: at 197, three octets, and their checksum; and a dump of all of it. */
     uint8_t load[] = {9, 1, 0, 0, 0, 197, 0, 3, 7, 8, 9, 0, 0};
     uint8_t dump[] = {9, 1, 0, 0, 0, 0, 0, 200};
-    LptEnd ground = LPT_END_EMPTY, craft = LPT_END_EMPTY;
+    LptEnd *ground = NULL, *craft = NULL;
     LptOutcome said = {0, NONE, 0, 0};
     LptApplied applied;
     uint16_t sum = lpt_crc16(load + 8, 3), k;
@@ -394,62 +394,62 @@ static void requests(void) {
     load[12] = (uint8_t)sum;
     make(&ground, LPT_SIDE_GROUND, &CONFIG);
     DONE(lpt_end_new(&craft, LPT_SIDE_SPACECRAFT, &CONFIG, two, 2, message, 220));
-    EXPECT(lpt_end_plain(&ground, 1, 16, 6, 2, load, sizeof load) == LPT_E_RANGE);
-    EXPECT(lpt_end_plain(&craft, 1, 0, 6, 2, load, sizeof load) == LPT_E_RANGE);
-    EXPECT(lpt_end_plain(&ground, 1, 9, 13, 9, load, sizeof load) == LPT_E_PART_REQUEST);
-    EXPECT(lpt_end_plain(&ground, 1, 9, 6, 2, got, P + 11) == LPT_E_LONG_MESSAGE);
-    EXPECT(!take_packet(&ground));
-    DONE(lpt_end_plain(&ground, 1, 9, 6, 2, load, sizeof load));
-    applied = answered(&ground, &craft);
+    EXPECT(lpt_end_plain(ground, 1, 16, 6, 2, load, sizeof load) == LPT_E_RANGE);
+    EXPECT(lpt_end_plain(craft, 1, 0, 6, 2, load, sizeof load) == LPT_E_RANGE);
+    EXPECT(lpt_end_plain(ground, 1, 9, 13, 9, load, sizeof load) == LPT_E_PART_REQUEST);
+    EXPECT(lpt_end_plain(ground, 1, 9, 6, 2, got, P + 11) == LPT_E_LONG_MESSAGE);
+    EXPECT(!take_packet(ground));
+    DONE(lpt_end_plain(ground, 1, 9, 6, 2, load, sizeof load));
+    applied = answered(ground, craft);
     EXPECT(applied.kind == LPT_APPLIED_CARRIED_OUT && applied.value == 0);
-    DONE(lpt_end_memory(&craft, 9, got, sizeof got, &len));
+    DONE(lpt_end_memory(craft, 9, got, sizeof got, &len));
     EXPECT(len == 200 && memcmp(got, message + 20, 197) == 0 &&
            memcmp(got + 197, load + 8, 3) == 0);
-    DONE(lpt_end_memory(&craft, 1, got, sizeof got, &len));
+    DONE(lpt_end_memory(craft, 1, got, sizeof got, &len));
     EXPECT(len == 10 && memcmp(got, message, 10) == 0);
 
-    DONE(lpt_end_plain(&ground, 1, 0, 6, 5, dump, sizeof dump));
-    applied = answered(&ground, &craft);
+    DONE(lpt_end_plain(ground, 1, 0, 6, 5, dump, sizeof dump));
+    applied = answered(ground, craft);
     EXPECT(applied.kind == LPT_APPLIED_OPENED && same(applied.name, named(0)) &&
            applied.value == 0);
-    for (k = 1; lpt_end_part(&craft, &applied.name, k) == LPT_DONE; k++) {
-        EXPECT(take_packet(&craft));
-        said = taken(&ground, packet, packet_len);
+    for (k = 1; lpt_end_part(craft, &applied.name, k) == LPT_DONE; k++) {
+        EXPECT(take_packet(craft));
+        said = taken(ground, packet, packet_len);
     }
     /* Around the octets: two headers, the report's own eight octets, and two checksums. */
     EXPECT(told(said, LPT_OUTCOME_RELEASED, named(0), 6 + 11 + 8 + 200 + 2 + 2, 0));
-    DONE(lpt_end_released(&ground, got, sizeof got, &len));
+    DONE(lpt_end_released(ground, got, sizeof got, &len));
     EXPECT(got[7] == 6 && got[8] == 6 && memcmp(got + 25, message + 20, 197) == 0);
     EXPECT(memcmp(got + 25 + 197, load + 8, 3) == 0);
-    lpt_end_free(&ground);
-    lpt_end_free(&craft);
+    lpt_end_free(ground);
+    lpt_end_free(craft);
 }
 
 /* A message of this length downwards, in parts of p octets. */
 static void long_message(size_t len, uint32_t p) {
     LptConfig config = CONFIG;
-    LptEnd ground = LPT_END_EMPTY, craft = LPT_END_EMPTY;
+    LptEnd *ground = NULL, *craft = NULL;
     uint32_t k, parts = lpt_part_count((uint32_t)len, p), kept = 0;
     LptOutcome said = {0, NONE, 0, 0};
     size_t released = 0;
     config.part_size = p;
     make(&ground, LPT_SIDE_GROUND, &config);
     make(&craft, LPT_SIDE_SPACECRAFT, &config);
-    DONE(lpt_end_open(&craft, named(65535), message, len));
+    DONE(lpt_end_open(craft, named(65535), message, len));
     for (k = parts; k > 0; k--) {
-        kept += make_part(&craft, named(65535), (uint16_t)k) &&
-                lpt_end_packet(&ground, packet, packet_len, &said) == LPT_DONE &&
+        kept += make_part(craft, named(65535), (uint16_t)k) &&
+                lpt_end_packet(ground, packet, packet_len, &said) == LPT_DONE &&
                 said.kind == (uint32_t)(k == 1 ? LPT_OUTCOME_RELEASED : LPT_OUTCOME_KEPT);
     }
     EXPECT(kept == parts && told(said, LPT_OUTCOME_RELEASED, named(65535), (uint32_t)len, 0));
-    DONE(lpt_end_released(&ground, got, sizeof got, &released));
+    DONE(lpt_end_released(ground, got, sizeof got, &released));
     EXPECT(released == len && memcmp(got, message, len) == 0);
-    lpt_end_free(&ground);
-    lpt_end_free(&craft);
+    lpt_end_free(ground);
+    lpt_end_free(craft);
 }
 
 /* A configuration that has this wrong. */
-static uint32_t new_with(LptEnd *end, uint32_t side, LptConfig config, size_t memory_len) {
+static uint32_t new_with(LptEnd **end, uint32_t side, LptConfig config, size_t memory_len) {
     static uint8_t memory[1048577];
     LptMemory one = {1, 0, 0};
     one.len = memory_len;
@@ -457,13 +457,13 @@ static uint32_t new_with(LptEnd *end, uint32_t side, LptConfig config, size_t me
 }
 
 /* A spacecraft with the first of these memories, of this content. */
-static uint32_t new_of(LptEnd *end, const LptMemory *memories, size_t count, size_t len) {
+static uint32_t new_of(LptEnd **end, const LptMemory *memories, size_t count, size_t len) {
     return lpt_end_new(end, LPT_SIDE_SPACECRAFT, &CONFIG, memories, count, message, len);
 }
 
 static void refused_memories(void) {
     LptMemory many[17], two[] = {{1, 0, 4}, {2, 4, 4}};
-    LptEnd end = LPT_END_EMPTY;
+    LptEnd *end = NULL;
     size_t k;
     for (k = 0; k < 17; k++) {
         many[k].id = (uint8_t)k;
@@ -482,13 +482,13 @@ static void refused_memories(void) {
     EXPECT(new_of(&end, two, 2, 8) == LPT_E_MEMORIES);
     two[1].len = 4;
     two[1].id = 1;
-    EXPECT(new_of(&end, two, 2, 8) == LPT_E_MEMORIES && !end.full);
+    EXPECT(new_of(&end, two, 2, 8) == LPT_E_MEMORIES && end == NULL);
     DONE(new_of(&end, many, 16, 16));
-    lpt_end_free(&end);
+    lpt_end_free(end);
 }
 
 static void refused_ends(void) {
-    LptEnd end = LPT_END_EMPTY;
+    LptEnd *end = NULL;
     LptConfig c = CONFIG;
     EXPECT(new_with(&end, 2, c, 1) == LPT_E_RANGE);
     c.mode = 2;
@@ -512,82 +512,65 @@ static void refused_ends(void) {
     EXPECT(new_with(&end, LPT_SIDE_GROUND, c, 1) == LPT_E_CONFIG_OUTGOING);
     EXPECT(new_with(&end, LPT_SIDE_SPACECRAFT, CONFIG, 0) == LPT_E_MEMORIES);
     EXPECT(new_with(&end, LPT_SIDE_SPACECRAFT, CONFIG, 1048577) == LPT_E_MEMORIES);
-    EXPECT(!end.full && end.held.at == NULL);
+    EXPECT(end == NULL);
+    lpt_end_free(end);
     DONE(new_with(&end, LPT_SIDE_GROUND, CONFIG, 0));
-    EXPECT(end.full && new_with(&end, LPT_SIDE_GROUND, CONFIG, 0) == LPT_E_FULL);
-    lpt_end_free(&end);
-    EXPECT(!end.full);
-    lpt_end_free(&end);
+    EXPECT(end != NULL);
+    lpt_end_free(end);
 }
 
 static void refused_calls(void) {
     LptConfig config = CONFIG;
-    LptEnd end = LPT_END_EMPTY;
-    LptOutcome said = {7, NAME, 7, 7};
-    LptView view = {9, 9, 9, 9, 9, 9};
-    LptReception reception = {NAME, 9, 9, 9};
-    LptSender sender = {NAME, 9, 9};
-    uint16_t number = 9;
-    LptArea area = {9, 9, 9};
-    size_t len = 99;
+    LptEnd *end = NULL;
     uint32_t state = 9;
-    LptName name = NAME;
-    EXPECT(lpt_end_packet(&end, FIRST, sizeof FIRST, &said) == LPT_E_EMPTY);
-    EXPECT(told(said, 7, &NAME, 7, 7));
-    EXPECT(lpt_end_released(&end, got, sizeof got, &len) == LPT_E_EMPTY && len == 99);
-    EXPECT(lpt_end_outgoing(&end, got, sizeof got, &len) == LPT_E_EMPTY && len == 99);
-    EXPECT(lpt_end_sent(&end) == LPT_E_EMPTY && lpt_end_tick(&end) == LPT_E_EMPTY);
-    EXPECT(lpt_end_expire(&end, &name) == LPT_E_EMPTY && same(name, &NAME));
-    EXPECT(lpt_end_open(&end, &NAME, message, 20) == LPT_E_EMPTY);
-    EXPECT(lpt_end_part(&end, &NAME, 1) == LPT_E_EMPTY &&
-           lpt_end_finish(&end, &NAME) == LPT_E_EMPTY);
-    EXPECT(lpt_end_retire(&end, 2, &NAME) == LPT_E_EMPTY && lpt_end_restart(&end) == LPT_E_EMPTY);
-    EXPECT(lpt_end_name(&end, 0, &NAME, &state) == LPT_E_EMPTY && state == 9);
-    EXPECT(lpt_end_view(&end, &view) == LPT_E_EMPTY && view.clock == 9 && view.requests == 9);
-    EXPECT(lpt_end_reception(&end, 0, &reception) == LPT_E_EMPTY && reception.due == 9);
-    EXPECT(lpt_end_missing(&end, &NAME, 1, &number) == LPT_E_EMPTY && number == 9);
-    EXPECT(lpt_end_sender(&end, 0, &sender) == LPT_E_EMPTY && sender.len == 9);
-    EXPECT(lpt_end_read(&end) == LPT_E_EMPTY);
-    EXPECT(lpt_end_plain(&end, 1, 16, 13, 9, got, 9) == LPT_E_EMPTY);
-    EXPECT(lpt_end_memory_range(&end, 1, 0, got, 1) == LPT_E_EMPTY);
-    EXPECT(lpt_end_asked_area(&end, 0, &area) == LPT_E_EMPTY && area.len == 9);
-    EXPECT(lpt_end_memory(&end, 1, got, sizeof got, &len) == LPT_E_EMPTY && len == 99);
-
     config.clock = 4294967294u;
     make(&end, LPT_SIDE_GROUND, &config);
-    DONE(lpt_end_tick(&end));
-    EXPECT(lpt_end_tick(&end) == LPT_E_CLOCK_END);
-    EXPECT(lpt_end_part(&end, &NAME, 1) == LPT_E_NOT_OPEN);
-    EXPECT(lpt_end_finish(&end, &NAME) == LPT_E_NOT_OPEN);
-    EXPECT(lpt_end_open(&end, &NAME, message, P) == LPT_E_SHORT_MESSAGE);
-    EXPECT(lpt_end_open(&end, &NAME, got, 65543) == LPT_E_LONG_MESSAGE);
-    DONE(lpt_end_open(&end, named(1), message, 65542));
-    DONE(lpt_end_open(&end, named(2), message, 9));
-    EXPECT(lpt_end_open(&end, named(3), message, 9) == LPT_E_TOO_MANY);
-    EXPECT(lpt_end_open(&end, named(2), message, 9) == LPT_E_IN_USE);
-    EXPECT(lpt_end_part(&end, named(2), 0) == LPT_E_NO_SUCH_PART);
-    EXPECT(lpt_end_part(&end, named(2), 3) == LPT_E_NO_SUCH_PART);
-    EXPECT(lpt_end_sent(&end) == LPT_E_NOTHING);
-    EXPECT(lpt_end_retire(&end, 2, named(2)) == LPT_E_RANGE);
-    EXPECT(lpt_end_name(&end, 2, named(2), &state) == LPT_E_RANGE && state == 9);
-    DONE(lpt_end_retire(&end, LPT_DIRECTION_DOWN, named(2)));
-    lpt_end_free(&end);
+    DONE(lpt_end_tick(end));
+    EXPECT(lpt_end_tick(end) == LPT_E_CLOCK_END);
+    EXPECT(lpt_end_part(end, &NAME, 1) == LPT_E_NOT_OPEN);
+    EXPECT(lpt_end_finish(end, &NAME) == LPT_E_NOT_OPEN);
+    EXPECT(lpt_end_open(end, &NAME, message, P) == LPT_E_SHORT_MESSAGE);
+    EXPECT(lpt_end_open(end, &NAME, got, 65543) == LPT_E_LONG_MESSAGE);
+    DONE(lpt_end_open(end, named(1), message, 65542));
+    DONE(lpt_end_open(end, named(2), message, 9));
+    EXPECT(lpt_end_open(end, named(3), message, 9) == LPT_E_TOO_MANY);
+    EXPECT(lpt_end_open(end, named(2), message, 9) == LPT_E_IN_USE);
+    EXPECT(lpt_end_part(end, named(2), 0) == LPT_E_NO_SUCH_PART);
+    EXPECT(lpt_end_part(end, named(2), 3) == LPT_E_NO_SUCH_PART);
+    EXPECT(lpt_end_sent(end) == LPT_E_NOTHING);
+    EXPECT(lpt_end_retire(end, 2, named(2)) == LPT_E_RANGE);
+    EXPECT(lpt_end_name(end, 2, named(2), &state) == LPT_E_RANGE && state == 9);
+    DONE(lpt_end_retire(end, LPT_DIRECTION_DOWN, named(2)));
+    lpt_end_free(end);
+}
+
+/* A copy of an address names the same end, and of no end nothing is freed. */
+static void copied(void) {
+    LptEnd *end = NULL, *copy = NULL;
+    make(&end, LPT_SIDE_GROUND, &CONFIG);
+    copy = end;
+    DONE(lpt_end_open(copy, &NAME, message, 20));
+    EXPECT(lpt_end_open(end, &NAME, message, 20) == LPT_E_IN_USE);
+    DONE(lpt_end_tick(end));
+    EXPECT(has(copy, 1, 0, 0, 0, 0));
+    lpt_end_free(copy);
+    lpt_end_free(NULL);
 }
 
 /* After a new start the counts begin at 0 again, and what was to be sent still is. */
 static void new_start(void) {
-    LptEnd ground = LPT_END_EMPTY;
+    LptEnd *ground = NULL;
     make(&ground, LPT_SIDE_GROUND, &CONFIG);
-    DONE(lpt_end_open(&ground, &NAME, message, 20));
-    DONE(lpt_end_part(&ground, &NAME, 2));
-    DONE(lpt_end_restart(&ground));
-    EXPECT(lpt_end_part(&ground, &NAME, 1) == LPT_E_NOT_OPEN);
-    EXPECT(lpt_end_open(&ground, &NAME, message, 20) == LPT_E_IN_USE);
-    EXPECT(take_packet(&ground) && packet[14] == 2);
-    DONE(lpt_end_retire(&ground, LPT_DIRECTION_UP, &NAME));
-    DONE(lpt_end_open(&ground, &NAME, message, 20));
-    EXPECT(make_part(&ground, &NAME, 1) && packet_is(FIRST, sizeof FIRST));
-    lpt_end_free(&ground);
+    DONE(lpt_end_open(ground, &NAME, message, 20));
+    DONE(lpt_end_part(ground, &NAME, 2));
+    DONE(lpt_end_restart(ground));
+    EXPECT(lpt_end_part(ground, &NAME, 1) == LPT_E_NOT_OPEN);
+    EXPECT(lpt_end_open(ground, &NAME, message, 20) == LPT_E_IN_USE);
+    EXPECT(take_packet(ground) && packet[14] == 2);
+    DONE(lpt_end_retire(ground, LPT_DIRECTION_UP, &NAME));
+    DONE(lpt_end_open(ground, &NAME, message, 20));
+    EXPECT(make_part(ground, &NAME, 1) && packet_is(FIRST, sizeof FIRST));
+    lpt_end_free(ground);
 }
 
 /* The state of a ground end at start 0 and tick 1 that has used name 7 of source 1: written by
@@ -599,12 +582,12 @@ static const uint8_t STATE[] = {
     0x00, 0x00, 0x00, 0x00, 0x00, 0x00, 0x00, 0x00, 0x01, 0x00, 0x07, 0x00, 0x07, 0x9e, 0xaa};
 
 /* Makes a ground end of octets. */
-static uint32_t resumed(LptEnd *end, const uint8_t *state, size_t len) {
+static uint32_t resumed(LptEnd **end, const uint8_t *state, size_t len) {
     return lpt_end_resume(end, LPT_SIDE_GROUND, &CONFIG, state, len, MEMORIES, 0, MEMORY, 0);
 }
 
 /* The same of a state of which so many octets are this one, and its checksum made to fit. */
-static uint32_t resumed_with(LptEnd *end, size_t at, uint8_t octet, size_t count) {
+static uint32_t resumed_with(LptEnd **end, size_t at, uint8_t octet, size_t count) {
     uint8_t state[sizeof STATE];
     uint16_t sum;
     memcpy(state, STATE, sizeof state);
@@ -617,34 +600,32 @@ static uint32_t resumed_with(LptEnd *end, size_t at, uint8_t octet, size_t count
 
 /* An end is kept as octets and made again of them: it knows the names, the clock and the start. */
 static void kept(void) {
-    LptEnd ground = LPT_END_EMPTY, again = LPT_END_EMPTY;
+    LptEnd *ground = NULL, *again = NULL;
     uint32_t is = 99;
     size_t len = 99;
     make(&ground, LPT_SIDE_GROUND, &CONFIG);
-    DONE(lpt_end_open(&ground, &NAME, message, 20));
-    DONE(lpt_end_tick(&ground));
-    EXPECT(lpt_end_state(&again, got, sizeof got, &len) == LPT_E_EMPTY && len == 99);
+    DONE(lpt_end_open(ground, &NAME, message, 20));
+    DONE(lpt_end_tick(ground));
     got[0] = 9;
-    EXPECT(lpt_end_state(&ground, got, sizeof STATE - 1, &len) == LPT_E_ROOM);
+    EXPECT(lpt_end_state(ground, got, sizeof STATE - 1, &len) == LPT_E_ROOM);
     EXPECT(len == sizeof STATE && got[0] == 9);
-    DONE(lpt_end_state(&ground, got, sizeof got, &len));
+    DONE(lpt_end_state(ground, got, sizeof got, &len));
     EXPECT(len == sizeof STATE && memcmp(got, STATE, len) == 0);
     DONE(resumed(&again, STATE, sizeof STATE));
-    DONE(lpt_end_name(&again, LPT_DIRECTION_UP, &NAME, &is));
+    DONE(lpt_end_name(again, LPT_DIRECTION_UP, &NAME, &is));
     EXPECT(is == LPT_NAME_CLOSED);
-    EXPECT(lpt_end_open(&again, &NAME, message, 20) == LPT_E_IN_USE);
-    EXPECT(resumed(&again, STATE, sizeof STATE) == LPT_E_FULL);
-    DONE(lpt_end_restart(&ground));
-    DONE(lpt_end_state(&ground, packet, sizeof packet, &packet_len));
-    DONE(lpt_end_state(&again, got, sizeof got, &len));
+    EXPECT(lpt_end_open(again, &NAME, message, 20) == LPT_E_IN_USE);
+    DONE(lpt_end_restart(ground));
+    DONE(lpt_end_state(ground, packet, sizeof packet, &packet_len));
+    DONE(lpt_end_state(again, got, sizeof got, &len));
     EXPECT(packet_is(got, len) && got[34] == 1);
-    lpt_end_free(&again);
-    lpt_end_free(&ground);
+    lpt_end_free(again);
+    lpt_end_free(ground);
 }
 
 /* Octets that are no state: each octet another one, and each length. */
 static void refused_states(void) {
-    LptEnd end = LPT_END_EMPTY;
+    LptEnd *end = NULL;
     LptConfig other = CONFIG;
     uint8_t state[sizeof STATE];
     size_t at;
@@ -658,7 +639,7 @@ static void refused_states(void) {
                         : at < 55 ? LPT_E_STATE_LENGTH
                                   : LPT_E_STATE_CHECKSUM;
         state[at] ^= 4;
-        EXPECT(resumed(&end, state, sizeof state) == want && !end.full);
+        EXPECT(resumed(&end, state, sizeof state) == want && end == NULL);
         state[at] ^= 4;
         EXPECT(resumed(&end, state, at) == (at < 57 ? LPT_E_STATE_SHORT : LPT_E_STATE_LENGTH));
     }
@@ -676,52 +657,50 @@ static void refused_states(void) {
     other.clock = 77;
     DONE(lpt_end_resume(&end, LPT_SIDE_GROUND, &other, STATE, sizeof STATE, MEMORIES, 0, MEMORY,
                         0));
-    lpt_end_free(&end);
+    lpt_end_free(end);
 }
 
 /* A message of 20 octets, which is no telecommand, is released. */
 static void long_release(LptEnd *craft) {
-    LptEnd ground = LPT_END_EMPTY;
+    LptEnd *ground = NULL;
     uint16_t k;
     make(&ground, LPT_SIDE_GROUND, &CONFIG);
-    DONE(lpt_end_open(&ground, &NAME, message, 20));
+    DONE(lpt_end_open(ground, &NAME, message, 20));
     for (k = 1; k <= 3; k++) {
-        carry(&ground, craft, &NAME, k);
+        carry(ground, craft, &NAME, k);
     }
-    lpt_end_free(&ground);
+    lpt_end_free(ground);
 }
 
 /* Of two requests the first is dropped, and the second executed. */
 static void dropped(void) {
     static const LptTcHead head = {100, 0, 1 + 8, 6, 9, 1};
     static const uint8_t check[] = {1, 1, 0, 0, 0, 0, 0, 4};
-    LptEnd craft = LPT_END_EMPTY;
+    LptEnd *craft = NULL;
     LptApplied applied = {9, NONE, 9};
     uint8_t service = 1, subtype = 1;
-    EXPECT(lpt_end_drop(&craft) == LPT_E_EMPTY);
-    EXPECT(lpt_end_asked(&craft, &service, &subtype) == LPT_E_EMPTY);
     make(&craft, LPT_SIDE_GROUND, &CONFIG);
-    EXPECT(lpt_end_drop(&craft) == LPT_E_NO_JOB);
-    lpt_end_free(&craft);
+    EXPECT(lpt_end_drop(craft) == LPT_E_NO_JOB);
+    lpt_end_free(craft);
     make(&craft, LPT_SIDE_SPACECRAFT, &CONFIG);
-    EXPECT(lpt_end_drop(&craft) == LPT_E_NO_JOB);
-    EXPECT(lpt_end_asked(&craft, &service, &subtype) == LPT_E_NO_JOB && service == 1);
-    EXPECT(command(&craft, head, check, sizeof check).kind == LPT_OUTCOME_PLAIN_RELEASED);
-    EXPECT(command(&craft, head, check, sizeof check).kind == LPT_OUTCOME_PLAIN_RELEASED);
-    DONE(lpt_end_asked(&craft, &service, &subtype));
-    EXPECT(service == 6 && subtype == 9 && has(&craft, CONFIG.clock, 0, 0, 2, 2));
-    DONE(lpt_end_drop(&craft));
-    EXPECT(has(&craft, CONFIG.clock, 0, 0, 1, 2));
-    DONE(lpt_end_read(&craft));
-    EXPECT(lpt_end_drop(&craft) == LPT_E_NO_JOB);
-    DONE(lpt_end_execute(&craft, &applied));
-    EXPECT(applied.kind == LPT_APPLIED_SILENT && !take_packet(&craft));
-    EXPECT(has(&craft, CONFIG.clock, 0, 0, 0, 1));
-    DONE(lpt_end_execute(&craft, &applied));
-    EXPECT(applied.kind == LPT_APPLIED_CARRIED_OUT && take_packet(&craft));
-    long_release(&craft);
-    EXPECT(lpt_end_asked(&craft, &service, &subtype) == LPT_E_NOTHING && subtype == 9);
-    lpt_end_free(&craft);
+    EXPECT(lpt_end_drop(craft) == LPT_E_NO_JOB);
+    EXPECT(lpt_end_asked(craft, &service, &subtype) == LPT_E_NO_JOB && service == 1);
+    EXPECT(command(craft, head, check, sizeof check).kind == LPT_OUTCOME_PLAIN_RELEASED);
+    EXPECT(command(craft, head, check, sizeof check).kind == LPT_OUTCOME_PLAIN_RELEASED);
+    DONE(lpt_end_asked(craft, &service, &subtype));
+    EXPECT(service == 6 && subtype == 9 && has(craft, CONFIG.clock, 0, 0, 2, 2));
+    DONE(lpt_end_drop(craft));
+    EXPECT(has(craft, CONFIG.clock, 0, 0, 1, 2));
+    DONE(lpt_end_read(craft));
+    EXPECT(lpt_end_drop(craft) == LPT_E_NO_JOB);
+    DONE(lpt_end_execute(craft, &applied));
+    EXPECT(applied.kind == LPT_APPLIED_SILENT && !take_packet(craft));
+    EXPECT(has(craft, CONFIG.clock, 0, 0, 0, 1));
+    DONE(lpt_end_execute(craft, &applied));
+    EXPECT(applied.kind == LPT_APPLIED_CARRIED_OUT && take_packet(craft));
+    long_release(craft);
+    EXPECT(lpt_end_asked(craft, &service, &subtype) == LPT_E_NOTHING && subtype == 9);
+    lpt_end_free(craft);
 }
 
 /* Whether an end tells this of its open reception of a number, or of its open message. */
@@ -746,37 +725,37 @@ static int misses(LptEnd *end, const LptName *name, uint16_t from, uint16_t want
 
 /* What is open is told one by one, and which of its parts are missing. */
 static void open_ones(void) {
-    LptEnd ground = LPT_END_EMPTY, craft = LPT_END_EMPTY;
+    LptEnd *ground = NULL, *craft = NULL;
     LptReception reception = {NONE, 9, 9, 9};
     LptSender sender = {NONE, 9, 9};
     LptView view = {9, 9, 9, 9, 9, 9};
     uint16_t number = 9;
     make(&ground, LPT_SIDE_GROUND, &CONFIG);
     make(&craft, LPT_SIDE_SPACECRAFT, &CONFIG);
-    EXPECT(lpt_end_reception(&craft, 0, &reception) == LPT_E_NOTHING && reception.kept == 9);
-    EXPECT(lpt_end_sender(&ground, 0, &sender) == LPT_E_NOTHING && sender.parts == 9);
-    EXPECT(lpt_end_view(&craft, &view) == LPT_DONE && view.next_due == 0);
-    DONE(lpt_end_open(&ground, &OTHER, message, 20));
-    DONE(lpt_end_open(&ground, &NAME, message, 50));
-    EXPECT(told(carry(&ground, &craft, &OTHER, 3), LPT_OUTCOME_KEPT, &OTHER, 3, 0));
-    DONE(lpt_end_tick(&craft));
-    EXPECT(told(carry(&ground, &craft, &NAME, 4), LPT_OUTCOME_KEPT, &NAME, 4, 0));
-    EXPECT(told(carry(&ground, &craft, &NAME, 2), LPT_OUTCOME_KEPT, &NAME, 2, 0));
-    EXPECT(lpt_end_view(&craft, &view) == LPT_DONE && view.next_due == 19 && view.due == 0);
+    EXPECT(lpt_end_reception(craft, 0, &reception) == LPT_E_NOTHING && reception.kept == 9);
+    EXPECT(lpt_end_sender(ground, 0, &sender) == LPT_E_NOTHING && sender.parts == 9);
+    EXPECT(lpt_end_view(craft, &view) == LPT_DONE && view.next_due == 0);
+    DONE(lpt_end_open(ground, &OTHER, message, 20));
+    DONE(lpt_end_open(ground, &NAME, message, 50));
+    EXPECT(told(carry(ground, craft, &OTHER, 3), LPT_OUTCOME_KEPT, &OTHER, 3, 0));
+    DONE(lpt_end_tick(craft));
+    EXPECT(told(carry(ground, craft, &NAME, 4), LPT_OUTCOME_KEPT, &NAME, 4, 0));
+    EXPECT(told(carry(ground, craft, &NAME, 2), LPT_OUTCOME_KEPT, &NAME, 2, 0));
+    EXPECT(lpt_end_view(craft, &view) == LPT_DONE && view.next_due == 19 && view.due == 0);
 
-    EXPECT(reception_is(&craft, 0, &NAME, 2, 0, 20) && reception_is(&craft, 1, &OTHER, 1, 3, 19));
-    EXPECT(lpt_end_reception(&craft, 2, &reception) == LPT_E_NOTHING);
-    EXPECT(lpt_end_reception(&craft, SIZE_MAX, &reception) == LPT_E_NOTHING && reception.due == 9);
-    EXPECT(misses(&craft, &OTHER, 0, 1) && misses(&craft, &OTHER, 2, 2));
-    EXPECT(lpt_end_missing(&craft, &OTHER, 3, &number) == LPT_E_NOTHING && number == 9);
-    EXPECT(misses(&craft, &NAME, 1, 1) && misses(&craft, &NAME, 2, 3) && misses(&craft, &NAME, 4, 5));
-    EXPECT(misses(&craft, &NAME, 65535, 65535));
-    EXPECT(lpt_end_missing(&craft, named(8), 1, &number) == LPT_E_NOT_OPEN && number == 9);
-    EXPECT(lpt_end_missing(&ground, &NAME, 1, &number) == LPT_E_NOT_OPEN && number == 9);
-    EXPECT(sender_is(&ground, 0, &NAME, 7, 50) && sender_is(&ground, 1, &OTHER, 3, 20));
-    EXPECT(lpt_end_sender(&ground, 2, &sender) == LPT_E_NOTHING && sender.len == 9);
-    lpt_end_free(&ground);
-    lpt_end_free(&craft);
+    EXPECT(reception_is(craft, 0, &NAME, 2, 0, 20) && reception_is(craft, 1, &OTHER, 1, 3, 19));
+    EXPECT(lpt_end_reception(craft, 2, &reception) == LPT_E_NOTHING);
+    EXPECT(lpt_end_reception(craft, SIZE_MAX, &reception) == LPT_E_NOTHING && reception.due == 9);
+    EXPECT(misses(craft, &OTHER, 0, 1) && misses(craft, &OTHER, 2, 2));
+    EXPECT(lpt_end_missing(craft, &OTHER, 3, &number) == LPT_E_NOTHING && number == 9);
+    EXPECT(misses(craft, &NAME, 1, 1) && misses(craft, &NAME, 2, 3) && misses(craft, &NAME, 4, 5));
+    EXPECT(misses(craft, &NAME, 65535, 65535));
+    EXPECT(lpt_end_missing(craft, named(8), 1, &number) == LPT_E_NOT_OPEN && number == 9);
+    EXPECT(lpt_end_missing(ground, &NAME, 1, &number) == LPT_E_NOT_OPEN && number == 9);
+    EXPECT(sender_is(ground, 0, &NAME, 7, 50) && sender_is(ground, 1, &OTHER, 3, 20));
+    EXPECT(lpt_end_sender(ground, 2, &sender) == LPT_E_NOTHING && sender.len == 9);
+    lpt_end_free(ground);
+    lpt_end_free(craft);
 }
 
 int main(void) {
@@ -794,6 +773,7 @@ int main(void) {
     refused_ends();
     refused_memories();
     refused_calls();
+    copied();
     new_start();
     kept();
     refused_states();

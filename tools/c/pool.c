@@ -80,65 +80,66 @@ static void link_pass(void) {
     static const uint8_t dump[] = {1, 1, 0, 0, 0, 0, 0, 8};
     static const LptName joined = {1, 5}, lost = {2, 5}, down = {1, 7};
     LptApplied applied = {0, {0, 0}, 0};
-    LptEnd ground = LPT_END_EMPTY, craft = LPT_END_EMPTY;
+    LptEnd *ground = NULL, *craft = NULL;
     LptOutcome told = {0, {0, 0}, 0, 0};
     size_t len = 0;
     LptName name = {0, 0};
     uint16_t k;
     STEP(lpt_end_new(&ground, LPT_SIDE_GROUND, &config, memories, 0, memory, 0));
     STEP(lpt_end_new(&craft, LPT_SIDE_SPACECRAFT, &config, memories, 2, memory, 100));
-    STEP(lpt_end_open(&ground, &joined, message, 300));
-    STEP(lpt_end_open(&ground, &lost, message, 300));
-    STEP(lpt_end_open(&craft, &down, message, 100));
+    STEP(lpt_end_open(ground, &joined, message, 300));
+    STEP(lpt_end_open(ground, &lost, message, 300));
+    STEP(lpt_end_open(craft, &down, message, 100));
     for (k = 1; k <= 5; k++) {
-        STEP(lpt_end_part(&ground, &joined, k));
-        EXPECT(lpt_end_outgoing(&ground, packet, sizeof packet, &len) == LPT_DONE);
-        EXPECT(lpt_end_sent(&ground) == LPT_DONE);
-        STEP(lpt_end_packet(&craft, packet, len, &told));
+        STEP(lpt_end_part(ground, &joined, k));
+        EXPECT(lpt_end_outgoing(ground, packet, sizeof packet, &len) == LPT_DONE);
+        EXPECT(lpt_end_sent(ground) == LPT_DONE);
+        STEP(lpt_end_packet(craft, packet, len, &told));
         EXPECT(told.kind == (uint32_t)(k == 5 ? LPT_OUTCOME_RELEASED : LPT_OUTCOME_KEPT));
         EXPECT(told.name.source == 1 && told.name.id == 5);
     }
-    EXPECT(lpt_end_released(&craft, got, sizeof got, &len) == LPT_DONE && len == 300);
+    EXPECT(lpt_end_released(craft, got, sizeof got, &len) == LPT_DONE && len == 300);
     EXPECT(memcmp(got, message, 300) == 0);
-    STEP(lpt_end_part(&ground, &lost, 2));
-    EXPECT(lpt_end_outgoing(&ground, packet, sizeof packet, &len) == LPT_DONE);
-    EXPECT(lpt_end_sent(&ground) == LPT_DONE);
-    STEP(lpt_end_packet(&craft, packet, len, &told));
-    EXPECT(lpt_end_tick(&craft) == LPT_DONE && lpt_end_tick(&craft) == LPT_DONE);
-    STEP(lpt_end_expire(&craft, &name));
+    STEP(lpt_end_part(ground, &lost, 2));
+    EXPECT(lpt_end_outgoing(ground, packet, sizeof packet, &len) == LPT_DONE);
+    EXPECT(lpt_end_sent(ground) == LPT_DONE);
+    STEP(lpt_end_packet(craft, packet, len, &told));
+    EXPECT(lpt_end_tick(craft) == LPT_DONE && lpt_end_tick(craft) == LPT_DONE);
+    STEP(lpt_end_expire(craft, &name));
     EXPECT(name.source == 2 && name.id == 5);
-    EXPECT(lpt_end_outgoing(&craft, packet, sizeof packet, &len) == LPT_DONE);
-    EXPECT(lpt_end_sent(&craft) == LPT_DONE);
-    STEP(lpt_end_packet(&ground, packet, len, &told));
+    EXPECT(lpt_end_outgoing(craft, packet, sizeof packet, &len) == LPT_DONE);
+    EXPECT(lpt_end_sent(craft) == LPT_DONE);
+    STEP(lpt_end_packet(ground, packet, len, &told));
     EXPECT(told.kind == LPT_OUTCOME_ABORT_NOTED && told.name.source == 2 && told.first == 1);
-    STEP(lpt_end_part(&craft, &down, 1));
-    STEP(lpt_end_part(&craft, &down, 2));
-    while (lpt_end_outgoing(&craft, packet, sizeof packet, &len) == LPT_DONE) {
-        STEP(lpt_end_packet(&ground, packet, len, &told));
-        EXPECT(lpt_end_sent(&craft) == LPT_DONE);
+    STEP(lpt_end_part(craft, &down, 1));
+    STEP(lpt_end_part(craft, &down, 2));
+    while (lpt_end_outgoing(craft, packet, sizeof packet, &len) == LPT_DONE) {
+        STEP(lpt_end_packet(ground, packet, len, &told));
+        EXPECT(lpt_end_sent(craft) == LPT_DONE);
     }
     EXPECT(told.kind == LPT_OUTCOME_RELEASED && told.name.id == 7 && told.first == 100);
-    STEP(lpt_end_read(&craft));
-    EXPECT(lpt_end_outgoing(&craft, packet, sizeof packet, &len) == LPT_E_NOTHING);
-    STEP(lpt_end_execute(&craft, &applied));
+    STEP(lpt_end_read(craft));
+    EXPECT(lpt_end_outgoing(craft, packet, sizeof packet, &len) == LPT_E_NOTHING);
+    STEP(lpt_end_execute(craft, &applied));
     EXPECT(applied.kind == LPT_APPLIED_SILENT);
-    STEP(lpt_end_plain(&ground, 1, 11, 6, 5, dump, sizeof dump));
-    EXPECT(lpt_end_outgoing(&ground, packet, sizeof packet, &len) == LPT_DONE);
-    STEP(lpt_end_packet(&craft, packet, len, &told));
-    STEP(lpt_end_read(&craft));
-    STEP(lpt_end_execute(&craft, &applied));
+    STEP(lpt_end_plain(ground, 1, 11, 6, 5, dump, sizeof dump));
+    EXPECT(lpt_end_outgoing(ground, packet, sizeof packet, &len) == LPT_DONE);
+    STEP(lpt_end_packet(craft, packet, len, &told));
+    STEP(lpt_end_read(craft));
+    STEP(lpt_end_execute(craft, &applied));
     EXPECT(applied.kind == LPT_APPLIED_CARRIED_OUT);
-    STEP(lpt_end_packet(&craft, packet, len, &told));
-    STEP(lpt_end_drop(&craft));
-    STEP(lpt_end_restart(&craft));
-    STEP(lpt_end_state(&craft, got, sizeof got, &len));
-    lpt_end_free(&craft);
+    STEP(lpt_end_packet(craft, packet, len, &told));
+    STEP(lpt_end_drop(craft));
+    STEP(lpt_end_restart(craft));
+    STEP(lpt_end_state(craft, got, sizeof got, &len));
+    lpt_end_free(craft);
+    craft = NULL;
     STEP(lpt_end_resume(&craft, LPT_SIDE_SPACECRAFT, &config, got, len, memories, 2, memory, 100));
-    STEP(lpt_end_state(&craft, packet, sizeof packet, &len));
+    STEP(lpt_end_state(craft, packet, sizeof packet, &len));
     EXPECT(packet[34] == got[34] + 1);
 freed:
-    lpt_end_free(&ground);
-    lpt_end_free(&craft);
+    lpt_end_free(ground);
+    lpt_end_free(craft);
     EXPECT(lpt_pool_used() == 0);
 }
 
@@ -148,22 +149,23 @@ static void refused_ends(void) {
     static const LptConfig config = {100, 64, 2, 4, 4, 0, LPT_MODE_ANY};
     static const LptMemory memories[] = {{1, 0, 60}, {2, 60, 40}, {1, 0, 4}};
     static const LptName name = {1, 7};
-    LptEnd end = LPT_END_EMPTY;
+    LptEnd *end = NULL;
     size_t len = 0, at;
     uint32_t said;
     for (at = 0; at <= 3; at++) {
         said = lpt_end_new(&end, LPT_SIDE_SPACECRAFT, &config, memories, at, memory, 60 + 40);
         EXPECT(said == (uint32_t)(at == 0 || at == 3 ? LPT_E_MEMORIES : LPT_DONE));
-        lpt_end_free(&end);
+        lpt_end_free(end);
+        end = NULL;
         EXPECT(lpt_pool_used() == 0);
     }
     EXPECT(lpt_end_new(&end, LPT_SIDE_SPACECRAFT, &config, memories, 2, memory, 99) ==
            LPT_E_MEMORIES);
     EXPECT(lpt_pool_used() == 0);
     TRY(lpt_end_new(&end, LPT_SIDE_SPACECRAFT, &config, memories, 2, memory, 100));
-    TRY(lpt_end_open(&end, &name, message, 300));
-    TRY(lpt_end_state(&end, got, sizeof got, &len));
-    lpt_end_free(&end);
+    TRY(lpt_end_open(end, &name, message, 300));
+    TRY(lpt_end_state(end, got, sizeof got, &len));
+    lpt_end_free(end);
     for (at = 0; at < len; at++) {
         said =
             lpt_end_resume(&end, LPT_SIDE_SPACECRAFT, &config, got, at, memories, 2, memory, 100);
@@ -210,7 +212,7 @@ int main(void) {
 static void long_message(void) {
     static const LptConfig config = {100, 64, 10, 1, 1, 0, LPT_MODE_ANY};
     LptTcHead head = {100, 0, 0, 13, 0, 1};
-    LptEnd craft = LPT_END_EMPTY;
+    LptEnd *craft = NULL;
     LptOutcome told = {0, {0, 0}, 0, 0};
     uint8_t body[68];
     size_t len = 0;
@@ -223,19 +225,19 @@ static void long_message(void) {
         head.count = k;
         head.subtype = (uint8_t)(8 + kind);
         EXPECT(lpt_write_tc(&head, body, len, packet, sizeof packet, &len) == LPT_DONE);
-        TRY(lpt_end_packet(&craft, packet, len, &told));
+        TRY(lpt_end_packet(craft, packet, len, &told));
     }
     EXPECT(told.kind == LPT_OUTCOME_RELEASED && told.first == sizeof message);
-    EXPECT(lpt_end_released(&craft, got, sizeof got, &len) == LPT_DONE);
+    EXPECT(lpt_end_released(craft, got, sizeof got, &len) == LPT_DONE);
     EXPECT(len == sizeof message && memcmp(got, message, len) == 0);
-    lpt_end_free(&craft);
+    lpt_end_free(craft);
     EXPECT(lpt_pool_used() == 0);
 }
 
 /* Memory runs out at last, the end says so and goes on: what it has can still be let go. */
 static void full_pool(void) {
     static const LptConfig config = {100, 1024, 10, 1, 64, 0, LPT_MODE_ANY};
-    LptEnd craft = LPT_END_EMPTY;
+    LptEnd *craft = NULL;
     uint32_t said = LPT_DONE;
     LptName name = {1, 0}, first = {1, 1};
     size_t used = 0;
@@ -243,13 +245,13 @@ static void full_pool(void) {
     while (said == LPT_DONE && name.id < 64) {
         name.id++;
         used = lpt_pool_used();
-        said = lpt_end_open(&craft, &name, message, sizeof message);
+        said = lpt_end_open(craft, &name, message, sizeof message);
     }
     EXPECT(said == LPT_E_ALLOCATION && lpt_pool_used() == used);
-    EXPECT(lpt_end_finish(&craft, &name) == LPT_E_NOT_OPEN);
-    EXPECT(lpt_end_finish(&craft, &first) == LPT_DONE && lpt_pool_used() < used);
-    EXPECT(lpt_end_open(&craft, &name, message, sizeof message) == LPT_DONE);
-    lpt_end_free(&craft);
+    EXPECT(lpt_end_finish(craft, &name) == LPT_E_NOT_OPEN);
+    EXPECT(lpt_end_finish(craft, &first) == LPT_DONE && lpt_pool_used() < used);
+    EXPECT(lpt_end_open(craft, &name, message, sizeof message) == LPT_DONE);
+    lpt_end_free(craft);
     EXPECT(lpt_pool_used() == 0);
 }
 

@@ -1,3 +1,4 @@
+pub mod AsAddress
 pub mod AsBox
 pub mod MemoryLemmas
 mod NextLemmas

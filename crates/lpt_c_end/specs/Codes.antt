@@ -59,10 +59,6 @@ room = 103
 abbrev pub empty : ℕ
 empty = 106
 
--- the handle holds an end already
-abbrev pub full : ℕ
-full = 107
-
 -- no number is left for a job, or for a start
 abbrev pub no_number : ℕ
 no_number = 108

@@ -10,7 +10,7 @@ use Rattle.lpt_state.specs.declared.fault.StateFault.TheVariants as fault
 use Rattle.lpt_state.specs.Lastings.{restarted_node}
 use Rattle.lpt_state.specs.Spellings.{spelled}
 use Rattle.lpt_state.specs.Verdicts.{reading}
-use Rattle.lpt_c_end.specs.Codes.{config_code, empty, full, memory, no_number, range}
+use Rattle.lpt_c_end.specs.Codes.{config_code, empty, memory, no_number, range}
 use Rattle.lpt_c_end.specs.Contents.{memories_of}
 use Rattle.lpt_c_end.specs.Copies.{Text}
 use Rattle.lpt_c_end.specs.Refusals.{memory_refusal}
@@ -68,16 +68,14 @@ abbrev pub again_refusal : Option ConfigFault → Option ℕ → Option ℕ
 again_refusal (Some fault) refusal = config_code (Some fault)
 again_refusal None refusal = refusal
 
--- why no end is made of a state into a handle that holds this
-abbrev pub resume_refusal : Option End
-    → ℕ
+-- why no end is made of a state
+abbrev pub resume_refusal : ℕ
     → LptConfig
     → List ℕ
     → List LptMemory
     → List ℕ
     → Option ℕ
-resume_refusal (Some e) side c state ms content = Some full
-resume_refusal None side c state ms content =
+resume_refusal side c state ms content =
     if nat_lt 1 side || nat_lt 1 c.mode then Some range
     else again_refusal (config_fault (config_from c))
     (kept_refusal (side_from side) (config_from c) state ms content)

@@ -1,3 +1,5 @@
+pub mod AddressCodes
+pub mod Addresses
 pub mod Areas
 pub mod Calls
 pub mod Changes

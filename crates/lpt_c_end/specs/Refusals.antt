@@ -12,7 +12,7 @@ use Rattle.lpt_node.specs.Requests.{refusal_plain}
 use Rattle.lpt_node.specs.Sending.{refusal_open, refusal_send, refusal_finish}
 use Rattle.lpt_node.specs.Times.{refusal_tick, refusal_expire}
 use Rattle.lpt_node.specs.Jobs.{refusal_claim, refusal_apply}
-use Rattle.lpt_c_end.specs.Codes.{node_code, config_code, still_open, bad_memories, range, empty, full, no_job, no_number, nothing, unsent}
+use Rattle.lpt_c_end.specs.Codes.{node_code, config_code, still_open, bad_memories, range, empty, no_job, no_number, nothing, unsent}
 use Rattle.lpt_c_end.specs.Contents.{can_be}
 use Rattle.lpt_c_end.specs.Words.{side_from, direction_from, config_from}
 use Rattle.lpt_c_end.specs.declared.end.End.{End}
@@ -40,10 +40,9 @@ abbrev pub made_refusal : Option ConfigFault → Side → List LptMemory → Lis
 made_refusal (Some fault) side ms content = config_code (Some fault)
 made_refusal None side ms content = memory_refusal side ms content
 
--- why no end is made into a handle that holds this
-abbrev pub new_refusal : Option End → ℕ → LptConfig → List LptMemory → List ℕ → Option ℕ
-new_refusal (Some e) side c ms content = Some full
-new_refusal None side c ms content =
+-- why no end is made
+abbrev pub new_refusal : ℕ → LptConfig → List LptMemory → List ℕ → Option ℕ
+new_refusal side c ms content =
     if nat_lt 1 side || nat_lt 1 c.mode then Some range
     else made_refusal (config_fault (config_from c)) (side_from side) ms content
 

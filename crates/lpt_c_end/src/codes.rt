@@ -27,9 +27,6 @@ pub(crate) const ROOM: u32 = 103;
 // A handle that holds no end.
 pub(crate) const EMPTY: u32 = 106;
 
-// A handle that holds one already.
-pub(crate) const FULL: u32 = 107;
-
 // No number is left for a job, or for a start.
 pub(crate) const NO_NUMBER: u32 = 108;
 

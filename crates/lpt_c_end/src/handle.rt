@@ -28,13 +28,24 @@ impl Model for LptHeld {
 // The end stands in a box that this handle alone has, so it goes where the handle goes.
 unsafe impl Send for LptHeld {}
 
-/// What C keeps of an end: zeroed it is empty.
+/// A handle: it holds an end, but while a call has it. C has its address alone.
 #[repr(C)]
 #[derive(Drop)]
 pub struct LptEnd {
     pub(crate) full: bool,
     pub(crate) held: LptHeld,
     ghost same: { is_some held.value ≡ full },
+}
+
+impl LptEnd {
+    /// A handle that holds no end.
+    pub(crate) fn empty(alloc: Global) -> LptEnd
+        ensures { result.held.value ≡ None }
+    {
+        let nowhere: *mut u8 = std::ptr::null_mut();
+        let held = LptHeld::none(nowhere, alloc);
+        LptEnd { full: false, held }
+    }
 }
 
 impl LptHeld {
@@ -71,13 +82,7 @@ pub(crate) fn take(alloc: Global, end: &mut LptEnd) -> Option<Box<End, Global>>
     ensures taken { option_map (λ b. b.value) result ≡ end.old.held.value }
     ensures empty { end.new.held.value ≡ None }
 {
-    let nowhere: *mut u8 = std::ptr::null_mut();
-    let nothing = LptHeld::none(nowhere, alloc);
-    let empty = LptEnd {
-        full: false,
-        held: nothing,
-    };
-    let LptEnd { full, held } = std::mem::replace(end, empty);
+    let LptEnd { full, held } = std::mem::replace(end, LptEnd::empty(alloc));
     if !full {
         return None;
     }

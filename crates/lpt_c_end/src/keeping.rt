@@ -3,15 +3,17 @@
 ghost use Rattle.std.specs.Prelude.{◌≡◌, None, IfOk, IfErr, Ok, OnOk};
 ghost use Rattle.lpt_events.specs.Configs.{IsConfig};
 ghost use Rattle.lpt_state.specs.Spellings.{spelled};
+ghost use Rattle.lpt_c_end.specs.Addresses.{end_at};
 ghost use Rattle.lpt_c_end.specs.Calls.{IfHeld};
 ghost use Rattle.lpt_c_end.specs.Codes.{IsAnswer};
 ghost use Rattle.lpt_c_end.specs.Copies.{code_for, left_by, needed_by};
 ghost use Rattle.lpt_c_end.specs.Keeping.{kept_refusal, resume_refusal, state_code, state_text, IsResumed, ReadsAsRestarted};
 ghost use Rattle.lpt_c_end.specs.Words.{config_from, side_from};
 
+use crate::address::{LptAddress, hand_out};
 use crate::codes::{
-    BAD_MEMORIES, CHECKSUM, CONFIG, DONE, EMPTY, FULL, LENGTH, MEMORY, NO_NUMBER, ORDER, RANGE,
-    ROOM, SHORT, SIDE, TAG, VERSION,
+    BAD_MEMORIES, CHECKSUM, CONFIG, DONE, EMPTY, LENGTH, MEMORY, NO_NUMBER, ORDER, RANGE, ROOM,
+    SHORT, SIDE, TAG, VERSION,
 };
 use crate::end::End;
 use crate::handle::{LptEnd, put, take};
@@ -43,18 +45,18 @@ pub fn lpt_end_state(alloc: Global, end: &mut LptEnd, out: &mut [u8], needed: &m
     code
 }
 
-/// Makes an end of a state into an empty handle: what a restart leaves of the end whose state it
+/// Makes an end of a state, and writes its address: what a restart leaves of the end whose state it
 /// is, with these memories, as `lpt_end_new` takes them.
 ///
-/// 0; 107 where the handle holds an end already; 102 where the side or the mode is above 1; 71 to
-/// 75, the first value of the configuration that is out of its range; 25 where a spacecraft can't
-/// have these memories; then of the state 111, it is cut short; 112, it isn't one; 113, it is of
-/// another version; 114, it is cut, or has octets behind it; 115, it is the other side's; 116, it
-/// is another configuration's; 117, its checksum is wrong; 108, no number is left for a start; 118,
-/// its names are out of order; 58 when out of memory.
+/// 0; 102 where the side or the mode is above 1; 71 to 75, the first value of the configuration
+/// that is out of its range; 25 where a spacecraft can't have these memories; then of the state
+/// 111, it is cut short; 112, it isn't one; 113, it is of another version; 114, it is cut, or has
+/// octets behind it; 115, it is the other side's; 116, it is another configuration's; 117, its
+/// checksum is wrong; 108, no number is left for a start; 118, its names are out of order; 58 when
+/// out of memory. The address is written only at 0.
 pub fn lpt_end_resume(
     alloc: Global,
-    end: &mut LptEnd,
+    end: &mut LptAddress,
     side: u32,
     config: &LptConfig,
     state: &[u8],
@@ -62,16 +64,13 @@ pub fn lpt_end_resume(
     content: &[u8],
 ) -> u32
     ensures code { IsAnswer
-        (resume_refusal end.old.held.value side config.now state.now memories.now content.now)
+        (resume_refusal side config.now state.now memories.now content.now)
         result }
     ensures done { result ≡ 0 → IfHeld
         (IsResumed (side_from side) (config_from config.now) state.now memories.now content.now)
-        end.new.held.value }
-    ensures refused { ¬ (result ≡ 0) → end.new.held.value ≡ end.old.held.value }
+        (end_at end.new.value) }
+    ensures refused { ¬ (result ≡ 0) → end.new ≡ end.old }
 {
-    if end.full {
-        return FULL;
-    }
     if side > 1 || config.mode > 1 {
         return RANGE;
     }
@@ -80,10 +79,7 @@ pub fn lpt_end_resume(
         return u32::from(fault.code());
     }
     match End::resume(alloc, side_of(side), &config, state, memories, content) {
-        Ok(made) => {
-            put(end, made);
-            DONE
-        }
+        Ok(made) => hand_out(alloc, made, end),
         Err(code) => code,
     }
 }

@@ -7,11 +7,17 @@
 //! is none. What a node makes to be sent stands in the end's outbox until the caller lets it go.
 //! Memory comes from the three allocator functions of the kit, which the caller's program has.
 //!
-//! A handle is zeroed at first, and read and written by these calls alone. `LptHeld` owns the end
-//! behind its address; its five functions that move that ownership are proved by hand, and all else
-//! is plain code above `take` and `put`.
+//! C has the address of a handle, an `LptEnd` in the library's memory, and declares that type
+//! without its fields. `lpt_end_new` and `lpt_end_resume` write it to an `LptAddress`, every other
+//! call borrows the handle, and `lpt_end_free` takes an `LptAddress` by value, which is passed as a
+//! pointer is. A handle is empty only while a call has its end, so no call of C answers 106.
+//!
+//! `LptAddress` owns the handle behind its address, and `LptHeld` the end. Their functions that move
+//! ownership, and those of `BoxFields`, seven in all, are proved by hand, and all else is plain code
+//! above `take` and `put`.
 #![tactic(auto)]
 
+mod address;
 mod areas;
 mod box_fields;
 mod codes;
@@ -32,6 +38,7 @@ mod viewing;
 mod walking;
 mod words;
 
+pub use address::LptAddress;
 pub use areas::{LptArea, lpt_end_asked_area, lpt_end_memory_range};
 pub use dropping::{lpt_end_asked, lpt_end_drop};
 pub use executing::{lpt_end_execute, lpt_end_memory, lpt_end_read};

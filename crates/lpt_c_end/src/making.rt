@@ -2,15 +2,17 @@
 
 ghost use Rattle.std.specs.Prelude.{◌≡◌, [], ◌∷◌, None, IfOk, IfErr, IsTrue, OnOk};
 ghost use Rattle.lpt_events.specs.Configs.{IsConfig};
+ghost use Rattle.lpt_c_end.specs.Addresses.{end_at, NullIfNone};
 ghost use Rattle.lpt_c_end.specs.Calls.{IfHeld};
 ghost use Rattle.lpt_c_end.specs.Changes.{IsNew};
 ghost use Rattle.lpt_c_end.specs.Codes.{IsAnswer};
 ghost use Rattle.lpt_c_end.specs.Refusals.{memory_refusal, new_refusal};
 ghost use Rattle.lpt_c_end.specs.Words.{config_from, side_from};
 
-use crate::codes::{DONE, FULL, MEMORY, RANGE};
+use crate::address::{LptAddress, hand_out};
+use crate::codes::{MEMORY, RANGE};
 use crate::end::End;
-use crate::handle::{LptEnd, put, take};
+use crate::handle::take;
 use crate::memories::{LptMemory, memories_for};
 use crate::words::{LptConfig, config_of, side_of};
 use lpt_events::{Config, Side};
@@ -18,29 +20,27 @@ use lpt_node::Node;
 use std::alloc::Global;
 use std::collections::VecDeque;
 
-/// Makes an end into an empty handle: of ground where `side` is 0, of the spacecraft where it is 1,
-/// then with these memories, which begin with octets of the content. Those are copied.
+/// Makes an end, and writes its address: of ground where `side` is 0, of the spacecraft where it is
+/// 1, then with these memories, which begin with octets of the content. Those are copied.
 ///
-/// 0; 107 where the handle holds an end already; 102 where the side or the mode is above 1; 71 to
-/// 75, the first value of the configuration that is out of its range; 25 where the memories of a
-/// spacecraft aren't 1 to 16 with distinct identifiers, of 1 to 1,048,576 octets each, all of the
-/// content; 58 when out of memory.
+/// 0; 102 where the side or the mode is above 1; 71 to 75, the first value of the configuration
+/// that is out of its range; 25 where the memories of a spacecraft aren't 1 to 16 with distinct
+/// identifiers, of 1 to 1,048,576 octets each, all of the content; 58 when out of memory. The
+/// address is written only at 0.
 pub fn lpt_end_new(
     alloc: Global,
-    end: &mut LptEnd,
+    end: &mut LptAddress,
     side: u32,
     config: &LptConfig,
     memories: &[LptMemory],
     content: &[u8],
 ) -> u32
-    ensures code { IsAnswer (new_refusal end.old.held.value side config.now memories.now content.now) result }
+    ensures code { IsAnswer (new_refusal side config.now memories.now content.now) result }
     ensures done { result ≡ 0
-        → IfHeld (IsNew (side_from side) (config_from config.now) memories.now content.now) end.new.held.value }
-    ensures refused { ¬ (result ≡ 0) → end.new.held.value ≡ end.old.held.value }
+        → IfHeld (IsNew (side_from side) (config_from config.now) memories.now content.now)
+        (end_at end.new.value) }
+    ensures refused { ¬ (result ≡ 0) → end.new ≡ end.old }
 {
-    if end.full {
-        return FULL;
-    }
     if side > 1 || config.mode > 1 {
         return RANGE;
     }
@@ -49,19 +49,19 @@ pub fn lpt_end_new(
         return u32::from(fault.code());
     }
     match End::new(alloc, side_of(side), &config, memories, content) {
-        Ok(made) => {
-            put(end, made);
-            DONE
-        }
+        Ok(made) => hand_out(alloc, made, end),
         Err(code) => code,
     }
 }
 
-/// Lets an end go, with all that it has. The handle is empty then; of an empty one nothing changes.
-pub fn lpt_end_free(alloc: Global, end: &mut LptEnd)
-    ensures { end.new.held.value ≡ None }
+/// Lets an end go, with all that it has, and its address. Of a null address nothing happens.
+pub fn lpt_end_free(alloc: Global, end: LptAddress)
+    requires { NullIfNone end.at end.value }
 {
-    let _ = take(alloc, end);
+    if let Some(fields) = end.into_fields() {
+        let mut handle = fields.into_box();
+        let _ = take(alloc, &mut *handle);
+    }
 }
 
 impl End {

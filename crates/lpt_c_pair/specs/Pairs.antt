@@ -51,7 +51,7 @@ pub record AreEndsOf (c : Config) (p : Pair) (on_ground on_craft : End) : Type 0
 -- ---- calls
 
 -- A call of an end, as `include/lpt_end.h` has them; a name is freed in a direction, by its number.
--- An end is made again of its state into an empty handle, in place of the one that its program had.
+-- An end is made again of its state, in place of the one that its program had.
 pub data Call : Type 0 where
   Open : Name → (message : List ℕ) → Call
   Part : Name → (k : ℕ) → Call

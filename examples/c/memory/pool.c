@@ -5,7 +5,7 @@
  *   cc -Iinclude -DLPT_POOL=262144 program.c examples/c/memory/pool.c \
  *       build/liblpt_end.a build/liblpt.a
  *
- * It has no lock: calls on different handles may not run at once over it.
+ * It has no lock: calls of different ends may not run at once over it.
  */
 #include "lpt_end.h"
 
