@@ -17,22 +17,22 @@ end
 complete -c lpt -f
 
 # Commands.
-complete -c lpt -n '__lpt_is' -a run -d 'Run a script on a new world'
-complete -c lpt -n '__lpt_is' -a threads -d 'Run a script on a new world, and then ten threads'
-complete -c lpt -n '__lpt_is' -a shell -d "Answer lines one by one, and go on where one can't be read"
-complete -c lpt -n '__lpt_is' -a lint -d "Print every line of a script that can't be read, and why"
+complete -c lpt -n '__lpt_is' -a run -d 'Run a script of the simulator'
+complete -c lpt -n '__lpt_is' -a threads -d 'Run a script, and then ten threads on its world'
+complete -c lpt -n '__lpt_is' -a shell -d "Answer a script's lines as they are typed"
+complete -c lpt -n '__lpt_is' -a lint -d "Print which lines of a script can't be read, and why"
 complete -c lpt -n '__lpt_is' -a chart -d "Draw a script's run, or a stream of packets, as an SVG"
-complete -c lpt -n '__lpt_is' -a decode -d 'Say what octets are as a packet'
-complete -c lpt -n '__lpt_is' -a list -d 'Say what each packet of a stream is'
-complete -c lpt -n '__lpt_is' -a split -d "Write the packets of a message's parts"
-complete -c lpt -n '__lpt_is' -a join -d 'Write the message that packets carry'
-complete -c lpt -n '__lpt_is' -a extract -d 'Write the octets that dump reports hold'
-complete -c lpt -n '__lpt_is' -a link -d 'Carry packets over a link that loses'
+complete -c lpt -n '__lpt_is' -a decode -d 'Decode a packet given in hexadecimal'
+complete -c lpt -n '__lpt_is' -a list -d 'List the packets of a file or a pipe'
+complete -c lpt -n '__lpt_is' -a split -d "Cut a message into parts, and write their packets"
+complete -c lpt -n '__lpt_is' -a join -d 'Join the parts in packets, and write the message'
+complete -c lpt -n '__lpt_is' -a extract -d 'Extract the memory that dump reports hold'
+complete -c lpt -n '__lpt_is' -a link -d 'Lose, repeat, delay and damage packets, as a link does'
 complete -c lpt -n '__lpt_is' -a spacecraft -d 'Take packets as the spacecraft does, and write its reports'
-complete -c lpt -n '__lpt_is' -a verify -d 'Say what became of requests, by the reports that came'
-complete -c lpt -n '__lpt_is' -a compare -d 'Compare a file with what check reports say of a memory'
-complete -c lpt -n '__lpt_is' -a checksum -d 'Print the checksum that a check report has of octets'
-complete -c lpt -n '__lpt_is' -a request -d 'Write a request to a memory as a telecommand'
+complete -c lpt -n '__lpt_is' -a verify -d 'List requests with what verification reports say of them'
+complete -c lpt -n '__lpt_is' -a compare -d 'Compare a file with the checksums in check reports'
+complete -c lpt -n '__lpt_is' -a checksum -d 'Print the checksum of a file, as in a check report'
+complete -c lpt -n '__lpt_is' -a request -d 'Write telecommands that load, dump or check a memory'
 complete -c lpt -n '__lpt_is' -a help -d 'Print the help of a command'
 complete -c lpt -n '__lpt_is help' -a 'run threads shell lint chart decode list split join extract link spacecraft verify compare checksum request help'
 complete -c lpt -n '__lpt_is help request; or __lpt_is request help' -a 'load dump check'
@@ -71,20 +71,20 @@ for command in list join
     complete -c lpt -n "__lpt_at $command" -l to -x -d "The place of the first octet that isn't read any more"
 end
 complete -c lpt -n '__lpt_at split' -l parts -x -d 'The parts to write, as 3,7-9,12-; with --each as ID:LIST'
-complete -c lpt -n '__lpt_at split' -l each -d 'Split each packet, the first under this ID, the others under those behind'
+complete -c lpt -n '__lpt_at split' -l each -d 'Split each packet, the first under this ID, the others under the next ones'
 complete -c lpt -n '__lpt_at split' -l whole -d 'Pass on a message that has no more octets than a part'
 complete -c lpt -n '__lpt_at split' -l pcap -d 'Write the packets as a capture, a pcap file'
 complete -c lpt -n '__lpt_at join' -l id -x -d "The message's ID or SOURCE/ID; without one, it is the only one there"
-complete -c lpt -n '__lpt_at join' -l first -d 'Take the first whole message, whatever comes behind it'
+complete -c lpt -n '__lpt_at join' -l first -d 'Take the first whole message, whatever comes after it'
 complete -c lpt -n '__lpt_at join' -l any -d 'Write what is joined also where it is no packet'
 complete -c lpt -n '__lpt_at join' -l each -x -a '(__fish_complete_directories)' -d 'Write every message there is, each as a file in this folder'
 complete -c lpt -n '__lpt_at extract' -l at -x -d 'Write an image of this memory, its areas at their places'
 complete -c lpt -n '__lpt_at extract' -l from -x -d 'The address at which the image begins, 0 without it'
 complete -c lpt -n '__lpt_at extract' -l fill -x -d 'The octet where no area gives one, 0 to 255, 0 without it'
-complete -c lpt -n '__lpt_at extract' -l whole -d 'Write an image only where no octet of it is wanting'
+complete -c lpt -n '__lpt_at extract' -l whole -d 'Write an image only where no octet of it is missing'
 complete -c lpt -n '__lpt_at extract' -l join -d 'Take dump reports that come in parts, too'
 complete -c lpt -n '__lpt_at checksum' -l from -x -d 'The place of the first octet, 0 without it'
-complete -c lpt -n '__lpt_at checksum' -l length -x -d 'How many octets, all behind that place without it'
+complete -c lpt -n '__lpt_at checksum' -l length -x -d 'How many octets; without it all after that place'
 for command in list join extract link verify compare
     complete -c lpt -n "__lpt_at $command" -l quiet -d 'Say nothing on standard error but what is wrong'
 end
@@ -96,10 +96,10 @@ complete -c lpt -n '__lpt_at link' -l delay -x -d 'How many packets later one is
 complete -c lpt -n '__lpt_at link' -l seed -x -d 'The seed: the same one gives the same run'
 complete -c lpt -n '__lpt_at spacecraft' -l memory -x -d 'A memory, and the file of its first content'
 complete -c lpt -n '__lpt_at spacecraft' -l save -d 'Write the memories back into their files at the end'
-complete -c lpt -n '__lpt_at spacecraft' -l tick-every -x -d 'Set the clock on behind each N packets'
+complete -c lpt -n '__lpt_at spacecraft' -l tick-every -x -d 'Set the clock on after each N packets'
 complete -c lpt -n '__lpt_at spacecraft' -l tick -x -d 'Set the clock on every MS milliseconds'
 complete -c lpt -n '__lpt_at spacecraft' -l reuse -x -d 'Free a name N ticks after its use'
-complete -c lpt -n '__lpt_at spacecraft' -l resync -d 'Go on behind octets that are no packet'
+complete -c lpt -n '__lpt_at spacecraft' -l resync -d 'Go on after octets that are no packet'
 complete -c lpt -n '__lpt_at spacecraft' -l log -d 'Tell on standard error what becomes of each packet and request'
 complete -c lpt -n '__lpt_at spacecraft' -l state -r -d 'Keep state and memories in this file, and go on where it says'
 for command in 'request load' 'request dump' 'request check'

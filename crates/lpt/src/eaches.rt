@@ -82,7 +82,7 @@ impl Folder<'_> {
             Ok(path) => path,
             Err(_) => return Err(Failure::from(ToolFault::Memory)),
         };
-        self.write_new(path.as_str(), message)?;
+        write_new(self.rt, path.as_str(), message)?;
         match self.counts.insert(name, number.saturating_add(1)) {
             Ok(_) => Ok(()),
             Err(_) => Err(Failure::from(ToolFault::Memory)),
@@ -97,16 +97,17 @@ impl Folder<'_> {
         let id = name.id;
         format!(in self.rt.alloc(); "{folder}/{direction}-{source}-{id}.{number}")
     }
+}
 
-    // Writes octets under another name, and gives them this one once all are there.
-    fn write_new(&self, path: &str, octets: &[u8]) -> Result<(), Failure> {
-        let rt = self.rt;
-        if fs::symlink_metadata(rt, path).is_ok() {
-            let place = format!(in rt.alloc(); "{path} is there already");
-            return Err(Failure::at(ToolFault::Write, place));
-        }
-        write_beside(rt, path, octets)
+/// Writes octets under another name, and gives them this one once all are there.
+///
+/// Errors: `Write`, also where there is a file of this name; `Memory`.
+pub fn write_new(rt: &HostRuntime, path: &str, octets: &[u8]) -> Result<(), Failure> {
+    if fs::symlink_metadata(rt, path).is_ok() {
+        let place = format!(in rt.alloc(); "{path} is there already");
+        return Err(Failure::at(ToolFault::Write, place));
     }
+    write_beside(rt, path, octets)
 }
 
 /// Says what of a name never became whole. The only error is out of memory.

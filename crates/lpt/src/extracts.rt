@@ -93,7 +93,7 @@ pub fn extract(
     };
     let voice = voice.beside_output(rt);
     if let Some(path) = words.layout {
-        return layout_extracts::extract(rt, voice, path, &wanted, &words.files);
+        return layout_extracts::extract(rt, voice, config, path, &wanted, words);
     }
     let mut source = opened_packets(rt, voice, &words.files, None, None)?;
     let status = if words.join {

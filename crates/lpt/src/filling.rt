@@ -105,7 +105,7 @@ fn octets_of(rt: &HostRuntime, line: &[u8], name: &[u8]) -> io::Result<Octets> {
     let front = &line[..line.len().saturating_sub(name.len())];
     let room = LONGEST_LINE.saturating_sub(front.len()) / 2;
     match found(rt, name, room)? {
-        Some(octets) => Ok(filled(rt.alloc(), front, &octets)?),
+        Some(octets) => Ok(filled(rt.alloc(), line, &octets)?),
         None => Ok(Octets::from_vec(Vec::from_slice(rt.alloc(), front)?)),
     }
 }

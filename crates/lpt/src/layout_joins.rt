@@ -3,6 +3,7 @@
 use crate::end::{Failure, Status, tell_place};
 use crate::input::{Packets, opened_packets, packets_end};
 use crate::joins::tell;
+use crate::layout_eaches::join_each;
 use crate::layouts;
 use crate::progress::Voice;
 use crate::streams::{finish, first_failure, output};
@@ -36,20 +37,17 @@ pub fn join(
     let reading = reading_of(&layouts, config.apid, words.direction);
     let span = words.span;
     let mut source = opened_packets(rt, voice, &words.files, span.from, span.to)?;
-    let status = join_from(
-        rt,
-        voice,
-        u32::from(config.source),
-        &reading,
-        words,
-        &mut source,
-    );
+    let user = u32::from(config.source);
+    let status = match words.each {
+        Some(path) => join_each(rt, voice, user, &reading, words, path, &mut source),
+        None => join_from(rt, voice, user, &reading, words, &mut source),
+    };
     drop(source);
     status
 }
 
-// How the parts of a direction are read.
-fn reading_of(layouts: &Layouts, apid: u16, direction: Direction) -> ReadingAs {
+/// How the parts of a direction are read.
+pub fn reading_of(layouts: &Layouts, apid: u16, direction: Direction) -> ReadingAs {
     let tailored = layouts.tailored(direction);
     let part_size = match tailored.part_size {
         Some(size) if 1 <= size && size <= 65_535 => Some(size),
@@ -138,7 +136,8 @@ fn told(
     }
     let ended = tell_end(rt, source, words, &who, from, joined)?;
     if !matches!(joined.end, EndAs::Written(_)) {
-        tell_skips(rt, reading, from, joined)?;
+        let (skipped, skips) = (joined.heard.skipped, joined.heard.skips);
+        tell_skips(rt, reading.direction, from, skipped, skips)?;
     }
     let place = joined.heard.place.saturating_add(from);
     Ok(match tell_left(rt, place, joined.left)? {
@@ -147,8 +146,8 @@ fn told(
     })
 }
 
-// What names a transaction where this source is configured, behind its direction.
-fn who(
+/// What names a transaction where this source is configured, behind its direction.
+pub fn who(
     alloc: Global,
     source: u32,
     reading: &ReadingAs,
@@ -210,8 +209,8 @@ fn broken_text(alloc: Global, who: &str, place: u64) -> Result<String, AllocErro
     format!(in alloc; "{who}: broken off: the part at octet {place} contradicts those before it")
 }
 
-// Why what was joined isn't written.
-fn unfit_text(alloc: Global, who: &str, misfit: MisfitAs) -> Result<String, AllocError> {
+/// Why what was joined isn't written.
+pub fn unfit_text(alloc: Global, who: &str, misfit: MisfitAs) -> Result<String, AllocError> {
     let joined = "what was joined is no packet";
     match misfit {
         MisfitAs::OtherKind => format!(in alloc; "{who}: {joined} of its direction"),
@@ -222,8 +221,8 @@ fn unfit_text(alloc: Global, who: &str, misfit: MisfitAs) -> Result<String, Allo
     }
 }
 
-// That no part came, or which are missing.
-fn missing_text(
+/// That no part came, or which are missing.
+pub fn missing_text(
     alloc: Global,
     who: &str,
     name: Option<NameAs>,
@@ -276,19 +275,20 @@ fn several_text(
     }
 }
 
-// Says how many packets carried no part, and why the first didn't. The only error is out of memory.
-fn tell_skips(
+/// Says how many packets carried no part, and why the first didn't. The only error is out of
+/// memory.
+pub fn tell_skips(
     rt: &HostRuntime,
-    reading: &ReadingAs,
+    direction: Direction,
     from: u64,
-    joined: &JoinedAs,
+    skipped: Option<(u64, SkipAs)>,
+    skips: u64,
 ) -> Result<(), AllocError> {
-    let Some((behind, skip)) = joined.heard.skipped else {
+    let Some((behind, skip)) = skipped else {
         return Ok(());
     };
     let alloc = rt.alloc();
-    let direction = reading.direction.word();
-    let skips = joined.heard.skips;
+    let direction = direction.word();
     let place = behind.saturating_add(from);
     let why = skip_text(alloc, skip)?;
     tell(
@@ -304,7 +304,7 @@ fn skip_text(alloc: Global, skip: SkipAs) -> Result<String, AllocError> {
     let (code, name) = match skip {
         SkipAs::Idle => return format!(in alloc; "it is idle"),
         SkipAs::OtherApid(apid) => return format!(in alloc; "its APID is {apid}"),
-        SkipAs::OtherType(service, subtype) => {
+        SkipAs::OtherType { service, subtype } => {
             return format!(in alloc; "it has service {service} and subtype {subtype}");
         }
         SkipAs::NoPacket(fault) => (fault.code(), fault.name()),

@@ -5,8 +5,15 @@ ghost use Rattle.lpt_layout_file.specs.Layouts.{SizesFit};
 
 use crate::configuration::read_file;
 use crate::end::{Failure, tell_place};
+use lpt_events::part_kind;
+use lpt_layout::{PartLayout, read_part_as};
 use lpt_layout_file::{Layouts, read_layouts, why_refused};
 use lpt_layout_list::{Hint, Told, told_in};
+use lpt_list::Tally;
+use lpt_packet::{Direction, ERROR_CONTROL, PRIMARY_HEADER};
+use lpt_part::Kind;
+use lpt_pus::{TC_HEADER, TM_HEADER};
+use lpt_stream::whole_length;
 use std::alloc::{AllocError, Global};
 use std::str;
 
@@ -58,10 +65,58 @@ pub fn tell_found(rt: &HostRuntime, told: Told) {
     tell_hint(rt, fit_hint(told));
 }
 
-/// The same of the packets at the front of octets that were read by this project's profile.
-pub fn tell_front(rt: &HostRuntime, octets: &[u8]) {
+/// The same of the packets at the front of octets that were read by this project's profile, of
+/// which so much is no packet. Where all are, they are judged only where a part isn't read.
+pub fn tell_front(rt: &HostRuntime, tally: Tally, octets: &[u8]) {
+    if tally.damaged == 0 && tally.stray == 0 && !has_unread(octets) {
+        return;
+    }
     let told = told_in(&Layouts::own(), octets);
     tell_other(rt, "the profile", " in a file for --layout", fit_hint(told));
+}
+
+// Whether a part that the profile doesn't read is among the packets at the front of octets, where
+// each has a right checksum.
+fn has_unread(octets: &[u8]) -> bool {
+    let mut rest = octets;
+    for _ in 0..octets.len() {
+        let Some(len) = whole_length(rest) else {
+            return false;
+        };
+        if is_unread(&rest[..len]) {
+            return true;
+        }
+        rest = &rest[len..];
+    }
+    false
+}
+
+// Whether such a packet is one.
+fn is_unread(packet: &[u8]) -> bool {
+    if packet.len() < 9 {
+        return false;
+    }
+    let (direction, header) = if packet[0] & 16 == 0 {
+        (Direction::Down, TM_HEADER)
+    } else {
+        (Direction::Up, TC_HEADER)
+    };
+    let field = &packet[PRIMARY_HEADER..packet.len() - ERROR_CONTROL];
+    match part_kind(direction, packet[7], packet[8]) {
+        Some(kind) => is_no_part(kind, field, header),
+        None => false,
+    }
+}
+
+// Whether what stands in a data field behind so many octets is no part of this kind, whatever its
+// length.
+fn is_no_part(kind: Kind, field: &[u8], header: usize) -> bool {
+    if header > field.len() {
+        return false;
+    }
+    let (parts, body) = (PartLayout::own(), &field[header..]);
+    let size = body.len().saturating_sub(4).clamp(1, 65_535) as u32;
+    read_part_as(&parts, kind, body, size).is_err()
 }
 
 // The hint that is told of what was found.

@@ -31,7 +31,9 @@ pub fn list(
     let voice = voice.beside_output(rt);
     let span = words.span;
     let packets = opened_packets(rt, voice, &words.files, span.from, span.to)?;
-    let mut source = Keeping::new(rt.alloc(), packets, FRONT);
+    let Ok(mut source) = Keeping::new(rt.alloc(), packets, FRONT) else {
+        return Err(Failure::from(StreamFault::Memory));
+    };
     let status = list_packets(rt, voice, config, words, &mut source);
     drop(source);
     status
@@ -58,7 +60,7 @@ fn list_packets(
     match listed {
         Ok(listed) => {
             if voice.tells() {
-                tell_front(rt, source.kept());
+                tell_front(rt, listed.tally, source.kept());
             }
             Ok(list_status(rt, voice, listed))
         }

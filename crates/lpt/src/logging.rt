@@ -44,7 +44,7 @@ impl<'a> Log<'a> {
                     "source {source} has no free name left ({way}); --reuse frees names"
                 )
             }
-            Told::Skipped(place, len) => {
+            Told::Skipped { place, len } => {
                 format!(in alloc;
                     "octet {place}: no packet begins there, octets passed over: {len}"
                 )
@@ -61,7 +61,7 @@ impl Listener for Log<'_> {
     ghost heard = { λ _. None };
 
     fn tell(&mut self, told: Told) {
-        if let Told::Skipped(_, _) = told {
+        if let Told::Skipped { .. } = told {
             self.has_skipped = true;
         }
         if self.all {

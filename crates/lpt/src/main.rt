@@ -23,6 +23,7 @@ mod glancing;
 mod input;
 mod joins;
 mod keeping;
+mod layout_eaches;
 mod layout_extracts;
 mod layout_joins;
 mod layout_lists;

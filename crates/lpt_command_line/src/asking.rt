@@ -54,7 +54,7 @@ const ACK: Named = Named {
 /// `verify`.
 const VERIFY: Row = Row {
     name: "verify",
-    about: "Say what became of requests, by the reports that came",
+    about: "List requests with what verification reports say of them",
     words: &[
         Word {
             name: "REQUESTS",
@@ -71,7 +71,7 @@ const VERIFY: Row = Row {
 /// `compare`.
 const COMPARE: Row = Row {
     name: "compare",
-    about: "Compare a file with what check reports say of a memory",
+    about: "Compare a file with the checksums in check reports",
     words: &[
         MEMORY,
         ADDRESS,
@@ -90,7 +90,7 @@ const COMPARE: Row = Row {
 /// `checksum`.
 const CHECKSUM: Row = Row {
     name: "checksum",
-    about: "Print the checksum that a check report has of octets",
+    about: "Print the checksum of a file, as in a check report",
     words: &[Word {
         name: "FILE",
         value: TEXT,
@@ -112,7 +112,7 @@ const CHECKSUM: Row = Row {
             behind: &["N"],
             action: ArgAction::Set,
             other: &[],
-            help: "How many octets, all behind that place without it",
+            help: "How many octets; without it all after that place",
         },
     ],
     configured: false,
@@ -124,7 +124,7 @@ pub(crate) static COMPARISONS: [Row; 3] = [VERIFY, COMPARE, CHECKSUM];
 /// The commands with others below them.
 pub(crate) static FAMILIES: [Family; 1] = [Family {
     name: "request",
-    about: "Write a request to a memory as a telecommand",
+    about: "Write telecommands that load, dump or check a memory",
     below: &[
         Row {
             name: "load",

@@ -18,8 +18,8 @@ Examples:
   lpt shell                             answer the lines that are typed
   lpt lint examples/first_path.script   print where it can't be read, and why
   lpt chart examples/first_path.script  draw what happened, as an SVG
-  lpt decode 07ffc000000000             say what these octets are as a packet
-  lpt list packets                      say what each packet of this file is
+  lpt decode 07ffc000000000             decode this packet
+  lpt list packets                      list the packets of this file
   lpt request load 1 0 image            write the telecommand that loads this file
   lpt split up 7 load                   write the packets of this message
   lpt join up --id 7 packets            write the message that they carry

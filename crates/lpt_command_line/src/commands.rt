@@ -83,28 +83,28 @@ pub(crate) const COUNT: Named = Named {
 pub(crate) static COMMANDS: [Row; 10] = [
     Row {
         name: "run",
-        about: "Run a script on a new world",
+        about: "Run a script of the simulator",
         words: &[SCRIPT],
         named: &[],
         configured: true,
     },
     Row {
         name: "threads",
-        about: "Run a script on a new world, and then ten threads",
+        about: "Run a script, and then ten threads on its world",
         words: &[SCRIPT],
         named: &[],
         configured: true,
     },
     Row {
         name: "shell",
-        about: "Answer lines one by one, and go on where one can't be read",
+        about: "Answer a script's lines as they are typed",
         words: &[],
         named: &[],
         configured: true,
     },
     Row {
         name: "lint",
-        about: "Print every line of a script that can't be read, and why",
+        about: "Print which lines of a script can't be read, and why",
         words: &[SCRIPT],
         named: &[],
         configured: false,
@@ -154,7 +154,7 @@ pub(crate) static COMMANDS: [Row; 10] = [
     },
     Row {
         name: "decode",
-        about: "Say what octets are as a packet",
+        about: "Decode a packet given in hexadecimal",
         words: &[Word {
             name: "HEX",
             value: TEXT,
@@ -166,7 +166,7 @@ pub(crate) static COMMANDS: [Row; 10] = [
     },
     Row {
         name: "list",
-        about: "Say what each packet of a stream is",
+        about: "List the packets of a file or a pipe",
         words: &[PACKETS],
         named: &[
             JSON,
@@ -187,7 +187,7 @@ pub(crate) static COMMANDS: [Row; 10] = [
     },
     Row {
         name: "split",
-        about: "Write the packets of a message's parts",
+        about: "Cut a message into parts, and write their packets",
         words: &[
             DIRECTION,
             Word {
@@ -219,7 +219,7 @@ pub(crate) static COMMANDS: [Row; 10] = [
                 behind: &[],
                 action: ArgAction::SetTrue,
                 other: &[],
-                help: "Split each packet, the first under this ID, the others under those behind",
+                help: "Split each packet, the first under this ID, the others under the next ones",
             },
             Named {
                 name: "whole",
@@ -243,7 +243,7 @@ pub(crate) static COMMANDS: [Row; 10] = [
     },
     Row {
         name: "join",
-        about: "Write the message that packets carry",
+        about: "Join the parts in packets, and write the message",
         words: &[DIRECTION, PACKETS],
         named: &[
             Named {
@@ -260,7 +260,7 @@ pub(crate) static COMMANDS: [Row; 10] = [
                 behind: &[],
                 action: ArgAction::SetTrue,
                 other: &[],
-                help: "Take the first whole message, whatever comes behind it",
+                help: "Take the first whole message, whatever comes after it",
             },
             Named {
                 name: "any",
@@ -287,7 +287,7 @@ pub(crate) static COMMANDS: [Row; 10] = [
     },
     Row {
         name: "extract",
-        about: "Write the octets that dump reports hold",
+        about: "Extract the memory that dump reports hold",
         words: &[PACKETS],
         named: &[
             Named {
@@ -320,7 +320,7 @@ pub(crate) static COMMANDS: [Row; 10] = [
                 behind: &[],
                 action: ArgAction::SetTrue,
                 other: &[],
-                help: "Write an image only where no octet of it is wanting",
+                help: "Write an image only where no octet of it is missing",
             },
             Named {
                 name: "join",

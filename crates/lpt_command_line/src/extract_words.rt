@@ -28,23 +28,19 @@ pub struct ExtractWords<'a> {
 
 /// What the words of `extract` ask for.
 ///
-/// Errors: `Beside`, `Missing`, `Memory`, `Address`.
+/// Errors: `Missing`, `Memory`, `Address`.
 pub fn extract_words<'a>(
     alloc: Global,
     matches: &ArgMatches<'a>,
 ) -> Result<ExtractWords<'a>, WordFault<'a>> {
-    let (join, layout) = (matches.get_flag("join"), layout_in(matches));
-    if join && layout.is_some() {
-        return Err(WordFault::Beside("--join", "--layout <FILE>"));
-    }
     Ok(ExtractWords {
         files: files_in(alloc, matches)?,
         at: matches.get_one("at"),
         from: from_in(matches)?,
         fill: matches.get_one("fill"),
         whole: matches.get_flag("whole"),
-        join,
-        layout,
+        join: matches.get_flag("join"),
+        layout: layout_in(matches),
     })
 }
 

@@ -100,7 +100,10 @@ pub fn split_words<'a>(matches: &ArgMatches<'a>) -> Result<SplitWords<'a>, WordF
     let word = matches.get_str("ID").ok_or(WordFault::Missing)?;
     Ok(SplitWords {
         direction: direction_in(matches).ok_or(WordFault::Missing)?,
-        name: name_in(word).ok_or(WordFault::Id("<ID>", word))?,
+        name: name_in(word).ok_or(WordFault::Id {
+            place: "<ID>",
+            word,
+        })?,
         file: matches.get_str("FILE").ok_or(WordFault::Missing)?,
         parts: list_in(matches)?,
         first: count_in(matches).ok_or(WordFault::Missing)?,
@@ -118,6 +121,24 @@ pub(crate) fn list_in<'a>(matches: &ArgMatches<'a>) -> Result<&'a str, WordFault
     }
 }
 
+// The folder into which every message is written, where that is asked for, and no message is named.
+//
+// Errors: `Beside`.
+pub(crate) fn each_in<'a>(
+    matches: &ArgMatches<'a>,
+    named: bool,
+    first: bool,
+) -> Result<Option<&'a str>, WordFault<'a>> {
+    let each = matches.get_str("each");
+    if each.is_some() && named {
+        return Err(WordFault::Beside("--each <DIR>", "--id <ID>"));
+    }
+    if each.is_some() && first {
+        return Err(WordFault::Beside("--each <DIR>", "--first"));
+    }
+    Ok(each)
+}
+
 /// What the words of `join` ask for.
 ///
 /// Errors: `Missing`; `Id` where what should name the message doesn't; `Beside`, `Order`, `Memory`.
@@ -127,17 +148,14 @@ pub fn join_words<'a>(
 ) -> Result<JoinWords<'a>, WordFault<'a>> {
     let direction = direction_in(matches).ok_or(WordFault::Missing)?;
     let name = match matches.get_str("id") {
-        Some(word) => Some(name_in(word).ok_or(WordFault::Id("--id <ID>", word))?),
+        Some(word) => Some(name_in(word).ok_or(WordFault::Id {
+            place: "--id <ID>",
+            word,
+        })?),
         None => None,
     };
     let first = matches.get_flag("first");
-    let each = matches.get_str("each");
-    if each.is_some() && name.is_some() {
-        return Err(WordFault::Beside("--each <DIR>", "--id <ID>"));
-    }
-    if each.is_some() && first {
-        return Err(WordFault::Beside("--each <DIR>", "--first"));
-    }
+    let each = each_in(matches, name.is_some(), first)?;
     Ok(JoinWords {
         direction,
         name,
@@ -162,7 +180,7 @@ pub(crate) fn span_in<'a>(matches: &ArgMatches<'a>) -> Result<Span, WordFault<'a
 // Refuses a first place behind a last.
 pub(crate) fn check_order<'a>(from: Option<u64>, to: Option<u64>) -> Result<(), WordFault<'a>> {
     match (from, to) {
-        (Some(from), Some(to)) if from > to => Err(WordFault::Order(from, to)),
+        (Some(from), Some(to)) if from > to => Err(WordFault::Order { from, to }),
         _ => Ok(()),
     }
 }

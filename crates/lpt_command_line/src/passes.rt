@@ -8,7 +8,7 @@ use clap::builder::ValueParser;
 /// `link`.
 const LINK: Row = Row {
     name: "link",
-    about: "Carry packets over a link that loses",
+    about: "Lose, repeat, delay and damage packets, as a link does",
     words: &[PACKETS],
     named: &[
         Named {
@@ -59,7 +59,7 @@ const LINK: Row = Row {
 /// `spacecraft`.
 const SPACECRAFT: Row = Row {
     name: "spacecraft",
-    about: "Take packets of standard input as the spacecraft does, and write its reports",
+    about: "Play the spacecraft: take packets, execute requests, write reports",
     words: &[],
     named: &[
         Named {
@@ -84,7 +84,7 @@ const SPACECRAFT: Row = Row {
             behind: &["N"],
             action: ArgAction::Set,
             other: &[],
-            help: "Set the clock on behind each N packets; without it, or at 0, never",
+            help: "Set the clock on after each N packets; without it, or at 0, never",
         },
         Named {
             name: "tick",
@@ -108,7 +108,7 @@ const SPACECRAFT: Row = Row {
             behind: &[],
             action: ArgAction::SetTrue,
             other: &[],
-            help: "Go on behind octets that are no packet: what one carries may be taken for one",
+            help: "Go on after octets that are no packet: what one carries may be taken for one",
         },
         Named {
             name: "log",

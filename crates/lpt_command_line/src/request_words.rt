@@ -64,7 +64,7 @@ fn each_in<'a>(name: &str, matches: &ArgMatches<'a>) -> Result<(u16, bool), Word
     let limit = limit_of(name);
     match matches.get_one("each") {
         None => Ok((limit, false)),
-        Some(each) if each == 0 || each > limit => Err(WordFault::Each(each, limit)),
+        Some(each) if each == 0 || each > limit => Err(WordFault::Each { each, limit }),
         Some(each) => Ok((each, true)),
     }
 }

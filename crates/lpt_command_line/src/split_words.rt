@@ -51,7 +51,10 @@ pub fn split_each_words<'a>(
     let lists = matches.get_strs("parts").ok_or(WordFault::Missing)?;
     Ok(SplitEachWords {
         direction: direction_in(matches).ok_or(WordFault::Missing)?,
-        name: name_in(word).ok_or(WordFault::Id("<ID>", word))?,
+        name: name_in(word).ok_or(WordFault::Id {
+            place: "<ID>",
+            word,
+        })?,
         file: matches.get_str("FILE").ok_or(WordFault::Missing)?,
         first: count_in(matches).ok_or(WordFault::Missing)?,
         picks: picks_in(alloc, lists)?,

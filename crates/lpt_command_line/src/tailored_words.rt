@@ -2,7 +2,7 @@
 
 ghost use Rattle.std.specs.Prelude.{◌≤◌};
 
-use crate::file_words::{Span, count_in, direction_in, files_in, list_in, span_in};
+use crate::file_words::{Span, count_in, direction_in, each_in, files_in, list_in, span_in};
 use crate::layout_words::layout_in;
 use crate::word_fault::WordFault;
 use clap::ArgMatches;
@@ -54,6 +54,8 @@ pub struct JoinLayoutWords<'a> {
     pub any: bool,
     /// Whether the first whole message is taken for good.
     pub first: bool,
+    /// The folder into which every message is written, where it isn't one alone.
+    pub each: Option<&'a str>,
     /// Which octets of the packets are read.
     pub span: Span,
 }
@@ -73,7 +75,10 @@ pub fn split_layout_words<'a>(
     Ok(SplitLayoutWords {
         layout: layout_in(matches).ok_or(WordFault::Missing)?,
         direction: direction_in(matches).ok_or(WordFault::Missing)?,
-        name: wide_name_in(word).ok_or(WordFault::WideId("<ID>", word))?,
+        name: wide_name_in(word).ok_or(WordFault::WideId {
+            place: "<ID>",
+            word,
+        })?,
         file: matches.get_str("FILE").ok_or(WordFault::Missing)?,
         parts: list_in(matches)?,
         first: count_in(matches).ok_or(WordFault::Missing)?,
@@ -89,19 +94,22 @@ pub fn join_layout_words<'a>(
     alloc: Global,
     matches: &ArgMatches<'a>,
 ) -> Result<JoinLayoutWords<'a>, WordFault<'a>> {
-    if matches.get_str("each").is_some() {
-        return Err(WordFault::Beside("--each <DIR>", "--layout <FILE>"));
-    }
     let name = match matches.get_str("id") {
-        Some(word) => Some(wide_name_in(word).ok_or(WordFault::WideId("--id <ID>", word))?),
+        Some(word) => Some(wide_name_in(word).ok_or(WordFault::WideId {
+            place: "--id <ID>",
+            word,
+        })?),
         None => None,
     };
+    let first = matches.get_flag("first");
+    let each = each_in(matches, name.is_some(), first)?;
     Ok(JoinLayoutWords {
         layout: layout_in(matches).ok_or(WordFault::Missing)?,
         direction: direction_in(matches).ok_or(WordFault::Missing)?,
         name,
         any: matches.get_flag("any"),
-        first: matches.get_flag("first"),
+        first,
+        each,
         span: span_in(matches)?,
         files: files_in(alloc, matches)?,
     })

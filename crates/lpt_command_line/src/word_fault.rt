@@ -9,22 +9,22 @@ pub enum WordFault<'a> {
     Missing,
     /// This one is no address.
     Address(&'a str),
-    /// Where this stands, this one names no message.
-    Id(&'static str, &'a str),
-    /// Where this stands, this one names no message of a layout.
-    WideId(&'static str, &'a str),
+    /// Where this place is, this word names no message.
+    Id { place: &'static str, word: &'a str },
+    /// Where this place is, this word names no message of a layout.
+    WideId { place: &'static str, word: &'a str },
     /// This one is no number of octets.
     Length(&'a str),
     /// Behind this address no number of octets stands.
     NoLength(&'a str),
-    /// So many octets are wanted of a request, more than these, which it holds at most.
-    Each(u16, u16),
+    /// So many octets are wanted of each request: none, or more than the limit that one holds.
+    Each { each: u16, limit: u16 },
     /// This one is no percentage.
     Odds(&'a str),
     /// These two don't stand beside each other.
     Beside(&'static str, &'static str),
-    /// What is read would begin at the first of these places, behind the second, where it ends.
-    Order(u64, u64),
+    /// What is read would begin at a place behind that where it ends.
+    Order { from: u64, to: u64 },
     /// This one is no memory's identifier with a file.
     NoMemory(&'a str),
     /// This one is no identifier with a list of parts.
@@ -49,20 +49,20 @@ impl WordFault<'_> {
         match self {
             WordFault::Missing => format!(in alloc; "a word is missing"),
             WordFault::Address(word) => invalid(alloc, word, "<ADDRESS>", 0),
-            WordFault::Id(place, word) => no_name(alloc, word, place, 65_535),
-            WordFault::WideId(place, word) => no_name(alloc, word, place, u32::MAX),
+            WordFault::Id { place, word } => no_name(alloc, word, place, 65_535),
+            WordFault::WideId { place, word } => no_name(alloc, word, place, u32::MAX),
             WordFault::Length(word) => invalid(alloc, word, "<LENGTH>", 1),
             WordFault::NoLength(word) => {
                 format!(in alloc; "no '<LENGTH>' stands behind the '<ADDRESS>' {word}")
             }
-            WordFault::Each(each, limit) => too_many(alloc, *each, *limit),
+            WordFault::Each { each, limit } => too_many(alloc, *each, *limit),
             WordFault::Odds(word) => {
                 format!(in alloc; "invalid value '{word}' for '<P>': no percentage of 0% to 100%")
             }
             WordFault::Beside(one, other) => {
                 format!(in alloc; "the argument '{one}' cannot be used with '{other}'")
             }
-            WordFault::Order(from, to) => {
+            WordFault::Order { from, to } => {
                 format!(in alloc; "'--from {from}' stands behind '--to {to}'")
             }
             WordFault::NoMemory(word) => {

@@ -1,0 +1,184 @@
+//! Every message of packets that a mission lays out, each written into a file of its own.
+
+use crate::eaches::write_new;
+use crate::end::{Failure, Status};
+use crate::input::{Packets, packets_end};
+use crate::joins::tell;
+use crate::layout_joins::{missing_text, tell_left, tell_skips, unfit_text, who};
+use crate::progress::Voice;
+use crate::streams::{finish, first_failure, output};
+use lpt_command_line::JoinLayoutWords;
+use lpt_layout_each::{EachedAs, NewsAs, TakerAs, each_as};
+use lpt_layout_join::{NameAs, ReadingAs};
+use lpt_text::StreamFault;
+use lpt_tool::ToolFault;
+use std::alloc::AllocError;
+use std::collections::BTreeMap;
+use std::fs;
+
+/// A folder into which each message is written, and standard error, which is told of what never
+/// became whole.
+#[derive(Drop)]
+struct Folder<'a> {
+    rt: &'a HostRuntime,
+    voice: Voice,
+    // The source that is configured.
+    user: u32,
+    reading: ReadingAs,
+    path: &'a str,
+    // How many messages of each name were written.
+    counts: BTreeMap<NameAs, u64>,
+    // Whether a part came, and whether parts never became whole.
+    came: bool,
+    lost: bool,
+    // Why a message couldn't be written.
+    failure: Option<Failure>,
+}
+
+impl TakerAs for Folder<'_> {
+    ghost use Rattle.std.specs.Prelude.{None};
+
+    ghost heard = { λ _. None };
+
+    fn take(&mut self, name: NameAs, news: &NewsAs) -> Result<(), StreamFault> {
+        self.came = true;
+        match news {
+            NewsAs::Given(message) => match self.write(name, message.as_slice()) {
+                Ok(()) => Ok(()),
+                Err(failure) => {
+                    self.failure = Some(failure);
+                    Err(StreamFault::Write)
+                }
+            },
+            lost => {
+                self.lost = true;
+                self.voice.clear(self.rt);
+                match tell_lost(self.rt, self.user, &self.reading, name, lost) {
+                    Ok(()) => Ok(()),
+                    Err(_) => Err(StreamFault::Memory),
+                }
+            }
+        }
+    }
+}
+
+impl Folder<'_> {
+    // Writes a message into a new file: all of it, or there is none of that name.
+    //
+    // Errors: `Write`, also where there is a file of its name; `Memory`.
+    fn write(&mut self, name: NameAs, message: &[u8]) -> Result<(), Failure> {
+        let number = match self.counts.get(&name) {
+            Some(count) => *count,
+            None => 0,
+        };
+        let (folder, direction) = (self.path, self.reading.direction.word());
+        let (user, id) = (name.user, name.id);
+        let path = format!(in self.rt.alloc(); "{folder}/{direction}-{user}-{id}.{number}");
+        let Ok(path) = path else {
+            return Err(Failure::from(ToolFault::Memory));
+        };
+        write_new(self.rt, path.as_str(), message)?;
+        match self.counts.insert(name, number.saturating_add(1)) {
+            Ok(_) => Ok(()),
+            Err(_) => Err(Failure::from(ToolFault::Memory)),
+        }
+    }
+}
+
+/// Says what of a name never became whole, where this source is configured. The only error is out
+/// of memory.
+pub fn tell_lost(
+    rt: &HostRuntime,
+    user: u32,
+    reading: &ReadingAs,
+    name: NameAs,
+    news: &NewsAs,
+) -> Result<(), AllocError> {
+    let who = who(rt.alloc(), user, reading, Some(name))?;
+    match news {
+        NewsAs::Given(_) => Ok(()),
+        NewsAs::Dropped(came) => tell(rt, missing_text(rt.alloc(), &who, Some(name), came)),
+        NewsAs::Unfit(misfit) => tell(rt, unfit_text(rt.alloc(), &who, *misfit)),
+    }
+}
+
+/// Writes every message that packets carry, each into a file of its own in the folder at this path,
+/// which is made where it isn't there.
+///
+/// Errors: `Read` where the packets can't be read, or their capture is wrong; `Write` where the
+/// folder can't be made, or a message can't be written into a file that isn't there yet; `Memory`.
+pub fn join_each<'a>(
+    rt: &'a HostRuntime,
+    voice: Voice,
+    user: u32,
+    reading: &ReadingAs,
+    words: &JoinLayoutWords<'_>,
+    path: &'a str,
+    source: &mut Packets,
+) -> Result<Status, Failure> {
+    if let Err(error) = fs::create_dir_all(rt, path) {
+        let place = format!(in rt.alloc(); "{path}: {error}");
+        return Err(Failure::at(ToolFault::Write, place));
+    }
+    let mut folder = Folder {
+        rt,
+        voice,
+        user,
+        reading: *reading,
+        path,
+        counts: BTreeMap::new(rt.alloc()),
+        came: false,
+        lost: false,
+        failure: None,
+    };
+    let mut out = output(rt)?;
+    let ended = each_as(
+        rt.alloc(),
+        reading,
+        words.any,
+        source,
+        &mut out,
+        &mut folder,
+    );
+    let failed = matches!(ended, Err(StreamFault::Read));
+    let failure = match packets_end(rt, voice, source, &words.files, failed) {
+        Some(failure) => Some(failure),
+        None => folder.failure.take(),
+    };
+    let (came, lost) = (folder.came, folder.lost);
+    drop(folder);
+    first_failure(finish(rt, out), failure)?;
+    match ended {
+        Ok(ended) => match told(rt, reading, words, came, lost, &ended) {
+            Ok(status) => Ok(status),
+            Err(_) => Err(Failure::from(ToolFault::Memory)),
+        },
+        Err(fault) => Err(Failure::from(fault)),
+    }
+}
+
+// The status of a join whose stream was read so far, after it was told where no part came, and what
+// was passed over where not all is well. The only error is out of memory.
+fn told(
+    rt: &HostRuntime,
+    reading: &ReadingAs,
+    words: &JoinLayoutWords<'_>,
+    came: bool,
+    lost: bool,
+    ended: &EachedAs,
+) -> Result<Status, AllocError> {
+    let (direction, from) = (reading.direction, words.span.from.unwrap_or(0));
+    let passed = ended.passed;
+    if !came {
+        let word = direction.word();
+        tell(
+            rt,
+            format!(in rt.alloc(); "{word}: no part of a message came"),
+        )?;
+    }
+    if !came || lost {
+        tell_skips(rt, direction, from, passed.skipped, passed.skips)?;
+    }
+    let left = tell_left(rt, passed.place.saturating_add(from), ended.left)?;
+    Ok(if came && !lost { left } else { Status::Refused })
+}
