@@ -1,12 +1,13 @@
 -- How a request ends, by whether its reply is sent.
-use Rattle.std.proofs.Common.{◌≡◌, ◌≢◌, ◌∙◌, ap, sym, refl, ℕ, Bool, true, List, [], ◌∷◌, ◌++◌, length, map, Option, Some, None}
+use Rattle.std.proofs.Common.{◌≡◌, ◌≢◌, ◌∙◌, ap, sym, refl, ℕ, Bool, true, false, List, [], ◌∷◌, ◌++◌, length, map, Option, Some, None}
+use Rattle.std.specs.Prelude.{is_some}
 use Rattle.std.specs.Option.{option_map_or}
 use Rattle.lpt_pus.specs.declared.failure_code.FailureCode.{FailureCode}
 use Rattle.lpt_memory.specs.declared.reply_kind.ReplyKind.{ReplyKind}
-use Rattle.lpt_memory.specs.declared.reply_kind.ReplyKind.TheVariants as kinds
 use Rattle.lpt_memory.specs.declared.effect.Effect.{Effect}
 use Rattle.lpt_memory.specs.declared.effect.Effect.TheVariants as effect
-use Rattle.lpt_memory.specs.Effects.{answer, dump_body, check_body, HasNoReply, length_replied}
+use Rattle.lpt_memory.specs.Effects.{answer, HasNoReply, length_replied}
+use Rattle.lpt_memory.specs.Given.{answer_of}
 use Rattle.lpt_pus.specs.Commands.{Command, command_in}
 use Rattle.lpt_pus.specs.Numbers.{long_at}
 use Rattle.lpt_memory.specs.Meanings.{Meaning, Silent, Fault, Load, Dump, Check, command_meaning, meaning}
@@ -59,17 +60,44 @@ module _ (p : ℕ) (free room : Bool) where
       ∙ ap (ending p free room) is
 
   -- what has a reply that is sent has a report of data
+  has_data-replied : (e : Effect)
+      → is_some (length_replied e) ≡ true
+      → None ≡ reply_refusal p free room e
+      → has_data (ending p free room e) ≡ true
+  has_data-replied effect.Silent some none = absurd cc
+  has_data-replied (effect.Code code) some none = absurd cc
+  has_data-replied effect.Done some none = absurd cc
+  has_data-replied (effect.Reply k body) some none = ap (λ o. has_data (replied o k body)) (sym none)
+
+  -- the same, of what isn't without a reply
   pub has_data-sent : (m : Meaning) (ms : Contents)
       → (HasNoReply m → ⊥)
       → None ≡ reply_refusal p free room (answer m ms)
       → has_data (ending p free room (answer m ms)) ≡ true
-  has_data-sent Silent ms some none = absurd (some tt)
-  has_data-sent (Fault code) ms some none = absurd (some tt)
-  has_data-sent (Load id areas) ms some none = absurd (some tt)
-  has_data-sent (Dump id ranges) ms some none =
-      ap (λ o. has_data (replied o kinds.Dump (dump_body id ranges ms))) (sym none)
-  has_data-sent (Check id ranges) ms some none =
-      ap (λ o. has_data (replied o kinds.Check (check_body id ranges ms))) (sym none)
+  has_data-sent m ms some = has_data-replied (answer m ms) (has_reply m ms some) where
+    has_reply : (m : Meaning) (ms : Contents)
+        → (HasNoReply m → ⊥)
+        → is_some (length_replied (answer m ms)) ≡ true
+    has_reply Silent ms some = absurd (some tt)
+    has_reply (Fault code) ms some = absurd (some tt)
+    has_reply (Load id areas) ms some = absurd (some tt)
+    has_reply (Dump id ranges) ms some = refl
+    has_reply (Check id ranges) ms some = refl
+
+  -- the same, by the octets that are read
+  pub has_data-given : (m : Meaning) (octets : List ℕ)
+      → (HasNoReply m → ⊥)
+      → None ≡ reply_refusal p free room (answer_of m octets)
+      → has_data (ending p free room (answer_of m octets)) ≡ true
+  has_data-given m octets some = has_data-replied (answer_of m octets) (has_reply m octets some) where
+    has_reply : (m : Meaning) (octets : List ℕ)
+        → (HasNoReply m → ⊥)
+        → is_some (length_replied (answer_of m octets)) ≡ true
+    has_reply Silent octets some = absurd (some tt)
+    has_reply (Fault code) octets some = absurd (some tt)
+    has_reply (Load id areas) octets some = absurd (some tt)
+    has_reply (Dump id ranges) octets some = refl
+    has_reply (Check id ranges) octets some = refl
 
 -- ---- reports of data are reports
 
@@ -86,17 +114,30 @@ data-reported request flags (Carried (Some r)) has =
     (map verification (reports_after request flags None)) r
 
 -- a message that has a report of data has a report
-pub data-made : (p : ℕ) (free room : Bool) (ms : Contents) (r : Source)
-    → has_data (ending p free room (answer (meant r) ms)) ≡ true
-    → message_reports r.apid r.message (ending p free room (answer (meant r) ms)) ≢ []
+reports-some : (p : ℕ) (free room : Bool) (answers : Meaning → Effect) (r : Source)
+    → has_data (ending p free room (answers Silent)) ≡ false
+    → has_data (ending p free room (answers (meant r))) ≡ true
+    → message_reports r.apid r.message (ending p free room (answers (meant r))) ≢ []
 unfolding meaning
-data-made p free room ms r has = go (command_in r.apid r.message) has where
+reports-some p free room answers r silent has = go (command_in r.apid r.message) has where
   go : (o : Option Command)
-      → has_data (ending p free room (answer (command_meaning r.sizes o) ms)) ≡ true
+      → has_data (ending p free room (answers (command_meaning r.sizes o))) ≡ true
       → option_map_or (λ (c : Command). reports_of (long_at r.message 0) c.flags
-      (ending p free room (answer (command_meaning r.sizes o) ms))) o []
+      (ending p free room (answers (command_meaning r.sizes o)))) o []
       ≢ []
   go None has = absurd cc
   go (Some c) has =
       data-reported (long_at r.message 0) c.flags
-      (ending p free room (answer (command_meaning r.sizes (Some c)) ms)) has
+      (ending p free room (answers (command_meaning r.sizes (Some c)))) has
+
+-- the same over memories
+pub data-made : (p : ℕ) (free room : Bool) (ms : Contents) (r : Source)
+    → has_data (ending p free room (answer (meant r) ms)) ≡ true
+    → message_reports r.apid r.message (ending p free room (answer (meant r) ms)) ≢ []
+data-made p free room ms r = reports-some p free room (λ m. answer m ms) r refl
+
+-- the same by the octets that are read
+pub data-given : (p : ℕ) (free room : Bool) (octets : List ℕ) (r : Source)
+    → has_data (ending p free room (answer_of (meant r) octets)) ≡ true
+    → message_reports r.apid r.message (ending p free room (answer_of (meant r) octets)) ≢ []
+data-given p free room octets r = reports-some p free room (λ m. answer_of m octets) r refl

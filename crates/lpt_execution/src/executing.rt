@@ -1,7 +1,8 @@
 //! The execution of a request over the memories.
 
-ghost use Rattle.std.specs.Prelude.{◌≡◌, true, IfOk, OnErr};
-ghost use Rattle.lpt_memory.specs.Effects.{answer};
+ghost use Rattle.std.specs.Prelude.{◌≡◌, ℕ, Bool, true, List, None, length, IfOk, OnErr};
+ghost use Rattle.lpt_memory.specs.Effects.{answer, AnswerFits};
+ghost use Rattle.lpt_memory.specs.Given.{answer_of, read_length};
 ghost use Rattle.lpt_memory.specs.Memories.{Contents, sizes_of};
 ghost use Rattle.lpt_memory.specs.Readings.{meant};
 ghost use Rattle.lpt_execution.specs.Endings.{ending, has_data, is_small, reply_fault, reply_refusal, reply_report};
@@ -12,7 +13,7 @@ use lpt_events::{TelemetryKind, longest_on_link};
 use lpt_memory::{Effect, Memories, Reading, ReplyKind};
 use lpt_packet::{ERROR_CONTROL, PRIMARY_HEADER};
 use lpt_pus::{FailureCode, TM_HEADER};
-use std::alloc::AllocError;
+use std::alloc::{AllocError, Global};
 
 // The octets that stand around the body of telemetry.
 const AROUND_A_BODY: usize = PRIMARY_HEADER + TM_HEADER + ERROR_CONTROL;
@@ -42,8 +43,10 @@ pub fn reply_fault(p: u32, length: usize, free: bool, room: bool) -> Option<Fail
 
 // Why the reply to a message isn't sent, where it has one.
 fn reply_refusal(p: u32, free: bool, room: bool, reading: &Reading) -> Option<FailureCode>
-    ensures { (ms : Contents) → reading.now.sizes ≡ sizes_of ms
+    ensures held { (ms : Contents) → reading.now.sizes ≡ sizes_of ms
         → result ≡ reply_refusal p free room (answer (meant reading.now) ms) }
+    ensures given { (octets : List ℕ) → length octets ≡ read_length (meant reading.now)
+        → result ≡ reply_refusal p free room (answer_of (meant reading.now) octets) }
 {
     match reading.reply_len() {
         Some(length) => reply_fault(p, length, free, room),
@@ -74,13 +77,47 @@ pub fn ending_of(
     if let Some(code) = reply_refusal(p, free, room, reading) {
         return Ok(Ending::Refused(code));
     }
-    match memories.answer(reading)? {
-        Effect::Silent => Ok(Ending::Silent),
-        Effect::Code(code) => Ok(Ending::Refused(code)),
-        Effect::Done => Ok(Ending::Carried(None)),
+    Ok(ended(memories.answer(reading)?))
+}
+
+/// The same of memories that are elsewhere, by the octets that the request reads of them, one area
+/// behind the other.
+///
+/// The only error is out of memory, for a reply that is sent.
+pub fn ending_given(
+    alloc: Global,
+    p: u32,
+    free: bool,
+    room: bool,
+    octets: &[u8],
+    reading: &Reading,
+) -> Result<Ending, AllocError>
+    requires { length octets.now ≡ read_length (meant reading.now) }
+    ensures ending { IfOk result (λ e.
+        e ≡ ending p free room (answer_of (meant reading.now) octets.now)) }
+    ensures fits { IfOk result EndingFits }
+    ensures memory { OnErr result
+        (has_data (ending p free room (answer_of (meant reading.now) octets.now)) ≡ true) }
+{
+    if let Some(code) = reply_refusal(p, free, room, reading) {
+        return Ok(Ending::Refused(code));
+    }
+    Ok(ended(reading.answer_of(alloc, octets)?))
+}
+
+// How a request ends that comes to this, where its reply is sent.
+fn ended(effect: Effect) -> Ending
+    ensures ending { (p : ℕ) (free room : Bool) → None ≡ reply_refusal p free room effect
+        → result ≡ ending p free room effect }
+    ensures fits { AnswerFits effect → EndingFits result }
+{
+    match effect {
+        Effect::Silent => Ending::Silent,
+        Effect::Code(code) => Ending::Refused(code),
+        Effect::Done => Ending::Carried(None),
         Effect::Reply(kind, body) => {
             let kind = reply_report(kind);
-            Ok(Ending::Carried(Some(Report { kind, body })))
+            Ending::Carried(Some(Report { kind, body }))
         }
     }
 }

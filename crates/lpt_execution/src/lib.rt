@@ -15,7 +15,7 @@ mod reporting;
 
 pub use applied::applied_with;
 pub use ending::{Ending, Report};
-pub use executing::{ending_of, is_small, reply_fault};
+pub use executing::{ending_given, ending_of, is_small, reply_fault};
 pub use lpt_events::{Applied, Refused, TelemetryKind};
 pub use lpt_memory::{Memories, Reading};
 pub use lpt_packet::{Name, Octets};

@@ -3,6 +3,7 @@ pub mod BodyLemmas
 pub mod BodyMeanings
 pub mod FieldLemmas
 pub mod FittingLemmas
+pub mod GivenLemmas
 pub mod LoopLemmas
 pub mod MeaningLemmas
 pub mod MemoriesLemmas

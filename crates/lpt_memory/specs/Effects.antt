@@ -17,13 +17,20 @@ abbrev pub octets_in : List ℕ → AreaRange → List ℕ
 octets_in content r = take r.len (drop r.address content)
 
 -- start address 32 bits, length 16, the octets, their checksum 16
-abbrev pub dump_area : List ℕ → AreaRange → List ℕ
-dump_area content r =
-    be r.address 4 ++ be r.len 2 ++ octets_in content r ++ be (checksum (octets_in content r)) 2
+abbrev pub dumped_area : AreaRange → List ℕ → List ℕ
+dumped_area r octets = be r.address 4 ++ be r.len 2 ++ octets ++ be (checksum octets) 2
 
 -- start address 32 bits, length 16, the checksum of the octets 16
+abbrev pub checked_area : AreaRange → List ℕ → List ℕ
+checked_area r octets = be r.address 4 ++ be r.len 2 ++ be (checksum octets) 2
+
+-- an area of the answer to a dump of this memory
+abbrev pub dump_area : List ℕ → AreaRange → List ℕ
+dump_area content r = dumped_area r (octets_in content r)
+
+-- an area of the answer to a check of this memory
 abbrev pub check_area : List ℕ → AreaRange → List ℕ
-check_area content r = be r.address 4 ++ be r.len 2 ++ be (checksum (octets_in content r)) 2
+check_area content r = checked_area r (octets_in content r)
 
 -- the octets of a memory; none where there is no such memory, which no request names
 abbrev pub octets_of : ℕ → Contents → List ℕ

@@ -1,6 +1,7 @@
 pub mod Effects
 pub mod FaultNames
 pub mod Fields
+pub mod Given
 pub mod Limits
 pub mod Meanings
 pub mod Memories

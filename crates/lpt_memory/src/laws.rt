@@ -10,9 +10,10 @@ ghost use Rattle.lpt_memory.specs.Requests.{LoadArea, Request, front_load_area, 
 ghost use Rattle.lpt_memory.specs.Spellings.{load_area_text, range_text, body_text, LoadAreaFits, RangeFits, AreAreas};
 ghost use Rattle.lpt_memory.specs.declared.request.Area.{Area};
 ghost use Rattle.lpt_memory.specs.Memories.{Contents, sizes_of, content_of, put_all, loaded, effect};
+ghost use Rattle.lpt_memory.specs.Given.{accesses, put_each, written};
 ghost use Rattle.lpt_memory.specs.Overlaps.{Covers, NoneCovers};
 ghost use Rattle.lpt_memory.specs.Ranges.{AreasFit};
-ghost use Rattle.lpt_memory.specs.Meanings.{Sizes, Silent, Fault, Load, Dump, Check, size_of, load_fault, range_fault, dump_length, area, unless, body_meaning, meaning};
+ghost use Rattle.lpt_memory.specs.Meanings.{Meaning, Sizes, Silent, Fault, Load, Dump, Check, size_of, load_fault, range_fault, dump_length, area, unless, body_meaning, meaning};
 
 /// What a message means, by what its octets are: nothing where they are no telecommand of this
 /// APID, an unknown request where its service and subtype are none that is known, else what its
@@ -122,4 +123,9 @@ pub fn loads_one_memory()
         → content_of id (loaded id areas ms) ≡ Some (put_all content areas) }
     ensures others { (id other : ℕ) (areas : List Area) (ms : Contents) → id ≢ other
         → content_of other (loaded id areas ms) ≡ content_of other ms }
+{}
+
+/// What is written of a message, access by access, is what it makes of the memories.
+pub fn writes_are_the_effect()
+    ensures { (m : Meaning) (ms : Contents) → put_each (accesses m) (written m) ms ≡ effect m ms }
 {}

@@ -2,7 +2,7 @@
 
 ghost use Rattle.std.specs.Prelude.{◌≡◌, ℕ, List, ◌+◌, ◌*◌, ◌<◌, ◌≤◌, ◌∷◌, ◌++◌, length, IfOk, OnOk};
 ghost use Rattle.std.specs.List.{flat_map};
-ghost use Rattle.lpt_memory.specs.Effects.{octets_in, dump_area, check_area, reply_length};
+ghost use Rattle.lpt_memory.specs.Effects.{octets_in, dump_area, check_area, dumped_area, checked_area, reply_length};
 ghost use Rattle.lpt_memory.specs.Meanings.{dump_length};
 ghost use Rattle.lpt_memory.specs.Ranges.{RangesFit};
 ghost use Rattle.lpt_memory.specs.Seen.{seen, IsCounted};
@@ -28,7 +28,7 @@ pub(crate) fn dump_len(ranges: &[AreaRange]) -> usize
 }
 
 // How many octets the body that answers a check has.
-fn check_len(ranges: &[AreaRange]) -> usize
+pub(crate) fn check_len(ranges: &[AreaRange]) -> usize
     requires { length ranges.now < 256 }
     ensures { result ≡ 2 + 8 * length ranges.now }
 {
@@ -59,11 +59,13 @@ fn octets_in<'a>(content: &'a [u8], range: &AreaRange) -> &'a [u8]
 }
 
 // Adds an area of the answer to a dump. The only error is out of memory.
-fn push_dump_area(body: &mut Vec<u8>, content: &[u8], range: &AreaRange) -> Result<(), AllocError>
-    requires { range.now.address + range.now.len ≤ length content.now }
-    ensures { OnOk result (body.new.items ≡ body.old.items ++ dump_area content.now range.now) }
+pub(crate) fn push_dump_area(
+    body: &mut Vec<u8>,
+    range: &AreaRange,
+    octets: &[u8],
+) -> Result<(), AllocError>
+    ensures { OnOk result (body.new.items ≡ body.old.items ++ dumped_area range.now octets.now) }
 {
-    let octets = octets_in(content, range);
     body.extend_from_slice(&range.address.to_be_bytes())?;
     body.extend_from_slice(&range.len.to_be_bytes())?;
     body.extend_from_slice(octets)?;
@@ -72,11 +74,13 @@ fn push_dump_area(body: &mut Vec<u8>, content: &[u8], range: &AreaRange) -> Resu
 }
 
 // Adds an area of the answer to a check. The only error is out of memory.
-fn push_check_area(body: &mut Vec<u8>, content: &[u8], range: &AreaRange) -> Result<(), AllocError>
-    requires { range.now.address + range.now.len ≤ length content.now }
-    ensures { OnOk result (body.new.items ≡ body.old.items ++ check_area content.now range.now) }
+pub(crate) fn push_check_area(
+    body: &mut Vec<u8>,
+    range: &AreaRange,
+    octets: &[u8],
+) -> Result<(), AllocError>
+    ensures { OnOk result (body.new.items ≡ body.old.items ++ checked_area range.now octets.now) }
 {
-    let octets = octets_in(content, range);
     body.extend_from_slice(&range.address.to_be_bytes())?;
     body.extend_from_slice(&range.len.to_be_bytes())?;
     body.extend_from_slice(&crc16(octets).to_be_bytes())?;
@@ -99,7 +103,7 @@ pub(crate) fn dump(
     body.push(id)?;
     body.push(ranges.len() as u8)?;
     for range in ranges {
-        push_dump_area(&mut body, content, range)?;
+        push_dump_area(&mut body, range, octets_in(content, range))?;
     }
     Ok(Octets::from_vec(body))
 }
@@ -120,7 +124,7 @@ pub(crate) fn check(
     body.push(id)?;
     body.push(ranges.len() as u8)?;
     for range in ranges {
-        push_check_area(&mut body, content, range)?;
+        push_check_area(&mut body, range, octets_in(content, range))?;
     }
     Ok(Octets::from_vec(body))
 }

@@ -20,8 +20,8 @@ impl Model for Shape {
 }
 
 impl Shape {
-    // The shape of these identifiers and sizes.
-    pub(crate) fn of(sizes: Vec<(u8, u32)>) -> Shape
+    /// The shape of these identifiers and sizes.
+    pub fn of(sizes: Vec<(u8, u32)>) -> Shape
         ensures { result ≡ sizes.items }
     {
         Shape { sizes }
@@ -34,8 +34,8 @@ impl Shape {
         &self.sizes
     }
 
-    // A copy. The only error is out of memory.
-    pub(crate) fn copy(&self) -> Result<Shape, AllocError>
+    /// A copy. The only error is out of memory.
+    pub fn copy(&self) -> Result<Shape, AllocError>
         ensures { IfOk result (λ s. s ≡ self.now) }
     {
         Ok(Shape {
