@@ -3,6 +3,7 @@ pub mod ArrivalLemmas
 mod BehindLemmas
 pub mod BodyLemmas
 pub mod ClaimLemmas
+pub mod GivenLemmas
 pub mod JobLemmas
 pub mod MapLemmas
 pub mod OutgoingLemmas

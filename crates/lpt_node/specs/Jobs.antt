@@ -1,8 +1,10 @@
 -- What an end does with the requests that it has released: claims, commits and executions.
-use Rattle.std.specs.Prelude.{◌≡◌, ℕ, ◌==◌, nat_lt, Bool, true, false, if◌then◌else◌, List, [], ◌∷◌, Option, Some, None, is_some}
+use Rattle.std.specs.Prelude.{◌≡◌, ℕ, ◌==◌, nat_lt, Bool, true, false, if◌then◌else◌, List, [], ◌∷◌, length, Option, Some, None, is_some}
 use Rattle.std.specs.FinMap as map
 use Rattle.lpt_packet.specs.Names.{Name}
+use Rattle.lpt_memory.specs.declared.effect.Effect.{Effect}
 use Rattle.lpt_memory.specs.Effects.{answer}
+use Rattle.lpt_memory.specs.Given.{answer_of, octets_read, read_length}
 use Rattle.lpt_memory.specs.Memories.{Contents, sizes_of, effect}
 use Rattle.lpt_memory.specs.Readings.{Source, Job as Ticket, meant}
 use Rattle.lpt_jobs.specs.Jobs.{Head, NoJob as NoHead, NotReady as HeadNotReady, Ready, head_of, unclaimed, after_claim, after_commit, without_front}
@@ -76,13 +78,21 @@ FrontIsFor (Ready r) apid ms = (r.apid ≡ apid) × (r.sizes ≡ sizes_of ms)
 abbrev pub IsReadFor : NodeView → Contents → Type 0
 IsReadFor n ms = FrontIsFor (head_of n.at.jobs.jobs) n.config.apid ms
 
--- how the execution of a reading ends, over these memories; a reply could be opened under a name of
--- the request's own source
-abbrev pub ending_at : Config → NodeData → Contents → Source → Ending
-ending_at c d ms r =
+-- how the execution of a reading ends that comes to this; a reply could be opened under a name of the
+-- request's own source
+abbrev pub ending_with : Config → NodeData → Source → Effect → Ending
+ending_with c d r effect =
     ending c.part_size
     (is_some (least_free_in d.sending.ledger (request_source r.apid r.message)))
-    (nat_lt (map.len d.sending.messages) c.outgoing) (answer (meant r) ms)
+    (nat_lt (map.len d.sending.messages) c.outgoing) effect
+
+-- the same over these memories
+abbrev pub ending_at : Config → NodeData → Contents → Source → Ending
+ending_at c d ms r = ending_with c d r (answer (meant r) ms)
+
+-- the same by the octets that it reads of memories
+abbrev pub ending_given : Config → NodeData → List ℕ → Source → Ending
+ending_given c d octets r = ending_with c d r (answer_of (meant r) octets)
 
 -- the octets of a report to this destination, by the counts of its sender and the clock
 abbrev pub report_packet : Config → (peer : ℕ) → Sending → (clock : ℕ) → Report → List ℕ
@@ -164,3 +174,34 @@ executed_of c d ms (Ready r) =
 -- the oldest job is executed: the end after it with the answer, and the memories after it
 abbrev pub executed : Config → NodeData → Contents → (NodeData × Execution) × Contents
 executed c d ms = executed_of c d ms (head_of d.jobs.jobs)
+
+-- ---- executions where the memories are elsewhere
+
+-- the reading at the front, if there is one
+abbrev pub front_reading : Head → Option Source
+front_reading NoHead = None
+front_reading HeadNotReady = None
+front_reading (Ready r) = Some r
+
+-- what stands at the front reads so many octets as these
+abbrev pub FrontReads : Head → List ℕ → Type 0
+FrontReads NoHead octets = Unit {0}
+FrontReads HeadNotReady octets = Unit {0}
+FrontReads (Ready r) octets = length octets ≡ read_length (meant r)
+
+-- these memories have these octets where it reads
+abbrev pub FrontHolds : Head → Contents → List ℕ → Type 0
+FrontHolds NoHead ms octets = Unit {0}
+FrontHolds HeadNotReady ms octets = Unit {0}
+FrontHolds (Ready r) ms octets = octets_read (meant r) ms ≡ octets
+
+-- what stands at the front is executed, and ends so
+abbrev pub executed_so : Config → NodeData → (Source → Ending) → Head → NodeData × Execution
+executed_so c d end NoHead = (d, not_executed)
+executed_so c d end HeadNotReady = (d, not_executed)
+executed_so c d end (Ready r) = executed_ending c d r (end r)
+
+-- the oldest job is executed, where memories have these octets that it reads: the end after it with
+-- the answer
+abbrev pub executed_given : Config → NodeData → List ℕ → NodeData × Execution
+executed_given c d octets = executed_so c d (ending_given c d octets) (head_of d.jobs.jobs)

@@ -1,12 +1,15 @@
 //! What is made for an execution before anything is changed.
 
-ghost use Rattle.std.specs.Prelude.{◌≡◌, ◌≢◌, [], ◌∷◌, ◌++◌, length, IfOk, OnOk, OnErr, All, None};
+ghost use Rattle.std.specs.Prelude.{◌≡◌, ◌≢◌, [], ◌∷◌, ◌++◌, nat_lt, length, is_some, IfOk, OnOk, OnErr, All, None};
+ghost use Rattle.std.specs.FinMap as map;
 ghost use Rattle.lpt_ledger.specs.LeastFree.{least_free_in};
+ghost use Rattle.lpt_memory.specs.Given.{read_length};
 ghost use Rattle.lpt_memory.specs.Memories.{sizes_of};
-ghost use Rattle.lpt_execution.specs.Ranges.{ReportFits};
+ghost use Rattle.lpt_memory.specs.Readings.{meant};
+ghost use Rattle.lpt_execution.specs.Ranges.{EndingFits, ReportFits};
 ghost use Rattle.lpt_execution.specs.Reporting.{applied_of, large_packets, link_packets, opened_of};
-ghost use Rattle.lpt_node.specs.Executions.{made_at, reports_at, with_counts};
-ghost use Rattle.lpt_node.specs.Jobs.{ending_at, report_packets, reported, with_opened};
+ghost use Rattle.lpt_node.specs.Executions.{made_of, reports_of, with_counts};
+ghost use Rattle.lpt_node.specs.Jobs.{ending_at, ending_given, report_packets, reported, with_opened};
 ghost use Rattle.lpt_node.specs.Nodes.{MessageFits};
 ghost use Rattle.lpt_node.specs.Sending.{counted_kind};
 
@@ -14,7 +17,7 @@ use crate::Node;
 use crate::counts::Counts;
 use crate::sending::begin;
 use lpt_events::Applied;
-use lpt_execution::{Report, ending_of, is_small, reports, request_source};
+use lpt_execution::{Ending, Report, ending_given, ending_of, is_small, reports, request_source};
 use lpt_memory::{Memories, Reading};
 use lpt_packet::{Name, Octets};
 use std::alloc::AllocError;
@@ -30,37 +33,80 @@ pub(crate) struct Made {
 }
 
 impl Node {
-    // What the execution of a reading answers where it opens no message, and the packets of its
-    // reports, which go to the request's own source. A load isn't done yet.
-    pub(crate) fn execution(
+    // Whether a reply could be opened under a name of this source: one is free, and there is room.
+    fn may_open(&self, source: u16) -> (bool, bool)
+        ensures free { result.0 ≡ is_some (least_free_in self.now.at.sending.ledger source) }
+        ensures room { result.1
+            ≡ nat_lt (map.len self.now.at.sending.messages) self.now.config.outgoing }
+    {
+        let free = self.senders.least_free(source).is_some();
+        let room = self.outgoing.len() < self.config.outgoing as usize;
+        (free, room)
+    }
+
+    // How the execution of a reading ends, over these memories. A load isn't done yet.
+    pub(crate) fn ending(
         &self,
         memories: &Memories,
         reading: &Reading,
-    ) -> Result<(Applied, Made), AllocError>
+    ) -> Result<Ending, AllocError>
         requires { reading.now.sizes ≡ sizes_of memories.now }
-        ensures applied { IfOk result (λ x. x.0
-            ≡ applied_of (ending_at self.now.config self.now.at memories.now reading.now) None) }
+        ensures ending { IfOk result (λ e.
+            e ≡ ending_at self.now.config self.now.at memories.now reading.now) }
+        ensures fits { IfOk result EndingFits }
+
+        // Memory runs out only where there is a report.
+        ensures memory { OnErr result (reports_of reading.now
+            (ending_at self.now.config self.now.at memories.now reading.now) ≢ []) }
+    {
+        let (free, room) = self.may_open(request_source(reading));
+        let ending = ending_of(self.config.part_size, free, room, memories, reading)?;
+        Ok(ending)
+    }
+
+    // The same by the octets that it reads of memories.
+    pub(crate) fn ending_given(
+        &self,
+        octets: &[u8],
+        reading: &Reading,
+    ) -> Result<Ending, AllocError>
+        requires { length octets.now ≡ read_length (meant reading.now) }
+        ensures ending { IfOk result (λ e.
+            e ≡ ending_given self.now.config self.now.at octets.now reading.now) }
+        ensures fits { IfOk result EndingFits }
+        ensures memory { OnErr result (reports_of reading.now
+            (ending_given self.now.config self.now.at octets.now reading.now) ≢ []) }
+    {
+        let (free, room) = self.may_open(request_source(reading));
+        let p = self.config.part_size;
+        let ending = ending_given(self.alloc, p, free, room, octets, reading)?;
+        Ok(ending)
+    }
+
+    // What the execution of a reading answers that ends so, where it opens no message, and the
+    // packets of its reports, which go to the request's own source.
+    pub(crate) fn execution(
+        &self,
+        reading: &Reading,
+        ending: Ending,
+    ) -> Result<(Applied, Made), AllocError>
+        requires { EndingFits ending }
+        ensures applied { IfOk result (λ x. x.0 ≡ applied_of ending None) }
         ensures packets { IfOk result (λ x. x.1.packets.items
             ≡ link_packets self.now.config.part_size
-            (made_at self.now.config self.now.at memories.now reading.now)) }
+            (made_of self.now.config self.now.at reading.now ending)) }
         ensures large { IfOk result (λ x. x.1.large.items
             ≡ large_packets self.now.config.part_size
-            (made_at self.now.config self.now.at memories.now reading.now)) }
+            (made_of self.now.config self.now.at reading.now ending)) }
         ensures counts { IfOk result (λ x. with_counts self.now.at.sending x.1.counts
-            ≡ reported self.now.at.sending
-            (reports_at self.now.config self.now.at memories.now reading.now)) }
+            ≡ reported self.now.at.sending (reports_of reading.now ending)) }
         ensures fits { IfOk result (λ x.
             All (λ m. MessageFits self.now.config.part_size (length m)) x.1.large.items) }
 
         // Memory runs out only where there is a report.
-        ensures memory { OnErr result
-            (reports_at self.now.config self.now.at memories.now reading.now ≢ []) }
+        ensures memory { OnErr result (reports_of reading.now ending ≢ []) }
     {
-        let p = self.config.part_size;
         let peer = request_source(reading);
-        let free = self.senders.least_free(peer).is_some();
-        let room = self.outgoing.len() < self.config.outgoing as usize;
-        let ending = ending_of(p, free, room, memories, reading)?;
         let applied = ending.applied();
         let reports = reports(self.alloc, reading, ending)?;
         Ok((applied, self.report_packets(peer, reports)?))

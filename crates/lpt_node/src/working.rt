@@ -2,17 +2,21 @@
 
 ghost use Rattle.std.specs.Prelude.{◌≡◌, ◌≢◌, ◌-◌, [], length, IsTrue, None, Some, IfOk, IfErr, OnOk, OnErr};
 ghost use Rattle.std.specs.Option.{option_map};
-ghost use Rattle.lpt_jobs.specs.Jobs.{claimed_in, head_of, is_claimed, numbered, unclaimed};
-ghost use Rattle.lpt_node.specs.Executions.{front_reports};
-ghost use Rattle.lpt_node.specs.Jobs.{refusal_claim, claimed, committed, refusal_apply, executed, execution, IsReadFor};
+ghost use Rattle.lpt_jobs.specs.Jobs.{Ready, claimed_in, head_of, is_claimed, is_ready, numbered, unclaimed, without_front};
+ghost use Rattle.lpt_memory.specs.Memories.{Contents};
+ghost use Rattle.lpt_memory.specs.Readings.{Source};
+ghost use Rattle.lpt_execution.specs.Ranges.{EndingFits};
+ghost use Rattle.lpt_node.specs.Executions.{front_reports, reports_given, reports_of};
+ghost use Rattle.lpt_node.specs.Jobs.{refusal_claim, claimed, committed, refusal_apply, executed, executed_given, executed_so, execution, front_reading, FrontHolds, FrontReads, IsReadFor};
 ghost use Rattle.lpt_node.specs.Sending.{RefusedBy};
 
 use crate::executing::Made;
 use crate::{Executed, Node, NodeFault};
-use lpt_execution::{applied_with, request_source};
+use lpt_execution::{Ending, applied_with, request_source};
 use lpt_jobs::Front;
 use lpt_memory::{Memories, Reading, Ticket};
 use lpt_packet::Octets;
+use std::alloc::AllocError;
 
 impl Node {
     /// The number of this boot: how many times the node was restarted.
@@ -89,6 +93,18 @@ impl Node {
         true
     }
 
+    /// The reading of the oldest job. `None` where there is no job, or it wasn't handed in.
+    pub fn front(&self) -> Option<&Reading>
+        ensures { option_map (λ x. x.now) result
+            ≡ front_reading (head_of self.now.at.jobs.jobs) }
+    {
+        match self.jobs.front() {
+            Front::Empty => None,
+            Front::NotReady => None,
+            Front::Ready(reading) => Some(reading),
+        }
+    }
+
     /// Executes the oldest job, whose reading must be for these memories and the node's APID: does
     /// what it asks of them, makes its reports, and lets the job go. The reports go to the source in
     /// the request's own header. A report of data that is too long for a packet on the link is opened
@@ -120,26 +136,116 @@ impl Node {
         let Front::Ready(reading) = self.jobs.front() else {
             unreachable!()
         };
-        let source = request_source(reading);
-        // All that takes memory comes first, and the new message last of it.
-        let Ok((applied, made)) = self.execution(memories, reading) else {
+        let Ok(ending) = self.ending(memories, reading) else {
             return Err(NodeFault::Memory);
         };
+        let Ok((executed, reading)) = self.end_front(ending) else {
+            return Err(NodeFault::Memory);
+        };
+        memories.load(&reading);
+        Ok(executed)
+    }
+
+    /// Executes the oldest job where the memories are elsewhere, by the octets that it reads of
+    /// them, one area behind the other: makes its reports and lets the job go. What a load writes is
+    /// the caller's to do.
+    ///
+    /// Errors, with nothing changed: as those of `apply_front`.
+    pub fn apply_given(&mut self, octets: &[u8]) -> Result<Executed, NodeFault>
+        requires { FrontReads (head_of self.old.at.jobs.jobs) octets.now }
+        ensures enabled { OnOk result (refusal_apply self.old.at ≡ None) }
+        ensures ok { IfOk result (λ r. (self.new.at, execution r)
+            ≡ executed_given self.old.config self.old.at octets.now) }
+
+        // It is what is executed over any memories that have these octets there.
+        ensures over { (ms : Contents) → IsReadFor self.old ms
+            → FrontHolds (head_of self.old.at.jobs.jobs) ms octets.now
+            → IfOk result (λ r. (self.new.at, execution r)
+            ≡ (executed self.old.config self.old.at ms).0) }
+
+        ensures side { self.new.side ≡ self.old.side }
+        ensures config { self.new.config ≡ self.old.config }
+
+        ensures refused { IfErr result (λ e. RefusedBy (refusal_apply self.old.at) e) }
+        ensures err { OnErr result (self.new.at ≡ self.old.at) }
+
+        // Memory runs out only where there is a report.
+        ensures memory { OnErr result (refusal_apply self.old.at ≡ None
+            → reports_given self.old.config self.old.at octets.now (head_of self.old.at.jobs.jobs)
+            ≢ []) }
+    {
+        if let Some(fault) = self.refusal_apply() {
+            return Err(fault);
+        }
+        let Front::Ready(reading) = self.jobs.front() else {
+            unreachable!()
+        };
+        let Ok(ending) = self.ending_given(octets, reading) else {
+            return Err(NodeFault::Memory);
+        };
+        let Ok((executed, _)) = self.end_front(ending) else {
+            return Err(NodeFault::Memory);
+        };
+        Ok(executed)
+    }
+
+    /// Lets the oldest job go, whose reading was handed in, without executing it: nothing is done and
+    /// nothing is reported. It takes no memory.
+    ///
+    /// Errors, with nothing changed: `NoJob`, there is none; `NotReady`, no reading of the oldest was
+    /// handed in.
+    pub fn drop_front(&mut self) -> Result<(), NodeFault>
+        ensures enabled { OnOk result (refusal_apply self.old.at ≡ None) }
+        ensures ok { OnOk result (self.new.at
+            ≡ record self.old.at { jobs = without_front self.old.at.jobs }) }
+
+        ensures side { self.new.side ≡ self.old.side }
+        ensures config { self.new.config ≡ self.old.config }
+
+        ensures refused { IfErr result (λ e. refusal_apply self.old.at ≡ Some e) }
+        ensures err { OnErr result (self.new.at ≡ self.old.at) }
+    {
+        if let Some(fault) = self.refusal_apply() {
+            return Err(fault);
+        }
+        let _ = self.jobs.pop_front();
+        Ok(())
+    }
+
+    // Ends the execution of the oldest job, which is ready: makes its reports, opens the one that is
+    // too long, and lets the job go, with its reading. The only error is out of memory, with nothing
+    // changed.
+    fn end_front(&mut self, ending: Ending) -> Result<(Executed, Reading), AllocError>
+        requires ready { IsTrue (is_ready (head_of self.old.at.jobs.jobs)) }
+        requires fits { EndingFits ending }
+        ensures ok { IfOk result (λ x. (self.new.at, execution x.0)
+            ≡ executed_so self.old.config self.old.at (λ r. ending) (head_of self.old.at.jobs.jobs)) }
+        ensures reading { IfOk result (λ x. head_of self.old.at.jobs.jobs ≡ Ready x.1) }
+        ensures side { self.new.side ≡ self.old.side }
+        ensures config { self.new.config ≡ self.old.config }
+        ensures err { OnErr result (self.new.at ≡ self.old.at) }
+        ensures memory { (r : Source) → head_of self.old.at.jobs.jobs ≡ Ready r
+            → OnErr result (reports_of r ending ≢ []) }
+    {
+        let Front::Ready(reading) = self.jobs.front() else {
+            unreachable!()
+        };
+        let source = request_source(reading);
+        // All that takes memory comes first, and the new message last of it.
+        let (applied, made) = self.execution(reading, ending)?;
         let Made {
             counts,
             packets,
             large,
         } = made;
-        let Ok(opened) = self.open_first(source, large) else {
-            return Err(NodeFault::Memory);
-        };
+        let opened = self.open_first(source, large)?;
         self.counts = counts;
         let reading = self.jobs.pop_front();
-        memories.load(&reading);
-        Ok(Executed {
+        let executed = Executed {
             applied: applied_with(applied, &opened),
             packets,
             opened,
-        })
+        };
+        Ok((executed, reading))
     }
 }
