@@ -156,7 +156,12 @@ enum LptFault {
     LPT_E_STATE_SIDE = 115,
     LPT_E_STATE_CONFIG = 116,
     LPT_E_STATE_CHECKSUM = 117,
-    LPT_E_STATE_ORDER = 118
+    LPT_E_STATE_ORDER = 118,
+
+    /* Of an end: the memories are with the caller, or in the end, and the call is for the other. */
+    LPT_E_ELSEWHERE = 119,
+    /* Of an end: these are more or fewer octets than the request reads. */
+    LPT_E_READ_LENGTH = 120
 };
 
 /* The name of what a call answered, as docs/C.md has it; "unknown" of another number. */
@@ -270,6 +275,10 @@ static inline const char *lpt_fault_name(uint32_t fault) {
         return "state checksum";
     case LPT_E_STATE_ORDER:
         return "state order";
+    case LPT_E_ELSEWHERE:
+        return "elsewhere";
+    case LPT_E_READ_LENGTH:
+        return "read length";
     default:
         return "unknown";
     }
@@ -289,7 +298,7 @@ enum LptPartKind {
 };
 
 /* What the front of a stream is: a packet or an idle packet; as many octets as a header says, which
-   are none, with a packet behind them or nothing; an octet with which none of these begins. */
+   are none, with a packet after them or nothing; an octet with which none of these begins. */
 enum LptPieceKind { LPT_PIECE_WHOLE = 1, LPT_PIECE_DAMAGED = 2, LPT_PIECE_STRAY = 3 };
 
 /* Why a reception was aborted: no part came for as long as the time-out; in strict mode a part came
@@ -328,12 +337,12 @@ uint32_t lpt_packet_length(const uint8_t *octets, size_t octets_len, size_t *len
 
 /*
  * Finds the piece in front of octets of a stream that may be damaged. `in_step` is 1 where the
- * octets begin the stream, or come right behind a packet or a damaged one, and 0 behind an octet
- * that is none; `is_end` is 1 where nothing comes behind them, and 0 where that isn't known. Any
+ * octets begin the stream, or come right after a packet or a damaged one, and 0 after an octet
+ * that is none; `is_end` is 1 where nothing comes after them, and 0 where that isn't known. Any
  * number but 0 is taken as 1.
  *
  * LPT_DONE, and *kind (LPT_PIECE_WHOLE, LPT_PIECE_DAMAGED or LPT_PIECE_STRAY) and *size, its
- * octets, at least one, are written: whatever comes behind won't change them. LPT_E_MORE where
+ * octets, at least one, are written: whatever comes after won't change them. LPT_E_MORE where
  * there are no octets, or what is in front depends on those that may still come: never of
  * LPT_LOOKAHEAD octets or more, nor of some with `is_end`.
  */

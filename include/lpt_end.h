@@ -3,7 +3,7 @@
  * spacecraft: which names it knows, what it sends in parts, what it joins, and when it gives a
  * reception up.
  *
- * A program has the address of an end, an LptEnd *, which lpt_end_new or lpt_end_resume gives and
+ * A program has the address of an end, an LptEnd *, which lpt_end_new and others give and
  * lpt_end_free takes back. A copy of the address names the same end, and what stands there is the
  * library's. Each call answers LPT_DONE, or the number of the first thing that is wrong, in the
  * order of its comment; then the end is as it was, and nothing has been written through a pointer
@@ -62,7 +62,7 @@ typedef struct LptName {
     uint16_t id;     /* the identifier in the parts */
 } LptName;
 
-/* A memory of a new end: the octets with which it begins are content[at] and those behind it. */
+/* A memory of a new end: the octets with which it begins are content[at] and those after it. */
 typedef struct LptMemory {
     uint8_t id; /* its identifier */
     size_t at;
@@ -160,7 +160,7 @@ uint32_t lpt_end_expire(LptEnd *end, LptName *name);
 LPT_MUST_USE
 uint32_t lpt_end_open(LptEnd *end, const LptName *name, const uint8_t *message, size_t message_len);
 
-/* Makes the packet of the part of this number, from 1, of an open message: it is to be sent, behind
+/* Makes the packet of the part of this number, from 1, of an open message: it is to be sent, after
    those that are.
    LPT_DONE; LPT_E_NOT_OPEN; LPT_E_NO_SUCH_PART; LPT_E_ALLOCATION. */
 LPT_MUST_USE
@@ -168,7 +168,7 @@ uint32_t lpt_end_part(LptEnd *end, const LptName *name, uint16_t number);
 
 /*
  * Makes the packet of a plain request, of this source, these acknowledgement flags, service type,
- * message subtype and body: it is to be sent, behind those that are. Ground alone makes them. Its
+ * message subtype and body: it is to be sent, after those that are. Ground alone makes them. Its
  * reports go to that source. Each delivery of the packet is a request of its own, so it is executed
  * as often as it is delivered.
  * LPT_DONE; LPT_E_RANGE for flags above 15, and at the spacecraft; LPT_E_PART_REQUEST;
@@ -246,8 +246,8 @@ uint32_t lpt_end_asked_area(LptEnd *end, size_t number, LptArea *area);
 /*
  * Drops the oldest request that was released and not read yet, in place of lpt_end_read: it is
  * never executed. What stands in its place asks nothing: lpt_end_execute lets it go in its turn,
- * says LPT_APPLIED_SILENT of it, and makes no report. A request that was read isn't dropped any
- * more. LPT_DONE; LPT_E_NO_JOB, as always on ground; LPT_E_ALLOCATION.
+ * says LPT_APPLIED_SILENT of it, and makes no report. lpt_end_drop_read drops one that was read.
+ * LPT_DONE; LPT_E_NO_JOB, as always on ground; LPT_E_ALLOCATION.
  */
 LPT_MUST_USE
 uint32_t lpt_end_drop(LptEnd *end);
@@ -256,25 +256,104 @@ uint32_t lpt_end_drop(LptEnd *end);
  * Executes the oldest request, which has to be read: does what it asks of a memory, and says what
  * became of it. Its reports are to be sent; a report that is too long for a packet is opened as a
  * message.
- * LPT_DONE, and *applied is written; LPT_E_NO_JOB, as always on ground;
- * LPT_E_NOT_READ; LPT_E_UNSENT; LPT_E_ALLOCATION.
+ * LPT_DONE, and *applied is written; LPT_E_NO_JOB, as always on ground; LPT_E_ELSEWHERE where the
+ * memories are with the caller; LPT_E_NOT_READ; LPT_E_UNSENT; LPT_E_ALLOCATION.
  */
 LPT_MUST_USE
 uint32_t lpt_end_execute(LptEnd *end, LptApplied *applied);
 
 /*
  * Copies a memory to the front of a buffer, and leaves the rest of it as it was. LPT_DONE;
- * LPT_E_NOTHING where the end has no such memory; LPT_E_ROOM. At LPT_DONE and
- * LPT_E_ROOM *needed is the memory's length.
+ * LPT_E_ELSEWHERE where the memories are with the caller; LPT_E_NOTHING where the end has no such
+ * memory; LPT_E_ROOM. At LPT_DONE and LPT_E_ROOM *needed is the memory's length.
  */
 LPT_MUST_USE
 uint32_t lpt_end_memory(LptEnd *end, uint8_t id, uint8_t *out, size_t out_len, size_t *needed);
 
-/* Fills a buffer with the octets of a memory from an address on. LPT_DONE;
-   LPT_E_NOTHING where the end has no such memory; LPT_E_RANGE where it has fewer octets there. */
+/* Fills a buffer with the octets of a memory from an address on. LPT_DONE; LPT_E_ELSEWHERE where
+   the memories are with the caller; LPT_E_NOTHING where the end has no such memory; LPT_E_RANGE
+   where it has fewer octets there. */
 LPT_MUST_USE
 uint32_t lpt_end_memory_range(LptEnd *end, uint8_t id, uint32_t address, uint8_t *out,
                               size_t out_len);
+
+/* ---- memories that are with the caller ---- */
+
+/* A memory that is with the caller: its identifier and its size. */
+typedef struct LptSize {
+    uint8_t id;
+    size_t len; /* 1 to 4,294,967,295 */
+} LptSize;
+
+/*
+ * Makes an end of the spacecraft in place of lpt_end_new, whose memories are with the caller: it
+ * knows their identifiers and sizes, and has none of their octets. Requests to it are executed by
+ * lpt_end_execute_given; all else is as of lpt_end_new.
+ * LPT_DONE, and *end is its address; LPT_E_RANGE for another mode; LPT_E_CONFIG_APID to
+ * LPT_E_CONFIG_OUTGOING; LPT_E_MEMORIES where they aren't 1 to 16 with distinct identifiers, of 1
+ * to 4,294,967,295 octets each; LPT_E_ALLOCATION.
+ */
+LPT_MUST_USE
+uint32_t lpt_end_new_sized(LptEnd **end, const LptConfig *config, const LptSize *sizes,
+                           size_t sizes_len);
+
+/*
+ * Makes such an end of a state, in place of lpt_end_resume, as that does.
+ * LPT_DONE, and *end is its address; LPT_E_RANGE for another mode; LPT_E_CONFIG_APID to
+ * LPT_E_CONFIG_OUTGOING; LPT_E_MEMORIES as of lpt_end_new_sized; then of the state what
+ * lpt_end_resume answers; LPT_E_ALLOCATION.
+ */
+LPT_MUST_USE
+uint32_t lpt_end_resume_sized(LptEnd **end, const LptConfig *config, const uint8_t *state,
+                              size_t state_len, const LptSize *sizes, size_t sizes_len);
+
+/* Octets of a memory that a request writes or reads. */
+typedef struct LptAccess {
+    uint8_t memory;   /* its identifier */
+    uint8_t write;    /* 1 where they are written, 0 where they are read */
+    uint32_t address; /* of the first octet */
+    size_t len;       /* 1 to 65,535 */
+} LptAccess;
+
+/*
+ * Says what the oldest request, which has to be read, does to a memory, by a number from 0: a load
+ * writes its areas, a dump and a check read theirs, in this order. A request that isn't right does
+ * nothing. Each lies within the memory. LPT_DONE, and *access is written; LPT_E_NO_JOB, as always
+ * on ground; LPT_E_NOT_READ; LPT_E_NOTHING where it does no more.
+ */
+LPT_MUST_USE
+uint32_t lpt_end_access(LptEnd *end, size_t number, LptAccess *access);
+
+/*
+ * Copies the octets that the oldest request, which has to be read, writes by an access to the front
+ * of a buffer, and leaves the rest of it as it was. LPT_DONE; LPT_E_NO_JOB, as always on ground;
+ * LPT_E_NOT_READ; LPT_E_NOTHING where it writes nothing by that; LPT_E_ROOM. At LPT_DONE and
+ * LPT_E_ROOM *needed is how many there are.
+ */
+LPT_MUST_USE
+uint32_t lpt_end_access_octets(LptEnd *end, size_t number, uint8_t *out, size_t out_len,
+                               size_t *needed);
+
+/*
+ * Executes the oldest request, which has to be read, where the memories are with the caller, and
+ * says what became of it. The octets are those that the memories have in what it reads, of one
+ * access after those of the other; none where it reads nothing. What it writes the caller has
+ * written before. Its reports are to be sent, as of lpt_end_execute.
+ * LPT_DONE, and *applied is written; LPT_E_NO_JOB, as always on ground; LPT_E_ELSEWHERE where the
+ * memories are in the end; LPT_E_NOT_READ; LPT_E_READ_LENGTH where it reads more octets than these,
+ * or fewer; LPT_E_UNSENT; LPT_E_ALLOCATION.
+ */
+LPT_MUST_USE
+uint32_t lpt_end_execute_given(LptEnd *end, const uint8_t *octets, size_t octets_len,
+                               LptApplied *applied);
+
+/*
+ * Drops the oldest request, which has to be read, in place of executing it: it is never executed,
+ * and nothing is reported of it. So one is dropped whose memory can't be read or written.
+ * LPT_DONE; LPT_E_NO_JOB, as always on ground; LPT_E_NOT_READ.
+ */
+LPT_MUST_USE
+uint32_t lpt_end_drop_read(LptEnd *end);
 
 /* ---- the clock, names, and a restart ---- */
 
@@ -449,6 +528,16 @@ LPT_LAYOUT(LptArea, 16, 8);
 LPT_FIELD(LptArea, memory, 0);
 LPT_FIELD(LptArea, address, 4);
 LPT_FIELD(LptArea, len, 8);
+
+LPT_LAYOUT(LptSize, 16, 8);
+LPT_FIELD(LptSize, id, 0);
+LPT_FIELD(LptSize, len, 8);
+
+LPT_LAYOUT(LptAccess, 16, 8);
+LPT_FIELD(LptAccess, memory, 0);
+LPT_FIELD(LptAccess, write, 1);
+LPT_FIELD(LptAccess, address, 4);
+LPT_FIELD(LptAccess, len, 8);
 
 LPT_LAYOUT(LptView, 40, 8);
 LPT_FIELD(LptView, clock, 0);

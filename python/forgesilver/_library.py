@@ -60,6 +60,8 @@ LptMemory = _structure("LptMemory", id=U8, at=SIZE, len=SIZE)
 LptOutcome = _structure("LptOutcome", kind=U32, name=LptName, first=U32, second=U32)
 LptApplied = _structure("LptApplied", kind=U32, name=LptName, value=U32)
 LptArea = _structure("LptArea", memory=U8, address=U32, len=SIZE)
+LptSize = _structure("LptSize", id=U8, len=SIZE)
+LptAccess = _structure("LptAccess", memory=U8, write=U8, address=U32, len=SIZE)
 
 LptView = _structure(
     "LptView", clock=U32, due=U32, next_due=U64, outgoing=SIZE, unread=SIZE, requests=SIZE
@@ -129,6 +131,12 @@ _OF_END: dict[str, tuple[Any, ...]] = {
     "lpt_end_asked": (POINTER, POINTER, POINTER),
     "lpt_end_asked_area": (POINTER, SIZE, POINTER),
     "lpt_end_drop": (POINTER,),
+    "lpt_end_new_sized": (POINTER, POINTER, POINTER, SIZE),
+    "lpt_end_resume_sized": (POINTER, POINTER, *_READ, POINTER, SIZE),
+    "lpt_end_access": (POINTER, SIZE, POINTER),
+    "lpt_end_access_octets": (POINTER, SIZE, *_WRITE),
+    "lpt_end_execute_given": (POINTER, *_READ, POINTER),
+    "lpt_end_drop_read": (POINTER,),
 }
 
 
@@ -212,7 +220,7 @@ if _HAS_ADDRESSES:
 
 
 def view_of(octets: Octets) -> memoryview:
-    """A view of octets, one behind the other; TypeError of what has none."""
+    """A view of octets, one after the other; TypeError of what has none."""
     view = memoryview(octets)
     if view.ndim != 1 or view.itemsize != 1 or not view.c_contiguous:
         view = view.cast("B")

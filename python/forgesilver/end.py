@@ -305,7 +305,7 @@ class End:
 
     def part(self, name: Named, its_number: int) -> None:
         """Makes the packet of the part of this number, from 1, of an open message: it is to be
-        sent, behind those that are. Raises `NotOpen`, `NoSuchPart` or `Allocation`."""
+        sent, after those that are. Raises `NotOpen`, `NoSuchPart` or `Allocation`."""
         named, its_number = _c_name(name), number(its_number, 0xFFFF, "the part's number")
         self._done(_end.lpt_end_part, byref(named), its_number)
 
@@ -327,7 +327,7 @@ class End:
         self, service: int, subtype: int, body: Octets, *, source: int,
         flags: Acknowledge = Acknowledge.NONE,
     ) -> None:
-        """Makes the packet of a plain request: it is to be sent, behind those that are. Ground
+        """Makes the packet of a plain request: it is to be sent, after those that are. Ground
         alone makes them. It is executed as often as its packet is delivered. Raises `Range`,
         `PartRequest`, `LongMessage` or `Allocation`."""
         words = (

@@ -313,7 +313,7 @@ class StateVersion(Fault, ValueError):
 
 
 class StateLength(Fault, ValueError):
-    """The state is cut, or has octets behind it."""
+    """The state is cut, or has octets after it."""
 
     number = 114
 
@@ -340,6 +340,19 @@ class StateOrder(Fault, ValueError):
     """The state's names are out of order."""
 
     number = 118
+
+
+class Elsewhere(Fault, ValueError):
+    """The memories are with the program, and the call is for those in the end; or the other way
+    round."""
+
+    number = 119
+
+
+class ReadLength(Fault, ValueError):
+    """These are more or fewer octets than the request reads."""
+
+    number = 120
 
 
 #: Each fault by its number.

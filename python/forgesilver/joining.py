@@ -1,7 +1,7 @@
 """Joins the packets of files: of an archive, or of anything that gives packets.
 
 The parts are joined by an end of the link, as a receiver joins them. A file is no link, and nobody
-retires a name there. So a name is taken to be used again where a part of it comes behind its
+retires a name there. So a name is taken to be used again where a part of it comes after its
 message that isn't one of that message's, or that contradicts what was kept.
 """
 
@@ -20,7 +20,7 @@ from .parts import SERVICE, Name, Named, name_of, part_of
 _SUBTYPES = {Direction.UP: (9, 10, 11), Direction.DOWN: (1, 2, 3)}
 _MOST_RECEPTIONS = 64
 
-#: Packets: octets or a binary file in which they stand one behind the other; or one by one.
+#: Packets: octets or a binary file in which they stand one after the other; or one by one.
 Packets = Union[Octets, BinaryIO, Iterable[Octets]]
 
 
@@ -33,7 +33,7 @@ class Joined:
     #: The message; None where it isn't whole.
     message: Optional[bytes]
     #: The parts that are missing, as the program's `--parts` takes them: `2,4,12-`, where `12-` is
-    #: part 12 and all behind it. Empty of a whole message.
+    #: part 12 and all after it. Empty of a whole message.
     missing: str = ""
     #: Whether another part contradicts those that came, as where another message of the name began.
     is_contradicted: bool = False
@@ -223,7 +223,7 @@ class _Joiner:
 
 
 def _listed(kept: set[int], last: Optional[int]) -> str:
-    """The numbers that are missing, in runs; all behind the greatest, where the last didn't
+    """The numbers that are missing, in runs; all after the greatest, where the last didn't
     come."""
     runs, first = [], 1
     for it in sorted(kept):

@@ -32,7 +32,7 @@ class PartKind(IntEnum):
 
 class PieceKind(IntEnum):
     """What the front of a stream is: a packet or an idle packet; as many octets as a header says,
-    which are none, with a packet behind them or nothing; an octet with which none of these
+    which are none, with a packet after them or nothing; an octet with which none of these
     begins."""
 
     WHOLE = 1

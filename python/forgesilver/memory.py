@@ -83,7 +83,7 @@ class Load(_Request):
         bodies = [write_load(self.memory, it.start, it.octets) for it in self.areas]
         if len(bodies) == 1:
             return bodies[0]
-        # Each area stands behind a body's first two octets.
+        # Each area stands after a body's first two octets.
         body = b"".join([bodies[0][:1], bytes([len(bodies)]), *(it[2:] for it in bodies)])
         if 13 + len(body) > LONGEST_PACKET:
             raise LongLoad(f"the packet would have {13 + len(body)} octets")

@@ -114,7 +114,7 @@ def packet_length(octets: Octets) -> int:
 
 
 def packets_of(stream: Union[Octets, BinaryIO]) -> Iterator[Octets]:
-    """The whole packets of a stream, one behind the other, idle ones too: of octets, as views of
+    """The whole packets of a stream, one after the other, idle ones too: of octets, as views of
     them, or of a binary file that is open. Where they begin is known from the first on.
 
     Raises `Version` where no packet begins, and `More` where the last is cut short: what comes from
@@ -162,8 +162,8 @@ def find_piece(
     """The piece in front of octets of a stream that may be damaged: what it is, and how many octets
     it has; None where there are none, or it depends on octets that may still come.
 
-    `in_step` says that they begin the stream, or come right behind a packet or a damaged one;
-    `is_end` that nothing comes behind them.
+    `in_step` says that they begin the stream, or come right after a packet or a damaged one;
+    `is_end` that nothing comes after them.
 
     >>> packet = write_packet(Packet(PacketKind.TC, 100, 0, b" 123"))
     >>> find_piece(packet), find_piece(packet[1:], is_end=True)

@@ -166,9 +166,43 @@ static void ends(void) {
     lpt_end_free(craft);
 }
 
+/* A spacecraft whose memories are with the program. */
+static void elsewhere(void) {
+    static const LptConfig config = {100, 64, 10, 4, 4, 0, LPT_MODE_ANY};
+    static const LptSize size = {1, 4};
+    LptEnd *ground = NULL, *craft = NULL;
+    uint8_t body[64], packet[87];
+    size_t needed;
+    LptOutcome outcome;
+    LptAccess access;
+    LptApplied applied;
+    EXPECT(lpt_end_new_sized(&craft, &config, NULL, 0) == LPT_E_MEMORIES);
+    EXPECT(lpt_end_new_sized(&craft, &config, &size, 1) == LPT_DONE);
+    EXPECT(lpt_end_new(&ground, LPT_SIDE_GROUND, &config, NULL, 0, NULL, 0) == LPT_DONE);
+    EXPECT(lpt_write_load(1, 0, OCTETS, 4, body, sizeof body, &needed) == LPT_DONE);
+    EXPECT(lpt_end_plain(ground, 1, 0, 6, 2, body, needed) == LPT_DONE);
+    EXPECT(lpt_end_outgoing(ground, packet, sizeof packet, &needed) == LPT_DONE);
+    EXPECT(lpt_end_packet(craft, packet, needed, &outcome) == LPT_DONE);
+    EXPECT(lpt_end_packet(craft, packet, needed, &outcome) == LPT_DONE);
+    EXPECT(lpt_end_read(craft) == LPT_DONE && lpt_end_read(craft) == LPT_DONE);
+    EXPECT(lpt_end_access(craft, 0, &access) == LPT_DONE && access.write == 1 && access.len == 4);
+    EXPECT(lpt_end_access_octets(craft, 0, NULL, 0, &needed) == LPT_E_ROOM && needed == 4);
+    EXPECT(lpt_end_access_octets(craft, 0, body, sizeof body, &needed) == LPT_DONE);
+    EXPECT(memcmp(body, OCTETS, needed) == 0);
+    EXPECT(lpt_end_execute_given(craft, NULL, 0, &applied) == LPT_DONE);
+    EXPECT(applied.kind == LPT_APPLIED_CARRIED_OUT && lpt_end_drop_read(craft) == LPT_DONE);
+    EXPECT(lpt_end_state(craft, packet, sizeof packet, &needed) == LPT_DONE);
+    lpt_end_free(craft);
+    EXPECT(lpt_end_resume_sized(&craft, &config, NULL, 0, &size, 1) == LPT_E_STATE_SHORT);
+    EXPECT(lpt_end_resume_sized(&craft, &config, packet, needed, &size, 1) == LPT_DONE);
+    lpt_end_free(craft);
+    lpt_end_free(ground);
+}
+
 int main(void) {
     codecs();
     ends();
+    elsewhere();
     printf("%u passed, %u failed\n", passed, failed);
     return failed != 0;
 }

@@ -73,10 +73,11 @@ static long freed_behind = -1;
     } while (0)
 
 /* A message up with a lost part, an expiry and its report; a message down; a request that is
-   executed; all by calls that are made again. */
+   executed, also where the memories are with the program; all by calls that are made again. */
 static void link_pass(void) {
     static const LptConfig config = {100, 64, 2, 4, 4, 0, LPT_MODE_ANY};
     static const LptMemory memories[] = {{1, 0, 60}, {2, 60, 40}};
+    static const LptSize sizes[] = {{1, 60}, {2, 40}};
     static const uint8_t dump[] = {1, 1, 0, 0, 0, 0, 0, 8};
     static const LptName joined = {1, 5}, lost = {2, 5}, down = {1, 7};
     LptApplied applied = {0, {0, 0}, 0};
@@ -137,6 +138,21 @@ static void link_pass(void) {
     STEP(lpt_end_resume(&craft, LPT_SIDE_SPACECRAFT, &config, got, len, memories, 2, memory, 100));
     STEP(lpt_end_state(craft, packet, sizeof packet, &len));
     EXPECT(packet[34] == got[34] + 1);
+    lpt_end_free(craft);
+    craft = NULL;
+    STEP(lpt_end_new_sized(&craft, &config, sizes, 2));
+    EXPECT(lpt_end_outgoing(ground, packet, sizeof packet, &len) == LPT_DONE);
+    STEP(lpt_end_packet(craft, packet, len, &told));
+    STEP(lpt_end_packet(craft, packet, len, &told));
+    STEP(lpt_end_read(craft));
+    STEP(lpt_end_read(craft));
+    STEP(lpt_end_execute_given(craft, memory, 8, &applied));
+    EXPECT(applied.kind == LPT_APPLIED_CARRIED_OUT);
+    STEP(lpt_end_drop_read(craft));
+    STEP(lpt_end_state(craft, got, sizeof got, &len));
+    lpt_end_free(craft);
+    craft = NULL;
+    STEP(lpt_end_resume_sized(&craft, &config, got, len, sizes, 2));
 freed:
     lpt_end_free(ground);
     lpt_end_free(craft);

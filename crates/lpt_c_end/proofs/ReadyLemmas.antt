@@ -7,9 +7,10 @@ use Rattle.lpt_events.specs.Arrivals.{Arrival}
 use Rattle.lpt_events.specs.declared.config.Config.{Config}
 use Rattle.lpt_events.specs.declared.side.Side.{Side}
 use Rattle.lpt_events.specs.Lanes.{same_direction}
+use Rattle.lpt_execution.specs.declared.ending.Ending.{Ending}
 use Rattle.lpt_jobs.specs.declared.job.Job.{Job}
 use Rattle.lpt_jobs.specs.declared.job.Job.TheVariants.{Waiting, Claimed, Committed}
-use Rattle.lpt_jobs.specs.Jobs.{head_of, Head, NoJob, NotReady, Ready, after_commit, claimed_in, unclaimed}
+use Rattle.lpt_jobs.specs.Jobs.{head_of, Head, NoJob, NotReady, Ready, after_commit, claimed_in, unclaimed, without_front}
 use Rattle.lpt_memory.specs.Meanings.{Sizes}
 use Rattle.lpt_memory.specs.Ranges.{MeaningFits}
 use Rattle.lpt_memory.specs.Memories.{Contents, sizes_of, effect}
@@ -22,7 +23,7 @@ use Rattle.lpt_node.proofs.JobLemmas.{jobs_accepted}
 use Rattle.lpt_memory.proofs.MeaningLemmas.{meaning-fits}
 use Rattle.lpt_memory.proofs.PutLemmas.{sizes_of-effect}
 use Rattle.lpt_memory.specs.Readings.{Source, meant, Job as Ticket}
-use Rattle.lpt_node.specs.Jobs.{FrontIsFor, IsReadFor, Execution, claimed, claimed_of, committed, executed, executed_of, with_opened}
+use Rattle.lpt_node.specs.Jobs.{FrontIsFor, IsReadFor, Execution, claimed, claimed_of, committed, ending_given, executed, executed_given, executed_of, executed_so, with_opened}
 use Rattle.lpt_node.specs.Nodes.{NodeData, NodeView, direction_from, message_at}
 use Rattle.lpt_node.specs.Receiving.{with_report}
 use Rattle.lpt_node.specs.Requests.{plain_made}
@@ -92,127 +93,139 @@ keeps_expired side c d (Some name) = keeps_report _ _
 
 -- ---- the same, of an end
 
-ready : (n new : NodeView) (ms : Option Contents)
+ready : (n new : NodeView) (own : Option Sizes)
     → new.config ≡ n.config
     → Keeps n.at new.at
-    → IsReady n ms
-    → IsReady new ms
-ready n new ms config keeps is m some =
-    keeps new.config.apid (sizes_of m)
-    (subst (λ (c : Config). All (IsReading c.apid (sizes_of m)) n.at.jobs.jobs) (sym config) (is m some))
+    → IsReady n own
+    → IsReady new own
+ready n new own config keeps is sizes some =
+    keeps new.config.apid sizes
+    (subst (λ (c : Config). All (IsReading c.apid sizes) n.at.jobs.jobs) (sym config)
+    (is sizes some))
 
-becomes : (n new : NodeView) (ms : Option Contents) (d : NodeData)
+becomes : (n new : NodeView) (own : Option Sizes) (d : NodeData)
     → new.config ≡ n.config
     → new.at ≡ d
     → Keeps n.at d
-    → IsReady n ms
-    → IsReady new ms
-becomes n new ms d config at keeps is =
-    ready n new ms config (subst (Keeps n.at) (sym at) keeps) is
+    → IsReady n own
+    → IsReady new own
+becomes n new own d config at keeps is =
+    ready n new own config (subst (Keeps n.at) (sym at) keeps) is
 
 -- the same, of a call that may be refused
-by_result : {A B : Type 0} (r : Result A B) (n new : NodeView) (ms : Option Contents) (d : NodeData)
+by_result : {A B : Type 0} (r : Result A B) (n new : NodeView) (own : Option Sizes) (d : NodeData)
     → new.config ≡ n.config
     → OnOk r (new.at ≡ d)
     → OnErr r (new.at ≡ n.at)
     → Keeps n.at d
-    → IsReady n ms
-    → IsReady new ms
-by_result (Ok x) n new ms d config ok err keeps is = becomes n new ms d config ok keeps is
-by_result (Err x) n new ms d config ok err keeps is =
-    becomes n new ms n.at config err (λ apid sizes all. all) is
+    → IsReady n own
+    → IsReady new own
+by_result (Ok x) n new own d config ok err keeps is = becomes n new own d config ok keeps is
+by_result (Err x) n new own d config ok err keeps is =
+    becomes n new own n.at config err (λ apid sizes all. all) is
 
-pub ready_same : (n new : NodeView) (ms : Option Contents)
+pub ready_same : (n new : NodeView) (own : Option Sizes)
     → new.config ≡ n.config
     → new.at ≡ n.at
-    → IsReady n ms
-    → IsReady new ms
-ready_same n new ms config at is = becomes n new ms n.at config at (λ apid sizes all. all) is
+    → IsReady n own
+    → IsReady new own
+ready_same n new own config at is = becomes n new own n.at config at (λ apid sizes all. all) is
 
-pub ready_ticked : {A B : Type 0} (r : Result A B) (n new : NodeView) (ms : Option Contents)
+pub ready_ticked : {A B : Type 0} (r : Result A B) (n new : NodeView) (own : Option Sizes)
     → new.config ≡ n.config
     → OnOk r (new.at ≡ ticked n.at)
     → OnErr r (new.at ≡ n.at)
-    → IsReady n ms
-    → IsReady new ms
-ready_ticked r n new ms config ok err is = by_result r n new ms _ config ok err (λ apid sizes all. all) is
+    → IsReady n own
+    → IsReady new own
+ready_ticked r n new own config ok err is = by_result r n new own _ config ok err
+    (λ apid sizes all. all) is
 
-pub ready_opened : {A B : Type 0} (r : Result A B) (n new : NodeView) (ms : Option Contents) (name : Name) (m : List ℕ)
+pub ready_opened : {A B : Type 0} (r : Result A B) (n new : NodeView) (own : Option Sizes)
+    (name : Name) (m : List ℕ)
     → new.config ≡ n.config
     → OnOk r (new.at ≡ opened n.at name m)
     → OnErr r (new.at ≡ n.at)
-    → IsReady n ms
-    → IsReady new ms
-ready_opened r n new ms name m config ok err is = by_result r n new ms _ config ok err (λ apid sizes all. all) is
+    → IsReady n own
+    → IsReady new own
+ready_opened r n new own name m config ok err is = by_result r n new own _ config ok err
+    (λ apid sizes all. all) is
 
-pub ready_closed : {A B : Type 0} (r : Result A B) (n new : NodeView) (ms : Option Contents) (name : Name)
+pub ready_closed : {A B : Type 0} (r : Result A B) (n new : NodeView) (own : Option Sizes)
+    (name : Name)
     → new.config ≡ n.config
     → OnOk r (new.at ≡ closed n.at name)
     → OnErr r (new.at ≡ n.at)
-    → IsReady n ms
-    → IsReady new ms
-ready_closed r n new ms name config ok err is = by_result r n new ms _ config ok err (λ apid sizes all. all) is
+    → IsReady n own
+    → IsReady new own
+ready_closed r n new own name config ok err is = by_result r n new own _ config ok err
+    (λ apid sizes all. all) is
 
-pub ready_retired : (n new : NodeView) (ms : Option Contents) (side : Side) (way : Direction) (name : Name)
+pub ready_retired : (n new : NodeView) (own : Option Sizes) (side : Side) (way : Direction)
+    (name : Name)
     → new.config ≡ n.config
     → new.at ≡ retired side n.at way name
-    → IsReady n ms
-    → IsReady new ms
-ready_retired n new ms side way name config at is =
-    becomes n new ms _ config at
+    → IsReady n own
+    → IsReady new own
+ready_retired n new own side way name config at is =
+    becomes n new own _ config at
     (keeps_retired n.at _ _ (same_direction way (direction_from side)) (λ apid sizes all. all) (λ apid sizes all. all))
     is
 
-pub ready_restarted : (n new : NodeView) (ms : Option Contents)
+pub ready_restarted : (n new : NodeView) (own : Option Sizes)
     → new.config ≡ n.config
     → new.at ≡ restarted n.at
-    → IsReady n ms
-    → IsReady new ms
-ready_restarted n new ms config at is = becomes n new ms _ config at (λ apid sizes all. All-nil (IsReading apid sizes)) is
+    → IsReady n own
+    → IsReady new own
+ready_restarted n new own config at is = becomes n new own _ config at
+    (λ apid sizes all. All-nil (IsReading apid sizes)) is
 
-pub ready_accepted : (n new : NodeView) (ms : Option Contents) (side : Side) (c : Config) (r : Accepted) (a : Arrival)
+pub ready_accepted : (n new : NodeView) (own : Option Sizes) (side : Side) (c : Config)
+    (r : Accepted) (a : Arrival)
     → new.config ≡ n.config
     → (new.at, r) ≡ accepted side c n.at a
-    → IsReady n ms
-    → IsReady new ms
-ready_accepted n new ms side c r a config is_so is =
-    becomes n new ms _ config (ap (λ (x : NodeData × Accepted). x.0) is_so) (keeps_accepted side c n.at a) is
+    → IsReady n own
+    → IsReady new own
+ready_accepted n new own side c r a config is_so is =
+    becomes n new own _ config (ap (λ (x : NodeData × Accepted). x.0) is_so)
+    (keeps_accepted side c n.at a) is
 
-pub ready_sent : (n new : NodeView) (ms : Option Contents) (side : Side) (c : Config) (o : List ℕ) (name : Name) (k : ℕ)
+pub ready_sent : (n new : NodeView) (own : Option Sizes) (side : Side) (c : Config) (o : List ℕ)
+    (name : Name) (k : ℕ)
     → new.config ≡ n.config
     → (new.at, o) ≡ sent side c n.at name k
-    → IsReady n ms
-    → IsReady new ms
-ready_sent n new ms side c o name k config is_so is =
-    becomes n new ms _ config (ap (λ (x : NodeData × List ℕ). x.0) is_so)
+    → IsReady n own
+    → IsReady new own
+ready_sent n new own side c o name k config is_so is =
+    becomes n new own _ config (ap (λ (x : NodeData × List ℕ). x.0) is_so)
     (keeps_sent side c n.at name k (message_at n.at name)) is
 
-pub ready_plain : (n new : NodeView) (ms : Option Contents) (c : Config) (o : List ℕ)
+pub ready_plain : (n new : NodeView) (own : Option Sizes) (c : Config) (o : List ℕ)
     (source flags service subtype : ℕ) (body : List ℕ)
     → new.config ≡ n.config
     → (new.at, o) ≡ plain_made c n.at source flags service subtype body
-    → IsReady n ms
-    → IsReady new ms
-ready_plain n new ms c o source flags service subtype body config is_so is =
-    becomes n new ms _ config (ap (λ (x : NodeData × List ℕ). x.0) is_so) (λ apid sizes all. all) is
+    → IsReady n own
+    → IsReady new own
+ready_plain n new own c o source flags service subtype body config is_so is =
+    becomes n new own _ config (ap (λ (x : NodeData × List ℕ). x.0) is_so) (λ apid sizes all. all)
+    is
 
-pub ready_expired : (n new : NodeView) (ms : Option Contents) (side : Side) (c : Config) (r : Expired)
+pub ready_expired : (n new : NodeView) (own : Option Sizes) (side : Side) (c : Config) (r : Expired)
     → new.config ≡ n.config
     → (new.at, r) ≡ expired side c n.at
-    → IsReady n ms
-    → IsReady new ms
-ready_expired n new ms side c r config is_so is =
-    becomes n new ms _ config (ap (λ (x : NodeData × Expired). x.0) is_so)
+    → IsReady n own
+    → IsReady new own
+ready_expired n new own side c r config is_so is =
+    becomes n new own _ config (ap (λ (x : NodeData × Expired). x.0) is_so)
     (keeps_expired side c n.at (due c n.at)) is
 
 -- ---- jobs that are read and executed
 
 -- what stands first can be executed over an end's memories
-pub front_ready : (n : NodeView) (ms : Option Contents) (m : Contents)
-    → ms ≡ Some m
-    → IsReady n ms
+pub front_ready : (n : NodeView) (own : Option Sizes) (m : Contents)
+    → own ≡ Some (sizes_of m)
+    → IsReady n own
     → IsReadFor n m
-front_ready n ms m some is = front_readings n.config.apid m n.at.jobs.jobs (is m some)
+front_ready n own m some is = front_readings n.config.apid m n.at.jobs.jobs (is (sizes_of m) some)
 
 keeps_claimed : (d : NodeData) (u : Option (ℕ × List ℕ)) → Keeps d (claimed_of d u).0
 keeps_claimed d None = λ apid sizes all. all
@@ -236,29 +249,30 @@ committed_keeps apid sizes d boot job r its fits all = go (boot == d.boot) where
   go false = all
 
 -- a job was claimed and its reading handed in
-pub ready_read : (n mid new : NodeView) (ms : Option Contents) (m : Contents) (t : Ticket) (b : Bool) (boot job : ℕ) (r : Source)
-    → ms ≡ Some m
+pub ready_read : (n mid new : NodeView) (own : Option Sizes) (m : Sizes) (t : Ticket) (b : Bool)
+    (boot job : ℕ) (r : Source)
+    → own ≡ Some m
     → mid.config ≡ n.config
     → (mid.at, t) ≡ claimed n.at
     → new.config ≡ mid.config
     → (new.at, b) ≡ committed mid.at boot job r
     → r.apid ≡ n.config.apid
-    → r.sizes ≡ sizes_of m
-    → IsReady n ms
-    → IsReady new ms
-ready_read n mid new ms m t b boot job r is c1 k1 c2 k2 its fits all m' some =
+    → r.sizes ≡ m
+    → IsReady n own
+    → IsReady new own
+ready_read n mid new own m t b boot job r is c1 k1 c2 k2 its fits all m' some =
     let same : m ≡ m' = cc in
     let apid : n.config.apid ≡ new.config.apid = ap (λ (c : Config). c.apid) (sym c1 ∙ sym c2) in
-    let P = IsReading n.config.apid (sizes_of m') in
+    let P = IsReading n.config.apid m' in
     let claim : All P mid.at.jobs.jobs =
     subst (λ (d : NodeData). All P d.jobs.jobs) (sym (ap (λ (y : NodeData × Ticket). y.0) k1))
-    (keeps_claimed n.at (unclaimed n.at.jobs) n.config.apid (sizes_of m') (all m' some))
+    (keeps_claimed n.at (unclaimed n.at.jobs) n.config.apid m' (all m' some))
     in
     let commit : All P new.at.jobs.jobs =
     subst (λ (d : NodeData). All P d.jobs.jobs) (sym (ap (λ (y : NodeData × Bool). y.0) k2))
-    (committed_keeps n.config.apid (sizes_of m') mid.at boot job r its (fits ∙ ap sizes_of same) claim)
+    (committed_keeps n.config.apid m' mid.at boot job r its (fits ∙ same) claim)
     in
-    subst (λ (a : ℕ). All (IsReading a (sizes_of m')) new.at.jobs.jobs) apid commit
+    subst (λ (a : ℕ). All (IsReading a m') new.at.jobs.jobs) apid commit
 
 opened_keeps : (d : NodeData) (o : Option (Name × List ℕ)) → Keeps d (with_opened d o)
 opened_keeps d None = λ apid sizes all. all
@@ -279,16 +293,17 @@ executed_keeps c d ms (Ready r) apid front all =
     subst (λ (s : Sizes). All (IsReading apid s) (executed_of c d ms (Ready r)).0.0.jobs.jobs) (sym same)
     (opened_keeps _ _ apid (sizes_of ms) (All-drop (IsReading apid (sizes_of ms)) 1 d.jobs.jobs all))
 
-pub ready_executed : (n new : NodeView) (ms after : Option Contents) (m left : Contents) (x : Execution)
-    → ms ≡ Some m
-    → after ≡ Some left
+pub ready_executed : (n new : NodeView) (own after : Option Sizes) (m left : Contents)
+    (x : Execution)
+    → own ≡ Some (sizes_of m)
+    → after ≡ Some (sizes_of left)
     → new.config ≡ n.config
     → ((new.at, x), left) ≡ executed n.config n.at m
-    → IsReady n ms
+    → IsReady n own
     → IsReady new after
-ready_executed n new ms after m left x some last config done all z is =
-    let same : left ≡ z = cc in
-    let from = all m some in
+ready_executed n new own after m left x some last config done all z is =
+    let same : sizes_of left ≡ z = cc in
+    let from = all (sizes_of m) some in
     let kept =
     executed_keeps n.config n.at m (head_of n.at.jobs.jobs) n.config.apid
     (front_readings n.config.apid m n.at.jobs.jobs from) from
@@ -297,5 +312,34 @@ ready_executed n new ms after m left x some last config done all z is =
     subst (λ (w : (NodeData × Execution) × Contents). All (IsReading n.config.apid (sizes_of w.1)) w.0.0.jobs.jobs)
     (sym done) kept
     in
-    subst (λ (c : Config). All (IsReading c.apid (sizes_of z)) new.at.jobs.jobs) (sym config)
-    (subst (λ (w : Contents). All (IsReading n.config.apid (sizes_of w)) new.at.jobs.jobs) same here)
+    subst (λ (c : Config). All (IsReading c.apid z) new.at.jobs.jobs) (sym config)
+    (subst (λ (w : Sizes). All (IsReading n.config.apid w) new.at.jobs.jobs) same here)
+
+-- what stands first is let go
+pub ready_dropped : {A B : Type 0} (r : Result A B) (n new : NodeView) (own : Option Sizes)
+    → new.config ≡ n.config
+    → OnOk r (new.at ≡ record n.at { jobs = without_front n.at.jobs })
+    → OnErr r (new.at ≡ n.at)
+    → IsReady n own
+    → IsReady new own
+ready_dropped r n new own config ok err is =
+    by_result r n new own _ config ok err
+    (λ apid sizes all. All-drop (IsReading apid sizes) 1 n.at.jobs.jobs all) is
+
+given_keeps : (c : Config) (d : NodeData) (end : Source → Ending) (h : Head)
+    → Keeps d (executed_so c d end h).0
+given_keeps c d end NoJob = λ apid sizes all. all
+given_keeps c d end NotReady = λ apid sizes all. all
+given_keeps c d end (Ready r) =
+    λ apid sizes all. opened_keeps _ _ apid sizes
+    (All-drop (IsReading apid sizes) 1 d.jobs.jobs all)
+
+-- what stands first is executed where the memories are elsewhere
+pub ready_given : (n new : NodeView) (own : Option Sizes) (octets : List ℕ) (x : Execution)
+    → new.config ≡ n.config
+    → (new.at, x) ≡ executed_given n.config n.at octets
+    → IsReady n own
+    → IsReady new own
+ready_given n new own octets x config is_so is =
+    becomes n new own _ config (ap (λ (y : NodeData × Execution). y.0) is_so)
+    (given_keeps n.config n.at (ending_given n.config n.at octets) (head_of n.at.jobs.jobs)) is

@@ -5,9 +5,9 @@ use Rattle.lpt_jobs.specs.Jobs.{oldest}
 use Rattle.lpt_pus.specs.Commands.{Command, command_in}
 use Rattle.lpt_c.specs.declared.dumps.LptDumped.{LptDumped}
 use Rattle.lpt_c.specs.Dumps.{dumped}
-use Rattle.lpt_c_end.specs.Calls.{content_by}
 use Rattle.lpt_c_end.specs.Codes.{empty, no_job, nothing, range}
 use Rattle.lpt_c_end.specs.Copies.{Text}
+use Rattle.lpt_c_end.specs.Kept.{content_by}
 use Rattle.lpt_c_end.specs.declared.areas.LptArea.{LptArea}
 use Rattle.lpt_c_end.specs.declared.end.End.{End}
 
@@ -54,10 +54,10 @@ abbrev pub range_in : (at len : ℕ) → List ℕ → Text
 range_in at len octets =
     if nat_le (at + len) (length octets) then Ok (take len (drop at octets)) else Err range
 
--- the same of what a memory has, where there is one
-abbrev pub range_by : (at len : ℕ) → Option (List ℕ) → Text
-range_by at len None = Err nothing
-range_by at len (Some octets) = range_in at len octets
+-- the same of what a memory has, or why that isn't told
+abbrev pub range_by : (at len : ℕ) → Text → Text
+range_by at len (Err fault) = Err fault
+range_by at len (Ok octets) = range_in at len octets
 
 -- so many octets of a memory from an address on
 abbrev pub octets_of : (id address len : ℕ) → Option End → Text

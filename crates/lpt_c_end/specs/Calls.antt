@@ -1,11 +1,11 @@
 -- What calls on a handle leave and report.
-use Rattle.std.specs.Prelude.{◌≡◌, ℕ, nat_lt, if◌then◌else◌, List, [], ◌∷◌, Option, Some, None, Ok, Err, is_some, option_map}
+use Rattle.std.specs.Prelude.{◌≡◌, ℕ, nat_lt, if◌then◌else◌, List, [], ◌∷◌, Option, Some, None, Err, is_some, option_map}
 use Rattle.std.specs.Option.{option_and_then, unwrap_or}
 use Rattle.lpt_jobs.specs.Jobs.{oldest}
-use Rattle.lpt_memory.specs.Memories.{Contents, content_of}
 use Rattle.lpt_c_end.specs.Changes.{delivery, execution_of}
 use Rattle.lpt_c_end.specs.Codes.{empty, no_job, nothing}
 use Rattle.lpt_c_end.specs.Copies.{Text}
+use Rattle.lpt_c_end.specs.Kept.{content_by, text_or_nothing}
 use Rattle.lpt_node.specs.Restarts.{name_state}
 use Rattle.lpt_packet.specs.Names.{Name}
 use Rattle.lpt_pus.specs.Commands.{command_in}
@@ -40,11 +40,6 @@ state_of direction name e =
 abbrev pub state_told : (direction : ℕ) → Name → Option End → (before : ℕ) → ℕ
 state_told direction name None before = before
 state_told direction name (Some e) before = unwrap_or (state_of direction name e) before
-
--- octets, or that there are none
-abbrev pub text_or_nothing : Option (List ℕ) → Text
-text_or_nothing None = Err nothing
-text_or_nothing (Some b) = Ok b
 
 -- the first of packets
 abbrev pub first : List (List ℕ) → Option (List ℕ)
@@ -83,11 +78,6 @@ abbrev pub IsApplied : LptApplied → End → Type 0
 IsApplied said e = said ≡ applied_words (execution_of e).0.1.applied
 
 -- the octets of a memory
-abbrev pub content_by : ℕ → Option Contents → Option (List ℕ)
-content_by id None = None
-content_by id (Some ms) = content_of id ms
-
--- the same, of an end
 abbrev pub memory_in : ℕ → Option End → Text
 memory_in id None = Err empty
-memory_in id (Some e) = text_or_nothing (content_by id e.memories)
+memory_in id (Some e) = content_by id e.memories

@@ -3,20 +3,24 @@ use Rattle.std.specs.Prelude.{◌≡◌, ℕ, List, [], ◌∷◌, ◌++◌, dro
 use Rattle.lpt_events.specs.Arrivals.{arrival}
 use Rattle.lpt_events.specs.declared.config.Config.{Config}
 use Rattle.lpt_events.specs.declared.side.Side.{Side}
-use Rattle.lpt_memory.specs.Memories.{Contents, sizes_of}
+use Rattle.lpt_jobs.specs.Jobs.{without_front}
+use Rattle.lpt_memory.specs.Meanings.{Sizes}
 use Rattle.lpt_packet.specs.Names.{Name}
 use Rattle.lpt_node.specs.declared.accepted.Accepted.{Accepted}
 use Rattle.lpt_node.specs.declared.expired.Expired.{Expired}
 use Rattle.lpt_node.specs.Accepting.{accepted}
 use Rattle.lpt_node.specs.Restarts.{retired, restarted}
 use Rattle.lpt_node.specs.Jobs.{Execution, claimed, committed, executed, not_executed}
-use Rattle.lpt_node.specs.Nodes.{NodeData, new_node}
+use Rattle.lpt_node.specs.Nodes.{NodeData, NodeView, new_node}
 use Rattle.lpt_node.specs.Requests.{plain_made}
 use Rattle.lpt_node.specs.Sending.{opened, sent, closed}
 use Rattle.lpt_node.specs.Times.{ticked, expired}
 use Rattle.lpt_c_end.specs.Contents.{memories_of}
 use Rattle.lpt_c_end.specs.Words.{direction_from}
+use Rattle.lpt_c_end.specs.Kept.{sizes_in}
 use Rattle.lpt_c_end.specs.declared.end.End.{End}
+use Rattle.lpt_c_end.specs.declared.kept.Kept.{Kept}
+use Rattle.lpt_c_end.specs.declared.kept.Kept.TheVariants.{Nowhere, Here, Elsewhere}
 use Rattle.lpt_c_end.specs.declared.memories.LptMemory.{LptMemory}
 
 -- ---- what may change
@@ -47,15 +51,22 @@ IsSame e = Becomes e.node.at e
 
 -- ---- a new end
 
--- nothing has happened at the end
-pub record IsNew (s : Side) (c : Config) (ms : List LptMemory) (content : List ℕ)
-    (e : End) : Type 0 where
-  pub side : e.side ≡ s
-  pub config : e.config ≡ c
-  pub node : e.node ≡ new_node s c
-  pub memories : e.memories ≡ memories_of s ms content
+-- the end has this node and these memories, nothing was released, and nothing is to be sent
+pub record IsMadeOf (n : NodeView) (kept : Kept) (e : End) : Type 0 where
+  pub side : e.side ≡ n.side
+  pub config : e.config ≡ n.config
+  pub node : e.node ≡ n
+  pub memories : e.memories ≡ kept
   pub released : e.released ≡ None
   pub outbox : e.outbox.items ≡ []
+
+-- nothing has happened at an end with such memories
+abbrev pub IsNewWith : Side → Config → Kept → End → Type 0
+IsNewWith s c kept = IsMadeOf (new_node s c) kept
+
+-- the same, with memories that begin with this content
+abbrev pub IsNew : Side → Config → List LptMemory → List ℕ → End → Type 0
+IsNew s c ms content = IsNewWith s c (memories_of s ms content)
 
 -- ---- receiving
 
@@ -131,45 +142,51 @@ IsRestarted e = Becomes (restarted e.node.at) e
 
 -- ---- jobs
 
--- the oldest job that waits is claimed, and what this message means for these memories is handed in
-abbrev pub read_as : List ℕ → Config → Contents → NodeData → NodeData
-read_as message c ms d =
+-- the oldest job that waits is claimed, and what this message means for memories of these sizes is
+-- handed in
+abbrev pub read_as : List ℕ → Config → Sizes → NodeData → NodeData
+read_as message c sizes d =
     (committed (claimed d).0 (claimed d).1.boot (claimed d).1.job (record {
       apid = c.apid;
-      sizes = sizes_of ms;
+      sizes = sizes;
       message = message;
     })).0
 
--- the oldest job that waits is claimed, and what it means for these memories is handed in
-abbrev pub read_over : Config → Contents → NodeData → NodeData
-read_over c ms d = read_as (claimed d).1.message c ms d
+-- the oldest job that waits is claimed, and what it means for such memories is handed in
+abbrev pub read_over : Config → Sizes → NodeData → NodeData
+read_over c sizes d = read_as (claimed d).1.message c sizes d
 
 -- the same, where there are memories
-abbrev pub read_by : Config → Option Contents → NodeData → NodeData
+abbrev pub read_by : Config → Option Sizes → NodeData → NodeData
 read_by c None d = d
-read_by c (Some ms) d = read_over c ms d
+read_by c (Some sizes) d = read_over c sizes d
 
 -- a message in place of the oldest job's, where there are memories
-abbrev pub read_as_by : List ℕ → Config → Option Contents → NodeData → NodeData
+abbrev pub read_as_by : List ℕ → Config → Option Sizes → NodeData → NodeData
 read_as_by message c None d = d
-read_as_by message c (Some ms) d = read_as message c ms d
+read_as_by message c (Some sizes) d = read_as message c sizes d
 
 -- the oldest job that waited was read
 abbrev pub IsRead : End → End → Type 0
-IsRead e = Becomes (read_by e.config e.memories e.node.at) e
+IsRead e = Becomes (read_by e.config (sizes_in e.memories) e.node.at) e
 
 -- a message of no octets was read in place of the oldest job that waited: it means nothing
 abbrev pub IsDropped : End → End → Type 0
-IsDropped e = Becomes (read_as_by [] e.config e.memories e.node.at) e
+IsDropped e = Becomes (read_as_by [] e.config (sizes_in e.memories) e.node.at) e
 
--- the oldest job is executed, where there are memories: the node and its answer, and the memories
-abbrev pub execution_by : Config → Option Contents → NodeData → (NodeData × Execution)
-    × Option Contents
-execution_by c None d = ((d, not_executed), None)
-execution_by c (Some ms) d = ((executed c d ms).0, Some (executed c d ms).1)
+-- the oldest job, which had been read, was let go
+abbrev pub IsReadDropped : End → End → Type 0
+IsReadDropped e = Becomes (record e.node.at { jobs = without_front e.node.at.jobs }) e
+
+-- the oldest job is executed, where the end has the memories: the node and its answer, and the
+-- memories
+abbrev pub execution_by : Config → Kept → NodeData → (NodeData × Execution) × Kept
+execution_by c Nowhere d = ((d, not_executed), Nowhere)
+execution_by c (Here ms) d = ((executed c d ms).0, Here (executed c d ms).1)
+execution_by c (Elsewhere sizes) d = ((d, not_executed), Elsewhere sizes)
 
 -- the same, of an end
-abbrev pub execution_of : End → (NodeData × Execution) × Option Contents
+abbrev pub execution_of : End → (NodeData × Execution) × Kept
 execution_of e = execution_by e.config e.memories e.node.at
 
 -- the oldest job was executed, and its reports are to be sent

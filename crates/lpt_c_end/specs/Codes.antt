@@ -71,6 +71,14 @@ nothing = 109
 abbrev pub unsent : ℕ
 unsent = 110
 
+-- the memories that the call is for are elsewhere: with the caller, or in the end
+abbrev pub elsewhere : ℕ
+elsewhere = 119
+
+-- these aren't as many octets as the request reads
+abbrev pub read_length_fault : ℕ
+read_length_fault = 120
+
 -- ---- answers
 
 -- the answer of a call that takes no memory, where this refuses it

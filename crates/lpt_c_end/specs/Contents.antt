@@ -1,9 +1,11 @@
 -- The memories that a new end of the spacecraft's begins with.
-use Rattle.std.specs.Prelude.{ℕ, ◌+◌, nat_le, Bool, true, ◌&&◌, List, [], ◌∷◌, length, map, take, drop, Option, Some, None}
+use Rattle.std.specs.Prelude.{ℕ, ◌+◌, nat_le, Bool, true, ◌&&◌, List, [], ◌∷◌, length, map, take, drop}
 use Rattle.lpt_events.specs.declared.side.Side.{Side}
 use Rattle.lpt_events.specs.declared.side.Side.TheVariants.{Ground, Craft}
 use Rattle.lpt_memory.specs.Meanings.{Sizes}
 use Rattle.lpt_memory.specs.Memories.{Contents, are_distinct}
+use Rattle.lpt_c_end.specs.declared.kept.Kept.{Kept}
+use Rattle.lpt_c_end.specs.declared.kept.Kept.TheVariants.{Nowhere, Here}
 use Rattle.lpt_c_end.specs.declared.memories.LptMemory.{LptMemory}
 use Rattle.lpt_memory.specs.Limits.{memory_limit}
 
@@ -20,9 +22,9 @@ abbrev pub memories_told : List ℕ → List LptMemory → Contents
 memories_told content ms = map (memory_told content) ms
 
 -- the same, of an end of this side; ground has none
-abbrev pub memories_of : Side → List LptMemory → List ℕ → Option Contents
-memories_of Ground ms content = None
-memories_of Craft ms content = Some (memories_told content ms)
+abbrev pub memories_of : Side → List LptMemory → List ℕ → Kept
+memories_of Ground ms content = Nowhere
+memories_of Craft ms content = Here (memories_told content ms)
 
 -- whether each stands in a content of so many octets
 abbrev pub are_within : ℕ → List LptMemory → Bool

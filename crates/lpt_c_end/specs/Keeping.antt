@@ -2,7 +2,6 @@
 use Rattle.std.specs.Prelude.{◌≡◌, ℕ, ◌+◌, ◌<◌, ◌^◌, nat_lt, ◌||◌, if◌then◌else◌, List, [], Option, Some, None, Result, Ok, Err}
 use Rattle.lpt_events.specs.Configs.{config_fault}
 use Rattle.lpt_events.specs.declared.config.Config.{Config}
-use Rattle.lpt_events.specs.declared.config_fault.ConfigFault.{ConfigFault}
 use Rattle.lpt_events.specs.declared.side.Side.{Side}
 use Rattle.lpt_node.specs.Nodes.{NodeView}
 use Rattle.lpt_state.specs.declared.fault.StateFault.{StateFault}
@@ -10,12 +9,13 @@ use Rattle.lpt_state.specs.declared.fault.StateFault.TheVariants as fault
 use Rattle.lpt_state.specs.Lastings.{restarted_node}
 use Rattle.lpt_state.specs.Spellings.{spelled}
 use Rattle.lpt_state.specs.Verdicts.{reading}
-use Rattle.lpt_c_end.specs.Codes.{config_code, empty, memory, no_number, range}
+use Rattle.lpt_c_end.specs.Codes.{empty, memory, no_number, range}
 use Rattle.lpt_c_end.specs.Contents.{memories_of}
 use Rattle.lpt_c_end.specs.Copies.{Text}
-use Rattle.lpt_c_end.specs.Refusals.{memory_refusal}
+use Rattle.lpt_c_end.specs.Refusals.{config_refusal, memory_refusal}
 use Rattle.lpt_c_end.specs.Words.{config_from, side_from}
 use Rattle.lpt_c_end.specs.declared.end.End.{End}
+use Rattle.lpt_c_end.specs.declared.kept.Kept.{Kept}
 use Rattle.lpt_c_end.specs.declared.memories.LptMemory.{LptMemory}
 use Rattle.lpt_c_end.specs.declared.words.LptConfig.{LptConfig}
 
@@ -63,29 +63,23 @@ abbrev pub kept_refusal : Side → Config → List ℕ → List LptMemory → Li
 kept_refusal side c state ms content =
     then_read (memory_refusal side ms content) (reading side c state)
 
--- the same, behind a fault of its configuration
-abbrev pub again_refusal : Option ConfigFault → Option ℕ → Option ℕ
-again_refusal (Some fault) refusal = config_code (Some fault)
-again_refusal None refusal = refusal
-
 -- why no end is made of a state
-abbrev pub resume_refusal : ℕ
-    → LptConfig
-    → List ℕ
-    → List LptMemory
-    → List ℕ
-    → Option ℕ
+abbrev pub resume_refusal : ℕ → LptConfig → List ℕ → List LptMemory → List ℕ → Option ℕ
 resume_refusal side c state ms content =
     if nat_lt 1 side || nat_lt 1 c.mode then Some range
-    else again_refusal (config_fault (config_from c))
+    else config_refusal (config_fault (config_from c))
     (kept_refusal (side_from side) (config_from c) state ms content)
 
--- the end is the one that a state says, with these memories
-pub record IsResumed (s : Side) (c : Config) (state : List ℕ) (ms : List LptMemory)
-    (content : List ℕ) (e : End) : Type 0 where
+-- the end is the one that a state says, with such memories
+pub record IsResumedWith (s : Side) (c : Config) (state : List ℕ) (kept : Kept) (e : End)
+    : Type 0 where
   pub side : e.side ≡ s
   pub config : e.config ≡ c
   pub node : reading s c state ≡ Ok e.node
-  pub memories : e.memories ≡ memories_of s ms content
+  pub memories : e.memories ≡ kept
   pub released : e.released ≡ None
   pub outbox : e.outbox.items ≡ []
+
+-- the same, with memories that begin with this content
+abbrev pub IsResumed : Side → Config → List ℕ → List LptMemory → List ℕ → End → Type 0
+IsResumed s c state ms content = IsResumedWith s c state (memories_of s ms content)

@@ -1,3 +1,4 @@
+pub mod Accesses
 pub mod AddressCodes
 pub mod Addresses
 pub mod Areas
@@ -9,8 +10,10 @@ pub mod Copies
 pub mod HandleCodes
 pub mod Held
 pub mod Keeping
+pub mod Kept
 pub mod Ready
 pub mod Refusals
+pub mod Sizes
 pub mod Views
 pub mod Walks
 pub mod Words

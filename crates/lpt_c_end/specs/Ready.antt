@@ -3,7 +3,6 @@ use Rattle.std.specs.Prelude.{◌≡◌, ℕ, All, Option, Some}
 use Rattle.lpt_jobs.specs.declared.job.Job.{Job}
 use Rattle.lpt_jobs.specs.declared.job.Job.TheVariants.{Committed}
 use Rattle.lpt_memory.specs.Meanings.{Sizes}
-use Rattle.lpt_memory.specs.Memories.{Contents, sizes_of}
 use Rattle.lpt_memory.specs.Readings.{Source}
 use Rattle.lpt_node.specs.Nodes.{NodeView}
 
@@ -11,7 +10,7 @@ use Rattle.lpt_node.specs.Nodes.{NodeView}
 abbrev pub IsReading : ℕ → Sizes → Job → Type 0
 IsReading apid sizes j = (r : Source) → j ≡ Committed r → (r.apid ≡ apid) × (r.sizes ≡ sizes)
 
--- the readings of an end's jobs are for its APID and its memories, where it has some
-abbrev pub IsReady : NodeView → Option Contents → Type 0
-IsReady n memories =
-    (ms : Contents) → memories ≡ Some ms → All (IsReading n.config.apid (sizes_of ms)) n.at.jobs.jobs
+-- the readings of an end's jobs are for its APID and memories of its sizes, where it has some
+abbrev pub IsReady : NodeView → Option Sizes → Type 0
+IsReady n own = (sizes : Sizes) → own ≡ Some sizes → All (IsReading n.config.apid sizes)
+    n.at.jobs.jobs

@@ -5,15 +5,15 @@ use Rattle.lpt_events.specs.declared.config_fault.ConfigFault.{ConfigFault}
 use Rattle.lpt_events.specs.declared.side.Side.{Side}
 use Rattle.lpt_events.specs.declared.side.Side.TheVariants.{Ground, Craft}
 use Rattle.lpt_jobs.specs.Jobs.{numbered}
-use Rattle.lpt_memory.specs.Memories.{Contents}
 use Rattle.lpt_packet.specs.Names.{Name}
 use Rattle.lpt_node.specs.Restarts.{may_retire}
 use Rattle.lpt_node.specs.Requests.{refusal_plain}
 use Rattle.lpt_node.specs.Sending.{refusal_open, refusal_send, refusal_finish}
 use Rattle.lpt_node.specs.Times.{refusal_tick, refusal_expire}
 use Rattle.lpt_node.specs.Jobs.{refusal_claim, refusal_apply}
-use Rattle.lpt_c_end.specs.Codes.{node_code, config_code, still_open, bad_memories, range, empty, no_job, no_number, nothing, unsent}
+use Rattle.lpt_c_end.specs.Codes.{node_code, config_code, still_open, bad_memories, range, empty, no_number, nothing, unsent}
 use Rattle.lpt_c_end.specs.Contents.{can_be}
+use Rattle.lpt_c_end.specs.Kept.{here_refusal, memories_refusal}
 use Rattle.lpt_c_end.specs.Words.{side_from, direction_from, config_from}
 use Rattle.lpt_c_end.specs.declared.end.End.{End}
 use Rattle.lpt_c_end.specs.declared.memories.LptMemory.{LptMemory}
@@ -35,16 +35,17 @@ abbrev pub memory_refusal : Side → List LptMemory → List ℕ → Option ℕ
 memory_refusal Ground ms content = None
 memory_refusal Craft ms content = if can_be (length content) ms then None else Some bad_memories
 
--- the same, behind a fault of its configuration
-abbrev pub made_refusal : Option ConfigFault → Side → List LptMemory → List ℕ → Option ℕ
-made_refusal (Some fault) side ms content = config_code (Some fault)
-made_refusal None side ms content = memory_refusal side ms content
+-- a fault of a configuration, or else this refusal
+abbrev pub config_refusal : Option ConfigFault → Option ℕ → Option ℕ
+config_refusal (Some fault) refusal = config_code (Some fault)
+config_refusal None refusal = refusal
 
 -- why no end is made
 abbrev pub new_refusal : ℕ → LptConfig → List LptMemory → List ℕ → Option ℕ
 new_refusal side c ms content =
     if nat_lt 1 side || nat_lt 1 c.mode then Some range
-    else made_refusal (config_fault (config_from c)) (side_from side) ms content
+    else config_refusal (config_fault (config_from c))
+    (memory_refusal (side_from side) ms content)
 
 -- ---- the calls on an end
 
@@ -104,11 +105,6 @@ sent_refusal e = if length e.outbox.items == 0 then Some nothing else None
 
 -- ---- the jobs, of which ground has none
 
--- the refusal of what is done over memories
-abbrev pub memories_refusal : Option Contents → Option ℕ → Option ℕ
-memories_refusal None refusal = Some no_job
-memories_refusal (Some ms) refusal = refusal
-
 -- a refusal, or else that packets are to be sent first
 abbrev pub sending_refusal : Option ℕ → List (List ℕ) → Option ℕ
 sending_refusal (Some fault) packets = Some fault
@@ -121,4 +117,4 @@ read_refusal e = memories_refusal e.memories (node_code (refusal_claim e.node.at
 -- no job is executed
 abbrev pub execute_refusal : End → Option ℕ
 execute_refusal e =
-    memories_refusal e.memories (sending_refusal (node_code (refusal_apply e.node.at)) e.outbox.items)
+    here_refusal e.memories (sending_refusal (node_code (refusal_apply e.node.at)) e.outbox.items)

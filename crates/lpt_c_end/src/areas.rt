@@ -58,8 +58,8 @@ pub fn lpt_end_asked_area(alloc: Global, end: &mut LptEnd, number: usize, area: 
 
 /// Fills a buffer with the octets of a memory from an address on.
 ///
-/// 0; 106 where the handle is empty; 109 where the end has no memory of this identifier; 102 where
-/// the memory has fewer octets there than the buffer.
+/// 0; 106 where the handle is empty; 119 where the memories are with the caller; 109 where the end
+/// has no memory of this identifier; 102 where the memory has fewer octets there than the buffer.
 pub fn lpt_end_memory_range(
     alloc: Global,
     end: &mut LptEnd,
@@ -76,8 +76,8 @@ pub fn lpt_end_memory_range(
         return EMPTY;
     };
     let code = match held.content(id) {
-        Some(content) => fill(content, address as usize, out),
-        None => NOTHING,
+        Ok(content) => fill(content, address as usize, out),
+        Err(code) => code,
     };
     put(end, held);
     code

@@ -59,3 +59,9 @@ pub(crate) const CHECKSUM: u32 = 117;
 
 // A state whose names are out of order.
 pub(crate) const ORDER: u32 = 118;
+
+// Memories that are elsewhere than the call is for.
+pub(crate) const ELSEWHERE: u32 = 119;
+
+// Fewer octets than a request reads, or more.
+pub(crate) const READ_LENGTH: u32 = 120;

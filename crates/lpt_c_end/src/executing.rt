@@ -1,17 +1,19 @@
 //! The requests that the spacecraft's end released: their reading, their execution, and the memory
 //! over which that goes.
 
-ghost use Rattle.std.specs.Prelude.{◌≡◌, option_map};
-ghost use Rattle.lpt_c_end.specs.Calls.{IfBoth, IfHeld, IsApplied, content_by, memory_in};
+ghost use Rattle.std.specs.Prelude.{◌≡◌, Ok, Err, MatchResult};
+ghost use Rattle.lpt_c_end.specs.Calls.{IfBoth, IfHeld, IsApplied, memory_in};
 ghost use Rattle.lpt_c_end.specs.Changes.{Becomes, IsExecuted, IsRead, IsSame, read_as_by};
 ghost use Rattle.lpt_c_end.specs.Codes.{IsAnswer};
 ghost use Rattle.lpt_c_end.specs.Copies.{code_for, left_by, needed_by};
+ghost use Rattle.lpt_c_end.specs.Kept.{content_by, sizes_in};
 ghost use Rattle.lpt_c_end.specs.Refusals.{execute_refusal, read_refusal, refusal_by};
 
-use crate::codes::{DONE, EMPTY, MEMORY, NO_JOB, NOTHING, UNSENT};
+use crate::codes::{DONE, ELSEWHERE, EMPTY, MEMORY, NO_JOB, NOTHING, UNSENT};
 use crate::copying::copy_out;
 use crate::end::End;
 use crate::handle::{LptEnd, put, take};
+use crate::kept::Kept;
 use crate::words::{LptApplied, applied_words_of};
 use lpt_memory::{Ticket, prepare};
 use lpt_node::{Ask, Executed};
@@ -39,9 +41,9 @@ pub fn lpt_end_read(alloc: Global, end: &mut LptEnd) -> u32
 /// Executes the oldest request, which has been read: does what it asks of a memory, and says what
 /// became of it. Its reports are to be sent.
 ///
-/// 0; 106 where the handle is empty; 51 where there is no request, as always on ground; 52 where
-/// the oldest wasn't read; 110 where packets are to be sent first; 58 when out of memory. Then
-/// nothing has changed.
+/// 0; 106 where the handle is empty; 51 where there is no request, as always on ground; 119 where
+/// the memories are with the caller; 52 where the oldest wasn't read; 110 where packets are to be
+/// sent first; 58 when out of memory. Then nothing has changed.
 pub fn lpt_end_execute(alloc: Global, end: &mut LptEnd, applied: &mut LptApplied) -> u32
     ensures code { IsAnswer (refusal_by execute_refusal end.old.held.value) result }
     ensures done { result ≡ 0 → IfBoth IsExecuted end.old.held.value end.new.held.value }
@@ -59,8 +61,9 @@ pub fn lpt_end_execute(alloc: Global, end: &mut LptEnd, applied: &mut LptApplied
 
 /// Copies a memory to the front of a buffer.
 ///
-/// 0; 106 where the handle is empty; 109 where the end has no memory of this identifier; 103 where
-/// the buffer is too short. At 0 and at 103 `needed` says how many octets the memory has.
+/// 0; 106 where the handle is empty; 119 where the memories are with the caller; 109 where the end
+/// has no memory of this identifier; 103 where the buffer is too short. At 0 and at 103 `needed`
+/// says how many octets the memory has.
 pub fn lpt_end_memory(
     alloc: Global,
     end: &mut LptEnd,
@@ -77,21 +80,26 @@ pub fn lpt_end_memory(
         return EMPTY;
     };
     let code = match held.content(id) {
-        Some(content) => copy_out(content, out, needed),
-        None => NOTHING,
+        Ok(content) => copy_out(content, out, needed),
+        Err(code) => code,
     };
     put(end, held);
     code
 }
 
 impl End {
-    // The octets of a memory.
-    pub(crate) fn content(&self, id: u8) -> Option<&[u8]>
-        ensures { option_map (λ x. x.now) result ≡ content_by id self.now.memories }
+    // The octets of a memory, or the number of the fault.
+    pub(crate) fn content(&self, id: u8) -> Result<&[u8], u32>
+        ensures { MatchResult result (λ x. content_by id self.now.memories ≡ Ok x.now)
+            (λ code. content_by id self.now.memories ≡ Err code) }
     {
         match &self.memories {
-            Some(memories) => memories.content(id),
-            None => None,
+            Kept::Nowhere => Err(NOTHING),
+            Kept::Here(memories) => match memories.content(id) {
+                Some(content) => Ok(content),
+                None => Err(NOTHING),
+            },
+            Kept::Elsewhere(_) => Err(ELSEWHERE),
         }
     }
 
@@ -101,7 +109,7 @@ impl End {
         ensures done { result ≡ 0 → IsRead self.old self.new }
         ensures refused { ¬ (result ≡ 0) → IsSame self.old self.new }
     {
-        if self.memories.is_none() {
+        if matches!(self.memories, Kept::Nowhere) {
             return NO_JOB;
         }
         let Some((_, message)) = self.node.unclaimed() else {
@@ -117,18 +125,17 @@ impl End {
     pub(crate) fn hand_in(&mut self, alloc: Global, message: Octets) -> u32
         ensures code { IsAnswer (read_refusal self.old) result }
         ensures done { result ≡ 0
-            → Becomes (read_as_by message self.old.config self.old.memories self.old.node.at)
+            → Becomes
+            (read_as_by message self.old.config (sizes_in self.old.memories) self.old.node.at)
             self.old self.new }
         ensures refused { ¬ (result ≡ 0) → IsSame self.old self.new }
     {
-        let Some(memories) = &self.memories else {
-            return NO_JOB;
-        };
         let Some((number, _)) = self.node.unclaimed() else {
             return NO_JOB;
         };
-        let Ok(shape) = memories.shape() else {
-            return MEMORY;
+        let shape = match self.memories.shape() {
+            Ok(shape) => shape,
+            Err(code) => return code,
         };
         let ticket = Ticket::new(self.node.boot(), number, message);
         match prepare(alloc, &shape, self.config.apid, ticket) {
@@ -149,7 +156,6 @@ impl End {
     }
 
     // Executes the oldest request, and says what became of it.
-    #[tactic(auto, using(crate::proofs::ReadyLemmas::front_ready))]
     fn execute(&mut self, applied: &mut LptApplied) -> u32
         ensures code { IsAnswer (execute_refusal self.old) result }
         ensures done { result ≡ 0 → IsExecuted self.old self.new }
@@ -157,8 +163,10 @@ impl End {
         ensures refused { ¬ (result ≡ 0) → IsSame self.old self.new }
         ensures untold { ¬ (result ≡ 0) → applied.new ≡ applied.old }
     {
-        let Some(memories) = &mut self.memories else {
-            return NO_JOB;
+        let memories = match &mut self.memories {
+            Kept::Nowhere => return NO_JOB,
+            Kept::Here(memories) => memories,
+            Kept::Elsewhere(_) => return ELSEWHERE,
         };
         if let Some(fault) = self.node.refusal(&Ask::Apply) {
             return u32::from(fault.code());

@@ -23,7 +23,6 @@ use lpt_events::{Config, Side};
 use lpt_state::laws::written_is_read;
 use lpt_state::{StateFault, read_state, state_len, write_state_into};
 use std::alloc::Global;
-use std::collections::VecDeque;
 
 /// Copies the state of the end to the front of a buffer: what of it outlasts a restart. An end that
 /// is made of it is the one that a restart would leave.
@@ -127,23 +126,12 @@ impl End {
             Err(fault) => return Err(state_code(fault)),
         };
         let memories = memories_for(alloc, side, memories, content)?;
-        let end = End {
-            side,
-            config: *config,
-            node,
-            memories,
-            released: None,
-            outbox: VecDeque::new(alloc),
-        };
-        match Box::new(alloc, end) {
-            Ok(made) => Ok(made),
-            Err(_) => Err(MEMORY),
-        }
+        End::of(alloc, node, memories)
     }
 }
 
 // The number of a fault of a state.
-fn state_code(fault: StateFault) -> u32
+pub(crate) fn state_code(fault: StateFault) -> u32
     ensures { result ≡ state_code fault }
 {
     match fault {

@@ -1,11 +1,13 @@
 //! A new end, and its end.
 
-ghost use Rattle.std.specs.Prelude.{◌≡◌, [], ◌∷◌, None, IfOk, IfErr, IsTrue, OnOk};
+ghost use Rattle.std.specs.Prelude.{◌≡◌, None, IfOk, IfErr, OnOk};
 ghost use Rattle.lpt_events.specs.Configs.{IsConfig};
 ghost use Rattle.lpt_c_end.specs.Addresses.{end_at, NullIfNone};
 ghost use Rattle.lpt_c_end.specs.Calls.{IfHeld};
-ghost use Rattle.lpt_c_end.specs.Changes.{IsNew};
-ghost use Rattle.lpt_c_end.specs.Codes.{IsAnswer};
+ghost use Rattle.lpt_c_end.specs.Changes.{IsMadeOf, IsNew};
+ghost use Rattle.lpt_c_end.specs.Codes.{memory, IsAnswer};
+ghost use Rattle.lpt_c_end.specs.Kept.{sizes_in};
+ghost use Rattle.lpt_c_end.specs.Ready.{IsReady};
 ghost use Rattle.lpt_c_end.specs.Refusals.{memory_refusal, new_refusal};
 ghost use Rattle.lpt_c_end.specs.Words.{config_from, side_from};
 
@@ -13,6 +15,7 @@ use crate::address::{LptAddress, hand_out};
 use crate::codes::{MEMORY, RANGE};
 use crate::end::End;
 use crate::handle::take;
+use crate::kept::Kept;
 use crate::memories::{LptMemory, memories_for};
 use crate::words::{LptConfig, config_of, side_of};
 use lpt_events::{Config, Side};
@@ -65,27 +68,15 @@ pub fn lpt_end_free(alloc: Global, end: LptAddress)
 }
 
 impl End {
-    /// An end at which nothing has happened, or the number of the fault: that of its memories,
-    /// or out of memory.
-    pub(crate) fn new(
-        alloc: Global,
-        side: Side,
-        config: &Config,
-        memories: &[LptMemory],
-        content: &[u8],
-    ) -> Result<Box<End, Global>, u32>
-        requires { IsConfig config.now }
-        ensures ok { IfOk result (λ b. IsNew side config.now memories.now content.now b.value) }
-        ensures enabled { IfOk result (λ b. memory_refusal side memories.now content.now ≡ None) }
-        ensures err { IfErr result (λ code. ¬ (code ≡ 0) × IsAnswer (memory_refusal side memories.now content.now) code) }
+    /// The end that has this node and these memories, or the number of out of memory.
+    pub(crate) fn of(alloc: Global, node: Node, memories: Kept) -> Result<Box<End, Global>, u32>
+        requires { IsReady node (sizes_in memories) }
+        ensures ok { IfOk result (λ b. IsMadeOf node memories b.value) }
+        ensures err { IfErr result (λ code. code ≡ memory) }
     {
-        let memories = memories_for(alloc, side, memories, content)?;
-        let Ok(node) = Node::new(alloc, side, config) else {
-            return Err(MEMORY);
-        };
         let end = End {
-            side,
-            config: *config,
+            side: node.side(),
+            config: *node.config(),
             node,
             memories,
             released: None,
@@ -95,5 +86,27 @@ impl End {
             Ok(made) => Ok(made),
             Err(_) => Err(MEMORY),
         }
+    }
+
+    /// An end at which nothing has happened, or the number of the fault: that of its memories,
+    /// or out of memory.
+    fn new(
+        alloc: Global,
+        side: Side,
+        config: &Config,
+        memories: &[LptMemory],
+        content: &[u8],
+    ) -> Result<Box<End, Global>, u32>
+        requires { IsConfig config.now }
+        ensures ok { IfOk result (λ b. IsNew side config.now memories.now content.now b.value) }
+        ensures enabled { OnOk result (memory_refusal side memories.now content.now ≡ None) }
+        ensures err { IfErr result (λ code. ¬ (code ≡ 0)
+            × IsAnswer (memory_refusal side memories.now content.now) code) }
+    {
+        let memories = memories_for(alloc, side, memories, content)?;
+        let Ok(node) = Node::new(alloc, side, config) else {
+            return Err(MEMORY);
+        };
+        End::of(alloc, node, memories)
     }
 }

@@ -1,12 +1,17 @@
 -- No refusal has the number 0.
 use Rattle.std.proofs.Common.{◌≡◌, ap, sym, refl, ℕ, nat_lt, ◌==◌, Bool, true, false, if◌then◌else◌, List, length, Option, Some, None, arith}
+use Rattle.lpt_c_end.specs.Accesses.{first_read, given_refusal, length_refusal, unready}
 use Rattle.lpt_c_end.specs.Codes.{node_code, IsAnswer, answer, range, nothing}
-use Rattle.lpt_c_end.specs.Refusals.{open_refusal, part_refusal, plain_refusal, finish_refusal, sent_refusal, expire_refusal, tick_refusal, read_refusal, execute_refusal, ground_refusal, memories_refusal, sending_refusal}
+use Rattle.lpt_c_end.specs.Refusals.{open_refusal, part_refusal, plain_refusal, finish_refusal, sent_refusal, expire_refusal, tick_refusal, read_refusal, execute_refusal, ground_refusal, sending_refusal}
+use Rattle.lpt_c_end.specs.Kept.{elsewhere_refusal, here_refusal, memories_refusal}
+use Rattle.lpt_c_end.specs.declared.kept.Kept.{Kept}
+use Rattle.lpt_c_end.specs.declared.kept.Kept.TheVariants.{Nowhere, Here, Elsewhere}
 use Rattle.lpt_c_pair.specs.Answers.{ZeroIsAlwaysDone}
 use Rattle.lpt_events.specs.FaultNames.{code_of}
 use Rattle.lpt_events.specs.declared.side.Side.{Side}
 use Rattle.lpt_events.specs.declared.side.Side.TheVariants.{Ground, Craft}
-use Rattle.lpt_memory.specs.Memories.{Contents}
+use Rattle.lpt_memory.specs.Given.{read_length}
+use Rattle.lpt_memory.specs.Readings.{Source, meant}
 use Rattle.lpt_node.specs.Faults.{node_fault}
 use Rattle.lpt_node.specs.Jobs.{refusal_claim, refusal_apply}
 use Rattle.lpt_node.specs.Requests.{refusal_plain}
@@ -51,9 +56,30 @@ of_side : (s : Side) (r : Option ℕ) → IsNoZero r → IsNoZero (ground_refusa
 of_side Ground r rest = rest
 of_side Craft r rest = of_number range (λ e. omega arith)
 
-of_memories : (ms : Option Contents) (r : Option ℕ) → IsNoZero r → IsNoZero (memories_refusal ms r)
-of_memories None r rest = of_number (code_of (node_fault NoJob)) (λ e. omega arith)
-of_memories (Some ms) r rest = rest
+of_memories : (kept : Kept) (r : Option ℕ) → IsNoZero r → IsNoZero (memories_refusal kept r)
+of_memories Nowhere r rest = of_number (code_of (node_fault NoJob)) (λ e. omega arith)
+of_memories (Here ms) r rest = rest
+of_memories (Elsewhere sizes) r rest = rest
+
+of_here : (kept : Kept) (r : Option ℕ) → IsNoZero r → IsNoZero (here_refusal kept r)
+of_here Nowhere r rest = of_number (code_of (node_fault NoJob)) (λ e. omega arith)
+of_here (Here ms) r rest = rest
+of_here (Elsewhere sizes) r rest = of_number 119 (λ e. omega arith)
+
+of_elsewhere : (kept : Kept) (r : Option ℕ) → IsNoZero r → IsNoZero (elsewhere_refusal kept r)
+of_elsewhere Nowhere r rest = of_number (code_of (node_fault NoJob)) (λ e. omega arith)
+of_elsewhere (Here ms) r rest = of_number 119 (λ e. omega arith)
+of_elsewhere (Elsewhere sizes) r rest = rest
+
+of_length : (r : Option ℕ) (first : Option Source) (octets : List ℕ)
+    → IsNoZero r
+    → IsNoZero (length_refusal r first octets)
+of_length (Some n) first octets rest = rest
+of_length None None octets rest = rest
+of_length None (Some s) octets rest = of_read (length octets == read_length (meant s)) where
+  of_read : (b : Bool) → IsNoZero (if b then None else Some 120)
+  of_read true e = cc
+  of_read false e = of_number 120 (λ k. omega arith) e
 
 of_sending : (r : Option ℕ) (packets : List (List ℕ)) → IsNoZero r
     → IsNoZero (sending_refusal r packets)
@@ -96,7 +122,13 @@ zero_is_done e = record {
       (of_node (refusal_claim e.node.at)));
   executed =
       answered (execute_refusal e)
-      (of_memories e.memories (sending_refusal (node_code (refusal_apply e.node.at)) e.outbox.items)
+      (of_here e.memories (sending_refusal (node_code (refusal_apply e.node.at)) e.outbox.items)
       (of_sending (node_code (refusal_apply e.node.at)) e.outbox.items (of_node
       (refusal_apply e.node.at))));
+  given = λ octets.
+      let read : Option ℕ = length_refusal (unready e) (first_read e) octets in
+      answered (given_refusal octets e)
+      (of_elsewhere e.memories (sending_refusal read e.outbox.items)
+      (of_sending read e.outbox.items (of_length (unready e) (first_read e) octets
+      (of_node (refusal_apply e.node.at)))));
 }

@@ -3,18 +3,27 @@ use Rattle.std.proofs.Common.{◌≡◌, ◌∙◌, ap, sym, subst, refl, ℕ, n
 use Rattle.lpt_apart.specs.Clocks.{after_all, CanAll}
 use Rattle.lpt_apart.specs.Ends.{Ends, put_out}
 use Rattle.lpt_apart.specs.Moves.{Pair, CanMove, freed_by, retired_by}
-use Rattle.lpt_c_end.specs.Changes.{IsFixed, delivery, expiry}
-use Rattle.lpt_c_end.specs.Codes.{node_code, range, no_job}
-use Rattle.lpt_c_end.specs.Refusals.{ground_refusal, memories_refusal, sending_refusal}
+use Rattle.lpt_c_end.specs.Accesses.{first_read, length_refusal, unready}
+use Rattle.lpt_c_end.specs.Changes.{IsFixed, delivery, expiry, read_by}
+use Rattle.lpt_c_end.specs.Codes.{elsewhere, node_code, range, no_job}
+use Rattle.lpt_c_end.specs.Contents.{memories_of}
+use Rattle.lpt_c_end.specs.Keeping.{IsResumedWith}
+use Rattle.lpt_c_end.specs.Kept.{elsewhere_refusal, here_refusal, memories_refusal, sizes_in}
+use Rattle.lpt_c_end.specs.Refusals.{ground_refusal, sending_refusal}
+use Rattle.lpt_c_end.specs.Sizes.{kept_as}
 use Rattle.lpt_c_end.specs.Words.{direction_from as direction_by}
 use Rattle.lpt_c_end.specs.declared.end.End.{End}
+use Rattle.lpt_c_end.specs.declared.kept.Kept.{Kept}
+use Rattle.lpt_c_end.specs.declared.kept.Kept.TheVariants.{Nowhere, Here, Elsewhere}
+use Rattle.lpt_c_end.proofs.ReadyLemmas.{front_ready}
 use Rattle.lpt_c_pair.specs.Outboxes.{AllOnTheWay, NoneWaits}
-use Rattle.lpt_c_pair.specs.Pairs.{AreEndsOf, Call, Open, Part, Plain, Finish, LetGo, Packet, Expire, Tick, Read, Execute, Retire, Restart, Resume, freeing, moves, IsMoveOfGround, IsMoveOfCraft, CallsAreMoves}
-use Rattle.lpt_c_pair.proofs.Clockless.{refuses_open, refuses_send, sends, refuses_plain, asks, takes, refuses_expire, expires, reads, executes}
+use Rattle.lpt_c_pair.specs.Pairs.{AreEndsOf, IsEndOf, Place, InEnd, WithProgram, kept_in, Call, Open, Part, Plain, Finish, LetGo, Packet, Expire, Tick, Read, Execute, ExecuteGiven, Retire, Restart, Resume, ResumeSized, freeing, moves, IsMoveOfGround, IsMoveOfCraft, CallsAreMoves}
+use Rattle.lpt_c_pair.proofs.Clockless.{refuses_open, refuses_send, sends, refuses_plain, asks, takes, refuses_expire, expires, reads, executes, executes_over}
+use Rattle.lpt_c_pair.proofs.GivenLemmas.{executed_sizes, not_short}
 use Rattle.lpt_c_pair.proofs.Resuming.{resumed_node}
 use Rattle.lpt_c_pair.proofs.GroundReports.{none_of_delivery, none_of_expiry}
 use Rattle.lpt_c_pair.proofs.Waiting.{stays, beside, adds, replaces, lets_go, freed_other, freed_this, as_listed, none_more}
-use Rattle.lpt_c_pair.proofs.Lemmas.{no_fault, not_refused, not_unsent, ground_becomes, craft_becomes, craft_fixed}
+use Rattle.lpt_c_pair.proofs.Lemmas.{no_fault, not_refused, not_unsent, sizes_kept, refusal_kept, ground_becomes, craft_becomes, craft_fixed}
 use Rattle.lpt_packet.specs.declared.direction.Direction.{Direction}
 use Rattle.lpt_packet.specs.declared.direction.Direction.TheVariants.{Up, Down}
 use Rattle.lpt_packet.specs.Names.{Name}
@@ -23,13 +32,16 @@ use Rattle.lpt_events.specs.declared.config.Config.{Config}
 use Rattle.lpt_events.specs.declared.side.Side.{Side}
 use Rattle.lpt_events.specs.declared.side.Side.TheVariants.{Ground, Craft}
 use Rattle.lpt_events.specs.declared.worker.Worker.TheVariants.{W1}
-use Rattle.lpt_memory.specs.Memories.{Contents}
+use Rattle.lpt_jobs.specs.Jobs.{head_of}
+use Rattle.lpt_memory.specs.Meanings.{Sizes}
+use Rattle.lpt_memory.specs.Memories.{Contents, sizes_of}
 use Rattle.lpt_memory.specs.Readings.{Job}
 use Rattle.lpt_node.specs.Accepting.{accepted}
 use Rattle.lpt_node.specs.declared.accepted.Accepted.{Accepted}
 use Rattle.lpt_node.specs.declared.expired.Expired.{Expired}
 use Rattle.lpt_node.specs.Restarts.{retired, restarted}
-use Rattle.lpt_node.specs.Jobs.{Execution, refusal_claim, claimed, refusal_apply, executed}
+use Rattle.lpt_node.specs.Jobs.{Execution, FrontIsFor, refusal_claim, claimed, refusal_apply, executed, executed_given}
+use Rattle.lpt_node.proofs.GivenLemmas.{given_over}
 use Rattle.lpt_node.specs.Nodes.{NodeData}
 use Rattle.lpt_node.specs.Requests.{refusal_plain, plain_made}
 use Rattle.lpt_node.specs.Sending.{refusal_open, opened, refusal_send, sent, refusal_finish, closed}
@@ -239,12 +251,17 @@ module _ (c : Config) (p : Pair) (g k : End) (are : AreEndsOf c p g k) where
   )
   on_ground Read new done vow =
       absurd (let both : Some no_job ≡ None =
-      sym (ap (λ (ms : Option Contents). memories_refusal ms (node_code
+      sym (ap (λ (o : Kept). memories_refusal o (node_code
       (refusal_claim g.node.at))) are.ground.memories) ∙ done.0 in cc)
   on_ground Execute new done vow =
       absurd (let both : Some no_job ≡ None =
-      sym (ap (λ (ms : Option Contents). memories_refusal ms (sending_refusal (node_code
+      sym (ap (λ (o : Kept). here_refusal o (sending_refusal (node_code
       (refusal_apply g.node.at)) g.outbox.items)) are.ground.memories) ∙ done.0 in cc)
+  on_ground (ExecuteGiven octets) new done vow =
+      absurd (let both : Some no_job ≡ None =
+      sym (ap (λ (o : Kept). elsewhere_refusal o (sending_refusal
+      (length_refusal (unready g) (first_read g) octets) g.outbox.items)) are.ground.memories)
+      ∙ done.0 in cc)
   on_ground (Retire direction name) new done vow =
       free_ground (direction_by direction) name new vow.0 vow.1 done.fixed done.node done.outbox
   on_ground Restart new done vow = (
@@ -264,16 +281,19 @@ module _ (c : Config) (p : Pair) (g k : End) (are : AreEndsOf c p g k) where
             side = done.side ∙ are.ground.side;
             ticks = vow.ticks;
             config = done.config ∙ vow.configured;
-            node = resumed_node c Ground p.ends.on_ground None g new config state ms content
-                are.ground vow done;
+            node = resumed_node c Ground p.ends.on_ground Nowhere g new config state
+                (memories_of g.side ms content) are.ground vow done;
             memories = done.memories ∙ vow.memories ∙ are.ground.memories;
           };
+          place = are.place;
           craft = are.craft;
           tickets = are.tickets;
           upwards = subst (λ (xs : List (List ℕ)). AllOnTheWay f Up xs) (sym done.outbox) tt;
           downwards = stays p.ends f Down k.outbox.items k.outbox.items refl refl are.downwards;
         },
       )
+  on_ground (ResumeSized config state sizes) new done vow =
+      absurd (let both : kept_as sizes ≡ Nowhere = vow.memories ∙ are.ground.memories in cc)
 
   -- ---- the spacecraft
 
@@ -303,6 +323,96 @@ module _ (c : Config) (p : Pair) (g k : End) (are : AreEndsOf c p g k) where
         (freed_this p.ends (retired_by p Down name).ends Down name k.outbox.items
         new.outbox.items refl outbox none),
   )
+
+  -- an execution over memories in the end
+  craft_executes : (w : Place) → are.place ≡ w → IsMoveOfCraft c p g k Execute
+  craft_executes InEnd at new done vow =
+      let held : k.memories ≡ Here p.ends.memories =
+      are.craft.memories ∙ ap (λ (w : Place). kept_in w p.ends.memories) at in
+      let is : IsEndOf c Craft p.ends.on_craft (Here p.ends.memories) k = record {
+        side = are.craft.side;
+        ticks = are.craft.ticks;
+        config = are.craft.config;
+        node = are.craft.node;
+        memories = held;
+      } in
+      let unsent : sending_refusal (node_code (refusal_apply k.node.at)) k.outbox.items ≡ None =
+      sym (ap (λ (o : Kept). here_refusal o (sending_refusal (node_code
+      (refusal_apply k.node.at)) k.outbox.items)) held) ∙ done.0 in
+      let none : node_code (refusal_apply k.node.at) ≡ None =
+      not_unsent (node_code (refusal_apply k.node.at)) k.outbox.items unsent in (
+        (
+          tt,
+          sym (λ i. refusal_apply (are.craft.node i)) ∙ no_fault (refusal_apply k.node.at) none,
+        ),
+        craft_becomes c p (after_all c p (moves Craft Execute))
+            g k new are done.1.side done.1.config
+            (done.1.node
+            ∙ ap (λ (x : (NodeData × Execution) × Kept). x.0.0) (executes is)) refl
+            (done.1.memories
+            ∙ ap (λ (x : (NodeData × Execution) × Kept). x.1) (executes is)
+            ∙ sym (ap (λ (w : Place). kept_in w (executed c p.ends.on_craft p.ends.memories).1) at))
+            are.tickets
+            (beside p.ends (after_all c p (moves Craft Execute)).ends Up Down None
+            g.outbox.items (executed c p.ends.on_craft p.ends.memories).0.1.packets refl
+            are.upwards)
+            (replaces p.ends (after_all c p (moves Craft Execute)).ends Down None
+            new.outbox.items (executed c p.ends.on_craft p.ends.memories).0.1.packets refl
+            (done.1.outbox
+            ∙ ap (λ (x : (NodeData × Execution) × Kept). x.0.1.packets) (executes is))),
+      )
+  craft_executes WithProgram at new done vow =
+      absurd (let both : Some elsewhere ≡ None =
+      sym (ap (λ (o : Kept). here_refusal o (sending_refusal (node_code
+      (refusal_apply k.node.at)) k.outbox.items))
+      (are.craft.memories ∙ ap (λ (w : Place). kept_in w p.ends.memories) at)) ∙ done.0 in cc)
+
+  -- an execution over memories that are with the program
+  craft_given : (octets : List ℕ) (w : Place) → are.place ≡ w
+      → IsMoveOfCraft c p g k (ExecuteGiven octets)
+  craft_given octets InEnd at new done vow =
+      absurd (let both : Some elsewhere ≡ None =
+      sym (ap (λ (o : Kept). elsewhere_refusal o (sending_refusal
+      (length_refusal (unready k) (first_read k) octets) k.outbox.items))
+      (are.craft.memories ∙ ap (λ (w : Place). kept_in w p.ends.memories) at)) ∙ done.0 in cc)
+  craft_given octets WithProgram at new done vow =
+      let ms : Contents = p.ends.memories in
+      let known : k.memories ≡ Elsewhere (sizes_of ms) =
+      are.craft.memories ∙ ap (λ (w : Place). kept_in w ms) at in
+      let front : FrontIsFor (head_of k.node.at.jobs.jobs) k.node.config.apid ms =
+      front_ready k.node (sizes_in k.memories) ms (ap sizes_in known) k.ready in
+      let is : (NodeData × Execution) × Contents = executed c p.ends.on_craft ms in
+      let same : executed k.config k.node.at ms ≡ is = executes_over are.craft ms in
+      let over : executed_given k.config k.node.at octets ≡ is.0 =
+      given_over k.config k.node.at ms octets (head_of k.node.at.jobs.jobs) k.node.config.apid
+      front vow
+      ∙ ap (λ (x : (NodeData × Execution) × Contents). x.0) same in
+      let sizes : sizes_of is.1 ≡ sizes_of ms =
+      ap (λ (x : (NodeData × Execution) × Contents). sizes_of x.1) (sym same)
+      ∙ executed_sizes k.config k.node.at ms (head_of k.node.at.jobs.jobs) k.node.config.apid
+      front in
+      let read : Option ℕ = length_refusal (unready k) (first_read k) octets in
+      let unsent : sending_refusal read k.outbox.items ≡ None =
+      sym (ap (λ (o : Kept). elsewhere_refusal o (sending_refusal read k.outbox.items)) known)
+      ∙ done.0 in
+      let none : unready k ≡ None =
+      not_short (unready k) (first_read k) octets (not_unsent read k.outbox.items unsent) in (
+        (
+          tt,
+          sym (λ i. refusal_apply (are.craft.node i)) ∙ no_fault (refusal_apply k.node.at) none,
+        ),
+        craft_becomes c p (after_all c p (moves Craft (ExecuteGiven octets)))
+            g k new are done.1.fixed.side done.1.fixed.config
+            (done.1.node ∙ ap (λ (x : NodeData × Execution). x.0) over) refl
+            (done.1.fixed.memories ∙ known ∙ ap Elsewhere (sym sizes)
+            ∙ sym (ap (λ (w : Place). kept_in w is.1) at))
+            are.tickets
+            (beside p.ends (after_all c p (moves Craft (ExecuteGiven octets))).ends Up Down None
+            g.outbox.items is.0.1.packets refl are.upwards)
+            (replaces p.ends (after_all c p (moves Craft (ExecuteGiven octets))).ends Down None
+            new.outbox.items is.0.1.packets refl
+            (done.1.outbox ∙ ap (λ (x : NodeData × Execution). x.1.packets) over)),
+      )
 
   on_craft : (call : Call) → IsMoveOfCraft c p g k call
   on_craft (Open name m) new done vow = (
@@ -419,8 +529,9 @@ module _ (c : Config) (p : Pair) (g k : End) (are : AreEndsOf c p g k) where
   )
   on_craft Read new done vow =
       let none : node_code (refusal_claim k.node.at) ≡ None =
-      sym (ap (λ (ms : Option Contents). memories_refusal ms (node_code
-      (refusal_claim k.node.at))) are.craft.memories) ∙ done.0 in
+      sym (ap (λ (o : Kept). memories_refusal o (node_code
+      (refusal_claim k.node.at))) are.craft.memories
+      ∙ refusal_kept are.place p.ends.memories (node_code (refusal_claim k.node.at))) ∙ done.0 in
       let t : Job = (claimed p.ends.on_craft).1 in (
         (
           (
@@ -436,7 +547,9 @@ module _ (c : Config) (p : Pair) (g k : End) (are : AreEndsOf c p g k) where
         craft_becomes c p (after_all c p (moves Craft Read))
             g k new are done.1.fixed.side done.1.fixed.config
             (done.1.node
-            ∙ reads are.craft)
+            ∙ reads are.craft
+            ∙ ap (λ (o : Option Sizes). read_by c o p.ends.on_craft)
+            (sizes_kept are.place p.ends.memories))
             refl
             (done.1.fixed.memories ∙ are.craft.memories)
             (λ i. with_ticket (with_ticket (are.tickets i) W1 (Some t)) W1 None)
@@ -445,34 +558,8 @@ module _ (c : Config) (p : Pair) (g k : End) (are : AreEndsOf c p g k) where
             (quiet_craft (after_all c p (moves Craft Read)).ends new.outbox.items refl
             done.1.outbox).1,
       )
-  on_craft Execute new done vow =
-      let unsent : sending_refusal (node_code (refusal_apply k.node.at)) k.outbox.items ≡ None =
-      sym (ap (λ (ms : Option Contents). memories_refusal ms (sending_refusal (node_code
-      (refusal_apply k.node.at)) k.outbox.items)) are.craft.memories) ∙ done.0 in
-      let none : node_code (refusal_apply k.node.at) ≡ None =
-      not_unsent (node_code (refusal_apply k.node.at)) k.outbox.items unsent in (
-        (
-          tt,
-          sym (λ i. refusal_apply (are.craft.node i)) ∙ no_fault (refusal_apply k.node.at) none,
-        ),
-        craft_becomes c p (after_all c p (moves Craft Execute))
-            g k new are done.1.side done.1.config
-            (done.1.node
-            ∙ ap (λ (x : (NodeData × Execution) × Option Contents). x.0.0)
-            (executes are.craft)) refl
-            (done.1.memories
-            ∙ ap (λ (x : (NodeData × Execution) × Option Contents). x.1)
-            (executes are.craft))
-            are.tickets
-            (beside p.ends (after_all c p (moves Craft Execute)).ends Up Down None
-            g.outbox.items (executed c p.ends.on_craft p.ends.memories).0.1.packets refl
-            are.upwards)
-            (replaces p.ends (after_all c p (moves Craft Execute)).ends Down None
-            new.outbox.items (executed c p.ends.on_craft p.ends.memories).0.1.packets refl
-            (done.1.outbox
-            ∙ ap (λ (x : (NodeData × Execution) × Option Contents). x.0.1.packets)
-            (executes are.craft))),
-      )
+  on_craft Execute new done vow = craft_executes are.place refl new done vow
+  on_craft (ExecuteGiven octets) new done vow = craft_given octets are.place refl new done vow
   on_craft (Retire direction name) new done vow =
       free_craft (direction_by direction) name new vow.0 vow.1 done.fixed done.node done.outbox
   on_craft Restart new done vow = (
@@ -488,12 +575,34 @@ module _ (c : Config) (p : Pair) (g k : End) (are : AreEndsOf c p g k) where
         (tt, tt),
         record {
           ground = are.ground;
+          place = are.place;
           craft = record {
             side = done.side ∙ are.craft.side;
             ticks = vow.ticks;
             config = done.config ∙ vow.configured;
-            node = resumed_node c Craft p.ends.on_craft (Some p.ends.memories) k new config state
-                ms content are.craft vow done;
+            node = resumed_node c Craft p.ends.on_craft (kept_in are.place p.ends.memories) k new
+                config state (memories_of k.side ms content) are.craft vow done;
+            memories = done.memories ∙ vow.memories ∙ are.craft.memories;
+          };
+          tickets = are.tickets;
+          upwards = stays p.ends f Up g.outbox.items g.outbox.items refl refl are.upwards;
+          downwards = subst (λ (xs : List (List ℕ)). AllOnTheWay f Down xs) (sym done.outbox) tt;
+        },
+      )
+  on_craft (ResumeSized config state sizes) new done vow =
+      let f : Ends = (after_all c p (moves Craft (ResumeSized config state sizes))).ends in (
+        (tt, tt),
+        record {
+          ground = are.ground;
+          place = are.place;
+          craft = record {
+            side = done.side;
+            ticks = vow.ticks;
+            config = done.config ∙ vow.configured;
+            node = resumed_node c Craft p.ends.on_craft (kept_in are.place p.ends.memories) k new
+                config state (kept_as sizes) are.craft vow
+                (subst (λ (s : Side). IsResumedWith s config state (kept_as sizes) new)
+                (sym are.craft.side) done);
             memories = done.memories ∙ vow.memories ∙ are.craft.memories;
           };
           tickets = are.tickets;

@@ -3,7 +3,10 @@ use Rattle.std.proofs.Common.{◌≡◌, ◌∙◌, ap, refl, ℕ, List, [], ◌
 use Rattle.std.specs.FinMap as maps
 use Rattle.lpt_apart.specs.Clocks.{later}
 use Rattle.lpt_c_end.specs.Changes.{delivery, expiry, read_by, execution_by}
+use Rattle.lpt_c_end.specs.Kept.{sizes_in}
 use Rattle.lpt_c_end.specs.declared.end.End.{End}
+use Rattle.lpt_c_end.specs.declared.kept.Kept.{Kept}
+use Rattle.lpt_c_end.specs.declared.kept.Kept.TheVariants.{Nowhere, Here, Elsewhere}
 use Rattle.lpt_c_pair.specs.Pairs.{IsEndOf}
 use Rattle.lpt_packet.specs.Names.{Name}
 use Rattle.lpt_events.specs.Arrivals.{Arrival, NotRead, AnIdle, Foreign, ARequest, AReport, NoPart, APart, AnAbort, arrival}
@@ -18,10 +21,11 @@ use Rattle.lpt_ledger.specs.LeastFree.{least_free_in}
 use Rattle.lpt_ledger.specs.States.{state_at}
 use Rattle.lpt_ledger.specs.declared.state.State.{State}
 use Rattle.lpt_ledger.specs.declared.state.State.TheVariants.{Free, Open, Closed}
+use Rattle.lpt_memory.specs.Meanings.{Sizes}
 use Rattle.lpt_memory.specs.Memories.{Contents, effect}
 use Rattle.lpt_memory.specs.Readings.{Source, meant}
 use Rattle.lpt_node.specs.Accepting.{accepted}
-use Rattle.lpt_node.specs.Jobs.{Execution, ending_at, report_packet, report_packets, reported, with_opened, executed_of}
+use Rattle.lpt_node.specs.Jobs.{Execution, ending_at, report_packet, report_packets, reported, with_opened, executed, executed_of}
 use Rattle.lpt_node.specs.Nodes.{Sending, NodeData, message_at}
 use Rattle.lpt_node.specs.Requests.{refusal_plain, plain_made}
 use Rattle.lpt_node.specs.Sending.{refusal_open, refusal_open_in, refusal_send, refusal_send_of, sent, sent_of, counted_kind}
@@ -99,8 +103,8 @@ module _ (c : Config) (t : ℕ) where
       ap (λ (x : List (Report × List ℕ)). (made_of d r end x, effect (meant r) ms))
       (reports peer d.sending d.clock rs)
 
-module _ {c : Config} {s : Side} {n : NodeData} {ms : Option Contents} {e : End}
-    (is : IsEndOf c s n ms e) where
+module _ {c : Config} {s : Side} {n : NodeData} {kept : Kept} {e : End}
+    (is : IsEndOf c s n kept e) where
   pub refuses_open : (name : Name) (len : ℕ)
       → refusal_open e.config e.node.at name len ≡ refusal_open c n name len
   refuses_open name len =
@@ -143,17 +147,22 @@ module _ {c : Config} {s : Side} {n : NodeData} {ms : Option Contents} {e : End}
       (λ i. expired (is.side i) (is.config i) (is.node i))
       ∙ given_up c is.ticks s n (due c n)
 
-  pub reads : read_by e.config e.memories e.node.at ≡ read_by c ms n
-  reads = (λ i. read_by (is.config i) (is.memories i) (is.node i)) ∙ read_of ms where
-    read_of : (o : Option Contents) → read_by (later is.ticks c) o n ≡ read_by c o n
-    read_of None = refl
-    read_of (Some m) = refl
+  pub reads : read_by e.config (sizes_in e.memories) e.node.at ≡ read_by c (sizes_in kept) n
+  reads = (λ i. read_by (is.config i) (sizes_in (is.memories i)) (is.node i)) ∙ read_of
+      (sizes_in kept) where
+        read_of : (o : Option Sizes) → read_by (later is.ticks c) o n ≡ read_by c o n
+        read_of None = refl
+        read_of (Some sizes) = refl
 
-  pub executes : execution_by e.config e.memories e.node.at ≡ execution_by c ms n
-  executes = (λ i. execution_by (is.config i) (is.memories i) (is.node i)) ∙ done_by ms where
-    done_by : (o : Option Contents)
-        → execution_by (later is.ticks c) o n ≡ execution_by c o n
-    done_by None = refl
-    done_by (Some m) =
-        ap (λ (x : (NodeData × Execution) × Contents). (x.0, Some x.1))
+  pub executes : execution_by e.config e.memories e.node.at ≡ execution_by c kept n
+  executes = (λ i. execution_by (is.config i) (is.memories i) (is.node i)) ∙ done_by kept where
+    done_by : (o : Kept) → execution_by (later is.ticks c) o n ≡ execution_by c o n
+    done_by Nowhere = refl
+    done_by (Here m) =
+        ap (λ (x : (NodeData × Execution) × Contents). (x.0, Here x.1))
         (done_of c is.ticks n m (head_of n.jobs.jobs))
+    done_by (Elsewhere sizes) = refl
+
+  pub executes_over : (m : Contents) → executed e.config e.node.at m ≡ executed c n m
+  executes_over m =
+      (λ i. executed (is.config i) (is.node i) m) ∙ done_of c is.ticks n m (head_of n.jobs.jobs)

@@ -5,11 +5,12 @@ use Rattle.lpt_c_end.specs.Changes.{IsFixed}
 use Rattle.lpt_c_end.specs.Codes.{node_code}
 use Rattle.lpt_c_end.specs.Refusals.{sending_refusal}
 use Rattle.lpt_c_end.specs.declared.end.End.{End}
+use Rattle.lpt_c_end.specs.Kept.{memories_refusal, sizes_in}
 use Rattle.lpt_c_pair.specs.Outboxes.{AllOnTheWay}
-use Rattle.lpt_c_pair.specs.Pairs.{AreEndsOf}
+use Rattle.lpt_c_pair.specs.Pairs.{AreEndsOf, Place, InEnd, WithProgram, kept_in}
 use Rattle.lpt_packet.specs.declared.direction.Direction.TheVariants.{Up, Down}
 use Rattle.lpt_events.specs.declared.config.Config.{Config}
-use Rattle.lpt_memory.specs.Memories.{Contents}
+use Rattle.lpt_memory.specs.Memories.{Contents, sizes_of}
 use Rattle.lpt_node.specs.declared.fault.NodeFault.{NodeFault}
 use Rattle.lpt_model.specs.Tickets.{no_tickets}
 
@@ -33,6 +34,19 @@ pub not_unsent : (o : Option ℕ) (packets : List (List ℕ)) → sending_refusa
 not_unsent None packets e = refl
 not_unsent (Some code) packets e = absurd cc
 
+-- ---- memories
+
+-- an end knows their sizes wherever they are
+pub sizes_kept : (w : Place) (ms : Contents) → sizes_in (kept_in w ms) ≡ Some (sizes_of ms)
+sizes_kept InEnd ms = refl
+sizes_kept WithProgram ms = refl
+
+-- what needs no octets of them isn't refused wherever they are
+pub refusal_kept : (w : Place) (ms : Contents) (o : Option ℕ)
+    → memories_refusal (kept_in w ms) o ≡ o
+refusal_kept InEnd ms o = refl
+refusal_kept WithProgram ms o = refl
+
 -- ---- ends
 
 -- ground's end became another
@@ -54,12 +68,13 @@ ground_becomes c p q g new k are fixed node craft memories tickets up down = rec
     node = node;
     memories = fixed.memories ∙ are.ground.memories;
   };
+  place = are.place;
   craft = record {
     side = are.craft.side;
     ticks = are.craft.ticks;
     config = are.craft.config;
     node = are.craft.node ∙ sym craft;
-    memories = are.craft.memories ∙ ap (λ (ms : Contents). Some ms) (sym memories);
+    memories = are.craft.memories ∙ ap (kept_in are.place) (sym memories);
   };
   tickets = tickets ∙ are.tickets;
   upwards = up;
@@ -68,12 +83,12 @@ ground_becomes c p q g new k are fixed node craft memories tickets up down = rec
 
 -- the spacecraft's end became another
 pub craft_becomes : (c : Config) (p q : Pair) (g k new : End)
-    → AreEndsOf c p g k
+    (are : AreEndsOf c p g k)
     → new.side ≡ k.side
     → new.config ≡ k.config
     → new.node.at ≡ q.ends.on_craft
     → q.ends.on_ground ≡ p.ends.on_ground
-    → new.memories ≡ Some q.ends.memories
+    → new.memories ≡ kept_in are.place q.ends.memories
     → q.ends.tickets ≡ no_tickets
     → AllOnTheWay q.ends Up g.outbox.items
     → AllOnTheWay q.ends Down new.outbox.items
@@ -86,6 +101,7 @@ craft_becomes c p q g k new are side config node on_ground memories tickets up d
     node = are.ground.node ∙ sym on_ground;
     memories = are.ground.memories;
   };
+  place = are.place;
   craft = record {
     side = side ∙ are.craft.side;
     ticks = are.craft.ticks;
@@ -111,5 +127,5 @@ pub craft_fixed : (c : Config) (p q : Pair) (g k new : End)
     → AreEndsOf c q g new
 craft_fixed c p q g k new are fixed node on_ground memories tickets up down =
     craft_becomes c p q g k new are fixed.side fixed.config node on_ground
-    (fixed.memories ∙ are.craft.memories ∙ ap (λ (ms : Contents). Some ms) (sym memories))
+    (fixed.memories ∙ are.craft.memories ∙ ap (kept_in are.place) (sym memories))
     (tickets ∙ are.tickets) up down

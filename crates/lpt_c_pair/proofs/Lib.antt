@@ -2,7 +2,8 @@ pub mod Answering
 pub mod Calls
 pub mod Clockless
 pub mod Dropping
-pub mod GroundReports
+pub mod GivenLemmas
+mod GroundReports
 pub mod Lemmas
 pub mod Loading
 pub mod Resuming

@@ -6,6 +6,8 @@ use Rattle.std.proofs.lemmas.Bool.{eqb-true}
 use Rattle.lpt_c_end.specs.Areas.{body_of_load, load_in}
 use Rattle.lpt_c_end.specs.Changes.{execution_by, execution_of, IsExecuted}
 use Rattle.lpt_c_end.specs.declared.end.End.{End}
+use Rattle.lpt_c_end.specs.declared.kept.Kept.{Kept}
+use Rattle.lpt_c_end.specs.declared.kept.Kept.TheVariants.{Here}
 use Rattle.lpt_c_pair.specs.Loads.{IsCarriedOut, IsRefused, LoadsGoWhereTheySay, read_for}
 use Rattle.lpt_jobs.specs.Jobs.{Head, Ready, head_of}
 use Rattle.lpt_memory.specs.Effects.{answer}
@@ -87,21 +89,21 @@ module _ (e new : End) (ms : Contents) (message : List ℕ) where
   d = e.node.at
 
   -- what is made of a request that means this
-  abbrev out_of : Meaning → (NodeData × Execution) × Option Contents
+  abbrev out_of : Meaning → (NodeData × Execution) × Kept
   out_of m = (
     executed_ending e.config d s
         (ending e.config.part_size
         (is_some (least_free_in d.sending.ledger (request_source s.apid s.message)))
         (nat_lt (map.len d.sending.messages) e.config.outgoing) (answer m ms)),
-    Some (effect m ms),
+    Here (effect m ms),
   )
 
-  executes : e.memories ≡ Some ms
+  executes : e.memories ≡ Here ms
       → head_of d.jobs.jobs ≡ Ready s
       → execution_of e ≡ out_of (meant s)
   executes some front =
-      ap (λ (o : Option Contents). execution_by e.config o d) some
-      ∙ ap (λ (x : (NodeData × Execution) × Contents). (x.0, Some x.1))
+      ap (λ (o : Kept). execution_by e.config o d) some
+      ∙ ap (λ (x : (NodeData × Execution) × Contents). (x.0, Here x.1))
       (ap (λ (h : Head). executed_of e.config d ms h) front)
 
   settled : (r : Request LoadArea)
@@ -113,15 +115,15 @@ module _ (e new : End) (ms : Contents) (message : List ℕ) where
       let all = out ∙ ap out_of is in
       inl (record {
         opened = _;
-        applied = ap (λ (x : (NodeData × Execution) × Option Contents). x.0.1.applied) all;
-        memories = done.memories ∙ ap (λ (x : (NodeData × Execution) × Option Contents). x.1) all;
+        applied = ap (λ (x : (NodeData × Execution) × Kept). x.0.1.applied) all;
+        memories = done.memories ∙ ap (λ (x : (NodeData × Execution) × Kept). x.1) all;
       })
   settled r (Fails code is) out done =
       let all = out ∙ ap out_of is in
       inr (record {
         code = code;
-        applied = ap (λ (x : (NodeData × Execution) × Option Contents). x.0.1.applied) all;
-        memories = done.memories ∙ ap (λ (x : (NodeData × Execution) × Option Contents). x.1) all;
+        applied = ap (λ (x : (NodeData × Execution) × Kept). x.0.1.applied) all;
+        memories = done.memories ∙ ap (λ (x : (NodeData × Execution) × Kept). x.1) all;
       })
 
 pub loads_go : LoadsGoWhereTheySay

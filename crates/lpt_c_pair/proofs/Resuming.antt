@@ -1,13 +1,12 @@
 -- An end that is made again of what was kept of it has the node that a restart leaves.
-use Rattle.std.proofs.Common.{◌≡◌, ◌∙◌, ap, sym, refl, ℕ, List, Option, Result, Ok, Err}
+use Rattle.std.proofs.Common.{◌≡◌, ◌∙◌, ap, sym, refl, ℕ, List, Result, Ok, Err}
 use Rattle.lpt_apart.specs.Clocks.{later}
-use Rattle.lpt_c_end.specs.Keeping.{IsResumed}
+use Rattle.lpt_c_end.specs.Keeping.{IsResumedWith}
 use Rattle.lpt_c_end.specs.declared.end.End.{End}
-use Rattle.lpt_c_end.specs.declared.memories.LptMemory.{LptMemory}
+use Rattle.lpt_c_end.specs.declared.kept.Kept.{Kept}
 use Rattle.lpt_c_pair.specs.Pairs.{IsEndOf, IsKept}
 use Rattle.lpt_events.specs.declared.config.Config.{Config}
 use Rattle.lpt_events.specs.declared.side.Side.{Side}
-use Rattle.lpt_memory.specs.Memories.{Contents}
 use Rattle.lpt_node.specs.Nodes.{NodeData, NodeView}
 use Rattle.lpt_node.specs.Restarts.{restarted}
 use Rattle.lpt_state.specs.declared.fault.StateFault.{StateFault}
@@ -33,14 +32,14 @@ clockless : (s : Side) (a b : ℕ) (c : Config) (octets : List ℕ)
 unfolding verdict
 clockless s a b c octets = refl
 
-pub resumed_node : (c : Config) (s : Side) (n : NodeData) (o : Option Contents) (e new : End)
-    (config : Config) (state : List ℕ) (ms : List LptMemory) (content : List ℕ)
+pub resumed_node : (c : Config) (s : Side) (n : NodeData) (o : Kept) (e new : End)
+    (config : Config) (state : List ℕ) (own : Kept)
     → IsEndOf c s n o e
-    → IsKept c e config state ms content
-    → IsResumed e.side config state ms content new
+    → IsKept c e config state own
+    → IsResumedWith e.side config state own new
     → new.node.at ≡ restarted n
 unfolding node_of
-resumed_node c s n o e new config state ms content is kept done =
+resumed_node c s n o e new config state own is kept done =
     let d : NodeData = n in
     let octets : List ℕ = spelled e.node in
     ap (node_of d) (sym done.node)

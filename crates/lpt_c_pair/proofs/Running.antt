@@ -1,15 +1,16 @@
 -- Two ends behind handles keep the promise, whatever calls are made of them.
-use Rattle.std.proofs.Common.{ap, sym, subst, refl, ℕ, List, [], ◌∷◌}
+use Rattle.std.proofs.Common.{◌∙◌, ap, sym, subst, refl, ℕ, List, [], ◌∷◌}
 use Rattle.lpt_apart.specs.Clocks.{later, no_pair_later}
 use Rattle.lpt_apart.specs.Ends.{Ends}
 use Rattle.lpt_apart.proofs.Clocks.{IsReached, joined, begun_later, reached_keep}
-use Rattle.lpt_c_end.specs.Changes.{IsNew}
+use Rattle.lpt_c_end.specs.Changes.{IsNew, IsNewWith}
 use Rattle.lpt_c_end.specs.Contents.{memories_told}
 use Rattle.lpt_c_end.specs.declared.end.End.{End}
+use Rattle.lpt_c_end.specs.declared.kept.Kept.TheVariants.{Elsewhere}
 use Rattle.lpt_c_end.specs.declared.memories.LptMemory.{LptMemory}
 use Rattle.lpt_c_pair.specs.Outboxes.{AllOnTheWay}
-use Rattle.lpt_c_pair.specs.Pairs.{AreEndsOf, Call, moves}
-use Rattle.lpt_c_pair.specs.Runs.{Turn, Standing, begun, turned_by, CanTurnBy, stood, CanStand, EndsOfCKeepThePromise}
+use Rattle.lpt_c_pair.specs.Pairs.{AreEndsOf, Call, Place, InEnd, WithProgram, kept_in, moves}
+use Rattle.lpt_c_pair.specs.Runs.{Turn, Standing, begun, turned_by, CanTurnBy, stood, CanStand, EndsOfCKeepThePromise, EndsOverOtherMemoriesKeepThePromise, KeepsThePromise}
 use Rattle.lpt_c_pair.proofs.Calls.{calls_are_moves}
 use Rattle.lpt_packet.specs.declared.direction.Direction.TheVariants.{Up, Down}
 use Rattle.lpt_events.specs.Configs.{IsConfig}
@@ -43,18 +44,18 @@ stand c first s [] r can = r
 stand c first s (t ∷ ts) r can =
     turn c first (stood c s ts) t.side t.call t.new (stand c first s ts r can.0) can.1
 
-begins : (c : Config) (a b : ℕ) (none : List LptMemory) (nothing : List ℕ) (ms : List LptMemory)
-    (content : List ℕ)
+begins : (c : Config) (a b : ℕ) (none : List LptMemory) (nothing : List ℕ) (w : Place)
+    (first : Contents)
     (g k : End)
     → IsConfig (later a c)
     → IsConfig (later b c)
     → IsNew Ground (later a c) none nothing g
-    → IsNew Craft (later b c) ms content k
-    → IsStood c (memories_told content ms) (begun c (memories_told content ms) a b g k)
-begins c a b none nothing ms content g k good_g good_k new_g new_k =
-    let ends : Ends = (no_pair_later c (memories_told content ms) a b).ends in
+    → IsNewWith Craft (later b c) (kept_in w first) k
+    → IsStood c first (begun c first a b g k)
+begins c a b none nothing w first g k good_g good_k new_g new_k =
+    let ends : Ends = (no_pair_later c first a b).ends in
     record {
-      reached = begun_later c (memories_told content ms) a b good_g good_k;
+      reached = begun_later c first a b good_g good_k;
       ends = record {
         ground = record {
           side = new_g.side;
@@ -63,6 +64,7 @@ begins c a b none nothing ms content g k good_g good_k new_g new_k =
           node = ap (λ (n : NodeView). n.at) new_g.node;
           memories = new_g.memories;
         };
+        place = w;
         craft = record {
           side = new_k.side;
           ticks = b;
@@ -78,14 +80,39 @@ begins c a b none nothing ms content g k good_g good_k new_g new_k =
       };
     }
 
-pub ends_of_c_keep_the_promise : EndsOfCKeepThePromise
-ends_of_c_keep_the_promise c a b none nothing ms content g k ts good_g good_k new_g new_k can =
-    let first : Contents = memories_told content ms in
+-- wherever the spacecraft's memories are
+keeps : (c : Config) (a b : ℕ) (none : List LptMemory) (nothing : List ℕ) (w : Place)
+    (first : Contents)
+    (g k : End)
+    (ts : List Turn)
+    → IsConfig (later a c)
+    → IsConfig (later b c)
+    → IsNew Ground (later a c) none nothing g
+    → IsNewWith Craft (later b c) (kept_in w first) k
+    → CanStand c (begun c first a b g k) ts
+    → KeepsThePromise c first (stood c (begun c first a b g k) ts)
+keeps c a b none nothing w first g k ts good_g good_k new_g new_k can =
     let r : IsStood c first (stood c (begun c first a b g k) ts) =
     stand c first (begun c first a b g k) ts
-    (begins c a b none nothing ms content g k good_g good_k new_g new_k) can in
+    (begins c a b none nothing w first g k good_g good_k new_g new_k) can in
     record {
       ends = r.ends;
       promised =
           reached_keep c first a (stood c (begun c first a b g k) ts).pair good_g r.reached;
     }
+
+pub ends_of_c_keep_the_promise : EndsOfCKeepThePromise
+ends_of_c_keep_the_promise c a b none nothing ms content g k ts good_g good_k new_g new_k can =
+    keeps c a b none nothing InEnd (memories_told content ms) g k ts good_g good_k new_g new_k can
+
+pub ends_over_other_memories_keep_the_promise : EndsOverOtherMemoriesKeepThePromise
+ends_over_other_memories_keep_the_promise c a b none nothing sizes first g k ts good_g good_k same
+    new_g new_k can =
+    keeps c a b none nothing WithProgram first g k ts good_g good_k new_g (record {
+      side = new_k.side;
+      config = new_k.config;
+      node = new_k.node;
+      memories = new_k.memories ∙ ap Elsewhere same;
+      released = new_k.released;
+      outbox = new_k.outbox;
+    }) can

@@ -1,5 +1,6 @@
 -- A call that answers 0 was refused by nothing.
 use Rattle.std.specs.Prelude.{◌≡◌, ℕ, List, None}
+use Rattle.lpt_c_end.specs.Accesses.{given_refusal}
 use Rattle.lpt_c_end.specs.Codes.{IsAnswer, answer}
 use Rattle.lpt_c_end.specs.Refusals.{open_refusal, part_refusal, plain_refusal, finish_refusal, sent_refusal, expire_refusal, tick_refusal, read_refusal, execute_refusal}
 use Rattle.lpt_c_end.specs.declared.end.End.{End}
@@ -23,6 +24,8 @@ pub record ZeroIsDone (e : End) : Type 0 where
   pub ticked : 0 ≡ answer (tick_refusal e) → tick_refusal e ≡ None
   pub read : IsAnswer (read_refusal e) 0 → read_refusal e ≡ None
   pub executed : IsAnswer (execute_refusal e) 0 → execute_refusal e ≡ None
+  pub given : (octets : List ℕ) → IsAnswer (given_refusal octets e) 0
+      → given_refusal octets e ≡ None
 
 -- of whatever end
 abbrev pub ZeroIsAlwaysDone : Type 0

@@ -3,6 +3,7 @@ use Rattle.std.specs.Prelude.{◌≡◌, ◌⊎◌, ℕ, List, map, Option, Some
 use Rattle.lpt_c_end.specs.Areas.{load_in}
 use Rattle.lpt_c_end.specs.Changes.{execution_of, IsExecuted}
 use Rattle.lpt_c_end.specs.declared.end.End.{End}
+use Rattle.lpt_c_end.specs.declared.kept.Kept.TheVariants.{Here}
 use Rattle.lpt_events.specs.declared.applied.Applied.TheVariants.{Done, Code}
 use Rattle.lpt_jobs.specs.Jobs.{head_of, Ready}
 use Rattle.lpt_memory.specs.Meanings.{area}
@@ -16,13 +17,13 @@ use Rattle.lpt_pus.specs.declared.failure_code.FailureCode.{FailureCode}
 pub record IsCarriedOut (r : Request LoadArea) (ms : Contents) (e new : End) : Type 0 where
   pub opened : Option Name
   pub applied : (execution_of e).0.1.applied ≡ Done opened
-  pub memories : new.memories ≡ Some (loaded r.memory (map area r.areas) ms)
+  pub memories : new.memories ≡ Here (loaded r.memory (map area r.areas) ms)
 
 -- it was refused: nothing was written
 pub record IsRefused (ms : Contents) (e new : End) : Type 0 where
   pub code : FailureCode
   pub applied : (execution_of e).0.1.applied ≡ Code code
-  pub memories : new.memories ≡ Some ms
+  pub memories : new.memories ≡ Here ms
 
 -- a message, as it is read for these memories
 abbrev pub read_for : (apid : ℕ) → Contents → List ℕ → Source
@@ -32,7 +33,7 @@ read_for apid ms message = record { apid = apid; sizes = sizes_of ms; message = 
 abbrev pub LoadsGoWhereTheySay : Type 0
 LoadsGoWhereTheySay =
     (e new : End) (ms : Contents) (message body : List ℕ) (r : Request LoadArea)
-    → e.memories ≡ Some ms
+    → e.memories ≡ Here ms
     → head_of e.node.at.jobs.jobs ≡ Ready (read_for e.config.apid ms message)
     → load_in e.config.apid message ≡ Some body
     → request_in front_load_area body ≡ Some r

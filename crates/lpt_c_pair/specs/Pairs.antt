@@ -1,16 +1,21 @@
 -- Two ends behind handles of C as two ends apart.
-use Rattle.std.specs.Prelude.{◌≡◌, ℕ, ◌+◌, ◌<◌, ◌^◌, List, [], ◌∷◌, Option, Some, None, ⊤}
+use Rattle.std.specs.Prelude.{◌≡◌, ℕ, ◌+◌, ◌<◌, ◌^◌, List, [], ◌∷◌, None, ⊤}
 use Rattle.lpt_apart.specs.Clocks.{later, after_all, CanAll}
 use Rattle.lpt_apart.specs.Moves.{Pair, Move, Do, Free, CanMove}
 use Rattle.lpt_apart.specs.Steps as step
 use Rattle.lpt_apart.specs.Steps.{MayCome}
+use Rattle.lpt_c_end.specs.Accesses.{IsExecutedGiven, given_refusal}
 use Rattle.lpt_c_end.specs.Changes.{IsOpened, IsPartMade, IsPlainMade, IsFinished, IsLetGo, IsDelivered, IsExpired, IsTicked, IsRead, IsExecuted, IsRetired, IsRestarted}
 use Rattle.lpt_c_end.specs.Contents.{memories_of}
 use Rattle.lpt_c_end.specs.Keeping.{IsResumed, ReadsAsRestarted}
 use Rattle.lpt_c_end.specs.Refusals.{open_refusal, part_refusal, plain_refusal, finish_refusal, sent_refusal, expire_refusal, tick_refusal, read_refusal, execute_refusal}
+use Rattle.lpt_c_end.specs.Sizes.{kept_as, IsResumedSized}
 use Rattle.lpt_c_end.specs.Words.{direction_from as direction_by}
 use Rattle.lpt_c_end.specs.declared.end.End.{End}
+use Rattle.lpt_c_end.specs.declared.kept.Kept.{Kept}
+use Rattle.lpt_c_end.specs.declared.kept.Kept.TheVariants.{Nowhere, Here, Elsewhere}
 use Rattle.lpt_c_end.specs.declared.memories.LptMemory.{LptMemory}
+use Rattle.lpt_c_end.specs.declared.sizing.LptSize.{LptSize}
 use Rattle.lpt_c_pair.specs.Outboxes.{AllOnTheWay, NoneWaits}
 use Rattle.lpt_packet.specs.declared.direction.Direction.{Direction}
 use Rattle.lpt_packet.specs.declared.direction.Direction.TheVariants.{Up, Down}
@@ -22,28 +27,42 @@ use Rattle.lpt_events.specs.declared.event.Event.TheVariants as event
 use Rattle.lpt_events.specs.declared.side.Side.{Side}
 use Rattle.lpt_events.specs.declared.side.Side.TheVariants.{Ground, Craft}
 use Rattle.lpt_events.specs.declared.worker.Worker.TheVariants.{W1}
-use Rattle.lpt_memory.specs.Memories.{Contents}
+use Rattle.lpt_jobs.specs.Jobs.{head_of}
+use Rattle.lpt_memory.specs.Memories.{Contents, sizes_of}
+use Rattle.lpt_node.specs.Jobs.{FrontHolds}
 use Rattle.lpt_node.specs.Nodes.{NodeData, direction_from}
 use Rattle.lpt_model.specs.Tickets.{no_tickets}
 use Rattle.lpt_state.specs.Spellings.{spelled}
 
 -- ---- ends
 
+-- the spacecraft's memories are in its end, or with its program
+pub data Place : Type 0 where
+  InEnd : Place
+  WithProgram : Place
+
+-- what its end keeps of these memories: all, or their identifiers and sizes
+abbrev pub kept_in : Place → Contents → Kept
+kept_in InEnd ms = Here ms
+kept_in WithProgram ms = Elsewhere (sizes_of ms)
+
 -- an end of this side has this node and these memories, and its configuration is this but for the
 -- clock that it began with
-pub record IsEndOf (c : Config) (s : Side) (n : NodeData) (ms : Option Contents)
+pub record IsEndOf (c : Config) (s : Side) (n : NodeData) (kept : Kept)
     (e : End) : Type 0 where
   pub side : e.side ≡ s
   pub ticks : ℕ
   pub config : e.config ≡ later ticks c
   pub node : e.node.at ≡ n
-  pub memories : e.memories ≡ ms
+  pub memories : e.memories ≡ kept
 
 -- two ends behind handles are those of two ends apart, none of whose workers has a job; what waits
--- in their outboxes is on the way
+-- in their outboxes is on the way. Memories that are with the spacecraft's program are those of the
+-- two ends apart by its promise: it writes what it is told
 pub record AreEndsOf (c : Config) (p : Pair) (on_ground on_craft : End) : Type 0 where
-  pub ground : IsEndOf c Ground p.ends.on_ground None on_ground
-  pub craft : IsEndOf c Craft p.ends.on_craft (Some p.ends.memories) on_craft
+  pub ground : IsEndOf c Ground p.ends.on_ground Nowhere on_ground
+  pub place : Place
+  pub craft : IsEndOf c Craft p.ends.on_craft (kept_in place p.ends.memories) on_craft
   pub tickets : p.ends.tickets ≡ no_tickets
   pub upwards : AllOnTheWay p.ends Up on_ground.outbox.items
   pub downwards : AllOnTheWay p.ends Down on_craft.outbox.items
@@ -63,9 +82,11 @@ pub data Call : Type 0 where
   Tick : Call
   Read : Call
   Execute : Call
+  ExecuteGiven : (octets : List ℕ) → Call
   Retire : (direction : ℕ) → Name → Call
   Restart : Call
   Resume : Config → (state : List ℕ) → List LptMemory → (content : List ℕ) → Call
+  ResumeSized : Config → (state : List ℕ) → List LptSize → Call
 
 -- a call has answered 0: its end didn't refuse it, and became this
 abbrev pub IsDone : Call → End → End → Type 0
@@ -81,9 +102,12 @@ IsDone Expire e new = (expire_refusal e ≡ None) × IsExpired e new
 IsDone Tick e new = (tick_refusal e ≡ None) × IsTicked e new
 IsDone Read e new = (read_refusal e ≡ None) × IsRead e new
 IsDone Execute e new = (execute_refusal e ≡ None) × IsExecuted e new
+IsDone (ExecuteGiven octets) e new =
+    (given_refusal octets e ≡ None) × IsExecutedGiven octets e new
 IsDone (Retire direction name) e new = IsRetired direction name e new
 IsDone Restart e new = IsRestarted e new
 IsDone (Resume config state ms content) e new = IsResumed e.side config state ms content new
+IsDone (ResumeSized config state sizes) e new = IsResumedSized config state sizes new
 
 -- ---- moves
 
@@ -107,22 +131,24 @@ moves side Expire = Do (step.Expire side) ∷ []
 moves side Tick = Do (step.Tick side) ∷ []
 moves side Read = Do (step.Commit W1) ∷ Do (step.Claim W1) ∷ []
 moves side Execute = Do step.Apply ∷ []
+moves side (ExecuteGiven octets) = Do step.Apply ∷ []
 moves side (Retire direction name) = freeing side (direction_by direction) name ∷ []
 moves side Restart = Do (step.Restart side) ∷ []
 moves side (Resume config state ms content) = Do (step.Restart side) ∷ []
+moves side (ResumeSized config state sizes) = Do (step.Restart side) ∷ []
 
 -- ---- what the program promises
 
 -- what was kept of an end is this state, which reads as its restart, and these memories; nothing
 -- happened at it since, and a number is left for a start
 pub record IsKept (c : Config) (e : End) (config : Config) (state : List ℕ)
-    (ms : List LptMemory) (content : List ℕ) : Type 0 where
+    (kept : Kept) : Type 0 where
   pub ticks : ℕ
   pub configured : config ≡ later ticks c
   pub state_is : state ≡ spelled e.node
   pub reads : ReadsAsRestarted e
   pub number_left : e.node.at.boot + 1 < 2 ^ 64
-  pub memories : memories_of e.side ms content ≡ e.memories
+  pub memories : kept ≡ e.memories
 
 -- the end of a side
 abbrev pub end_of : Side → (on_ground on_craft : End) → End
@@ -130,7 +156,8 @@ end_of Ground g k = g
 end_of Craft g k = k
 
 -- A name's numbers and octets are of their types. Octets that are handed over were put out by the
--- other end and may come still, or are no part and no request. A name is freed at its receiver
+-- other end and may come still, or are no part and no request. Octets that a request is given are
+-- those that the program's memories have where it reads. A name is freed at its receiver
 -- where it is over, and at its sender after that, and none of its parts waits at its sender. An end
 -- is made again of what was kept of it, in a configuration that is the same but for the clock. What
 -- an end did and wasn't kept is no call: nothing of it was acted on or sent.
@@ -146,12 +173,16 @@ Promises c p g k side Expire = ⊤
 Promises c p g k side Tick = ⊤
 Promises c p g k side Read = ⊤
 Promises c p g k side Execute = ⊤
+Promises c p g k side (ExecuteGiven octets) =
+    FrontHolds (head_of (end_of side g k).node.at.jobs.jobs) p.ends.memories octets
 Promises c p g k side (Retire direction name) =
     CanMove c p (freeing side (direction_by direction) name)
     × NoneWaits p.ends (direction_by direction) name g k
 Promises c p g k side Restart = ⊤
 Promises c p g k side (Resume config state ms content) =
-    IsKept c (end_of side g k) config state ms content
+    IsKept c (end_of side g k) config state (memories_of (end_of side g k).side ms content)
+Promises c p g k side (ResumeSized config state sizes) =
+    IsKept c (end_of side g k) config state (kept_as sizes)
 
 -- ---- the law
 

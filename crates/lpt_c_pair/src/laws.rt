@@ -1,10 +1,10 @@
 //! What ties calls of C to two ends apart: functions with empty bodies.
 
 ghost use Rattle.lpt_c_pair.specs.Answers.{ZeroIsAlwaysDone};
-ghost use Rattle.lpt_c_pair.specs.Drops.{DroppedIsPassedOver, DropsOldest};
+ghost use Rattle.lpt_c_pair.specs.Drops.{DroppedIsPassedOver, DropsOldest, GivenIsPassedOver};
 ghost use Rattle.lpt_c_pair.specs.Loads.{LoadsGoWhereTheySay};
 ghost use Rattle.lpt_c_pair.specs.Pairs.{CallsAreMoves};
-ghost use Rattle.lpt_c_pair.specs.Runs.{EndsOfCKeepThePromise};
+ghost use Rattle.lpt_c_pair.specs.Runs.{EndsOfCKeepThePromise, EndsOverOtherMemoriesKeepThePromise};
 
 /// Where two ends behind handles are those of two ends apart, and one of them is called, answers 0,
 /// and the program keeps what it promises of that call, its moves can happen, and the ends are
@@ -18,9 +18,11 @@ pub fn calls_are_moves()
 /// kept of it, the programs keeping what they promise. Then the ends are two ends apart. Each large
 /// message that was released is the one last opened under its name at the other end, and once; each
 /// plain request is one that ground asked; and the spacecraft's memories are their first content,
-/// changed by the executed requests in order of release.
+/// changed by the executed requests in order of release. So it is too where its program has the
+/// memories, writes what it is told, and gives the octets that they have.
 pub fn ends_of_c_keep_the_promise()
-    ensures { EndsOfCKeepThePromise }
+    ensures in_end { EndsOfCKeepThePromise }
+    ensures with_program { EndsOverOtherMemoriesKeepThePromise }
 {}
 
 /// Where a call answers 0, its end didn't refuse it: no refusal has the number 0.
@@ -34,6 +36,7 @@ pub fn zero_is_done()
 pub fn dropped_is_never_executed()
     ensures drop { DropsOldest }
     ensures execute { DroppedIsPassedOver }
+    ensures given { GivenIsPassedOver }
 {}
 
 /// A load that is executed, once it is the oldest request of all, is carried out or refused. Where

@@ -1,4 +1,4 @@
-use Rattle.lpt_c_pair.proofs.Dropping.{dropped_is_passed_over, drops_oldest}
+use Rattle.lpt_c_pair.proofs.Dropping.{dropped_is_passed_over, drops_oldest, given_is_passed_over}
 use Rattle.lpt_c_pair.proofs.laws.dropped_is_never_executed.Goals as goal
 
 pub returns-clause-drop : goal.returns-clause-drop
@@ -6,3 +6,6 @@ returns-clause-drop f = drops_oldest
 
 pub returns-clause-execute : goal.returns-clause-execute
 returns-clause-execute f = dropped_is_passed_over
+
+pub returns-clause-given : goal.returns-clause-given
+returns-clause-given f = given_is_passed_over

@@ -1,4 +1,5 @@
 -- What was read of the jobs is still for the memories.
+use Rattle.lpt_c_end.specs.Kept.{sizes_in}
 use Rattle.lpt_c_end.proofs.ReadyLemmas.{ready_expired, ready_same}
 use Rattle.lpt_c_end.proofs.end.End.expire.Goals as goal
 
@@ -6,10 +7,12 @@ use Rattle.lpt_c_end.proofs.end.End.expire.Goals as goal
 pub invariant_of-self-clause-ready : goal.invariant_of-self-clause-ready
 invariant_of-self-clause-ready c =
     let e = c.make_place.new.self in
-    ready_expired e.node c.expire.new.self e.memories _ _ _ c.expire.ensures.config c.in-Ok.ensures.ok e.ready
+    ready_expired e.node c.expire.new.self (sizes_in e.memories) _ _ _ c.expire.ensures.config
+    c.in-Ok.ensures.ok e.ready
 
 -- memory ran out
 pub invariant_of-self-in-Err-clause-ready : goal.invariant_of-self-in-Err-clause-ready
 invariant_of-self-in-Err-clause-ready c =
     let e = c.make_place.new.self in
-    ready_same e.node c.expire.new.self e.memories c.expire.ensures.config c.in-Err.ensures.err e.ready
+    ready_same e.node c.expire.new.self (sizes_in e.memories) c.expire.ensures.config
+    c.in-Err.ensures.err e.ready

@@ -17,6 +17,7 @@ use Rattle.lpt_events.specs.contracts.config.Config as settings
 use Rattle.lpt_jobs.specs.contracts.queue.JobQueue as queue
 use Rattle.lpt_ledger.specs.contracts.ledger.Ledger as ledger
 use Rattle.lpt_memory.specs.contracts.memories.Memories as memories
+use Rattle.lpt_memory.specs.contracts.shape.Shape as shapes
 use Rattle.lpt_node.specs.contracts.counts.Counts as counts
 use Rattle.lpt_node.specs.contracts.node.Node as node
 use Rattle.lpt_node.specs.contracts.outgoing.Outgoing as outgoing
@@ -24,6 +25,7 @@ use Rattle.lpt_node.specs.contracts.receiver.Receiver as receiver
 use Rattle.lpt_packet.specs.contracts.octets.Octets as octets
 use Rattle.lpt_c_end.specs.Held.{held_by}
 use Rattle.lpt_c_end.specs.contracts.end.End as inner
+use Rattle.lpt_c_end.specs.contracts.kept.Kept as kept
 use Rattle.lpt_c_end.specs.contracts.handle.LptHeld.{the_row, the_type}
 
 octets_send : IsSend octets.the_row
@@ -34,6 +36,12 @@ config_send = search (sendable, heap.crosses) depth 100 fits 20000
 
 memories_send : IsSend memories.the_row
 memories_send = search (octets_send, sendable, heap.crosses) depth 60
+
+shape_send : IsSend shapes.the_row
+shape_send = search (sendable, heap.crosses) depth 60
+
+kept_send : IsSend kept.the_row
+kept_send = search (memories_send, shape_send, sendable, heap.crosses) depth 60
 
 ledger_send : IsSend ledger.the_row
 ledger_send = search (sendable, heap.crosses, maps.crosses) depth 60
@@ -65,7 +73,7 @@ node_send =
 
 end_send : IsSend inner.the_row
 end_send =
-    search (config_send, node_send, memories_send, octets_send, sendable, heap.crosses) depth 100
+    search (config_send, node_send, kept_send, octets_send, sendable, heap.crosses) depth 100
     fits 20000
 
 held_keyless : (a : Global) (p : Ptr) (v : Option inner.the_row.Denot) → Keyless (held_by a p v)
