@@ -1,34 +1,26 @@
 -- Each '<' of a picture opens or closes an element.
 use Rattle.std.proofs.Common.{refl, ℕ, List, [], ◌∷◌, ◌++◌, length, take}
-use Rattle.std.specs.Prelude.{◌-◌, ◌*◌, ◌+◌, codes, decimal, nat_lt}
+use Rattle.std.specs.Prelude.{◌-◌, codes, decimal, nat_lt}
 use Rattle.std.specs.List.{flat_map}
 use Rattle.lpt_packet.specs.declared.direction.Direction.TheVariants.{Up, Down}
 use Rattle.lpt_events.specs.declared.entry.Entry.{Entry}
 use Rattle.lpt_events.specs.declared.side.Side.TheVariants as side
 use Rattle.lpt_chart.proofs.TagLemmas.{Tagged, decimal-tagged, either, escaped-tagged, joined-tagged, tagged-append}
-use Rattle.lpt_chart.specs.declared.choice.Choice.{Choice}
-use Rattle.lpt_chart.specs.declared.marks.Kind.{Kind}
+use Rattle.lpt_chart.specs.Types.{Choice, Kind, Letters, Refusal, Shape, Sign, Style}
 use Rattle.lpt_chart.specs.declared.marks.Opened.{Opened as Opening}
-use Rattle.lpt_chart.specs.declared.refusal.Refusal.{Refusal}
-use Rattle.lpt_chart.specs.declared.shape.Shape.{Shape}
 use Rattle.lpt_chart.specs.declared.shape.Shape.TheVariants as shape
-use Rattle.lpt_chart.specs.declared.shape.Sign.{Sign}
 use Rattle.lpt_chart.specs.declared.shape.Sign.TheVariants as sign
-use Rattle.lpt_chart.specs.declared.style.Letters.{Letters}
 use Rattle.lpt_chart.specs.declared.style.Letters.TheVariants.{Title, Grey, Place, Small, Words, Node, Bead, BeadWhite, Key}
-use Rattle.lpt_chart.specs.declared.style.Style.{Style}
 use Rattle.lpt_chart.specs.declared.svg.TheConstants.{DESC_HEAD, LETTERS_HEAD}
 use Rattle.lpt_chart.specs.declared.style.Style.TheVariants.{Paper, Ground, Ink, InkEdge, Life, Hair, Lane, Way, WayAgain, WayNoise, InHand, Waiting, Late, Cross, Expired, Hollow, Kept, Dashed, Noted, Ring, Retiring, Opened, Finished, Sender, Reception, JobWaits, JobHollow, JobFilled, Tick, Restart, Refused, Filled, Noise, Light, JobEdge}
 use Rattle.lpt_chart.specs.declared.style.Weight.TheVariants.{Quiet, Plain, Strong}
-use Rattle.lpt_chart.specs.Charts.{chart_shapes, chart_text, counts, keys_of, picture_text}
-use Rattle.lpt_chart.specs.Choices.{frame_of}
+use Rattle.lpt_chart.specs.Charts.{chart_shapes, chart_text, keys_of, picture_text}
 use Rattle.lpt_chart.specs.Events.{picture}
-use Rattle.lpt_chart.specs.Frames.{half, whole_high, y_of}
+use Rattle.lpt_chart.specs.Frames.{frame_of, whole_high}
 use Rattle.lpt_chart.specs.Pictures.{Picture}
-use Rattle.lpt_chart.specs.Shapes.{bead_text, box_text, closing_text, end_text, escaped, group_text, line_text, opening_text, part_text, place_text, said_text, seen_text, shape_text, sign_steps, sign_text, size_text, text_of, widest}
+use Rattle.lpt_chart.specs.Shapes.{closing_text, end_text, escaped, opening_text, seen_text, shape_text, sign_steps, size_text, view_text}
 use Rattle.lpt_chart.specs.Styles.{letters_text, style_text}
-use Rattle.lpt_chart.specs.Texts.{words_text}
-use Rattle.lpt_chart.specs.Words.{joined}
+use Rattle.lpt_chart.specs.Words.{counts_words, joined}
 
 -- ---- attributes
 
@@ -105,11 +97,63 @@ letters-tagged Key = refl
 
 -- ---- elements
 
-line-tagged : (x0 y0 x1 y1 : ℕ) (look : Style) → Tagged (line_text x0 y0 x1 y1 look)
-unfolding line_text
-line-tagged x0 y0 x1 y1 look =
+size-tagged : (wide high : ℕ) → Tagged (size_text wide high)
+size-tagged wide high =
     joined-tagged
-    (codes "<path d='M" ∷ decimal x0 ∷ codes " " ∷ decimal y0 ∷ codes "L" ∷ decimal x1 ∷ codes " " ∷ decimal y1
+    (codes "width='" ∷ decimal wide ∷ codes "' height='" ∷ decimal high ∷ codes "'" ∷ [])
+    (refl, (decimal-tagged wide, (refl, (decimal-tagged high, (refl, refl)))))
+
+steps-tagged : (s : Sign) → Tagged (sign_steps s)
+steps-tagged sign.HeadRight = refl
+steps-tagged sign.HeadLeft = refl
+steps-tagged sign.Cross = refl
+steps-tagged sign.Hourglass = refl
+
+seen-tagged : (most : ℕ) (t : List ℕ) → Tagged (seen_text most t)
+unfolding seen_text
+seen-tagged most t =
+    either (nat_lt most (length t)) _ _
+    (joined-tagged (codes "<title>" ∷ escaped t ∷ codes "</title>" ∷ escaped (take (most - 2) t)
+    ∷ codes ".." ∷ [])
+    (refl, (escaped-tagged t, (refl, (escaped-tagged (take (most - 2) t), (refl, refl))))))
+    (escaped-tagged t)
+
+view-tagged : (wide high top : ℕ) → Tagged (view_text wide high top)
+unfolding view_text
+view-tagged wide high top =
+    joined-tagged
+    (codes " width='" ∷ decimal wide ∷ codes "' height='" ∷ decimal high ∷ codes "' viewBox='0 "
+    ∷ decimal top ∷ codes " " ∷ decimal wide ∷ codes " " ∷ decimal high ∷ codes "'>" ∷ (10 ∷ []) ∷ []) (
+      refl,
+      (
+        decimal-tagged wide,
+        (
+          refl,
+          (
+            decimal-tagged high,
+            (
+              refl,
+              (
+                decimal-tagged top,
+                (
+                  refl,
+                  (decimal-tagged wide, (refl, (decimal-tagged high, (refl, (refl, refl))))),
+                ),
+              ),
+            ),
+          ),
+        ),
+      ),
+    )
+
+-- ---- shapes
+
+shape-tagged : (s : Shape) → Tagged (shape_text s)
+unfolding shape_text
+shape-tagged (shape.Line x0 y0 x1 y1 look) =
+    joined-tagged
+    (codes "<path d='M" ∷ decimal x0 ∷ codes " " ∷ decimal y0 ∷ codes "L" ∷ decimal x1 ∷ codes " "
+    ∷ decimal y1
     ∷ codes "' " ∷ style_text look ∷ end_text ∷ []) (
       refl,
       (
@@ -135,18 +179,10 @@ line-tagged x0 y0 x1 y1 look =
         ),
       ),
     )
-
-size-tagged : (wide high : ℕ) → Tagged (size_text wide high)
-unfolding size_text
-size-tagged wide high =
-    joined-tagged (codes "width='" ∷ decimal wide ∷ codes "' height='" ∷ decimal high ∷ codes "'" ∷ [])
-    (refl, (decimal-tagged wide, (refl, (decimal-tagged high, (refl, refl)))))
-
-box-tagged : (x y wide high round : ℕ) (look : Style) → Tagged (box_text x y wide high round look)
-unfolding box_text
-box-tagged x y wide high round look =
+shape-tagged (shape.Box x y wide high round look) =
     joined-tagged
-    (codes "<rect x='" ∷ decimal x ∷ codes "' y='" ∷ decimal y ∷ codes "' " ∷ size_text wide high ∷ codes " rx='"
+    (codes "<rect x='" ∷ decimal x ∷ codes "' y='" ∷ decimal y ∷ codes "' " ∷ size_text wide high
+    ∷ codes " rx='"
     ∷ decimal round ∷ codes "' " ∷ style_text look ∷ end_text ∷ []) (
       refl,
       (
@@ -172,42 +208,37 @@ box-tagged x y wide high round look =
         ),
       ),
     )
-
-steps-tagged : (s : Sign) → Tagged (sign_steps s)
-steps-tagged sign.HeadRight = refl
-steps-tagged sign.HeadLeft = refl
-steps-tagged sign.Cross = refl
-steps-tagged sign.Hourglass = refl
-
-sign-tagged : (x y : ℕ) (s : Sign) (look : Style) → Tagged (sign_text x y s look)
-unfolding sign_text
-sign-tagged x y s look =
+shape-tagged (shape.Sign x y s look) =
     joined-tagged
-    (codes "<path d='M" ∷ decimal x ∷ codes " " ∷ decimal y ∷ sign_steps s ∷ codes "' " ∷ style_text look ∷ end_text ∷ [])
-    (refl, (decimal-tagged x, (refl, (decimal-tagged y, (steps-tagged s, (refl, (style-tagged look, (refl, refl))))))))
-
-part-tagged : (y wide high top : ℕ) → Tagged (part_text y wide high top)
-unfolding part_text
-part-tagged y wide high top =
-    joined-tagged
-    (codes "<svg x='0' y='" ∷ decimal y ∷ codes "' " ∷ size_text wide high ∷ codes " viewBox='0 " ∷ decimal top
-    ∷ codes " " ∷ decimal wide ∷ codes " " ∷ decimal high ∷ codes "'>" ∷ (10 ∷ []) ∷ []) (
+    (codes "<path d='M" ∷ decimal x ∷ codes " " ∷ decimal y ∷ sign_steps s ∷ codes "' "
+    ∷ style_text look ∷ end_text ∷ []) (
       refl,
       (
-        decimal-tagged y,
+        decimal-tagged x,
+        (refl, (decimal-tagged y, (steps-tagged s, (refl, (style-tagged look, (refl, refl)))))),
+      ),
+    )
+shape-tagged (shape.Text x y l most t) =
+    joined-tagged
+    (codes "<text x='" ∷ decimal x ∷ codes "' y='" ∷ decimal y ∷ codes "' " ∷ letters_text l
+    ∷ codes ">"
+    ∷ seen_text most t ∷ codes "</text>" ∷ (10 ∷ []) ∷ []) (
+      refl,
+      (
+        decimal-tagged x,
         (
           refl,
           (
-            size-tagged wide high,
+            decimal-tagged y,
             (
               refl,
               (
-                decimal-tagged top,
+                letters-tagged l,
                 (
                   refl,
                   (
-                    decimal-tagged wide,
-                    (refl, (decimal-tagged high, (refl, (refl, refl)))),
+                    seen-tagged most t,
+                    (refl, (refl, refl)),
                   ),
                 ),
               ),
@@ -216,110 +247,59 @@ part-tagged y wide high top =
         ),
       ),
     )
+shape-tagged (shape.Group t) =
+    joined-tagged (codes "<g><title>" ∷ escaped t ∷ codes "</title>" ∷ [])
+    (refl, (escaped-tagged t, (refl, refl)))
+shape-tagged shape.GroupEnd = refl
+shape-tagged (shape.Part y wide high top) =
+    joined-tagged (codes "<svg x='0' y='" ∷ decimal y ∷ codes "'" ∷ view_text wide high top ∷ [])
+    (refl, (decimal-tagged y, (refl, (view-tagged wide high top, refl))))
+shape-tagged shape.PartEnd = refl
+
+-- all of a list
+shapes-tagged : (shapes : List Shape) → Tagged (flat_map shape_text shapes)
+shapes-tagged [] = refl
+shapes-tagged (s ∷ shapes) =
+    tagged-append (shape_text s) (flat_map shape_text shapes) (shape-tagged s)
+    (shapes-tagged shapes)
+
+-- ---- a picture
 
 opening-tagged : (wide high : ℕ) (title counts : List ℕ)
     → Tagged (opening_text wide high title counts)
 unfolding opening_text
 opening-tagged wide high title counts =
     let size = joined
-    (codes "<svg xmlns='http://www.w3.org/2000/svg' width='" ∷ decimal wide ∷ codes "' height='" ∷ decimal high
-    ∷ codes "'" ∷ LETTERS_HEAD.now ∷ []) in
+    (codes "<svg xmlns='http://www.w3.org/2000/svg' width='" ∷ decimal wide
+    ∷ codes "' height='" ∷ decimal high ∷ codes "'" ∷ LETTERS_HEAD.now ∷ []) in
     let front = size ++ escaped title in
     tagged-append (front ++ DESC_HEAD.now ++ escaped counts) (codes "</desc>" ++ 10 ∷ [])
     (tagged-append (front ++ DESC_HEAD.now) (escaped counts)
     (tagged-append front DESC_HEAD.now
     (tagged-append size (escaped title)
     (joined-tagged
-    (codes "<svg xmlns='http://www.w3.org/2000/svg' width='" ∷ decimal wide ∷ codes "' height='" ∷ decimal high
-    ∷ codes "'" ∷ LETTERS_HEAD.now ∷ [])
+    (codes "<svg xmlns='http://www.w3.org/2000/svg' width='" ∷ decimal wide
+    ∷ codes "' height='" ∷ decimal high ∷ codes "'" ∷ LETTERS_HEAD.now ∷ [])
     (refl, (decimal-tagged wide, (refl, (decimal-tagged high, (refl, (refl, refl)))))))
     (escaped-tagged title)) refl)
     (escaped-tagged counts)) refl
 
--- ---- texts
-
-seen-tagged : (most : ℕ) (t : List ℕ) → Tagged (seen_text most t)
-unfolding seen_text
-seen-tagged most t =
-    either (nat_lt most (length t)) _ _
-    (joined-tagged (codes "<title>" ∷ escaped t ∷ codes "</title>" ∷ escaped (take (most - 2) t)
-    ∷ codes ".." ∷ [])
-    (refl, (escaped-tagged t, (refl, (escaped-tagged (take (most - 2) t), (refl, refl))))))
-    (escaped-tagged t)
-
-place-tagged : (x y : ℕ) (l : Letters) → Tagged (place_text x y l)
-unfolding place_text
-place-tagged x y l =
-    joined-tagged
-    (codes "<text x='" ∷ decimal x ∷ codes "' y='" ∷ decimal y ∷ codes "' " ∷ letters_text l ∷ codes ">" ∷ [])
-    (refl, (decimal-tagged x, (refl, (decimal-tagged y, (refl, (letters-tagged l, (refl, refl)))))))
-
-said-tagged : (x y : ℕ) (l : Letters) (most : ℕ) (t : List ℕ) → Tagged (said_text x y l most t)
-unfolding said_text
-said-tagged x y l most t =
-    tagged-append (place_text x y l ++ seen_text most t) (codes "</text>" ++ 10 ∷ [])
-    (tagged-append (place_text x y l) (seen_text most t) (place-tagged x y l)
-    (seen-tagged most t)) refl
-
-bead-tagged : (x at number round : ℕ) (look : Style) (l : Letters) → Tagged (bead_text x at number round look l)
-unfolding bead_text
-bead-tagged x at number round look l =
-    tagged-append (box_text (x - half number) (y_of at - 7) (2 * half number) 14 round look)
-    (said_text x (y_of at + 4) l 60 (decimal number))
-    (box-tagged (x - half number) (y_of at - 7) (2 * half number) 14 round look)
-    (said-tagged x (y_of at + 4) l 60 (decimal number))
-
-group-tagged : (t : List ℕ) → Tagged (group_text t)
-unfolding group_text
-group-tagged t =
-    tagged-append (codes "<g><title>") (escaped t ++ codes "</title>") refl
-    (tagged-append (escaped t) (codes "</title>") (escaped-tagged t) refl)
-
--- ---- shapes
-
-shape-tagged : (source : ℕ) (title : List ℕ) (refused : List Refusal) (s : Shape)
-    → Tagged (shape_text source title refused s)
-unfolding shape_text
-shape-tagged source title refused (shape.Line x0 y0 x1 y1 look) = line-tagged x0 y0 x1 y1 look
-shape-tagged source title refused (shape.Box x y wide high round look) = box-tagged x y wide high round look
-shape-tagged source title refused (shape.Sign x y s look) = sign-tagged x y s look
-shape-tagged source title refused (shape.Bead x at number round look l) = bead-tagged x at number round look l
-shape-tagged source title refused (shape.Text x y l it) =
-    said-tagged x y l (widest it) (words_text source title refused it)
-shape-tagged source title refused (shape.Group words) = group-tagged (words_text source title refused words)
-shape-tagged source title refused shape.GroupEnd = refl
-shape-tagged source title refused (shape.Part y wide high top) = part-tagged y wide high top
-shape-tagged source title refused shape.PartEnd = refl
-
--- all of a list
-flat-tagged : (f : Shape → List ℕ) → ((s : Shape) → Tagged (f s)) → (shapes : List Shape) → Tagged (flat_map f shapes)
-flat-tagged f each [] = refl
-flat-tagged f each (s ∷ shapes) = tagged-append (f s) (flat_map f shapes) (each s) (flat-tagged f each shapes)
-
-pub shapes-tagged : (source : ℕ) (title : List ℕ) (refused : List Refusal) (shapes : List Shape)
-    → Tagged (text_of source title refused shapes)
-unfolding text_of
-shapes-tagged source title refused shapes =
-    flat-tagged (shape_text source title refused) (shape-tagged source title refused) shapes
-
--- ---- a picture
-
-picture-tagged : (source events : ℕ) (c : Choice) (title : List ℕ) (refused : List Refusal) (p : Picture)
-    → Tagged (picture_text source events c title refused p)
+picture-tagged : (events : ℕ) (c : Choice) (title : List ℕ) (p : Picture)
+    → Tagged (picture_text events c title p)
 unfolding picture_text
-picture-tagged source events c title refused p =
-    let f = frame_of source c title refused p in
+picture-tagged events c title p =
+    let f = frame_of c title p in
     let keys = keys_of f p in
-    let told = words_text source title refused (counts events p) in
-    let head = opening_text f.wide (whole_high f (length keys)) title told in
-    let text = text_of source title refused (chart_shapes f keys events c title p) in
+    let counts = counts_words events (length p.sent) (length p.flights) (length p.losses) in
+    let head = opening_text f.wide (whole_high f (length keys)) title counts in
+    let text = flat_map shape_text (chart_shapes f keys counts c title p) in
     tagged-append (head ++ text) closing_text
-    (tagged-append head text (opening-tagged f.wide (whole_high f (length keys)) title told)
-    (shapes-tagged source title refused (chart_shapes f keys events c title p))) refl
+    (tagged-append head text (opening-tagged f.wide (whole_high f (length keys)) title counts)
+    (shapes-tagged (chart_shapes f keys counts c title p))) refl
 
 pub chart-tagged : (source : ℕ) (c : Choice) (title : List ℕ) (kinds : List Kind)
     (opened : List Opening) (journal : List Entry)
     (refused : List Refusal)
     → Tagged (chart_text source c title kinds opened journal refused)
 chart-tagged source c title kinds opened journal refused =
-    picture-tagged source (length journal) c title refused (picture kinds opened journal refused)
+    picture-tagged (length journal) c title (picture source kinds opened journal refused)

@@ -5,9 +5,8 @@ use Rattle.std.specs.Prelude.{◌==◌, if◌then◌else◌, nat_le, decimal}
 use Rattle.std.specs.List.{list_all}
 use Rattle.std.specs.Fmt.{digit_glyph, digits_onto, digits}
 use Rattle.lpt_chart.proofs.EscapeLemmas.{escaped-plain}
-use Rattle.lpt_chart.specs.Shapes.{escaped, is_plain}
+use Rattle.lpt_chart.specs.Shapes.{begins, begins_one, escaped, is_plain, is_tagged, tags}
 use Rattle.lpt_chart.specs.Words.{joined}
-use Rattle.lpt_chart.specs.Tags.{begins, begins_one, is_tagged, tags}
 
 -- each '<' of a text opens or closes an element
 abbrev pub Tagged : List ℕ → Type 0
@@ -24,7 +23,8 @@ and_snd true b p = p
 and_snd false b p = absurd (true≢false (sym p))
 
 -- one of two that hold, where each goes on to another
-or_on : (a b c d : Bool) → (a ≡ true → c ≡ true) → (b ≡ true → d ≡ true) → (a || b) ≡ true → (c || d) ≡ true
+or_on : (a b c d : Bool) → (a ≡ true → c ≡ true) → (b ≡ true → d ≡ true) → (a || b) ≡ true →
+    (c || d) ≡ true
 or_on true b c d f g p = or_left c d (f refl)
 or_on false b c d f g p = or_right c d (g p)
 
@@ -50,7 +50,8 @@ tagged-append [] ys p q = q
 tagged-append (x ∷ xs) ys p q =
     let here = not (x == 60) in
     and_from (here || begins_one tags (xs ++ ys)) (is_tagged (xs ++ ys))
-    (or_on here (begins_one tags xs) here (begins_one tags (xs ++ ys)) (λ e. e) (begins_one-longer tags xs ys)
+    (or_on here (begins_one tags xs) here (begins_one tags (xs ++ ys)) (λ e. e)
+    (begins_one-longer tags xs ys)
     (and_fst (here || begins_one tags xs) (is_tagged xs) p))
     (tagged-append xs ys (and_snd (here || begins_one tags xs) (is_tagged xs) p) q)
 
@@ -98,7 +99,8 @@ onto-plain (suc k) n acc p =
     and_from (is_plain (digit_glyph false (n % 10))) (list_all is_plain acc)
     (glyph-plain (n % 10) (let pos : 0 < 10 = omega arith in mod-lt n pos)) p in
     let glyphs = digit_glyph false (n % 10) ∷ acc in
-    pick (n / 10 == 0) glyphs (digits_onto k 10 false (n / 10) glyphs) more (onto-plain k (n / 10) glyphs more)
+    pick (n / 10 == 0) glyphs (digits_onto k 10 false (n / 10) glyphs) more
+    (onto-plain k (n / 10) glyphs more)
   where
     pick : (b : Bool) (xs ys : List ℕ)
         → list_all is_plain xs ≡ true

@@ -1,12 +1,16 @@
--- What each event draws, and the picture of a journal.
-use Rattle.std.specs.Prelude.{ℕ, ◌+◌, ◌-◌, ◌^◌, min, nat_lt, List, [], ◌∷◌, ◌++◌, length, take, drop, fold, position, slice_get, Option, Some, None, option_to_list}
-use Rattle.std.specs.Option.{option_map_or}
+-- What each event draws, the picture of a journal, and the deliveries that it draws.
+use Rattle.std.specs.Prelude.{◌≡◌, ℕ, ◌+◌, ◌-◌, ◌==◌, ◌^◌, min, nat_lt, Bool, true, false, List, [], ◌∷◌, ◌++◌, length, map, filter, take, drop, fold, position, slice_get, codes, decimal, Option, Some, None, option_to_list}
+use Rattle.std.specs.Option.{option_flatten, option_map_or}
+use Rattle.lpt_packet.specs.Directions.{direction_word}
 use Rattle.lpt_packet.specs.declared.direction.Direction.{Direction}
 use Rattle.lpt_packet.specs.declared.direction.Direction.TheVariants.{Up, Down}
 use Rattle.lpt_packet.specs.Names.{Name}
 use Rattle.lpt_events.specs.Lanes.{lane_direction}
+use Rattle.lpt_events.specs.NameTexts.{name_text}
+use Rattle.lpt_events.specs.Sides.{receiver_side, sender_side}
+use Rattle.lpt_events.specs.Whys.{why_name}
 use Rattle.lpt_events.specs.declared.applied.Applied.{Applied}
-use Rattle.lpt_events.specs.declared.applied.Applied.TheVariants.{Done}
+use Rattle.lpt_events.specs.declared.applied.Applied.TheVariants as applied
 use Rattle.lpt_events.specs.declared.entry.Entry.{Entry}
 use Rattle.lpt_events.specs.declared.event.Event.{Event}
 use Rattle.lpt_events.specs.declared.event.Event.TheVariants.{Open, Send, Plain, Finish, Lose, Damage, Take, Deliver, Tick, Expire, Claim, Commit, Apply, Retire, Restart}
@@ -16,58 +20,63 @@ use Rattle.lpt_events.specs.declared.outcome.Outcome.TheVariants as outcome
 use Rattle.lpt_events.specs.declared.reply.Answer.{Answer}
 use Rattle.lpt_events.specs.declared.reply.Answer.TheVariants as answer
 use Rattle.lpt_events.specs.declared.reply.Puts.{Puts}
-use Rattle.lpt_events.specs.declared.side.Side.{Side}
 use Rattle.lpt_events.specs.declared.side.Side.TheVariants.{Ground, Craft}
-use Rattle.lpt_events.specs.Sides.{receiver_side, sender_side}
-use Rattle.lpt_chart.specs.Types.{Content, Held, Kind, Opened, Refusal, Saying, Sent, Stage, Task, Track}
-use Rattle.lpt_chart.specs.declared.marks.Content.TheVariants.{Part, Request, Noise}
-use Rattle.lpt_chart.specs.declared.marks.Saying.TheVariants as say
+use Rattle.lpt_chart.specs.Types.{Flight, Held, Kind, Mark, Opened, Refusal, Task, Weight}
+use Rattle.lpt_chart.specs.declared.marks.Mark.TheVariants as mark
 use Rattle.lpt_chart.specs.declared.marks.Stage.TheVariants.{Sending, Kept, Claimed, Committed}
 use Rattle.lpt_chart.specs.declared.marks.Thing.TheVariants.{Sender, Reception, Job}
-use Rattle.lpt_chart.specs.Pictures.{Picture, at_side, blank, cleared, flown, hand_in, landed, lost, one_more, parts_opened_now, put, reported, said, taken, task_next, ticked, tracked, with_job, without_job}
-use Rattle.lpt_chart.specs.Tasks.{asked_from, asked_in}
-use Rattle.lpt_chart.specs.Tracks.{all_bars, kept_in, parts_in, stage_of, task_in}
+use Rattle.lpt_chart.specs.declared.style.Style.TheVariants as style
+use Rattle.lpt_chart.specs.declared.style.Weight.TheVariants as weight
+use Rattle.lpt_chart.specs.Pictures.{Picture, all_bars, asked_from, asked_in, blank, cleared, flown, hand_in, kept_in, landed, lost, parts_in, put, reported, rowed, said, stage_of, taken, task_in, ticked, tracked, with_job, without_job}
+use Rattle.lpt_chart.specs.Words.{applied_words, job_words, joined, lane_word, of_words, plural, reason_word, refusal_words, report_words, request_words}
 
--- the direction of a packet; up where there is no such packet
-abbrev pub direction_of : Option Sent → Direction
-direction_of sent = option_map_or (λ s. s.direction) sent Up
+-- of how many parts the message of a packet in a hand is, and what that asks for
+abbrev pub parts_held : Option Held → ℕ
+parts_held held = option_map_or (λ h. h.sent.parts) held 0
 
--- of how many parts the message of a packet is
-abbrev pub parts_in_content : Content → ℕ
-parts_in_content (Part name k n) = n
-parts_in_content _ = 0
-
--- of how many parts the message of a packet in a hand is; 0 where that isn't known
-unfoldable pub parts_held : Option Held → ℕ
-parts_held held = option_map_or (λ h. option_map_or (λ s. parts_in_content s.content) h.sent 0) held 0
-
--- what the message of a packet in a hand asks for
-unfoldable pub task_held : Option Held → Option Task
-task_held held = option_map_or (λ h. option_map_or (λ s. s.task) h.sent None) held None
+abbrev pub task_held : Option Held → Option Task
+task_held held = option_map_or (λ h. h.sent.task) held None
 
 -- how many parts are kept with one more
 unfoldable pub kept_then : Picture → Direction → Name → ℕ
-kept_then p d name =
-    min (kept_in (stage_of (at_side (receiver_side d) p.ground p.craft)
-    (Reception name)) + 1) (2 ^ 16 - 1)
+kept_then p d name = min (kept_in (stage_of p (receiver_side d) (Reception name)) + 1) (2 ^ 16 - 1)
 
--- the two numbers that are told of an outcome: of a kept part how many are kept and of how many, of
--- a request that is released the boot and the number of its job
-unfoldable pub numbers_told : Picture → Option Held → Direction → Outcome → ℕ × ℕ
-numbers_told p held d (outcome.Kept name k) = (kept_then p d name, parts_held held)
-numbers_told p held d _ = (p.boot, length p.tasks)
+-- how an outcome is told: what is released or broken off is bold, what changed nothing grey
+abbrev pub outcome_weight : Outcome → Weight
+outcome_weight (outcome.Released name len) = weight.Strong
+outcome_weight (outcome.PlainReleased len) = weight.Strong
+outcome_weight (outcome.Broken name reason) = weight.Strong
+outcome_weight (outcome.Again name k) = weight.Quiet
+outcome_weight (outcome.Ignored why) = weight.Quiet
+outcome_weight _ = weight.Plain
 
--- a large message is released: its reception ends, and at the spacecraft a job begins
-abbrev pub released_by : Picture → Option Task → Direction → Name → Picture
-released_by p task Up name = with_job (tracked p Craft (Reception name) None) task
-released_by p task Down name = tracked p Ground (Reception name) None
+-- what a delivery came to; what is released at the spacecraft is a job
+unfoldable pub outcome_words : Picture → Option Held → Direction → Outcome → List ℕ
+outcome_words p held d (outcome.Kept name k) =
+    joined (codes "kept " ∷ direction_word d ∷ codes " " ∷ name_text p.source name ∷ codes " part " ∷ decimal k ∷ codes ": "
+    ∷ decimal (kept_then p d name) ∷ of_words (parts_held held) ∷ [])
+outcome_words p held d (outcome.Again name k) =
+    joined (codes "again " ∷ direction_word d ∷ codes " " ∷ name_text p.source name ∷ codes " part " ∷ decimal k ∷ [])
+outcome_words p held Up (outcome.Released name len) =
+    joined (codes "released up " ∷ name_text p.source name ∷ codes ": " ∷ decimal len ∷ codes " octets, job " ∷ decimal p.boot
+    ∷ codes "." ∷ decimal (length p.tasks) ∷ [])
+outcome_words p held Down (outcome.Released name len) =
+    joined (codes "released down " ∷ name_text p.source name ∷ codes ": " ∷ decimal len ∷ codes " octets" ∷ [])
+outcome_words p held d (outcome.PlainReleased len) =
+    joined (codes "released request: " ∷ decimal len ∷ codes " octets, job " ∷ decimal p.boot ∷ codes "." ∷ decimal (length p.tasks) ∷ [])
+outcome_words p held d (outcome.ReportNoted service subtype) = report_words service subtype
+outcome_words p held d (outcome.AbortNoted name reason) =
+    joined (codes "broken off: up " ∷ name_text p.source name ∷ codes ", " ∷ reason_word reason ∷ [])
+outcome_words p held d (outcome.Broken name reason) =
+    joined (codes "broken " ∷ direction_word d ∷ codes " " ∷ name_text p.source name ∷ codes ": " ∷ reason_word reason ∷ [])
+outcome_words p held d (outcome.Ignored why) = joined (codes "ignored: " ∷ why_name why ∷ [])
 
 -- what an outcome does to the tracks
 unfoldable pub came_to : Picture → Option Held → Direction → Outcome → Picture
 came_to p held d (outcome.Kept name k) =
-    tracked p (receiver_side d) (Reception name)
-    (Some (Kept (kept_then p d name) (parts_held held)))
-came_to p held d (outcome.Released name len) = released_by p (task_held held) d name
+    tracked p (receiver_side d) (Reception name) (Some (Kept (kept_then p d name) (parts_held held)))
+came_to p held Up (outcome.Released name len) = with_job (tracked p Craft (Reception name) None) (task_held held)
+came_to p held Down (outcome.Released name len) = tracked p Ground (Reception name) None
 came_to p held d (outcome.PlainReleased len) = with_job p (task_held held)
 came_to p held d (outcome.AbortNoted name reason) = tracked p Ground (Sender name) None
 came_to p held d (outcome.Broken name reason) = tracked p (receiver_side d) (Reception name) None
@@ -78,88 +87,80 @@ abbrev pub delivered : Picture → Lane → Outcome → Picture
 delivered p lane o =
     let d = lane_direction lane in
     let held = hand_in p.hands lane in
-    let told : ℕ × ℕ = numbers_told p held d o in
-    let saying = say.Delivered lane o told.0 told.1 in
-    came_to (flown (landed p lane saying) lane o) held d o
+    came_to (flown (landed p lane (receiver_side d) (outcome_weight o) (outcome_words p held d o)) lane o) held d o
 
--- what this node has open
-abbrev pub open_at : Picture → Side → List (Option Track)
-open_at p side = at_side side p.ground p.craft
+-- a packet is put by who sends in its direction
+abbrev pub packet_put : Picture → Direction → (number : ℕ) → (noise : Bool) → (parts : ℕ) → Option Task → (words : List ℕ) → Picture
+packet_put p d n noise parts task words =
+    put (said p (sender_side d) weight.Quiet (mark.Bead d n noise) words) d words noise parts task
 
--- a packet is put
-abbrev pub packet_put : Picture → Direction → ℕ → Content → Option Task → Picture
-packet_put p d n content task = put (said p (say.Put d n content)) d content task
-
--- a part is put; of how many, and what its message asks for, is known of the open sender
-abbrev pub part_put : Picture → Direction → Name → (k n : ℕ) → Picture
-part_put p d name k n =
-    packet_put p d n (Part name k (parts_in (stage_of (open_at p (sender_side d)) (Sender name))))
-    (task_in (stage_of (open_at p (sender_side d)) (Sender name)))
-
--- a message is opened
-abbrev pub message_opened : Picture → Direction → Name → List ℕ → (parts : ℕ) → Picture
-message_opened p d name message parts =
-    tracked (said p (say.Opened d name (length message) parts)) (sender_side d) (Sender name)
-    (Some (Sending parts (asked_in d message)))
-
--- a packet is lost
-abbrev pub packet_lost : Picture → ℕ → Picture
-packet_lost p n = lost (said p (say.Lost (direction_of (slice_get p.sent n)) n)) n
+-- of how many parts the message is that the entry opened which is drawn
+abbrev pub parts_opened : Picture → ℕ
+parts_opened p =
+    option_map_or (λ i. option_map_or (λ o. o.parts) (slice_get p.opened i) 0)
+    (position (λ o. o.place == p.place) p.opened) 0
 
 -- the sender of a report of data, where one was opened
 abbrev pub opened_by : Picture → Applied → Picture
-opened_by p (Done (Some name)) =
-    tracked p Craft (Sender name) (Some (Sending (parts_opened_now p) None))
+opened_by p (applied.Done (Some name)) = tracked p Craft (Sender name) (Some (Sending (parts_opened p) None))
 opened_by p _ = p
 
--- a job is executed
-abbrev pub executed : Picture → Applied → Picture
-executed p a = opened_by (without_job (said p (say.Applied p.boot p.applied (task_next p) a))) a
+-- how an executed job is marked
+abbrev pub applied_mark : Applied → Mark
+applied_mark (applied.Done name) = mark.Square style.Finished
+applied_mark applied.Silent = mark.Square style.Opened
+applied_mark (applied.Code code) = mark.Failed
 
--- a reception has expired
-abbrev pub expired : Picture → Direction → Name → Picture
-expired p d name =
-    let stage = stage_of (open_at p (receiver_side d)) (Reception name) in
-    tracked (said p (say.Expired d name (kept_in stage) (parts_in stage)))
-    (receiver_side d) (Reception name) None
-
--- a node is restarted
-abbrev pub restarted : Picture → Side → (boot : ℕ) → Picture
-restarted p Ground boot = cleared (said p (say.Restarted Ground boot)) Ground
-restarted p Craft boot =
-    record (cleared (said p (say.Restarted Craft boot)) Craft) { boot = boot; tasks = []; applied = 0 }
-
--- a sender is closed
-abbrev pub finished : Picture → Direction → Name → Picture
-finished p d name = tracked (said p (say.Finished d name)) (sender_side d) (Sender name) None
-
--- a lane takes a packet
-abbrev pub packet_taken : Picture → Lane → ℕ → Picture
-packet_taken p l n = taken (said p (say.Taken l n)) l n
-
--- a job comes to a stage
-abbrev pub worked : Picture → Saying → (job : ℕ) → Stage → Picture
-worked p saying job stage = tracked (said p saying) Craft (Job job) (Some stage)
-
--- what an accepted event draws by its answer; nothing for an answer that isn't the event's own
+-- what an accepted event draws by its answer; nothing for an answer that isn't the event's own. Of how
+-- many parts a message is, and what it asks for, is known of the open sender
 abbrev pub drawn : Picture → Event → Answer → Picture
-drawn p (Open d name m) (answer.Opened n) = message_opened p d name m n
-drawn p (Send d name k) (answer.Put n) = part_put p d name k n
+drawn p (Open d name m) (answer.Opened n) =
+    tracked (said p (sender_side d) weight.Plain (mark.Square style.Opened)
+    (joined (codes "open " ∷ direction_word d ∷ codes " " ∷ name_text p.source name ∷ codes ": " ∷ decimal (length m) ∷ codes " octets, "
+    ∷ decimal n ∷ codes " parts" ∷ []))) (sender_side d) (Sender name) (Some (Sending n (asked_in d m)))
+drawn p (Send d name k) (answer.Put n) =
+    let stage = stage_of p (sender_side d) (Sender name) in
+    packet_put p d n false (parts_in stage) (task_in stage)
+    (joined (direction_word d ∷ codes " " ∷ name_text p.source name ∷ codes " part " ∷ decimal k ∷ of_words (parts_in stage) ∷ []))
 drawn p (Plain source flags service subtype body) (answer.Put n) =
-    packet_put p Up n (Request service subtype) (Some (asked_from service subtype body 0))
-drawn p (Finish d name) answer.Finished = finished p d name
-drawn p (Lose n) answer.Lost = packet_lost p n
-drawn p (Damage d b) (answer.Put n) = packet_put p d n (Noise (length b)) None
-drawn p (Take l n) (answer.Took k) = packet_taken p l n
+    packet_put p Up n false 0 (Some (asked_from service subtype body 0))
+    (request_words service subtype)
+drawn p (Finish d name) answer.Finished =
+    tracked (said p (sender_side d) weight.Plain (mark.Square style.Finished)
+    (joined (codes "finished " ∷ direction_word d ∷ codes " " ∷ name_text p.source name ∷ [])))
+    (sender_side d) (Sender name) None
+drawn p (Lose n) answer.Lost =
+    lost (said p (sender_side (option_map_or (λ s. s.direction) (slice_get p.sent n) Up)) weight.Plain mark.Nothing
+    (joined (codes "packet " ∷ decimal n ∷ codes " is lost" ∷ []))) n
+drawn p (Damage d b) (answer.Put n) =
+    packet_put p d n true 0 None (joined (codes "noise: " ∷ decimal (length b) ∷ codes " octet" ∷ plural (length b) ∷ []))
+drawn p (Take l n) (answer.Took k) =
+    taken (said p (receiver_side (lane_direction l)) weight.Quiet (mark.Took l)
+    (joined (lane_word l ∷ codes " takes " ∷ decimal n ∷ []))) l n
 drawn p (Deliver l) (answer.Delivered o) = delivered p l o
 drawn p (Tick side) (answer.Clock clock) = ticked p side clock
-drawn p (Expire side) (answer.Expired d name) = expired p d name
-drawn p (Claim w) (answer.Claimed boot job) = worked p (say.Claimed w boot job) job Claimed
-drawn p (Commit w) (answer.Committed boot job) = worked p (say.Committed w boot job) job Committed
-drawn p (Commit w) (answer.Stale boot job) = said p (say.Stale w boot job)
-drawn p Apply (answer.Applied a) = executed p a
-drawn p (Retire d name) answer.Retired = said p (say.Retired d name)
-drawn p (Restart side) (answer.Restarted boot) = restarted p side boot
+drawn p (Expire side) (answer.Expired d name) =
+    let stage = stage_of p (receiver_side d) (Reception name) in
+    tracked (said p (receiver_side d) weight.Strong mark.Expired
+    (joined (codes "expired " ∷ direction_word d ∷ codes " " ∷ name_text p.source name ∷ codes ": " ∷ decimal (kept_in stage)
+    ∷ of_words (parts_in stage) ∷ []))) (receiver_side d) (Reception name) None
+drawn p (Claim w) (answer.Claimed boot job) =
+    tracked (said p Craft weight.Plain mark.Nothing (job_words w (codes "claims") boot job [])) Craft (Job job) (Some Claimed)
+drawn p (Commit w) (answer.Committed boot job) =
+    tracked (said p Craft weight.Plain mark.Nothing (job_words w (codes "commits") boot job [])) Craft (Job job) (Some Committed)
+drawn p (Commit w) (answer.Stale boot job) =
+    said p Craft weight.Plain mark.Stale (job_words w (codes "hands in") boot job (codes ": stale"))
+drawn p Apply (answer.Applied a) =
+    opened_by (without_job (said p Craft weight.Strong (applied_mark a)
+    (applied_words p.source p.boot p.applied (option_flatten (slice_get p.tasks p.applied)) a))) a
+drawn p (Retire d name) answer.Retired =
+    said p (sender_side d) weight.Plain mark.Retired
+    (joined (codes "retired " ∷ direction_word d ∷ codes " " ∷ name_text p.source name ∷ []))
+drawn p (Restart Ground) (answer.Restarted boot) =
+    cleared (said p Ground weight.Strong mark.Restarted (joined (codes "starts anew: boot " ∷ decimal boot ∷ []))) Ground
+drawn p (Restart Craft) (answer.Restarted boot) =
+    record (cleared (said p Craft weight.Strong mark.Restarted (joined (codes "starts anew: boot " ∷ decimal boot ∷ []))) Craft)
+    { boot = boot; tasks = []; applied = 0 }
 drawn p _ _ = p
 
 -- how many packets of its own an event puts
@@ -174,15 +175,10 @@ abbrev pub after : Picture → ℕ → Entry → Picture
 after p place x =
     reported (own_puts x.event x.reply.puts) (drawn (record p { place = place }) x.event x.reply.answer)
 
--- a row for the next refused line, with its place and its side
-abbrev pub refusal_at : Picture → (place : ℕ) → Side → Picture
-refusal_at p place side =
-    let q : Picture = said (record p { place = place }) (say.Refused side p.refused) in
-    record q { refused = one_more p.refused }
-
--- rows for refused lines
-abbrev pub refusal_rows : Picture → List Refusal → Picture
-refusal_rows p refused = fold (λ q r. refusal_at q r.place r.side) p refused
+-- a row for a refused line
+abbrev pub refusal_row : Picture → Refusal → Picture
+refusal_row p r =
+    rowed (record p { place = r.place }) p.next false false false r.side weight.Quiet mark.Refused (refusal_words r)
 
 -- how many refused lines come before the entry of a place
 abbrev pub before : ℕ → List Refusal → ℕ
@@ -191,9 +187,9 @@ before place refused =
 
 -- the picture after the entries from this place on, and the lines that were refused between them
 abbrev pub after_all : Picture → ℕ → List Entry → List Refusal → Picture
-after_all p place [] refused = refusal_rows p refused
+after_all p place [] refused = fold refusal_row p refused
 after_all p place (x ∷ xs) refused =
-    after_all (after (refusal_rows p (take (before place refused) refused)) place x) (place + 1) xs
+    after_all (after (fold refusal_row p (take (before place refused) refused)) place x) (place + 1) xs
     (drop (before place refused) refused)
 
 -- the picture of a journal, to its end: what is open goes on to the last row
@@ -204,7 +200,51 @@ closed p = record p {
   bars = (p.bars ++ all_bars Ground p.next 0 p.ground) ++ all_bars Craft p.next 0 p.craft;
 }
 
--- the picture of a journal, with lines that were refused, where this is known of packets and
--- openings
-abbrev pub picture : List Kind → List Opened → List Entry → List Refusal → Picture
-picture kinds opened journal refused = closed (after_all (blank kinds opened) 0 journal refused)
+-- the picture of a journal, with lines that were refused, where this source is configured, and this is
+-- known of packets and openings
+abbrev pub picture : (source : ℕ) → List Kind → List Opened → List Entry → List Refusal → Picture
+picture source kinds opened journal refused = closed (after_all (blank source kinds opened) 0 journal refused)
+
+-- a delivery: its place in the journal, its lane, and what became of the packet
+pub record Delivery : Type 0 where
+  pub place : ℕ
+  pub lane : Lane
+  pub outcome : Outcome
+
+-- the delivery of an entry, where it is one
+abbrev pub delivery_in : ℕ → Event → Answer → List Delivery
+delivery_in place (Deliver l) (answer.Delivered o) =
+    record { place = place; lane = l; outcome = o } ∷ []
+delivery_in place _ _ = []
+
+-- the deliveries of a journal from this place on
+abbrev pub deliveries_from : ℕ → List Entry → List Delivery
+deliveries_from place [] = []
+deliveries_from place (x ∷ xs) = delivery_in place x.event x.reply.answer ++ deliveries_from (place + 1) xs
+
+-- the deliveries that flights draw
+abbrev pub shown_one : Flight → Delivery
+shown_one f = record { place = f.place; lane = f.lane; outcome = f.outcome }
+
+abbrev pub shown_by : List Flight → List Delivery
+shown_by flights = map shown_one flights
+
+-- whether a delivery released a message
+abbrev pub releases : Outcome → Bool
+releases (outcome.Released name len) = true
+releases (outcome.PlainReleased len) = true
+releases _ = false
+
+abbrev pub is_release : Delivery → Bool
+is_release d = releases d.outcome
+
+-- the flights draw the deliveries of the journal, each once, in order, whatever lines were refused
+abbrev pub DrawsDeliveries : (source : ℕ) → List Kind → List Opened → List Entry → List Refusal → Type 0
+DrawsDeliveries source kinds opened journal refused =
+    shown_by (picture source kinds opened journal refused).flights ≡ deliveries_from 0 journal
+
+-- and so each release, once, in order
+abbrev pub DrawsReleases : (source : ℕ) → List Kind → List Opened → List Entry → List Refusal → Type 0
+DrawsReleases source kinds opened journal refused =
+    filter is_release (shown_by (picture source kinds opened journal refused).flights)
+    ≡ filter is_release (deliveries_from 0 journal)

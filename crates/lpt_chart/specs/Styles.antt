@@ -1,5 +1,5 @@
--- How shapes and letters look, as attributes of elements.
-use Rattle.std.specs.Prelude.{ℕ, List, codes}
+-- How shapes and letters look, as attributes of elements, and what the legend says of them.
+use Rattle.std.specs.Prelude.{ℕ, List, [], codes}
 use Rattle.lpt_packet.specs.declared.direction.Direction.TheVariants.{Up, Down}
 use Rattle.lpt_events.specs.declared.side.Side.TheVariants as side
 use Rattle.lpt_chart.specs.Types.{Letters, Style}
@@ -77,3 +77,33 @@ letters_text (Bead Up) = codes "fill='#0b5fa5' font-size='10' text-anchor='middl
 letters_text (Bead Down) = codes "fill='#a84300' font-size='10' text-anchor='middle'"
 letters_text Key = codes "font-size='11' text-anchor='start'"
 letters_text BeadWhite = codes "fill='#ffffff' font-size='10' text-anchor='middle'"
+
+-- the words for a style; none for one that explains itself, or is explained with another
+abbrev pub key_words : Style → List ℕ
+key_words (Way Up) = codes "packet up"
+key_words (Way Down) = codes "packet down"
+key_words (WayAgain d) = codes "taken once more"
+key_words (WayNoise d) = codes "what noise left"
+key_words (Noise d) = codes "what noise left"
+key_words (InHand d) = codes "in a lane's hand"
+key_words (Waiting d) = codes "stays on the link"
+key_words Late = codes "lost after a lane took it"
+key_words Cross = codes "lost"
+key_words Expired = codes "reception expired"
+key_words (Hollow d) = codes "packet 0 put on the link"
+key_words (Kept d) = codes "part kept"
+key_words (Dashed d) = codes "kept before, or ignored"
+key_words (Noted d) = codes "report noted"
+key_words (Ring d) = codes "message released"
+key_words Retiring = codes "identifier free at both ends"
+key_words Opened = codes "message opened; no request"
+key_words Finished = codes "sender finished; job executed"
+key_words (Sender d) = codes "open sender"
+key_words (Reception d) = codes "reception: kept of all parts"
+key_words JobWaits = codes "job released, waits"
+key_words JobHollow = codes "job claimed by a worker"
+key_words JobFilled = codes "reading of the job committed"
+key_words Tick = codes "a clock goes on"
+key_words Restart = codes "node starts anew"
+key_words Refused = codes "line refused"
+key_words _ = []

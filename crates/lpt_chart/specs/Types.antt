@@ -1,24 +1,22 @@
 -- The types of which the definitions speak, as the code has them.
-pub use Rattle.lpt_chart.specs.declared.choice.Choice.{Choice}
 pub use Rattle.lpt_chart.specs.declared.frame.Frame.{Frame}
 pub use Rattle.lpt_chart.specs.declared.marks.Bar.{Bar}
-pub use Rattle.lpt_chart.specs.declared.marks.Content.{Content}
+pub use Rattle.lpt_chart.specs.declared.marks.Choice.{Choice}
 pub use Rattle.lpt_chart.specs.declared.marks.Flight.{Flight}
 pub use Rattle.lpt_chart.specs.declared.marks.Hands.{Hands}
 pub use Rattle.lpt_chart.specs.declared.marks.Held.{Held}
 pub use Rattle.lpt_chart.specs.declared.marks.Kind.{Kind}
+pub use Rattle.lpt_chart.specs.declared.marks.Mark.{Mark}
 pub use Rattle.lpt_chart.specs.declared.marks.Opened.{Opened}
+pub use Rattle.lpt_chart.specs.declared.marks.Refusal.{Refusal}
 pub use Rattle.lpt_chart.specs.declared.marks.Row.{Row}
-pub use Rattle.lpt_chart.specs.declared.marks.Saying.{Saying}
 pub use Rattle.lpt_chart.specs.declared.marks.Sent.{Sent}
 pub use Rattle.lpt_chart.specs.declared.marks.Stage.{Stage}
 pub use Rattle.lpt_chart.specs.declared.marks.Task.{Task}
 pub use Rattle.lpt_chart.specs.declared.marks.Thing.{Thing}
 pub use Rattle.lpt_chart.specs.declared.marks.Track.{Track}
-pub use Rattle.lpt_chart.specs.declared.refusal.Refusal.{Refusal}
 pub use Rattle.lpt_chart.specs.declared.shape.Shape.{Shape}
 pub use Rattle.lpt_chart.specs.declared.shape.Sign.{Sign}
-pub use Rattle.lpt_chart.specs.declared.shape.Words.{Words}
 pub use Rattle.lpt_chart.specs.declared.style.Letters.{Letters}
 pub use Rattle.lpt_chart.specs.declared.style.Style.{Style}
 pub use Rattle.lpt_chart.specs.declared.style.Weight.{Weight}

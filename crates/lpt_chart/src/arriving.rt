@@ -1,14 +1,14 @@
-//! What a delivery draws: its row, its flight, and what it does to what is open.
+//! What a delivery and the execution of a job draw, and what they do to what is open.
 
-ghost use Rattle.std.specs.Prelude.{◌≡◌, OnOk};
-ghost use Rattle.lpt_events.specs.Sides.{receiver_side};
-ghost use Rattle.lpt_chart.specs.Events.{came_to, delivered, numbers_told, parts_held, parts_in_content, released_by, task_held};
-ghost use Rattle.lpt_chart.specs.Pictures.{tracked};
+ghost use Rattle.std.specs.Prelude.{◌≡◌, ◌==◌, position, IfOk, OnOk, string_bytes};
+ghost use Rattle.lpt_chart.specs.Events.{applied_mark, came_to, delivered, drawn, kept_then, opened_by, outcome_weight, outcome_words, parts_held, parts_opened, task_held};
 
-use crate::hands::in_hand;
-use crate::marks::{Content, Held, Saying, Stage, Task, Thing};
+use crate::marks::{Held, Mark, Opened, Stage, Task, Thing};
 use crate::picture::Picture;
-use lpt_events::{Lane, Outcome, Side};
+use crate::style::{Style, Weight};
+use crate::tracks::kept;
+use crate::words::{applied_words, of_words, reason_word, report_words};
+use lpt_events::{Answer, Applied, Event, Lane, Outcome, Side, name_word};
 use lpt_packet::{Direction, Name};
 use std::alloc::AllocError;
 
@@ -17,26 +17,74 @@ impl Picture {
     pub(crate) fn deliver(&mut self, lane: Lane, outcome: Outcome) -> Result<(), AllocError>
         ensures { OnOk result (self.new ≡ delivered self.old lane outcome) }
     {
-        let direction = lane.direction();
-        let held = in_hand(self.hands, lane);
-        let (first, second) = self.numbers_told(held, direction, outcome);
-        self.land(lane, Saying::Delivered(lane, outcome, first, second))?;
+        let (direction, held) = (lane.direction(), self.hand(lane));
+        let words = self.outcome_words(held, direction, outcome)?;
+        self.land(
+            lane,
+            Side::receiver(direction),
+            outcome_weight(outcome),
+            words,
+        )?;
         self.fly(lane, outcome)?;
         self.come_to(held, direction, outcome)
     }
 
-    // The two numbers that are shown of an outcome: of a kept part how many are kept and of how many,
-    // of a request that is released the boot and the number of its job.
-    #[tactic(auto, unfolding(crate::specs::Events::numbers_told))]
-    fn numbers_told(&self, held: Option<Held>, direction: Direction, outcome: Outcome) -> (u64, u64)
-        ensures { result ≡ numbers_told self.now held direction outcome }
+    // How many parts are kept with one more.
+    #[tactic(auto, unfolding(crate::specs::Events::kept_then))]
+    fn kept_then(&self, direction: Direction, name: Name) -> u16
+        ensures { result ≡ kept_then self.now direction name }
     {
+        let stage = self.stage_of(Side::receiver(direction), Thing::Reception(name));
+        kept(stage).saturating_add(1)
+    }
+
+    // What a delivery came to. What is released at the spacecraft is a job.
+    #[tactic(auto, unfolding(crate::specs::Events::outcome_words))]
+    fn outcome_words(
+        &self,
+        held: Option<Held>,
+        direction: Direction,
+        outcome: Outcome,
+    ) -> Result<String, AllocError>
+        ensures { IfOk result (λ t. string_bytes t ≡ outcome_words self.now held direction outcome) }
+    {
+        let (alloc, source, way) = (self.alloc(), self.source, direction.word());
+        let (boot, job) = (self.boot, self.tasks.len());
         match outcome {
-            Outcome::Kept(name, _) => {
-                let kept = self.kept_then(direction, name);
-                (u64::from(kept), u64::from(parts_held(held)))
+            Outcome::Kept(name, part) => {
+                let of = of_words(alloc, parts_held(held))?;
+                let (kept, name) = (self.kept_then(direction, name), name_word(source, name));
+                format!(in alloc; "kept {way} {name} part {part}: {kept}{of}")
             }
-            _ => (self.boot, self.tasks.len() as u64),
+            Outcome::Again(name, part) => {
+                let name = name_word(source, name);
+                format!(in alloc; "again {way} {name} part {part}")
+            }
+            Outcome::Released(name, octets) => {
+                let name = name_word(source, name);
+                match direction {
+                    Direction::Up => {
+                        format!(in alloc; "released up {name}: {octets} octets, job {boot}.{job}")
+                    }
+                    Direction::Down => format!(in alloc; "released down {name}: {octets} octets"),
+                }
+            }
+            Outcome::PlainReleased(octets) => {
+                format!(in alloc; "released request: {octets} octets, job {boot}.{job}")
+            }
+            Outcome::ReportNoted(service, subtype) => report_words(alloc, service, subtype),
+            Outcome::AbortNoted(name, reason) => {
+                let (name, reason) = (name_word(source, name), reason_word(reason));
+                format!(in alloc; "broken off: up {name}, {reason}")
+            }
+            Outcome::Broken(name, reason) => {
+                let (name, reason) = (name_word(source, name), reason_word(reason));
+                format!(in alloc; "broken {way} {name}: {reason}")
+            }
+            Outcome::Ignored(why) => {
+                let why = why.name();
+                format!(in alloc; "ignored: {why}")
+            }
         }
     }
 
@@ -50,87 +98,112 @@ impl Picture {
     ) -> Result<(), AllocError>
         ensures { OnOk result (self.new ≡ came_to self.old held direction outcome) }
     {
+        let side = Side::receiver(direction);
         match outcome {
             Outcome::Kept(name, _) => {
                 let stage = Stage::Kept(self.kept_then(direction, name), parts_held(held));
-                self.receive(direction, name, Some(stage))
+                self.track(side, Thing::Reception(name), Some(stage))
             }
-            Outcome::Released(name, _) => self.release_message(task_held(held), direction, name),
+            Outcome::Released(name, _) => {
+                self.track(side, Thing::Reception(name), None)?;
+                match direction {
+                    Direction::Up => self.release(task_held(held)),
+                    Direction::Down => Ok(()),
+                }
+            }
             Outcome::PlainReleased(_) => self.release(task_held(held)),
-            Outcome::AbortNoted(name, _) => { self.track(Side::Ground, Thing::Sender(name), None) }
-            Outcome::Broken(name, _) => self.receive(direction, name, None),
+            Outcome::AbortNoted(name, _) => self.track(Side::Ground, Thing::Sender(name), None),
+            Outcome::Broken(name, _) => self.track(side, Thing::Reception(name), None),
             Outcome::Again(_, _) | Outcome::ReportNoted(_, _) | Outcome::Ignored(_) => Ok(()),
         }
     }
 
-    // A reception comes to a stage, or to its end.
-    pub(crate) fn receive(
-        &mut self,
-        direction: Direction,
-        name: Name,
-        stage: Option<Stage>,
-    ) -> Result<(), AllocError>
-        ensures { OnOk result
-            (self.new ≡ tracked self.old (receiver_side direction) (Thing.Reception name) stage) }
+    // A job is executed.
+    pub(crate) fn execute(&mut self, applied: Applied) -> Result<(), AllocError>
+        ensures { OnOk result (self.new ≡ drawn self.old Event.Apply (Answer.Applied applied)) }
     {
-        self.track(Side::receiver(direction), Thing::Reception(name), stage)
+        let (boot, job) = (self.boot, self.applied);
+        let task = self.tasks.get(job as usize).copied().flatten();
+        let words = applied_words(self.alloc(), self.source, boot, job, task, applied)?;
+        self.say(Side::Craft, Weight::Strong, applied_mark(applied), words)?;
+        self.apply()?;
+        self.open_report(applied)
     }
 
-    // A large message is released that asks for this.
-    fn release_message(
-        &mut self,
-        task: Option<Task>,
-        direction: Direction,
-        name: Name,
-    ) -> Result<(), AllocError>
-        ensures { OnOk result (self.new ≡ released_by self.old task direction name) }
+    // The sender of a report of data, where one was opened.
+    fn open_report(&mut self, applied: Applied) -> Result<(), AllocError>
+        ensures { OnOk result (self.new ≡ opened_by self.old applied) }
     {
-        self.receive(direction, name, None)?;
-        match direction {
-            Direction::Up => self.release(task),
-            Direction::Down => Ok(()),
+        match applied {
+            Applied::Done(Some(name)) => {
+                let stage = Some(Stage::Sending(self.parts_opened(), None));
+                self.track(Side::Craft, Thing::Sender(name), stage)
+            }
+            Applied::Done(None) | Applied::Silent | Applied::Code(_) => Ok(()),
+        }
+    }
+
+    // Of how many parts the message is that the entry opened which is drawn.
+    fn parts_opened(&self) -> u16
+        ensures { result ≡ parts_opened self.now }
+    {
+        match opening_at(self.place, self.opened.as_slice()) {
+            Some(at) => match self.opened.get(at) {
+                Some(opened) => opened.parts,
+                None => 0,
+            },
+            None => 0,
         }
     }
 }
 
-// Of how many parts the message of a packet is.
-fn parts_in(content: Content) -> u16
-    ensures { result ≡ parts_in_content content }
+// The opening by the entry of a place.
+fn opening_at(place: u64, opened: &[Opened]) -> Option<usize>
+    ensures { result ≡ position (λ o. o.place == place) opened.now }
 {
-    match content {
-        Content::Part(_, _, parts) => parts,
-        _ => 0,
+    opened.iter().position(|opened| opened.place == place)
+}
+
+// How an executed job is marked.
+fn applied_mark(applied: Applied) -> Mark
+    ensures { result ≡ applied_mark applied }
+{
+    match applied {
+        Applied::Done(_) => Mark::Square(Style::Finished),
+        Applied::Silent => Mark::Square(Style::Opened),
+        Applied::Code(_) => Mark::Failed,
+    }
+}
+
+// How an outcome is drawn: what is released or broken off is bold, what changed nothing grey.
+fn outcome_weight(outcome: Outcome) -> Weight
+    ensures { result ≡ outcome_weight outcome }
+{
+    match outcome {
+        Outcome::Released(_, _) | Outcome::PlainReleased(_) | Outcome::Broken(_, _) => {
+            Weight::Strong
+        }
+        Outcome::Again(_, _) | Outcome::Ignored(_) => Weight::Quiet,
+        _ => Weight::Plain,
     }
 }
 
 // Of how many parts the message of a packet in a hand is; 0 where that isn't known.
-#[tactic(auto, unfolding(crate::specs::Events::parts_held))]
 fn parts_held(held: Option<Held>) -> u16
     ensures { result ≡ parts_held held }
 {
     match held {
-        Some(
-            Held {
-                sent: Some(sent),
-                ..
-            },
-        ) => parts_in(sent.content),
-        _ => 0,
+        Some(held) => held.sent.parts,
+        None => 0,
     }
 }
 
 // What the message of a packet in a hand asks for.
-#[tactic(auto, unfolding(crate::specs::Events::task_held))]
 fn task_held(held: Option<Held>) -> Option<Task>
     ensures { result ≡ task_held held }
 {
     match held {
-        Some(
-            Held {
-                sent: Some(sent),
-                ..
-            },
-        ) => sent.task,
-        _ => None,
+        Some(held) => held.sent.task,
+        None => None,
     }
 }

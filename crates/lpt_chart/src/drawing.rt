@@ -1,29 +1,32 @@
 //! What each event draws.
 
-ghost use Rattle.std.specs.Prelude.{◌≡◌, ◌≤◌, length, nat_lt, position, IfOk, IfSome, OnOk};
-ghost use Rattle.lpt_chart.specs.Events.{after, after_all, before, closed, direction_of, drawn, executed, expired, finished, message_opened, own_puts, packet_lost, packet_put, packet_taken, part_put, picture, refusal_at, refusal_rows, restarted, worked};
+ghost use Rattle.std.specs.Prelude.{◌≡◌, ◌≤◌, fold, length, nat_lt, position, IfOk, IfSome, OnOk, [], string_bytes};
+ghost use Rattle.lpt_chart.specs.Events.{after, after_all, before, closed, drawn, own_puts, packet_put, picture, refusal_row};
+ghost use Rattle.lpt_chart.specs.Pictures.{said, tracked};
+ghost use Rattle.lpt_chart.specs.Words.{job_words};
 
-use crate::marks::{Content, Kind, Opened, Saying, Sent, Stage, Task, Thing};
+use crate::marks::{Kind, Mark, Opened, Refusal, Stage, Task, Thing};
 use crate::picture::Picture;
-use crate::refusal::Refusal;
+use crate::style::{Style, Weight};
 use crate::task::{asked_from, asked_in};
-use crate::tracks::{kept, parts, stage_of, task};
-use lpt_events::{Answer, Applied, Entry, Event, Lane, Puts, Side};
-use lpt_packet::{Direction, Name};
+use crate::tracks::{kept, parts, task};
+use crate::words::{job_words, lane_word, of_words, plural, refusal_words, request_words};
+use lpt_events::{Answer, Entry, Event, Lane, Puts, Side, Worker, name_word};
+use lpt_packet::{Direction, Name, Octets};
 use std::alloc::{AllocError, Global};
 
-/// What is drawn of a journal, with the lines that were refused, where this is known of packets and
-/// openings.
+/// What is drawn of a journal and of the lines that were refused, by what is known beside it.
 pub(crate) fn draw_journal(
     alloc: Global,
+    source: u16,
     kinds: &[Kind],
     opened: &[Opened],
     journal: &[Entry],
     refused: &[Refusal],
 ) -> Result<Picture, AllocError>
-    ensures { IfOk result (λ p. p ≡ picture kinds.now opened.now journal.now refused.now) }
+    ensures { IfOk result (λ p. p ≡ picture source kinds.now opened.now journal.now refused.now) }
 {
-    let mut drawn = Picture::new(alloc, kinds, opened)?;
+    let mut drawn = Picture::new(alloc, source, kinds, opened)?;
     match drawn.draw_all(journal, refused) {
         Ok(()) => Ok(drawn),
         Err(error) => {
@@ -71,23 +74,31 @@ impl Picture {
 
     // Draws refused lines.
     fn refuse(&mut self, refused: &[Refusal]) -> Result<(), AllocError>
-        ensures { OnOk result (self.new ≡ refusal_rows self.old refused.now) }
+        ensures { OnOk result (self.new ≡ fold refusal_row self.old refused.now) }
     {
         for refusal in refused {
-            self.add_refusal(refusal.place, refusal.side)?;
+            self.add_refusal(refusal)?;
         }
         Ok(())
     }
 
-    // Draws the next refused line, with its place and its side.
-    #[tactic(auto, unfolding(crate::specs::Pictures::rowed))]
-    fn add_refusal(&mut self, place: u64, side: Side) -> Result<(), AllocError>
-        ensures { OnOk result (self.new ≡ refusal_at self.old place side) }
+    // Draws a refused line.
+    fn add_refusal(&mut self, refusal: &Refusal) -> Result<(), AllocError>
+        ensures { OnOk result (self.new ≡ refusal_row self.old refusal.now) }
     {
-        self.place = place;
-        self.say(Saying::Refused(side, self.refused))?;
-        self.count_refusal();
-        Ok(())
+        let words = refusal_words(self.alloc(), refusal)?;
+        self.place = refusal.place;
+        let (at, side) = (self.next, refusal.side);
+        self.row(
+            at,
+            false,
+            false,
+            false,
+            side,
+            Weight::Quiet,
+            Mark::Refused,
+            words,
+        )
     }
 
     // Draws the entry of this place.
@@ -105,182 +116,219 @@ impl Picture {
     {
         match (event, answer) {
             (Event::Open(direction, name, message), Answer::Opened(parts)) => {
-                self.draw_opening(*direction, *name, message.as_slice(), parts)
+                self.open(*direction, *name, message, parts)
             }
             (Event::Send(direction, name, part), Answer::Put(number)) => {
-                self.put_part(*direction, *name, *part, number)
+                self.send(*direction, *name, *part, number)
             }
             (Event::Plain(_, _, service, subtype, body), Answer::Put(number)) => {
                 let task = asked_from(*service, *subtype, body.as_slice(), 0);
-                let content = Content::Request(*service, *subtype);
-                self.put_packet(Direction::Up, number, content, Some(task))
+                let words = request_words(self.alloc(), *service, *subtype)?;
+                self.put_packet(Direction::Up, number, false, 0, Some(task), words)
             }
             (Event::Finish(direction, name), Answer::Finished) => self.finish(*direction, *name),
             (Event::Lose(number), Answer::Lost) => self.lose_packet(*number),
             (Event::Damage(direction, octets), Answer::Put(number)) => {
-                let noise = Content::Noise(octets.as_slice().len() as u64);
-                self.put_packet(*direction, number, noise, None)
+                self.damage(*direction, octets, number)
             }
             (Event::Take(lane, number), Answer::Took(_)) => self.take_packet(*lane, *number),
             (Event::Deliver(lane), Answer::Delivered(outcome)) => self.deliver(*lane, outcome),
             (Event::Tick(side), Answer::Clock(clock)) => self.tick(*side, clock),
             (Event::Expire(_), Answer::Expired(direction, name)) => self.expire(direction, name),
             (Event::Claim(worker), Answer::Claimed(boot, job)) => {
-                self.work(Saying::Claimed(*worker, boot, job), job, Stage::Claimed)
+                self.work(*worker, "claims", boot, job, Stage::Claimed)
             }
             (Event::Commit(worker), Answer::Committed(boot, job)) => {
-                self.work(Saying::Committed(*worker, boot, job), job, Stage::Committed)
+                self.work(*worker, "commits", boot, job, Stage::Committed)
             }
             (Event::Commit(worker), Answer::Stale(boot, job)) => {
-                self.say(Saying::Stale(*worker, boot, job))
+                let words = job_words(self.alloc(), *worker, "hands in", boot, job, ": stale")?;
+                self.say(Side::Craft, Weight::Plain, Mark::Stale, words)
             }
             (Event::Apply, Answer::Applied(applied)) => self.execute(applied),
-            (Event::Retire(direction, name), Answer::Retired) => {
-                self.say(Saying::Retired(*direction, *name))
-            }
+            (Event::Retire(direction, name), Answer::Retired) => self.retire(*direction, *name),
             (Event::Restart(side), Answer::Restarted(boot)) => self.restart(*side, boot),
-            // Each event by its name: with a `_` the compiler wouldn't tell of a new one.
-            (
-                Event::Open(_, _, _)
-                | Event::Send(_, _, _)
-                | Event::Plain(_, _, _, _, _)
-                | Event::Lose(_)
-                | Event::Damage(_, _)
-                | Event::Take(_, _)
-                | Event::Deliver(_)
-                | Event::Finish(_, _)
-                | Event::Tick(_)
-                | Event::Expire(_)
-                | Event::Claim(_)
-                | Event::Commit(_)
-                | Event::Apply
-                | Event::Retire(_, _)
-                | Event::Restart(_),
-                _,
-            ) => Ok(()),
+            // A new event is told of by `own_puts`, which names each.
+            _ => Ok(()),
         }
     }
 
     // A message is opened.
-    fn draw_opening(
+    fn open(
         &mut self,
         direction: Direction,
         name: Name,
-        message: &[u8],
+        message: &Octets,
         parts: u16,
     ) -> Result<(), AllocError>
         ensures { OnOk result
-            (self.new ≡ message_opened self.old direction name message.now parts) }
+            (self.new ≡ drawn self.old (Event.Open direction name message.now) (Answer.Opened parts)) }
     {
-        self.say(Saying::Opened(direction, name, message.len() as u64, parts))?;
-        let stage = Some(Stage::Sending(parts, asked_in(direction, message)));
-        self.track(Side::sender(direction), Thing::Sender(name), stage)
+        let (side, task) = (
+            Side::sender(direction),
+            asked_in(direction, message.as_slice()),
+        );
+        let (way, octets, word) = (
+            direction.word(),
+            message.as_slice().len(),
+            name_word(self.source, name),
+        );
+        let words = format!(in self.alloc(); "open {way} {word}: {octets} octets, {parts} parts")?;
+        self.say(side, Weight::Plain, Mark::Square(Style::Opened), words)?;
+        self.track(side, Thing::Sender(name), Some(Stage::Sending(parts, task)))
     }
 
-    // A part is put.
-    fn put_part(
+    // A packet is put by who sends in its direction.
+    fn put_packet(
+        &mut self,
+        direction: Direction,
+        number: u64,
+        noise: bool,
+        parts: u16,
+        task: Option<Task>,
+        words: String,
+    ) -> Result<(), AllocError>
+        ensures { OnOk result
+            (self.new ≡ packet_put self.old direction number noise parts task (string_bytes words)) }
+    {
+        let mark = Mark::Bead(direction, number, noise);
+        let copy = Octets::from_vec(Vec::from_slice(self.alloc(), words.as_bytes())?);
+        self.say(Side::sender(direction), Weight::Quiet, mark, words)?;
+        self.put(direction, copy, noise, parts, task)
+    }
+
+    // A part is put. Of how many, and what its message asks for, is known of the open sender.
+    fn send(
         &mut self,
         direction: Direction,
         name: Name,
         part: u16,
         number: u64,
     ) -> Result<(), AllocError>
-        ensures { OnOk result (self.new ≡ part_put self.old direction name part number) }
+        ensures { OnOk result
+            (self.new ≡ drawn self.old (Event.Send direction name part) (Answer.Put number)) }
     {
-        let stage = stage_of(self.columns(Side::sender(direction)), Thing::Sender(name));
-        let content = Content::Part(name, part, parts(stage));
-        self.put_packet(direction, number, content, task(stage))
+        let stage = self.stage_of(Side::sender(direction), Thing::Sender(name));
+        let of = of_words(self.alloc(), parts(stage))?;
+        let (way, word) = (direction.word(), name_word(self.source, name));
+        let words = format!(in self.alloc(); "{way} {word} part {part}{of}")?;
+        self.put_packet(direction, number, false, parts(stage), task(stage), words)
     }
 
-    // A packet is put.
-    fn put_packet(
+    // Noise leaves so many octets.
+    fn damage(
         &mut self,
         direction: Direction,
+        octets: &Octets,
         number: u64,
-        content: Content,
-        task: Option<Task>,
     ) -> Result<(), AllocError>
-        ensures { OnOk result (self.new ≡ packet_put self.old direction number content task) }
+        ensures { OnOk result
+            (self.new ≡ drawn self.old (Event.Damage direction octets.now) (Answer.Put number)) }
     {
-        self.say(Saying::Put(direction, number, content))?;
-        self.put(direction, content, task)
+        let octets = octets.as_slice().len() as u64;
+        let s = plural(octets);
+        let words = format!(in self.alloc(); "noise: {octets} octet{s}")?;
+        self.put_packet(direction, number, true, 0, None, words)
     }
 
     // A sender is closed.
     fn finish(&mut self, direction: Direction, name: Name) -> Result<(), AllocError>
-        ensures { OnOk result (self.new ≡ finished self.old direction name) }
+        ensures { OnOk result
+            (self.new ≡ drawn self.old (Event.Finish direction name) Answer.Finished) }
     {
-        self.say(Saying::Finished(direction, name))?;
-        self.track(Side::sender(direction), Thing::Sender(name), None)
+        let (way, word) = (direction.word(), name_word(self.source, name));
+        let (side, mark) = (Side::sender(direction), Mark::Square(Style::Finished));
+        self.say(
+            side,
+            Weight::Plain,
+            mark,
+            format!(in self.alloc(); "finished {way} {word}")?,
+        )?;
+        self.track(side, Thing::Sender(name), None)
     }
 
-    // A packet is lost.
+    // A packet is lost. Its row stands at ground where there is no such packet.
     fn lose_packet(&mut self, number: u64) -> Result<(), AllocError>
-        ensures { OnOk result (self.new ≡ packet_lost self.old number) }
+        ensures { OnOk result (self.new ≡ drawn self.old (Event.Lose number) Answer.Lost) }
     {
-        let direction = direction_of(self.packet(number));
-        self.say(Saying::Lost(direction, number))?;
+        let side = match self.sent.get(number as usize) {
+            Some(sent) => Side::sender(sent.direction),
+            None => Side::Ground,
+        };
+        let words = format!(in self.alloc(); "packet {number} is lost")?;
+        self.say(side, Weight::Plain, Mark::Nothing, words)?;
         self.lose(number)
     }
 
     // A lane takes a packet.
     fn take_packet(&mut self, lane: Lane, number: u64) -> Result<(), AllocError>
-        ensures { OnOk result (self.new ≡ packet_taken self.old lane number) }
+        ensures { OnOk result (self.new ≡ drawn self.old (Event.Take lane number) (Answer.Took 0)) }
     {
-        self.say(Saying::Taken(lane, number))?;
+        let word = lane_word(lane);
+        let words = format!(in self.alloc(); "{word} takes {number}")?;
+        self.say(lane.receiver(), Weight::Quiet, Mark::Took(lane), words)?;
         self.take(lane, number);
         Ok(())
     }
 
     // A reception has expired.
     fn expire(&mut self, direction: Direction, name: Name) -> Result<(), AllocError>
-        ensures { OnOk result (self.new ≡ expired self.old direction name) }
+        ensures { OnOk result
+            (self.new ≡ drawn self.old (Event.Expire Side.Ground) (Answer.Expired direction name)) }
     {
-        let stage = stage_of(
-            self.columns(Side::receiver(direction)),
-            Thing::Reception(name),
-        );
-        self.say(Saying::Expired(direction, name, kept(stage), parts(stage)))?;
-        self.receive(direction, name, None)
+        let (side, thing) = (Side::receiver(direction), Thing::Reception(name));
+        let stage = self.stage_of(side, thing);
+        let of = of_words(self.alloc(), parts(stage))?;
+        let (way, word, kept) = (direction.word(), name_word(self.source, name), kept(stage));
+        let words = format!(in self.alloc(); "expired {way} {word}: {kept}{of}")?;
+        self.say(side, Weight::Strong, Mark::Expired, words)?;
+        self.track(side, thing, None)
     }
 
-    // A job comes to a stage.
-    fn work(&mut self, saying: Saying, job: u64, stage: Stage) -> Result<(), AllocError>
-        ensures { OnOk result (self.new ≡ worked self.old saying job stage) }
+    // A worker brings a job to a stage.
+    fn work(
+        &mut self,
+        worker: Worker,
+        does: &str,
+        boot: u64,
+        job: u64,
+        stage: Stage,
+    ) -> Result<(), AllocError>
+        ensures { OnOk result (self.new ≡ tracked
+            (said self.old Side.Craft Weight.Plain Mark.Nothing (job_words worker does.now boot job []))
+            Side.Craft (Thing.Job job) (Some stage)) }
     {
-        self.say(saying)?;
+        let words = job_words(self.alloc(), worker, does, boot, job, "")?;
+        self.say(Side::Craft, Weight::Plain, Mark::Nothing, words)?;
         self.track(Side::Craft, Thing::Job(job), Some(stage))
     }
 
-    // A job is executed.
-    fn execute(&mut self, applied: Applied) -> Result<(), AllocError>
-        ensures { OnOk result (self.new ≡ executed self.old applied) }
+    // A transaction is free at both ends.
+    fn retire(&mut self, direction: Direction, name: Name) -> Result<(), AllocError>
+        ensures { OnOk result
+            (self.new ≡ drawn self.old (Event.Retire direction name) Answer.Retired) }
     {
-        let (boot, job) = (self.boot, self.applied);
-        self.say(Saying::Applied(boot, job, self.task_next(), applied))?;
-        self.apply()?;
-        match applied {
-            Applied::Done(Some(name)) => {
-                let stage = Some(Stage::Sending(self.parts_opened(), None));
-                self.track(Side::Craft, Thing::Sender(name), stage)
-            }
-            Applied::Done(None) | Applied::Silent | Applied::Code(_) => Ok(()),
-        }
+        let (way, word) = (direction.word(), name_word(self.source, name));
+        let words = format!(in self.alloc(); "retired {way} {word}")?;
+        self.say(Side::sender(direction), Weight::Plain, Mark::Retired, words)
     }
 
     // A node is restarted.
     fn restart(&mut self, side: Side, boot: u64) -> Result<(), AllocError>
-        ensures { OnOk result (self.new ≡ restarted self.old side boot) }
+        ensures { OnOk result (self.new ≡ drawn self.old (Event.Restart side) (Answer.Restarted boot)) }
     {
-        self.say(Saying::Restarted(side, boot))?;
+        let words = format!(in self.alloc(); "starts anew: boot {boot}")?;
+        self.say(side, Weight::Strong, Mark::Restarted, words)?;
         self.clear(side)?;
         match side {
-            Side::Ground => Ok(()),
+            Side::Ground => {}
             Side::Craft => {
-                self.begin_boot(boot);
-                Ok(())
+                self.boot = boot;
+                self.tasks.clear();
+                self.applied = 0;
             }
         }
+        Ok(())
     }
 }
 
@@ -298,15 +346,5 @@ fn own_puts(event: &Event, puts: Option<Puts>) -> u64
         Event::Lose(_) | Event::Damage(_, _) | Event::Take(_, _) | Event::Finish(_, _) => 0,
         Event::Tick(_) | Event::Claim(_) | Event::Commit(_) => 0,
         Event::Retire(_, _) | Event::Restart(_) => 0,
-    }
-}
-
-// The direction of a packet; up where there is no such packet.
-fn direction_of(sent: Option<Sent>) -> Direction
-    ensures { result ≡ direction_of sent }
-{
-    match sent {
-        Some(sent) => sent.direction,
-        None => Direction::Up,
     }
 }

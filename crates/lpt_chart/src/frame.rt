@@ -1,29 +1,124 @@
-//! Where things stand in a picture, in whole pixels.
+//! Which rows are drawn, and where things stand in a picture, in whole pixels.
 
-ghost use Rattle.std.specs.Prelude.{◌≡◌, ◌<◌, ◌≤◌, ◌^◌};
-ghost use Rattle.lpt_chart.specs.Frames.{across_from, across_to, bar_x, foot_y, half, holds, lane_x, legend_high, legend_y, middle_x, rows_high, shows, side_x, top_of, toward, whole_high, y_of};
+ghost use Rattle.std.specs.Prelude.{◌≡◌, ◌<◌, ◌≤◌, ◌^◌, length, nat_le, nat_lt, position};
+ghost use Rattle.lpt_chart.specs.Frames.{bar_x, foot_y, frame_of, half, height_of, hidden_above, lane_x, legend_high, middle_x, row_end, rows_high, shows, side_x, toward, whole_high, wide_of, widest_at, y_of};
 
+use crate::marks::{Choice, Row};
+use crate::picture::{Picture, is_side};
+use crate::title::{title_room, title_wide};
 use lpt_events::{Lane, Side};
 
-/// Where the columns of a picture stand, and which heights are drawn.
+/// Where the columns of a picture stand: the right edge of the words at ground's side; the middle of
+/// ground's line of life, from which the spacecraft's is 380 pixels right; the left edge of the words
+/// at the spacecraft's side; the width of all; the tops of the nodes' boxes above the rows, and of the
+/// rows; and the first height that is drawn, and that at which the drawing ends.
 #[derive(Clone, Copy)]
-pub struct Frame {
-    /// The right edge of the words at ground's side.
-    pub words: u32,
-    /// The middle of ground's line of life. The spacecraft's is 380 pixels right of it.
-    pub left: u32,
-    /// The left edge of the words at the spacecraft's side.
-    pub right: u32,
-    /// The width of the picture.
-    pub wide: u32,
-    /// The top of the nodes' boxes above the rows.
-    pub head: u32,
-    /// The top of the rows.
-    pub window: u32,
-    /// The first height that is drawn.
-    pub top: u32,
-    /// The height at which the drawing ends.
-    pub bottom: u32,
+pub(crate) struct Frame {
+    pub(crate) words: u32,
+    pub(crate) left: u32,
+    pub(crate) right: u32,
+    pub(crate) wide: u32,
+    pub(crate) head: u32,
+    pub(crate) window: u32,
+    pub(crate) top: u32,
+    pub(crate) bottom: u32,
+}
+
+// Where the rows of this place or a later one begin, where there are some.
+fn found_from(place: u64, rows: &[Row]) -> Option<usize>
+    ensures { result ≡ position (λ r. nat_le place r.place) rows.now }
+{
+    rows.iter().position(|row| place <= row.place)
+}
+
+// Where the rows of a later place begin, where there are some.
+fn found_behind(place: u64, rows: &[Row]) -> Option<usize>
+    ensures { result ≡ position (λ r. nat_lt place r.place) rows.now }
+{
+    rows.iter().position(|row| place < row.place)
+}
+
+/// How many rows above are left out: those of an earlier place.
+pub(crate) fn hidden_above(choice: Choice, rows: &[Row]) -> usize
+    ensures { result ≡ hidden_above choice rows.now }
+{
+    match choice.from {
+        Some(place) => match found_from(place, rows) {
+            Some(at) => at,
+            None => rows.len(),
+        },
+        None => 0,
+    }
+}
+
+/// How many rows there are up to the last that is drawn.
+pub(crate) fn row_end(choice: Choice, rows: &[Row]) -> usize
+    ensures { result ≡ row_end choice rows.now }
+{
+    match (choice.to, choice.from) {
+        (Some(place), _) => match found_behind(place, rows) {
+            Some(at) => at,
+            None => rows.len(),
+        },
+        (None, None) => rows.len().min(400),
+        (None, Some(_)) => rows.len(),
+    }
+}
+
+// The height of a row, or of the end.
+fn height_of(picture: &Picture, row: usize) -> u32
+    ensures { result ≡ height_of picture.now row }
+{
+    match picture.rows.get(row) {
+        Some(row) => row.at,
+        None => picture.next,
+    }
+}
+
+// The width of so many letters.
+fn wide_of(letters: u32) -> u32
+    requires { letters ≤ 60 }
+    ensures value { result ≡ wide_of letters }
+    ensures small { result ≤ 500 }
+{
+    (29 * letters + 3) / 4
+}
+
+// How many letters the widest row has at a side, 16 at least, and 60 at most.
+fn widest_at(side: Side, rows: &[Row]) -> u32
+    ensures value { result ≡ widest_at side rows.now }
+    ensures small { result ≤ 60 }
+{
+    let mut widest = 16;
+    for row in rows {
+        if is_side(side, row.side) {
+            widest = widest.max(row.words.as_slice().len().min(60) as u32);
+        }
+    }
+    widest
+}
+
+/// The frame of a picture. Its columns have 12 pixels each.
+#[tactic(auto, unfolding(crate::specs::Frames::frame_of))]
+pub(crate) fn frame_of(choice: Choice, title: &[u8], picture: &Picture) -> Frame
+    ensures { result ≡ frame_of choice title.now picture.now }
+{
+    let rows = picture.rows.as_slice();
+    let words = 60 + wide_of(widest_at(Side::Ground, rows));
+    let left = words + (46 + 12 * (picture.ground.len().min(64) as u32));
+    let right = left + (420 + 12 * (picture.craft.len().min(64) as u32));
+    let wide = right + (24 + wide_of(widest_at(Side::Craft, rows)));
+    let room = title_room(title, title_wide(wide));
+    Frame {
+        words,
+        left,
+        right,
+        wide,
+        head: 92 + room,
+        window: 130 + room,
+        top: height_of(picture, hidden_above(choice, rows)),
+        bottom: height_of(picture, row_end(choice, rows)),
+    }
 }
 
 /// A height in pixels: the middle of the row there.
@@ -34,14 +129,6 @@ pub(crate) fn y_of(at: u32) -> u64
     ensures small { result < 2 ^ 36 }
 {
     11 * u64::from(at) + 11
-}
-
-/// The top of the row there.
-#[tactic(auto, unfolding(crate::specs::Frames::top_of))]
-pub(crate) fn top_of(at: u32) -> u64
-    ensures { result ≡ top_of at }
-{
-    11 * u64::from(at)
 }
 
 /// A node's line of life.
@@ -92,28 +179,6 @@ pub(crate) fn bar_x(frame: Frame, side: Side, column: u64) -> u64
     }
 }
 
-/// From where a line goes across all that a node has.
-#[tactic(auto, unfolding(crate::specs::Frames::across_from))]
-pub(crate) fn across_from(frame: Frame, side: Side) -> u64
-    ensures { result ≡ across_from frame side }
-{
-    match side {
-        Side::Ground => u64::from(frame.words) + 4,
-        Side::Craft => u64::from(frame.left) + 362,
-    }
-}
-
-/// To where it goes.
-#[tactic(auto, unfolding(crate::specs::Frames::across_to))]
-pub(crate) fn across_to(frame: Frame, side: Side) -> u64
-    ensures { result ≡ across_to frame side }
-{
-    match side {
-        Side::Ground => u64::from(frame.left) + 18,
-        Side::Craft => u64::from(frame.right).saturating_sub(4),
-    }
-}
-
 /// Half the width of a bead with this number.
 #[tactic(auto, unfolding(crate::specs::Frames::half))]
 pub(crate) fn half(number: u64) -> u64
@@ -133,7 +198,7 @@ pub(crate) fn half(number: u64) -> u64
 
 /// Whether a height is drawn.
 pub(crate) fn holds(frame: Frame, at: u32) -> bool
-    ensures { result ≡ holds frame at }
+    ensures { result ≡ shows frame at at }
 {
     shows(frame, at, at)
 }
@@ -178,15 +243,6 @@ pub(crate) fn foot_y(frame: Frame) -> u64
     u64::from(frame.window) + rows_high(frame) + 8
 }
 
-/// The top of the legend.
-#[tactic(auto, unfolding(crate::specs::Frames::legend_y))]
-pub(crate) fn legend_y(frame: Frame) -> u64
-    ensures value { result ≡ legend_y frame }
-    ensures small { result < 2 ^ 42 }
-{
-    foot_y(frame) + 44
-}
-
 /// The height of a legend of so many samples, three in a row.
 pub(crate) fn legend_high(keys: usize) -> u64
     requires { keys ≤ 25 }
@@ -197,10 +253,9 @@ pub(crate) fn legend_high(keys: usize) -> u64
 }
 
 /// The height of a picture with such a legend.
-#[tactic(auto, unfolding(crate::specs::Frames::whole_high))]
 pub(crate) fn whole_high(frame: Frame, keys: usize) -> u64
     requires { keys ≤ 25 }
     ensures { result ≡ whole_high frame keys }
 {
-    legend_y(frame) + legend_high(keys) + 20
+    foot_y(frame) + 44 + legend_high(keys) + 20
 }

@@ -3,24 +3,23 @@
 ghost use Rattle.std.specs.Prelude.{◌≡◌, ℕ, List, true};
 ghost use Rattle.std.specs.List.{list_all};
 ghost use Rattle.lpt_events.specs.declared.entry.Entry.{Entry};
-ghost use Rattle.lpt_chart.specs.declared.choice.Choice.{Choice};
+ghost use Rattle.lpt_chart.specs.declared.marks.Choice.{Choice};
 ghost use Rattle.lpt_chart.specs.declared.marks.Kind.{Kind};
 ghost use Rattle.lpt_chart.specs.declared.marks.Opened.{Opened};
-ghost use Rattle.lpt_chart.specs.declared.refusal.Refusal.{Refusal};
+ghost use Rattle.lpt_chart.specs.declared.marks.Refusal.{Refusal};
 ghost use Rattle.lpt_chart.specs.Charts.{chart_text};
-ghost use Rattle.lpt_chart.specs.Deliveries.{DrawsDeliveries, DrawsReleases};
-ghost use Rattle.lpt_chart.specs.Shapes.{escaped, is_plain};
-ghost use Rattle.lpt_chart.specs.Tags.{is_tagged};
+ghost use Rattle.lpt_chart.specs.Events.{DrawsDeliveries, DrawsReleases};
+ghost use Rattle.lpt_chart.specs.Shapes.{escaped, is_plain, is_tagged};
 
 /// Each delivery of a journal is drawn exactly once, in order, and so is each release, whatever lines
 /// were refused.
 pub fn each_delivery_is_drawn_once()
-    ensures deliveries { (kinds : List Kind) (opened : List Opened) (journal : List Entry)
-        (refused : List Refusal)
-        → DrawsDeliveries kinds opened journal refused }
-    ensures releases { (kinds : List Kind) (opened : List Opened) (journal : List Entry)
-        (refused : List Refusal)
-        → DrawsReleases kinds opened journal refused }
+    ensures deliveries { (source : ℕ) (kinds : List Kind) (opened : List Opened)
+        (journal : List Entry) (refused : List Refusal)
+        → DrawsDeliveries source kinds opened journal refused }
+    ensures releases { (source : ℕ) (kinds : List Kind) (opened : List Opened)
+        (journal : List Entry) (refused : List Refusal)
+        → DrawsReleases source kinds opened journal refused }
 {}
 
 /// What is written of a text neither opens nor closes an element, and is ASCII that is seen.
@@ -28,12 +27,10 @@ pub fn escaped_texts_are_plain()
     ensures { (t : List ℕ) → list_all is_plain (escaped t) ≡ true }
 {}
 
-/// Each '<' of a picture opens or closes an element of a short list: `svg`, `title`, `desc`, `g`,
-/// `text`,
-/// `path` and `rect`.
+/// Each '<' of a picture opens or closes one of these: `svg`, `title`, `desc`, `g`, `text`, `path` and
+/// `rect`.
 pub fn each_element_is_known()
     ensures { (source : ℕ) (c : Choice) (title : List ℕ) (kinds : List Kind) (opened : List Opened)
-        (journal : List Entry)
-        (refused : List Refusal)
+        (journal : List Entry) (refused : List Refusal)
         → is_tagged (chart_text source c title kinds opened journal refused) ≡ true }
 {}

@@ -2,25 +2,23 @@
 
 ghost use Rattle.std.specs.Prelude.{◌≡◌, ◌≤◌, ◌++◌, length, IfOk, OnOk};
 ghost use Rattle.std.specs.List.{flat_map};
-ghost use Rattle.lpt_chart.specs.Flights.{flight_shapes, loss_shapes, waiting_shapes};
-ghost use Rattle.lpt_chart.specs.Bars.{bar_shapes};
-ghost use Rattle.lpt_chart.specs.Charts.{chart_shapes, counts, ends_shapes, foot_shapes, grounds_shapes, hands_shapes, head_shapes, hidden_shapes, keys_of, lane_shapes, line_shapes, node_shapes, rest_shapes, title_shapes, window, window_shapes};
-ghost use Rattle.lpt_chart.specs.Rows.{base_shapes, row_shapes};
+ghost use Rattle.lpt_chart.specs.Charts.{chart_shapes, ends_shapes, foot_shapes, grounds_shapes, hands_shapes, head_shapes, hidden_shapes, keys_of, lane_shapes, line_shapes, node_shapes, rest_shapes, window, window_shapes};
+ghost use Rattle.lpt_chart.specs.Rows.{bar_shapes, base_shapes, flight_shapes, loss_shapes, row_shapes, waiting_shapes};
 
-use crate::bar::add_bar;
-use crate::choice::{Choice, hidden_above, hidden_below};
 use crate::flight::{add_held, add_loss, add_waiting};
 use crate::frame::{
-    Frame, foot_y, lane_x, legend_high, legend_y, rows_high, side_x, top_of, whole_high,
+    Frame, foot_y, hidden_above, lane_x, legend_high, row_end, rows_high, side_x, whole_high,
 };
 use crate::legend::{add_legend, used_keys};
-use crate::marks::{Bar, Flight, Held, Row, Sent};
+use crate::marks::{Bar, Choice, Flight, Held, Row, Sent};
 use crate::picture::Picture;
-use crate::row::{add_base, add_if, add_row};
-use crate::shape::{Shape, Words};
+use crate::row::{add_bar, add_base, add_row};
+use crate::shape::{Shape, add, add_text};
 use crate::style::{Letters, Style};
 use crate::title::{title_line, title_wide};
+use crate::words::{hidden_words, lane_word, node_word};
 use lpt_events::{Lane, Side};
+use lpt_packet::Octets;
 use std::alloc::{AllocError, Global};
 
 // A line of the title, where there is one.
@@ -33,66 +31,50 @@ fn add_line(
 ) -> Result<(), AllocError>
     ensures { OnOk result (out.new.items ≡ out.old.items ++ line_shapes title.now line most y) }
 {
-    let shape = Shape::Text(24, y, Letters::Title, Words::Title(line, most as u64));
-    add_if(out, !title_line(title, line, most).is_empty(), shape)
-}
-
-// A title of up to three lines.
-#[tactic(auto, unfolding(crate::specs::Charts::title_shapes))]
-fn add_title(out: &mut Vec<Shape>, title: &[u8], most: usize) -> Result<(), AllocError>
-    ensures { OnOk result (out.new.items ≡ out.old.items ++ title_shapes title.now most) }
-{
-    add_line(out, title, 0, most, 38)?;
-    add_line(out, title, 1, most, 62)?;
-    add_line(out, title, 2, most, 86)
-}
-
-/// How much has happened.
-pub(crate) fn counts(events: u64, picture: &Picture) -> Words
-    ensures { result ≡ counts events picture.now }
-{
-    let packets = picture.sent.len() as u64;
-    let flights = picture.flights.len() as u64;
-    let losses = picture.losses.len() as u64;
-    Words::Counts(events, packets, flights, losses)
+    let words = title_line(title, line, most);
+    if words.is_empty() {
+        return Ok(());
+    }
+    add_text(out, 24, y, Letters::Title, most as u64, words)
 }
 
 // That rows are left out, where some are.
-fn add_hidden(out: &mut Vec<Shape>, y: u64, choice: Choice, rows: &[Row]) -> Result<(), AllocError>
-    ensures { OnOk result (out.new.items ≡ out.old.items ++ hidden_shapes y choice rows.now) }
+fn add_hidden(out: &mut Vec<Shape>, y: u64, above: usize, below: usize) -> Result<(), AllocError>
+    ensures { OnOk result (out.new.items ≡ out.old.items ++ hidden_shapes y above below) }
 {
-    let (above, below) = (
-        hidden_above(choice, rows) as u64,
-        hidden_below(choice, rows) as u64,
-    );
     if above == 0 && below == 0 {
         return Ok(());
     }
-    out.extend_from_slice(&[Shape::Text(24, y, Letters::Grey, Words::Hidden(above, below))])
+    let words = hidden_words(*out.allocator(), above, below)?;
+    add_text(out, 24, y, Letters::Grey, 60, words.as_bytes())
 }
 
-// What stands above the rows: the title, and how much has happened.
+// What stands above the rows: the title, how much has happened, and what is left out.
 #[tactic(auto, unfolding(crate::specs::Charts::head_shapes))]
 fn add_head(
     out: &mut Vec<Shape>,
     frame: Frame,
     keys: usize,
-    events: u64,
+    counts: &[u8],
     choice: Choice,
     title: &[u8],
-    picture: &Picture,
+    rows: &[Row],
 ) -> Result<(), AllocError>
     requires { keys ≤ 25 }
     ensures { OnOk result (out.new.items ≡ out.old.items
-        ++ head_shapes frame keys events choice title.now picture.now) }
+        ++ head_shapes frame keys counts.now choice title.now rows.now) }
 {
-    let (wide, high) = (u64::from(frame.wide), whole_high(frame, keys));
-    out.extend_from_slice(&[Shape::Box(0, 0, wide, high, 0, Style::Paper)])?;
-    add_title(out, title, title_wide(frame.wide))?;
-    let y = u64::from(frame.head);
-    let counts = counts(events, picture);
-    out.extend_from_slice(&[Shape::Text(24, y.saturating_sub(30), Letters::Grey, counts)])?;
-    add_hidden(out, y.saturating_sub(12), choice, picture.rows.as_slice())
+    let (wide, y) = (u64::from(frame.wide), u64::from(frame.head));
+    add(
+        out,
+        Shape::Box(0, 0, wide, whole_high(frame, keys), 0, Style::Paper),
+    )?;
+    add_line(out, title, 0, title_wide(frame.wide), 38)?;
+    add_line(out, title, 1, title_wide(frame.wide), 62)?;
+    add_line(out, title, 2, title_wide(frame.wide), 86)?;
+    add_text(out, 24, y.saturating_sub(30), Letters::Grey, 60, counts)?;
+    let below = rows.len().saturating_sub(row_end(choice, rows));
+    add_hidden(out, y.saturating_sub(12), hidden_above(choice, rows), below)
 }
 
 // A node: its line of life, and its name above and below.
@@ -101,14 +83,12 @@ fn add_node(out: &mut Vec<Shape>, frame: Frame, side: Side) -> Result<(), AllocE
     ensures { OnOk result (out.new.items ≡ out.old.items ++ node_shapes frame side) }
 {
     let (x, head, foot) = (side_x(frame, side), u64::from(frame.head), foot_y(frame));
-    let (left, name) = (x.saturating_sub(48), Words::Node(side));
-    out.extend_from_slice(&[
-        Shape::Line(x, head + 24, x, foot, Style::Life),
-        Shape::Box(left, head, 96, 24, 4, Style::Ink),
-        Shape::Text(x, head + 16, Letters::Node, name),
-        Shape::Box(left, foot, 96, 24, 4, Style::Ink),
-        Shape::Text(x, foot + 16, Letters::Node, name),
-    ])
+    let (left, name) = (x.saturating_sub(48), node_word(side).as_bytes());
+    add(out, Shape::Line(x, head + 24, x, foot, Style::Life))?;
+    add(out, Shape::Box(left, head, 96, 24, 4, Style::Ink))?;
+    add_text(out, x, head + 16, Letters::Node, 60, name)?;
+    add(out, Shape::Box(left, foot, 96, 24, 4, Style::Ink))?;
+    add_text(out, x, foot + 16, Letters::Node, 60, name)
 }
 
 // A lane: a dotted line, and its name above.
@@ -117,11 +97,12 @@ fn add_lane(out: &mut Vec<Shape>, frame: Frame, lane: Lane) -> Result<(), AllocE
     ensures { OnOk result (out.new.items ≡ out.old.items ++ lane_shapes frame lane) }
 {
     let (x, top) = (lane_x(frame, lane), u64::from(frame.window));
-    let name = u64::from(frame.head) + 32;
-    out.extend_from_slice(&[
+    add(
+        out,
         Shape::Line(x, top, x, top + rows_high(frame), Style::Lane),
-        Shape::Text(x, name, Letters::Small, Words::Lane(lane)),
-    ])
+    )?;
+    let y = u64::from(frame.head) + 32;
+    add_text(out, x, y, Letters::Small, 60, lane_word(lane).as_bytes())
 }
 
 // The lanes and the nodes.
@@ -143,10 +124,11 @@ fn add_hands(out: &mut Vec<Shape>, frame: Frame, picture: &Picture) -> Result<()
     ensures { OnOk result (out.new.items ≡ out.old.items ++ hands_shapes frame picture.now) }
 {
     let (hands, end) = (picture.hands, picture.next.saturating_sub(1));
-    add_held(out, frame, Lane::S1, end, None, hands.s1)?;
-    add_held(out, frame, Lane::S2, end, None, hands.s2)?;
-    add_held(out, frame, Lane::G1, end, None, hands.g1)?;
-    add_held(out, frame, Lane::G2, end, None, hands.g2)
+    let words = picture.words.as_slice();
+    add_held(out, frame, words, Lane::S1, end, None, hands.s1)?;
+    add_held(out, frame, words, Lane::S2, end, None, hands.s2)?;
+    add_held(out, frame, words, Lane::G1, end, None, hands.g1)?;
+    add_held(out, frame, words, Lane::G2, end, None, hands.g2)
 }
 
 // The grounds of the rows.
@@ -154,31 +136,33 @@ fn add_bases(out: &mut Vec<Shape>, frame: Frame, rows: &[Row]) -> Result<(), All
     ensures { OnOk result (out.new.items ≡ out.old.items ++ flat_map (base_shapes frame) rows.now) }
 {
     for row in rows {
-        add_base(out, frame, *row)?;
+        add_base(out, frame, row)?;
     }
     Ok(())
 }
 
-// What is under deliveries: the pieces of tracks, the packets that are on the link to the end, and
-// the losses.
+// What is under deliveries: the pieces of tracks, packets that stay on the link, and losses.
 fn add_under(
     out: &mut Vec<Shape>,
+    source: u16,
     frame: Frame,
     bars: &[Bar],
     packets: &[Sent],
+    words: &[Octets],
     losses: &[Held],
 ) -> Result<(), AllocError>
-    ensures { OnOk result (out.new.items ≡ out.old.items ++ flat_map (bar_shapes frame) bars.now
-        ++ flat_map (waiting_shapes frame) packets.now ++ flat_map (loss_shapes frame) losses.now) }
+    ensures { OnOk result (out.new.items ≡ out.old.items ++ flat_map (bar_shapes source frame) bars.now
+        ++ flat_map (waiting_shapes frame) packets.now
+        ++ flat_map (loss_shapes frame words.now) losses.now) }
 {
     for bar in bars {
-        add_bar(out, frame, *bar)?;
+        add_bar(out, source, frame, *bar)?;
     }
     for sent in packets {
         add_waiting(out, frame, *sent)?;
     }
     for loss in losses {
-        add_loss(out, frame, *loss)?;
+        add_loss(out, frame, words, *loss)?;
     }
     Ok(())
 }
@@ -187,18 +171,19 @@ fn add_under(
 fn add_over(
     out: &mut Vec<Shape>,
     frame: Frame,
+    words: &[Octets],
     flights: &[Flight],
     rows: &[Row],
 ) -> Result<(), AllocError>
-    ensures { OnOk result (out.new.items ≡ out.old.items ++ flat_map (flight_shapes frame) flights.now
-        ++ flat_map (row_shapes frame) rows.now) }
+    ensures { OnOk result (out.new.items ≡ out.old.items
+        ++ flat_map (flight_shapes frame words.now) flights.now ++ flat_map (row_shapes frame) rows.now) }
 {
     for flight in flights {
         let f = *flight;
-        add_held(out, frame, f.lane, f.to, Some(f.outcome), f.held)?;
+        add_held(out, frame, words, f.lane, f.to, Some(f.outcome), f.held)?;
     }
     for row in rows {
-        add_row(out, frame, *row)?;
+        add_row(out, frame, row)?;
     }
     Ok(())
 }
@@ -208,35 +193,29 @@ fn window(frame: Frame) -> Shape
     ensures { result ≡ window frame }
 {
     let (y, wide) = (u64::from(frame.window), u64::from(frame.wide));
-    Shape::Part(y, wide, rows_high(frame), top_of(frame.top))
-}
-
-// All that is drawn of rows but their grounds: rows over packets over tracks.
-#[tactic(auto, unfolding(crate::specs::Charts::window_shapes))]
-fn add_window(out: &mut Vec<Shape>, frame: Frame, picture: &Picture) -> Result<(), AllocError>
-    ensures { OnOk result (out.new.items ≡ out.old.items ++ window_shapes frame picture.now) }
-{
-    let (bars, sent, losses) = (&picture.bars, &picture.sent, &picture.losses);
-    add_under(
-        out,
-        frame,
-        bars.as_slice(),
-        sent.as_slice(),
-        losses.as_slice(),
-    )?;
-    add_hands(out, frame, picture)?;
-    let (flights, rows) = (&picture.flights, &picture.rows);
-    add_over(out, frame, flights.as_slice(), rows.as_slice())
+    Shape::Part(y, wide, rows_high(frame), 11 * u64::from(frame.top))
 }
 
 // The grounds of the rows, under all else.
 #[tactic(auto, unfolding(crate::specs::Charts::grounds_shapes))]
-fn add_grounds(out: &mut Vec<Shape>, frame: Frame, picture: &Picture) -> Result<(), AllocError>
-    ensures { OnOk result (out.new.items ≡ out.old.items ++ grounds_shapes frame picture.now) }
+fn add_grounds(out: &mut Vec<Shape>, frame: Frame, rows: &[Row]) -> Result<(), AllocError>
+    ensures { OnOk result (out.new.items ≡ out.old.items ++ grounds_shapes frame rows.now) }
 {
-    out.extend_from_slice(&[window(frame)])?;
-    add_bases(out, frame, picture.rows.as_slice())?;
-    out.extend_from_slice(&[Shape::PartEnd])
+    add(out, window(frame))?;
+    add_bases(out, frame, rows)?;
+    add(out, Shape::PartEnd)
+}
+
+// Rows over packets over tracks.
+#[tactic(auto, unfolding(crate::specs::Charts::window_shapes))]
+fn add_window(out: &mut Vec<Shape>, frame: Frame, picture: &Picture) -> Result<(), AllocError>
+    ensures { OnOk result (out.new.items ≡ out.old.items ++ window_shapes frame picture.now) }
+{
+    let (p, words) = (picture, picture.words.as_slice());
+    let (bars, sent, losses) = (p.bars.as_slice(), p.sent.as_slice(), p.losses.as_slice());
+    add_under(out, p.source, frame, bars, sent, words, losses)?;
+    add_hands(out, frame, p)?;
+    add_over(out, frame, words, p.flights.as_slice(), p.rows.as_slice())
 }
 
 // The rest of the rows.
@@ -244,9 +223,9 @@ fn add_grounds(out: &mut Vec<Shape>, frame: Frame, picture: &Picture) -> Result<
 fn add_rest(out: &mut Vec<Shape>, frame: Frame, picture: &Picture) -> Result<(), AllocError>
     ensures { OnOk result (out.new.items ≡ out.old.items ++ rest_shapes frame picture.now) }
 {
-    out.extend_from_slice(&[window(frame)])?;
+    add(out, window(frame))?;
     add_window(out, frame, picture)?;
-    out.extend_from_slice(&[Shape::PartEnd])
+    add(out, Shape::PartEnd)
 }
 
 /// What the legend explains of a picture.
@@ -271,9 +250,9 @@ fn add_foot(out: &mut Vec<Shape>, frame: Frame, keys: &[Style]) -> Result<(), Al
     ensures { OnOk result (out.new.items ≡ out.old.items ++ foot_shapes frame keys.now) }
 {
     let (wide, high) = (u64::from(frame.wide), legend_high(keys.len()));
-    out.extend_from_slice(&[Shape::Part(legend_y(frame), wide, high, 0)])?;
+    add(out, Shape::Part(foot_y(frame) + 44, wide, high, 0))?;
     add_legend(out, keys)?;
-    out.extend_from_slice(&[Shape::PartEnd])
+    add(out, Shape::PartEnd)
 }
 
 /// Adds all shapes of a picture.
@@ -282,17 +261,18 @@ pub(crate) fn add_chart(
     out: &mut Vec<Shape>,
     frame: Frame,
     keys: &[Style],
-    events: u64,
+    counts: &[u8],
     choice: Choice,
     title: &[u8],
     picture: &Picture,
 ) -> Result<(), AllocError>
     requires { length keys.now ≤ 25 }
     ensures { OnOk result (out.new.items ≡ out.old.items
-        ++ chart_shapes frame keys.now events choice title.now picture.now) }
+        ++ chart_shapes frame keys.now counts.now choice title.now picture.now) }
 {
-    add_head(out, frame, keys.len(), events, choice, title, picture)?;
-    add_grounds(out, frame, picture)?;
+    let rows = picture.rows.as_slice();
+    add_head(out, frame, keys.len(), counts, choice, title, rows)?;
+    add_grounds(out, frame, rows)?;
     add_ends(out, frame)?;
     add_rest(out, frame, picture)?;
     add_foot(out, frame, keys)

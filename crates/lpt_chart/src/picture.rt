@@ -1,41 +1,40 @@
 //! What is drawn of a run, and what is remembered for what follows.
 
-ghost use Rattle.std.specs.Prelude.{◌≡◌, [], ◌∷◌, ◌++◌, false, length, slice_get, option_to_list, IfOk, OnOk};
+ghost use Rattle.std.specs.Prelude.{◌≡◌, [], false, IfOk, OnOk, string_bytes};
 ghost use Rattle.std.specs.Option.{option_map_or};
-ghost use Rattle.lpt_events.specs.Sides.{receiver_side, sender_side};
 ghost use Rattle.lpt_events.specs.Lanes.{same_lane};
-ghost use Rattle.lpt_chart.specs.Events.{closed, kept_then, open_at};
-ghost use Rattle.lpt_chart.specs.Pictures.{at_side, blank, cleared, flown, hand_in, landed, lost, one_more, other_ground, passed, passing, put, retold, rowed, run_of, said, said_on, same_ground, taken, takes, task_next, ticked, tracked, with_job, without, without_job};
+ghost use Rattle.lpt_events.specs.Sides.{same_side};
+ghost use Rattle.lpt_chart.specs.Pictures.{blank, ground_of, hushed, landed, retold, rowed, run_of, said, takes, ticked};
 
-use crate::hands::{in_hand, no_hands, with_hand};
-use crate::last_row::{other_ground, passed, run_in, same_ground, takes_last, told_again};
 use crate::marks::{
-    Bar, Content, Flight, Hands, Held, Kind, Opened, Row, Saying, Sent, Stage, Task, Thing, Track,
+    Bar, Flight, Hands, Held, Kind, Mark, Opened, Row, Sent, Stage, Task, Thing, Track,
 };
-use crate::pieces::{add_both, end_all, move_track};
-use lpt_events::{Lane, Outcome, Side};
-use lpt_packet::Direction;
+use crate::style::Weight;
+use crate::words::tick_words;
+use lpt_events::{Lane, Side};
+use lpt_packet::Octets;
 use std::alloc::{AllocError, Global};
 use std::marker::Model;
 
 /// What was drawn of a run, and what is remembered for what follows.
 #[derive(Drop)]
-pub struct Picture {
+pub(crate) struct Picture {
+    pub(crate) source: u16,
+    pub(crate) kinds: Vec<Kind>,
+    pub(crate) opened: Vec<Opened>,
     pub(crate) place: u64,
     pub(crate) here: u32,
     pub(crate) next: u32,
     pub(crate) last: Option<Row>,
     pub(crate) rows: Vec<Row>,
-    pub(crate) kinds: Vec<Kind>,
-    pub(crate) opened: Vec<Opened>,
     pub(crate) sent: Vec<Sent>,
+    pub(crate) words: Vec<Octets>,
     pub(crate) hands: Hands,
     pub(crate) ground: Vec<Option<Track>>,
     pub(crate) craft: Vec<Option<Track>>,
     pub(crate) boot: u64,
     pub(crate) tasks: Vec<Option<Task>>,
     pub(crate) applied: u64,
-    pub(crate) refused: u64,
     pub(crate) flights: Vec<Flight>,
     pub(crate) losses: Vec<Held>,
     pub(crate) bars: Vec<Bar>,
@@ -47,21 +46,22 @@ impl Model for Picture {
     ghost Value = { Seen };
 
     ghost view = { λ p. record {
+      source = p.source;
+      kinds = p.kinds.items;
+      opened = p.opened.items;
       place = p.place;
       here = p.here;
       next = p.next;
       last = p.last;
       rows = p.rows.items;
-      kinds = p.kinds.items;
-      opened = p.opened.items;
       sent = p.sent.items;
+      words = p.words.items;
       hands = p.hands;
       ground = p.ground.items;
       craft = p.craft.items;
       boot = p.boot;
       tasks = p.tasks.items;
       applied = p.applied;
-      refused = p.refused;
       flights = p.flights.items;
       losses = p.losses.items;
       bars = p.bars.items;
@@ -69,81 +69,183 @@ impl Model for Picture {
 }
 
 impl Picture {
-    /// Nothing was drawn, and this is known of what follows: what each packet says that it is, and
-    /// the messages that are opened.
-    pub fn new(alloc: Global, kinds: &[Kind], opened: &[Opened]) -> Result<Self, AllocError>
-        ensures { IfOk result (λ p. p ≡ blank kinds.now opened.now) }
+    // Nothing was drawn, and this is known of what follows.
+    pub(crate) fn new(
+        alloc: Global,
+        source: u16,
+        kinds: &[Kind],
+        opened: &[Opened],
+    ) -> Result<Self, AllocError>
+        ensures { IfOk result (λ p. p ≡ blank source kinds.now opened.now) }
     {
         let kinds = Vec::from_slice(alloc, kinds)?;
         let opened = Vec::from_slice(alloc, opened)?;
         Ok(Picture {
+            source,
+            kinds,
+            opened,
             place: 0,
             here: 0,
             next: 0,
             last: None,
             rows: Vec::new(alloc),
-            kinds,
-            opened,
             sent: Vec::new(alloc),
-            hands: no_hands(),
+            words: Vec::new(alloc),
+            hands: Hands {
+                s1: None,
+                s2: None,
+                g1: None,
+                g2: None,
+            },
             ground: Vec::new(alloc),
             craft: Vec::new(alloc),
             boot: 0,
             tasks: Vec::new(alloc),
             applied: 0,
-            refused: 0,
             flights: Vec::new(alloc),
             losses: Vec::new(alloc),
             bars: Vec::new(alloc),
         })
     }
 
-    // A row more at this height, with this ground.
+    // The allocator.
+    pub(crate) fn alloc(&self) -> Global {
+        *self.rows.allocator()
+    }
+
+    // A row more: whether it goes on with the last, shows its place, and has a line to its words.
     #[tactic(auto, unfolding(crate::specs::Pictures::rowed))]
-    fn row(&mut self, at: u32, dark: bool, saying: Saying) -> Result<(), AllocError>
-        ensures { OnOk result (self.new ≡ rowed self.old at dark saying) }
+    pub(crate) fn row(
+        &mut self,
+        at: u32,
+        on: bool,
+        numbered: bool,
+        lined: bool,
+        side: Side,
+        weight: Weight,
+        mark: Mark,
+        words: Octets,
+    ) -> Result<(), AllocError>
+        ensures { OnOk result (self.new ≡ rowed self.old at on numbered lined side weight mark words) }
     {
-        add_row(&mut self.rows, self.last)?;
+        let dark = self.ground_of(on);
+        if let Some(row) = self.last.take() {
+            self.rows.push(row)?;
+        }
         self.here = at;
+        self.next = at.saturating_add(2);
         self.last = Some(Row {
             place: self.place,
             at,
             dark,
-            saying,
+            numbered,
+            lined,
+            side,
+            weight,
+            mark,
+            words,
         });
-        self.next = at.saturating_add(2);
         Ok(())
     }
 
-    // A row more.
-    pub(crate) fn say(&mut self, saying: Saying) -> Result<(), AllocError>
-        ensures { OnOk result (self.new ≡ said self.old saying) }
+    // The ground of a row, which goes on with the last or doesn't; the first is dark.
+    fn ground_of(&self, on: bool) -> bool
+        ensures { result ≡ ground_of self.now.last on }
     {
-        let (at, dark) = (self.next, other_ground(self.last));
-        self.row(at, dark, saying)
-    }
-
-    // A row more that goes on with the last.
-    pub(crate) fn say_on(&mut self, saying: Saying) -> Result<(), AllocError>
-        ensures { OnOk result (self.new ≡ said_on self.old saying) }
-    {
-        let (at, dark) = (self.next, same_ground(self.last));
-        self.row(at, dark, saying)
-    }
-
-    // A delivery's row: right below the row in which its lane took the packet, where that is the
-    // last.
-    #[tactic(auto, unfolding(crate::specs::Pictures::landed))]
-    pub(crate) fn land(&mut self, lane: Lane, saying: Saying) -> Result<(), AllocError>
-        ensures { OnOk result (self.new ≡ landed self.old lane saying) }
-    {
-        if !takes_last(self.last, lane) {
-            return self.say(saying);
+        match &self.last {
+            Some(row) if on => row.dark,
+            Some(row) => !row.dark,
+            None => true,
         }
-        let dark = same_ground(self.last);
-        self.last = passed(self.last);
-        let at = self.next.saturating_sub(1);
-        self.row(at, dark, saying)
+    }
+
+    // An event's row.
+    pub(crate) fn say(
+        &mut self,
+        side: Side,
+        weight: Weight,
+        mark: Mark,
+        words: String,
+    ) -> Result<(), AllocError>
+        ensures { OnOk result (self.new ≡ said self.old side weight mark (string_bytes words)) }
+    {
+        let words = Octets::from_vec(words.into_bytes());
+        self.row(self.next, false, true, true, side, weight, mark, words)
+    }
+
+    // Whether the last row says that this lane took a packet.
+    fn takes_last(&self, lane: Lane) -> bool
+        ensures { result ≡ option_map_or (λ r. takes lane r.mark) self.now.last false }
+    {
+        match &self.last {
+            Some(row) => match row.mark {
+                Mark::Took(taken) => is_lane(lane, taken),
+                _ => false,
+            },
+            None => false,
+        }
+    }
+
+    // Takes its words and the line to them from the last row.
+    fn hush(&mut self, none: Octets)
+        requires { none ≡ [] }
+        ensures { self.new ≡ record self.old { last = hushed self.old.last } }
+    {
+        if let Some(row) = self.last.take() {
+            self.last = Some(Row {
+                lined: false,
+                words: none,
+                ..row
+            });
+        }
+    }
+
+    // A delivery's row: right below that in which its lane took the packet, where that is the last.
+    #[tactic(auto, unfolding(crate::specs::Pictures::landed))]
+    pub(crate) fn land(
+        &mut self,
+        lane: Lane,
+        side: Side,
+        weight: Weight,
+        words: String,
+    ) -> Result<(), AllocError>
+        ensures { OnOk result (self.new ≡ landed self.old lane side weight (string_bytes words)) }
+    {
+        if !self.takes_last(lane) {
+            return self.say(side, weight, Mark::Nothing, words);
+        }
+        self.hush(Octets::from_vec(Vec::new(self.alloc())));
+        let (at, words) = (
+            self.next.saturating_sub(1),
+            Octets::from_vec(words.into_bytes()),
+        );
+        self.row(at, true, true, true, side, weight, Mark::Nothing, words)
+    }
+
+    // How many ticks of this node the last row tells.
+    fn run(&self, side: Side) -> u64
+        ensures { result ≡ run_of side self.now.last }
+    {
+        match &self.last {
+            Some(row) => match row.mark {
+                Mark::Ticks(run) if is_side(side, row.side) => run,
+                _ => 0,
+            },
+            None => 0,
+        }
+    }
+
+    // Has the last row tell of so many ticks.
+    fn retell(&mut self, run: u64, words: Octets)
+        ensures { self.new ≡ record self.old { last = retold self.old.last run words } }
+    {
+        if let Some(row) = self.last.take() {
+            self.last = Some(Row {
+                mark: Mark::Ticks(run),
+                words,
+                ..row
+            });
+        }
     }
 
     // A tick. Ticks of one node in a row are one row.
@@ -151,204 +253,33 @@ impl Picture {
     pub(crate) fn tick(&mut self, side: Side, clock: u32) -> Result<(), AllocError>
         ensures { OnOk result (self.new ≡ ticked self.old side clock) }
     {
-        let run = run_in(self.last, side);
-        if run == 0 {
-            return self.say(Saying::Ticked(side, clock, 1));
+        let run = self.run(side).saturating_add(1);
+        let words = tick_words(self.alloc(), clock, run)?;
+        if run == 1 {
+            return self.say(side, Weight::Quiet, Mark::Ticks(run), words);
         }
-        self.last = told_again(self.last, side, clock, run.saturating_add(1));
+        self.retell(run, Octets::from_vec(words.into_bytes()));
         Ok(())
-    }
-
-    // A packet more.
-    #[tactic(auto, unfolding(crate::specs::Pictures::put))]
-    pub(crate) fn put(
-        &mut self,
-        direction: Direction,
-        content: Content,
-        task: Option<Task>,
-    ) -> Result<(), AllocError>
-        ensures { OnOk result (self.new ≡ put self.old direction content task) }
-    {
-        self.sent.push(Sent {
-            direction,
-            at: self.here,
-            content,
-            task,
-            gone: false,
-        })?;
-        Ok(())
-    }
-
-    // A track comes to a stage, or to its end.
-    #[tactic(auto, unfolding(crate::specs::Pictures::tracked))]
-    pub(crate) fn track(
-        &mut self,
-        side: Side,
-        thing: Thing,
-        stage: Option<Stage>,
-    ) -> Result<(), AllocError>
-        ensures { OnOk result (self.new ≡ tracked self.old side thing stage) }
-    {
-        let bars = &mut self.bars;
-        match side {
-            Side::Ground => move_track(bars, &mut self.ground, side, self.here, thing, stage),
-            Side::Craft => move_track(bars, &mut self.craft, side, self.here, thing, stage),
-        }
-    }
-
-    // All tracks of a node end.
-    #[tactic(auto, unfolding(crate::specs::Pictures::cleared))]
-    pub(crate) fn clear(&mut self, side: Side) -> Result<(), AllocError>
-        ensures { OnOk result (self.new ≡ cleared self.old side) }
-    {
-        match side {
-            Side::Ground => end_all(&mut self.bars, &mut self.ground, side, self.here),
-            Side::Craft => end_all(&mut self.bars, &mut self.craft, side, self.here),
-        }
-    }
-
-    // A lane takes a packet.
-    #[tactic(auto, unfolding(crate::specs::Pictures::taken))]
-    pub(crate) fn take(&mut self, lane: Lane, number: u64)
-        ensures { self.new ≡ taken self.old lane number }
-    {
-        let sent = self.packet(number);
-        mark_gone(self.sent.as_mut_slice(), number);
-        let held = Held {
-            number,
-            sent,
-            at: self.here,
-        };
-        self.hands = with_hand(self.hands, lane, Some(held));
-    }
-
-    // The packet of a number.
-    pub(crate) fn packet(&self, number: u64) -> Option<Sent>
-        ensures { result ≡ slice_get self.now.sent number }
-    {
-        self.sent.get(number as usize).copied()
-    }
-
-    // A delivery, which empties the hand.
-    #[tactic(auto, unfolding(crate::specs::Pictures::flown))]
-    pub(crate) fn fly(&mut self, lane: Lane, outcome: Outcome) -> Result<(), AllocError>
-        ensures { OnOk result (self.new ≡ flown self.old lane outcome) }
-    {
-        let held = in_hand(self.hands, lane);
-        self.flights.push(Flight {
-            place: self.place,
-            lane,
-            held,
-            to: self.here,
-            outcome,
-        })?;
-        self.hands = with_hand(self.hands, lane, None);
-        Ok(())
-    }
-
-    // A loss.
-    #[tactic(auto, unfolding(crate::specs::Pictures::lost))]
-    pub(crate) fn lose(&mut self, number: u64) -> Result<(), AllocError>
-        ensures { OnOk result (self.new ≡ lost self.old number) }
-    {
-        let sent = self.packet(number);
-        mark_gone(self.sent.as_mut_slice(), number);
-        self.losses.push(Held {
-            number,
-            sent,
-            at: self.here,
-        })?;
-        Ok(())
-    }
-
-    // One refused line more.
-    pub(crate) fn count_refusal(&mut self)
-        ensures { self.new ≡ record self.old { refused = one_more self.old.refused } }
-    {
-        self.refused = self.refused.saturating_add(1);
-    }
-
-    // A job is released that asks for this.
-    #[tactic(auto, unfolding(crate::specs::Pictures::with_job, crate::specs::Pictures::tracked))]
-    pub(crate) fn release(&mut self, task: Option<Task>) -> Result<(), AllocError>
-        ensures { OnOk result (self.new ≡ with_job self.old task) }
-    {
-        let job = self.tasks.len() as u64;
-        self.track(Side::Craft, Thing::Job(job), Some(Stage::Waits))?;
-        self.add_task(task)
-    }
-
-    // What one more job asks for.
-    fn add_task(&mut self, task: Option<Task>) -> Result<(), AllocError>
-        ensures { OnOk result (self.new ≡ record self.old { tasks = self.old.tasks ++ task ∷ [] }) }
-    {
-        self.tasks.push(task)?;
-        Ok(())
-    }
-
-    // What the job asks for that is executed next.
-    pub(crate) fn task_next(&self) -> Option<Task>
-        ensures { result ≡ task_next self.now }
-    {
-        self.tasks.get(self.applied as usize).copied().flatten()
-    }
-
-    // A job was executed.
-    #[tactic(auto, unfolding(crate::specs::Pictures::without_job, crate::specs::Pictures::tracked))]
-    pub(crate) fn apply(&mut self) -> Result<(), AllocError>
-        ensures { OnOk result (self.new ≡ without_job self.old) }
-    {
-        self.track(Side::Craft, Thing::Job(self.applied), None)?;
-        self.count_execution();
-        Ok(())
-    }
-
-    // One execution more.
-    fn count_execution(&mut self)
-        ensures { self.new ≡ record self.old { applied = one_more self.old.applied } }
-    {
-        self.applied = self.applied.saturating_add(1);
-    }
-
-    // The spacecraft has this boot, and no job.
-    pub(crate) fn begin_boot(&mut self, boot: u64)
-        ensures { self.new ≡ record self.old { boot = boot; tasks = []; applied = 0 } }
-    {
-        self.boot = boot;
-        self.tasks.clear();
-        self.applied = 0;
-    }
-
-    // The run ends here: what is open goes on to the last row.
-    pub(crate) fn close(&mut self) -> Result<(), AllocError>
-        ensures { OnOk result (self.new ≡ closed self.old) }
-    {
-        add_row(&mut self.rows, self.last)?;
-        self.last = None;
-        let (ground, craft) = (self.ground.as_slice(), self.craft.as_slice());
-        add_both(&mut self.bars, ground, craft, self.next)
     }
 }
 
-// Adds a row, where there is one.
-fn add_row(rows: &mut Vec<Row>, row: Option<Row>) -> Result<(), AllocError>
-    ensures { OnOk result (rows.new.items ≡ rows.old.items ++ option_to_list row) }
+// Whether two lanes are the same.
+fn is_lane(one: Lane, other: Lane) -> bool
+    ensures { result ≡ same_lane one other }
 {
-    if let Some(row) = row {
-        rows.push(row)?;
+    match (one, other) {
+        (Lane::S1, Lane::S1) | (Lane::S2, Lane::S2) => true,
+        (Lane::G1, Lane::G1) | (Lane::G2, Lane::G2) => true,
+        (Lane::S1 | Lane::S2 | Lane::G1 | Lane::G2, _) => false,
     }
-    Ok(())
 }
 
-// Marks the packet of a number as gone, where there is one.
-fn mark_gone(sent: &mut [Sent], number: u64)
-    ensures { sent.new ≡ without sent.old number (slice_get sent.old number) }
+// Whether two sides are the same.
+pub(crate) fn is_side(one: Side, other: Side) -> bool
+    ensures { result ≡ same_side one other }
 {
-    let number = number as usize;
-    if let Some(packet) = sent.get(number).copied() {
-        sent[number] = Sent {
-            gone: true,
-            ..packet
-        };
+    match (one, other) {
+        (Side::Ground, Side::Ground) | (Side::Craft, Side::Craft) => true,
+        (Side::Ground | Side::Craft, _) => false,
     }
 }

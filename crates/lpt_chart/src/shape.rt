@@ -1,63 +1,35 @@
 //! The shapes that a picture is made of: what is drawn, where, and how it looks.
 
-use crate::marks::{Content, Saying, Stage, Thing};
+ghost use Rattle.std.specs.Prelude.{◌≡◌, ◌<◌, ◌^◌, ◌∷◌, ◌++◌, [], decimal, OnOk};
+ghost use Rattle.lpt_chart.specs.Rows.{bead, where_so};
+
+use crate::frame::{half, y_of};
 use crate::style::{Letters, Style};
-use lpt_events::{Lane, Side};
-use lpt_packet::Direction;
+use lpt_packet::Octets;
+use std::alloc::AllocError;
 
 /// A sign: an arrow's head with its tip at a point, or a cross or an hourglass round it.
 #[derive(Clone, Copy)]
-pub enum Sign {
-    /// The head of an arrow that points to the right.
+pub(crate) enum Sign {
     HeadRight,
-    /// The head of an arrow that points to the left.
     HeadLeft,
-    /// A cross.
     Cross,
-    /// An hourglass.
     Hourglass,
 }
 
-/// What a text says.
-#[derive(Clone, Copy)]
-pub enum Words {
-    /// The line of the title with this index, of three, in a picture with room for so many letters.
-    Title(u8, u64),
-    /// How many events, packets, deliveries and losses there were.
-    Counts(u64, u64, u64, u64),
-    /// How many rows are left out, above and below.
-    Hidden(u64, u64),
-    /// A node's name.
-    Node(Side),
-    /// A lane's name.
-    Lane(Lane),
-    /// A number.
-    Number(u64),
-    /// What a row says.
-    Row(Saying),
-    /// What the packet of a number is.
-    Packet(u64, Direction, Content),
-    /// What a piece of a track is.
-    Piece(Side, Thing, Stage),
-    /// What a sample of the legend stands for.
-    Key(Style),
-}
-
 /// A shape, by whole numbers of pixels.
-#[derive(Clone, Copy)]
-pub enum Shape {
+#[derive(Drop)]
+pub(crate) enum Shape {
     /// A line from a point to a point.
     Line(u64, u64, u64, u64, Style),
     /// A box from a point on, of this width, height and radius of its corners.
     Box(u64, u64, u64, u64, u64, Style),
     /// A sign at a point.
     Sign(u64, u64, Sign, Style),
-    /// The bead of a packet, in the row of a height: its number in a box with corners of this radius.
-    Bead(u64, u32, u64, u64, Style, Letters),
-    /// Words at a point.
-    Text(u64, u64, Letters, Words),
+    /// Words at a point, of which so many characters are seen at most.
+    Text(u64, u64, Letters, u64, Octets),
     /// The beginning of a group, and what it is for who points at it.
-    Group(Words),
+    Group(Octets),
     /// Its end.
     GroupEnd,
     /// The beginning of a part that starts at a height and is so wide and high. It shows the heights
@@ -65,4 +37,72 @@ pub enum Shape {
     Part(u64, u64, u64, u64),
     /// Its end.
     PartEnd,
+}
+
+// Adds a shape.
+pub(crate) fn add(out: &mut Vec<Shape>, shape: Shape) -> Result<(), AllocError>
+    ensures { OnOk result (out.new.items ≡ out.old.items ++ shape ∷ []) }
+{
+    out.push(shape)?;
+    Ok(())
+}
+
+// Adds a shape, where this is so.
+pub(crate) fn add_if(out: &mut Vec<Shape>, so: bool, shape: Shape) -> Result<(), AllocError>
+    ensures { OnOk result (out.new.items ≡ out.old.items ++ where_so so shape) }
+{
+    if so { add(out, shape) } else { Ok(()) }
+}
+
+// Adds words at a point.
+pub(crate) fn add_text(
+    out: &mut Vec<Shape>,
+    x: u64,
+    y: u64,
+    letters: Letters,
+    most: u64,
+    words: &[u8],
+) -> Result<(), AllocError>
+    ensures { OnOk result (out.new.items ≡ out.old.items ++ Shape.Text x y letters most words.now ∷ []) }
+{
+    let words = Octets::from_vec(Vec::from_slice(*out.allocator(), words)?);
+    add(out, Shape::Text(x, y, letters, most, words))
+}
+
+// Adds a number at a point, where this is so.
+pub(crate) fn add_number(
+    out: &mut Vec<Shape>,
+    so: bool,
+    x: u64,
+    y: u64,
+    letters: Letters,
+    number: u64,
+) -> Result<(), AllocError>
+    ensures { OnOk result
+        (out.new.items ≡ out.old.items ++ where_so so (Shape.Text x y letters 60 (decimal number))) }
+{
+    if !so {
+        return Ok(());
+    }
+    let words = format!(in *out.allocator(); "{number}")?;
+    add_text(out, x, y, letters, 60, words.as_bytes())
+}
+
+// Adds a bead, in the row of a height: a packet's number in a box with corners of this radius.
+#[tactic(auto, unfolding(crate::specs::Rows::bead))]
+pub(crate) fn add_bead(
+    out: &mut Vec<Shape>,
+    x: u64,
+    at: u32,
+    number: u64,
+    round: u64,
+    style: Style,
+    letters: Letters,
+) -> Result<(), AllocError>
+    ensures { OnOk result (out.new.items ≡ out.old.items ++ bead x at number round style letters) }
+{
+    let (half, y) = (half(number), y_of(at));
+    let left = x.saturating_sub(half);
+    add(out, Shape::Box(left, y - 7, 2 * half, 14, round, style))?;
+    add_number(out, true, x, y + 4, letters, number)
 }

@@ -1,117 +1,71 @@
 //! How shapes and letters look, as attributes of elements.
 
 ghost use Rattle.std.specs.Prelude.{◌≡◌};
-ghost use Rattle.lpt_chart.specs.Styles.{letters_text, style_text};
+ghost use Rattle.lpt_chart.specs.Styles.{key_words, letters_text, style_text};
 
 use lpt_events::Side;
 use lpt_packet::Direction;
 
 /// How a shape looks, and what it stands for: what has words in the legend has a style of its own.
 #[derive(Clone, Copy)]
-pub enum Style {
-    /// The ground of all.
+pub(crate) enum Style {
     Paper,
-    /// A dark row's ground.
     Ground,
-    /// Black, filled.
     Ink,
-    /// A black edge.
     InkEdge,
-    /// A node's line of life.
     Life,
-    /// A hair line.
     Hair,
-    /// A lane.
     Lane,
-    /// A packet's way.
     Way(Direction),
-    /// The way of a packet that was taken before.
     WayAgain(Direction),
-    /// The way of what the link's noise left.
     WayNoise(Direction),
-    /// A packet in a lane's hand.
     InHand(Direction),
-    /// The line of a packet that stays on the link.
     Waiting(Direction),
-    /// The way of a packet that was lost after a lane had taken it.
     Late,
-    /// A loss.
     Cross,
-    /// A reception that has expired.
     Expired,
-    /// A packet that was put.
     Hollow(Direction),
-    /// A part that was kept.
     Kept(Direction),
-    /// A part that was kept before, or a packet of which nothing was made.
     Dashed(Direction),
-    /// A report that was noted.
     Noted(Direction),
-    /// A release.
     Ring(Direction),
-    /// From end to end, where a transaction is freed.
     Retiring,
-    /// A message that was opened, or a job without a request.
     Opened,
-    /// A sender that was closed, or a job that was executed.
     Finished,
-    /// An open sender.
     Sender(Direction),
-    /// An open reception.
     Reception(Direction),
-    /// A job that waits.
     JobWaits,
-    /// A job that a worker has.
     JobHollow,
-    /// A job whose reading was handed in.
     JobFilled,
-    /// A tick.
     Tick,
-    /// A restart.
     Restart,
-    /// A refused line.
     Refused,
-    /// Filled.
     Filled(Direction),
-    /// What the link's noise left.
     Noise(Direction),
-    /// How far a reception has come.
     Light(Direction),
-    /// The head of a job that waits.
     JobEdge,
 }
 
-/// How words are drawn.
+/// How words are drawn: grey, black, or bold.
 #[derive(Clone, Copy)]
-pub enum Weight {
-    /// Grey.
+pub(crate) enum Weight {
     Quiet,
-    /// Black.
     Plain,
-    /// Bold.
     Strong,
 }
 
-/// How letters look, and on which side of their point they stand.
+/// How letters look, and on which side of their point they stand: those of words at a node left of it
+/// at ground, and right of it at the spacecraft; those of a bead in a direction's colour, or white.
 #[derive(Clone, Copy)]
-pub enum Letters {
-    /// The title.
+pub(crate) enum Letters {
     Title,
-    /// Grey, right of the point.
     Grey,
-    /// Grey and small, left of the point.
     Place,
-    /// Grey and small, round the point.
     Small,
-    /// Those of words at a node: left of the point at ground, right of it at the spacecraft.
     Words(Side, Weight),
-    /// White on black, bold, round the point.
     Node,
-    /// Small, in the direction's colour, round the point.
     Bead(Direction),
-    /// Small, white, round the point.
     BeadWhite,
-    /// Those of the legend, right of the point.
     Key,
 }
 
@@ -195,5 +149,39 @@ pub(crate) fn letters_word(letters: Letters) -> &'static str
         Letters::Bead(Direction::Down) => { "fill='#a84300' font-size='10' text-anchor='middle'" }
         Letters::Key => "font-size='11' text-anchor='start'",
         Letters::BeadWhite => "fill='#ffffff' font-size='10' text-anchor='middle'",
+    }
+}
+
+// The words for a style. There are none for one that explains itself, or is explained with another.
+pub(crate) fn key_words(style: Style) -> &'static str
+    ensures { result.now ≡ key_words style }
+{
+    match style {
+        Style::Way(Direction::Up) => "packet up",
+        Style::Way(Direction::Down) => "packet down",
+        Style::WayAgain(_) => "taken once more",
+        Style::WayNoise(_) | Style::Noise(_) => "what noise left",
+        Style::InHand(_) => "in a lane's hand",
+        Style::Waiting(_) => "stays on the link",
+        Style::Late => "lost after a lane took it",
+        Style::Cross => "lost",
+        Style::Expired => "reception expired",
+        Style::Hollow(_) => "packet 0 put on the link",
+        Style::Kept(_) => "part kept",
+        Style::Dashed(_) => "kept before, or ignored",
+        Style::Noted(_) => "report noted",
+        Style::Ring(_) => "message released",
+        Style::Retiring => "identifier free at both ends",
+        Style::Opened => "message opened; no request",
+        Style::Finished => "sender finished; job executed",
+        Style::Sender(_) => "open sender",
+        Style::Reception(_) => "reception: kept of all parts",
+        Style::JobWaits => "job released, waits",
+        Style::JobHollow => "job claimed by a worker",
+        Style::JobFilled => "reading of the job committed",
+        Style::Tick => "a clock goes on",
+        Style::Restart => "node starts anew",
+        Style::Refused => "line refused",
+        _ => "",
     }
 }

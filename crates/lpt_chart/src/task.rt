@@ -1,7 +1,7 @@
 //! What a request asks of a memory, by the places of its fields.
 
 ghost use Rattle.std.specs.Prelude.{◌≡◌, ◌<◌};
-ghost use Rattle.lpt_chart.specs.Tasks.{asked_from, asked_in, kind_in, octet_at, pair_at};
+ghost use Rattle.lpt_chart.specs.Pictures.{asked_from, asked_in, kind_in, octet_at, pair_at};
 
 use crate::marks::{Kind, Task};
 use lpt_packet::Direction;
@@ -34,7 +34,7 @@ fn pair_at(octets: &[u8], at: u8) -> u16
 }
 
 /// What a request of this type asks for, whose body begins at this place, which is small.
-#[tactic(auto, unfolding(crate::specs::Tasks::asked_from))]
+#[tactic(auto, unfolding(crate::specs::Pictures::asked_from))]
 pub(crate) fn asked_from(service: u8, subtype: u8, octets: &[u8], at: u8) -> Task
     requires { at < 100 }
     ensures { result ≡ asked_from service subtype octets.now at }
@@ -50,7 +50,7 @@ pub(crate) fn asked_from(service: u8, subtype: u8, octets: &[u8], at: u8) -> Tas
 }
 
 /// What a message asks for that goes in this direction.
-#[tactic(auto, unfolding(crate::specs::Tasks::asked_in))]
+#[tactic(auto, unfolding(crate::specs::Pictures::asked_in))]
 pub(crate) fn asked_in(direction: Direction, message: &[u8]) -> Option<Task>
     ensures { result ≡ asked_in direction message.now }
 {

@@ -1,7 +1,7 @@
 //! The lines of a title.
 
 ghost use Rattle.std.specs.Prelude.{◌≡◌, ◌≤◌, ◌==◌, length, position};
-ghost use Rattle.lpt_chart.specs.Choices.{behind_space, line_end, title_front, title_line, title_rest, title_room, title_wide};
+ghost use Rattle.lpt_chart.specs.Frames.{behind_space, line_end, title_front, title_line, title_rest, title_room, title_wide};
 
 // The first space, where there is one.
 fn space_behind(tail: &[u8]) -> Option<usize>

@@ -1,7 +1,7 @@
 -- What is run to be drawn is what is run to be printed.
 use Rattle.std.proofs.Common.{◌≡◌, ◌∙◌, ℕ, ◌+◌, ◌++◌, List, [], ◌∷◌, length, false, refl, sym, ap, is_some, Option, None, Some, length-append}
 use Rattle.std.specs.Int.{from_bool}
-use Rattle.lpt_chart.specs.declared.refusal.Refusal.{Refusal}
+use Rattle.lpt_chart.specs.declared.marks.Refusal.{Refusal}
 use Rattle.lpt_chart_script.specs.Drawings.{IsScriptRun, lines_run, refusals_at, run_on}
 use Rattle.lpt_chart_script.specs.Sides.{side_in}
 use Rattle.lpt_script_words.specs.declared.grammar.Reading.{Reading}

@@ -1,11 +1,11 @@
 -- What the run of a script leaves to be drawn, and its picture.
 use Rattle.std.specs.Prelude.{◌≡◌, ℕ, ◌+◌, Bool, true, false, List, [], ◌∷◌, ◌++◌, length, map, min, take, Option, Some, None, Result, Ok, Err, string_bytes}
-use Rattle.lpt_chart.specs.declared.choice.Choice.{Choice}
-use Rattle.lpt_chart.specs.declared.refusal.Refusal.{Refusal}
+use Rattle.lpt_chart.specs.declared.marks.Choice.{Choice}
+use Rattle.lpt_chart.specs.declared.marks.Refusal.{Refusal}
 use Rattle.lpt_chart.specs.declared.marks.Kind.{Kind}
 use Rattle.lpt_chart.specs.declared.marks.Opened.{Opened}
 use Rattle.lpt_chart.specs.Charts.{chart_text}
-use Rattle.lpt_chart.specs.Tasks.{kind_in}
+use Rattle.lpt_chart.specs.Pictures.{kind_in}
 use Rattle.lpt_part.specs.Splitting.{part_count}
 use Rattle.lpt_journal.specs.Link.{sent}
 use Rattle.lpt_journal.specs.Senders.{opened}

@@ -3,7 +3,7 @@
 ghost use Rattle.std.specs.Prelude.{◌≡◌, [], slice_get, IfOk};
 ghost use Rattle.std.specs.Option.{option_map_or};
 ghost use Rattle.lpt_part.specs.Splitting.{IsPartSize, part_count};
-ghost use Rattle.lpt_chart.specs.Tasks.{kind_in};
+ghost use Rattle.lpt_chart.specs.Pictures.{kind_in};
 ghost use Rattle.lpt_chart_script.specs.Drawings.{kinds_of, opening_told, openings_of};
 ghost use Rattle.lpt_journal.specs.Link.{sent};
 ghost use Rattle.lpt_world.specs.Worlds.{history};

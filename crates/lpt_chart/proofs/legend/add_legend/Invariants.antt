@@ -1,5 +1,5 @@
 use Rattle.std.proofs.Common.{◌≡◌, ◌++◌, drop}
-use Rattle.lpt_chart.specs.Legends.{legend_shapes}
+use Rattle.lpt_chart.specs.Charts.{legend_shapes}
 use Rattle.lpt_chart.proofs.legend.add_legend.Given as goal
 
 abbrev pub invariant-loop-place : goal.invariant-loop-place

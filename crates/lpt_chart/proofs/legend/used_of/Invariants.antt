@@ -1,6 +1,6 @@
 use Rattle.std.proofs.Common.{◌≡◌, ◌≤◌, length, take}
 use Rattle.std.specs.List.{flat_map}
-use Rattle.lpt_chart.specs.Legends.{used_key}
+use Rattle.lpt_chart.specs.Charts.{used_key}
 use Rattle.lpt_chart.proofs.legend.used_of.Given as goal
 
 abbrev pub invariant-loop-style : goal.invariant-loop-style

@@ -5,5 +5,5 @@ use Rattle.lpt_chart.proofs.svg.write_shapes.Given as goal
 
 abbrev pub invariant-loop-shape : goal.invariant-loop-shape
 invariant-loop-shape l =
-    string_bytes l.out
-    ≡ string_bytes l.fn.out ++ flat_map (shape_text l.fn.source l.fn.title l.fn.refused) (take l.shape-index l.fn.shapes)
+    string_bytes l.out ≡ string_bytes l.fn.out ++ flat_map shape_text
+    (take l.shape-index l.fn.shapes)

@@ -1,5 +1,5 @@
 use Rattle.std.proofs.Common.{◌≡◌, map, take}
-use Rattle.lpt_chart.specs.Tasks.{kind_in}
+use Rattle.lpt_chart.specs.Pictures.{kind_in}
 use Rattle.lpt_journal.specs.Link.{sent}
 use Rattle.lpt_world.specs.Worlds.{history}
 use Rattle.lpt_chart_script.proofs.known.kinds_of.Given as goal

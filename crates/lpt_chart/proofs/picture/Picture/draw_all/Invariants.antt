@@ -4,4 +4,5 @@ use Rattle.lpt_chart.proofs.picture.Picture.draw_all.Given as goal
 
 abbrev pub invariant-loop-place : goal.invariant-loop-place
 invariant-loop-place l =
-    after_all l.self l.place (drop l.place l.fn.journal) l.rest ≡ after_all l.fn.self 0 l.fn.journal l.fn.refused
+    after_all l.self l.place (drop l.place l.fn.journal) l.rest
+    ≡ after_all l.fn.self 0 l.fn.journal l.fn.refused
