@@ -35,9 +35,13 @@ Statuses:
 
 docs/SCRIPT.md has the script language and the configuration, man/lpt.1 is this as a page.";
 
-/// The program and its commands. The only error is out of memory.
-pub(crate) fn program<'a>(alloc: Global) -> Result<Command<'a>, AllocError> {
-    let commands = all_commands(alloc)?;
+/// The program and its commands, or that one alone whose name is asked for, where there is one. The
+/// only error is out of memory.
+pub(crate) fn program<'a>(alloc: Global, asked: Option<&str>) -> Result<Command<'a>, AllocError> {
+    let mut commands = commands_named(alloc, asked)?;
+    if commands.is_empty() {
+        commands = commands_named(alloc, None)?;
+    }
     Command::new(alloc, "lpt")
         .version("0.1.0")
         .about("Large packet transfer: two nodes and the link between them")
@@ -48,36 +52,40 @@ pub(crate) fn program<'a>(alloc: Global) -> Result<Command<'a>, AllocError> {
         .subcommands(commands)
 }
 
-// The commands of the program.
-fn all_commands<'a>(alloc: Global) -> Result<Vec<Command<'a>>, AllocError> {
-    let mut commands = commands_of(alloc, &COMMANDS)?;
-    add_passes(alloc, &mut commands)?;
-    add_comparisons(alloc, &mut commands)?;
-    add_families(alloc, &mut commands)?;
+// The commands of the program of this name, or all.
+fn commands_named<'a>(alloc: Global, name: Option<&str>) -> Result<Vec<Command<'a>>, AllocError> {
+    let mut commands = commands_of(alloc, name, &COMMANDS)?;
+    add_commands(alloc, name, &mut commands, &PASSES)?;
+    add_commands(alloc, name, &mut commands, &COMPARISONS)?;
+    add_families(alloc, name, &mut commands)?;
     Ok(commands)
 }
 
-// Adds those of a pass.
-fn add_passes<'a>(alloc: Global, commands: &mut Vec<Command<'a>>) -> Result<(), AllocError> {
-    add_commands(alloc, commands, &PASSES)
-}
-
-// Adds those that look at reports.
-fn add_comparisons<'a>(alloc: Global, commands: &mut Vec<Command<'a>>) -> Result<(), AllocError> {
-    add_commands(alloc, commands, &COMPARISONS)
-}
-
 // Adds those that have others below them.
-fn add_families<'a>(alloc: Global, commands: &mut Vec<Command<'a>>) -> Result<(), AllocError> {
+fn add_families<'a>(
+    alloc: Global,
+    name: Option<&str>,
+    commands: &mut Vec<Command<'a>>,
+) -> Result<(), AllocError> {
     for family in &FAMILIES {
-        commands.push(family_of(alloc, family)?)?;
+        if is_meant(name, family.name) {
+            commands.push(family_of(alloc, family)?)?;
+        }
     }
     Ok(())
 }
 
+// Whether a command of this name is that which is asked for, or one of all.
+fn is_meant(asked: Option<&str>, name: &str) -> bool {
+    match asked {
+        Some(asked) => asked == name,
+        None => true,
+    }
+}
+
 // A command with those below it.
 fn family_of<'a>(alloc: Global, family: &'a Family) -> Result<Command<'a>, AllocError> {
-    let below = commands_of(alloc, family.below)?;
+    let below = commands_of(alloc, None, family.below)?;
     Command::new(alloc, family.name)
         .about(family.about)
         .arg_required_else_help(true)
@@ -85,21 +93,28 @@ fn family_of<'a>(alloc: Global, family: &'a Family) -> Result<Command<'a>, Alloc
         .subcommands(below)
 }
 
-// The commands of these rows.
-fn commands_of<'a>(alloc: Global, rows: &'a [Row]) -> Result<Vec<Command<'a>>, AllocError> {
+// The commands of these rows of this name, or all.
+fn commands_of<'a>(
+    alloc: Global,
+    name: Option<&str>,
+    rows: &'a [Row],
+) -> Result<Vec<Command<'a>>, AllocError> {
     let mut commands = Vec::new(alloc);
-    add_commands(alloc, &mut commands, rows)?;
+    add_commands(alloc, name, &mut commands, rows)?;
     Ok(commands)
 }
 
-// Adds the commands of these rows.
+// Adds them.
 fn add_commands<'a>(
     alloc: Global,
+    name: Option<&str>,
     commands: &mut Vec<Command<'a>>,
     rows: &'a [Row],
 ) -> Result<(), AllocError> {
     for row in rows {
-        commands.push(command_of(alloc, row)?)?;
+        if is_meant(name, row.name) {
+            commands.push(command_of(alloc, row)?)?;
+        }
     }
     Ok(())
 }

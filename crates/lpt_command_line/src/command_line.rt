@@ -112,7 +112,8 @@ pub fn read_words<'a>(
     alloc: Global,
     words: &'a [String],
 ) -> Result<CommandLine<'a>, NoCommand<'a>> {
-    match program(alloc)?.try_get_matches_from(words) {
+    let asked = words.get(1).map(|word| word.as_str());
+    match program(alloc, asked)?.try_get_matches_from(words) {
         Ok(matches) => asked_by(alloc, matches),
         Err(error) => Err(NoCommand::Said(error)),
     }

@@ -194,7 +194,7 @@ pub(crate) static COMMANDS: [Row; 10] = [
                 name: "ID",
                 value: TEXT,
                 need: Need::One,
-                help: "The message's ID or SOURCE/ID, numbers of 0 to 65535",
+                help: "The message's ID or SOURCE/ID, of 0 to 65535, or as wide as --layout says",
             },
             Word {
                 name: "FILE",

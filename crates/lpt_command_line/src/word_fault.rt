@@ -53,7 +53,7 @@ impl WordFault<'_> {
             WordFault::WideId { place, word } => no_name(alloc, word, place, u32::MAX),
             WordFault::Length(word) => invalid(alloc, word, "<LENGTH>", 1),
             WordFault::NoLength(word) => {
-                format!(in alloc; "no '<LENGTH>' stands behind the '<ADDRESS>' {word}")
+                format!(in alloc; "no '<LENGTH>' stands after the '<ADDRESS>' {word}")
             }
             WordFault::Each { each, limit } => too_many(alloc, *each, *limit),
             WordFault::Odds(word) => {
@@ -63,7 +63,7 @@ impl WordFault<'_> {
                 format!(in alloc; "the argument '{one}' cannot be used with '{other}'")
             }
             WordFault::Order { from, to } => {
-                format!(in alloc; "'--from {from}' stands behind '--to {to}'")
+                format!(in alloc; "'--from {from}' stands after '--to {to}'")
             }
             WordFault::NoMemory(word) => {
                 format!(in alloc;

@@ -13,7 +13,7 @@ pub enum CutFault {
     #[error("an area has at least one octet")]
     Empty,
     /// An area doesn't end within the addresses that there are.
-    #[error("an area ends behind the last address, 4294967295")]
+    #[error("an area ends after the last address, 4294967295")]
     PastEnd,
     /// Out of memory.
     #[error("out of memory")]
