@@ -16,7 +16,7 @@ use Rattle.lpt_layout_each.specs.declared.helds.HeldsAs.{HeldsAs}
 use Rattle.lpt_layout_each.specs.declared.passing.PassedAs.{PassedAs}
 use Rattle.lpt_layout_each.specs.Helds.{HoldsEach}
 use Rattle.lpt_layout_each.specs.News.{Event, Hears}
-use Rattle.lpt_layout_each.specs.Passing.{nothing_passed, passed_from, passed_of, passed_with}
+use Rattle.lpt_layout_each.specs.Passing.{nothing_passed, passed_from, passed_with}
 use Rattle.lpt_layout_each.specs.Streams.{Leaves as LeavesEach, Tells, events, told_by}
 use Rattle.lpt_layout_each.specs.Tellers.{IsTold}
 use Rattle.lpt_layout_each.proofs.TellLemmas.{events-next, hears-more, hears-nothing}

@@ -21,7 +21,7 @@ use Rattle.lpt_layout_each.proofs.NameLemmas.{same_name-refl, same_name-true}
 -- ---- of one name
 
 module _ (r : ReadingAs) (any : Bool) (n : NameAs) where
-  held_from-next : (h : Held) (bs : List (List ℕ)) (b : List ℕ)
+  pub held_from-next : (h : Held) (bs : List (List ℕ)) (b : List ℕ)
       → held_from r any n h (bs ++ b ∷ [])
       ≡ (step_of r any (held_from r any n h bs) (part_of n (carried r b))).0
   held_from-next h [] b = refl

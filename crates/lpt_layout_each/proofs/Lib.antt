@@ -1,6 +1,7 @@
 pub mod EachLemmas
 pub mod HeldsLemmas
 mod NameLemmas
+mod SoundLemmas
 mod StepLemmas
 pub mod TellLemmas
 mod TurnLemmas

@@ -6,18 +6,16 @@ use Rattle.std.specs.BTreeMap.{BTreeMap, get, is_at, keys}
 use Rattle.std.specs.Map.{keys_of, lookup}
 use Rattle.std.specs.Ordering.{is_eq}
 use Rattle.std.proofs.lemmas.List.Concat.{flat_map-append}
-use Rattle.lpt_layout_join.specs.declared.came.CameAs.{CameAs}
 use Rattle.lpt_layout_join.specs.declared.names.NameAs.{NameAs}
 use Rattle.lpt_layout_join.specs.declared.reading.ReadingAs.{ReadingAs}
 use Rattle.lpt_layout_join.specs.Came.{highest}
-use Rattle.lpt_layout_join.specs.CameInside.{Shows, last_in, part_at}
 use Rattle.lpt_layout_join.specs.Carried.{carried, same_name}
 use Rattle.lpt_layout_each.specs.declared.held.HeldAs.{HeldAs}
 use Rattle.lpt_layout_each.specs.declared.helds.HeldsAs.{HeldsAs}
 use Rattle.lpt_layout_each.specs.Eaches.{Held, held, left, nothing}
 use Rattle.lpt_layout_each.specs.Helds.{Holds, HoldsEach, IsHeld}
 use Rattle.lpt_layout_each.specs.Names.{name_cmp}
-use Rattle.lpt_layout_each.specs.News.{Event, Hears, News, Dropped, dropped}
+use Rattle.lpt_layout_each.specs.News.{Event, Hears, News, dropped}
 use Rattle.lpt_layout_each.specs.Streams.{Leaves, events_from, left_of, of, told_by}
 use Rattle.lpt_layout_each.proofs.NameLemmas.{name_tied}
 

@@ -1,5 +1,6 @@
 pub mod Eaches
 pub mod Helds
+pub mod Laws
 pub mod Names
 pub mod News
 pub mod Passing

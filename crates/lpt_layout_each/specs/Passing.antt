@@ -1,5 +1,5 @@
 -- What is passed over of a stream.
-use Rattle.std.specs.Prelude.{ℕ, ◌+◌, List, [], ◌∷◌, length, Option, Some, None, Result, Ok, Err}
+use Rattle.std.specs.Prelude.{ℕ, ◌+◌, List, [], ◌∷◌, length, Some, None, Result, Ok, Err}
 use Rattle.std.specs.Option.{option_or}
 use Rattle.lpt_stream.specs.Pieces.{up_to_limit}
 use Rattle.lpt_layout_join.specs.declared.reading.ReadingAs.{ReadingAs}

@@ -1,5 +1,5 @@
 -- What is told, as the code has it.
-use Rattle.std.specs.Prelude.{ℕ, ◌+◌, List, [], ◌∷◌, Option, Some, None}
+use Rattle.std.specs.Prelude.{◌+◌, List, [], ◌∷◌, Option, Some, None}
 use Rattle.lpt_layout_join.specs.declared.names.NameAs.{NameAs}
 use Rattle.lpt_layout_join.specs.CameInside.{last_in, part_at}
 use Rattle.lpt_layout_each.specs.declared.news.NewsAs.{NewsAs}

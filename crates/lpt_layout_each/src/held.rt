@@ -1,7 +1,6 @@
 //! What is kept of one name.
 
-ghost use Rattle.std.specs.Prelude.{◌≡◌, ◌≤◌, ◌==◌, Bool, Option, length, IfOk};
-ghost use Rattle.std.specs.Option.{option_map};
+ghost use Rattle.std.specs.Prelude.{◌≡◌, ◌≤◌, ◌==◌, Option, length, IfOk};
 ghost use Rattle.lpt_packet.specs.Sizes.{longest_packet};
 ghost use Rattle.lpt_part.specs.Parts.{Piece};
 ghost use Rattle.lpt_layout.specs.Parts.{piece};

@@ -12,6 +12,7 @@
 mod each;
 mod held;
 mod helds;
+pub mod laws;
 mod leaving;
 mod news;
 mod passing;

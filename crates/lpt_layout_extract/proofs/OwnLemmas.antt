@@ -1,12 +1,9 @@
 -- At the profile's own layout dump reports are the profile's own.
-use Rattle.std.proofs.Common.{◌≡◌, ◌∙◌, ap, sym, subst, refl, ℕ, ◌-◌, List, length, drop, Result, Ok, Err}
+use Rattle.std.proofs.Common.{◌≡◌, ◌∙◌, ap, sym, refl, ℕ, List, Result, Ok, Err}
 use Rattle.std.specs.Prelude.{option_and_then}
 use Rattle.std.specs.Result.{result_ok}
-use Rattle.lpt_packet.proofs.OctetLists.{IsOctets-drop, IsOctets-take}
-use Rattle.lpt_packet.proofs.Readings.{tests_passed}
 use Rattle.lpt_packet.specs.declared.fault.PacketFault.{PacketFault}
 use Rattle.lpt_packet.specs.declared.packet.PacketKind.TheVariants.{Tm}
-use Rattle.lpt_packet.specs.Numbers.{IsOctets}
 use Rattle.lpt_packet.specs.Packets.{Fields, Sight, IdlePacket, APacket, seen, verdict}
 use Rattle.lpt_pus.specs.declared.fault.PusFault.{PusFault}
 use Rattle.lpt_pus.specs.Messages.{in_packet}
@@ -48,12 +45,3 @@ unfolding report_in dump_in
 own-reports apid b packet see own =
     ap (said_by own_tm apid) packet ∙ said-seen apid (verdict b) own
     ∙ ap (λ s. said_in apid (in_packet dump_in_packet s)) (sym see)
-
--- what stands behind a packet's primary header are octets
-pub field-octets : (b : List ℕ) (f : Fields)
-    → IsOctets b
-    → verdict b ≡ Ok (APacket f)
-    → IsOctets f.octets
-field-octets b f o h =
-    subst (λ (g : Fields). IsOctets g.octets) (tests_passed b f h).same
-    (IsOctets-take (length b - 8) (drop 6 b) (IsOctets-drop 6 b o))

@@ -1,12 +1,14 @@
 -- What came of one transaction, with a part more.
-use Rattle.std.proofs.Common.{◌≡◌, ◌≢◌, ◌∙◌, ap, sym, refl, ℕ, ◌+◌, ◌-◌, ◌<◌, ◌≤◌, ◌==◌, max, Bool, true, false, if◌then◌else◌, List, [], ◌∷◌, ◌++◌, length, arith}
+use Rattle.std.proofs.Common.{◌≡◌, ◌≢◌, ◌∙◌, ap, sym, refl, ℕ, suc, ◌-◌, ◌<◌, ◌≤◌, ◌==◌, max, Bool, true, false, if◌then◌else◌, List, [], ◌∷◌, ◌++◌, length, arith}
 use Rattle.std.specs.Prelude.{Option, Some, None}
 use Rattle.std.specs.Option.{option_or}
 use Rattle.std.proofs.lemmas.Bool.{eqb-true, eqb-false}
 use Rattle.lpt_part.specs.Parts.{Piece}
 use Rattle.lpt_layout_join.specs.declared.came.CameAs.{CameAs}
-use Rattle.lpt_layout_join.specs.Came.{Came, at, first_told, octets_told, size_told, last_told, octets_of, size_of, last_of, highest}
+use Rattle.lpt_layout_join.specs.declared.last_part.LastPart.{LastPart}
+use Rattle.lpt_layout_join.specs.Came.{Came, at, first_told, joined_by, message_of, octets_told, size_told, last_told, octets_of, highest}
 use Rattle.lpt_layout_join.specs.CameInside.{Shows, part_at}
+use Rattle.lpt_layout_join.proofs.SlotLemmas.{joined-none}
 
 or-assoc : {A : Type 0} → (a b c : Option A)
     → option_or a (option_or b c) ≡ option_or (option_or a b) c
@@ -52,8 +54,9 @@ pub shows-more : (c : Came) (old new : CameAs) (q : Piece)
     → new.size ≡ option_or old.size (size_told q)
     → new.last ≡ option_or old.last (last_told q)
     → new.against ≡ old.against
+    → at new.slots.items new.missing ≡ None
     → Shows (record c { parts = c.parts ++ q ∷ [] }) new
-shows-more c old new q h some others here len size last against = record {
+shows-more c old new q h some others here len size last against missing = record {
   parts_are = λ n least. part n least (q.number == n) refl;
   size_is = size ∙ ap (λ o. option_or o (size_told q)) h.size_is
       ∙ sym (first_told-more size_told c.parts q);
@@ -61,6 +64,7 @@ shows-more c old new q h some others here len size last against = record {
       ∙ sym (first_told-more last_told c.parts q);
   highest_is = len ∙ ap (max q.number) h.highest_is ∙ sym (highest-more c.parts q);
   against_is = against ∙ h.against_is;
+  missing_is = missing;
 } where
   part : (n : ℕ) → 1 ≤ n → (t : Bool) → (q.number == n) ≡ t
       → part_at new n ≡ octets_of (c.parts ++ q ∷ []) n
@@ -75,3 +79,17 @@ shows-more c old new q h some others here len size last against = record {
       let other : n - 1 ≢ q.number - 1 = omega arith in
       others (n - 1) other ∙ h.parts_are n least ∙ sym (or-none (octets_of c.parts n))
       ∙ sym (octets-more c.parts q n false e)
+
+-- there is no message where a part before the last one hasn't come
+pub message-missing : (c : Came) (s : CameAs) (last : LastPart)
+    → Shows c s
+    → s.last ≡ Some last
+    → s.missing < last.number
+    → ◌≡◌ {A = Option (List ℕ)} None (message_of c.parts)
+message-missing c s last h is less =
+    let k = s.missing in
+    let place : suc k - 1 ≡ k = omega arith in
+    let none : octets_of c.parts (suc k) ≡ None =
+    sym (h.parts_are (suc k) (omega arith)) ∙ ap (at s.slots.items) place ∙ h.missing_is in
+    sym (ap (joined_by (octets_of c.parts)) (sym h.last_is ∙ is)
+    ∙ joined-none (octets_of c.parts) k last.number none less)

@@ -1,5 +1,5 @@
 -- Parts that agree have one length, but for the last.
-use Rattle.std.proofs.Common.{◌≡◌, ◌⊎◌, ◌∙◌, ap, sym, subst, refl, inl, inr, ℕ, ◌≤◌, ◌==◌, Bool, true, false, not, if◌then◌else◌, List, [], ◌∷◌, ◌++◌, length, arith, eqb-true, Ok, Err, Result}
+use Rattle.std.proofs.Common.{◌≡◌, ◌∙◌, ap, sym, subst, refl, inl, inr, ℕ, ◌==◌, Bool, true, false, if◌then◌else◌, List, [], ◌∷◌, ◌++◌, length, arith, eqb-true, Ok, Err, Result}
 use Rattle.std.specs.Prelude.{Option, Some, None, is_some, ◌||◌}
 use Rattle.std.specs.Option.{option_or}
 use Rattle.lpt_packet.proofs.BoolLemmas.{not_false, or_false_left, or_false_right}
@@ -11,7 +11,7 @@ use Rattle.lpt_layout_join.specs.declared.last_part.LastPart.{LastPart}
 use Rattle.lpt_layout_join.specs.declared.names.NameAs.{NameAs}
 use Rattle.lpt_layout_join.specs.declared.reading.ReadingAs.{ReadingAs}
 use Rattle.lpt_layout_join.specs.declared.skip.SkipAs.{SkipAs}
-use Rattle.lpt_layout_join.specs.Came.{Came, first_told, size_by, size_told, last_by, last_told, octets_told, octets_of, size_of, last_of, highest, other_octets, other_size, other_last, other_end, contradicts, step}
+use Rattle.lpt_layout_join.specs.Came.{Came, size_by, size_told, last_by, last_told, octets_told, octets_of, size_of, last_of, highest, other_octets, other_size, other_last, other_end, contradicts, step}
 use Rattle.lpt_layout_join.specs.Carried.{Named, carried, name_of}
 use Rattle.lpt_layout_join.specs.Hearing.{Heard, all_heard, heard, is_joined, next, nothing_heard, with_packet, with_part}
 use Rattle.lpt_layout_join.specs.Laws.{HasItsLength}

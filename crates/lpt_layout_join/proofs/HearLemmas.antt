@@ -1,12 +1,12 @@
 -- A stream of packets, heard packet by packet.
-use Rattle.std.proofs.Common.{◌≡◌, ◌∙◌, ap, sym, subst, refl, inl, inr, ℕ, ◌+◌, ◌<◌, ◌≤◌, Bool, Ok, Err, List, [], ◌∷◌, ◌++◌, length, take, drop, Option, length-append, arith}
+use Rattle.std.proofs.Common.{◌≡◌, ◌∙◌, ap, sym, subst, refl, inl, ℕ, ◌+◌, Bool, Err, List, [], ◌∷◌, ◌++◌, length, take, drop, Option, length-append, arith}
 use Rattle.std.specs.Io.KnownBytes.{Consumes, IsAtEnd}
 use Rattle.std.proofs.KnownBytes.{Consumes-nil, Consumes-trans}
 use Rattle.lpt_text.specs.Streams.{ReadFails}
 use Rattle.lpt_text.specs.declared.fault.StreamFault.{StreamFault}
 use Rattle.lpt_text.specs.declared.fault.StreamFault.TheVariants as faults
 use Rattle.lpt_frames.specs.Buffers.{held, FindsFrame}
-use Rattle.lpt_frames.specs.Frames.{IsCut, IsFrame, IsStray}
+use Rattle.lpt_frames.specs.Frames.{IsCut, IsFrame}
 use Rattle.lpt_frames.specs.declared.buffer.FrameBuffer.{FrameBuffer}
 use Rattle.lpt_frames.proofs.FrameLemmas.{cut-more, cut-next, cut-none}
 use Rattle.lpt_stream.specs.Streams.{IsUnfinished}

@@ -12,7 +12,7 @@ use Rattle.lpt_layout_join.specs.declared.ending.EndAs.TheVariants.{Several}
 use Rattle.lpt_layout_join.specs.Came.{Came, contradicts, message_of, octets_of, step}
 use Rattle.lpt_layout_join.specs.Carried.{Named, carried, name_of, same_name}
 use Rattle.lpt_layout_join.specs.Hearing.{Heard, all_heard, heard, is_joined, next, nothing_heard, with_packet, with_part}
-use Rattle.lpt_layout_join.specs.Laws.{IsSplit, CarriesOne, OneOrOther, AreOneOrOther, EachIsAmong, IsAmong, IsAsked, is_other, part_named}
+use Rattle.lpt_layout_join.specs.Laws.{IsSplit, OneOrOther, AreOneOrOther, EachIsAmong, IsAmong, IsAsked, is_other, part_named}
 use Rattle.lpt_layout_join.specs.Writes.{end_by, end_of, end_whole, unfit}
 use Rattle.lpt_layout_join.proofs.PartsLemmas.{AreNth, agrees, joined-all, nth-more, octets-come, octets-kept}
 

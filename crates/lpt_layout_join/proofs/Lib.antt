@@ -3,6 +3,7 @@ pub mod EvenLemmas
 pub mod HearLemmas
 pub mod LawLemmas
 pub mod MadeLemmas
+pub mod OwnLemmas
 pub mod PartsLemmas
 pub mod SlotLemmas
 pub mod WriteLemmas

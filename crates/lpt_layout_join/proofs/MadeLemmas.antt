@@ -1,12 +1,12 @@
 -- The packet that is written of a part carries it.
-use Rattle.std.proofs.Common.{◌≡◌, ◌⊎◌, ◌∙◌, ap, sym, subst, refl, inl, inr, ℕ, ◌+◌, ◌-◌, ◌*◌, ◌<◌, ◌≤◌, ◌==◌, min, max, Bool, true, false, if◌then◌else◌, List, length, arith, Ok, Err, Result}
+use Rattle.std.proofs.Common.{◌≡◌, ◌⊎◌, ◌∙◌, ap, sym, subst, refl, inl, inr, ℕ, ◌-◌, ◌*◌, ◌≤◌, ◌==◌, min, max, true, if◌then◌else◌, List, length, arith, Ok, Err}
 use Rattle.std.specs.Prelude.{Option, Some, None}
 use Rattle.std.proofs.Math.Nat.{mul-le-mul_left}
 use Rattle.std.proofs.lemmas.Bool.Decides.{nat_tests}
 use Rattle.lpt_events.specs.Arrivals.{carried_kind, part_subtype}
 use Rattle.lpt_layout.specs.Messages.{Said, HeadFits, message_verdict, packet_of}
 use Rattle.lpt_layout.specs.Packets.{verdict_as}
-use Rattle.lpt_layout.specs.Parts.{IsPartAs, IsPartSizeAs, PieceFits, body_as, octets_at, part_verdict_as}
+use Rattle.lpt_layout.specs.Parts.{IsPartSizeAs, PieceFits, body_as, octets_at, part_verdict_as}
 use Rattle.lpt_layout.specs.Writes.{octets_as}
 use Rattle.lpt_layout.proofs.MessageLemmas.{message_verdict-packet_of}
 use Rattle.lpt_layout.proofs.PartLemmas.{part_again, piece_at-body_as}

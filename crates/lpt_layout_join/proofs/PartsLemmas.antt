@@ -1,12 +1,10 @@
 -- Parts of one message agree with one another, and are joined to it.
-use Rattle.std.proofs.Common.{◌≡◌, ◌≢◌, ◌∙◌, ap, sym, subst, refl, inl, inr, ℕ, zero, suc, ◌+◌, ◌-◌, ◌<◌, ◌≤◌, ◌==◌, max, nat_le, Bool, true, false, not, if◌then◌else◌, List, [], ◌∷◌, ◌++◌, length, arith, eqb-true}
+use Rattle.std.proofs.Common.{◌≡◌, ◌≢◌, ◌∙◌, ap, sym, subst, refl, ℕ, zero, suc, ◌<◌, ◌≤◌, ◌==◌, nat_le, Bool, true, false, not, if◌then◌else◌, List, [], ◌∷◌, ◌++◌, length, arith, eqb-true}
 use Rattle.std.specs.Prelude.{Option, Some, None, bytes_eq, ◌||◌}
 use Rattle.std.specs.List.{AllByRecursion}
 use Rattle.std.specs.Option.{option_or}
-use Rattle.std.proofs.lemmas.Bool.{eqb-false}
 use Rattle.std.proofs.lemmas.Bool.Decides.{nat_tests}
 use Rattle.std.proofs.lemmas.Grind.{common_steps}
-use Rattle.lpt_packet.proofs.BoolLemmas.{none_is}
 use Rattle.lpt_part.specs.declared.kind.Kind.{Kind}
 use Rattle.lpt_part.specs.declared.kind.Kind.TheVariants.{First, Middle, Last}
 use Rattle.lpt_part.specs.PartRanges.{LengthFits}
@@ -15,7 +13,7 @@ use Rattle.lpt_part.specs.Splitting.{kind_at, part_count, part_of, parts_joined}
 use Rattle.lpt_part.proofs.SplitLemmas.{part_count-two}
 use Rattle.lpt_layout.proofs.SplitLemmas.{part_of-fits, parts_joined-all}
 use Rattle.lpt_layout_join.specs.declared.last_part.LastPart.{LastPart}
-use Rattle.lpt_layout_join.specs.Came.{first_told, octets_told, size_by, size_told, last_by, last_told, octets_of, size_of, last_of, highest, other_octets, other_size, behind_last, other_last, other_end, is_against, contradicts, and_more, joined, joined_by, message_of}
+use Rattle.lpt_layout_join.specs.Came.{first_told, octets_told, size_by, size_told, last_by, last_told, octets_of, size_of, last_of, highest, other_octets, other_size, behind_last, other_last, other_end, contradicts, and_more, joined, joined_by, message_of}
 use Rattle.lpt_layout_join.specs.Laws.{IsSplit}
 use Rattle.lpt_layout_join.proofs.CameLemmas.{first_told-more}
 

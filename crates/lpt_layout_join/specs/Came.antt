@@ -1,5 +1,5 @@
 -- What came of one transaction: the parts that agree, and the first that doesn't.
-use Rattle.std.specs.Prelude.{◌≡◌, ℕ, zero, suc, ◌==◌, ◌||◌, max, nat_le, Bool, true, false, not, if◌then◌else◌, List, [], ◌∷◌, ◌++◌, length, Option, Some, None, is_some, bytes_eq, slice_index_or}
+use Rattle.std.specs.Prelude.{ℕ, zero, suc, ◌==◌, ◌||◌, max, nat_le, Bool, true, false, not, if◌then◌else◌, List, [], ◌∷◌, ◌++◌, length, Option, Some, None, is_some, bytes_eq, slice_index_or}
 use Rattle.std.specs.Option.{option_or}
 use Rattle.lpt_part.specs.declared.kind.Kind.{Kind}
 use Rattle.lpt_part.specs.declared.kind.Kind.TheVariants.{First, Middle, Last}

@@ -1,5 +1,5 @@
 -- What a value holds of the parts that came.
-use Rattle.std.specs.Prelude.{◌≡◌, ◌≤◌, ℕ, ◌-◌, List, length, Option}
+use Rattle.std.specs.Prelude.{◌≡◌, ◌≤◌, ℕ, ◌-◌, List, length, Option, None}
 use Rattle.lpt_layout_join.specs.declared.came.CameAs.{CameAs}
 use Rattle.lpt_layout_join.specs.declared.last_part.LastPart.{LastPart}
 use Rattle.lpt_layout_join.specs.Came.{Came, at, octets_of, size_of, last_of, highest}
@@ -19,3 +19,4 @@ pub record Shows (c : Came) (s : CameAs) : Type 0 where
   pub last_is : s.last ≡ last_of c.parts
   pub highest_is : length s.slots.items ≡ highest c.parts
   pub against_is : s.against ≡ c.against
+  pub missing_is : at s.slots.items s.missing ≡ None

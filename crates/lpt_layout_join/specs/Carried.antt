@@ -1,7 +1,6 @@
 -- What a packet carries: a part with the name of its transaction, or why it carries none.
 use Rattle.std.specs.Prelude.{◌≡◌, ℕ, ◌-◌, ◌==◌, ◌&&◌, Bool, if◌then◌else◌, List, length, Option, Some, None, Result, Ok, Err}
 use Rattle.lpt_events.specs.Arrivals.{carried_kind}
-use Rattle.lpt_layout.specs.declared.layout.PartLayout.{PartLayout}
 use Rattle.lpt_layout.specs.Messages.{Said, message_verdict}
 use Rattle.lpt_layout.specs.Packets.{verdict_as}
 use Rattle.lpt_layout.specs.Parts.{octets_at, part_verdict_as, piece}

@@ -6,7 +6,7 @@ ghost use Rattle.lpt_layout_join.specs.Came.{is_small, is_small_last};
 use crate::LastPart;
 use crate::against::{other_end, other_octets, other_size};
 use crate::last_part::{last_told, size_told};
-use crate::slots::{has_slot, joined, put};
+use crate::slots::{has_slot, joined, next_empty, put};
 use lpt_layout::{Octets, PartAs};
 use std::alloc::{AllocError, Global};
 
@@ -19,6 +19,8 @@ use std::alloc::{AllocError, Global};
 pub struct CameAs {
     // The octets of each part, at its number less one.
     slots: Vec<Option<Octets>>,
+    // The first place where no octets are.
+    missing: usize,
     size: Option<usize>,
     last: Option<LastPart>,
     against: Option<u64>,
@@ -39,6 +41,7 @@ impl CameAs {
     {
         CameAs {
             slots: Vec::new(alloc),
+            missing: 0,
             size: None,
             last: None,
             against: None,
@@ -83,6 +86,7 @@ impl CameAs {
             → OnOk result (Shows (record c { parts = c.parts ++ piece part.now ∷ [] }) self.new) }
     {
         put(alloc, &mut self.slots, part)?;
+        self.missing = next_empty(&self.slots, self.missing);
         let size = self.size.or(size_told(part));
         let last = self.last.or(last_told(part));
         self.size = size;
@@ -95,6 +99,7 @@ impl CameAs {
         ensures { (c : Came) → Shows c self.now → IfOk result (λ m. m ≡ message_of c.parts) }
     {
         match self.last {
+            Some(last) if self.missing < last.number as usize => Ok(None),
             Some(last) => joined(alloc, &self.slots, last.number as usize),
             None => Ok(None),
         }

@@ -1,10 +1,14 @@
 //! What the definitions say of the parts of one message: functions with empty bodies.
 
 ghost use Rattle.std.specs.Prelude.{◌≡◌, ◌⊎◌, ◌≤◌, ℕ, Bool, List, Option, Some, None, Ok, length, is_some};
-ghost use Rattle.lpt_events.specs.Arrivals.{part_subtype};
+ghost use Rattle.std.specs.Option.{option_map};
+ghost use Rattle.std.specs.Result.{result_ok};
+ghost use Rattle.lpt_events.specs.Arrivals.{arrival, part_subtype};
+ghost use Rattle.lpt_events.specs.Sides.{receiver_side};
 ghost use Rattle.lpt_layout.specs.Messages.{Said, HeadFits};
 ghost use Rattle.lpt_layout.specs.Parts.{PieceFits, body_as};
 ghost use Rattle.lpt_layout.specs.Writes.{octets_as};
+ghost use Rattle.lpt_packet.specs.Numbers.{IsOctets};
 ghost use Rattle.lpt_packet.specs.Sizes.{longest_packet};
 ghost use Rattle.lpt_part.specs.Parts.{nth_part};
 ghost use Rattle.lpt_part.specs.Splitting.{kind_at, part_count};
@@ -14,9 +18,12 @@ ghost use Rattle.lpt_layout_join.specs.Came.{message_of, octets_of};
 ghost use Rattle.lpt_layout_join.specs.Carried.{carried, kind_to};
 ghost use Rattle.lpt_layout_join.specs.Hearing.{heard};
 ghost use Rattle.lpt_layout_join.specs.Laws.{AreOneOrOther, EachIsAmong, HasItsLength, IsAsked, IsSplit, part_named};
+ghost use Rattle.lpt_layout_join.specs.Own.{IsOwn, in_own, part_arrived};
 ghost use Rattle.lpt_layout_join.specs.Writes.{end_of, end_whole, unfit};
 
-use lpt_layout::laws::written_is_read;
+use lpt_layout::laws::{the_own_layouts, written_is_read};
+use lpt_packet::laws::seen_is_read;
+use lpt_pus::laws::bodies_stand_last;
 
 /// The packets of a message's parts, in any order and with repeats, and others in between, are
 /// joined to that message once each part is among them, byte for byte. They are the only ones where
@@ -51,4 +58,16 @@ pub fn made_is_carried()
         → carried r (octets_as r.layout (kind_to r.direction) s) ≡ Ok (part_named n p m k) }
 {
     written_is_read();
+}
+
+/// At the profile's own layouts octets carry the part that arrives with them at the end that
+/// receives in that direction, or none.
+pub fn the_own_parts()
+    ensures { (r : ReadingAs) (p : ℕ) (b : List ℕ) → IsOwn r p → IsOctets b
+        → option_map in_own (result_ok (carried r b))
+        ≡ part_arrived (arrival (receiver_side r.direction) r.apid p b) }
+{
+    the_own_layouts();
+    seen_is_read();
+    bodies_stand_last();
 }

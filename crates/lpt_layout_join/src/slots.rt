@@ -1,6 +1,6 @@
 //! The octets of each part, by its number.
 
-ghost use Rattle.std.specs.Prelude.{◌≡◌, ◌≢◌, ◌≤◌, ◌-◌, ℕ, Some, None, length, max, IfOk, IfSome, OnOk, is_some};
+ghost use Rattle.std.specs.Prelude.{◌≡◌, ◌≢◌, ◌≤◌, ◌<◌, ◌-◌, ℕ, true, Some, None, length, max, IfOk, IfSome, OnOk, is_some};
 ghost use Rattle.std.specs.Option.{option_or};
 ghost use Rattle.lpt_layout_join.specs.Came.{at, joined};
 
@@ -67,6 +67,19 @@ fn part_at(slots: &[Option<Octets>], place: usize) -> Option<&Octets>
         Some(Some(octets)) => Some(octets),
         _ => None,
     }
+}
+
+// The first place, from this one on, where no octets are.
+pub(crate) fn next_empty(slots: &[Option<Octets>], from: usize) -> usize
+    ensures empty { at slots.now result ≡ None }
+    ensures first { (i : ℕ) → from ≤ i → i < result → is_some (at slots.now i) ≡ true }
+{
+    for place in from..slots.len() {
+        if !has_slot(slots, place) {
+            return place;
+        }
+    }
+    slots.len().max(from)
 }
 
 // Whether octets are at a place.

@@ -1,5 +1,5 @@
 -- A list by layouts, a frame further.
-use Rattle.std.proofs.Common.{◌≡◌, ◌⊎◌, ◌∙◌, ap, sym, subst, refl, inl, inr, ℕ, ◌+◌, ◌<◌, ◌≤◌, Bool, true, false, List, [], ◌∷◌, ◌++◌, length, take, drop, Option, Result, Ok, Err, append-nil, append_assoc, length-append, arith}
+use Rattle.std.proofs.Common.{◌≡◌, ◌⊎◌, ◌∙◌, ap, sym, subst, refl, inl, inr, ℕ, ◌+◌, ◌<◌, ◌≤◌, Bool, List, [], ◌∷◌, ◌++◌, length, take, drop, Option, Result, Ok, Err, append-nil, append_assoc, length-append, arith}
 use Rattle.std.specs.Io.KnownBytes.{Appends, Consumes, IsAtEnd, Keeps}
 use Rattle.std.proofs.KnownBytes.{Appends-kept, Appends-nil, Appends-trans, Consumes-nil, Consumes-trans}
 use Rattle.std.proofs.lemmas.List.{length-take-le}
@@ -16,13 +16,12 @@ use Rattle.lpt_frames.specs.Frames.{IsCut, IsFrame, IsStray}
 use Rattle.lpt_frames.proofs.FrameLemmas.{cut-more, cut-next, cut-none}
 use Rattle.lpt_layout_file.specs.declared.layouts.Layouts.{Layouts}
 use Rattle.lpt_list.specs.declared.form.Form.{Form}
-use Rattle.lpt_list.specs.declared.list_end.ListEnd.{ListEnd}
-use Rattle.lpt_list.specs.declared.list_end.ListEnd.TheVariants.{Whole, Stopped}
 use Rattle.lpt_list.specs.Lists.{none_line}
+use Rattle.lpt_layout_list.specs.declared.told.ListEndAs.{ListEndAs}
+use Rattle.lpt_layout_list.specs.declared.told.ListEndAs.TheVariants.{Stopped}
 use Rattle.lpt_layout_list.specs.declared.told.Told.{Told}
 use Rattle.lpt_layout_list.specs.declared.told.ListedAs.{ListedAs}
-use Rattle.lpt_layout_list.specs.Hints.{is_part_as}
-use Rattle.lpt_layout_list.specs.Lists.{frame_line, frame_lines, is_refused_as, one_if, place_after, rest_end, rest_line, told_after, told_none, told_with, EndsAs, IsTooLong, ListLeaves, ListsTo}
+use Rattle.lpt_layout_list.specs.Lists.{frame_line, frame_lines, place_after, rest_end, rest_line, told_after, told_none, told_with, EndsAs, IsTooLong, ListLeaves, ListsTo}
 
 -- ---- one frame more
 
@@ -59,10 +58,6 @@ place-octets place (g ∷ gs) =
 pub stray-some : (b : List ℕ) → IsStray b → 0 < length b
 stray-some [] h = absurd cc
 stray-some (x ∷ xs) h = omega arith
-
--- a frame has octets
-pub frame-some : (f : List ℕ) → IsFrame f → 7 ≤ length f
-frame-some f h = omega (arith, h.framed.whole)
 
 -- octets that were consumed, with none lost
 none_lost : (a b : Option (List ℕ)) (stream : List ℕ)
@@ -148,7 +143,7 @@ module _ (form : Form) (l : Layouts) (from : ℕ) where
 
   -- with a line or none
   pub listed-end : (a b old between new : Option (List ℕ)) (held line : List ℕ) (place : ℕ)
-      (told : Told) (end : ListEnd) (r : Result ListedAs StreamFault)
+      (told : Told) (end : ListEndAs) (r : Result ListedAs StreamFault)
       → (h : IsListed form l from a b old between held place told)
       → EndsAs form end (place_after from h.frames) held b line
       → OnOk r (Appends between new line)
@@ -170,7 +165,7 @@ module _ (form : Form) (l : Layouts) (from : ℕ) where
 
   -- or a front part of it
   pub listed-end-part : {A : Type 0} (a b old between new : Option (List ℕ)) (held line : List ℕ)
-      (place : ℕ) (told : Told) (end : ListEnd) (r : Result A StreamFault)
+      (place : ℕ) (told : Told) (end : ListEndAs) (r : Result A StreamFault)
       → (h : IsListed form l from a b old between held place told)
       → EndsAs form end (place_after from h.frames) held b line
       → IfErr r (λ _. AppendsPart between new line)
@@ -194,7 +189,7 @@ module _ (form : Form) (l : Layouts) (from : ℕ) where
       → IsStray held
       → EndsAs form (Stopped place) at held b (none_line form place)
   stray-ends place at b held is stray =
-      (is, inr stray, stray-some held stray, ap (none_line form) is)
+      (is, stray, stray-some held stray, ap (none_line form) is)
 
   -- at the stream's end
   pub rest-ends : (place at : ℕ) (b : Option (List ℕ)) (held : List ℕ)
@@ -204,7 +199,7 @@ module _ (form : Form) (l : Layouts) (from : ℕ) where
       → EndsAs form (rest_end place held) at held b (rest_line form place held)
   rest-ends place at b [] is few at_end = (refl, at_end, refl)
   rest-ends place at b (x ∷ xs) is few at_end =
-      (is, inl (few, at_end), omega arith, ap (none_line form) is)
+      (is, few, omega arith, at_end, ap (none_line form) is)
 
   -- a front part of the line of the frame in front
   pub listed-part : (a b old between new : Option (List ℕ)) (held : List ℕ) (place len : ℕ)
@@ -280,7 +275,7 @@ module _ (form : Form) (l : Layouts) (from : ℕ) where
       (h.stream, h.consumed, omega (arith, most, h.place_is, far, sum))
 
   -- a list that ended leaves all of it, where a fault comes then
-  pub listed-last : (end : ListEnd) (told : Told) (a b old mid new : Option (List ℕ))
+  pub listed-last : (end : ListEndAs) (told : Told) (a b old mid new : Option (List ℕ))
       → ListsTo form l from end told a b old mid
       → Keeps mid new
       → ListLeaves form l from a b old new
@@ -314,23 +309,6 @@ pub none-reader : {A : Type 0} (Over : Type 0) (r : Result A StreamFault) (first
     → ReadEnds Over r first now
 none-reader Over (Ok x) first now h same = same
 none-reader Over (Err e) first now h same = reader-kept Over e first now (other-fault e h) same
-
--- no more is counted than there are octets
-pub told-fits : (l : Layouts) (f : List ℕ) (t then : Told) (place len : ℕ)
-    → then ≡ told_with l f t
-    → 0 < len
-    → t.refused ≤ place
-    → t.parts ≤ place
-    → (then.refused ≤ place + len) × (then.parts ≤ place + len)
-told-fits l f t then place len is some refused parts =
-    let one : (b : Bool) → one_if b ≤ 1 = one-most in
-    let r = one (is_refused_as l f) in
-    let p = one (is_part_as l f) in
-    subst (λ (x : Told). (x.refused ≤ place + len) × (x.parts ≤ place + len)) (sym is)
-    (omega (arith, some, refused, r), omega (arith, some, parts, p)) where
-      one-most : (b : Bool) → one_if b ≤ 1
-      one-most true = omega arith
-      one-most false = omega arith
 
 -- what holds after any fault
 pub any-err : {A E : Type 0} (P : Type 0) (r : Result A E) → P → IfErr r (λ _. P)

@@ -1,5 +1,5 @@
--- By which other layout a part would be read.
-use Rattle.std.specs.Prelude.{ℕ, ◌+◌, min, Bool, false, if◌then◌else◌, List, Option, Some, None, is_some, Result, Ok, Err}
+-- By which other layout the first part of a message would be read.
+use Rattle.std.specs.Prelude.{ℕ, ◌+◌, ◌&&◌, nat_le, min, Bool, true, false, if◌then◌else◌, List, length, slice_index, Option, Some, None, is_some, Result, Ok, Err}
 use Rattle.std.specs.Option.{option_map_or}
 use Rattle.lpt_packet.specs.declared.fault.PacketFault.{PacketFault}
 use Rattle.lpt_packet.specs.declared.packet.PacketKind.{PacketKind}
@@ -7,6 +7,8 @@ use Rattle.lpt_packet.specs.declared.packet.PacketKind.TheVariants.{Tm, Tc}
 use Rattle.lpt_packet.specs.Numbers.{word_at}
 use Rattle.lpt_packet.specs.Packets.{Sight, IdlePacket, APacket, kind_of}
 use Rattle.lpt_pus.specs.declared.fault.PusFault.{PusFault}
+use Rattle.lpt_part.specs.declared.kind.Kind.{Kind}
+use Rattle.lpt_part.specs.declared.kind.Kind.TheVariants.{First, Middle, Last}
 use Rattle.lpt_events.specs.Arrivals.{carried_kind}
 use Rattle.lpt_layout.specs.Messages.{Said, message_verdict}
 use Rattle.lpt_layout.specs.Packets.{verdict_as}
@@ -41,6 +43,19 @@ shows_part t b = is_part_seen t (verdict_as t.packets.has_checksum b)
 abbrev pub is_part_as : Layouts → List ℕ → Bool
 is_part_as l b = shows_part (layout_in l b) b
 
+-- whether it is the first part of a message
+abbrev pub is_first : Option Kind → Bool
+is_first (Some First) = true
+is_first (Some Middle) = false
+is_first (Some Last) = false
+is_first None = false
+
+-- whether octets have the message type of a first part, which stands at one place by any layout
+abbrev pub has_first_type : PacketKind → List ℕ → Bool
+has_first_type kind b =
+    nat_le 9 (length b)
+    && is_first (carried_kind (direction_of kind) (slice_index b 7) (slice_index b 8))
+
 -- a layout with so many octets more: of time, or spare ones of telecommands, which have no time
 abbrev pub longer : PacketKind → ℕ → Tailored → Tailored
 longer Tm more t =
@@ -67,9 +82,10 @@ hint_for kind t b =
     else if shows_part (bare t) b then Some Bare
     else None
 
--- the same, where they are none by their own
+-- the same of a first part, where they are none by their own: another part may have any number
 abbrev pub hint_unless : PacketKind → Tailored → List ℕ → Option Hint
-hint_unless kind t b = if shows_part t b then None else hint_for kind t b
+hint_unless kind t b =
+    if has_first_type kind b then (if shows_part t b then None else hint_for kind t b) else None
 
 abbrev pub hint_of : Layouts → List ℕ → Option Hint
 hint_of l b = hint_unless (kind_of (word_at b 0)) (layout_in l b) b

@@ -2,6 +2,7 @@
 use Rattle.std.specs.Prelude.{◌≡◌, ◌⊎◌, ℕ, ◌+◌, ◌<◌, ◌≤◌, Bool, true, false, List, [], ◌∷◌, ◌++◌, length, codes, Option, Some, None, is_err, is_ok, Result, Ok, Err}
 use Rattle.std.specs.Io.KnownBytes.{Appends, Consumes, IsAtEnd}
 use Rattle.lpt_text.specs.Streams.{AppendsPart}
+use Rattle.lpt_stream.specs.Pieces.{up_to_limit}
 use Rattle.lpt_stream.specs.Streams.{IsUnfinished}
 use Rattle.lpt_frames.specs.Frames.{IsCut, IsStray, Stops}
 use Rattle.lpt_packet.specs.declared.fault.PacketFault.{PacketFault}
@@ -12,11 +13,11 @@ use Rattle.lpt_layout.specs.Packets.{verdict_as}
 use Rattle.lpt_layout_file.specs.declared.layouts.Layouts.{Layouts}
 use Rattle.lpt_list.specs.declared.form.Form.{Form}
 use Rattle.lpt_list.specs.declared.form.Form.TheVariants.{Text}
-use Rattle.lpt_list.specs.declared.list_end.ListEnd.{ListEnd}
-use Rattle.lpt_list.specs.declared.list_end.ListEnd.TheVariants.{Whole, Stopped}
 use Rattle.lpt_list.specs.Items.{items_text}
 use Rattle.lpt_list.specs.Lists.{length_items, line_of, none_line}
 use Rattle.lpt_layout_list.specs.declared.hints.Hint.{Hint}
+use Rattle.lpt_layout_list.specs.declared.told.ListEndAs.{ListEndAs}
+use Rattle.lpt_layout_list.specs.declared.told.ListEndAs.TheVariants.{Whole, Cut, Stopped}
 use Rattle.lpt_layout_list.specs.declared.told.Told.{Told}
 use Rattle.lpt_layout_list.specs.Hints.{hint_of, is_part_as}
 use Rattle.lpt_layout_list.specs.Items.{layout_in, said_as}
@@ -74,8 +75,8 @@ hint_with l b None = hint_of l b
 -- with octets more
 abbrev pub told_with : Layouts → List ℕ → Told → Told
 told_with l b t = record {
-  refused = t.refused + one_if (is_refused_as l b);
-  parts = t.parts + one_if (is_part_as l b);
+  refused = up_to_limit (t.refused + one_if (is_refused_as l b));
+  parts = up_to_limit (t.parts + one_if (is_part_as l b));
   hint = hint_with l b t.hint;
 }
 
@@ -99,26 +100,28 @@ pub record IsTold (l : Layouts) (b : List ℕ) (told : Told) : Type 0 where
 -- ---- a stream
 
 -- where a list ends at a place, with these octets left at the stream's end, and with which line
-abbrev pub rest_end : ℕ → List ℕ → ListEnd
+abbrev pub rest_end : ℕ → List ℕ → ListEndAs
 rest_end place [] = Whole
-rest_end place (b ∷ bs) = Stopped place
+rest_end place (b ∷ bs) = Cut place
 
 abbrev pub rest_line : Form → ℕ → List ℕ → List ℕ
 rest_line form place [] = []
 rest_line form place (b ∷ bs) = none_line form place
 
 -- Where a list ends: at the stream's end with nothing left; or at a place where less than a packet
--- is left, or octets with which none begins, and a line says that none is there.
-abbrev pub EndsAs : Form → ListEnd → (place : ℕ) → (rest : List ℕ) → (after : Option (List ℕ))
+-- is left there, or octets with which none begins, and a line says that none is there.
+abbrev pub EndsAs : Form → ListEndAs → (place : ℕ) → (rest : List ℕ) → (after : Option (List ℕ))
     → (line : List ℕ) → Type 0
 EndsAs form Whole place rest after line = (rest ≡ []) × IsAtEnd after × (line ≡ [])
+EndsAs form (Cut at) place rest after line =
+    (at ≡ place) × IsUnfinished rest × (0 < length rest) × IsAtEnd after
+    × (line ≡ none_line form place)
 EndsAs form (Stopped at) place rest after line =
-    (at ≡ place) × ((IsUnfinished rest × IsAtEnd after) ⊎ IsStray rest)
-    × (0 < length rest) × (line ≡ none_line form place)
+    (at ≡ place) × IsStray rest × (0 < length rest) × (line ≡ none_line form place)
 
 -- the stream, which begins at a place, was read as frames up to there, and the lines of these were
 -- written
-pub record ListsTo (form : Form) (l : Layouts) (from : ℕ) (end : ListEnd) (told : Told)
+pub record ListsTo (form : Form) (l : Layouts) (from : ℕ) (end : ListEndAs) (told : Told)
     (before after old new : Option (List ℕ)) : Type 0 where
   pub stream : List ℕ
   pub frames : List (List ℕ)
@@ -146,6 +149,6 @@ pub record ListLeaves (form : Form) (l : Layouts) (from : ℕ)
   pub line : List ℕ
   pub consumed : Consumes before after (stream ++ lost)
   pub cut : IsCut stream frames rest
-  pub ends : (line ≡ []) ⊎ ((end : ListEnd) × (lost ≡ [])
+  pub ends : (line ≡ []) ⊎ ((end : ListEndAs) × (lost ≡ [])
       × EndsAs form end (place_after from frames) rest after line)
   pub written : AppendsPart old new (frame_lines form l from frames ++ line)

@@ -3,7 +3,6 @@
 ghost use Rattle.std.specs.Prelude.{◌≡◌, ◌≤◌, length};
 ghost use Rattle.lpt_packet.specs.Packets.{kind_of};
 ghost use Rattle.lpt_packet.specs.Numbers.{word_at};
-ghost use Rattle.lpt_layout_file.specs.Layouts.{tailored};
 ghost use Rattle.lpt_layout_list.specs.Items.{direction_of};
 
 use lpt_packet::{Direction, PacketKind};

@@ -1,7 +1,6 @@
 //! What is found in octets that are there.
 
 ghost use Rattle.std.specs.Prelude.{◌≡◌, None, IfSome};
-ghost use Rattle.lpt_frames.specs.declared.front.Front.{Front};
 ghost use Rattle.lpt_frames.specs.declared.front.Front.TheVariants.{Frame};
 ghost use Rattle.lpt_frames.specs.Frames.{IsFound, Stops};
 ghost use Rattle.lpt_layout_file.specs.Layouts.{SizesFit};
@@ -19,7 +18,6 @@ pub fn told_in(layouts: &Layouts, octets: &[u8]) -> Told
     requires { SizesFit layouts.now }
     ensures { IsTold layouts.now octets.now result }
 {
-    let _most = octets.len();
     let mut told = nothing_told();
     let mut rest = octets;
     while let Some(len) = frame_length(rest) {

@@ -1,6 +1,6 @@
 //! What the secondary header of a layout says, as the items of a line.
 
-ghost use Rattle.std.specs.Prelude.{◌≡◌, ◌≤◌, length, IfOk};
+ghost use Rattle.std.specs.Prelude.{◌≡◌, IfOk};
 ghost use Rattle.std.specs.String.{string_bytes};
 ghost use Rattle.lpt_list.specs.Items.{Number, Word, item_text, items_text};
 ghost use Rattle.lpt_layout.specs.Messages.{said};

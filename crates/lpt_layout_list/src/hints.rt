@@ -4,7 +4,7 @@ ghost use Rattle.std.specs.Prelude.{◌≡◌, ◌≤◌, length};
 ghost use Rattle.lpt_layout.specs.Messages.{message_verdict, said};
 ghost use Rattle.lpt_layout.specs.Packets.{fields};
 ghost use Rattle.lpt_layout_file.specs.Layouts.{SizeFits, SizesFit};
-ghost use Rattle.lpt_layout_list.specs.Hints.{bare, hint_for, hint_longer, hint_of, is_part, is_part_in, longer, shows_part};
+ghost use Rattle.lpt_layout_list.specs.Hints.{bare, has_first_type, hint_for, hint_longer, hint_of, is_part, is_part_in, longer, shows_part};
 
 use crate::choice::{direction_of, kind_in};
 use crate::parts::part_at;
@@ -12,6 +12,7 @@ use lpt_events::part_kind;
 use lpt_layout::{Layout, Message, PacketAs, SeenAs, read_packet_as, read_tc_as, read_tm_as};
 use lpt_layout_file::{Layouts, Tailored};
 use lpt_packet::PacketKind;
+use lpt_part::Kind;
 
 /// Another layout by which parts would be read.
 #[derive(Clone, Copy)]
@@ -24,9 +25,10 @@ pub enum Hint {
     Bare,
 }
 
-/// By which other layout of its packet type octets would be read as a part, where they aren't by
-/// this one: with 1 to 4 octets more of time, or spare ones of telecommands, or without a packet
-/// error control, the first that fits. `None` where they are read, and where no such layout fits.
+/// By which other layout of its packet type octets would be read as the first part of a message,
+/// where they aren't by this one: with 1 to 4 octets more of time, or spare ones of telecommands,
+/// or without a packet error control, the first that fits. `None` where they are read, where no
+/// such layout fits, and of other parts, whose numbers may be any.
 pub fn hint_of(layouts: &Layouts, octets: &[u8]) -> Option<Hint>
     requires sizes { SizesFit layouts.now }
     requires header { 7 ≤ length octets.now }
@@ -34,10 +36,21 @@ pub fn hint_of(layouts: &Layouts, octets: &[u8]) -> Option<Hint>
 {
     let kind = kind_in(octets);
     let tailored = layouts.tailored(direction_of(kind));
-    if shows_part(tailored, octets) {
+    if !has_first_type(kind, octets) || shows_part(tailored, octets) {
         return None;
     }
     hint_for(kind, tailored, octets)
+}
+
+// Whether octets have the message type of a first part, which stands at one place by any layout.
+fn has_first_type(kind: PacketKind, octets: &[u8]) -> bool
+    ensures { result ≡ has_first_type kind octets.now }
+{
+    if octets.len() < 9 {
+        return false;
+    }
+    let kind = part_kind(direction_of(kind), octets[7], octets[8]);
+    matches!(kind, Some(Kind::First))
 }
 
 // The first of the other layouts by which octets would be read as a part.

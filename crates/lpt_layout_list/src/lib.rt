@@ -24,6 +24,6 @@ pub use heads::print_items;
 pub use hints::{Hint, hint_of};
 pub use listing::list_layouts;
 pub use lpt_layout_file::Layouts;
-pub use lpt_list::{Form, ListEnd};
+pub use lpt_list::Form;
 pub use lpt_text::{Sink, Source, StreamFault};
-pub use told::{ListedAs, Told, is_read};
+pub use told::{ListEndAs, ListedAs, Told, is_read};

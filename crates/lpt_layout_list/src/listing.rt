@@ -10,7 +10,7 @@ ghost use Rattle.lpt_layout_list.specs.Lists.{frame_line, rest_end, rest_line, t
 
 use crate::heads::print_items;
 use crate::told::told_with;
-use crate::{Form, ListEnd, ListedAs, Told};
+use crate::{Form, ListEndAs, ListedAs, Told};
 use lpt_frames::{FrameBuffer, Front};
 use lpt_layout_file::Layouts;
 use lpt_list::{print_none, print_said};
@@ -82,7 +82,9 @@ fn list_frames<S: Source, K: Sink>(
     while place < LAST_PLACE {
         let len = match buffer.find_frame(source, out)? {
             Front::Frame(len) => len,
-            Front::Stray => return list_none(alloc, form, place, told, out),
+            Front::Stray => {
+                return list_none(alloc, form, ListEndAs::Stopped(place), place, told, out);
+            }
             Front::End => return list_rest(alloc, form, place, told, buffer.held(), out),
         };
         let octets = &buffer.held()[..len];
@@ -125,24 +127,25 @@ fn list_rest<K: Sink>(
 {
     match left {
         [] => Ok(ListedAs {
-            end: ListEnd::Whole,
+            end: ListEndAs::Whole,
             told,
         }),
-        [_, ..] => list_none(alloc, form, place, told, out),
+        [_, ..] => list_none(alloc, form, ListEndAs::Cut(place), place, told, out),
     }
 }
 
-// Writes that no packet is at a place, with which a list ends.
+// Writes that no packet is at a place, with which a list ends so.
 fn list_none<K: Sink>(
     alloc: Global,
     form: Form,
+    end: ListEndAs,
     place: u64,
     told: Told,
     out: &mut K,
 ) -> Result<ListedAs, StreamFault>
     ensures ok { OnOk result (Appends (K.contents out.old) (K.contents out.new)
         (none_line form place)) }
-    ensures listed { IfOk result (λ l. l ≡ record { end = ListEnd.Stopped place; told = told }) }
+    ensures listed { IfOk result (λ l. l ≡ record { end = end; told = told }) }
     ensures fault { IfErr result (λ e. (e ≡ StreamFault.Write) ⊎ (e ≡ StreamFault.Memory)) }
     ensures part { IfErr result (λ _. AppendsPart (K.contents out.old) (K.contents out.new)
         (none_line form place)) }
@@ -152,10 +155,7 @@ fn list_none<K: Sink>(
         return Err(StreamFault::Memory);
     };
     write_out(out, line.as_bytes())?;
-    Ok(ListedAs {
-        end: ListEnd::Stopped(place),
-        told,
-    })
+    Ok(ListedAs { end, told })
 }
 
 // Writes the line of a frame.

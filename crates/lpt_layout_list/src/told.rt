@@ -1,20 +1,20 @@
 //! What was found while packets were listed.
 
-ghost use Rattle.std.specs.Prelude.{◌≡◌, ◌≤◌, ◌<◌, ◌+◌, length, is_ok};
+ghost use Rattle.std.specs.Prelude.{◌≡◌, ◌≤◌, length, is_ok};
 ghost use Rattle.lpt_layout.specs.Messages.{message_verdict};
 ghost use Rattle.lpt_layout.specs.Packets.{fields};
 ghost use Rattle.lpt_layout_file.specs.Layouts.{SizesFit};
 ghost use Rattle.lpt_layout_list.specs.Lists.{hint_with, is_read_as, is_refused_as, told_with};
 ghost use Rattle.lpt_layout_list.specs.Hints.{is_part_as};
 
+use crate::Hint;
 use crate::choice::{direction_of, kind_in};
 use crate::hints::{hint_of, shows_part};
-use crate::{Hint, ListEnd};
 use lpt_layout::{Layout, PacketAs, SeenAs, read_packet_as, read_tc_as, read_tm_as};
 use lpt_layout_file::Layouts;
 use lpt_packet::PacketKind;
 
-/// What was found in a stream.
+/// What was found in a stream. A count ends at 2^64 - 1.
 #[derive(Clone, Copy)]
 pub struct Told {
     /// So many packets fail a test of their layout's packets.
@@ -25,11 +25,22 @@ pub struct Told {
     pub hint: Option<Hint>,
 }
 
+/// How a list by layouts ends.
+#[derive(Clone, Copy)]
+pub enum ListEndAs {
+    /// With the stream, of which each octet was in a packet.
+    Whole,
+    /// At this place: less than a packet is left there.
+    Cut(u64),
+    /// At this place: no packet begins there.
+    Stopped(u64),
+}
+
 /// What was listed.
 #[derive(Clone, Copy)]
 pub struct ListedAs {
     /// How the list ends.
-    pub end: ListEnd,
+    pub end: ListEndAs,
     /// What was found in what was listed.
     pub told: Told,
 }
@@ -38,13 +49,15 @@ pub struct ListedAs {
 pub(crate) fn told_with(told: Told, layouts: &Layouts, octets: &[u8]) -> Told
     requires sizes { SizesFit layouts.now }
     requires header { 7 ≤ length octets.now }
-    requires refused { told.refused < 18446744073709551615 }
-    requires parts { told.parts < 18446744073709551615 }
     ensures { result ≡ told_with layouts.now octets.now told }
 {
     Told {
-        refused: told.refused + u64::from(is_refused(layouts, octets)),
-        parts: told.parts + u64::from(is_part(layouts, octets)),
+        refused: told
+            .refused
+            .saturating_add(u64::from(is_refused(layouts, octets))),
+        parts: told
+            .parts
+            .saturating_add(u64::from(is_part(layouts, octets))),
         hint: hint_with(told.hint, layouts, octets),
     }
 }

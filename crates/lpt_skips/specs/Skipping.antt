@@ -27,11 +27,11 @@ abbrev pub size_tried : Kind → List ℕ → ℕ → Option ℕ
 size_tried kind body p =
     if nat_le 4 p && nat_le p 1024 && is_some (part_in p kind body) then Some p else None
 
--- the part size by which a body is read as a part of this kind, where it is no last part: it has as
--- many octets as the part
+-- the part size by which a body is read as a first part: it has as many octets as the part. The
+-- number of another may be any
 abbrev pub fitting_size : Kind → List ℕ → Option ℕ
 fitting_size First body = size_tried First body (length body - 4)
-fitting_size Middle body = size_tried Middle body (length body - 4)
+fitting_size Middle body = None
 fitting_size Last body = None
 
 -- a part of this name, where parts of one name are wanted, or of any

@@ -15,4 +15,5 @@ pub use lpt_packet::{Direction, Name};
 pub use lpt_stream::PieceKind;
 pub use reading::Reading;
 pub use skips::Skips;
+pub use sorting::fitting_size;
 pub use why::Why;

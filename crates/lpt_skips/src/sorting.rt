@@ -2,7 +2,6 @@
 
 ghost use Rattle.std.specs.Prelude.{◌≡◌};
 ghost use Rattle.lpt_packet.specs.Packets.{fields};
-ghost use Rattle.lpt_packet.specs.Names.{named_by};
 ghost use Rattle.lpt_pus.specs.Commands.{tc_verdict};
 ghost use Rattle.lpt_pus.specs.Telemetry.{tm_verdict};
 ghost use Rattle.lpt_stream.specs.Pieces.{IsSealed};
@@ -108,11 +107,12 @@ impl Reading {
     }
 }
 
-// The part size by which the body of a part of this kind would be read, where it is no last part.
-fn fitting_size(kind: Kind, body: &[u8]) -> Option<u32>
+/// The part size by which the body of a part of this kind would be read, where it is a first part:
+/// the number of another may be any.
+pub fn fitting_size(kind: Kind, body: &[u8]) -> Option<u32>
     ensures { result ≡ fitting_size kind body.now }
 {
-    if kind == Kind::Last {
+    if kind != Kind::First {
         return None;
     }
     let own = body.len().saturating_sub(PART_FIELDS);

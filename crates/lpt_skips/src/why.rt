@@ -16,7 +16,7 @@ pub enum Why {
     /// A packet of the other direction, as its packet type says.
     OtherDirection,
     /// A part whose body isn't read for the part size; the part size by which it would be, where it
-    /// is no last part and there is one.
+    /// is a first part and there is one.
     Unread(Option<u32>),
     /// A part of the transaction of this other name.
     OtherName(Name),

@@ -1,7 +1,6 @@
 -- Packet after packet, until none is left.
-use Rattle.std.proofs.Common.{◌≡◌, ◌∙◌, ap, sym, subst, refl, inr, ◌∷◌, ◌++◌, ℕ, List, [], length, take, Ok, arith}
+use Rattle.std.proofs.Common.{◌≡◌, ◌∙◌, ap, sym, subst, refl, inr, ◌∷◌, ◌++◌, [], take, Ok, arith}
 use Rattle.std.proofs.KnownBytes.{Keeps-refl, Keeps-trans}
-use Rattle.std.proofs.lemmas.List.{length-take-le}
 use Rattle.std.proofs.lemmas.Result.{err_from_is_err_and}
 use Rattle.lpt_stream.proofs.EndLemmas.{other-fault, reader-after, reader-kept, writer-after}
 use Rattle.lpt_frames.specs.declared.front.Front.{Front}

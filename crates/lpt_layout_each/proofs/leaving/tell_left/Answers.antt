@@ -1,8 +1,7 @@
 -- What came of the name is told, where it isn't nothing.
-use Rattle.std.proofs.Common.{◌∙◌, ap, sym, subst, List}
+use Rattle.std.proofs.Common.{◌∙◌, sym, subst, List}
 use Rattle.lpt_layout_join.specs.declared.came.CameAs.{CameAs}
 use Rattle.lpt_layout_each.specs.News.{Event, Hears}
-use Rattle.lpt_layout_each.specs.Told.{news_of}
 use Rattle.lpt_layout_join.specs.CameInside.{Shows}
 use Rattle.lpt_layout_each.proofs.StepLemmas.{dropped-shown}
 use Rattle.lpt_layout_each.proofs.TellLemmas.{left-told}

@@ -1,11 +1,11 @@
 -- Packet after packet, until none is left.
-use Rattle.std.proofs.Common.{◌≡◌, ◌∙◌, ap, sym, subst, refl, inr, take, length, Ok, arith}
+use Rattle.std.proofs.Common.{◌≡◌, ◌∙◌, ap, sym, subst, refl, inr, take, Ok, arith}
 use Rattle.std.proofs.KnownBytes.{Keeps-refl, Keeps-trans}
 use Rattle.lpt_frames.specs.declared.front.Front.{Front}
 use Rattle.lpt_frames.specs.Buffers.{held, FindsFrame}
 use Rattle.lpt_layout_join.specs.declared.hearing.LeftAs.TheVariants.{Stray}
 use Rattle.lpt_layout_join.specs.Hearing.{Leaves, left_at}
-use Rattle.lpt_layout_join.proofs.HearLemmas.{find-reader, hearing-endless, hearing-more, hearing-next, hearing-none, hearing-stop, leaves-at}
+use Rattle.lpt_layout_join.proofs.HearLemmas.{hearing-endless, hearing-more, hearing-next, hearing-none, hearing-stop, leaves-at}
 use Rattle.lpt_layout_join.proofs.streaming.hear.Goals as goal
 
 pub loop-init : goal.loop-init

@@ -1,14 +1,10 @@
-use Rattle.std.proofs.Common.{◌+◌, ◌≤◌, length}
+use Rattle.std.proofs.Common.{length}
 use Rattle.lpt_layout_list.proofs.FrontLemmas.{IsSeen}
 use Rattle.lpt_layout_list.proofs.fronts.told_in.Given as goal
 
--- the packets up to here were told, and no more is counted than there are octets
+-- the packets up to here were told
 abbrev pub invariant-loop-len : goal.invariant-loop-len
-invariant-loop-len l = record {
-  at : IsSeen l.layouts l.octets l.rest l.told;
-  refused : l.told.refused + length l.rest ≤ length l.octets;
-  parts : l.told.parts + length l.rest ≤ length l.octets;
-}
+invariant-loop-len l = IsSeen l.layouts l.octets l.rest l.told
 
 -- each packet leaves fewer octets
 abbrev pub decreases-loop-len : goal.decreases-loop-len

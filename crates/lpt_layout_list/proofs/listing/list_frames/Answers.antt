@@ -1,17 +1,16 @@
 -- Frame after frame, until none is left.
-use Rattle.std.proofs.Common.{◌∙◌, ◌≤◌, ap, sym, subst, refl, inr, take, [], Ok, arith}
+use Rattle.std.proofs.Common.{◌∙◌, ap, sym, subst, refl, inr, take, [], Ok}
 use Rattle.std.specs.Io.KnownBytes.{Appends}
 use Rattle.std.proofs.KnownBytes.{Consumes-nil, Keeps-refl}
-use Rattle.std.proofs.lemmas.List.{length-take-le}
 use Rattle.std.proofs.lemmas.Result.{err_from_is_err_and}
 use Rattle.lpt_text.specs.Streams.{AppendsPart}
 use Rattle.lpt_stream.proofs.EndLemmas.{other-fault, reader-after, reader-kept, writer-after, writer-all}
 use Rattle.lpt_frames.specs.declared.front.Front.{Front}
 use Rattle.lpt_frames.specs.Buffers.{held, FindsFrame}
-use Rattle.lpt_list.specs.declared.list_end.ListEnd.TheVariants.{Stopped}
 use Rattle.lpt_list.specs.Lists.{none_line}
+use Rattle.lpt_layout_list.specs.declared.told.ListEndAs.TheVariants.{Stopped}
 use Rattle.lpt_layout_list.specs.Lists.{frame_line, place_after, rest_end, rest_line, told_with, EndsAs}
-use Rattle.lpt_layout_list.proofs.StreamLemmas.{any-err, find-reader, frame-some, listed-end, listed-end-part, listed-fault, listed-lost, listed-more, listed-most, listed-next, listed-none, listed-part, none-reader, rest-ends, stray-ends, told-fits}
+use Rattle.lpt_layout_list.proofs.StreamLemmas.{any-err, find-reader, listed-end, listed-end-part, listed-fault, listed-lost, listed-more, listed-most, listed-next, listed-none, listed-part, none-reader, rest-ends, stray-ends}
 use Rattle.lpt_layout_list.proofs.listing.list_frames.Goals as goal
 
 pub loop-place-init : goal.loop-place-init
@@ -20,8 +19,6 @@ loop-place-init g c = record {
       (g.S.Source.remaining c.args.source.now) (g.K.Sink.contents c.args.out.now)
       (held c.new-buffer.result) c.nothing_told-told.result c.new-buffer.ensures
       c.nothing_told-told.ensures;
-  refused = subst (λ t. t.refused ≤ c.args.from) (sym c.nothing_told-told.ensures) (omega arith);
-  parts = subst (λ t. t.parts ≤ c.args.from) (sym c.nothing_told-told.ensures) (omega arith);
   reader = refl;
   writer = refl;
 }
@@ -39,8 +36,9 @@ returns-in-Stray-clause-ends g c =
     listed-end c.args.form c.args.layouts.now c.args.from _ _ _ _ _ (held c.find_frame.new.self)
     (none_line c.args.form c.loop-place.place) c.loop-place.place c.loop-place.told
     (Stopped c.loop-place.place) c.list_none.result at
-    (stray-ends c.args.form c.args.layouts.now c.args.from c.loop-place.place _ _
-    (held c.find_frame.new.self) at.place_is found.2) c.list_none.ensures.ok
+    (stray-ends c.args.form c.args.layouts.now c.args.from c.loop-place.place _
+    (g.S.Source.remaining c.find_frame.new.peer) (held c.find_frame.new.self) at.place_is found.2)
+    c.list_none.ensures.ok
     c.list_none.ensures.listed
 
 pub returns-in-Stray-clause-leaves : goal.returns-in-Stray-clause-leaves
@@ -55,8 +53,9 @@ returns-in-Stray-clause-leaves g c =
     listed-end-part c.args.form c.args.layouts.now c.args.from _ _ _ _ _
     (held c.find_frame.new.self) (none_line c.args.form c.loop-place.place) c.loop-place.place
     c.loop-place.told (Stopped c.loop-place.place) c.list_none.result at
-    (stray-ends c.args.form c.args.layouts.now c.args.from c.loop-place.place _ _
-    (held c.find_frame.new.self) at.place_is found.2) c.list_none.ensures.part
+    (stray-ends c.args.form c.args.layouts.now c.args.from c.loop-place.place _
+    (g.S.Source.remaining c.find_frame.new.peer) (held c.find_frame.new.self) at.place_is found.2)
+    c.list_none.ensures.part
 
 pub returns-in-Stray-clause-reader : goal.returns-in-Stray-clause-reader
 returns-in-Stray-clause-reader g c =
@@ -201,15 +200,9 @@ loop-place-preserved g c =
     let at = listed-more c.args.form c.args.layouts.now c.args.from _ _ _ _ _ _ _
     (held c.find_frame.new.self) found.0 c.loop-place.place c.loop-place.told
     c.loop-place.invariant.at found.1.consumed found.1.behind c.in_ok-len.ensures.same in
-    let f = take c.in-Frame.len (held c.find_frame.new.self) in
     let counted = c.told_with-told.ensures
     ∙ ap (λ o. told_with c.args.layouts.now (take c.in-Frame.len o) c.loop-place.told)
     c.held-in-loop-place.ensures in
-    let size = length-take-le c.in-Frame.len (held c.find_frame.new.self) found.2.0 in
-    let some = frame-some f found.2.1 in
-    let fits = told-fits c.args.layouts.now f c.loop-place.told c.told_with-told.result
-    c.loop-place.place c.in-Frame.len counted (omega (arith, size, some))
-    c.loop-place.invariant.refused c.loop-place.invariant.parts in
     record {
       at = listed-next c.args.form c.args.layouts.now c.args.from _ _ _ _ _
           (held c.find_frame.new.self) (held c.skip.new.self) c.loop-place.place _
@@ -218,8 +211,6 @@ loop-place-preserved g c =
           (g.K.Sink.contents c.list_frame.new.out)
           (frame_line c.args.form c.args.layouts.now c.loop-place.place (take c.in-Frame.len o)))
           c.held-in-loop-place.ensures c.in_ok-list_frame.ensures.ok) refl c.skip.ensures counted;
-      refused = fits.0;
-      parts = fits.1;
       reader = found.3 ∙ c.loop-place.invariant.reader;
       writer = c.in_ok-list_frame.ensures.writer
           ∙ (c.in_ok-len.ensures.writer ∙ c.loop-place.invariant.writer);

@@ -1,5 +1,5 @@
 -- By what the part makes of the new parts.
-use Rattle.std.proofs.Common.{◌≡◌, ◌∙◌, ap, sym, subst, refl, Some}
+use Rattle.std.proofs.Common.{◌∙◌, ap, sym, subst, refl, Some}
 use Rattle.std.specs.Prelude.{Option}
 use Rattle.lpt_layout.specs.Parts.{piece}
 use Rattle.lpt_layout_join.specs.Came.{nothing_came}
