@@ -19,8 +19,8 @@ use std::str;
 /// The most octets that the file may have.
 const LONGEST_FILE: usize = 1_048_576;
 
-/// The configuration, the first memories, and how much a run of threads does: those of the file that the
-/// words name, or of an empty one without it. What else the words say wins over it.
+/// The configuration, the first memories, and how much a run of threads does: those of the file
+/// that the words name, or of an empty one without it. What else the words say wins over it.
 ///
 /// Errors: `Read` where the file can't be opened or read; `Config` where it has more than 1,048,576
 /// octets, isn't UTF-8 or is refused; `Memory`.

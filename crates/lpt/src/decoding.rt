@@ -228,8 +228,8 @@ fn tell_size(rt: &HostRuntime, octets: &[u8], p: u32)
     }
 }
 
-// The kind of part that a packet carries, and the message's body; none where it carries none.
-fn part_body<'a>(packet: &Packet<'a>) -> Option<(Kind, &'a [u8])> {
+/// The kind of part that a packet carries, and the message's body; none where it carries none.
+pub fn part_body<'a>(packet: &Packet<'a>) -> Option<(Kind, &'a [u8])> {
     match packet.kind {
         PacketKind::Tc => match read_tc(packet) {
             Ok((head, body)) => match part_kind(Direction::Up, head.service, head.subtype) {

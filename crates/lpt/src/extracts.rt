@@ -271,7 +271,7 @@ fn nothing_text(alloc: Global, wanted: &Wanted) -> Result<String, AllocError> {
         Some(place) => {
             let memory = place.memory;
             let from = place.from;
-            format!(in alloc; "memory {memory}: no octet came of address {from} or behind it")
+            format!(in alloc; "memory {memory}: no octet came of address {from} or after it")
         }
     }
 }

@@ -4,13 +4,16 @@ ghost use Rattle.lpt_layout_file.specs.Layouts.{SizesFit};
 
 use crate::end::{Failure, Status, tell_place};
 use crate::input::{Packets, opened_packets, packets_end};
+use crate::layout_joins::tell_left;
 use crate::layouts;
 use crate::progress::Voice;
 use crate::streams::{finish, first_failure, output};
 use lpt_command_line::ListWords;
 use lpt_layout_file::Layouts;
-use lpt_layout_list::{Form, ListEnd, ListedAs, Told, list_layouts};
+use lpt_layout_join::LeftAs;
+use lpt_layout_list::{Form, ListEndAs, ListedAs, Told, list_layouts};
 use lpt_text::StreamFault;
+use std::alloc::AllocError;
 
 /// Lists the packets of a stream by the layouts of the file at this path.
 ///
@@ -51,22 +54,22 @@ fn list_packets(
     let failure = packets_end(rt, voice, source, &words.files, failed);
     first_failure(finish(rt, out), failure)?;
     match listed {
-        Ok(listed) => Ok(list_status(rt, listed)),
+        Ok(listed) => match list_status(rt, listed) {
+            Ok(status) => Ok(status),
+            Err(_) => Err(Failure::from(StreamFault::Memory)),
+        },
         Err(fault) => Err(Failure::from(fault)),
     }
 }
 
-// The status of a list that ended so, after what was found was told.
-fn list_status(rt: &HostRuntime, listed: ListedAs) -> Status {
+// The status of a list that ended so, after what was found was told. The only error is out of
+// memory.
+fn list_status(rt: &HostRuntime, listed: ListedAs) -> Result<Status, AllocError> {
     tell_found(rt, listed.told);
     match listed.end {
-        ListEnd::Whole => Status::Done,
-        ListEnd::Stopped(place) => {
-            if let Ok(text) = format!(in rt.alloc(); "octet {place}: no packet") {
-                tell_place(rt, text.as_str());
-            }
-            Status::Refused
-        }
+        ListEndAs::Whole => Ok(Status::Done),
+        ListEndAs::Cut(place) => tell_left(rt, place, LeftAs::Unfinished),
+        ListEndAs::Stopped(place) => tell_left(rt, place, LeftAs::Stray),
     }
 }
 

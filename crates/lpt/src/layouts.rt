@@ -17,6 +17,9 @@ use lpt_stream::whole_length;
 use std::alloc::{AllocError, Global};
 use std::str;
 
+/// The octets of a part's identifier and number.
+pub const PART_FIELDS: usize = 4;
+
 /// The layouts of the file at this path; none where they are refused, after standard error was told
 /// where and why.
 ///
@@ -93,19 +96,32 @@ fn has_unread(octets: &[u8]) -> bool {
 
 // Whether such a packet is one.
 fn is_unread(packet: &[u8]) -> bool {
-    if packet.len() < 9 {
+    let Some((kind, header)) = kind_of(packet) else {
         return false;
+    };
+    if packet.len() < PRIMARY_HEADER + ERROR_CONTROL {
+        return false;
+    }
+    is_no_part(
+        kind,
+        &packet[PRIMARY_HEADER..packet.len() - ERROR_CONTROL],
+        header,
+    )
+}
+
+/// The kind of part whose message type stands in a packet of the profile, and how long the secondary
+/// header of that type is; none where it has another type. Nothing else of it is looked at.
+pub fn kind_of(packet: &[u8]) -> Option<(Kind, usize)> {
+    if packet.len() < 9 {
+        return None;
     }
     let (direction, header) = if packet[0] & 16 == 0 {
         (Direction::Down, TM_HEADER)
     } else {
         (Direction::Up, TC_HEADER)
     };
-    let field = &packet[PRIMARY_HEADER..packet.len() - ERROR_CONTROL];
-    match part_kind(direction, packet[7], packet[8]) {
-        Some(kind) => is_no_part(kind, field, header),
-        None => false,
-    }
+    let kind = part_kind(direction, packet[7], packet[8])?;
+    Some((kind, header))
 }
 
 // Whether what stands in a data field behind so many octets is no part of this kind, whatever its
@@ -115,7 +131,7 @@ fn is_no_part(kind: Kind, field: &[u8], header: usize) -> bool {
         return false;
     }
     let (parts, body) = (PartLayout::own(), &field[header..]);
-    let size = body.len().saturating_sub(4).clamp(1, 65_535) as u32;
+    let size = body.len().saturating_sub(PART_FIELDS).clamp(1, 65_535) as u32;
     read_part_as(&parts, kind, body, size).is_err()
 }
 

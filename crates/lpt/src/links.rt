@@ -46,8 +46,8 @@ fn carry_packets(
     }
 }
 
-// The status of a run that ended so, once it was told how many packets were lost and so on, and where
-// no packet is.
+// The status of a run that ended so, once it was told how many packets were lost and so on, and
+// where no packet is.
 fn link_status(rt: &HostRuntime, voice: Voice, end: LossyEnd) -> Status {
     if voice.tells() {
         tell_counts(rt, &end.counts);

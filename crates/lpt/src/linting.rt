@@ -5,7 +5,8 @@ use crate::input::{Incoming, name_of, opened};
 use crate::streams::{finish, output};
 use crate::work::status_after;
 use lpt_script::ScriptEnd;
-use lpt_script_lint::{explain, finding_text};
+use lpt_script_lint::{Finding, explain, finding_text};
+use lpt_text::split_line;
 use lpt_tool::ToolFault;
 
 /// Writes what is unreadable in a script, the one at this path or standard input for `-`.
@@ -33,9 +34,10 @@ fn lint_from(rt: &HostRuntime, script: &str, source: &mut Incoming) -> Result<St
     status_after(rt, source.inner().error(), script, ran)
 }
 
-/// Says on standard error why a line of the script at this path is unreadable, as a lint does.
-pub fn tell_unreadable(rt: &HostRuntime, script: &str, number: u64, line: &[u8]) {
-    let Some(finding) = explain(line) else {
+/// Says on standard error why the line of this number is unreadable in the script at this path, as
+/// a lint does: the first unreadable one of this text, at which the run ended.
+pub fn tell_unreadable(rt: &HostRuntime, script: &str, number: u64, text: &[u8]) {
+    let Some((line, finding)) = first_unreadable(text) else {
         return;
     };
     let name = name_of(script).as_bytes();
@@ -45,4 +47,15 @@ pub fn tell_unreadable(rt: &HostRuntime, script: &str, number: u64, line: &[u8])
     if let Ok(text) = String::from_utf8_lossy(rt.alloc(), &text) {
         let _ = rt.eprint(text.as_str());
     }
+}
+
+// The first unreadable line of a text, and where and why it is.
+fn first_unreadable(text: &[u8]) -> Option<(&[u8], Finding)> {
+    for piece in text.split_inclusive(|octet| *octet == b'\n') {
+        let (line, _) = split_line(piece)?;
+        if let Some(finding) = explain(line) {
+            return Some((line, finding));
+        }
+    }
+    None
 }

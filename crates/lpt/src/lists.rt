@@ -1,16 +1,22 @@
 //! Packets listed, from a file or standard input to standard output.
 
 ghost use Rattle.lpt_events.specs.Configs.{IsConfig};
+ghost use Rattle.lpt_part.specs.Splitting.{IsPartSize};
 
+use crate::decoding::part_body;
 use crate::end::{Failure, Status, tell_place};
 use crate::input::{Packets, opened_packets, packets_end};
-use crate::layouts::tell_front;
+use crate::layouts::{PART_FIELDS, kind_of, tell_front};
 use crate::progress::Voice;
 use crate::streams::{finish, first_failure, output};
 use lpt_command_line::ListWords;
 use lpt_events::Config;
 use lpt_list::{Form, ListEnd, Listed, Tally, list_stream};
+use lpt_packet::{ERROR_CONTROL, PRIMARY_HEADER, Seen, read_packet};
+use lpt_part::{Kind, read_part};
+use lpt_skips::fitting_size;
 use lpt_sources::Keeping;
+use lpt_stream::whole_length;
 use lpt_text::StreamFault;
 
 /// So many octets in front are looked at for parts of another layout.
@@ -61,10 +67,65 @@ fn list_packets(
         Ok(listed) => {
             if voice.tells() {
                 tell_front(rt, listed.tally, source.kept());
+                tell_size(rt, source.kept(), size);
             }
             Ok(list_status(rt, voice, listed))
         }
         Err(fault) => Err(Failure::from(fault)),
+    }
+}
+
+// Tells by which part size the first part of a message would be read that isn't by this one, where
+// there is one among the packets at the front of octets.
+fn tell_size(rt: &HostRuntime, octets: &[u8], p: u32)
+    requires { IsPartSize p }
+{
+    let mut rest = octets;
+    for _ in 0..octets.len() {
+        let Some(len) = whole_length(rest) else {
+            return;
+        };
+        if let Some(size) = other_size(&rest[..len], p) {
+            if let Ok(text) = format!(in rt.alloc();
+                "a part doesn't fit part_size = {p}, but part_size = {size}"
+            ) {
+                tell_place(rt, text.as_str());
+            }
+            return;
+        }
+        rest = &rest[len..];
+    }
+}
+
+// The part size by which a packet would be read as the first part of a message, where it isn't by
+// this one.
+fn other_size(octets: &[u8], p: u32) -> Option<u32>
+    requires { IsPartSize p }
+{
+    if !may_be_other(octets, p) {
+        return None;
+    }
+    let Ok(Seen::Packet(packet)) = read_packet(octets) else {
+        return None;
+    };
+    let (kind, body) = part_body(&packet)?;
+    match read_part(kind, body, p) {
+        Ok(_) => None,
+        Err(_) => fitting_size(kind, body),
+    }
+}
+
+// Whether a packet has the type of a first part and another length than one of this part size, so
+// that it is worth its checksum.
+fn may_be_other(octets: &[u8], p: u32) -> bool
+    requires { IsPartSize p }
+{
+    match kind_of(octets) {
+        Some((Kind::First, header)) => {
+            let around = header.saturating_add(PRIMARY_HEADER + PART_FIELDS + ERROR_CONTROL);
+            octets.len() != around.saturating_add(p as usize)
+        }
+        _ => false,
     }
 }
 

@@ -2,7 +2,8 @@
 
 use crate::input::Input;
 use crate::watched::Watched;
-use lpt_text::{FromStd, LONGEST_LINE, split_line};
+use lpt_text::{FromStd, LONGEST_LINE};
+use memchr::memrchr;
 use std::alloc::Global;
 use std::io::{self, Read};
 
@@ -16,6 +17,8 @@ pub enum Kept {
     Last,
     /// All.
     Whole,
+    /// Nothing: there was no memory for it.
+    Nothing,
 }
 
 /// A file or standard input, with what is kept of it.
@@ -27,8 +30,8 @@ pub struct Recalled {
     input: Input,
     reach: Kept,
     kept: Vec<u8>,
-    // How many lines stand before what is kept.
-    passed: u64,
+    // How many octets the last read gave: those before them have no line end, unless all are kept.
+    last: usize,
 }
 
 impl Recalled {
@@ -38,48 +41,45 @@ impl Recalled {
             input,
             reach,
             kept: Vec::new(alloc),
-            passed: 0,
+            last: 0,
         }
     }
 
-    /// The line of this number, where it is kept.
-    pub fn line(&self, number: u64) -> Option<&[u8]> {
-        let place = number.checked_sub(self.passed)?.checked_sub(1)?;
-        let mut lines = self.kept.split_inclusive(is_line_feed);
-        let (line, _) = split_line(lines.nth(place as usize)?)?;
-        Some(line)
+    /// What is kept, from the beginning of a line.
+    pub fn kept(&self) -> &[u8] {
+        &self.kept
     }
 
-    // Keeps what was read. Where there is no memory for it, no line is given from then on.
+    // Keeps what was read. Where there is no memory for it, nothing is kept from then on.
     fn keep(&mut self, octets: &[u8]) {
-        if let Kept::Last = self.reach {
-            self.pass();
-            if self.kept.len() > LONGEST_LINE {
-                return;
+        match self.reach {
+            Kept::Last => {
+                self.pass();
+                if self.kept.len() > LONGEST_LINE {
+                    return;
+                }
             }
+            Kept::Whole => {}
+            Kept::Nothing => return,
         }
+        self.last = octets.len();
         if self.kept.extend_from_slice(octets).is_err() {
             self.kept.clear();
-            self.passed = u64::MAX;
+            self.reach = Kept::Nothing;
         }
     }
 
     // Passes over the whole lines.
     fn pass(&mut self) {
-        let Some(last) = self.kept.iter().rposition(is_line_feed) else {
+        let before = self.kept.len().saturating_sub(self.last);
+        let Some(end) = memrchr(b'\n', &self.kept[before..]) else {
             return;
         };
-        let lines = self.kept.iter().filter(|octet| is_line_feed(octet)).count();
-        self.passed = self.passed.saturating_add(lines as u64);
-        let left = self.kept.len() - (last + 1);
-        self.kept.rotate_left(last + 1);
+        let passed = before + end + 1;
+        let left = self.kept.len() - passed;
+        self.kept.rotate_left(passed);
         self.kept.truncate(left);
     }
-}
-
-// Whether an octet ends a line.
-fn is_line_feed(octet: &u8) -> bool {
-    *octet == b'\n'
 }
 
 impl Read for Recalled {

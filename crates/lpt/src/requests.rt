@@ -32,7 +32,7 @@ pub fn request(
         Err(CutFault::Memory) => return Err(Failure::from(ToolFault::Memory)),
         Err(CutFault::Empty) => return Ok(refused(rt, "an area has at least one octet")),
         Err(CutFault::PastEnd) => {
-            return Ok(refused(rt, "an area ends behind the last address, 4294967295"));
+            return Ok(refused(rt, "an area ends after the last address, 4294967295"));
         }
     };
     let (apid, source) = (config.apid, config.source);

@@ -99,7 +99,7 @@ fn told(
             tell(rt, text, Status::Unreadable)
         }
         EachEnd::NoIdentifier(place) => {
-            let text = format!(in alloc; "octet {place}: no identifier is left behind 65535");
+            let text = format!(in alloc; "octet {place}: no identifier is left after 65535");
             tell(rt, text, Status::Refused)
         }
     }

@@ -26,12 +26,12 @@ pub enum RunKind {
     Threads,
 }
 
-/// Runs a script on a new world: the one at this path, or standard input for `-`. The world is that of
-/// the configuration that the words give.
+/// Runs a script on a new world: the one at this path, or standard input for `-`. The world is that
+/// of the configuration that the words give.
 ///
-/// Errors: `Config` where that is refused; `Line` at an unreadable line, after standard error was told
-/// why it is; `Read` where the script or the configuration can't be opened or read, `Write` where a
-/// write failed, `Memory`, `Threads` where the threads failed.
+/// Errors: `Config` where that is refused; `Line` at an unreadable line, after standard error was
+/// told why it is; `Read` where the script or the configuration can't be opened or read, `Write`
+/// where a write failed, `Memory`, `Threads` where the threads failed.
 pub fn run<T: Threads + Wait + Sync>(
     rt: &HostRuntime,
     threads: &T,
@@ -137,9 +137,7 @@ pub(crate) fn status_at_end(
 ) -> Result<Status, Failure> {
     let watched = source.inner();
     if let Err(ToolFault::Line(number)) = ran {
-        if let Some(line) = watched.inner().line(number) {
-            tell_unreadable(rt, path, number, line);
-        }
+        tell_unreadable(rt, path, number, watched.inner().kept());
     }
     status_after(rt, watched.error(), path, ran)
 }

@@ -63,7 +63,7 @@ pub fn reason_text(alloc: Global, reason: Reason) -> Result<String, AllocError>
         Reason::MissingShow => "what is to be shown is missing",
         Reason::Comment => "a comment needs a line of its own",
         Reason::Behind => "nothing may follow the last word",
-        Reason::SecondSlash => "one slash alone may stand behind SOURCE",
+        Reason::SecondSlash => "one slash alone may stand after SOURCE",
         Reason::OddDigits => "HEX has an odd number of digits",
         Reason::EmptyArea => "an area of a load has at least one octet",
         Reason::MoreAreas => "a load has at most 255 areas",

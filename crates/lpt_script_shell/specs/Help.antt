@@ -52,7 +52,7 @@ unfoldable pub words_told : List (List ℕ)
 words_told =
     codes "DIRECTION: up, from ground to the spacecraft, or down; NODE: ground or craft"
     ∷ codes "LANE: s1 or s2, which carry up, g1 or g2, which carry down; WORKER: w1 or w2"
-    ∷ codes "ID: a message's, 0 to 65535, or SOURCE/ID; behind show memory a memory's, 0 to 255"
+    ∷ codes "ID: a message's, 0 to 65535, or SOURCE/ID; after show memory a memory's, 0 to 255"
     ∷ codes "K: the number of a part, from 1; N: that of a packet, from 0, as show link tells it"
     ∷ codes "HEX: octets, each as two hexadecimal digits; - is no octets; FILE: a path"
     ∷ codes "SERVICE, SUBTYPE: types of a request, 0 to 255; SEQ: its sequence count, 0 to 16383"

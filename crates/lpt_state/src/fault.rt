@@ -15,7 +15,7 @@ pub enum StateFault {
     #[error("the state is of another version")]
     Version,
     /// They aren't as many as the state says.
-    #[error("the state is cut, or has octets behind it")]
+    #[error("the state is cut, or has octets after it")]
     Length,
     /// They are the state of the other side.
     #[error("the state is of the other side")]
