@@ -16,6 +16,8 @@
  *     another thread where a lock, or a thread's start or end, stands between. Calls of different
  *     ends run at once only where the three functions may that give memory;
  *   - the rules of lpt_end_new, lpt_end_packet and lpt_end_retire for the two ends of a link;
+ *   - memories that are with the caller are written and read as lpt_end_access says, before
+ *     lpt_end_execute_given;
  *   - the program has the three functions that give memory, LptTried rattle_alloc(..) and so on,
  *     and they do what their comments say.
  */
