@@ -4,17 +4,15 @@ costs.py run KEPT NAME COMMAND..     runs the command, adds to the file KEPT wha
                                      with the command's status
 costs.py crates KEPT NAME COMMAND..  the same for a command that proves crates or tries their edits:
                                      also what each crate's proof, tests and must-fail edits cost
-costs.py table KEPT                  prints the file as tables, and the ratio of the whole to the mean
-                                     of the proofs of one crate that tools/yardstick.py has measured,
-                                     which says more than seconds do where the machine's speed varies
+costs.py table KEPT                  prints the file as tables, and the ratio of the whole to the proof
+                                     of one crate, if that was made: it says more than seconds do, since
+                                     the machine's speed varies
 
 A command's seconds are those that the system counted for it and for all that it started and waited
 for. Those of crates are seen in /proc, four times a second: a process of the prover has --crate-name
 among its words, --test where it proves tests, and works in a folder lpt-edit-* where it tries edits.
 The builds of a program count as its proof. What a process used after it was last seen is in the whole
 alone.
-
-The proofs of the yardstick are in no sum.
 
 A line of KEPT is a name, a kind and seconds, with tabs between. Nothing here changes what a command
 reads, writes or answers: where measuring fails, lines are missing, and that is told.
@@ -28,7 +26,8 @@ import sys
 
 SECONDS_BETWEEN = 0.25
 KINDS = ["proof", "tests", "edits"]
-WHOLE, YARDSTICK = "whole", "yardstick"
+WHOLE = "whole"
+# The crate whose proof is the measure.
 MEASURE = "lpt_packet"
 TICKS = os.sysconf("SC_CLK_TCK")
 
@@ -155,21 +154,18 @@ def keep(kept, lines):
 
 
 def read(kept):
-    """What was kept: the seconds of each name and kind, and those of the yardstick's proofs."""
-    cost, yardstick = {}, []
+    """What was kept: the seconds of each name and kind."""
+    cost = {}
     with open(kept, encoding="utf-8") as file:
         for line in file:
             name, kind, seconds = line.rstrip("\n").split("\t")
-            if kind == YARDSTICK:
-                yardstick.append(float(seconds))
-            else:
-                cost[name, kind] = float(seconds)
-    return cost, yardstick
+            cost[name, kind] = float(seconds)
+    return cost
 
 
 def table(kept):
     """Prints what was kept."""
-    cost, yardstick = read(kept)
+    cost = read(kept)
     commands = [name for name, kind in cost if kind == WHOLE]
     crates = list(dict.fromkeys(name for name, kind in cost if kind != WHOLE))
     print("| Crate | Proof | Tests | Edits |\n|---|--:|--:|--:|")
@@ -182,12 +178,11 @@ def table(kept):
         print(f"| {name} | {cost[name, WHOLE]:.0f} |")
     whole = sum(cost[name, WHOLE] for name in commands)
     print(f"| all | {whole:.0f} |\n")
-    if not yardstick:
-        print(f"costs: the proof of {MEASURE} wasn't measured, so there is no ratio")
+    measure = cost.get((MEASURE, "proof"))
+    if measure is None:
+        print(f"costs: {MEASURE} wasn't proved in this run, so there is no ratio")
         return
-    mean, took = sum(yardstick) / len(yardstick), ", ".join(f"{it:.1f}" for it in yardstick)
-    print(f"costs: the proof of {MEASURE} takes {mean:.1f} s, the mean of {took}")
-    print(f"costs: the whole is {whole / mean:.1f} times that")
+    print(f"costs: the proof of {MEASURE} took {measure:.1f} s; the whole is {whole / measure:.1f} times that")
 
 
 def main(words):

@@ -1,20 +1,25 @@
 """Tries the must-fail edits of crates, and prints a verdict on each.
 
-edits [--anew] ROOM [CRATE..]   ROOM is a copy of the repository in which `rt ci` has proved every crate and
+edits [--anew | --beside LOG] ROOM [CRATE..]
+                                ROOM is a copy of the repository in which `rt ci` has proved every crate and
                                 built every library. Sources and libraries are the copy's; the edits are
-                                read here, those of all crates where none is named. --anew goes by no line
-                                'goal:' of an edit, and writes it.
+                                read here, those of all crates if none is named. --anew goes by no line
+                                'goal:' of an edit, and writes it. With --beside `rt ci` is still at work there
+                                and writes to LOG: a crate's edits begin once LOG says that it is proved, or
+                                once the file LOG.ended is there.
 
 A line for each edit, and last 'edits: N passed, M failed'. How they are tried is told in __init__.py.
 """
 
 from __future__ import annotations
 
-import concurrent.futures
 import os
 import pathlib
 import re
 import sys
+import time
+from concurrent.futures import FIRST_COMPLETED, Future, ThreadPoolExecutor, wait
+from typing import Callable, Iterator, Optional
 
 sys.dont_write_bytecode = True
 TOOLS = pathlib.Path(__file__).resolve().parent.parent
@@ -22,36 +27,80 @@ sys.path[0] = str(TOOLS)
 
 from crates import libraries  # noqa: E402: it stands beside this package
 from edits.crate import Crate  # noqa: E402
+from edits.report import Verdict  # noqa: E402
 from edits.trial import verdicts  # noqa: E402
+from lanes import GIB_AN_EDIT, free_gib, lanes  # noqa: E402
 
-GIB_A_RUN = 3
-
-
-def lanes() -> int:
-    """How many crates are tried at a time: one a processor, as many as memory holds."""
-    kib = re.search(r"MemAvailable: *(\d+)", pathlib.Path("/proc/meminfo").read_text())[1]
-    return max(1, min(len(os.sched_getaffinity(0)), (int(kib) >> 20) // GIB_A_RUN))
+STANDS = re.compile(r"^rt: (\w+) (?:proved$|is kept:)", re.MULTILINE)
+SECONDS_BETWEEN = 2
+# While crates are proved beside it, a run of edits begins if so much memory is free.
+GIB_TO_BEGIN = 7
 
 
-def main(room: pathlib.Path, names: list[str], is_anew: bool) -> int:
-    """Tries the edits of these crates, or of all, crates side by side and those with most edits first."""
+class Ready:
+    """Which crates stand, so that their edits can be tried."""
+
+    def __init__(self, log: Optional[pathlib.Path]) -> None:
+        self.log = log
+
+    @property
+    def is_ended(self) -> bool:
+        """Whether nothing is proved any more."""
+        return self.log is None or pathlib.Path(f"{self.log}.ended").exists()
+
+    def among(self, names: list[str]) -> list[str]:
+        """Those of these crates that stand, while memory is left for their edits."""
+        if self.is_ended:
+            return names
+        if free_gib() < GIB_TO_BEGIN or not self.log or not self.log.exists():
+            return []
+        said = set(STANDS.findall(self.log.read_text(encoding="utf-8", errors="replace")))
+        return [it for it in names if it in said]
+
+
+Verdicts = list[tuple[str, Verdict]]
+
+
+def tried(order: list[str], ready: Ready, trial: Callable[[str], Verdicts]) -> Iterator[tuple[str, Verdict]]:
+    """Tries the edits of these crates side by side, each once it stands, and the first of them first. While
+    crates are proved beside them, half as many are tried at a time."""
+    left, count = list(order), lanes(GIB_AN_EDIT)
+    running: set[Future[Verdicts]] = set()
+    with ThreadPoolExecutor(count) as pool:
+        while left or running:
+            most = count if ready.is_ended else max(1, count // 2)
+            for name in ready.among(left)[: max(0, most - len(running))]:
+                left.remove(name)
+                running.add(pool.submit(trial, name))
+            if not running:
+                time.sleep(SECONDS_BETWEEN)
+                continue
+            ended, running = wait(running, SECONDS_BETWEEN, FIRST_COMPLETED)
+            for it in ended:
+                yield from it.result()
+
+
+def main(room: pathlib.Path, names: list[str], is_anew: bool, log: Optional[pathlib.Path]) -> int:
+    """Tries the edits of these crates, or of all, those with most edits first."""
     known = libraries(room)
     folders = {it: TOOLS.parent / "crates" / it / "must-fail" for it in names or known}
     folders = {name: folder for name, folder in folders.items() if folder.is_dir()}
     order = sorted(folders, key=lambda it: -len(os.listdir(folders[it])))
     passed = failed = 0
-    with concurrent.futures.ThreadPoolExecutor(lanes()) as pool:
-        tried = pool.map(lambda it: verdicts(Crate(room, it, known), folders[it], is_anew), order)
-        for name, verdict in (it for told in tried for it in told):
-            print(f"must-fail {name}: {verdict.reason}", flush=True)
-            passed, failed = passed + verdict.is_refused, failed + (not verdict.is_refused)
+    for name, verdict in tried(order, Ready(log), lambda it: verdicts(Crate(room, it, known), folders[it], is_anew)):
+        print(f"must-fail {name}: {verdict.reason}", flush=True)
+        passed, failed = passed + verdict.is_refused, failed + (not verdict.is_refused)
     print(f"edits: {passed} passed, {failed} failed")
     return 1 if failed or not passed else 0
 
 
 if __name__ == "__main__":
-    words = sys.argv[1:]
+    words, log = sys.argv[1:], None
     is_anew = words[:1] == ["--anew"]
-    if not words[is_anew:]:
+    if words[:1] == ["--beside"]:
+        log = pathlib.Path(words[1]).resolve() if words[1:] else None
+        words = words[1:] if log else []
+    words = words[is_anew or log is not None :]
+    if not words:
         sys.exit(__doc__)
-    sys.exit(main(pathlib.Path(words[is_anew]).resolve(), words[is_anew + 1 :], is_anew))
+    sys.exit(main(pathlib.Path(words[0]).resolve(), words[1:], is_anew, log))
