@@ -23,8 +23,6 @@ use Rattle.lpt_lossy.specs.TurnsInside.{IsHeld, carried_now, carried_turns, turn
 use Rattle.lpt_lossy.specs.Ways.{Crossing, crossings, settled, way}
 use Rattle.lpt_lossy.proofs.TurnLemmas.{octets-append, octets-turns, octets-now, held-next, so_far-append, left-append}
 
--- ---- where the work stands
-
 -- these packets were read and carried, and all of them were decided by the decider
 pub record IsAt {D : Type 0} (decides : D → ℕ → Fate × D) (n : ℕ) (first now : D)
     (before after old new : Option (List ℕ)) (b : FrameBuffer) (t : TurnBuffers) (c : Counts)

@@ -34,14 +34,16 @@ pub fn lossy_stream<S: Source, K: Sink, D: Decider>(
     out: &mut K,
 ) -> Result<LossyEnd, StreamFault>
     ensures ends { IfOk result (λ end. CarriesAll D.decides most_later decider.old end
-        (S.remaining source.old) (S.remaining source.new) (K.contents out.old) (K.contents out.new)) }
+        (S.remaining source.old) (S.remaining source.new)
+        (K.contents out.old) (K.contents out.new)) }
 
     // All that was written is passed on.
     ensures passed { IsOk result → K.flushed out.new ≡ K.contents out.new }
 
     // What a fault leaves.
     ensures leaves { IfErr result (λ _. CarriesPart D.decides most_later decider.old
-        (S.remaining source.old) (S.remaining source.new) (K.contents out.old) (K.contents out.new)) }
+        (S.remaining source.old) (S.remaining source.new)
+        (K.contents out.old) (K.contents out.new)) }
     ensures reader { ReadEnds (IsEndless (S.remaining source.old) (S.remaining source.new)) result
         (S.failed source.old) (S.failed source.new) }
     ensures writer { WriteEnds result (K.failed out.old) (K.failed out.new) }
