@@ -23,7 +23,7 @@ use Rattle.lpt_apart.specs.Facts.{AllDue, Log, awaited, with_abortion}
 use Rattle.lpt_apart.specs.Moves.{Do, came_to}
 use Rattle.lpt_apart.specs.Steps.{Open, Send, Accept, IsOnTheWay, accepted_on, with_release}
 use Rattle.lpt_apart.proofs.Moving.{ends_apart_keep_the_promise}
-use Rattle.lpt_examples.specs.Carrying.{Stands, Carries, is_whole, is_broken}
+use Rattle.lpt_examples.specs.Carrying.{Stands, Carries, HasReleased, is_whole, is_broken}
 
 -- ---- new ends
 
@@ -307,6 +307,23 @@ pub only_it : (o : Option (List ℕ)) (m : List ℕ)
     → IfSome o (λ x. x ≡ m)
 only_it None m is = tt
 only_it (Some x) m is = is x refl
+
+-- what was released was released by the node that took this packet
+pub by_node : (name : Name) (k new : NodeView) (b : List ℕ) (r : Accepted)
+    → (new.at, r) ≡ accepted k.side k.config k.at (arrival_at k b)
+    → is_whole name r.outcome ≡ true
+    → IfSome r.released (λ m. HasReleased name m new)
+by_node name k new b r took whole = of r.released refl where
+  of : (o : Option (List ℕ)) → r.released ≡ o → IfSome o (λ m. HasReleased name m new)
+  of None is = tt
+  of (Some m) is = record {
+    before = k;
+    packet = b;
+    answer = r;
+    took = took;
+    of_name = whole;
+    released = is;
+  }
 
 -- a packet was taken: the ends stand, and what was released of the name is its message; where
 -- nothing ended, the message is awaited still

@@ -1,5 +1,5 @@
 -- Two nodes and a network between them, as two ends apart.
-use Rattle.std.specs.Prelude.{◌≡◌, ℕ, Bool, false, List, Some}
+use Rattle.std.specs.Prelude.{◌≡◌, ℕ, Bool, true, false, List, Some}
 use Rattle.lpt_packet.specs.declared.direction.Direction.TheVariants.{Up}
 use Rattle.lpt_packet.specs.Names.{Name, same_name}
 use Rattle.lpt_events.specs.Configs.{IsConfig}
@@ -8,7 +8,10 @@ use Rattle.lpt_events.specs.declared.outcome.Outcome.{Outcome}
 use Rattle.lpt_events.specs.declared.outcome.Outcome.TheVariants.{Released, Broken}
 use Rattle.lpt_events.specs.declared.side.Side.TheVariants.{Ground, Craft}
 use Rattle.lpt_memory.specs.Memories.{Contents}
+use Rattle.lpt_node.specs.Accepting.{accepted}
+use Rattle.lpt_node.specs.declared.accepted.Accepted.{Accepted}
 use Rattle.lpt_node.specs.Nodes.{NodeView}
+use Rattle.lpt_node.specs.ParsedViews.{arrival_at}
 use Rattle.lpt_apart.specs.Facts.{awaited}
 use Rattle.lpt_apart.specs.Moves.{Move, came_to, CanMoveAll}
 use Rattle.lpt_apart.specs.Steps.{IsOnTheWay}
@@ -45,3 +48,12 @@ is_whole name _ = false
 abbrev pub is_broken : Name → Outcome → Bool
 is_broken name (Broken n reason) = same_name n name
 is_broken name _ = false
+
+-- the last packet that the spacecraft's node took released this message of this name
+pub record HasReleased (name : Name) (message : List ℕ) (k : NodeView) : Type 0 where
+  pub before : NodeView
+  pub packet : List ℕ
+  pub answer : Accepted
+  pub took : (k.at, answer) ≡ accepted before.side before.config before.at (arrival_at before packet)
+  pub of_name : is_whole name answer.outcome ≡ true
+  pub released : answer.released ≡ Some message

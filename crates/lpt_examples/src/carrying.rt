@@ -9,7 +9,7 @@ ghost use Rattle.lpt_events.specs.declared.event.Event.TheVariants.{Open};
 ghost use Rattle.lpt_node.specs.Accepting.{accepted};
 ghost use Rattle.lpt_node.specs.ParsedViews.{arrival_at};
 ghost use Rattle.lpt_node.specs.Sending.{opened, refusal_open};
-ghost use Rattle.lpt_examples.specs.Carrying.{Stands, is_broken, is_whole};
+ghost use Rattle.lpt_examples.specs.Carrying.{HasReleased, Stands, is_broken, is_whole};
 
 use lpt_events::{Config, Outcome, Side};
 use lpt_node::{Accepted, Node, NodeFault};
@@ -49,6 +49,9 @@ pub fn carry<N: Network>(
     requires stands { Stands ground.old craft.old (N.may_come network.old) }
     ensures stands { Stands ground.new craft.new (N.may_come network.new) }
     ensures whole { IfOk result (λ r. IfSome r (λ m. m ≡ message)) }
+
+    // It is what the spacecraft's node released, and that was the last thing that this node did.
+    ensures released { IfOk result (λ r. IfSome r (λ m. HasReleased name m craft.new)) }
 {
     begin(ground, name, message)?;
     for _ in 0..rounds {

@@ -1,6 +1,6 @@
 use Rattle.std.proofs.Common.{◌∙◌, ap, sym, arith}
 use Rattle.lpt_node.specs.Nodes.{NodeView}
-use Rattle.lpt_examples.proofs.CarryLemmas.{only_it, same_craft, same_sender, fewer, opens, sends, takes}
+use Rattle.lpt_examples.proofs.CarryLemmas.{only_it, by_node, same_craft, same_sender, fewer, opens, sends, takes}
 use Rattle.lpt_examples.proofs.carrying.carry.Goals.{else-loop-number-test, then-loop-number-test+in-Err-NoSuchPart}
 use Rattle.lpt_examples.proofs.carrying.carry.Goals as goal
 
@@ -98,6 +98,12 @@ returns-then-is_whole-clause-whole g c =
     c.send_part.ensures.config c.put.ensures)
     c.in-Some.ensures.came c.in_ok-accepted.ensures.ok c.take.ensures.side c.take.ensures.config
     c.next.ensures.rest).whole (sym c.is_whole.ensures ∙ c.if-is_whole.true))
+
+pub returns-then-is_whole-clause-released : goal.returns-then-is_whole-clause-released
+returns-then-is_whole-clause-released g c =
+    by_node c.args.name c.loop-number.craft c.take.new.craft c.in-Some.packet
+    c.in_ok-accepted.accepted c.in_ok-accepted.ensures.ok
+    (sym c.is_whole.ensures ∙ c.if-is_whole.true)
 
 pub returns-then-is_broken-clause-stands : goal.returns-then-is_broken-clause-stands
 returns-then-is_broken-clause-stands g c =
