@@ -16,8 +16,8 @@
  *     another thread where a lock, or a thread's start or end, stands between. Calls of different
  *     ends run at once only where the three functions may that give memory;
  *   - the rules of lpt_end_new, lpt_end_packet and lpt_end_retire for the two ends of a link;
- *   - memories that are with the caller are written and read as lpt_end_access says, before
- *     lpt_end_execute_given;
+ *   - memories that are with the caller are read as lpt_end_access says before
+ *     lpt_end_execute_given, and written before it, or after it and before the next request;
  *   - the program has the three functions that give memory, LptTried rattle_alloc(..) and so on,
  *     and they do what their comments say.
  */
@@ -340,7 +340,8 @@ uint32_t lpt_end_access_octets(LptEnd *end, size_t number, uint8_t *out, size_t 
  * Executes the oldest request, which has to be read, where the memories are with the caller, and
  * says what became of it. The octets are those that the memories have in what it reads, of one
  * access after those of the other; none where it reads nothing. What it writes the caller has
- * written before. Its reports are to be sent, as of lpt_end_execute.
+ * written before, or has copied, and writes before it executes another request: docs/C.md says
+ * which of the two outlasts a reset. Its reports are to be sent, as of lpt_end_execute.
  * LPT_DONE, and *applied is written; LPT_E_NO_JOB, as always on ground; LPT_E_ELSEWHERE where the
  * memories are in the end; LPT_E_NOT_READ; LPT_E_READ_LENGTH where it reads more octets than these,
  * or fewer; LPT_E_UNSENT; LPT_E_ALLOCATION.
@@ -465,8 +466,9 @@ uint32_t lpt_end_state(LptEnd *end, uint8_t *out, size_t out_len, size_t *needed
 
 /*
  * Makes an end of a state, in place of lpt_end_new: what lpt_end_restart would have left of the end
- * whose state it is, with these memories, nothing released and nothing to be sent. The clock is the
- * state's; that of the configuration isn't looked at.
+ * whose state it is, with these memories, nothing released and nothing to be sent. They are those
+ * of that end, in the same order. The clock is the state's; that of the configuration isn't looked
+ * at.
  * LPT_DONE, and *end is its address; LPT_E_RANGE for another side or mode; LPT_E_CONFIG_APID to
  * LPT_E_CONFIG_OUTGOING; LPT_E_MEMORIES as of lpt_end_new; LPT_E_STATE_SHORT to
  * LPT_E_STATE_CHECKSUM, in that order; LPT_E_NO_NUMBER where no start follows the state's;

@@ -1,1 +1,3 @@
+pub mod Deleting
+pub mod Local
 pub mod Readings

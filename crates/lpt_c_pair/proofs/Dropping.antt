@@ -38,7 +38,7 @@ use Rattle.lpt_pus.specs.Numbers.{long_at}
 -- ---- a drop
 
 -- a claim and a commit of a reading put it in the place of the oldest that waits
-put_in_place : (q : Jobs) (r : Source)
+pub put_in_place : (q : Jobs) (r : Source)
     → after_commit (after_claim q) (next_claim q) r
     ≡ record { first = q.first; jobs = set q.jobs (claimed_in q.jobs) (Committed r) }
 put_in_place q r =
@@ -49,14 +49,13 @@ put_in_place q r =
     (set-set q.jobs k Claimed (Committed r))
 
 -- what a reading of this message makes of an end in which that job waits longest
-handed_in : NodeData → Source → Option (ℕ × List ℕ) → NodeData
+abbrev pub handed_in : NodeData → Source → Option (ℕ × List ℕ) → NodeData
 handed_in d r o = (committed (claimed_of d o).0 (claimed_of d o).1.boot (claimed_of d o).1.job r).0
 
-waits : (d : NodeData) (r : Source) (o : Option (List ℕ))
+pub waits : (d : NodeData) (r : Source) (o : Option (List ℕ))
     → refusal_claim_of (option_map (λ m. (next_claim d.jobs, m)) o) ≡ None
     → handed_in d r (option_map (λ m. (next_claim d.jobs, m)) o)
     ≡ record d { jobs = after_commit (after_claim d.jobs) (next_claim d.jobs) r }
-unfolding handed_in
 waits d r None none = absurd cc
 waits d r (Some m) none =
     let counts : NodeData × Bool =
@@ -66,7 +65,6 @@ waits d r (Some m) none =
     ap (λ (b : Bool). (chosen b).0) (eq_true d.boot d.boot refl)
 
 pub drops_oldest : DropsOldest
-unfolding handed_in
 drops_oldest e new w ms some allowed done =
     let d : NodeData = e.node.at in
     let r : Source = nothing_for e.config.apid ms in

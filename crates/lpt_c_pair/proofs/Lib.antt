@@ -1,11 +1,19 @@
 pub mod Answering
 pub mod Calls
+pub mod Careful
 pub mod Clockless
+pub mod Deleting
 pub mod Dropping
+pub mod Fronting
 pub mod GivenLemmas
 mod GroundReports
+pub mod Handing
+pub mod Histories
 pub mod Lemmas
 pub mod Loading
+pub mod Programs
+pub mod Redoing
 pub mod Resuming
 pub mod Running
+pub mod Telling
 pub mod Waiting

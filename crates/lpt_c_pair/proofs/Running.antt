@@ -1,16 +1,15 @@
 -- Two ends behind handles keep the promise, whatever calls are made of them.
-use Rattle.std.proofs.Common.{◌∙◌, ap, sym, subst, refl, ℕ, List, [], ◌∷◌}
+use Rattle.std.proofs.Common.{ap, sym, subst, refl, ℕ, List, [], ◌∷◌}
 use Rattle.lpt_apart.specs.Clocks.{later, no_pair_later}
 use Rattle.lpt_apart.specs.Ends.{Ends}
 use Rattle.lpt_apart.proofs.Clocks.{IsReached, joined, begun_later, reached_keep}
 use Rattle.lpt_c_end.specs.Changes.{IsNew, IsNewWith}
 use Rattle.lpt_c_end.specs.Contents.{memories_told}
 use Rattle.lpt_c_end.specs.declared.end.End.{End}
-use Rattle.lpt_c_end.specs.declared.kept.Kept.TheVariants.{Elsewhere}
 use Rattle.lpt_c_end.specs.declared.memories.LptMemory.{LptMemory}
 use Rattle.lpt_c_pair.specs.Outboxes.{AllOnTheWay}
-use Rattle.lpt_c_pair.specs.Pairs.{AreEndsOf, Call, Place, InEnd, WithProgram, kept_in, moves}
-use Rattle.lpt_c_pair.specs.Runs.{Turn, Standing, begun, turned_by, CanTurnBy, stood, CanStand, EndsOfCKeepThePromise, EndsOverOtherMemoriesKeepThePromise, KeepsThePromise}
+use Rattle.lpt_c_pair.specs.Pairs.{AreEndsOf, Call, Place, InEnd, kept_in, moves}
+use Rattle.lpt_c_pair.specs.Runs.{Turn, Standing, begun, turned_by, CanTurnBy, stood, CanStand, EndsOfCKeepThePromise, KeepsThePromise}
 use Rattle.lpt_c_pair.proofs.Calls.{calls_are_moves}
 use Rattle.lpt_packet.specs.declared.direction.Direction.TheVariants.{Up, Down}
 use Rattle.lpt_events.specs.Configs.{IsConfig}
@@ -21,11 +20,11 @@ use Rattle.lpt_memory.specs.Memories.{Contents}
 use Rattle.lpt_node.specs.Nodes.{NodeView}
 
 -- the ends stand where moves lead
-record IsStood (c : Config) (first : Contents) (s : Standing) : Type 0 where
-  reached : IsReached c first s.pair
-  ends : AreEndsOf c s.pair s.on_ground s.on_craft
+pub record IsStood (c : Config) (first : Contents) (s : Standing) : Type 0 where
+  pub reached : IsReached c first s.pair
+  pub ends : AreEndsOf c s.pair s.on_ground s.on_craft
 
-turn : (c : Config) (first : Contents) (s : Standing) (side : Side) (call : Call) (new : End)
+pub turn : (c : Config) (first : Contents) (s : Standing) (side : Side) (call : Call) (new : End)
     → IsStood c first s
     → CanTurnBy c s side call new
     → IsStood c first (turned_by c s side call new)
@@ -44,7 +43,7 @@ stand c first s [] r can = r
 stand c first s (t ∷ ts) r can =
     turn c first (stood c s ts) t.side t.call t.new (stand c first s ts r can.0) can.1
 
-begins : (c : Config) (a b : ℕ) (none : List LptMemory) (nothing : List ℕ) (w : Place)
+pub begins : (c : Config) (a b : ℕ) (none : List LptMemory) (nothing : List ℕ) (w : Place)
     (first : Contents)
     (g k : End)
     → IsConfig (later a c)
@@ -104,15 +103,3 @@ keeps c a b none nothing w first g k ts good_g good_k new_g new_k can =
 pub ends_of_c_keep_the_promise : EndsOfCKeepThePromise
 ends_of_c_keep_the_promise c a b none nothing ms content g k ts good_g good_k new_g new_k can =
     keeps c a b none nothing InEnd (memories_told content ms) g k ts good_g good_k new_g new_k can
-
-pub ends_over_other_memories_keep_the_promise : EndsOverOtherMemoriesKeepThePromise
-ends_over_other_memories_keep_the_promise c a b none nothing sizes first g k ts good_g good_k same
-    new_g new_k can =
-    keeps c a b none nothing WithProgram first g k ts good_g good_k new_g (record {
-      side = new_k.side;
-      config = new_k.config;
-      node = new_k.node;
-      memories = new_k.memories ∙ ap Elsewhere same;
-      released = new_k.released;
-      outbox = new_k.outbox;
-    }) can

@@ -1,6 +1,11 @@
 pub mod Answers
 pub mod Drops
+pub mod Handed
+pub mod Histories
 pub mod Loads
 pub mod Outboxes
 pub mod Pairs
+pub mod Programs
+pub mod Redo
+pub mod Resets
 pub mod Runs

@@ -1,20 +1,18 @@
 -- Runs of two ends behind handles, and what is promised of them.
-use Rattle.std.specs.Prelude.{◌≡◌, ℕ, List, [], ◌∷◌, map, ⊤}
+use Rattle.std.specs.Prelude.{ℕ, List, [], ◌∷◌, ⊤}
 use Rattle.lpt_apart.specs.Clocks.{later, no_pair_later, after_all}
 use Rattle.lpt_apart.specs.Moves.{Pair}
 use Rattle.lpt_apart.specs.Worlds.{IsPromised}
 use Rattle.lpt_c_end.specs.Changes.{IsNew}
 use Rattle.lpt_c_end.specs.Contents.{memories_told}
-use Rattle.lpt_c_end.specs.Sizes.{size_said, IsNewSized}
 use Rattle.lpt_c_end.specs.declared.end.End.{End}
 use Rattle.lpt_c_end.specs.declared.memories.LptMemory.{LptMemory}
-use Rattle.lpt_c_end.specs.declared.sizing.LptSize.{LptSize}
 use Rattle.lpt_c_pair.specs.Pairs.{AreEndsOf, Call, IsDone, moves, Promises}
 use Rattle.lpt_events.specs.Configs.{IsConfig}
 use Rattle.lpt_events.specs.declared.config.Config.{Config}
 use Rattle.lpt_events.specs.declared.side.Side.{Side}
 use Rattle.lpt_events.specs.declared.side.Side.TheVariants.{Ground, Craft}
-use Rattle.lpt_memory.specs.Memories.{Contents, sizes_of}
+use Rattle.lpt_memory.specs.Memories.{Contents}
 
 -- a call of the end of a side that answered 0, and what that end became
 pub record Turn : Type 0 where
@@ -82,17 +80,3 @@ EndsOfCKeepThePromise =
     → CanStand c (begun c (memories_told content ms) a b g k) ts
     → KeepsThePromise c (memories_told content ms)
     (stood c (begun c (memories_told content ms) a b g k) ts)
-
--- the same where the spacecraft's program has its memories, which begin so
-abbrev pub EndsOverOtherMemoriesKeepThePromise : Type 0
-EndsOverOtherMemoriesKeepThePromise =
-    (c : Config) (a b : ℕ)
-    (none : List LptMemory) (nothing : List ℕ) (sizes : List LptSize) (first : Contents)
-    (g k : End) (ts : List Turn)
-    → IsConfig (later a c)
-    → IsConfig (later b c)
-    → map size_said sizes ≡ sizes_of first
-    → IsNew Ground (later a c) none nothing g
-    → IsNewSized (later b c) sizes k
-    → CanStand c (begun c first a b g k) ts
-    → KeepsThePromise c first (stood c (begun c first a b g k) ts)

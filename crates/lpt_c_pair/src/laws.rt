@@ -2,9 +2,14 @@
 
 ghost use Rattle.lpt_c_pair.specs.Answers.{ZeroIsAlwaysDone};
 ghost use Rattle.lpt_c_pair.specs.Drops.{DroppedIsPassedOver, DropsOldest, GivenIsPassedOver};
+ghost use Rattle.lpt_c_pair.specs.Handed.{ExecutionsAreTold, GivenExecutionsAreTold, MessagesAreHanded};
+ghost use Rattle.lpt_c_pair.specs.Histories.{CarefulProgramsMayBeReset, ResetEndsOfCKeepThePromise, SendingsLeaveTheState};
 ghost use Rattle.lpt_c_pair.specs.Loads.{LoadsGoWhereTheySay};
 ghost use Rattle.lpt_c_pair.specs.Pairs.{CallsAreMoves};
-ghost use Rattle.lpt_c_pair.specs.Runs.{EndsOfCKeepThePromise, EndsOverOtherMemoriesKeepThePromise};
+ghost use Rattle.lpt_c_pair.specs.Programs.{ProgramsKeepTheirMemories};
+ghost use Rattle.lpt_c_pair.specs.Redo.{WritesCanBeMadeAgain, WritesCanBeTakenBack};
+ghost use Rattle.lpt_c_pair.specs.Resets.{CarefulMachinesMayBeReset, ResetProgramsKeepTheirMemories};
+ghost use Rattle.lpt_c_pair.specs.Runs.{EndsOfCKeepThePromise};
 
 /// Where two ends behind handles are those of two ends apart, and one of them is called, answers 0,
 /// and the program keeps what it promises of that call, its moves can happen, and the ends are
@@ -18,11 +23,56 @@ pub fn calls_are_moves()
 /// kept of it, the programs keeping what they promise. Then the ends are two ends apart. Each large
 /// message that was released is the one last opened under its name at the other end, and once; each
 /// plain request is one that ground asked; and the spacecraft's memories are their first content,
-/// changed by the executed requests in order of release. So it is too where its program has the
-/// memories, writes what it is told, and gives the octets that they have.
+/// changed by the executed requests in order of release.
+///
+/// So it is too where its program has the memories: those are its own, and what it writes over them
+/// is what `lpt_end_access` and `lpt_end_access_octets` told it. Where it wrote something ahead of
+/// an execution, that stands over them besides; where it owes something, it is missing.
 pub fn ends_of_c_keep_the_promise()
     ensures in_end { EndsOfCKeepThePromise }
-    ensures with_program { EndsOverOtherMemoriesKeepThePromise }
+    ensures with_program { ProgramsKeepTheirMemories }
+{}
+
+/// So it is whenever a machine is reset, once or again and again, also where its program had made
+/// calls that it hadn't kept: what is left of all calls comes to the ends that the programs have.
+/// Nothing of what is deleted was handed to the other end.
+///
+/// Where the spacecraft's program has the memories, what is left comes to these and to what it owes
+/// too; since it last kept its end, they were changed only by what it owed then, or put back.
+///
+/// Where each call could be made also without what the other program hadn't kept, a machine may be
+/// reset at any time. What is sent leaves an end's state as it is, so that no reset need delete it.
+pub fn resets_keep_the_promise()
+    ensures in_end { ResetEndsOfCKeepThePromise }
+    ensures with_program { ResetProgramsKeepTheirMemories }
+    ensures at_any_time { CarefulProgramsMayBeReset }
+    ensures own_at_any_time { CarefulMachinesMayBeReset }
+    ensures sent { SendingsLeaveTheState }
+{}
+
+/// Where some writes of a load were made, whole or in part and in any order, and then all are made
+/// in their order, memories are as if nothing had been written before. So a program that keeps what
+/// it was told to write can write it again after a reset, wherever that came. And one that keeps
+/// what stood there can put it back.
+pub fn writes_can_be_made_again()
+    ensures again { WritesCanBeMadeAgain }
+    ensures back { WritesCanBeTakenBack }
+{}
+
+/// If `lpt_end_packet` answers 0, and `lpt_end_released` copies a message then, the newest fact of
+/// the log is that this message was released, of the transaction that the first call told, or of
+/// none; and that was due. So what a caller is handed is the message last opened under that name at
+/// the other end, or a request that ground asked.
+pub fn messages_are_handed()
+    ensures { MessagesAreHanded }
+{}
+
+/// Where `lpt_end_execute` or `lpt_end_execute_given` answers 0, the newest fact of the log is that
+/// the oldest request was executed; one waited; and a report whose name the call told was opened
+/// under that name.
+pub fn executions_are_told()
+    ensures in_end { ExecutionsAreTold }
+    ensures with_program { GivenExecutionsAreTold }
 {}
 
 /// Where a call answers 0, its end didn't refuse it: no refusal has the number 0.

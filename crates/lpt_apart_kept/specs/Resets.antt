@@ -1,0 +1,203 @@
+-- Two ends apart whose machines are reset at any time, also where they have done what they haven't
+-- written.
+--
+-- What a machine did since it was last written is deleted by its reset from what was done. So what
+-- was done is a history of two ends apart, whatever was deleted of it.
+use Rattle.std.specs.Prelude.{◌≡◌, ℕ, ◌+◌, ◌<◌, ◌^◌, List, [], ◌∷◌, ⊤}
+use Rattle.lpt_apart.specs.Clocks.{CanAll, after_all, later, no_pair_later}
+use Rattle.lpt_apart.specs.Ends.{node_at}
+use Rattle.lpt_apart.specs.Moves.{CanMove, Do, Free, Move, Pair, moved}
+use Rattle.lpt_apart.specs.Steps.{Accept, Apply, Claim, Commit, Expire, Finish, Open, Plain, Restart, Retire, Send, Tick}
+use Rattle.lpt_apart.specs.Worlds.{IsPromised}
+use Rattle.lpt_apart_kept.specs.Deeds.{Kept, end_at, read_back, written}
+use Rattle.lpt_events.specs.Configs.{IsConfig}
+use Rattle.lpt_events.specs.Sides.{receiver_side, sender_side}
+use Rattle.lpt_events.specs.declared.config.Config.{Config}
+use Rattle.lpt_events.specs.declared.side.Side.{Side}
+use Rattle.lpt_events.specs.declared.side.Side.TheVariants.{Ground, Craft}
+use Rattle.lpt_memory.specs.Memories.{Contents}
+use Rattle.lpt_node.specs.Restarts.{restarted}
+use Rattle.lpt_packet.specs.Names.{Name}
+use Rattle.lpt_packet.specs.declared.direction.Direction.{Direction}
+use Rattle.lpt_state.specs.Lastings.{IsEnd}
+
+-- ---- what is deleted
+
+-- the side whose end makes a move
+abbrev pub side_of : Move → Side
+side_of (Do (Open d name m)) = sender_side d
+side_of (Do (Send d name k)) = sender_side d
+side_of (Do (Plain source flags service subtype body)) = Ground
+side_of (Do (Finish d name)) = sender_side d
+side_of (Do (Accept d b)) = receiver_side d
+side_of (Do (Tick side)) = side
+side_of (Do (Expire side)) = side
+side_of (Do (Claim w)) = Craft
+side_of (Do (Commit w)) = Craft
+side_of (Do Apply) = Craft
+side_of (Do (Retire d name)) = sender_side d
+side_of (Do (Restart side)) = side
+side_of (Free d name) = receiver_side d
+
+-- The machines as they are, with what was last written of each; the moves that they made; and
+-- those moves but for what ground made since it was last written, but for what the spacecraft
+-- did, and but for what either did.
+pub record Lived : Type 0 where
+  pub kept : Kept
+  pub moves : List Move
+  pub but_ground : List Move
+  pub but_craft : List Move
+  pub but_both : List Move
+
+-- a machine makes a move; it makes one that a restart of it forgets; it is written; or it is
+-- reset and read back
+pub data Deed : Type 0 where
+  Make : Move → Deed
+  MakeForgotten : Move → Deed
+  Write : Side → Deed
+  Reset : Side → Deed
+
+-- the machines after a move
+abbrev pub with_move : Config → Kept → Move → Kept
+with_move c k x = record k { pair = moved c k.pair x }
+
+-- a machine of this side makes a move
+abbrev pub made : Config → Lived → Side → Move → Lived
+made c l Ground x = record l {
+  kept = with_move c l.kept x;
+  moves = x ∷ l.moves;
+  but_craft = x ∷ l.but_craft;
+}
+made c l Craft x = record l {
+  kept = with_move c l.kept x;
+  moves = x ∷ l.moves;
+  but_ground = x ∷ l.but_ground;
+}
+
+-- a machine makes a move that its reset needn't delete
+abbrev pub made_forgotten : Config → Lived → Move → Lived
+made_forgotten c l x = record {
+  kept = with_move c l.kept x;
+  moves = x ∷ l.moves;
+  but_ground = x ∷ l.but_ground;
+  but_craft = x ∷ l.but_craft;
+  but_both = x ∷ l.but_both;
+}
+
+-- what a deed makes of them
+abbrev pub lived : Config → Lived → Deed → Lived
+lived c l (Make x) = made c l (side_of x) x
+lived c l (MakeForgotten x) = made_forgotten c l x
+lived c l (Write Ground) = record l {
+  kept = written c l.kept Ground;
+  but_ground = l.moves;
+  but_both = l.but_craft;
+}
+lived c l (Write Craft) = record l {
+  kept = written c l.kept Craft;
+  but_craft = l.moves;
+  but_both = l.but_ground;
+}
+lived c l (Reset Ground) = record l {
+  kept = read_back c l.kept Ground;
+  moves = Do (Restart Ground) ∷ l.but_ground;
+  but_craft = Do (Restart Ground) ∷ l.but_both;
+}
+lived c l (Reset Craft) = record l {
+  kept = read_back c l.kept Craft;
+  moves = Do (Restart Craft) ∷ l.but_craft;
+  but_ground = Do (Restart Craft) ∷ l.but_both;
+}
+
+-- ---- what may be done
+
+-- the list that a reset of a side's machine leaves
+abbrev pub left_without : Lived → Side → List Move
+left_without l Ground = l.but_ground
+left_without l Craft = l.but_craft
+
+-- A restart forgets a move: it comes to the same end with it and without it, and the move leaves
+-- the workers' jobs and the memories. So it is where a part or a plain request is sent and where
+-- a message is finished.
+pub record IsForgotten (c : Config) (p : Pair) (x : Move) : Type 0 where
+  pub node : restarted (node_at (moved c p x).ends (side_of x))
+      ≡ restarted (node_at p.ends (side_of x))
+  pub tickets : (moved c p x).ends.tickets ≡ p.ends.tickets
+  pub memories : (moved c p x).ends.memories ≡ p.ends.memories
+
+-- an end can be written, and a boot is left
+pub record IsWritable (c : Config) (p : Pair) (side : Side) : Type 0 where
+  pub is_end : IsEnd (end_at c p side)
+  pub boot_left : (node_at p.ends side).boot + 1 < 2 ^ 64
+
+-- A machine can be reset where what is left can be done without what is deleted: so nothing that it
+-- put out since it was last written was handed over, and the other end freed no name because of it.
+-- Workers have the jobs that they had when the spacecraft was written.
+abbrev pub CanReset : Config → (start : Pair) → Lived → Side → Type 0
+CanReset c start l Ground = CanAll c start l.but_ground
+CanReset c start l Craft =
+    CanAll c start l.but_craft
+    × (l.kept.pair.ends.tickets ≡ (after_all c start l.but_craft).ends.tickets)
+
+-- a deed can be done after what is left
+abbrev pub CanLive : Config → (start : Pair) → Lived → Deed → Type 0
+CanLive c start l (Make x) = CanMove c (after_all c start l.moves) x
+CanLive c start l (MakeForgotten x) =
+    CanMove c (after_all c start l.moves) x
+    × IsForgotten c (after_all c start (left_without l (side_of x))) x
+CanLive c start l (Write side) = IsWritable c l.kept.pair side
+CanLive c start l (Reset side) = CanReset c start l side
+
+-- after these deeds, the newest of which stands first
+abbrev pub lived_all : Config → Lived → List Deed → Lived
+lived_all c l [] = l
+lived_all c l (x ∷ xs) = lived c (lived_all c l xs) x
+
+-- each of them can be done after those before it
+abbrev pub CanLiveAll : Config → (start : Pair) → Lived → List Deed → Type 0
+CanLiveAll c start l [] = ⊤
+CanLiveAll c start l (x ∷ xs) =
+    CanLiveAll c start l xs × CanLive c start (lived_all c l xs) x
+
+-- ---- the laws
+
+-- whatever is sent or finished
+abbrev pub SendingsAreForgotten : Type 0
+SendingsAreForgotten =
+    (c : Config) (p : Pair) (d : Direction) (name : Name) (k : ℕ)
+    (source flags service subtype : ℕ) (body : List ℕ)
+    → IsForgotten c p (Do (Send d name k))
+    × IsForgotten c p (Do (Plain source flags service subtype body))
+
+-- two ends that were written before they did anything
+abbrev pub just_written : Config → Kept → Lived
+just_written c k = record {
+  kept = written c (written c k Ground) Craft;
+  moves = [];
+  but_ground = [];
+  but_craft = [];
+  but_both = [];
+}
+
+-- What is left of what was done can be done, and comes to the nodes, jobs and memories that the
+-- machines have. Two ends apart that did it keep the promise.
+pub record IsLeft (c : Config) (first : Contents) (start : Pair) (l : Lived) : Type 0 where
+  pub can : CanAll c start l.moves
+  pub ground : l.kept.pair.ends.on_ground ≡ (after_all c start l.moves).ends.on_ground
+  pub craft : l.kept.pair.ends.on_craft ≡ (after_all c start l.moves).ends.on_craft
+  pub tickets : l.kept.pair.ends.tickets ≡ (after_all c start l.moves).ends.tickets
+  pub memories : l.kept.pair.ends.memories ≡ (after_all c start l.moves).ends.memories
+  pub promised : IsPromised c first (after_all c start l.moves).ends
+
+-- whatever was done with two new ends that were written, also where they were reset in between,
+-- once or again and again
+abbrev pub ResetEndsKeepThePromise : Type 0
+ResetEndsKeepThePromise =
+    (c : Config) (first : Contents) (g t : ℕ) (k : Kept) (xs : List Deed)
+    → IsConfig (later g c)
+    → IsConfig (later t c)
+    → k.pair ≡ no_pair_later c first g t
+    → IsWritable c k.pair Ground
+    → IsWritable c k.pair Craft
+    → CanLiveAll c k.pair (just_written c k) xs
+    → IsLeft c first k.pair (lived_all c (just_written c k) xs)

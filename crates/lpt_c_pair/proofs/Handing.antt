@@ -1,0 +1,239 @@
+-- What is copied and told out of an end is what the log's newest facts are.
+use Rattle.std.proofs.Common.{◌≡◌, ◌∙◌, ap, sym, subst, refl, ℕ, List, ◌∷◌, Option, Some, None}
+use Rattle.std.specs.Option.{option_map}
+use Rattle.lpt_apart.specs.Facts.{Executed, Released, Log, AllDue, with_abortion}
+use Rattle.lpt_apart.specs.Steps.{with_release, with_report}
+use Rattle.lpt_c_end.specs.Accesses.{IsAppliedGiven, first_read, length_refusal, unready}
+use Rattle.lpt_c_end.specs.Calls.{IsApplied}
+use Rattle.lpt_c_end.specs.Changes.{delivery}
+use Rattle.lpt_c_end.specs.Codes.{elsewhere, node_code}
+use Rattle.lpt_c_end.specs.Kept.{elsewhere_refusal, here_refusal, sizes_in}
+use Rattle.lpt_c_end.specs.Refusals.{sending_refusal}
+use Rattle.lpt_c_end.proofs.ReadyLemmas.{front_ready}
+use Rattle.lpt_c_end.specs.declared.end.End.{End}
+use Rattle.lpt_c_end.specs.declared.kept.Kept.{Kept}
+use Rattle.lpt_c_end.specs.declared.kept.Kept.TheVariants.{Here, Elsewhere}
+use Rattle.lpt_c_end.specs.declared.words.LptApplied.{LptApplied}
+use Rattle.lpt_c_end.specs.declared.words.LptOutcome.{LptOutcome}
+use Rattle.lpt_c_end.specs.Words.{applied_words, words}
+use Rattle.lpt_c_pair.specs.Handed.{ExecutionsAreTold, GivenExecutionsAreTold, IsExecutedSo, IsHanded, MessagesAreHanded}
+use Rattle.lpt_c_pair.specs.Pairs.{AreEndsOf, Execute, ExecuteGiven, InEnd, IsEndOf, Place, WithProgram, kept_in}
+use Rattle.lpt_c_pair.specs.Runs.{Standing, CanTurnBy}
+use Rattle.lpt_c_pair.proofs.Clockless.{executes, executes_over, takes}
+use Rattle.lpt_c_pair.proofs.Telling.{is_there}
+use Rattle.lpt_events.specs.Arrivals.{Arrival, NotRead, AnIdle, Foreign, ARequest, AReport, NoPart, APart, AnAbort, arrival}
+use Rattle.lpt_events.specs.Sides.{direction_to}
+use Rattle.lpt_events.specs.declared.applied.Applied.TheVariants.{Done}
+use Rattle.lpt_events.specs.declared.config.Config.{Config}
+use Rattle.lpt_events.specs.declared.side.Side.{Side}
+use Rattle.lpt_events.specs.declared.side.Side.TheVariants.{Ground, Craft}
+use Rattle.lpt_execution.specs.Reporting.{applied_of}
+use Rattle.lpt_execution.specs.declared.ending.Ending.{Ending}
+use Rattle.lpt_execution.specs.declared.ending.Ending.TheVariants as endings
+use Rattle.lpt_jobs.specs.Jobs.{Head, NoJob, NotReady, Ready, head_of}
+use Rattle.lpt_memory.specs.Memories.{Contents, sizes_of}
+use Rattle.lpt_model.specs.State.{released_of}
+use Rattle.lpt_node.proofs.GivenLemmas.{given_over}
+use Rattle.lpt_node.specs.Jobs.{Execution, FrontIsFor, executed, executed_of, refusal_apply}
+use Rattle.lpt_node.specs.Accepting.{accepted}
+use Rattle.lpt_node.specs.declared.accepted.Accepted.{Accepted}
+use Rattle.lpt_node.specs.Nodes.{NodeData}
+use Rattle.lpt_node.specs.Receivers.{ReceiverState, received, received_from, after_offer, if_free, table_in, parts_with, kept_of}
+use Rattle.lpt_node.specs.Receiving.{abort_head, after_received, parted, receiver_of}
+use Rattle.lpt_pus.specs.Telemetry.{Telemetry}
+use Rattle.lpt_reception.specs.Received.{Parts, spelled}
+use Rattle.lpt_table.specs.Offering as offering
+use Rattle.lpt_table.specs.Offering.{OfferKind, offered}
+use Rattle.lpt_table.specs.Tables.{Entries, TableState}
+use Rattle.lpt_ledger.specs.States.{state_at}
+use Rattle.lpt_ledger.specs.declared.state.State.{State}
+use Rattle.lpt_ledger.specs.declared.state.State.TheVariants.{Free, Open, Closed}
+use Rattle.lpt_events.specs.NamedParts.{NamedPart}
+use Rattle.lpt_packet.specs.Names.{Name}
+use Rattle.lpt_packet.specs.declared.direction.Direction.{Direction}
+
+module _ (way : Direction) (log : Log) (m : List ℕ) where
+  -- the log once a packet was taken
+  abbrev logged : Accepted → Log
+  logged x = with_abortion way x.outcome (with_release log (released_of way x.outcome) x.released)
+
+  -- its newest fact is the release of this message, where one was released
+  abbrev IsLogged : Accepted → Type 0
+  IsLogged x = x.released ≡ Some m → logged x ≡ Released (released_of way x.outcome) m ∷ log
+
+  of_offer : (side : Side) (d : NodeData) (q : NamedPart) (h : Option Telemetry)
+      (r : ReceiverState) (parts : Parts) (o : OfferKind) (es : Entries)
+      → IsLogged (after_received side d q (after_offer h r q.name parts o es)).1
+  of_offer side d q h r parts offering.Kept es is = absurd cc
+  of_offer side d q h r parts offering.Again es is = absurd cc
+  of_offer side d q h r parts offering.Gap es is = absurd cc
+  of_offer side d q h r parts offering.NoRoom es is = absurd cc
+  of_offer side d q h r parts offering.Whole es is =
+      let same : spelled parts ≡ m = cc in
+      ap (λ (y : List ℕ). Released (Some (way, q.name)) y ∷ log) same
+  of_offer side d q h r parts (offering.Conflict reason) es is = absurd cc
+
+  of_free : (side : Side) (s : State) (d : NodeData) (q : NamedPart) (h : Option Telemetry)
+      (r : ReceiverState) (parts : Parts) (o : OfferKind × TableState)
+      → IsLogged (after_received side d q (if_free s r (received_from h r q.name parts o))).1
+  of_free side Free d q h r parts o is = of_offer side d q h r parts o.0 o.1.entries is
+  of_free side Open d q h r parts o is = absurd cc
+  of_free side Closed d q h r parts o is = absurd cc
+
+  of_part : (side : Side) (c : Config) (d : NodeData) (q : NamedPart)
+      → IsLogged (parted side c d q).1
+  unfolding received
+  of_part side c d q is =
+      let r : ReceiverState = receiver_of c d.receiving in
+      of_free side (state_at r.ledger q.name) d q (abort_head side c d q.name.source) r
+      (parts_with (table_in r) q)
+      (offered (table_in r) q.name q.number (kept_of q) d.clock) is
+
+  of_arrival : (side : Side) (c : Config) (d : NodeData) (a : Arrival)
+      → IsLogged (accepted side c d a).1
+  of_arrival side c d NotRead is = absurd cc
+  of_arrival side c d AnIdle is = absurd cc
+  of_arrival side c d Foreign is = absurd cc
+  of_arrival side c d (ARequest b) is =
+      let same : b ≡ m = cc in ap (λ (y : List ℕ). Released None y ∷ log) same
+  of_arrival side c d (AReport service subtype) is = absurd cc
+  of_arrival side c d NoPart is = absurd cc
+  of_arrival side c d (AnAbort name reason) is = absurd cc
+  of_arrival side c d (APart q) is = of_part side c d q is
+
+-- what was taken at an end, by its node of the two ends apart
+handed : (c : Config) (side : Side) (n : NodeData) (kept : Kept) (e new : End) (b : List ℕ)
+    (told : LptOutcome) (m : List ℕ) (before after : Log)
+    → IsEndOf c side n kept e
+    → new.released ≡ (delivery e b).1.released
+    → told ≡ words (delivery e b).1.outcome
+    → new.released ≡ Some m
+    → after
+    ≡ logged (direction_to side) before m (accepted side c n (arrival side c.apid c.part_size b)).1
+    → AllDue after
+    → IsHanded side told m before after
+handed c side n kept e new b told m before after is released says copied log due =
+    let a : Arrival = arrival side c.apid c.part_size b in
+    let x : Accepted = (accepted side c n a).1 in
+    let same : (delivery e b).1 ≡ x = ap (λ (y : NodeData × Accepted). y.1) (takes is b) in
+    let it : x.released ≡ Some m =
+    ap (λ (y : Accepted). y.released) (sym same) ∙ sym released ∙ copied in
+    let newest : after ≡ Released (released_of (direction_to side) x.outcome) m ∷ before =
+    log ∙ of_arrival (direction_to side) before m side c n a it in
+    record {
+      outcome = x.outcome;
+      says = says ∙ ap (λ (y : Accepted). words y.outcome) same;
+      log = newest;
+      due = (subst AllDue newest due).1;
+    }
+
+pub messages_are_handed : MessagesAreHanded
+messages_are_handed c first s Ground b new told m before after can says copied =
+    handed c Ground s.pair.ends.on_ground _ s.on_ground new b told m s.pair.ends.log _
+    before.ends.ground can.0.released says (is_there new.released m copied) refl
+    after.promised.due
+messages_are_handed c first s Craft b new told m before after can says copied =
+    handed c Craft s.pair.ends.on_craft _ s.on_craft new b told m s.pair.ends.log _
+    before.ends.craft can.0.released says (is_there new.released m copied) refl
+    after.promised.due
+
+-- ---- executions
+
+-- a name that is told is that of the report
+abbrev IsNamed : Execution → Type 0
+IsNamed x =
+    (name : Name) → x.applied ≡ Done (Some name) → option_map (λ y. y.0) x.opened ≡ Some name
+
+names : (end : Ending) (opened : Option (Name × List ℕ)) (name : Name)
+    → applied_of end opened ≡ Done (Some name)
+    → option_map (λ y. y.0) opened ≡ Some name
+names endings.Silent opened name is = absurd cc
+names (endings.Refused code) opened name is = absurd cc
+names (endings.Carried r) opened name is = cc
+
+is_named : (c : Config) (d : NodeData) (ms : Contents) (h : Head)
+    → IsNamed (executed_of c d ms h).0.1
+is_named c d ms NoJob name is = absurd cc
+is_named c d ms NotReady name is = absurd cc
+is_named c d ms (Ready r) name is = names _ _ name is
+
+module _ (c : Config) (first : Contents) (s : Standing) where
+  -- the execution of the two ends apart
+  abbrev it : Execution
+  it = (executed c s.pair.ends.on_craft s.pair.ends.memories).0.1
+
+  told_so : (told : LptApplied)
+      → told ≡ applied_words it.applied
+      → AllDue (Executed ∷ with_report s.pair.ends.log it.opened)
+      → IsExecutedSo told s.pair.ends.log (Executed ∷ with_report s.pair.ends.log it.opened)
+  told_so told says due = record {
+    applied = it.applied;
+    report = it.opened;
+    says = says;
+    log = refl;
+    due = due.1;
+    named =
+        is_named c s.pair.ends.on_craft s.pair.ends.memories
+        (head_of s.pair.ends.on_craft.jobs.jobs);
+  }
+
+  of_end : (new : End) (told : LptApplied) (w : Place)
+      → (are : AreEndsOf c s.pair s.on_ground s.on_craft)
+      → are.place ≡ w
+      → CanTurnBy c s Craft Execute new
+      → IsApplied told s.on_craft
+      → told ≡ applied_words it.applied
+  of_end new told InEnd are at can says =
+      let held : s.on_craft.memories ≡ Here s.pair.ends.memories =
+      are.craft.memories ∙ ap (λ (x : Place). kept_in x s.pair.ends.memories) at in
+      let is : IsEndOf c Craft s.pair.ends.on_craft (Here s.pair.ends.memories) s.on_craft =
+      record {
+        side = are.craft.side;
+        ticks = are.craft.ticks;
+        config = are.craft.config;
+        node = are.craft.node;
+        memories = held;
+      } in
+      says ∙ ap (λ (x : (NodeData × Execution) × Kept). applied_words x.0.1.applied) (executes is)
+  of_end new told WithProgram are at can says =
+      absurd (let both : Some elsewhere ≡ None =
+      sym (ap (λ (o : Kept). here_refusal o (sending_refusal (node_code
+      (refusal_apply s.on_craft.node.at)) s.on_craft.outbox.items))
+      (are.craft.memories ∙ ap (λ (x : Place). kept_in x s.pair.ends.memories) at)) ∙ can.0.0 in cc)
+
+  of_program : (octets : List ℕ) (new : End) (told : LptApplied) (w : Place)
+      → (are : AreEndsOf c s.pair s.on_ground s.on_craft)
+      → are.place ≡ w
+      → CanTurnBy c s Craft (ExecuteGiven octets) new
+      → IsAppliedGiven octets told s.on_craft
+      → told ≡ applied_words it.applied
+  of_program octets new told InEnd are at can says =
+      let k : End = s.on_craft in
+      absurd (let both : Some elsewhere ≡ None =
+      sym (ap (λ (o : Kept). elsewhere_refusal o (sending_refusal
+      (length_refusal (unready k) (first_read k) octets) k.outbox.items))
+      (are.craft.memories ∙ ap (λ (x : Place). kept_in x s.pair.ends.memories) at)) ∙ can.0.0 in cc)
+  of_program octets new told WithProgram are at can says =
+      let k : End = s.on_craft in
+      let ms : Contents = s.pair.ends.memories in
+      let known : k.memories ≡ Elsewhere (sizes_of ms) =
+      are.craft.memories ∙ ap (λ (x : Place). kept_in x ms) at in
+      let front : FrontIsFor (head_of k.node.at.jobs.jobs) k.node.config.apid ms =
+      front_ready k.node (sizes_in k.memories) ms (ap sizes_in known) k.ready in
+      says
+      ∙ ap (λ (x : NodeData × Execution). applied_words x.1.applied)
+      (given_over k.config k.node.at ms octets (head_of k.node.at.jobs.jobs)
+      k.node.config.apid front can.1)
+      ∙ ap (λ (x : (NodeData × Execution) × Contents). applied_words x.0.1.applied)
+      (executes_over are.craft ms)
+
+pub executions_are_told : ExecutionsAreTold
+executions_are_told c first s new told before after can says =
+    told_so c first s told
+    (of_end c first s new told before.ends.place before.ends refl can says) after.promised.due
+
+pub given_executions_are_told : GivenExecutionsAreTold
+given_executions_are_told c first s octets new told before after can says =
+    told_so c first s told
+    (of_program c first s octets new told before.ends.place before.ends refl can says)
+    after.promised.due

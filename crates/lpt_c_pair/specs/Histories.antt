@@ -1,0 +1,205 @@
+-- Two ends behind handles, of which each has what is its own, and either machine is reset at any
+-- time.
+--
+-- A reset deletes the calls that its program made since it last kept its end. So what is left is a
+-- run of calls.
+use Rattle.std.specs.Prelude.{◌≡◌, ◌⊎◌, ℕ, List, [], ◌∷◌, ⊤}
+use Rattle.lpt_apart.specs.Clocks.{later}
+use Rattle.lpt_c_end.specs.Changes.{IsNew}
+use Rattle.lpt_c_end.specs.Contents.{memories_told}
+use Rattle.lpt_c_end.specs.declared.end.End.{End}
+use Rattle.lpt_c_end.specs.declared.memories.LptMemory.{LptMemory}
+use Rattle.lpt_c_pair.specs.Pairs.{LetGo, Part, Plain, Resume, IsDone}
+use Rattle.lpt_c_pair.specs.Runs.{Turn, Standing, begun, stood, CanStand, CanTurnBy, KeepsThePromise}
+use Rattle.lpt_events.specs.Configs.{IsConfig}
+use Rattle.lpt_events.specs.declared.config.Config.{Config}
+use Rattle.lpt_events.specs.declared.side.Side.{Side}
+use Rattle.lpt_events.specs.declared.side.Side.TheVariants.{Ground, Craft}
+use Rattle.lpt_memory.specs.Memories.{Contents}
+use Rattle.lpt_packet.specs.Names.{Name}
+use Rattle.lpt_state.specs.Spellings.{spelled}
+
+-- The ends that the programs have; the calls that are left of all; and those but for what
+-- ground's program made since it last kept its end, but for what the spacecraft's did, and but
+-- for what either did. The newest stands first.
+pub record History : Type 0 where
+  pub on_ground : End
+  pub on_craft : End
+  pub calls : List Turn
+  pub but_ground : List Turn
+  pub but_craft : List Turn
+  pub but_both : List Turn
+
+-- A call answered 0, and a reset deletes it where its end wasn't kept since; or no reset does;
+-- the program of a side keeps its end's state, and the spacecraft's with it the memories; or a
+-- machine is reset, and its end is made again of a state and memories.
+pub data Deed : Type 0 where
+  Makes : Turn → Deed
+  Stays : Turn → Deed
+  Keeps : Side → Deed
+  Resets : Side → Config → (state : List ℕ) → List LptMemory → (content : List ℕ) → (new : End)
+      → Deed
+
+-- the call that makes an end again
+abbrev pub again : Side → Config → List ℕ → List LptMemory → List ℕ → End → Turn
+again side config state ms content new =
+    record { side = side; call = Resume config state ms content; new = new }
+
+-- the program of a side made a call
+abbrev pub called : History → Side → Turn → History
+called h Ground t = record h {
+  on_ground = t.new;
+  calls = t ∷ h.calls;
+  but_craft = t ∷ h.but_craft;
+}
+called h Craft t = record h {
+  on_craft = t.new;
+  calls = t ∷ h.calls;
+  but_ground = t ∷ h.but_ground;
+}
+
+-- the program of a side made a call that no reset deletes: such as leaves the state that it is to
+-- keep as it is
+abbrev pub stayed : History → Side → Turn → History
+stayed h Ground t = record {
+  on_ground = t.new;
+  on_craft = h.on_craft;
+  calls = t ∷ h.calls;
+  but_ground = t ∷ h.but_ground;
+  but_craft = t ∷ h.but_craft;
+  but_both = t ∷ h.but_both;
+}
+stayed h Craft t = record {
+  on_ground = h.on_ground;
+  on_craft = t.new;
+  calls = t ∷ h.calls;
+  but_ground = t ∷ h.but_ground;
+  but_craft = t ∷ h.but_craft;
+  but_both = t ∷ h.but_both;
+}
+
+-- a machine was reset, and this call made its end again
+abbrev pub reset_by : History → Side → Turn → History
+reset_by h Ground t = record h {
+  on_ground = t.new;
+  calls = t ∷ h.but_ground;
+  but_craft = t ∷ h.but_both;
+}
+reset_by h Craft t = record h {
+  on_craft = t.new;
+  calls = t ∷ h.but_craft;
+  but_ground = t ∷ h.but_both;
+}
+
+-- what a deed makes of them
+abbrev pub gone_on : History → Deed → History
+gone_on h (Makes t) = called h t.side t
+gone_on h (Stays t) = stayed h t.side t
+gone_on h (Keeps Ground) = record h { but_ground = h.calls; but_both = h.but_craft }
+gone_on h (Keeps Craft) = record h { but_craft = h.calls; but_both = h.but_ground }
+gone_on h (Resets side config state ms content new) =
+    reset_by h side (again side config state ms content new)
+
+-- what a reset of a side's machine leaves
+abbrev pub left_without : History → Side → List Turn
+left_without h Ground = h.but_ground
+left_without h Craft = h.but_craft
+
+-- A call can be made as before, after what is left. An end can be kept at any time. A machine can
+-- be reset where what is left can be done without what is deleted, and its end is made again of
+-- what was kept.
+abbrev pub CanGoOn : Config → (start : Standing) → History → Deed → Type 0
+CanGoOn c start h (Makes t) = CanStand c start (t ∷ h.calls)
+CanGoOn c start h (Stays t) = CanStand c start (t ∷ h.calls)
+CanGoOn c start h (Keeps side) = ⊤
+CanGoOn c start h (Resets side config state ms content new) =
+    CanStand c start (again side config state ms content new ∷ left_without h side)
+
+-- after these deeds, the newest of which stands first
+abbrev pub gone_all : History → List Deed → History
+gone_all h [] = h
+gone_all h (x ∷ xs) = gone_on (gone_all h xs) x
+
+-- each of them can be done after those before it
+abbrev pub CanGoOnAll : Config → (start : Standing) → History → List Deed → Type 0
+CanGoOnAll c start h [] = ⊤
+CanGoOnAll c start h (x ∷ xs) = CanGoOnAll c start h xs × CanGoOn c start (gone_all h xs) x
+
+-- programs that have just begun, and kept their ends
+abbrev pub just_begun : Standing → History
+just_begun s = record {
+  on_ground = s.on_ground;
+  on_craft = s.on_craft;
+  calls = [];
+  but_ground = [];
+  but_craft = [];
+  but_both = [];
+}
+
+-- what is left can be done, comes to the ends that the programs have, and keeps the promise
+pub record IsLeft (c : Config) (first : Contents) (start : Standing) (h : History) : Type 0 where
+  pub can : CanStand c start h.calls
+  pub on_ground : h.on_ground ≡ (stood c start h.calls).on_ground
+  pub on_craft : h.on_craft ≡ (stood c start h.calls).on_craft
+  pub kept : KeepsThePromise c first (stood c start h.calls)
+
+-- whatever calls were made of two ends that were new, whenever machines were reset
+abbrev pub ResetEndsOfCKeepThePromise : Type 0
+ResetEndsOfCKeepThePromise =
+    (c : Config) (a b : ℕ)
+    (none : List LptMemory) (nothing : List ℕ) (ms : List LptMemory) (content : List ℕ)
+    (g k : End) (xs : List Deed)
+    → IsConfig (later a c)
+    → IsConfig (later b c)
+    → IsNew Ground (later a c) none nothing g
+    → IsNew Craft (later b c) ms content k
+    → CanGoOnAll c (begun c (memories_told content ms) a b g k)
+    (just_begun (begun c (memories_told content ms) a b g k)) xs
+    → IsLeft c (memories_told content ms) (begun c (memories_told content ms) a b g k)
+    (gone_all (just_begun (begun c (memories_told content ms) a b g k)) xs)
+
+-- ---- whenever it comes
+
+-- the calls but for what the other side's program made since it last kept its end
+abbrev pub but_other : History → Side → List Turn
+but_other h Ground = h.but_craft
+but_other h Craft = h.but_ground
+
+-- A call can be made after what is left, and also after that but for what the other end's program
+-- made and didn't keep: so that is handed over only once it was kept. Then a machine can be reset
+-- at any time, and its end is made again of what was kept of it.
+abbrev pub IsCareful : Config → (start : Standing) → History → Deed → Type 0
+IsCareful c start h (Makes t) =
+    CanTurnBy c (stood c start h.calls) t.side t.call t.new
+    × CanTurnBy c (stood c start (but_other h t.side)) t.side t.call t.new
+IsCareful c start h (Stays t) =
+    CanTurnBy c (stood c start h.calls) t.side t.call t.new
+    × CanTurnBy c (stood c start h.but_ground) t.side t.call t.new
+    × CanTurnBy c (stood c start h.but_craft) t.side t.call t.new
+    × CanTurnBy c (stood c start h.but_both) t.side t.call t.new
+IsCareful c start h (Keeps side) = ⊤
+IsCareful c start h (Resets side config state ms content new) =
+    CanTurnBy c (stood c start (left_without h side)) side (Resume config state ms content) new
+
+-- all deeds are so
+abbrev pub AreCareful : Config → (start : Standing) → History → List Deed → Type 0
+AreCareful c start h [] = ⊤
+AreCareful c start h (x ∷ xs) = AreCareful c start h xs × IsCareful c start (gone_all h xs) x
+
+-- so nothing more is asked of the times at which machines are reset
+abbrev pub CarefulProgramsMayBeReset : Type 0
+CarefulProgramsMayBeReset =
+    (c : Config) (start : Standing) (xs : List Deed)
+    → AreCareful c start (just_begun start) xs
+    → CanGoOnAll c start (just_begun start) xs
+
+-- ---- what stays
+
+-- these leave an end's state as it is, so that a reset needn't delete them: it is made again of
+-- what was kept before
+abbrev pub SendingsLeaveTheState : Type 0
+SendingsLeaveTheState =
+    (e new : End) (name : Name) (k source flags service subtype : ℕ) (body : List ℕ)
+    → IsDone (Part name k) e new ⊎ IsDone (Plain source flags service subtype body) e new
+    ⊎ IsDone LetGo e new
+    → spelled new.node ≡ spelled e.node

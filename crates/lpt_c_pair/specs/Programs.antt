@@ -1,0 +1,150 @@
+-- Two ends behind handles, where the spacecraft's program has the memories: what it writes, and
+-- what they are.
+use Rattle.std.specs.Prelude.{◌≡◌, ℕ, ◌+◌, List, [], ◌∷◌, ◌++◌, length, map, Ok, Err, Some, ⊤}
+use Rattle.lpt_apart.specs.Clocks.{later}
+use Rattle.lpt_apart.specs.Facts.{executed}
+use Rattle.lpt_c_end.specs.Accesses.{IsAccess, written_by}
+use Rattle.lpt_c_end.specs.Changes.{IsNew}
+use Rattle.lpt_c_end.specs.Codes.{nothing}
+use Rattle.lpt_c_end.specs.Sizes.{size_said, IsNewSized}
+use Rattle.lpt_c_end.specs.declared.accessing.LptAccess.{LptAccess}
+use Rattle.lpt_c_end.specs.declared.end.End.{End}
+use Rattle.lpt_c_end.specs.declared.memories.LptMemory.{LptMemory}
+use Rattle.lpt_c_end.specs.declared.sizing.LptSize.{LptSize}
+use Rattle.lpt_c_pair.specs.Pairs.{Call, ExecuteGiven, IsDone, Restart, Resume, ResumeSized}
+use Rattle.lpt_c_pair.specs.Runs.{Turn, Standing, begun, turned_by, CanTurnBy, KeepsThePromise}
+use Rattle.lpt_events.specs.Configs.{IsConfig}
+use Rattle.lpt_events.specs.declared.config.Config.{Config}
+use Rattle.lpt_events.specs.declared.side.Side.{Side}
+use Rattle.lpt_events.specs.declared.side.Side.TheVariants.{Ground, Craft}
+use Rattle.lpt_jobs.specs.Jobs.{head_of}
+use Rattle.lpt_journal.specs.Jobs.{left_by}
+use Rattle.lpt_memory.specs.Memories.{Contents, loaded, sizes_of}
+use Rattle.lpt_node.specs.Jobs.{FrontHolds}
+
+-- ---- what is written
+
+-- a write, as C is told it: the access, and its octets
+pub record Told : Type 0 where
+  pub access : LptAccess
+  pub octets : List ℕ
+
+-- memories over which these are written, one after the other
+abbrev pub put_told : List Told → Contents → Contents
+put_told [] ms = ms
+put_told (t ∷ ts) ms =
+    put_told ts
+    (loaded t.access.memory (record { address = t.access.address; octets = t.octets } ∷ []) ms)
+
+-- `lpt_end_access` and `lpt_end_access_octets` tell this by that number
+pub record IsTold (number : ℕ) (t : Told) (e : End) : Type 0 where
+  pub access : IsAccess number t.access e
+  pub octets : written_by number (Some e) ≡ Ok t.octets
+
+-- they tell these by the numbers from this on, and by the next that there is nothing
+abbrev pub AreTold : (number : ℕ) → List Told → End → Type 0
+AreTold number [] e = written_by number (Some e) ≡ Err nothing
+AreTold number (t ∷ ts) e = IsTold number t e × AreTold (number + 1) ts e
+
+-- ---- a program
+
+-- Two ends behind handles, and the memories that the spacecraft's program has. It has written
+-- something ahead: what the oldest request asks for, which isn't executed yet. And it owes
+-- something: what executed requests ask for, and what it hasn't written whole.
+pub record Program : Type 0 where
+  pub ends : Standing
+  pub memories : Contents
+  pub ahead : List Told
+  pub owed : List Told
+
+-- A call of an end answered 0; a write that the oldest request asks for is made ahead;
+-- `lpt_end_execute_given` answered 0, after which these writes are owed; memories became these,
+-- as some of what is owed was written; all that is owed was written, in its order.
+pub data Act : Type 0 where
+  Calls : Turn → Act
+  Writes : Told → Act
+  Gives : (octets : List ℕ) → (owed : List Told) → (new : End) → Act
+  Puts : (memories : Contents) → Act
+  Settles : Act
+
+-- what an act makes of them
+abbrev pub acted : Config → Program → Act → Program
+acted c p (Calls t) = record p { ends = turned_by c p.ends t.side t.call t.new }
+acted c p (Writes t) =
+    record p { memories = put_told (t ∷ []) p.memories; ahead = p.ahead ++ t ∷ [] }
+acted c p (Gives octets owed new) = record {
+  ends = turned_by c p.ends Craft (ExecuteGiven octets) new;
+  memories = p.memories;
+  ahead = [];
+  owed = owed;
+}
+acted c p (Puts ms) = record p { memories = ms }
+acted c p Settles = record p { memories = put_told p.owed p.memories; owed = [] }
+
+-- Requests are executed by an act of their own. Where the spacecraft's end is restarted or made
+-- again, nothing was written ahead; what is owed is known still.
+abbrev pub MayCall : Program → Side → Call → Type 0
+MayCall p side (ExecuteGiven octets) = ⊥
+MayCall p Craft Restart = p.ahead ≡ []
+MayCall p Craft (Resume config state ms content) = p.ahead ≡ []
+MayCall p Craft (ResumeSized config state sizes) = p.ahead ≡ []
+MayCall p side call = ⊤
+
+-- Nothing is owed of the requests before. What is owed from now on is what the calls tell of the
+-- oldest request besides what was written ahead. The octets are those that the program's memories
+-- have where it reads.
+pub record IsGiven (p : Program) (octets : List ℕ) (owed : List Told) : Type 0 where
+  pub settled : p.owed ≡ []
+  pub told : AreTold (length p.ahead) owed p.ends.on_craft
+  pub held : FrontHolds (head_of p.ends.on_craft.node.at.jobs.jobs) p.memories octets
+
+-- An act can be done: the program keeps what it promises of a call. It writes ahead what it is told
+-- next, and nothing while it owes something. While it does, its memories change only where all
+-- that is owed makes the same of them.
+abbrev pub CanAct : Config → Program → Act → Type 0
+CanAct c p (Calls t) = CanTurnBy c p.ends t.side t.call t.new × MayCall p t.side t.call
+CanAct c p (Writes t) = (p.owed ≡ []) × IsTold (length p.ahead) t p.ends.on_craft
+CanAct c p (Gives octets owed new) =
+    IsDone (ExecuteGiven octets) p.ends.on_craft new × IsGiven p octets owed
+CanAct c p (Puts ms) = put_told p.owed ms ≡ put_told p.owed p.memories
+CanAct c p Settles = ⊤
+
+-- after these acts, the newest of which stands first
+abbrev pub came_by : Config → Program → List Act → Program
+came_by c p [] = p
+came_by c p (x ∷ xs) = acted c (came_by c p xs) x
+
+-- each act can be done after those before it
+abbrev pub CanActAll : Config → Program → List Act → Type 0
+CanActAll c p [] = ⊤
+CanActAll c p (x ∷ xs) = CanActAll c p xs × CanAct c (came_by c p xs) x
+
+-- ---- the law
+
+-- two new ends, and memories that nothing was written over
+abbrev pub started : Config → Contents → (ticks_ground ticks_craft : ℕ)
+    → (on_ground on_craft : End)
+    → Program
+started c first a b g k =
+    record { ends = begun c first a b g k; memories = first; ahead = []; owed = [] }
+
+-- The ends keep the promise. The program's memories, once what is owed is written, are their first
+-- content, changed by the executed requests in order of release, and by what was written ahead.
+pub record KeepsItsMemories (c : Config) (first : Contents) (p : Program) : Type 0 where
+  pub ends : KeepsThePromise c first p.ends
+  pub memories : put_told p.owed p.memories
+      ≡ put_told p.ahead (left_by c.apid (executed p.ends.pair.ends.log) first)
+
+-- whatever was done with two new ends, and with memories that begin so
+abbrev pub ProgramsKeepTheirMemories : Type 0
+ProgramsKeepTheirMemories =
+    (c : Config) (a b : ℕ)
+    (none : List LptMemory) (nothing : List ℕ) (sizes : List LptSize) (first : Contents)
+    (g k : End) (xs : List Act)
+    → IsConfig (later a c)
+    → IsConfig (later b c)
+    → map size_said sizes ≡ sizes_of first
+    → IsNew Ground (later a c) none nothing g
+    → IsNewSized (later b c) sizes k
+    → CanActAll c (started c first a b g k) xs
+    → KeepsItsMemories c first (came_by c (started c first a b g k) xs)

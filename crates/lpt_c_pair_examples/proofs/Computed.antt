@@ -1,0 +1,144 @@
+-- What the packet of the worked run is, what the nodes make of it, and what it means.
+use Rattle.std.proofs.Common.{◌≡◌, ◌∙◌, sym, subst, refl, ℕ, zero, suc, ◌<◌, List, [], ◌∷◌, length, map, Option, Some, None, arith}
+use Rattle.std.specs.Prelude.{⊤}
+use Rattle.std.specs.FinMap as maps
+use Rattle.std.proofs.lemmas.List.Elements.{All-nil}
+use Rattle.lpt_events.specs.declared.side.Side.TheVariants.{Craft}
+use Rattle.lpt_ledger.specs.Runs.{runs_of, runs_of_names, IsRun}
+use Rattle.lpt_ledger.specs.Marks.{Mark}
+use Rattle.lpt_packet.specs.Names.{name_cmp}
+use Rattle.lpt_packet.specs.Numbers.{IsOctets}
+use Rattle.lpt_state.specs.Lastings.{AreRuns}
+use Rattle.lpt_packet.specs.Checksums.{checksum, octets_in, shift_all}
+use Rattle.lpt_packet.specs.Packets.{seen, spelling}
+use Rattle.lpt_pus.specs.Commands.{tc_field, tc_verdict, command_in}
+use Rattle.lpt_pus.specs.Telemetry.{tm_field, tm_verdict}
+use Rattle.lpt_part.specs.Parts.{body_of, part_verdict}
+use Rattle.lpt_memory.specs.Meanings.{Load, body_meaning, meaning}
+use Rattle.lpt_memory.specs.Readings.{Source, meant}
+use Rattle.lpt_memory.specs.Requests.{front_load_area, front_head, request_in}
+use Rattle.lpt_ledger.specs.LeastFree.{first_of_numbers, least_free_in}
+use Rattle.lpt_events.specs.Arrivals.{ARequest, arrival}
+use Rattle.lpt_events.specs.declared.side.Side.TheVariants.{Craft}
+use Rattle.lpt_jobs.specs.declared.job.Job.TheVariants.{Committed}
+use Rattle.lpt_execution.specs.Reporting.{opened_of, request_source}
+use Rattle.lpt_node.specs.Jobs.{executed_given, with_opened}
+use Rattle.lpt_packet.specs.Names.{Name}
+use Rattle.lpt_node.specs.Nodes.{NodeData, no_data}
+use Rattle.lpt_node.specs.Receiving.{with_job}
+use Rattle.lpt_node.specs.Requests.{plain_made}
+use Rattle.lpt_journal_examples.specs.Passes.{load, load_packet, usual}
+
+abbrev pub asked : NodeData × List ℕ
+asked = plain_made usual (no_data usual) 1 0 6 2 load
+
+-- the packet of the request
+pub packet_is : asked.1 ≡ load_packet
+unfolding seen spelling checksum octets_in shift_all tc_field tc_verdict command_in body_of
+packet_is = refl
+
+-- it comes as a request
+pub arrives : arrival Craft 100 8 load_packet ≡ ARequest load_packet
+unfolding seen spelling checksum octets_in shift_all tc_field tc_verdict command_in tm_field
+    tm_verdict body_of part_verdict arrival
+arrives = refl
+
+-- and waits
+abbrev pub taken : NodeData
+taken = with_job Craft (no_data usual) load_packet
+
+abbrev pub source : Source
+source = record { apid = 100; sizes = (1, 256) ∷ []; message = load_packet }
+
+-- and was read
+abbrev pub read : NodeData
+read = record taken { jobs = record { first = 0; jobs = Committed source ∷ [] } }
+
+pub means : meant source ≡ Load 1 (record { address = 16; octets = 171 ∷ 205 ∷ 239 ∷ 1 ∷ [] } ∷ [])
+unfolding seen spelling checksum octets_in shift_all tc_field tc_verdict command_in
+    front_load_area front_head request_in body_meaning meaning
+means = refl
+
+-- and was executed
+abbrev pub given : NodeData
+given = record taken { jobs = record { first = 1; jobs = [] } }
+
+-- no report is opened
+opens_none : (o : Option Name) → with_opened given (opened_of o []) ≡ given
+opens_none None = refl
+opens_none (Some name) = refl
+
+pub executes : (executed_given usual read []).0 ≡ given
+unfolding seen spelling checksum octets_in shift_all tc_field tc_verdict command_in first_of_numbers
+    front_load_area front_head request_in body_meaning meaning
+executes = opens_none (least_free_in read.sending.ledger (request_source 100 load_packet))
+
+pub no_packets : (executed_given usual read []).1.packets ≡ []
+unfolding seen spelling checksum octets_in shift_all tc_field tc_verdict command_in first_of_numbers
+    front_load_area front_head request_in body_meaning meaning
+no_packets = refl
+
+-- the names in use of an end that uses none
+no_items : {A : Type 0} (xs : List A) → length xs ≡ 0 → xs ≡ []
+no_items [] none = refl
+no_items (x ∷ xs) none = absurd (omega (arith, none))
+
+-- no name is in use
+none_used : maps.entries {X = Mark} {R = name_cmp} maps.empty ≡ []
+none_used =
+    no_items (maps.entries maps.empty) (sym (maps.len-entries maps.empty)
+    ∙ maps.len-empty name_cmp Mark)
+
+pub no_runs : AreRuns (runs_of maps.empty)
+unfolding runs_of_names
+no_runs =
+    subst (λ (es : List (Name × Mark)). AreRuns (runs_of_names (map (λ e. e.0) es)))
+    (sym none_used) (record { fit = All-nil IsRun; few = omega arith })
+
+-- octets one by one
+Below : List ℕ → Type 0
+Below [] = ⊤
+Below (x ∷ b) = (x < 256) × Below b
+
+below : (b : List ℕ) → Below b → IsOctets b
+unfolding Below
+below [] h i = omega arith
+below (x ∷ b) h zero = h.0
+below (x ∷ b) h (suc i) = below b h.1 i
+
+pub octets : IsOctets load
+unfolding Below
+octets = below load (
+  omega arith,
+  (
+    omega arith,
+    (
+      omega arith,
+      (
+        omega arith,
+        (
+          omega arith,
+          (
+            omega arith,
+            (
+              omega arith,
+              (
+                omega arith,
+                (
+                  omega arith,
+                  (
+                    omega arith,
+                    (
+                      omega arith,
+                      (omega arith, (omega arith, (omega arith, tt))),
+                    ),
+                  ),
+                ),
+              ),
+            ),
+          ),
+        ),
+      ),
+    ),
+  ),
+)
