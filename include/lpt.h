@@ -297,8 +297,10 @@ enum LptPartKind {
     LPT_PART_LAST = 3
 };
 
-/* What the front of a stream is: a packet or an idle packet; as many octets as a header says, which
-   are none, with a packet after them or nothing; an octet with which none of these begins. */
+/* What the front of a stream is: a packet, in step also an idle one, or one with a right checksum
+   that has no secondary header or is a segment (which lpt_read_packet answers by LPT_E_IDLE,
+   LPT_E_NO_SECONDARY and LPT_E_SEGMENTED); as many octets as a header says, which are none, with a
+   packet after them or nothing; an octet with which none of these begins. */
 enum LptPieceKind { LPT_PIECE_WHOLE = 1, LPT_PIECE_DAMAGED = 2, LPT_PIECE_STRAY = 3 };
 
 /* Why a reception was aborted: no part came for as long as the time-out; in strict mode a part came

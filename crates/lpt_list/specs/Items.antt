@@ -27,6 +27,7 @@ use Rattle.lpt_areas.specs.Areas.{areas_in}
 use Rattle.lpt_list.specs.declared.form.Form.{Form}
 use Rattle.lpt_list.specs.declared.form.Form.TheVariants.{Text, Json}
 use Rattle.lpt_part.specs.Kinds.{kind_word}
+use Rattle.lpt_stream.specs.Pieces.{ends_in_checksum}
 
 -- ---- an item
 
@@ -210,24 +211,32 @@ segment_text flags =
 abbrev pub flags_items : List ℕ → List Item
 flags_items word = Word (codes "segment") (codes "sequence_flags") word ∷ []
 
+-- the primary header in front of octets
+abbrev pub header_items : List ℕ → List Item
+header_items b =
+    primary_items (fields_of (kind_of (word_at b 0)) (word_at b 0 % 2048) (word_at b 2 % 16384) [])
+
 -- a segment: its primary header, and which it is
 abbrev pub segment_items : List ℕ → List Item
-segment_items b =
-    primary_items (fields_of (kind_of (word_at b 0)) (word_at b 0 % 2048) (word_at b 2 % 16384) [])
-    ++ flags_items (segment_text (word_at b 2 / 16384))
+segment_items b = header_items b ++ flags_items (segment_text (word_at b 2 / 16384))
 
--- what is said of octets that fail this test, in front of the test: what a segment says
-abbrev pub segment_front : List ℕ → PacketFault → List Item
-segment_front b Short = []
-segment_front b Version = []
-segment_front b Length = []
-segment_front b Segmented = segment_items b
-segment_front b NoSecondary = []
-segment_front b Checksum = []
+-- a packet without a secondary header: its primary header, where its checksum is right
+abbrev pub bare_items : List ℕ → List Item
+bare_items b = if ends_in_checksum b then header_items b else []
+
+-- what is said of octets that fail this test, in front of the test: what a segment says, or a packet
+-- without a secondary header
+abbrev pub refused_front : List ℕ → PacketFault → List Item
+refused_front b Short = []
+refused_front b Version = []
+refused_front b Length = []
+refused_front b Segmented = segment_items b
+refused_front b NoSecondary = bare_items b
+refused_front b Checksum = []
 
 -- octets that fail this test first
 abbrev pub refused_items : List ℕ → PacketFault → List Item
-refused_items b e = segment_front b e ++ fault_items (of_packet.code_of e) (of_packet.name_of e)
+refused_items b e = refused_front b e ++ fault_items (of_packet.code_of e) (of_packet.name_of e)
 
 -- an idle packet
 abbrev pub idle_items : List Item

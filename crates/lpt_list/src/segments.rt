@@ -4,16 +4,18 @@ ghost use Rattle.std.specs.Prelude.{◌≡◌, ◌+◌, ◌<◌, ◌≤◌, IfOk
 ghost use Rattle.std.specs.String.{string_bytes};
 ghost use Rattle.lpt_packet.specs.Numbers.{word_at};
 ghost use Rattle.lpt_packet.specs.Packets.{kind_of};
-ghost use Rattle.lpt_list.specs.Items.{items_text, flags_items, refused_items, segment_front, segment_items, segment_text};
+ghost use Rattle.lpt_list.specs.Items.{items_text, flags_items, header_items, refused_front, refused_items, segment_items, segment_text};
 
 use crate::Form;
 use crate::headers::{joined, print_primary};
 use crate::heads::print_fault;
 use lpt_packet::{PacketFault, PacketKind};
+use lpt_stream::ends_in_checksum;
 use std::alloc::{AllocError, Global};
 
-/// The first test that octets fail; in front of it, where they are a segment of a message in
-/// several packets, its primary header and which segment it is. The only error is out of memory.
+/// The first test that octets fail. In front of it stands the primary header of a segment of a
+/// message in several packets, and which segment it is; and that of a packet with a right checksum
+/// that has no secondary header. The only error is out of memory.
 #[tactic(auto, using(crate::proofs::ItemLemmas::items_append))]
 pub fn print_refused(
     alloc: Global,
@@ -24,22 +26,23 @@ pub fn print_refused(
     requires { fault ≡ PacketFault.Segmented → 7 ≤ length octets.now }
     ensures { IfOk result (λ t. string_bytes t ≡ items_text form (refused_items octets.now fault)) }
 {
-    let front = segment_front(alloc, form, octets, fault)?;
+    let front = refused_front(alloc, form, octets, fault)?;
     joined(front, print_fault(alloc, form, fault.code(), fault.name())?)
 }
 
-// What a segment says; nothing where another test fails.
-fn segment_front(
+// What a segment says, or a packet without a secondary header; nothing if another test fails.
+fn refused_front(
     alloc: Global,
     form: Form,
     octets: &[u8],
     fault: PacketFault,
 ) -> Result<String, AllocError>
     requires { fault ≡ PacketFault.Segmented → 7 ≤ length octets.now }
-    ensures { IfOk result (λ t. string_bytes t ≡ items_text form (segment_front octets.now fault)) }
+    ensures { IfOk result (λ t. string_bytes t ≡ items_text form (refused_front octets.now fault)) }
 {
     match fault {
         PacketFault::Segmented => print_segment(alloc, form, octets),
+        PacketFault::NoSecondary if ends_in_checksum(octets) => print_header(alloc, form, octets),
         PacketFault::Short
         | PacketFault::Version
         | PacketFault::Length
@@ -54,10 +57,20 @@ fn print_segment(alloc: Global, form: Form, octets: &[u8]) -> Result<String, All
     requires { 7 ≤ length octets.now }
     ensures { IfOk result (λ t. string_bytes t ≡ items_text form (segment_items octets.now)) }
 {
+    let front = print_header(alloc, form, octets)?;
+    joined(
+        front,
+        print_flags(alloc, form, segment_word(word(octets, 2) >> 14))?,
+    )
+}
+
+// The primary header in front of octets.
+fn print_header(alloc: Global, form: Form, octets: &[u8]) -> Result<String, AllocError>
+    requires { 6 ≤ length octets.now }
+    ensures { IfOk result (λ t. string_bytes t ≡ items_text form (header_items octets.now)) }
+{
     let (first, second) = (word(octets, 0), word(octets, 2));
-    let kind = kind_of(first);
-    let front = print_primary(alloc, form, kind, first & 0x07ff, second & 0x3fff)?;
-    joined(front, print_flags(alloc, form, segment_word(second >> 14))?)
+    print_primary(alloc, form, kind_of(first), first & 0x07ff, second & 0x3fff)
 }
 
 // Which segment it is, by this word.

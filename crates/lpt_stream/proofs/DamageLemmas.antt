@@ -2,11 +2,11 @@
 use Rattle.std.proofs.Common.{◌≡◌, ◌∙◌, ap, sym, subst, refl, inl, inr, ℕ, suc, ◌+◌, ◌-◌, ◌≤◌, ◌<◌, ◌==◌, Bool, true, false, ◌&&◌, ◌||◌, if◌then◌else◌, List, [], ◌∷◌, ◌++◌, length, take, drop, arith, take_all, length-append}
 use Rattle.std.proofs.Math.Seq.{drop-append_seam, take-append_seam}
 use Rattle.lpt_packet.specs.Numbers.{word_at}
-use Rattle.lpt_packet.specs.Packets.{APacket, Fields, IsPacket, verdict}
+use Rattle.lpt_packet.specs.Packets.{APacket, Fields, IsPacket}
 use Rattle.lpt_packet.proofs.Codec.{length-spelling}
 use Rattle.lpt_packet.proofs.Found.{again}
 use Rattle.lpt_stream.specs.declared.piece_kind.PieceKind.TheVariants.{Whole, Damaged, Stray}
-use Rattle.lpt_stream.specs.Pieces.{Piece, lookahead, frame, behind, is_framed, is_passed, is_taken, begins, kind_in, piece_of, piece_at, Leads, Finds}
+use Rattle.lpt_stream.specs.Pieces.{Piece, lookahead, frame, behind, is_framed, is_passed, ends_in_checksum, is_found, is_of_flags, is_taken, begins, kind_in, piece_of, piece_at, Leads, Finds}
 use Rattle.lpt_stream.specs.Streams.{IsDamaged, IsEndOrPacket, IsFramed}
 use Rattle.lpt_stream.proofs.StreamLemmas.{framed_packet, word_at-front}
 
@@ -45,8 +45,8 @@ framed b more h =
 -- a packet begins with one, whatever comes behind
 packet_begins : (p more : List ℕ) (f : Fields) → IsPacket p f → begins false (p ++ more) ≡ true
 packet_begins p more f h =
-    ap (λ x. is_taken false (verdict x)) (front p more (framed_packet p f h))
-    ∙ ap (is_taken false) (again p (APacket f) h)
+    ap (is_found false) (front p more (framed_packet p f h))
+    ∙ ap (is_taken false (ends_in_checksum p)) (again p (APacket f) h)
 
 -- ---- what stands behind
 
@@ -84,6 +84,10 @@ passed_by true p h k = absurd cc
 passed_by false true h k = refl
 passed_by false false h k = absurd cc
 
+untaken : (t c : Bool) → (t ≡ true → c ≡ false) → (t && true && c) ≡ false
+untaken true c h = h refl
+untaken false c h = refl
+
 abbrev damaged : List ℕ → Piece
 damaged b = record { kind = Damaged; octets = b }
 
@@ -93,7 +97,9 @@ near_kind : (b more : List ℕ)
     → kind_in true (b ++ more) ≡ Damaged
 near_kind b more h next =
     passed_by (begins true (b ++ more)) (is_passed (b ++ more))
-    (ap (λ x. is_taken true (verdict x)) (front b more h.framed) ∙ ap (is_taken true) h.told)
+    (ap (is_found true) (front b more h.framed)
+    ∙ ap (is_taken true (ends_in_checksum b)) h.told
+    ∙ untaken (is_of_flags h.fault) (ends_in_checksum b) h.wrong)
     (both (is_framed (b ++ more))
     ((length (behind (b ++ more)) == 0) || begins false (behind (b ++ more)))
     (framed b more h.framed)

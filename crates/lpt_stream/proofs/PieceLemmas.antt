@@ -8,23 +8,23 @@ use Rattle.lpt_packet.specs.Packets.{APacket, Fields, IdlePacket, Sight, verdict
 use Rattle.lpt_packet.proofs.Readings.{eq_false, lt_false, not_lt, tests_passed, true_eq}
 use Rattle.lpt_stream.specs.declared.piece_kind.PieceKind.{PieceKind}
 use Rattle.lpt_stream.specs.declared.piece_kind.PieceKind.TheVariants.{Whole, Damaged, Stray}
-use Rattle.lpt_stream.specs.Pieces.{Piece, lookahead, frame, behind, is_taken, begins, is_framed, is_passed, first_fits, flags_fit, size_fits, may_begin, is_open, waits, kind_in, size_in, piece_of, piece_at}
+use Rattle.lpt_stream.specs.Pieces.{Piece, lookahead, frame, behind, ends_in_checksum, is_of_flags, is_taken, is_found, begins, is_framed, is_passed, first_fits, flags_fit, size_fits, may_begin, is_open, waits, kind_in, size_in, piece_of, piece_at}
 use Rattle.lpt_stream.specs.Streams.{IsUnfinished}
 use Rattle.lpt_stream.proofs.StreamLemmas.{word_at-front}
 
 -- ---- less than a packet
 
 -- octets that are too few, or not as many as their header says, are no packet
-faulty : (s short version fits : Bool) (r : Result Sight PacketFault)
+faulty : (s c short version fits : Bool) (r : Result Sight PacketFault)
     → (short ≡ true) ⊎ (fits ≡ false)
-    → is_taken s
+    → is_taken s c
     (if short then Err Short else if version then
     (if fits then r else Err Length) else Err Version) ≡ false
-faulty s true version fits r h = refl
-faulty s false true true r (inl h) = absurd cc
-faulty s false true true r (inr h) = absurd cc
-faulty s false true false r h = refl
-faulty s false false fits r h = refl
+faulty s c true version fits r h = refl
+faulty s c false true true r (inl h) = absurd cc
+faulty s c false true true r (inr h) = absurd cc
+faulty s c false true false r h = refl
+faulty s c false false fits r h = refl
 
 few : (n w : ℕ) → n < (if nat_lt n 6 then 6 else 7 + w) → n ≤ 7 + w
 few n w h = grind (arith, h)
@@ -39,8 +39,8 @@ differ n w h = go (nat_lt n 7) refl where
 pub unfinished_begins : (s : Bool) (b : List ℕ) → IsUnfinished b → begins s b ≡ false
 unfolding verdict
 unfinished_begins s b h =
-    ap (λ x. is_taken s (verdict x)) (take_all (7 + word_at b 4) b (few (length b) (word_at b 4) h))
-    ∙ faulty s _ _ _ _ (differ (length b) (word_at b 4) h)
+    ap (is_found s) (take_all (7 + word_at b 4) b (few (length b) (word_at b 4) h))
+    ∙ faulty s (ends_in_checksum b) _ _ _ _ (differ (length b) (word_at b 4) h)
 
 -- ---- with more behind
 
@@ -74,7 +74,7 @@ packet_stays s b more n is size near within =
     let fits : 7 + word_at (take lookahead b) 4 ≤ length (take lookahead b) =
     subst (λ k. k ≤ length (take lookahead b)) size near in
     let same : begins s (take lookahead (b ++ more)) ≡ true =
-    ap (begins s) m.1 ∙ ap (λ x. is_taken s (verdict x)) (frame-more (take lookahead b) m.0 fits)
+    ap (begins s) m.1 ∙ ap (is_found s) (frame-more (take lookahead b) m.0 fits)
     ∙ is in
     let word : word_at (take lookahead (b ++ more)) 4 ≡ word_at (take lookahead b) 4 =
     ap (λ x. word_at x 4) m.1 ∙ word_at-front (take lookahead b) m.0 (omega (arith, fits)) in
@@ -160,11 +160,14 @@ may_kept b more h =
     (flags_kept b more (and_right _ _ front)))
     (size_kept b more (and_right _ _ h))
 
-taken_busy : (r : Result Sight PacketFault) → is_taken false r ≡ true → (f : Fields)
+taken_busy : (c : Bool) (r : Result Sight PacketFault) → is_taken false c r ≡ true → (f : Fields)
     × (r ≡ Ok (APacket f))
-taken_busy (Ok (APacket f)) h = (f, refl)
-taken_busy (Ok IdlePacket) h = absurd cc
-taken_busy (Err e) h = absurd cc
+taken_busy c (Ok (APacket f)) h = (f, refl)
+taken_busy c (Ok IdlePacket) h = absurd cc
+taken_busy c (Err e) h = absurd (none (is_of_flags e) h) where
+  none : (t : Bool) → (t && false && c) ≡ true → ⊥
+  none true h = cc
+  none false h = cc
 
 some_left : (n w : ℕ) → n ≡ 7 + w → 8 ≤ n → w ≢ 0
 some_left n w h k e = omega (arith, h, k, e)
@@ -174,7 +177,7 @@ begins_may : (b : List ℕ) → begins false b ≡ true → may_begin b ≡ true
 begins_may b h =
     let x = frame b in
     let rest = drop (7 + word_at b 4) b in
-    let seen = taken_busy (verdict x) h in
+    let seen = taken_busy (ends_in_checksum x) (verdict x) h in
     let passed = tests_passed x seen.0 seen.1 in
     let long : 7 ≤ length x = not_lt (length x) 7 passed.long in
     let all : x ++ rest ≡ b = take-append-drop (7 + word_at b 4) b in
@@ -214,7 +217,7 @@ closed b more h = go (is_framed b) refl where
       absurd cc
 
   go : (t : Bool) → is_framed b ≡ t → begins false (b ++ more) ≡ begins false b
-  go true e = ap (λ x. is_taken false (verdict x)) (frame-more b more (framed_fits b e))
+  go true e = ap (is_found false) (frame-more b more (framed_fits b e))
   go false e = none (begins false (b ++ more)) e refl ∙ sym (unframed_begins false b e)
 
 -- ---- the piece in front
@@ -294,7 +297,7 @@ front_kept s b more h = go (is_framed b) refl where
   go true e =
       let fits = framed_fits b e in
       record {
-        kind = ap (λ x. kind_by (is_taken s (verdict x)) s (is_passed (b ++ more)))
+        kind = ap (λ x. kind_by (is_found s x) s (is_passed (b ++ more)))
             (frame-more b more fits)
             ∙ kind_same (begins s b) s (is_passed (b ++ more)) (is_passed b)
             (λ k l. passed_kept b more e
@@ -363,5 +366,5 @@ judged_stays s b more framed none few =
     let m = take_more lookahead b more in
     let near : take lookahead b ≡ b = take_all lookahead b (omega (arith, few)) in
     ap (begins s) (m.1 ∙ ap (λ x. x ++ m.0) near)
-    ∙ ap (λ x. is_taken s (verdict x)) (frame-more b m.0 (framed_fits b framed))
+    ∙ ap (is_found s) (frame-more b m.0 (framed_fits b framed))
     ∙ none

@@ -10,12 +10,13 @@ use Rattle.lpt_stream.specs.declared.found.Found.{Found}
 use Rattle.lpt_stream.specs.declared.piece_kind.PieceKind.{PieceKind}
 use Rattle.lpt_stream.specs.declared.piece_kind.PieceKind.TheVariants.{Whole, Damaged, Stray}
 use Rattle.lpt_stream.specs.Buffers.{held, is_in_step, found_piece, IsInFront}
-use Rattle.lpt_stream.specs.Pieces.{Piece, IsSealed, begins, is_taken, is_passed, kind_in, size_in, lookahead, piece_at}
+use Rattle.lpt_stream.specs.Pieces.{Piece, IsSealed, begins, ends_in_checksum, is_found, is_taken, is_passed, kind_in, size_in, lookahead, piece_at}
 
 -- what is taken has no fault
-untorn : (s : Bool) (r : Result Sight PacketFault) → is_taken s r ≡ true → r ≡ Err Checksum → ⊥
-untorn s (Ok x) h e = absurd cc
-untorn s (Err e) h k = absurd cc
+untorn : (s c : Bool) (r : Result Sight PacketFault) → is_taken s c r ≡ true → r ≡ Err Checksum → ⊥
+untorn s c (Ok x) h e = absurd cc
+untorn s c (Err e) h k =
+    absurd (let none : is_taken s c (Err Checksum) ≡ true = ap (is_taken s c) (sym k) ∙ h in cc)
 
 -- a packet begins where one is whole
 begun : (t s p : Bool)
@@ -46,10 +47,10 @@ front_sealed s b h whole =
     let same : take (size_in (kind_in s f) f) b ≡ take n b =
     ap (λ (k : PieceKind). take (size_in k f) b) whole in
     let short : length (take n b) ≤ lookahead = subst (λ x. length x ≤ lookahead) same h in
-    let taken : is_taken s (verdict (take n b)) ≡ true =
-    sym (ap (λ x. is_taken s (verdict x)) (near n b short))
+    let taken : is_found s (take n b) ≡ true =
+    sym (ap (is_found s) (near n b short))
     ∙ begun (begins s f) s (is_passed f) whole in
-    λ e. untorn s (verdict (take n b)) taken (sym (ap verdict same) ∙ e)
+    λ e. untorn s (ends_in_checksum (take n b)) (verdict (take n b)) taken (sym (ap verdict same) ∙ e)
 
 -- nor has the piece that was found
 pub found_sealed : (b : PacketBuffer) (f : Found)

@@ -1,7 +1,8 @@
 -- How a stream is cut into pieces, where not all of its octets are packets.
 use Rattle.std.specs.Prelude.{◌≡◌, ◌≢◌, ℕ, ◌+◌, ◌-◌, ◌^◌, ◌<◌, ◌==◌, ◌&&◌, ◌||◌, not, ◌/◌, ◌%◌, min, nat_lt, nat_le, Bool, true, false, if◌then◌else◌, List, [], ◌∷◌, length, take, drop, Result, Ok, Err}
 use Rattle.lpt_packet.specs.declared.fault.PacketFault.{PacketFault}
-use Rattle.lpt_packet.specs.declared.fault.PacketFault.TheVariants.{Checksum}
+use Rattle.lpt_packet.specs.declared.fault.PacketFault.TheVariants.{Short, Version, Length, Segmented, NoSecondary, Checksum}
+use Rattle.lpt_packet.specs.Checksums.{checksum}
 use Rattle.lpt_packet.specs.Numbers.{word_at}
 use Rattle.lpt_packet.specs.Packets.{Sight, IdlePacket, APacket, verdict}
 use Rattle.lpt_stream.specs.declared.piece_kind.PieceKind.{PieceKind}
@@ -25,16 +26,36 @@ frame b = take (7 + word_at b 4) b
 abbrev pub behind : List ℕ → List ℕ
 behind b = drop (7 + word_at b 4) b
 
--- whether octets that are read like this are taken as a packet; an idle one has no checksum that is
--- looked at, so it is taken in step alone
-abbrev pub is_taken : (in_step : Bool) → Result Sight PacketFault → Bool
-is_taken s (Ok (APacket f)) = true
-is_taken s (Ok IdlePacket) = s
-is_taken s (Err e) = false
+-- whether the last two octets, behind a header, are the checksum of those before
+abbrev pub ends_in_checksum : List ℕ → Bool
+ends_in_checksum b =
+    nat_le 8 (length b) && (checksum (take (length b - 2) b) == word_at b (length b - 2))
+
+-- whether it is a test of the header's flags alone: the packet is a segment, or it has no secondary
+-- header
+abbrev pub is_of_flags : PacketFault → Bool
+is_of_flags Short = false
+is_of_flags Version = false
+is_of_flags Length = false
+is_of_flags Segmented = true
+is_of_flags NoSecondary = true
+is_of_flags Checksum = false
+
+-- whether octets that are read like this, with a right checksum or not, are taken as a packet. In
+-- step so is an idle one, which has no checksum that is looked at, and one with a right checksum that
+-- fails a test of its flags alone
+abbrev pub is_taken : (in_step right : Bool) → Result Sight PacketFault → Bool
+is_taken s c (Ok (APacket f)) = true
+is_taken s c (Ok IdlePacket) = s
+is_taken s c (Err e) = is_of_flags e && s && c
+
+-- whether these octets are
+abbrev pub is_found : (in_step : Bool) → List ℕ → Bool
+is_found s b = is_taken s (ends_in_checksum b) (verdict b)
 
 -- whether a packet begins at the front
 abbrev pub begins : (in_step : Bool) → List ℕ → Bool
-begins s b = is_taken s (verdict (frame b))
+begins s b = is_found s (frame b)
 
 -- whether as many octets have come as the header at the front says
 abbrev pub is_framed : List ℕ → Bool
@@ -138,11 +159,11 @@ packet_before Whole b bs = b ∷ bs
 packet_before Damaged b bs = bs
 packet_before Stray b bs = bs
 
--- the packets, and idle packets, among pieces
+-- the packets among pieces, idle ones among them
 abbrev pub packets_of : List Piece → List (List ℕ)
 packets_of [] = []
 packets_of (p ∷ ps) = packet_before p.kind p.octets (packets_of ps)
 
--- these are the packets, and idle packets, that are found in the stream
+-- these are the packets that are found in the stream, idle ones among them
 abbrev pub Finds : List ℕ → List (List ℕ) → Type 0
 Finds stream packets = (ps : List Piece) × Cuts stream ps × (packets_of ps ≡ packets)

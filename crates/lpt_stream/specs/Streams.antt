@@ -1,10 +1,12 @@
 -- The packet at the front of a stream, by the length that its header says.
-use Rattle.std.specs.Prelude.{◌≡◌, ℕ, ◌+◌, ◌<◌, ◌≤◌, ◌⊎◌, ◌++◌, nat_lt, if◌then◌else◌, List, [], ◌∷◌, length, take, drop, Option, Some, None, Err}
+use Rattle.std.specs.Prelude.{◌≡◌, ◌≢◌, ℕ, ◌+◌, ◌-◌, ◌/◌, ◌%◌, ◌<◌, ◌≤◌, ◌⊎◌, ◌++◌, nat_lt, true, false, if◌then◌else◌, List, [], ◌∷◌, length, take, drop, Option, Some, None, Err}
 use Rattle.std.specs.List.{flat_map}
 use Rattle.lpt_packet.specs.Numbers.{word_at}
 use Rattle.lpt_packet.specs.declared.fault.PacketFault.{PacketFault}
 use Rattle.lpt_packet.specs.Packets.{Fields, IsPacket, IsIdle, verdict}
+use Rattle.lpt_packet.specs.Checksums.{checksum}
 use Rattle.lpt_packet.specs.Sizes.{primary_header, longest_packet}
+use Rattle.lpt_stream.specs.Pieces.{ends_in_checksum, is_of_flags}
 
 -- ---- the front
 
@@ -50,14 +52,35 @@ abbrev pub IsStream : List (List ℕ) → Type 0
 IsStream [] = Unit {0}
 IsStream (b ∷ bs) = IsPacketOrIdle b × IsStream bs
 
+-- the octets are a packet with a right checksum, whatever its flags say: one that has no secondary
+-- header, or is a segment, is sound as well
+pub record IsSound (b : List ℕ) : Type 0 where
+  pub long : 8 ≤ length b
+  pub short : length b ≤ longest_packet
+  pub version : word_at b 0 / 8192 ≡ 0
+  pub data_length : length b ≡ 7 + word_at b 4
+  pub busy : word_at b 0 % 2048 ≢ 2047
+  pub right : checksum (take (length b - 2) b) ≡ word_at b (length b - 2)
+
+-- what is found right behind such octets: a packet, an idle one, or a sound one
+abbrev pub IsInStep : List ℕ → Type 0
+IsInStep b = IsPacketOrIdle b ⊎ IsSound b
+
+-- each is
+abbrev pub AreInStep : List (List ℕ) → Type 0
+AreInStep [] = Unit {0}
+AreInStep (b ∷ bs) = IsInStep b × AreInStep bs
+
 -- ---- damage
 
--- as many octets as their header says, and no packet: a reader finds a fault
+-- as many octets as their header says, and no packet: a reader finds a fault, and where that is of
+-- the flags alone, the checksum is wrong
 pub record IsDamaged (b : List ℕ) : Type 0 where
   pub framed : IsFramed b
   pub short : length b ≤ longest_packet
   pub fault : PacketFault
   pub told : verdict b ≡ Err fault
+  pub wrong : is_of_flags fault ≡ true → ends_in_checksum b ≡ false
 
 -- nothing comes, or a packet stands in front
 abbrev pub IsEndOrPacket : List ℕ → Type 0

@@ -2,11 +2,11 @@
 
 ghost use Rattle.std.specs.Prelude.{◌≡◌, ◌+◌, ◌<◌, ◌≤◌, ◌==◌, ◌||◌, true, false, length, None, IfSome};
 ghost use Rattle.lpt_packet.specs.Numbers.{word_at};
-ghost use Rattle.lpt_stream.specs.Pieces.{begins, kind_in, size_in};
+ghost use Rattle.lpt_stream.specs.Pieces.{begins, ends_in_checksum, is_found, is_of_flags, kind_in, size_in};
 
 use crate::PieceKind;
 use crate::cutting::whole_length;
-use lpt_packet::{Seen, read_packet};
+use lpt_packet::{ERROR_CONTROL, PRIMARY_HEADER, PacketFault, Seen, crc16, read_packet};
 
 /// The piece at the front of octets.
 #[derive(Clone, Copy, Debug)]
@@ -18,7 +18,7 @@ pub struct Found {
 }
 
 // How many octets the packet at the front has, where one has come whole; an idle one counts in step
-// alone.
+// alone, and so does one without a secondary header, or a segment.
 pub(crate) fn packet_in_front(bytes: &[u8], in_step: bool) -> Option<usize>
     ensures some { IfSome result (λ n. (begins in_step bytes.now ≡ true)
         × (n ≡ 7 + word_at bytes.now 4)
@@ -27,11 +27,41 @@ pub(crate) fn packet_in_front(bytes: &[u8], in_step: bool) -> Option<usize>
     ensures none { result ≡ None → begins in_step bytes.now ≡ false }
 {
     let len = whole_length(bytes)?;
-    match read_packet(&bytes[..len]) {
-        Ok(Seen::Packet(_)) => Some(len),
-        Ok(Seen::Idle) => { if in_step { Some(len) } else { None } }
-        Err(_) => None,
+    if is_found(&bytes[..len], in_step) {
+        Some(len)
+    } else {
+        None
     }
+}
+
+// Whether these octets are taken as a packet.
+fn is_found(octets: &[u8], in_step: bool) -> bool
+    ensures { result ≡ is_found in_step octets.now }
+{
+    match read_packet(octets) {
+        Ok(Seen::Packet(_)) => true,
+        Ok(Seen::Idle) => in_step,
+        Err(fault) => is_of_flags(fault) && in_step && ends_in_checksum(octets),
+    }
+}
+
+// Whether it is a test of the header's flags alone.
+fn is_of_flags(fault: PacketFault) -> bool
+    ensures { result ≡ is_of_flags fault }
+{
+    matches!(fault, PacketFault::Segmented | PacketFault::NoSecondary)
+}
+
+/// Whether the last two octets, behind a primary header, are the checksum of those before.
+pub fn ends_in_checksum(octets: &[u8]) -> bool
+    ensures value { result ≡ ends_in_checksum octets.now }
+    ensures long { result ≡ true → 8 ≤ length octets.now }
+{
+    if octets.len() < PRIMARY_HEADER + ERROR_CONTROL {
+        return false;
+    }
+    let end = octets.len() - ERROR_CONTROL;
+    crc16(&octets[..end]) == u16::from_be_bytes([octets[end], octets[end + 1]])
 }
 
 // The same, where it isn't judged already that none is there.

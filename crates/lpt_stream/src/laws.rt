@@ -3,7 +3,7 @@
 ghost use Rattle.std.specs.Prelude.{◌≡◌, ◌++◌, ◌∷◌, ℕ, List, Some};
 ghost use Rattle.lpt_packet.specs.Packets.{Fields, IsPacket, IsIdle};
 ghost use Rattle.lpt_stream.specs.Pieces.{Piece, Cuts, Finds};
-ghost use Rattle.lpt_stream.specs.Streams.{IsDamaged, IsEndOrPacket, IsPacketOrIdle, IsStream, all_octets, front_of};
+ghost use Rattle.lpt_stream.specs.Streams.{IsDamaged, IsEndOrPacket, IsInStep, AreInStep, all_octets, front_of};
 
 /// A packet and an idle packet are cut out whole, whatever comes behind.
 pub fn packets_are_cut()
@@ -18,9 +18,10 @@ pub fn streams_are_cut_one_way()
         → Cuts stream pieces → Cuts stream others → pieces ≡ others }
 {}
 
-/// In packets and idle packets, one behind the other, just these are found.
+/// In packets, one behind the other, just these are found: idle ones among them, and those with a right
+/// checksum that have no secondary header or are segments.
 pub fn packets_are_found()
-    ensures { (packets : List (List ℕ)) → IsStream packets → Finds (all_octets packets) packets }
+    ensures { (packets : List (List ℕ)) → AreInStep packets → Finds (all_octets packets) packets }
 {}
 
 /// A packet that is damaged, but not in its length, costs itself and nothing else, where a packet
@@ -28,9 +29,9 @@ pub fn packets_are_found()
 /// where it is whole.
 pub fn damage_costs_one_packet()
     ensures whole { (before : List (List ℕ)) (packet rest : List ℕ) (packets : List (List ℕ))
-        → IsStream before → IsPacketOrIdle packet → Finds rest packets
+        → AreInStep before → IsInStep packet → Finds rest packets
         → Finds (all_octets before ++ (packet ++ rest)) (before ++ packet ∷ packets) }
     ensures damaged { (before : List (List ℕ)) (damaged rest : List ℕ) (packets : List (List ℕ))
-        → IsStream before → IsDamaged damaged → IsEndOrPacket rest → Finds rest packets
+        → AreInStep before → IsDamaged damaged → IsEndOrPacket rest → Finds rest packets
         → Finds (all_octets before ++ (damaged ++ rest)) (before ++ packets) }
 {}

@@ -21,7 +21,7 @@ mod waiting;
 
 pub use buffer::PacketBuffer;
 pub use cutting::{packet_length, whole_length};
-pub use found::Found;
+pub use found::{Found, ends_in_checksum};
 pub use front::piece_in_front;
 pub use lpt_text::{Sink, Source, StreamFault};
 pub use piece_kind::PieceKind;

@@ -1,5 +1,5 @@
-use Rattle.lpt_stream.proofs.FoundLemmas.{stream_found}
+use Rattle.lpt_stream.proofs.FoundLemmas.{all_found}
 use Rattle.lpt_stream.proofs.laws.packets_are_found.Goals as goal
 
 pub returns : goal.returns
-returns c = stream_found
+returns c = all_found
