@@ -1,5 +1,5 @@
 -- Which parts came, with one more.
-use Rattle.std.proofs.Common.{◌≡◌, ◌∙◌, ap, sym, refl, subst, inl, inr, ℕ, ◌==◌, Bool, true, false, not, ◌||◌, if◌then◌else◌, Option, Some, None}
+use Rattle.std.proofs.Common.{◌≡◌, ◌∙◌, ap, sym, refl, subst, inl, inr, ℕ, ◌==◌, Bool, true, false, not, ◌||◌, if◌then◌else◌, List, Option, Some, None}
 use Rattle.std.specs.Prelude.{is_some}
 use Rattle.std.specs.FinMap as map
 use Rattle.std.proofs.lemmas.Bool.{and_parts}
@@ -10,12 +10,13 @@ use Rattle.lpt_part.specs.declared.kind.Kind.TheVariants.{First, Middle, Last}
 use Rattle.lpt_part.specs.Parts.{same_kind}
 use Rattle.lpt_packet.specs.Numbers.{same_octets}
 use Rattle.lpt_reception.specs.Received.{Kept, Parts, no_parts, with_part, differs, is_last, is_overrun, is_whole, same_kept}
-use Rattle.lpt_join.specs.declared.part_numbers.PartNumbers.{PartNumbers}
+use Rattle.lpt_each.specs.declared.came.Came.{Came}
 use Rattle.lpt_join.specs.PartNumbersInside.{has, is_ended}
 use Rattle.lpt_join.specs.Joins.{Missing, Broken, kept_by, added}
 use Rattle.lpt_join.proofs.SetLemmas.{added_cases, get_more, get_none, get_other, get_same, not_none}
+use Rattle.lpt_each.specs.Eaches.{Course, are_own, most, spells, told_in_order}
 use Rattle.lpt_each.specs.Helds.{AreCame}
-use Rattle.lpt_each.specs.News.{News, Dropped, dropped, has_end}
+use Rattle.lpt_each.specs.News.{News, Dropped, Overtaken, dropped, has_end}
 
 no_true : true ≡ false → ⊥
 no_true h = cc
@@ -47,13 +48,15 @@ module _ (s : Parts) (n : ℕ) (x : Kept) (absent : map.get s n ≡ None) where
       not_none (λ e. is_last e.1) (with_part s n x) w.0 w.1 (has_end (with_part s n x)) refl
       (still w.0 w.1 (map.get-entries s w.0 ∙ w.2)) w.3
   end_by false false is was =
-      passes_none (λ e. is_last e.1) (map.entries (with_part s n x)) (map.entries_sorted (with_part s n x))
+      passes_none (λ e. is_last e.1) (map.entries (with_part s n x))
+      (map.entries_sorted (with_part s n x))
       (λ q y at. elim (added_cases s n x q y (map.get-entries (with_part s n x) q ∙ at)) [
         | inl w ↦ ap is_last w.1 ∙ is
-        | inr w ↦ none_passes (λ e. is_last e.1) (map.entries s) q y was (sym (map.get-entries s q) ∙ w.1)
+        | inr w ↦ none_passes (λ e. is_last e.1) (map.entries s) q y was (sym (map.get-entries s q)
+            ∙ w.1)
       ])
 
-  end_more : has_end (with_part s n x) ≡ (is_last x || has_end s)
+  pub end_more : has_end (with_part s n x) ≡ (is_last x || has_end s)
   end_more = end_by (is_last x) (has_end s) refl refl
 
 -- ---- a part that is there already
@@ -76,7 +79,8 @@ not_false true h = refl
 not_false false h = absurd (no_true h)
 
 module _ (s : Parts) (n : ℕ) (x : Kept) where
-  end_again : (y : Kept) → map.get s n ≡ Some y → differs (Some y) x ≡ false → has_end s ≡ (is_last x || has_end s)
+  end_again : (y : Kept) → map.get s n ≡ Some y → differs (Some y) x ≡ false → has_end s
+      ≡ (is_last x || has_end s)
   end_again y at same =
       let parts = and_parts (same_kind y.kind x.kind) (same_octets y.octets x.octets)
       (not_false (same_kept y x) same) in
@@ -99,23 +103,23 @@ same_missing : (a b : Parts) → Missing a ≡ Missing b → a ≡ b
 same_missing a b h = cc
 
 -- with a part that wasn't there
-pub came-put : (c d : PartNumbers) (s : Parts) (n : ℕ) (x : Kept)
+pub came-put : (c d : Came) (s : Parts) (n : ℕ) (x : Kept)
     → AreCame c s
     → map.get s n ≡ None
-    → ((q : ℕ) → has d q ≡ ((n == q) || has c q))
-    → is_ended d ≡ (is_last x || is_ended c)
+    → ((q : ℕ) → has d.numbers q ≡ ((n == q) || has c.numbers q))
+    → is_ended d.numbers ≡ (is_last x || is_ended c.numbers)
     → AreCame d (with_part s n x)
 came-put c d s n x h absent came ended = record {
   came = λ q. came q ∙ ap (λ b. (n == q) || b) (h.came q) ∙ sym (get_more s n x q);
   ended = ended ∙ ap (λ b. is_last x || b) h.ended ∙ sym (end_more s n x absent);
 }
 
-came-same : (c d : PartNumbers) (s : Parts) (n : ℕ) (x y : Kept)
+came-same : (c d : Came) (s : Parts) (n : ℕ) (x y : Kept)
     → AreCame c s
     → map.get s n ≡ Some y
     → differs (Some y) x ≡ false
-    → ((q : ℕ) → has d q ≡ ((n == q) || has c q))
-    → is_ended d ≡ (is_last x || is_ended c)
+    → ((q : ℕ) → has d.numbers q ≡ ((n == q) || has c.numbers q))
+    → is_ended d.numbers ≡ (is_last x || is_ended c.numbers)
     → AreCame d s
 came-same c d s n x y h at same came ended = record {
   came = λ q. came q ∙ ap (λ b. (n == q) || b) (h.came q) ∙ sym (came_again s n x y at q);
@@ -123,11 +127,11 @@ came-same c d s n x y h at same came ended = record {
 }
 
 -- with any part that leaves parts missing
-pub came-added : (c d : PartNumbers) (s r : Parts) (n : ℕ) (x : Kept)
+pub came-added : (c d : Came) (s r : Parts) (n : ℕ) (x : Kept)
     → AreCame c s
     → added s n x ≡ Missing r
-    → ((q : ℕ) → has d q ≡ ((n == q) || has c q))
-    → is_ended d ≡ (is_last x || is_ended c)
+    → ((q : ℕ) → has d.numbers q ≡ ((n == q) || has c.numbers q))
+    → is_ended d.numbers ≡ (is_last x || is_ended c.numbers)
     → AreCame d r
 came-added c d s r n x h is came ended =
     go (map.get s n) (is_overrun (with_part s n x)) (is_whole (with_part s n x)) refl is where
@@ -147,30 +151,51 @@ came-added c d s r n x h is came ended =
       go None true whole at e = absurd cc
       go None false true at e = absurd cc
       go None false false at e =
-          subst (AreCame d) (same_missing (with_part s n x) r e) (came-put c d s n x h at came ended)
+          subst (AreCame d) (same_missing (with_part s n x) r e)
+          (came-put c d s n x h at came ended)
 
 -- with a part alone
-pub came-alone : (c d : PartNumbers) (n : ℕ) (x : Kept)
+pub came-alone : (c d : Came) (n : ℕ) (x : Kept)
     → AreCame c no_parts
-    → ((q : ℕ) → has d q ≡ ((n == q) || has c q))
-    → is_ended d ≡ (is_last x || is_ended c)
+    → ((q : ℕ) → has d.numbers q ≡ ((n == q) || has c.numbers q))
+    → is_ended d.numbers ≡ (is_last x || is_ended c.numbers)
     → AreCame d (with_part no_parts n x)
 came-alone c d n x h came ended = came-put c d no_parts n x h (get_none n) came ended
 
 -- none
-pub came-none : (c : PartNumbers)
-    → ((q : ℕ) → has c q ≡ false)
-    → is_ended c ≡ false
+pub came-none : (c : Came)
+    → ((q : ℕ) → has c.numbers q ≡ false)
+    → is_ended c.numbers ≡ false
     → AreCame c no_parts
 came-none c none ended = record {
   came = λ q. none q ∙ sym (ap is_some (get_none q));
   ended = ended ∙ sym (
       passes_none (λ e. is_last e.1) (map.entries no_parts) (map.entries_sorted no_parts)
-      (λ q y at. let found = map.get-entries no_parts q ∙ at in let none = get_none q in absurd cc));
+      (λ q y at. let found = map.get-entries no_parts q
+      ∙ at in let none = get_none q in absurd cc));
 }
 
 -- what is told of them
-pub dropped-told : (c : PartNumbers) (s : Parts)
+pub dropped-told : (c : Came) (s : Parts)
     → AreCame c s
-    → ◌≡◌ {A = Option News} (Some (Dropped (has c) (is_ended c))) (Some (dropped s))
+    → ◌≡◌ {A = Option News} (Some (Dropped (has c.numbers) (is_ended c.numbers))) (Some (dropped s))
 dropped-told c s h = λ i. Some (Dropped (λ n. h.came n i) (h.ended i))
+
+-- ---- a message that overtakes parts
+
+-- the new parts came before the run did, and aren't the message's: they are told, and it is
+pub overtakes : (c : Course) (x : ℕ × Kept) (m : List ℕ) (came were : Came) (stale own : Bool)
+    → stale ≡ c.stale
+    → not stale ≡ false
+    → own ≡ spells (added (most c.held.all c.held.new) x.0 x.1) m
+    → own ≡ false
+    → came ≡ were
+    → AreCame were c.held.new
+    → ◌≡◌ {A = News} (Overtaken (has came.numbers) (is_ended came.numbers) m)
+    (told_in_order (are_own c x m) c.held.new m)
+overtakes c x m came were stale own is older same none be are =
+    (λ i. Overtaken (λ n. kept.came n i) (kept.ended i) m)
+    ∙ sym (ap (λ (b : Bool). told_in_order b c.held.new m)
+    ((λ i. not (sym is i) || sym same i) ∙ (λ i. older i || none i))) where
+      kept : AreCame came c.held.new
+      kept = subst (λ (d : Came). AreCame d c.held.new) (sym be) are

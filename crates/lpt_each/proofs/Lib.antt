@@ -1,7 +1,9 @@
 mod CameLemmas
 mod HeldsLemmas
+mod OrderLemmas
 pub mod ReadLemmas
 mod RestrictLemmas
+mod RunLemmas
 mod SendLemmas
 mod SieveLemmas
 mod SoundLemmas

@@ -1,4 +1,5 @@
--- Packets with which a message isn't whole yet, and those of them that carry no part of the last one.
+-- Packets with which a message isn't whole yet, and those of them that carry no part of the last
+-- one.
 use Rattle.std.proofs.Common.{◌≡◌, ◌∙◌, ap, sym, subst, refl, inl, inr, ℕ, ◌≤◌, Bool, true, false, if◌then◌else◌, ◌||◌, List, [], ◌∷◌, ◌++◌, length, Option, Some, None, append_assoc}
 use Rattle.std.specs.Prelude.{is_some}
 use Rattle.std.specs.Option.{option_map}
@@ -15,11 +16,12 @@ use Rattle.lpt_join.specs.Several.{carried}
 use Rattle.lpt_join.proofs.LawLemmas.{IsGathered, gathered_all, gathered_none}
 use Rattle.lpt_join.proofs.SeveralLemmas.{not_some}
 use Rattle.lpt_join.proofs.ThereLemmas.{complete_there}
-use Rattle.lpt_each.specs.Eaches.{Held, held_from, is_old, listed, news_from, step_of}
+use Rattle.lpt_each.specs.Eaches.{Course, Held, held_from, is_old, listed, news_from, step_of}
 use Rattle.lpt_each.specs.News.{News}
 
 abbrev pub Messages : Type 0
-Messages = (p : ℕ) (s : Parts) → IsPartSize p → AllFit p s → is_overrun s ≡ false → is_whole s ≡ true
+Messages = (p : ℕ) (s : Parts) → IsPartSize p → AllFit p s → is_overrun s ≡ false → is_whole s
+    ≡ true
     → IsMessage (spelled s) p
 
 abbrev pub Splits : Type 0
@@ -39,18 +41,21 @@ all_belong-append t m [] cs h k = k
 all_belong-append t m (b ∷ bs) cs h k = (h.0, all_belong-append t m bs cs h.1 k)
 
 -- a packet that is there came
-there-came : (t : Transaction) (n : ℕ) (x : Kept) (bs : List (List ℕ)) → IsThere t n x bs → came t n bs ≡ true
+there-came : (t : Transaction) (n : ℕ) (x : Kept) (bs : List (List ℕ)) → IsThere t n x bs
+    → came t n bs ≡ true
 there-came t n x [] h = absurd h
 there-came t n x (b ∷ bs) (inl e) =
     ap (λ (o : Option (ℕ × Kept)). is_part n o || came t n bs) e
     ∙ ap (λ e. e || came t n bs) (eq_true n n refl)
 there-came t n x (b ∷ bs) (inr h) =
-    ap (λ e. is_part n (offered t b) || e) (there-came t n x bs h) ∙ or_right (is_part n (offered t b)) where
+    ap (λ e. is_part n (offered t b) || e) (there-came t n x bs h)
+    ∙ or_right (is_part n (offered t b)) where
       or_right : (a : Bool) → (a || true) ≡ true
       or_right true = refl
       or_right false = refl
 
-pub came-append : (t : Transaction) (n : ℕ) (bs cs : List (List ℕ)) → came t n (bs ++ cs) ≡ (came t n bs || came t n cs)
+pub came-append : (t : Transaction) (n : ℕ) (bs cs : List (List ℕ)) → came t n (bs ++ cs)
+    ≡ (came t n bs || came t n cs)
 came-append t n [] cs = refl
 came-append t n (b ∷ bs) cs =
     ap (λ e. is_part n (offered t b) || e) (came-append t n bs cs)
@@ -59,13 +64,15 @@ came-append t n (b ∷ bs) cs =
       or_assoc true b c = refl
       or_assoc false b c = refl
 
-pub held_from-append : (t : Transaction) (any : Bool) (h : Held) (bs cs : List (List ℕ))
+pub held_from-append : (t : Transaction) (any : Bool) (h : Course) (bs cs : List (List ℕ))
     → held_from t any h (bs ++ cs) ≡ held_from t any (held_from t any h bs) cs
 held_from-append t any h [] cs = refl
-held_from-append t any h (b ∷ bs) cs = held_from-append t any (step_of t any h (offered t b)).0 bs cs
+held_from-append t any h (b ∷ bs) cs =
+    held_from-append t any (step_of t any h (offered t b)).0 bs cs
 
-pub news_from-append : (t : Transaction) (any : Bool) (h : Held) (bs cs : List (List ℕ))
-    → news_from t any h (bs ++ cs) ≡ news_from t any h bs ++ news_from t any (held_from t any h bs) cs
+pub news_from-append : (t : Transaction) (any : Bool) (h : Course) (bs cs : List (List ℕ))
+    → news_from t any h (bs ++ cs)
+    ≡ news_from t any h bs ++ news_from t any (held_from t any h bs) cs
 news_from-append t any h [] cs = refl
 news_from-append t any h (b ∷ bs) cs =
     ap (λ (ws : List News). listed (step_of t any h (offered t b)).1 ++ ws)
@@ -75,7 +82,7 @@ news_from-append t any h (b ∷ bs) cs =
     (news_from t any (held_from t any (step_of t any h (offered t b)).0 bs) cs))
 
 -- packets that carry no part of the name
-pub none-from : (t : Transaction) (any : Bool) (h : Held) (bs : List (List ℕ))
+pub none-from : (t : Transaction) (any : Bool) (h : Course) (bs : List (List ℕ))
     → carried t bs ≡ false
     → (held_from t any h bs ≡ h) × (news_from t any h bs ≡ [])
 none-from t any h [] none = (refl, refl)
@@ -83,7 +90,8 @@ none-from t any h (b ∷ bs) none =
     let first = not_some (offered t b) ((or_parts (is_some (offered t b)) (carried t bs) none).0) in
     let rest = none-from t any h bs ((or_parts (is_some (offered t b)) (carried t bs) none).1) in (
       ap (λ (o : Option (ℕ × Kept)). held_from t any (step_of t any h o).0 bs) first ∙ rest.0,
-      ap (λ (o : Option (ℕ × Kept)). listed (step_of t any h o).1 ++ news_from t any (step_of t any h o).0 bs) first
+      ap (λ (o : Option (ℕ × Kept)). listed (step_of t any h o).1 ++ news_from t any
+          (step_of t any h o).0 bs) first
           ∙ rest.1,
     )
 
@@ -105,7 +113,9 @@ module _ (messages : Messages) (splits : Splits) (t : Transaction) (m : List ℕ
       let there = complete_there t bs x messages splits e in
       let its = subst (λ (m : List ℕ). (n : ℕ) → 1 ≤ n → n ≤ part_count (length m) t.part_size
       → IsThere t n (kept_of m t.part_size n) bs) h there.1 in
-      absurd (no_true (sym (there-came t number (kept_of m t.part_size number) bs (its number some within)) ∙ first))
+      absurd (no_true
+      (sym (there-came t number (kept_of m t.part_size number) bs (its number some within))
+      ∙ first))
   missing_by bs Broken e h first = absurd h
 
   pub still_missing : (bs : List (List ℕ))
@@ -132,7 +142,8 @@ is_again t last (Some x) = is_old last t.part_size x
 -- the packets without those
 abbrev pub sieved : Transaction → Option (List ℕ) → List (List ℕ) → List (List ℕ)
 sieved t last [] = []
-sieved t last (b ∷ bs) = if is_again t last (offered t b) then sieved t last bs else b ∷ sieved t last bs
+sieved t last (b ∷ bs) = if is_again t last (offered t b) then sieved t last bs else b ∷
+    sieved t last bs
 
 -- what is kept behind packets none of which makes a message whole
 abbrev pub kept : Transaction → Option (List ℕ) → List (List ℕ) → Held
@@ -142,15 +153,18 @@ kept t last bs = record {
   new = set_of (joined t (sieved t last bs));
 }
 
-pub sieved-more : (t : Transaction) (last : Option (List ℕ)) (bs : List (List ℕ)) (b : List ℕ) (again : Bool)
+pub sieved-more : (t : Transaction) (last : Option (List ℕ)) (bs : List (List ℕ)) (b : List ℕ)
+    (again : Bool)
     → is_again t last (offered t b) ≡ again
-    → sieved t last (bs ++ b ∷ []) ≡ (if again then sieved t last bs else sieved t last bs ++ b ∷ [])
+    → sieved t last (bs ++ b ∷ [])
+    ≡ (if again then sieved t last bs else sieved t last bs ++ b ∷ [])
 sieved-more t last [] b true e = ap (λ (a : Bool). if a then [] else b ∷ []) e
 sieved-more t last [] b false e = ap (λ (a : Bool). if a then [] else b ∷ []) e
 sieved-more t last (c ∷ bs) b again e =
     front (is_again t last (offered t c)) again (sieved-more t last bs b again e) where
       front : (a again : Bool)
-          → sieved t last (bs ++ b ∷ []) ≡ (if again then sieved t last bs else sieved t last bs ++ b ∷ [])
+          → sieved t last (bs ++ b ∷ [])
+          ≡ (if again then sieved t last bs else sieved t last bs ++ b ∷ [])
           → (if a then sieved t last (bs ++ b ∷ []) else c ∷ sieved t last (bs ++ b ∷ []))
           ≡ (if again then (if a then sieved t last bs else c ∷ sieved t last bs)
           else (if a then sieved t last bs else c ∷ sieved t last bs) ++ b ∷ [])
@@ -183,7 +197,8 @@ sieved-first t n last (b ∷ bs) h =
           → came t n (if a then sieved t last bs else b ∷ sieved t last bs) ≡ false
       front true k = k
       front false k =
-          ap (λ e. e || came t n (sieved t last bs)) ((or_parts (is_part n (offered t b)) (came t n bs) h).0) ∙ k
+          ap (λ e. e || came t n (sieved t last bs))
+          ((or_parts (is_part n (offered t b)) (came t n bs) h).0) ∙ k
 
 pub sieved-none : (t : Transaction) (bs : List (List ℕ)) → sieved t None bs ≡ bs
 sieved-none t [] = refl

@@ -8,15 +8,15 @@ use Rattle.std.specs.Ordering.{is_eq}
 use Rattle.std.proofs.lemmas.List.Concat.{flat_map-append}
 use Rattle.lpt_packet.specs.Names.{Name, name_cmp, same_name}
 use Rattle.lpt_packet.proofs.NameLemmas.{name_tied}
-use Rattle.lpt_join.specs.declared.part_numbers.PartNumbers.{PartNumbers}
 use Rattle.lpt_join.specs.PartNumbersInside.{has, is_ended}
 use Rattle.lpt_join.specs.declared.transaction.Transaction.{Transaction}
 use Rattle.lpt_join.specs.Several.{of_name}
 use Rattle.lpt_join.specs.Offers.{piece_in}
-use Rattle.lpt_each.specs.declared.held.Held as code
+use Rattle.lpt_each.specs.declared.came.Came.{Came}
+use Rattle.lpt_each.specs.declared.course.Course as code
 use Rattle.lpt_each.specs.declared.helds.Helds as codes
-use Rattle.lpt_each.specs.Eaches.{Held, held, is_empty, left, nothing}
-use Rattle.lpt_each.specs.Helds.{AreCame, Holds, HoldsEach, IsHeld}
+use Rattle.lpt_each.specs.Eaches.{Course, held, is_empty, left, nothing}
+use Rattle.lpt_each.specs.Helds.{AreCame, Follows, HoldsEach, IsHeld}
 use Rattle.lpt_each.specs.News.{Dropped, Event, Hears, dropped}
 use Rattle.lpt_each.specs.Streams.{Leaves, events_from, left_of, of, told_by}
 use Rattle.lpt_each.proofs.TurnLemmas.{empty-none}
@@ -40,27 +40,29 @@ hears-more (Some us) (Some vs) (Some ws) xs ys h k =
 -- ---- a packet more
 
 pub events-next : (t : Transaction) (any : Bool) (before bs cs : List (List ℕ))
-    → events_from t any before (bs ++ cs) ≡ events_from t any before bs ++ events_from t any (before ++ bs) cs
+    → events_from t any before (bs ++ cs)
+    ≡ events_from t any before bs ++ events_from t any (before ++ bs) cs
 events-next t any before [] cs = ap (λ xs. events_from t any xs cs) (sym (append-nil before))
 events-next t any before (b ∷ bs) cs =
     ap (λ es. told_by t any before b (piece_in t b) ++ es)
     (events-next t any (before ++ b ∷ []) bs cs
     ∙ ap (λ xs. events_from t any (before ++ b ∷ []) bs ++ events_from t any xs cs)
     (append_assoc before (b ∷ []) bs))
-    ∙ sym (append_assoc (told_by t any before b (piece_in t b)) (events_from t any (before ++ b ∷ []) bs)
+    ∙ sym (append_assoc (told_by t any before b (piece_in t b))
+    (events_from t any (before ++ b ∷ []) bs)
     (events_from t any (before ++ b ∷ bs) cs))
 
 -- ---- the end
 
 -- nothing is left where nothing came
 left-nothing : left nothing ≡ []
-left-nothing = ap (λ (b : Bool). cond b [] (dropped nothing.new ∷ [])) empty-none
+left-nothing = ap (λ (b : Bool). cond b [] (dropped nothing.held.new ∷ [])) empty-none
 
 no_some : {A : Type 0} (x : A) → ◌≡◌ {A = Option A} None (Some x) → ⊥
 no_some x h = cc
 
 -- a name at which something is kept is among the keys
-key-there : (n : Name) (es : List (Name × code.Held)) (g : code.Held)
+key-there : (n : Name) (es : List (Name × code.Course)) (g : code.Course)
     → lookup (is_at (name_cmp n)) es ≡ Some g
     → list_any (same_name n) (keys_of es) ≡ true
 key-there n [] g h = absurd (no_some g h)
@@ -76,12 +78,13 @@ key-there n (e ∷ es) g h = there (is_eq (name_cmp n e.0)) refl h (key-there n 
       ap (λ b. b || list_any (same_name n) (keys_of es)) (sym (name_tied n e.0) ∙ is) ∙ rest k
 
 -- these names were told of, and those that are kept still weren't
-pub record IsLeft (t : Transaction) (any : Bool) (bs : List (List ℕ)) (first now : BTreeMap Name code.Held)
+pub record IsLeft (t : Transaction) (any : Bool) (bs : List (List ℕ))
+    (first now : BTreeMap Name code.Course)
     (heard hears : Option (List Event)) : Type 0 where
   pub names : List Name
   pub keys_are : keys first ≡ names ++ keys now
-  pub holds : (n : Name) (g : code.Held) → get name_cmp now n ≡ Some g
-      → Holds (of_name t n) g (held (of_name t n) any bs)
+  pub holds : (n : Name) (g : code.Course) → get name_cmp now n ≡ Some g
+      → Follows (of_name t n) g (held (of_name t n) any bs)
   pub told : Hears heard hears (flat_map (left_of t any bs) names)
 
 pub left-first : (t : Transaction) (any : Bool) (bs : List (List ℕ)) (g : codes.Helds)
@@ -92,18 +95,21 @@ left-first t any bs g heard h = record {
   names = [];
   keys_are = refl;
   holds = λ n k is.
-      subst (λ (o : Option code.Held). IsHeld (of_name t n) o (held (of_name t n) any bs)) is (h.each n);
+      subst (λ (o : Option code.Course). IsHeld (of_name t n) o (held (of_name t n) any bs)) is
+      (h.each n);
   told = hears-nothing heard;
 }
 
 one_more : (t : Transaction) (any : Bool) (bs : List (List ℕ)) (names : List Name) (n : Name)
-    → flat_map (left_of t any bs) (names ++ n ∷ []) ≡ flat_map (left_of t any bs) names ++ left_of t any bs n
+    → flat_map (left_of t any bs) (names ++ n ∷ [])
+    ≡ flat_map (left_of t any bs) names ++ left_of t any bs n
 one_more t any bs names n =
     flat_map-append (left_of t any bs) names (n ∷ [])
     ∙ ap (λ es. flat_map (left_of t any bs) names ++ es) (append-nil (left_of t any bs n))
 
-pub left-next : (t : Transaction) (any : Bool) (bs : List (List ℕ)) (first old new : BTreeMap Name code.Held)
-    (n : Name) (g : code.Held) (heard hear hears : Option (List Event))
+pub left-next : (t : Transaction) (any : Bool) (bs : List (List ℕ))
+    (first old new : BTreeMap Name code.Course)
+    (n : Name) (g : code.Course) (heard hear hears : Option (List Event))
     → IsLeft t any bs first old heard hear
     → old.entries ≡ (n, g) ∷ new.entries
     → ((q : Name) → get name_cmp new q ≡ cond (is_at (name_cmp n) q) None (get name_cmp old q))
@@ -112,19 +118,20 @@ pub left-next : (t : Transaction) (any : Bool) (bs : List (List ℕ)) (first old
 left-next t any bs first old new n g heard hear hears h pops gets told = record {
   names = h.names ++ n ∷ [];
   keys_are =
-      h.keys_are ∙ ap (λ (es : List (Name × code.Held)). h.names ++ keys_of es) pops
+      h.keys_are ∙ ap (λ (es : List (Name × code.Course)). h.names ++ keys_of es) pops
       ∙ sym (append_assoc h.names (n ∷ []) (keys new));
   holds = λ q k is. h.holds q k (still q k (is_at (name_cmp n) q) (sym (gets q) ∙ is));
   told = subst (Hears heard hears) (sym (one_more t any bs h.names n))
       (hears-more heard hear hears _ _ h.told told);
 } where
-  still : (q : Name) (k : code.Held) (b : Bool)
+  still : (q : Name) (k : code.Course) (b : Bool)
       → cond b None (get name_cmp old q) ≡ Some k
       → get name_cmp old q ≡ Some k
   still q k true e = absurd (no_some k e)
   still q k false e = e
 
-pub left-all : (t : Transaction) (any : Bool) (bs : List (List ℕ)) (g : codes.Helds) (now : BTreeMap Name code.Held)
+pub left-all : (t : Transaction) (any : Bool) (bs : List (List ℕ)) (g : codes.Helds)
+    (now : BTreeMap Name code.Course)
     (heard hears : Option (List Event))
     → HoldsEach t any bs g
     → IsLeft t any bs g.kept now heard hears
@@ -132,7 +139,8 @@ pub left-all : (t : Transaction) (any : Bool) (bs : List (List ℕ)) (g : codes.
     → (es : List Event) × Leaves t any bs es × Hears heard hears es
 left-all t any bs g now heard hears each h none =
     let all : keys g.kept ≡ h.names =
-    h.keys_are ∙ ap (λ (es : List (Name × code.Held)). h.names ++ keys_of es) none ∙ append-nil h.names in (
+    h.keys_are ∙ ap (λ (es : List (Name × code.Course)). h.names ++ keys_of es) none
+    ∙ append-nil h.names in (
       flat_map (left_of t any bs) h.names,
       record {
         names = h.names;
@@ -145,20 +153,22 @@ left-all t any bs g now heard hears each h none =
     ) where
       among : (n : Name)
           → left_of t any bs n ≢ []
-          → (o : Option code.Held)
+          → (o : Option code.Course)
           → get name_cmp g.kept n ≡ o
           → list_any (same_name n) (keys g.kept) ≡ true
       among n some None is =
-          let nothing_came = subst (λ (o : Option code.Held). IsHeld (of_name t n) o (held (of_name t n) any bs)) is
+          let nothing_came =
+          subst (λ (o : Option code.Course). IsHeld (of_name t n) o (held (of_name t n) any bs))
+          is
           (each.each n) in
-          absurd (some (ap (λ (k : Held). of n (left k)) nothing_came ∙ ap (of n) left-nothing))
+          absurd (some (ap (λ (k : Course). of n (left k)) nothing_came ∙ ap (of n) left-nothing))
       among n some (Some k) is = key-there n g.kept.entries k is
 
 -- what is left of a name is told
-pub left-told : (n : Name) (c : PartNumbers) (h : Held)
-    → AreCame c h.new
-    → is_empty h.new ≡ false
-    → ◌≡◌ {A = List Event} ((n, Dropped (has c) (is_ended c)) ∷ []) (of n (left h))
+pub left-told : (n : Name) (c : Came) (h : Course)
+    → AreCame c h.held.new
+    → is_empty h.held.new ≡ false
+    → ◌≡◌ {A = List Event} ((n, Dropped (has c.numbers) (is_ended c.numbers)) ∷ []) (of n (left h))
 left-told n c h came some =
     (λ i. (n, Dropped (λ k. came.came k i) (came.ended i)) ∷ [])
-    ∙ sym (ap (λ (b : Bool). of n (cond b [] (dropped h.new ∷ []))) some)
+    ∙ sym (ap (λ (b : Bool). of n (cond b [] (dropped h.held.new ∷ []))) some)

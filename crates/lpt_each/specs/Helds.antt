@@ -3,8 +3,7 @@ use Rattle.std.specs.Prelude.{◌≡◌, ℕ, Bool, true, false, List, [], ◌�
 use Rattle.std.specs.BTreeMap.{get, IsOrdered}
 use Rattle.std.specs.FinMap as map
 use Rattle.lpt_packet.specs.Names.{Name, name_cmp}
-use Rattle.lpt_reception.specs.Received.{Kept, Parts, no_parts, with_part}
-use Rattle.lpt_join.specs.declared.part_numbers.PartNumbers.{PartNumbers}
+use Rattle.lpt_reception.specs.Received.{Kept, Parts}
 use Rattle.lpt_join.specs.declared.joining.Joining.{Joining}
 use Rattle.lpt_join.specs.declared.joining.Joining.TheVariants as joining
 use Rattle.lpt_join.specs.declared.transaction.Transaction.{Transaction}
@@ -12,22 +11,28 @@ use Rattle.lpt_join.specs.PartNumbersInside.{has, is_ended}
 use Rattle.lpt_join.specs.Gatherings.{state, IsJoiningOf}
 use Rattle.lpt_join.specs.Joins.{Missing}
 use Rattle.lpt_join.specs.Several.{of_name}
+use Rattle.lpt_each.specs.declared.came.Came.{Came}
+use Rattle.lpt_each.specs.declared.course.Course as code_course
 use Rattle.lpt_each.specs.declared.held.Held as code
 use Rattle.lpt_each.specs.declared.helds.Helds as codes
 use Rattle.lpt_each.specs.declared.news.News as code_news
 use Rattle.lpt_each.specs.declared.news.News.TheVariants as said
+use Rattle.lpt_each.specs.declared.run.Run as code_run
+use Rattle.lpt_each.specs.declared.run.RunTurn as code_turns
+use Rattle.lpt_each.specs.declared.run.RunTurn.TheVariants as ran
 use Rattle.lpt_each.specs.declared.turn.Turn as code_turn
 use Rattle.lpt_each.specs.declared.turn.Turn.TheVariants as turned
-use Rattle.lpt_each.specs.Eaches.{Held, Turn, Waits, GivesUp, Gives, held, is_empty, nothing}
-use Rattle.lpt_each.specs.News.{Event, News, Given, Dropped, Unfit, dropped, has_end}
+use Rattle.lpt_each.specs.Eaches.{Course, Held, Run, RunTurn, Goes, Ends, Turn, Waits, GivesUp, Gives, alone, held, is_empty, nothing, seed}
+use Rattle.lpt_each.specs.News.{Event, News, Given, Dropped, Unfit, Overtaken, dropped, has_end}
 
 -- ---- news
 
 -- what is told
 abbrev pub news_of : code_news.News → News
 news_of (said.Given m) = Given m
-news_of (said.Dropped c) = Dropped (has c) (is_ended c)
+news_of (said.Dropped c) = Dropped (has c.numbers) (is_ended c.numbers)
 news_of (said.Unfit e) = Unfit e
+news_of (said.Overtaken c m) = Overtaken (has c.numbers) (is_ended c.numbers) m
 
 -- news of a name, where there are
 abbrev pub events_of : Option (Name × code_news.News) → List Event
@@ -49,17 +54,22 @@ pub record Keeps (t : Transaction) (j : Joining) (s : Parts) : Type 0 where
   pub parts : state j ≡ Missing s
   pub none : has_nothing j ≡ is_empty s
 
+-- the place of the first of parts, with one at a place more
+abbrev pub first_of : Option ℕ → (place : ℕ) → ℕ
+first_of None place = place
+first_of (Some first) place = first
+
 -- these came
-pub record AreCame (c : PartNumbers) (s : Parts) : Type 0 where
-  pub came : (n : ℕ) → has c n ≡ is_some (map.get s n)
-  pub ended : is_ended c ≡ has_end s
+pub record AreCame (c : Came) (s : Parts) : Type 0 where
+  pub came : (n : ℕ) → has c.numbers n ≡ is_some (map.get s n)
+  pub ended : is_ended c.numbers ≡ has_end s
 
 -- it is this turn
-abbrev pub IsTurn : Transaction → Parts → ℕ × Kept → code_turn.Turn → Turn → Type 0
-IsTurn t s x (turned.Waits j) now = (r : Parts) × Keeps t j r × (now ≡ Waits r)
-IsTurn t s x turned.Broken now = now ≡ GivesUp (dropped s) (with_part no_parts x.0 x.1)
-IsTurn t s x (turned.Unfit e) now = now ≡ GivesUp (Unfit e) no_parts
-IsTurn t s x (turned.Gives m) now = now ≡ Gives m
+abbrev pub IsTurn : Transaction → (again : Bool) → Parts → ℕ × Kept → code_turn.Turn → Turn → Type 0
+IsTurn t again s x (turned.Waits j) now = (r : Parts) × Keeps t j r × (now ≡ Waits r)
+IsTurn t again s x turned.Broken now = now ≡ GivesUp (dropped s) (alone x)
+IsTurn t again s x (turned.Unfit e) now = now ≡ GivesUp (Unfit e) (seed again x)
+IsTurn t again s x (turned.Gives m) now = now ≡ Gives m
 
 -- all parts are kept, where they are
 abbrev pub KeepsAll : Transaction → Option Joining → Option Parts → Type 0
@@ -69,13 +79,13 @@ KeepsAll t (Some j) None = ⊥
 KeepsAll t (Some j) (Some s) = Keeps t j s
 
 -- it is this turn of all parts, where they are kept
-abbrev pub IsTurnOfAll :
-    Transaction → Option Parts → ℕ × Kept → Option code_turn.Turn → Option Turn → Type 0
-IsTurnOfAll t all x None None = Unit {0}
-IsTurnOfAll t all x None (Some now) = ⊥
-IsTurnOfAll t all x (Some turn) None = ⊥
-IsTurnOfAll t None x (Some turn) (Some now) = ⊥
-IsTurnOfAll t (Some s) x (Some turn) (Some now) = IsTurn t s x turn now
+abbrev pub IsTurnOfAll : Transaction → (again : Bool) → Option Parts → ℕ × Kept
+    → Option code_turn.Turn → Option Turn → Type 0
+IsTurnOfAll t again all x None None = Unit {0}
+IsTurnOfAll t again all x None (Some now) = ⊥
+IsTurnOfAll t again all x (Some turn) None = ⊥
+IsTurnOfAll t again None x (Some turn) (Some now) = ⊥
+IsTurnOfAll t again (Some s) x (Some turn) (Some now) = IsTurn t again s x turn now
 
 -- ---- names
 
@@ -86,10 +96,28 @@ pub record Holds (t : Transaction) (g : code.Held) (h : Held) : Type 0 where
   pub new : Keeps t g.new h.new
   pub came : AreCame g.came h.new
 
+-- these parts came in their order
+pub record IsRun (t : Transaction) (g : code_run.Run) (r : Run) : Type 0 where
+  pub count : g.count ≡ r.count
+  pub of : IsJoiningOf t g.joining
+  pub parts : state g.joining ≡ Missing r.parts
+
+-- a part made this of them
+abbrev pub IsRunTurn : Transaction → code_turns.RunTurn → RunTurn → Type 0
+IsRunTurn t (ran.Goes g) now = (r : Run) × IsRun t g r × (now ≡ Goes r)
+IsRunTurn t (ran.Ends m) now = now ≡ Ends m
+
+-- this is kept, by its order too
+pub record Follows (t : Transaction) (g : code_course.Course) (c : Course) : Type 0 where
+  pub held : Holds t g.held c.held
+  pub run : IsRun t g.run c.run
+  pub stale : g.stale ≡ c.stale
+  pub gave : g.gave ≡ c.gave
+
 -- this is kept of the name, or nothing where nothing came
-abbrev pub IsHeld : Transaction → Option code.Held → Held → Type 0
-IsHeld t None h = h ≡ nothing
-IsHeld t (Some g) h = Holds t g h
+abbrev pub IsHeld : Transaction → Option code_course.Course → Course → Type 0
+IsHeld t None c = c ≡ nothing
+IsHeld t (Some g) c = Follows t g c
 
 -- of each name this is kept behind the packets
 pub record HoldsEach (t : Transaction) (any : Bool) (bs : List (List ℕ))

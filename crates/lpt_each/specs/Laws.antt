@@ -1,5 +1,5 @@
 -- Packets of messages one behind the other, and what is given out of any.
-use Rattle.std.specs.Prelude.{◌≡◌, ℕ, ◌≤◌, Bool, false, if◌then◌else◌, List, [], ◌∷◌, ◌++◌, filter, length, None, is_some}
+use Rattle.std.specs.Prelude.{◌≡◌, ◌≢◌, ◌⊎◌, ℕ, ◌+◌, ◌≤◌, Bool, false, if◌then◌else◌, List, [], ◌∷◌, ◌++◌, filter, length, None, is_some}
 use Rattle.std.specs.List.{flat_map}
 use Rattle.lpt_packet.specs.Names.{Name, same_name}
 use Rattle.lpt_events.specs.declared.config.Config.{Config}
@@ -7,14 +7,21 @@ use Rattle.lpt_split.specs.Splits.{AreNumbers, split_of}
 use Rattle.lpt_part.specs.Splitting.{part_count}
 use Rattle.lpt_reception.specs.PartsOf.{IsMessage, kept_of}
 use Rattle.lpt_join.specs.declared.transaction.Transaction.{Transaction}
-use Rattle.lpt_join.specs.Laws.{AllBelong, AllCame, Carries, HasNumber, IsSending, IsThere, came}
+use Rattle.lpt_join.specs.Laws.{AllBelong, AllCame, Carries, HasNumber, IsSending, IsThere, came, is_end}
 use Rattle.lpt_join.specs.Offers.{offered}
 use Rattle.lpt_join.specs.Several.{carried}
 use Rattle.lpt_each.specs.Eaches.{unfit}
 use Rattle.lpt_each.specs.News.{Event, News}
 
+-- none of these packets before the message's first part carries a last one
+abbrev pub FirstBeforeLast : Transaction → List ℕ → List (List ℕ) → Type 0
+FirstBeforeLast t m [] = Unit {0}
+FirstBeforeLast t m (b ∷ bs) =
+    Carries t m 1 b ⊎ ((is_end (offered t b) ≡ false) × FirstBeforeLast t m bs)
+
 -- each of these packets carries a part of the message, or no part of its name; each part of it is
--- there, and it is whole with the last packet alone: it may be given out
+-- there, the last one not before the first, and it is whole with the last packet alone: it may be
+-- given out
 pub record IsSentBy (t : Transaction) (any : Bool) (m : List ℕ) (bs : List (List ℕ)) : Type 0 where
   pub message : IsMessage m t.part_size
   pub fit : unfit t any m ≡ None
@@ -25,6 +32,7 @@ pub record IsSentBy (t : Transaction) (any : Bool) (m : List ℕ) (bs : List (Li
   pub belong : AllBelong t m front
   pub ends : Carries t m number last
   pub first : came t number front ≡ false
+  pub order : FirstBeforeLast t m front
   pub all : AllCame t m bs
 
 -- the packets are those of these messages, one behind the other, and behind them others that carry
@@ -56,7 +64,13 @@ pub record Split : Type 0 where
 abbrev pub packets_of : Transaction → Config → Split → List (List ℕ)
 packets_of t c s = split_of c t.direction t.name s.message s.count s.numbers
 
--- each part of the message is sent, and not all before the last number; it may be given out
+-- number 1 comes before this one, or this one isn't there
+abbrev pub OneBefore : ℕ → List ℕ → Type 0
+OneBefore k [] = Unit {0}
+OneBefore k (n ∷ ns) = (n ≡ 1) ⊎ ((n ≢ k) × OneBefore k ns)
+
+-- each part of the message is sent, the last one not before the first, and not all before the last
+-- number; it may be given out
 pub record IsSplitWhole (t : Transaction) (any : Bool) (c : Config) (s : Split) : Type 0 where
   pub sending : IsSending t c s.message
   pub fit : unfit t any s.message ≡ None
@@ -65,6 +79,7 @@ pub record IsSplitWhole (t : Transaction) (any : Bool) (c : Config) (s : Split) 
   pub number : ℕ
   pub are : s.numbers ≡ front ++ number ∷ []
   pub first : HasNumber number front → ⊥
+  pub order : OneBefore (part_count (length s.message) t.part_size) front
   pub numbers : AreNumbers (part_count (length s.message) t.part_size) s.numbers
   pub each : (n : ℕ) → 1 ≤ n → n ≤ part_count (length s.message) t.part_size → HasNumber n s.numbers
 
@@ -76,3 +91,28 @@ AllSplitWhole t any c (s ∷ ss) = IsSplitWhole t any c s × AllSplitWhole t any
 -- the packets that carry a part of the name
 abbrev pub carriers : Transaction → List (List ℕ) → List (List ℕ)
 carriers t bs = filter (λ b. is_some (offered t b)) bs
+
+-- each of these packets carries no part of the name, or behind part `from` of the message the next
+-- one, or one of these again but the first; the last of them that comes anew is part `to`
+abbrev pub Runs : Transaction → List ℕ → (from to : ℕ) → List (List ℕ) → Type 0
+Runs t m from to [] = from ≡ to
+Runs t m from to (b ∷ bs) =
+    ((offered t b ≡ None) × Runs t m from to bs)
+    ⊎ (((n : ℕ) × Carries t m n b × (2 ≤ n) × (n ≤ from) × Runs t m from to bs)
+    ⊎ (Carries t m (from + 1) b × Runs t m (from + 1) to bs))
+
+-- the parts of the message stand in these packets in their order: from its first, which is the
+-- first packet, to its last, which is the last packet, no other part of its name stands between
+-- them; it may be given out
+pub record InOrder (t : Transaction) (any : Bool) (m : List ℕ) (front : List (List ℕ))
+    (last : List ℕ) : Type 0 where
+  pub message : IsMessage m t.part_size
+  pub fit : unfit t any m ≡ None
+  pub first : List ℕ
+  pub middle : List (List ℕ)
+  pub are : front ≡ first ∷ middle
+  pub begins : Carries t m 1 first
+  pub number : ℕ
+  pub runs : Runs t m 1 number middle
+  pub ends : Carries t m (number + 1) last
+  pub whole : number + 1 ≡ part_count (length m) t.part_size

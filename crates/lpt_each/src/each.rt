@@ -89,7 +89,7 @@ impl<T: Taker> PieceTaker<T> for Teller {
         self,
         alloc: Global,
         lent: &mut T,
-        _place: u64,
+        place: u64,
         kind: PieceKind,
         octets: &[u8],
     ) -> Result<Teller, StreamFault> {
@@ -108,7 +108,7 @@ impl<T: Taker> PieceTaker<T> for Teller {
                 skips,
             });
         };
-        match take_part(alloc, &transaction, any, name, &part, helds, lent) {
+        match take_part(alloc, &transaction, any, name, place, &part, helds, lent) {
             Ok(helds) => Ok(Teller {
                 transaction,
                 any,
@@ -120,12 +120,13 @@ impl<T: Taker> PieceTaker<T> for Teller {
     }
 }
 
-// Takes a part of this name that a packet carries.
+// Takes a part of this name that a packet at this place carries.
 fn take_part<T: Taker>(
     alloc: Global,
     transaction: &Transaction,
     any: bool,
     name: Name,
+    place: u64,
     part: &Part<'_>,
     helds: Helds,
     taker: &mut T,
@@ -142,7 +143,7 @@ fn take_part<T: Taker>(
         (told_by transaction.now any bs octets (piece_in transaction.now octets))) }
     ensures fault { IfErr result (λ e. (e ≡ StreamFault.Write) ⊎ (e ≡ StreamFault.Memory)) }
 {
-    let (helds, event) = match helds.take(alloc, transaction, any, name, part) {
+    let (helds, event) = match helds.take(alloc, transaction, any, name, place, part) {
         Ok(taken) => taken,
         Err(_) => return Err(StreamFault::Memory),
     };

@@ -1,23 +1,23 @@
 //! What is kept of one name.
 
-ghost use Rattle.std.specs.Prelude.{◌≡◌, ℕ, ◌==◌, Bool, ◌||◌, Option, IfOk};
+ghost use Rattle.std.specs.Prelude.{◌≡◌, ℕ, Bool, Option, IfOk};
 ghost use Rattle.std.specs.Option.{option_map};
 ghost use Rattle.lpt_part.specs.Parts.{piece};
-ghost use Rattle.lpt_reception.specs.Received.{Kept, Parts, is_last, no_parts, with_part};
+ghost use Rattle.lpt_reception.specs.Received.{Kept, Parts, no_parts};
 ghost use Rattle.lpt_join.specs.declared.transaction.Transaction.{Transaction};
-ghost use Rattle.lpt_join.specs.PartNumbersInside.{has, is_ended};
+ghost use Rattle.lpt_join.specs.Joins.{added};
 ghost use Rattle.lpt_join.specs.Offers.{part_of_piece};
 ghost use Rattle.lpt_each.specs.Eaches as each;
 ghost use Rattle.lpt_each.specs.Helds.{AreCame, Holds, IsTurnOfAll, Keeps, KeepsAll, has_nothing, news_of};
 
-use crate::News;
 use crate::turn::{Turn, alone, turn_with};
-use lpt_join::{Joining, PartNumbers, Transaction, is_part_of};
+use crate::{Came, News};
+use lpt_join::{Joining, Transaction, is_part_of};
 use lpt_packet::Octets;
 use lpt_part::Part;
 use std::alloc::{AllocError, Global};
 
-/// What is kept of one name. It takes no more memory than four of the longest messages.
+/// The last message of a name, and what came behind it in any order.
 #[derive(Drop)]
 pub(crate) struct Held {
     // The last whole message.
@@ -27,7 +27,7 @@ pub(crate) struct Held {
     // Those of them that aren't parts of it.
     pub(crate) new: Joining,
     // Which these are.
-    pub(crate) came: PartNumbers,
+    pub(crate) came: Came,
 }
 
 impl Held {
@@ -43,7 +43,7 @@ impl Held {
             last,
             all,
             new: Joining::Nothing,
-            came: PartNumbers::new(alloc),
+            came: Came::none(alloc),
         }
     }
 
@@ -57,19 +57,33 @@ impl Held {
         }
     }
 
+    // Whether this is the last message.
+    pub(crate) fn is_last(&self, message: &Octets) -> bool
+        ensures { result ≡ each.is_same self.now.last message.now }
+    {
+        let Some(last) = &self.last else {
+            return false;
+        };
+        *last == *message
+    }
+
     // Which parts are left.
-    pub(crate) fn into_came(self) -> PartNumbers
+    pub(crate) fn into_came(self) -> Came
         ensures { result ≡ self.came }
     {
         self.came
     }
 
-    // Takes a part of the name, and gives what is told of it. The only error is out of memory.
+    // Takes a part of the name, at this place, and gives what is told of it. Where a whole isn't
+    // given out, reading begins anew with the part that made it whole, or with nothing. The only
+    // error is out of memory.
     pub(crate) fn take(
         self,
         alloc: Global,
         transaction: &Transaction,
         any: bool,
+        again: bool,
+        place: u64,
         part: &Part<'_>,
     ) -> Result<(Held, Option<News>), AllocError>
         requires held { (h : each.Held) × Holds transaction.now self h }
@@ -77,10 +91,10 @@ impl Held {
         requires size { part.now.p ≡ transaction.now.part_size }
         ensures held { (h : each.Held) → Holds transaction.now self h → IfOk result (λ r.
             Holds transaction.now r.0
-            (each.step transaction.now any h (part_of_piece (piece part.now))).0) }
+            (each.gather transaction.now any again h (part_of_piece (piece part.now))).0) }
         ensures told { (h : each.Held) → Holds transaction.now self h → IfOk result (λ r.
             option_map news_of r.1
-            ≡ (each.step transaction.now any h (part_of_piece (piece part.now))).1) }
+            ≡ (each.gather transaction.now any again h (part_of_piece (piece part.now))).1) }
     {
         let Held {
             last,
@@ -89,22 +103,66 @@ impl Held {
             came,
         } = self;
         let old = is_old(&last, part);
-        let all = turn_of_all(alloc, transaction, any, all, part)?;
+        let all = turn_of_all(alloc, transaction, any, again, all, part)?;
         if old {
             return after_all(alloc, last, new, came, all);
         }
         match turn_with(alloc, transaction, any, new, part)? {
             Turn::Waits(new) => {
-                let came = with(came, part)?;
+                let came = came.with(place, part)?;
                 after_all(alloc, last, new, came, all)
             }
             Turn::Broken => {
-                let held = begin(alloc, transaction, last, part)?;
+                let held = begin(alloc, transaction, last, place, part)?;
                 Ok((held, Some(News::Dropped(came))))
             }
-            Turn::Unfit(misfit) => Ok((Held::behind(alloc, last), Some(News::Unfit(misfit)))),
+            Turn::Unfit(misfit) => {
+                let held = begin_after(alloc, transaction, again, last, place, part)?;
+                Ok((held, Some(News::Unfit(misfit))))
+            }
             Turn::Gives(message) => give(alloc, message),
         }
+    }
+
+    // Whether all parts behind the last message, with this one, are joined to this message, and
+    // which of them aren't parts of the last. The only error is out of memory.
+    pub(crate) fn is_joined_to(
+        self,
+        alloc: Global,
+        transaction: &Transaction,
+        part: &Part<'_>,
+        message: &Octets,
+    ) -> Result<(bool, Came), AllocError>
+        requires held { (h : each.Held) × Holds transaction.now self h }
+        requires id { part.now.id ≡ transaction.now.name.id }
+        requires size { part.now.p ≡ transaction.now.part_size }
+        ensures spells { (h : each.Held) → Holds transaction.now self h → IfOk result (λ r.
+            r.0 ≡ each.spells (added (each.most h.all h.new) part.now.number
+            (part_of_piece (piece part.now)).1) message.now) }
+        ensures came { IfOk result (λ r. r.1 ≡ self.came) }
+    {
+        let Held {
+            last: _,
+            all,
+            new,
+            came,
+        } = self;
+        let joining = most(all, new);
+        match joining.add(alloc, transaction, part)? {
+            Joining::Complete(whole) => Ok((whole == *message, came)),
+            _ => Ok((false, came)),
+        }
+    }
+}
+
+// All parts behind the last message, where these are kept, and else the new ones.
+fn most(all: Option<Joining>, new: Joining) -> Joining
+    ensures { (t : Transaction) (a : Option Parts) (s : Parts) → KeepsAll t all a → Keeps t new s
+        → Keeps t result (each.most a s) }
+{
+    match all {
+        None => new,
+        Some(joining) => joining,
     }
 }
 
@@ -123,6 +181,7 @@ fn turn_of_all(
     alloc: Global,
     transaction: &Transaction,
     any: bool,
+    again: bool,
     all: Option<Joining>,
     part: &Part<'_>,
 ) -> Result<Option<Turn>, AllocError>
@@ -130,8 +189,9 @@ fn turn_of_all(
     requires id { part.now.id ≡ transaction.now.name.id }
     requires size { part.now.p ≡ transaction.now.part_size }
     ensures { (s : Option Parts) → KeepsAll transaction.now all s → IfOk result (λ o.
-        IsTurnOfAll transaction.now s (part_of_piece (piece part.now)) o
-        (option_map (λ s. each.turn transaction.now any s (part_of_piece (piece part.now))) s)) }
+        IsTurnOfAll transaction.now again s (part_of_piece (piece part.now)) o
+        (option_map
+        (λ s. each.turn transaction.now any again s (part_of_piece (piece part.now))) s)) }
 {
     match all {
         None => Ok(None),
@@ -139,41 +199,52 @@ fn turn_of_all(
     }
 }
 
-// The parts that came, with this one. The only error is out of memory.
-fn with(came: PartNumbers, part: &Part<'_>) -> Result<PartNumbers, AllocError>
-    ensures came { IfOk result (λ c. (n : ℕ) → has c n ≡ ((part.now.number == n) || has came n)) }
-    ensures ended { IfOk result (λ c. is_ended c
-        ≡ (is_last (part_of_piece (piece part.now)).1 || is_ended came)) }
-{
-    let mut came = came;
-    came.add(part.number, part.kind)?;
-    Ok(came)
-}
-
-// This part alone came behind a message. The only error is out of memory.
+// This part alone came behind a message, at this place. The only error is out of memory.
 fn begin(
     alloc: Global,
     transaction: &Transaction,
     last: Option<Octets>,
+    place: u64,
     part: &Part<'_>,
 ) -> Result<Held, AllocError>
     requires id { part.now.id ≡ transaction.now.name.id }
     requires size { part.now.p ≡ transaction.now.part_size }
     ensures { IfOk result (λ g. Holds transaction.now g (each.begun last
-        (with_part no_parts part.now.number (part_of_piece (piece part.now)).1))) }
+        (each.alone (part_of_piece (piece part.now))))) }
 {
     let all = match &last {
         None => None,
         Some(_) => Some(alone(alloc, transaction, part)?),
     };
     let new = alone(alloc, transaction, part)?;
-    let came = with(PartNumbers::new(alloc), part)?;
+    let came = Came::none(alloc).with(place, part)?;
     Ok(Held {
         last,
         all,
         new,
         came,
     })
+}
+
+// With the part that made a whole that isn't given out, or with nothing. The only error is out of
+// memory.
+fn begin_after(
+    alloc: Global,
+    transaction: &Transaction,
+    again: bool,
+    last: Option<Octets>,
+    place: u64,
+    part: &Part<'_>,
+) -> Result<Held, AllocError>
+    requires id { part.now.id ≡ transaction.now.name.id }
+    requires size { part.now.p ≡ transaction.now.part_size }
+    ensures { IfOk result (λ g. Holds transaction.now g (each.begun last
+        (each.seed again (part_of_piece (piece part.now))))) }
+{
+    if again {
+        return begin(alloc, transaction, last, place, part);
+    }
+    Ok(Held::behind(alloc, last))
 }
 
 // Gives a message out. The only error is out of memory.
@@ -191,17 +262,17 @@ fn after_all(
     alloc: Global,
     last: Option<Octets>,
     new: Joining,
-    came: PartNumbers,
+    came: Came,
     all: Option<Turn>,
 ) -> Result<(Held, Option<News>), AllocError>
-    ensures held { (t : Transaction) (any : Bool) (h : each.Held) (x : ℕ × Kept) (s : Parts)
+    ensures held { (t : Transaction) (any again : Bool) (h : each.Held) (x : ℕ × Kept) (s : Parts)
         → last ≡ h.last → Keeps t new s → AreCame came s
-        → IsTurnOfAll t h.all x all (each.all_turn t any h x)
-        → IfOk result (λ r. Holds t r.0 (each.after_all h s (each.all_turn t any h x)).0) }
-    ensures told { (t : Transaction) (any : Bool) (h : each.Held) (x : ℕ × Kept) (s : Parts)
-        → IsTurnOfAll t h.all x all (each.all_turn t any h x)
+        → IsTurnOfAll t again h.all x all (each.all_turn t any again h x)
+        → IfOk result (λ r. Holds t r.0 (each.after_all h s (each.all_turn t any again h x)).0) }
+    ensures told { (t : Transaction) (any again : Bool) (h : each.Held) (x : ℕ × Kept) (s : Parts)
+        → IsTurnOfAll t again h.all x all (each.all_turn t any again h x)
         → IfOk result (λ r. option_map news_of r.1
-        ≡ (each.after_all h s (each.all_turn t any h x)).1) }
+        ≡ (each.after_all h s (each.all_turn t any again h x)).1) }
 {
     let all = match all {
         None => None,

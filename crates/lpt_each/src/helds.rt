@@ -9,11 +9,11 @@ ghost use Rattle.lpt_join.specs.declared.transaction.Transaction.{Transaction};
 ghost use Rattle.lpt_join.specs.Offers.{piece_in};
 ghost use Rattle.lpt_join.specs.Several.{of_name};
 ghost use Rattle.lpt_each.specs.Eaches.{held};
-ghost use Rattle.lpt_each.specs.Helds.{events_of, Holds, HoldsEach};
+ghost use Rattle.lpt_each.specs.Helds.{events_of, Follows, HoldsEach};
 ghost use Rattle.lpt_each.specs.Streams.{told_by};
 
 use crate::News;
-use crate::held::Held;
+use crate::course::Course;
 use lpt_join::Transaction;
 use lpt_packet::Name;
 use lpt_part::Part;
@@ -23,7 +23,7 @@ use std::collections::BTreeMap;
 /// What is kept of each name while the packets of a stream come.
 #[derive(Drop)]
 pub struct Helds {
-    pub(crate) kept: BTreeMap<Name, Held>,
+    pub(crate) kept: BTreeMap<Name, Course>,
 }
 
 impl Helds {
@@ -36,7 +36,8 @@ impl Helds {
         }
     }
 
-    /// Takes a part of this name that a packet carries, and gives what it tells. A message is given
+    /// Takes a part of this name that a packet carries, at this place of the stream, and gives what
+    /// it tells. A message is given
     /// where it is a packet of its direction, or with `any` whatever it is. The only error is out
     /// of memory.
     pub fn take(
@@ -45,6 +46,7 @@ impl Helds {
         transaction: &Transaction,
         any: bool,
         name: Name,
+        place: u64,
         part: &Part<'_>,
     ) -> Result<(Helds, Option<(Name, News)>), AllocError>
         requires each { (bs : List (List ℕ)) × HoldsEach transaction.now any bs self }
@@ -63,7 +65,7 @@ impl Helds {
         let own = transaction.of_name(name);
         let mut helds = self;
         let held = helds.take_out(alloc, name);
-        let (held, news) = held.take(alloc, &own, any, part)?;
+        let (held, news) = held.take(alloc, &own, any, place, part)?;
         helds.put(name, held)?;
         match news {
             None => Ok((helds, None)),
@@ -72,21 +74,21 @@ impl Helds {
     }
 
     // What is kept of a name, taken out.
-    fn take_out(&mut self, alloc: Global, name: Name) -> Held
+    fn take_out(&mut self, alloc: Global, name: Name) -> Course
         ensures given { (t : Transaction) (any : Bool) (bs : List (List ℕ))
             → HoldsEach t any bs self.old
-            → Holds (of_name t name) result (held (of_name t name) any bs) }
+            → Follows (of_name t name) result (held (of_name t name) any bs) }
         ensures others { (n : Name) → same_name name n ≡ false
             → get name_cmp self.new.kept n ≡ get name_cmp self.old.kept n }
     {
         match self.kept.remove(&name) {
             Some(held) => held,
-            None => Held::behind(alloc, None),
+            None => Course::behind(alloc, None),
         }
     }
 
     // Keeps this of a name. The only error is out of memory.
-    fn put(&mut self, name: Name, held: Held) -> Result<(), AllocError>
+    fn put(&mut self, name: Name, held: Course) -> Result<(), AllocError>
         ensures kept { OnOk result (get name_cmp self.new.kept name ≡ Some held) }
         ensures others { OnOk result ((n : Name) → same_name name n ≡ false
             → get name_cmp self.new.kept n ≡ get name_cmp self.old.kept n) }

@@ -3,11 +3,11 @@
 ghost use Rattle.std.specs.Prelude.{◌≡◌, ◌⊎◌, ℕ, Bool, List, IfErr, OnOk};
 ghost use Rattle.lpt_join.specs.declared.transaction.Transaction.{Transaction};
 ghost use Rattle.lpt_each.specs.Eaches as each;
-ghost use Rattle.lpt_each.specs.Helds.{Holds, HoldsEach};
+ghost use Rattle.lpt_each.specs.Helds.{Follows, HoldsEach};
 ghost use Rattle.lpt_each.specs.News.{Event, Hears};
 ghost use Rattle.lpt_each.specs.Streams.{Leaves, of};
 
-use crate::held::Held;
+use crate::course::Course;
 use crate::helds::Helds;
 use crate::{News, Taker};
 use lpt_packet::Name;
@@ -33,9 +33,9 @@ pub fn leave<T: Taker>(helds: Helds, taker: &mut T) -> Result<(), StreamFault>
 }
 
 // Tells what is left of a name.
-fn tell_left<T: Taker>(name: Name, held: Held, taker: &mut T) -> Result<(), StreamFault>
-    ensures told { (t : Transaction) (h : each.Held) → Holds t held h → OnOk result
-        (Hears (T.heard taker.old) (T.heard taker.new) (of name (each.left h))) }
+fn tell_left<T: Taker>(name: Name, held: Course, taker: &mut T) -> Result<(), StreamFault>
+    ensures told { (t : Transaction) (c : each.Course) → Follows t held c → OnOk result
+        (Hears (T.heard taker.old) (T.heard taker.new) (of name (each.left c))) }
     ensures fault { IfErr result (λ e. (e ≡ StreamFault.Write) ⊎ (e ≡ StreamFault.Memory)) }
 {
     if held.is_empty() {

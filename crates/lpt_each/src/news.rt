@@ -1,6 +1,7 @@
 //! What is told of the parts of a name, and to whom.
 
-use lpt_join::{Misfit, PartNumbers};
+use crate::Came;
+use lpt_join::Misfit;
 use lpt_packet::{Name, Octets};
 use lpt_text::StreamFault;
 
@@ -10,9 +11,12 @@ pub enum News {
     /// A message is whole.
     Given(Octets),
     /// Parts were given up that weren't whole: these came.
-    Dropped(PartNumbers),
+    Dropped(Came),
     /// What parts were joined to is no packet of the direction.
     Unfit(Misfit),
+    /// Parts were given up that weren't whole: these came; and with the same part a message is
+    /// whole.
+    Overtaken(Came, Octets),
 }
 
 /// Who is told what becomes of the parts of each name.

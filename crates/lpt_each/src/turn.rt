@@ -1,6 +1,6 @@
 //! What a further part makes of those that came before it.
 
-ghost use Rattle.std.specs.Prelude.{◌≡◌, ℕ, IfOk};
+ghost use Rattle.std.specs.Prelude.{◌≡◌, ℕ, Bool, IfOk};
 ghost use Rattle.lpt_part.specs.Parts.{piece};
 ghost use Rattle.lpt_reception.specs.Received.{no_parts, with_part, Parts};
 ghost use Rattle.lpt_join.specs.Messages.{Finding};
@@ -39,8 +39,8 @@ pub(crate) fn turn_with(
     requires id { part.now.id ≡ transaction.now.name.id }
     requires size { part.now.p ≡ transaction.now.part_size }
     ensures { (s : Parts) → Keeps transaction.now joining s → IfOk result (λ t.
-        IsTurn transaction.now s (part_of_piece (piece part.now)) t
-        (turn transaction.now any s (part_of_piece (piece part.now)))) }
+        (again : Bool) → IsTurn transaction.now again s (part_of_piece (piece part.now)) t
+        (turn transaction.now any again s (part_of_piece (piece part.now)))) }
 {
     match joining.add(alloc, transaction, part)? {
         Joining::Complete(message) => match check(transaction, any, &message) {
@@ -53,7 +53,7 @@ pub(crate) fn turn_with(
 }
 
 // Whether a whole is given out.
-fn check(transaction: &Transaction, any: bool, message: &Octets) -> Result<(), Misfit>
+pub(crate) fn check(transaction: &Transaction, any: bool, message: &Octets) -> Result<(), Misfit>
     ensures { Finding (unfit transaction.now any message.now) result }
 {
     if any {

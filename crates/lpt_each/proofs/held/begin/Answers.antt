@@ -18,15 +18,18 @@ returns c =
     record {
       last = refl;
       all = elim c.match-last.branch [
-        | in-None w ↦ behind-none t c.args.last c.match-last.all (with_part no_parts x.0 x.1) w.in-None.is w.all-is
+        | in-None w ↦ behind-none t c.args.last c.match-last.all
+            (with_part no_parts x.0 x.1) w.in-None.is w.all-is
         | in-Some+in_ok-alone-in-Some w ↦
-            subst (λ (o : Option Joining). KeepsAll t o (option_map (λ _. with_part no_parts x.0 x.1) c.args.last))
+            subst (λ (o : Option Joining).
+            KeepsAll t o (option_map (λ _. with_part no_parts x.0 x.1) c.args.last))
             (sym w.all-is)
-            (behind-some t c.args.last w.in-Some.field-0 w.in_ok-alone-in-Some.field-0 (with_part no_parts x.0 x.1)
+            (behind-some t c.args.last w.in-Some.field-0 w.in_ok-alone-in-Some.field-0
+            (with_part no_parts x.0 x.1)
             w.in-Some.is w.in_ok-alone-in-Some.ensures)
       ];
       new = c.in_ok-new.ensures;
-      came = came-alone c.new.result c.in_ok-came.came x.0 x.1
-          (came-none c.new.result c.new.ensures.none c.new.ensures.ended)
+      came = came-alone c.none.result c.in_ok-came.came x.0 x.1
+          (came-none c.none.result c.none.ensures.none c.none.ensures.ended)
           c.in_ok-came.ensures.came c.in_ok-came.ensures.ended;
     }

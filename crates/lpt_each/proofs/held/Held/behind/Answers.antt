@@ -17,9 +17,11 @@ returns c = λ t. record {
   all = elim c.match-last.branch [
     | in-None w ↦ behind-none t c.args.last c.match-last.all no_parts w.in-None.is w.all-is
     | in-Some w ↦
-        subst (λ (o : Option Joining). KeepsAll t o (option_map (λ _. no_parts) c.args.last)) (sym w.all-is)
-        (behind-some t c.args.last w.in-Some.field-0 joining.Nothing no_parts w.in-Some.is (keeps-nothing t))
+        subst (λ (o : Option Joining). KeepsAll t o (option_map (λ _. no_parts) c.args.last))
+        (sym w.all-is)
+        (behind-some t c.args.last w.in-Some.field-0 joining.Nothing no_parts w.in-Some.is
+        (keeps-nothing t))
   ];
   new = keeps-nothing t;
-  came = came-none c.new.result c.new.ensures.none c.new.ensures.ended;
+  came = came-none c.none.result c.none.ensures.none c.none.ensures.ended;
 }
