@@ -1,62 +1,88 @@
 -- What is kept of each name, a packet further.
 use Rattle.std.proofs.Common.{◌≡◌, ◌∙◌, ap, sym, subst, refl, ℕ, Bool, true, false, if◌then◌else◌, List, [], ◌∷◌, ◌++◌, Option, Some, None, Ok, Err}
 use Rattle.std.specs.Option.{option_map}
-use Rattle.std.specs.BTreeMap.{get, IsOrdered}
+use Rattle.std.specs.BTreeMap.{BTreeMap, get, IsOrdered}
 use Rattle.lpt_part.specs.Parts.{Piece}
 use Rattle.lpt_layout_join.specs.declared.names.NameAs.{NameAs}
 use Rattle.lpt_layout_join.specs.declared.reading.ReadingAs.{ReadingAs}
 use Rattle.lpt_layout_join.specs.declared.skip.SkipAs.{SkipAs}
-use Rattle.lpt_layout_join.specs.Carried.{Named, carried, name_of, same_name}
-use Rattle.lpt_layout_each.specs.declared.held.HeldAs.{HeldAs}
+use Rattle.lpt_layout_join.specs.Carried.{Named, carried, name_of, part_of, same_name}
+use Rattle.lpt_layout_each.specs.declared.course.CourseAs.{CourseAs}
 use Rattle.lpt_layout_each.specs.declared.helds.HeldsAs.{HeldsAs}
 use Rattle.lpt_layout_each.specs.declared.news.NewsAs.{NewsAs}
-use Rattle.lpt_layout_each.specs.Eaches.{Held, held, held_from, listed, nothing, part_of, step, step_of}
-use Rattle.lpt_layout_each.specs.Helds.{Holds, HoldsEach, IsHeld}
+use Rattle.lpt_layout_join.specs.Counts.{Counted, all_counted, counted, nothing_counted}
+use Rattle.lpt_layout_join.specs.CountsInside.{shown}
+use Rattle.lpt_layout_each.specs.Eaches.{Course, counts_of, held, held_from, listed, missing_at, nothing, step, step_of}
+use Rattle.lpt_layout_each.specs.Helds.{Follows, HoldsEach, IsHeld}
 use Rattle.lpt_layout_each.specs.Names.{name_cmp}
 use Rattle.lpt_layout_each.specs.News.{News}
 use Rattle.lpt_layout_each.specs.Streams.{of, told, told_by}
 use Rattle.lpt_layout_each.specs.Told.{news_of}
-use Rattle.lpt_layout_each.proofs.NameLemmas.{same_name-refl, same_name-true}
+use Rattle.lpt_layout_join.proofs.NameLemmas.{same_name-refl, same_name-true}
+
+-- ---- the counts
+
+pub counted-next : (r : ReadingAs) (k : Counted) (bs : List (List ℕ)) (b : List ℕ)
+    → all_counted r k (bs ++ b ∷ []) ≡ counted r (all_counted r k bs) b
+counted-next r k [] b = refl
+counted-next r k (x ∷ bs) b = counted-next r (counted r k x) bs b
 
 -- ---- of one name
 
 module _ (r : ReadingAs) (any : Bool) (n : NameAs) where
-  pub held_from-next : (h : Held) (bs : List (List ℕ)) (b : List ℕ)
-      → held_from r any n h (bs ++ b ∷ [])
-      ≡ (step_of r any (held_from r any n h bs) (part_of n (carried r b))).0
-  held_from-next h [] b = refl
-  held_from-next h (x ∷ bs) b =
-      held_from-next (step_of r any h (part_of n (carried r x))).0 bs b
+  pub held_from-next : (k : Counted) (h : Course) (bs : List (List ℕ)) (b : List ℕ)
+      → held_from r any n k h (bs ++ b ∷ [])
+      ≡ (step_of r any (missing_at r (all_counted r k bs) b) (held_from r any n k h bs)
+      (part_of n (carried r b))).0
+  held_from-next k h [] b = refl
+  held_from-next k h (x ∷ bs) b =
+      held_from-next (counted r k x)
+      (step_of r any (missing_at r k x) h (part_of n (carried r x))).0 bs b
+
+  -- what a packet makes of it that carries this
+  abbrev makes : List (List ℕ) → List ℕ → Option Piece → Course
+  makes bs b o = (step_of r any (missing_at r (counts_of r bs) b) (held r any n bs) o).0
 
   -- a packet that carries no part of it
   held-other : (bs : List (List ℕ)) (b : List ℕ)
       → part_of n (carried r b) ≡ None
       → held r any n (bs ++ b ∷ []) ≡ held r any n bs
-  held-other bs b none =
-      held_from-next nothing bs b
-      ∙ ap (λ (o : Option Piece). (step_of r any (held r any n bs) o).0) none
+  held-other bs b none = held_from-next nothing_counted nothing bs b ∙ ap (makes bs b) none
 
   -- one that does
   held-part : (bs : List (List ℕ)) (b : List ℕ) (q : Piece)
       → part_of n (carried r b) ≡ Some q
-      → held r any n (bs ++ b ∷ []) ≡ (step r any (held r any n bs) q).0
-  held-part bs b q some =
-      held_from-next nothing bs b
-      ∙ ap (λ (o : Option Piece). (step_of r any (held r any n bs) o).0) some
+      → held r any n (bs ++ b ∷ [])
+      ≡ (step r any (missing_at r (counts_of r bs) b) (held r any n bs) q).0
+  held-part bs b q some = held_from-next nothing_counted nothing bs b ∙ ap (makes bs b) some
 
 -- ---- of each
 
 module _ (r : ReadingAs) (any : Bool) (bs : List (List ℕ)) (b : List ℕ) where
+  counts-next : (old new : HeldsAs)
+      → shown new.counts ≡ counted r (shown old.counts) b
+      → HoldsEach r any bs old
+      → shown new.counts ≡ counts_of r (bs ++ b ∷ [])
+  counts-next old new counts h =
+      counts ∙ ap (λ (k : Counted). counted r k b) h.counts
+      ∙ sym (counted-next r nothing_counted bs b)
+
   -- no part of any name
-  pub each-none : (e : SkipAs) (g : HeldsAs)
+  pub each-none : (e : SkipAs) (old new : HeldsAs)
       → carried r b ≡ Err e
-      → HoldsEach r any bs g
-      → HoldsEach r any (bs ++ b ∷ []) g
-  each-none e g is h = record {
+      → new.kept ≡ old.kept
+      → shown new.counts ≡ counted r (shown old.counts) b
+      → HoldsEach r any bs old
+      → HoldsEach r any (bs ++ b ∷ []) new
+  each-none e old new is same counts h = record {
     each = λ n.
-        subst (λ (k : Held). IsHeld k (get name_cmp g.kept n))
-        (sym (held-other r any n bs b (ap (part_of n) is))) (h.each n);
-    in_order = h.in_order;
+        subst (λ (t : BTreeMap NameAs CourseAs).
+        IsHeld (held r any n (bs ++ b ∷ [])) (get name_cmp t n))
+        (sym same)
+        (subst (λ (k : Course). IsHeld k (get name_cmp old.kept n))
+        (sym (held-other r any n bs b (ap (part_of n) is))) (h.each n));
+    in_order = subst (λ (t : BTreeMap NameAs CourseAs). IsOrdered name_cmp t) (sym same) h.in_order;
+    counts = counts-next old new counts h;
   }
 
   pub told-none : (e : SkipAs) → carried r b ≡ Err e → [] ≡ told_by r any bs b (carried r b)
@@ -76,38 +102,48 @@ module _ (r : ReadingAs) (any : Bool) (bs : List (List ℕ)) (b : List ℕ) wher
         ∙ ap (λ (t : Bool). if t then Some c.piece else None) other
 
     -- a part of this one
-    pub each-part : (old new : HeldsAs) (g : HeldAs)
+    pub each-part : (old new : HeldsAs) (g : CourseAs) (now : ℕ)
         → ((n : NameAs) → same_name name n ≡ false
         → get name_cmp new.kept n ≡ get name_cmp old.kept n)
         → get name_cmp new.kept name ≡ Some g
         → IsOrdered name_cmp new.kept
-        → Holds (step r any (held r any name bs) c.piece).0 g
+        → now ≡ missing_at r (counts_of r bs) b
+        → Follows (step r any now (held r any name bs) c.piece).0 g
+        → shown new.counts ≡ counted r (shown old.counts) b
         → HoldsEach r any bs old
         → HoldsEach r any (bs ++ b ∷ []) new
-    each-part old new g others some in_order holds h =
-        record { each = λ n. at n (same_name name n) refl; in_order = in_order } where
+    each-part old new g now others some in_order up_to holds counts h =
+        record {
+          each = λ n. at n (same_name name n) refl;
+          in_order = in_order;
+          counts = counts-next old new counts h;
+        } where
           at : (n : NameAs) (same : Bool)
               → same_name name n ≡ same
               → IsHeld (held r any n (bs ++ b ∷ [])) (get name_cmp new.kept n)
           at n true same =
               subst (λ (m : NameAs). IsHeld (held r any m (bs ++ b ∷ [])) (get name_cmp new.kept m))
               (same_name-true name n same)
-              (subst (λ (o : Option HeldAs). IsHeld (held r any name (bs ++ b ∷ [])) o) (sym some)
-              (subst (λ (k : Held). Holds k g)
-              (sym (held-part r any name bs b c.piece its_part)) holds))
+              (subst (λ (o : Option CourseAs). IsHeld (held r any name (bs ++ b ∷ [])) o) (sym some)
+              (subst (λ (k : Course). Follows k g)
+              (ap (λ (i : ℕ). (step r any i (held r any name bs) c.piece).0) up_to
+              ∙ sym (held-part r any name bs b c.piece its_part)) holds))
           at n false other =
-              subst (λ (o : Option HeldAs). IsHeld (held r any n (bs ++ b ∷ [])) o)
+              subst (λ (o : Option CourseAs). IsHeld (held r any n (bs ++ b ∷ [])) o)
               (sym (others n other))
-              (subst (λ (k : Held). IsHeld k (get name_cmp old.kept n))
+              (subst (λ (k : Course). IsHeld k (get name_cmp old.kept n))
               (sym (held-other r any n bs b (no_part n other))) (h.each n))
 
     -- it tells this
-    pub told-part : (o : Option NewsAs)
-        → option_map news_of o ≡ (step r any (held r any name bs) c.piece).1
+    pub told-part : (o : Option NewsAs) (now : ℕ)
+        → now ≡ missing_at r (counts_of r bs) b
+        → option_map news_of o ≡ (step r any now (held r any name bs) c.piece).1
         → of name (listed (option_map news_of o)) ≡ told_by r any bs b (carried r b)
-    told-part o tells =
+    told-part o now up_to tells =
         ap (λ (w : Option News). of name (listed w)) tells
-        ∙ ap (λ (p : Option Piece). of name (listed (step_of r any (held r any name bs) p).1))
+        ∙ ap (λ (i : ℕ). of name (listed (step r any i (held r any name bs) c.piece).1)) up_to
+        ∙ ap (λ (p : Option Piece). of name
+        (listed (step_of r any (missing_at r (counts_of r bs) b) (held r any name bs) p).1))
         (sym its_part)
         ∙ ap (λ (m : NameAs). told r any m bs b) e
         ∙ sym (ap (told_by r any bs b) is)

@@ -1,7 +1,11 @@
 pub mod EachLemmas
+pub mod FitLemmas
 pub mod HeldsLemmas
 mod NameLemmas
+mod OrderLemmas
+mod RunLemmas
 mod SoundLemmas
 mod StepLemmas
+mod SureLemmas
 pub mod TellLemmas
 mod TurnLemmas

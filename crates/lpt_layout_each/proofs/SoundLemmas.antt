@@ -1,5 +1,5 @@
 -- What is given out is joined of parts that stand among the packets.
-use Rattle.std.proofs.Common.{◌≡◌, sym, subst, refl, inl, inr, ℕ, Bool, true, false, if◌then◌else◌, List, [], ◌∷◌, ◌++◌, Option, Some, None, Result, Ok, Err}
+use Rattle.std.proofs.Common.{◌≡◌, sym, subst, refl, inl, inr, ℕ, ◌+◌, ◌==◌, nat_le, Bool, true, false, if◌then◌else◌, List, [], ◌∷◌, ◌++◌, Option, Some, None, Result, Ok, Err}
 use Rattle.std.specs.List.{AllByRecursion}
 use Rattle.std.specs.Prelude.{is_some}
 use Rattle.lpt_part.specs.Parts.{Piece}
@@ -8,12 +8,16 @@ use Rattle.lpt_layout_join.specs.declared.names.NameAs.{NameAs}
 use Rattle.lpt_layout_join.specs.declared.reading.ReadingAs.{ReadingAs}
 use Rattle.lpt_layout_join.specs.declared.skip.SkipAs.{SkipAs}
 use Rattle.lpt_layout_join.specs.Came.{Came, contradicts, message_of, nothing_came}
-use Rattle.lpt_layout_join.specs.Carried.{Named, carried, name_of}
+use Rattle.lpt_layout_join.specs.Carried.{Named, carried, name_of, part_of}
+use Rattle.lpt_layout_join.specs.declared.order.Order.{Order}
+use Rattle.lpt_layout_join.specs.Counts.{nothing_counted}
+use Rattle.lpt_layout_join.specs.Orders.{ordered}
 use Rattle.lpt_layout_join.specs.Writes.{unfit}
-use Rattle.lpt_layout_each.specs.Eaches.{Held, Turn, Waits, GivesUp, Gives, after, after_all, all_turn, alone, begun, held, is_old, listed, more, new_turn, nothing, part_of, step, step_of, turn, turn_fit, turn_joined}
+use Rattle.lpt_layout_each.specs.Eaches.{Held, Turn, Waits, GivesUp, Gives, after, after_all, all_turn, alone, begun, counts_of, held, is_old, missing_at, listed, more, new_turn, nothing, step, step_of, turn, turn_fit, turn_joined, Course, Ends, Goes, Run, RunTurn, are_own, course_by, end_run, gather, go_on, no_run, run_before, run_by, run_joined, run_turn, seed, staleness, step_by, told_in_order}
 use Rattle.lpt_layout_each.specs.Laws.{IsGood, IsThere}
-use Rattle.lpt_layout_each.specs.News.{Event, News, Given, Dropped, Unfit, dropped}
+use Rattle.lpt_layout_each.specs.News.{Event, News, Given, Dropped, Unfit, Overtaken, dropped, messages_of}
 use Rattle.lpt_layout_each.specs.Streams.{events_from, of, told_by}
+use Rattle.lpt_layout_each.proofs.FitLemmas.{fit-sure}
 use Rattle.lpt_layout_each.proofs.HeldsLemmas.{held_from-next}
 
 module _ (r : ReadingAs) (any : Bool) (all : List (List ℕ)) where
@@ -22,6 +26,7 @@ module _ (r : ReadingAs) (any : Bool) (all : List (List ℕ)) where
   IsSound n (Given m) = IsGood r any all n m
   IsSound n (Dropped came last) = Unit {0}
   IsSound n (Unfit e) = Unit {0}
+  IsSound n (Overtaken parts last m) = IsGood r any all n m
 
   -- ---- of one name
 
@@ -66,49 +71,65 @@ module _ (r : ReadingAs) (any : Bool) (all : List (List ℕ)) where
       go false true = h
       go false false = parts-more c.parts q h here
 
-    fit-from : (c : Came) (m : List ℕ) (o : Option MisfitAs)
-        → unfit r any m ≡ o
+    seed-from : (again : Bool) (q : Piece) → IsThere r n all q → IsFrom (seed again q)
+    seed-from true q here = more-from nothing_came q tt here
+    seed-from false q here = tt
+
+    fit-from : (again : Bool) (q : Piece) (c : Came) (m : List ℕ) (o : Option MisfitAs)
+        → unfit r any false m ≡ o
         → message_of c.parts ≡ Some m
         → IsFrom c
-        → TurnFrom (turn_fit c m o)
-    fit-from c m None e is h = record { parts = c.parts; there = h; joined = is; fit = e }
-    fit-from c m (Some f) e is h = (tt, tt)
+        → IsThere r n all q
+        → TurnFrom (turn_fit again q c m o)
+    fit-from again q c m None e is h here = record {
+      parts = c.parts;
+      there = h;
+      joined = is;
+      fit = fit-sure r any false m e;
+    }
+    fit-from again q c m (Some f) e is h here = (tt, seed-from again q here)
 
-    joined-from : (c : Came) (o : Option (List ℕ))
+    joined-from : (again : Bool) (q : Piece) (c : Came) (o : Option (List ℕ))
         → message_of c.parts ≡ o
         → IsFrom c
-        → TurnFrom (turn_joined r any c o)
-    joined-from c None is h = h
-    joined-from c (Some m) is h = fit-from c m (unfit r any m) refl is h
+        → IsThere r n all q
+        → TurnFrom (turn_joined r any again q c o)
+    joined-from again q c None is h here = h
+    joined-from again q c (Some m) is h here = fit-from again
+        q c m (unfit r any false m) refl is h here
 
-    turn-from : (c : Came) (q : Piece) → IsFrom c → IsThere r n all q → TurnFrom (turn r any c q)
+    turn-from : (again : Bool) (c : Came) (q : Piece)
+        → IsFrom c
+        → IsThere r n all q
+        → TurnFrom (turn r any again c q)
     unfolding turn
-    turn-from c q h here = go (is_some (more c q).against) where
+    turn-from again c q h here = go (is_some (more c q).against) where
       go : (a : Bool)
           → TurnFrom (if a then GivesUp (dropped (more c q)) (alone q)
-          else turn_joined r any (more c q) (message_of (more c q).parts))
+          else turn_joined r any again q (more c q) (message_of (more c q).parts))
       go true = (tt, more-from nothing_came q tt here)
-      go false = joined-from (more c q) (message_of (more c q).parts) refl (more-from c q h here)
+      go false = joined-from again q (more c q) (message_of (more c q).parts) refl
+          (more-from c q h here) here
 
     begun-from : (last : Option Came) (c : Came) → IsFrom c → HeldFrom (begun last c)
     begun-from None c h = (tt, h)
     begun-from (Some l) c h = (h, h)
 
-    new_turn-from : (h : Held) (q : Piece)
+    new_turn-from : (again : Bool) (h : Held) (q : Piece)
         → HeldFrom h
         → IsThere r n all q
-        → TurnFrom (new_turn r any h q)
-    new_turn-from h q k here = go (is_old h.last q) where
-      go : (b : Bool) → TurnFrom (if b then Waits h.new else turn r any h.new q)
+        → TurnFrom (new_turn r any again h q)
+    new_turn-from again h q k here = go (is_old h.last q) where
+      go : (b : Bool) → TurnFrom (if b then Waits h.new else turn r any again h.new q)
       go true = k.1
-      go false = turn-from h.new q k.1 here
+      go false = turn-from again h.new q k.1 here
 
-    all_turn-from : (o : Option Came) (q : Piece)
+    all_turn-from : (again : Bool) (o : Option Came) (q : Piece)
         → SomeFrom o
         → IsThere r n all q
-        → AllTurnFrom (all_turn r any o q)
-    all_turn-from None q k here = tt
-    all_turn-from (Some c) q k here = turn-from c q k here
+        → AllTurnFrom (all_turn r any again o q)
+    all_turn-from again None q k here = tt
+    all_turn-from again (Some c) q k here = turn-from again c q k here
 
     after_all-from : (last : Option Came) (c : Came) (o : Option Turn)
         → IsFrom c
@@ -127,15 +148,121 @@ module _ (r : ReadingAs) (any : Bool) (all : List (List ℕ)) where
     after-from last (GivesUp w c) o new old = (begun-from last c new.1, new.0)
     after-from last (Gives c m) o new old = ((tt, tt), new)
 
-    step_of-from : (h : Held) (o : Option Piece)
-        → ((q : Piece) → o ≡ Some q → IsThere r n all q)
+    gather-from : (again : Bool) (h : Held) (q : Piece)
         → HeldFrom h
-        → HeldFrom (step_of r any h o).0 × IsTold (step_of r any h o).1
+        → IsThere r n all q
+        → HeldFrom (gather r any again h q).0 × IsTold (gather r any again h q).1
+    unfolding gather
+    gather-from again h q k here =
+        after-from h.last (new_turn r any again h q) (all_turn r any again h.all q)
+        (new_turn-from again h q k here) (all_turn-from again h.all q k.0 here)
+
+    -- ---- by the run
+
+    abbrev CourseFrom : Course → Type 0
+    CourseFrom c = HeldFrom c.held × IsFrom c.run.came
+
+    abbrev RunTurnFrom : RunTurn → Type 0
+    RunTurnFrom (Goes run) = IsFrom run.came
+    RunTurnFrom (Ends d m sure) = IsFrom d × (message_of d.parts ≡ Some m)
+
+    run_joined-from : (at : Order) (c : Came) (o : Option (List ℕ))
+        → message_of c.parts ≡ o
+        → IsFrom c
+        → RunTurnFrom (run_joined at c o)
+    run_joined-from at c None is h = h
+    run_joined-from at c (Some m) is h = (h, is)
+
+    run_by-from : (at : Order) (c : Came) → IsFrom c → RunTurnFrom (run_by at c)
+    run_by-from at c h = go (is_some c.against) where
+      go : (a : Bool)
+          → RunTurnFrom (if a then Goes no_run else run_joined at c (message_of c.parts))
+      go true = tt
+      go false = run_joined-from at c (message_of c.parts) refl h
+
+    run-from : (run : Run) (now : ℕ) (q : Piece)
+        → IsFrom run.came
+        → IsThere r n all q
+        → RunTurnFrom (run_turn run now q)
+    unfolding run_turn
+    run-from run now q h here =
+        go (run_before run q.number) (nat_le q.number ((run_before run q.number).order.count + 1))
+        (before (q.number == 1)) where
+          before : (one : Bool) → IsFrom (if one then no_run else run).came
+          before true = tt
+          before false = h
+
+          go : (run : Run) (next : Bool)
+              → IsFrom run.came
+              → RunTurnFrom (if next then run_by (ordered run.order q.number now) (more run.came q)
+              else Goes no_run)
+          go run true h =
+              run_by-from (ordered run.order q.number now) (more run.came q)
+              (more-from run.came q h here)
+          go run false h = tt
+
+    course-from : (run : Run) (stale : Bool) (h : Held) (o : Option News)
+        → IsFrom run.came
+        → HeldFrom h
+        → CourseFrom (course_by run stale h o)
+    course-from run stale h None from k = (k, from)
+    course-from run stale h (Some (Given m)) from k = (k, tt)
+    course-from run stale h (Some (Dropped parts last)) from k = (k, from)
+    course-from run stale h (Some (Unfit e)) from k = (k, from)
+    course-from run stale h (Some (Overtaken parts last m)) from k = (k, tt)
+
+    go_on-from : (again : Bool) (c : Course) (q : Piece) (run : Run)
+        → CourseFrom c
+        → IsFrom run.came
+        → IsThere r n all q
+        → CourseFrom (go_on r any again c q run).0 × IsTold (go_on r any again c q run).1
+    go_on-from again c q run k from here =
+        let g = gather-from again c.held q k.0 here in (
+          course-from run (staleness c q.number) (gather r any again c.held q).0
+              (gather r any again c.held q).1
+              from g.0,
+          g.1,
+        )
+
+    in_order-sound : (own : Bool) (c : Came) (m : List ℕ)
+        → IsGood r any all n m
+        → IsSound n (told_in_order own c m)
+    in_order-sound true c m good = good
+    in_order-sound false c m good = good
+
+    end_run-from : (c : Course) (q : Piece) (d : Came) (m : List ℕ) (sure : Bool)
+        (o : Option MisfitAs)
+        → unfit r any sure m ≡ o
+        → CourseFrom c
+        → IsFrom d
+        → message_of d.parts ≡ Some m
+        → IsThere r n all q
+        → CourseFrom (end_run r any c q d m o).0 × IsTold (end_run r any c q d m o).1
+    end_run-from c q d m sure None e k from is here = (
+      ((tt, tt), tt),
+      in_order-sound (are_own c q m) (more c.held.new q) m
+          (record { parts = d.parts; there = from; joined = is; fit = fit-sure r any sure m e }),
+    )
+    end_run-from c q d m sure (Some f) e k from is here = go_on-from false c q no_run k tt here
+
+    step_by-from : (c : Course) (q : Piece) (t : RunTurn)
+        → CourseFrom c
+        → RunTurnFrom t
+        → IsThere r n all q
+        → CourseFrom (step_by r any c q t).0 × IsTold (step_by r any c q t).1
+    step_by-from c q (Goes run) k from here = go_on-from true c q run k from here
+    step_by-from c q (Ends d m sure) k from here =
+        end_run-from c q d m sure (unfit r any sure m) refl k from.0 from.1 here
+
+    step_of-from : (now : ℕ) (c : Course) (o : Option Piece)
+        → ((q : Piece) → o ≡ Some q → IsThere r n all q)
+        → CourseFrom c
+        → CourseFrom (step_of r any now c o).0 × IsTold (step_of r any now c o).1
     unfolding step
-    step_of-from h None are k = (k, tt)
-    step_of-from h (Some q) are k =
-        after-from h.last (new_turn r any h q) (all_turn r any h.all q)
-        (new_turn-from h q k (are q refl)) (all_turn-from h.all q k.0 (are q refl))
+    step_of-from now c None are k = (k, tt)
+    step_of-from now c (Some q) are k =
+        step_by-from c q (run_turn c.run now q) k (run-from c.run now q k.1 (are q refl))
+        (are q refl)
 
     -- each part that these packets carry is there
     abbrev AreIn : List (List ℕ) → Type 0
@@ -161,18 +288,19 @@ module _ (r : ReadingAs) (any : Bool) (all : List (List ℕ)) where
   append-sound (d ∷ ds) es h k = (h.0, append-sound ds es h.1 k)
 
   told-sound : (before : List (List ℕ)) (b : List ℕ) (v : Result Named SkipAs)
-      → ((n : NameAs) → HeldFrom n (held r any n before))
+      → ((n : NameAs) → CourseFrom n (held r any n before))
       → ((n : NameAs) (q : Piece) → part_of n (carried r b) ≡ Some q → IsThere r n all q)
       → AllByRecursion IsSoundEvent (told_by r any before b v)
   told-sound before b (Ok c) from are =
       let n = name_of c in
       let o = part_of n (carried r b) in
-      listed-sound n (step_of r any (held r any n before) o).1
-      (step_of-from n (held r any n before) o (are n) (from n)).1
+      let now = missing_at r (counts_of r before) b in
+      listed-sound n (step_of r any now (held r any n before) o).1
+      (step_of-from n now (held r any n before) o (are n) (from n)).1
   told-sound before b (Err e) from are = tt
 
   events-sound : (before bs : List (List ℕ))
-      → ((n : NameAs) → HeldFrom n (held r any n before))
+      → ((n : NameAs) → CourseFrom n (held r any n before))
       → ((n : NameAs) → AreIn n bs)
       → AllByRecursion IsSoundEvent (events_from r any before bs)
   events-sound before [] from are = tt
@@ -180,8 +308,9 @@ module _ (r : ReadingAs) (any : Bool) (all : List (List ℕ)) where
       append-sound (told_by r any before b (carried r b)) (events_from r any (before ++ b ∷ []) bs)
       (told-sound before b (carried r b) from (λ n. (are n).0))
       (events-sound (before ++ b ∷ []) bs
-      (λ n. subst (HeldFrom n) (sym (held_from-next r any n nothing before b))
-      (step_of-from n (held r any n before) (part_of n (carried r b)) (are n).0 (from n)).0)
+      (λ n. subst (CourseFrom n) (sym (held_from-next r any n nothing_counted nothing before b))
+      (step_of-from n (missing_at r (counts_of r before) b) (held r any n before)
+      (part_of n (carried r b)) (are n).0 (from n)).0)
       (λ n. (are n).1))
 
   sound-there : (front back : List Event) (e : Event)
@@ -204,11 +333,27 @@ are_in r n [] = tt
 are_in r n (b ∷ bs) = (λ q is. inl is, in-more r n b bs bs (are_in r n bs))
 
 -- each message that is given out
-pub given_good : (r : ReadingAs) (any : Bool) (bs : List (List ℕ)) (n : NameAs) (m : List ℕ)
-    (front back : List Event)
-    → events_from r any [] bs ≡ front ++ (n, Given m) ∷ back
+told_good : (r : ReadingAs) (any : Bool) (bs : List (List ℕ)) (n : NameAs) (m : List ℕ) (w : News)
+    → IsSound r any bs n w
+    → messages_of w ≡ m ∷ []
     → IsGood r any bs n m
-given_good r any bs n m front back is =
-    sound-there r any bs front back (n, Given m)
+told_good r any bs n m (Given x) h e = subst (IsGood r any bs n) (first x m e) h where
+  first : (x m : List ℕ) → ◌≡◌ {A = List (List ℕ)} (x ∷ []) (m ∷ []) → x ≡ m
+  first x m e = cc
+told_good r any bs n m (Dropped parts last) h e = absurd cc
+told_good r any bs n m (Unfit f) h e = absurd cc
+told_good r any bs n m (Overtaken parts last x) h e =
+    subst (IsGood r any bs n) (first x m e) h where
+      first : (x m : List ℕ) → ◌≡◌ {A = List (List ℕ)} (x ∷ []) (m ∷ []) → x ≡ m
+      first x m e = cc
+
+pub given_good : (r : ReadingAs) (any : Bool) (bs : List (List ℕ)) (n : NameAs) (m : List ℕ)
+    (front back : List Event) (w : News)
+    → events_from r any [] bs ≡ front ++ (n, w) ∷ back
+    → messages_of w ≡ m ∷ []
+    → IsGood r any bs n m
+given_good r any bs n m front back w is gives =
+    told_good r any bs n m w
+    (sound-there r any bs front back (n, w)
     (subst (AllByRecursion (IsSoundEvent r any bs)) is
-    (events-sound r any bs [] bs (λ k. (tt, tt)) (λ k. are_in r k bs)))
+    (events-sound r any bs [] bs (λ k. ((tt, tt), tt)) (λ k. are_in r k bs)))) gives

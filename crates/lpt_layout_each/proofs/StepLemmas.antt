@@ -6,52 +6,53 @@ use Rattle.lpt_layout_join.specs.declared.came.CameAs.{CameAs}
 use Rattle.lpt_layout_join.specs.declared.reading.ReadingAs.{ReadingAs}
 use Rattle.lpt_layout_join.specs.declared.ending.MisfitAs.{MisfitAs}
 use Rattle.lpt_layout_join.specs.Came.{Came, nothing_came}
+use Rattle.lpt_layout_join.specs.Writes.{unfit}
 use Rattle.lpt_layout_join.specs.CameInside.{Shows, last_in, part_at}
 use Rattle.lpt_layout_each.specs.declared.held.HeldAs.{HeldAs}
 use Rattle.lpt_layout_each.specs.declared.news.NewsAs.TheVariants as said
 use Rattle.lpt_layout_each.specs.declared.turn.Turn.TheVariants as code
-use Rattle.lpt_layout_each.specs.Eaches.{Held, Turn, Waits, GivesUp, Gives, after, after_all, all_turn, alone, begun, given, is_old, more, step, turn}
+use Rattle.lpt_layout_each.specs.Eaches.{Held, Turn, Waits, GivesUp, Gives, after, after_all, all_turn, alone, begun, given, is_old, more, step, turn, Course, Ends, Goes, Run, are_own, end_run, fresh, gather, go_on, no_run, run_turn, seed, step_by, told_in_order}
 use Rattle.lpt_layout_each.specs.Helds.{Holds, IsTurnOfAll, ShowsSome, Takes}
 use Rattle.lpt_layout_each.specs.News.{News, Dropped, Unfit, dropped}
 
 -- ---- a step
 
-module _ (r : ReadingAs) (any : Bool) (h : Held) (q : Piece) where
+module _ (r : ReadingAs) (any again : Bool) (h : Held) (q : Piece) where
   -- of a part of the last message
   pub step-old : is_old h.last q ≡ true
-      → after_all h.last h.new (all_turn r any h.all q) ≡ step r any h q
-  unfolding step
+      → after_all h.last h.new (all_turn r any again h.all q) ≡ gather r any again h q
+  unfolding gather
   step-old e =
-      ap (λ (b : Bool). after h.last (if b then Waits h.new else turn r any h.new q)
-      (all_turn r any h.all q)) (sym e)
+      ap (λ (b : Bool). after h.last (if b then Waits h.new else turn r any again h.new q)
+      (all_turn r any again h.all q)) (sym e)
 
   -- of another, by what it makes of the new parts
   new_step : (now : Turn)
       → is_old h.last q ≡ false
-      → turn r any h.new q ≡ now
-      → after h.last now (all_turn r any h.all q) ≡ step r any h q
-  unfolding step
+      → turn r any again h.new q ≡ now
+      → after h.last now (all_turn r any again h.all q) ≡ gather r any again h q
+  unfolding gather
   new_step now e is =
-      ap (λ (u : Turn). after h.last u (all_turn r any h.all q)) (sym is)
-      ∙ ap (λ (b : Bool). after h.last (if b then Waits h.new else turn r any h.new q)
-      (all_turn r any h.all q)) (sym e)
+      ap (λ (u : Turn). after h.last u (all_turn r any again h.all q)) (sym is)
+      ∙ ap (λ (b : Bool). after h.last (if b then Waits h.new else turn r any again h.new q)
+      (all_turn r any again h.all q)) (sym e)
 
   pub step-waits : (c : Came)
       → is_old h.last q ≡ false
-      → turn r any h.new q ≡ Waits c
-      → after_all h.last c (all_turn r any h.all q) ≡ step r any h q
+      → turn r any again h.new q ≡ Waits c
+      → after_all h.last c (all_turn r any again h.all q) ≡ gather r any again h q
   step-waits c e is = new_step (Waits c) e is
 
   pub step-gives_up : (w : News) (c : Came)
       → is_old h.last q ≡ false
-      → turn r any h.new q ≡ GivesUp w c
-      → ◌≡◌ {A = Held × Option News} (begun h.last c, Some w) (step r any h q)
+      → turn r any again h.new q ≡ GivesUp w c
+      → ◌≡◌ {A = Held × Option News} (begun h.last c, Some w) (gather r any again h q)
   step-gives_up w c e is = new_step (GivesUp w c) e is
 
   pub step-gives : (c : Came) (m : List ℕ)
       → is_old h.last q ≡ false
-      → turn r any h.new q ≡ Gives c m
-      → given c m ≡ step r any h q
+      → turn r any again h.new q ≡ Gives c m
+      → given c m ≡ gather r any again h q
   step-gives c m e is = new_step (Gives c m) e is
 
 -- ---- all parts
@@ -88,12 +89,13 @@ dropped-shown c s h =
 
 -- ---- by what a part makes of all
 
-module _ (l a : Option Came) (c : Came) (q : Piece) (last : Option CameAs) (new : CameAs) where
+module _ (again : Bool) (l a : Option Came) (c : Came) (q : Piece) (last : Option CameAs)
+    (new : CameAs) where
   -- they aren't kept
   pub after_none : (o : Option Turn)
       → ShowsSome l last
       → Shows c new
-      → IsTurnOfAll a q None o
+      → IsTurnOfAll again a q None o
       → Takes (record { last = last; all = None; new = new }, None) (after_all l c o)
   after_none None h k t = record { holds = record { last = h; all = tt; new = k }; tells = refl }
   after_none (Some now) h k t = absurd t
@@ -102,12 +104,12 @@ module _ (l a : Option Came) (c : Came) (q : Piece) (last : Option CameAs) (new 
   pub after_waits : (s : CameAs) (o : Option Turn)
       → ShowsSome l last
       → Shows c new
-      → IsTurnOfAll a q (Some (code.Waits s)) o
+      → IsTurnOfAll again a q (Some (code.Waits s)) o
       → Takes (record { last = last; all = Some s; new = new }, None) (after_all l c o)
   after_waits s None h k t = absurd t
   after_waits s (Some now) h k t = go a t where
     go : (b : Option Came)
-        → IsTurnOfAll b q (Some (code.Waits s)) (Some now)
+        → IsTurnOfAll again b q (Some (code.Waits s)) (Some now)
         → Takes (record { last = last; all = Some s; new = new }, None) (after_all l c (Some now))
     go None u = absurd u
     go (Some d) u =
@@ -129,12 +131,12 @@ module _ (l a : Option Came) (c : Came) (q : Piece) (last : Option CameAs) (new 
   pub after_broken : (s : CameAs) (o : Option Turn)
       → ShowsSome l last
       → Shows c new
-      → IsTurnOfAll a q (Some (code.Broken s)) o
+      → IsTurnOfAll again a q (Some (code.Broken s)) o
       → Takes (record { last = last; all = None; new = new }, None) (after_all l c o)
   after_broken s None h k t = absurd t
   after_broken s (Some now) h k t = go a t where
     go : (b : Option Came)
-        → IsTurnOfAll b q (Some (code.Broken s)) (Some now)
+        → IsTurnOfAll again b q (Some (code.Broken s)) (Some now)
         → Takes (record { last = last; all = None; new = new }, None) (after_all l c (Some now))
     go None u = absurd u
     go (Some d) u = given_up (Some now) (dropped (more d q)) (alone q) (ap Some u.1) h k
@@ -142,28 +144,57 @@ module _ (l a : Option Came) (c : Came) (q : Piece) (last : Option CameAs) (new 
   pub after_unfit : (e : MisfitAs) (o : Option Turn)
       → ShowsSome l last
       → Shows c new
-      → IsTurnOfAll a q (Some (code.Unfit e)) o
+      → IsTurnOfAll again a q (Some (code.Unfit e)) o
       → Takes (record { last = last; all = None; new = new }, None) (after_all l c o)
   after_unfit e None h k t = absurd t
   after_unfit e (Some now) h k t = go a t where
     go : (b : Option Came)
-        → IsTurnOfAll b q (Some (code.Unfit e)) (Some now)
+        → IsTurnOfAll again b q (Some (code.Unfit e)) (Some now)
         → Takes (record { last = last; all = None; new = new }, None) (after_all l c (Some now))
     go None u = absurd u
-    go (Some d) u = given_up (Some now) (Unfit e) nothing_came (ap Some u) h k
+    go (Some d) u = given_up (Some now) (Unfit e) (seed again q) (ap Some u) h k
 
 -- they are joined to a message
-pub after_gives : (l a : Option Came) (c : Came) (q : Piece) (s : CameAs) (m : List ℕ) (g : HeldAs)
+pub after_gives : (again : Bool) (l a : Option Came) (c : Came) (q : Piece) (s : CameAs)
+    (m : List ℕ) (g : HeldAs)
     (o : Option Turn)
     → ((b : Option Came) → ShowsSome b (Some s) → Holds (begun b nothing_came) g)
-    → IsTurnOfAll a q (Some (code.Gives s m)) o
+    → IsTurnOfAll again a q (Some (code.Gives s m)) o
     → Takes (g, Some (said.Given m)) (after_all l c o)
-after_gives l a c q s m g None holds t = absurd t
-after_gives l a c q s m g (Some now) holds t = go a t where
+after_gives again l a c q s m g None holds t = absurd t
+after_gives again l a c q s m g (Some now) holds t = go a t where
   go : (b : Option Came)
-      → IsTurnOfAll b q (Some (code.Gives s m)) (Some now)
+      → IsTurnOfAll again b q (Some (code.Gives s m)) (Some now)
       → Takes (g, Some (said.Given m)) (after_all l c (Some now))
   go None u = absurd u
   go (Some d) u =
       subst (λ (n : Turn). Takes (g, Some (said.Given m)) (after_all l c (Some n))) (sym u.1)
       (record { holds = holds (Some (more d q)) u.0; tells = refl })
+
+-- ---- by the run
+
+module _ (r : ReadingAs) (any : Bool) (now : ℕ) (c : Course) (q : Piece) where
+  -- it goes on
+  pub step-goes_on : (run : Run)
+      → run_turn c.run now q ≡ Goes run
+      → go_on r any true c q run ≡ step r any now c q
+  unfolding step
+  step-goes_on run e = sym (ap (step_by r any c q) e)
+
+  -- the message is given out
+  pub step-ends : (d : Came) (m : List ℕ) (sure : Bool)
+      → run_turn c.run now q ≡ Ends d m sure
+      → unfit r any sure m ≡ None
+      → ◌≡◌ {A = Course × Option News}
+      (fresh (Some d), Some (told_in_order (are_own c q m) (more c.held.new q) m))
+      (step r any now c q)
+  unfolding step
+  step-ends d m sure e fit = sym (ap (step_by r any c q) e ∙ ap (end_run r any c q d m) fit)
+
+  -- it may not be
+  pub step-unfit : (d : Came) (m : List ℕ) (sure : Bool) (e : MisfitAs)
+      → run_turn c.run now q ≡ Ends d m sure
+      → unfit r any sure m ≡ Some e
+      → go_on r any false c q no_run ≡ step r any now c q
+  unfolding step
+  step-unfit d m sure f e fit = sym (ap (step_by r any c q) e ∙ ap (end_run r any c q d m) fit)

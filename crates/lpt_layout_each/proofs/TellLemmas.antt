@@ -10,10 +10,10 @@ use Rattle.lpt_layout_join.specs.declared.names.NameAs.{NameAs}
 use Rattle.lpt_layout_join.specs.declared.reading.ReadingAs.{ReadingAs}
 use Rattle.lpt_layout_join.specs.Came.{highest}
 use Rattle.lpt_layout_join.specs.Carried.{carried, same_name}
-use Rattle.lpt_layout_each.specs.declared.held.HeldAs.{HeldAs}
+use Rattle.lpt_layout_each.specs.declared.course.CourseAs.{CourseAs}
 use Rattle.lpt_layout_each.specs.declared.helds.HeldsAs.{HeldsAs}
-use Rattle.lpt_layout_each.specs.Eaches.{Held, held, left, nothing}
-use Rattle.lpt_layout_each.specs.Helds.{Holds, HoldsEach, IsHeld}
+use Rattle.lpt_layout_each.specs.Eaches.{Course, held, left, nothing}
+use Rattle.lpt_layout_each.specs.Helds.{Follows, HoldsEach, IsHeld}
 use Rattle.lpt_layout_each.specs.Names.{name_cmp}
 use Rattle.lpt_layout_each.specs.News.{Event, Hears, News, dropped}
 use Rattle.lpt_layout_each.specs.Streams.{Leaves, events_from, left_of, of, told_by}
@@ -62,7 +62,7 @@ no_some : {A : Type 0} (x : A) → ◌≡◌ {A = Option A} None (Some x) → �
 no_some x h = cc
 
 -- a name at which something is kept is among the keys
-key-there : (n : NameAs) (es : List (NameAs × HeldAs)) (g : HeldAs)
+key-there : (n : NameAs) (es : List (NameAs × CourseAs)) (g : CourseAs)
     → lookup (is_at (name_cmp n)) es ≡ Some g
     → list_any (same_name n) (keys_of es) ≡ true
 key-there n [] g h = absurd (no_some g h)
@@ -79,10 +79,11 @@ key-there n (e ∷ es) g h = there (is_eq (name_cmp n e.0)) refl h (key-there n 
 
 -- these names were told of, and those that are kept still weren't
 pub record IsLeft (r : ReadingAs) (any : Bool) (bs : List (List ℕ))
-    (first now : BTreeMap NameAs HeldAs) (heard hears : Option (List Event)) : Type 0 where
+    (first now : BTreeMap NameAs CourseAs) (heard hears : Option (List Event)) : Type 0 where
   pub names : List NameAs
   pub keys_are : keys first ≡ names ++ keys now
-  pub holds : (n : NameAs) (g : HeldAs) → get name_cmp now n ≡ Some g → Holds (held r any n bs) g
+  pub holds : (n : NameAs) (g : CourseAs) → get name_cmp now n ≡ Some g
+      → Follows (held r any n bs) g
   pub told : Hears heard hears (flat_map (left_of r any bs) names)
 
 pub left-first : (r : ReadingAs) (any : Bool) (bs : List (List ℕ)) (g : HeldsAs)
@@ -92,7 +93,7 @@ pub left-first : (r : ReadingAs) (any : Bool) (bs : List (List ℕ)) (g : HeldsA
 left-first r any bs g heard h = record {
   names = [];
   keys_are = refl;
-  holds = λ n k is. subst (λ (o : Option HeldAs). IsHeld (held r any n bs) o) is (h.each n);
+  holds = λ n k is. subst (λ (o : Option CourseAs). IsHeld (held r any n bs) o) is (h.each n);
   told = hears-nothing heard;
 }
 
@@ -104,7 +105,7 @@ one_more r any bs names n =
     ∙ ap (λ es. flat_map (left_of r any bs) names ++ es) (append-nil (left_of r any bs n))
 
 pub left-next : (r : ReadingAs) (any : Bool) (bs : List (List ℕ))
-    (first old new : BTreeMap NameAs HeldAs) (n : NameAs) (g : HeldAs)
+    (first old new : BTreeMap NameAs CourseAs) (n : NameAs) (g : CourseAs)
     (heard hear hears : Option (List Event))
     → IsLeft r any bs first old heard hear
     → old.entries ≡ (n, g) ∷ new.entries
@@ -114,27 +115,27 @@ pub left-next : (r : ReadingAs) (any : Bool) (bs : List (List ℕ))
 left-next r any bs first old new n g heard hear hears h pops gets told = record {
   names = h.names ++ n ∷ [];
   keys_are =
-      h.keys_are ∙ ap (λ (es : List (NameAs × HeldAs)). h.names ++ keys_of es) pops
+      h.keys_are ∙ ap (λ (es : List (NameAs × CourseAs)). h.names ++ keys_of es) pops
       ∙ sym (append_assoc h.names (n ∷ []) (keys new));
   holds = λ q k is. h.holds q k (still q k (is_at (name_cmp n) q) (sym (gets q) ∙ is));
   told = subst (Hears heard hears) (sym (one_more r any bs h.names n))
       (hears-more heard hear hears _ _ h.told told);
 } where
-  still : (q : NameAs) (k : HeldAs) (b : Bool)
+  still : (q : NameAs) (k : CourseAs) (b : Bool)
       → cond b None (get name_cmp old q) ≡ Some k
       → get name_cmp old q ≡ Some k
   still q k true e = absurd (no_some k e)
   still q k false e = e
 
 pub left-all : (r : ReadingAs) (any : Bool) (bs : List (List ℕ)) (g : HeldsAs)
-    (now : BTreeMap NameAs HeldAs) (heard hears : Option (List Event))
+    (now : BTreeMap NameAs CourseAs) (heard hears : Option (List Event))
     → HoldsEach r any bs g
     → IsLeft r any bs g.kept now heard hears
     → now.entries ≡ []
     → (es : List Event) × Leaves r any bs es × Hears heard hears es
 left-all r any bs g now heard hears each h none =
     let all : keys g.kept ≡ h.names =
-    h.keys_are ∙ ap (λ (es : List (NameAs × HeldAs)). h.names ++ keys_of es) none
+    h.keys_are ∙ ap (λ (es : List (NameAs × CourseAs)). h.names ++ keys_of es) none
     ∙ append-nil h.names in (
       flat_map (left_of r any bs) h.names,
       record {
@@ -148,20 +149,20 @@ left-all r any bs g now heard hears each h none =
     ) where
       among : (n : NameAs)
           → left_of r any bs n ≢ []
-          → (o : Option HeldAs)
+          → (o : Option CourseAs)
           → get name_cmp g.kept n ≡ o
           → list_any (same_name n) (keys g.kept) ≡ true
       among n some None is =
-          let nothing_came = subst (λ (o : Option HeldAs). IsHeld (held r any n bs) o) is
+          let nothing_came = subst (λ (o : Option CourseAs). IsHeld (held r any n bs) o) is
           (each.each n) in
-          absurd (some (ap (λ (k : Held). of n (left k)) nothing_came ∙ ap (of n) left-nothing))
+          absurd (some (ap (λ (k : Course). of n (left k)) nothing_came ∙ ap (of n) left-nothing))
       among n some (Some k) is = key-there n g.kept.entries k is
 
 -- what is left of a name is told
-pub left-told : (n : NameAs) (w : News) (h : Held)
-    → w ≡ dropped h.new
-    → (highest h.new.parts == 0) ≡ false
+pub left-told : (n : NameAs) (w : News) (h : Course)
+    → w ≡ dropped h.held.new
+    → (highest h.held.new.parts == 0) ≡ false
     → ◌≡◌ {A = List Event} ((n, w) ∷ []) (of n (left h))
 left-told n w h is some =
     ap (λ (x : News). (n, x) ∷ []) is
-    ∙ sym (ap (λ (b : Bool). of n (cond b [] (dropped h.new ∷ []))) some)
+    ∙ sym (ap (λ (b : Bool). of n (cond b [] (dropped h.held.new ∷ []))) some)

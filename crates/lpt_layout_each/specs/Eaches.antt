@@ -1,15 +1,19 @@
 -- The messages of one name, in the order in which they become whole, and what never does.
-use Rattle.std.specs.Prelude.{ℕ, ◌==◌, Bool, false, if◌then◌else◌, List, [], ◌∷◌, Option, Some, None, is_some, Result, Ok, Err}
+use Rattle.std.specs.Prelude.{ℕ, ◌+◌, ◌==◌, Bool, true, false, not, ◌||◌, nat_le, if◌then◌else◌, List, [], ◌∷◌, ◌++◌, Option, Some, None, is_some, Result, Ok, Err}
 use Rattle.std.specs.Option.{option_map}
+use Rattle.lpt_packet.specs.Numbers.{same_octets}
 use Rattle.lpt_part.specs.Parts.{Piece}
 use Rattle.lpt_layout_join.specs.declared.ending.MisfitAs.{MisfitAs}
 use Rattle.lpt_layout_join.specs.declared.names.NameAs.{NameAs}
+use Rattle.lpt_layout_join.specs.declared.order.Order.{Order}
 use Rattle.lpt_layout_join.specs.declared.reading.ReadingAs.{ReadingAs}
 use Rattle.lpt_layout_join.specs.declared.skip.SkipAs.{SkipAs}
-use Rattle.lpt_layout_join.specs.Came.{Came, nothing_came, has_part, highest, message_of, step as came_with}
-use Rattle.lpt_layout_join.specs.Carried.{Named, carried, name_of, same_name}
+use Rattle.lpt_layout_join.specs.Came.{Came, nothing_came, has_part, highest, last_of, message_of, step as came_with}
+use Rattle.lpt_layout_join.specs.Carried.{carried, part_of}
+use Rattle.lpt_layout_join.specs.Counts.{Counted, all_counted, counted, nothing_counted}
+use Rattle.lpt_layout_join.specs.Orders.{is_in_order, no_order, ordered}
 use Rattle.lpt_layout_join.specs.Writes.{unfit}
-use Rattle.lpt_layout_each.specs.News.{News, Given, Unfit, dropped}
+use Rattle.lpt_layout_each.specs.News.{News, Given, Dropped, Unfit, Overtaken, dropped, overtaken}
 
 -- ---- what is kept of a name
 
@@ -25,10 +29,6 @@ pub record Held : Type 0 where
 -- and one is enough
 abbrev pub begun : (last : Option Came) → Came → Held
 begun last c = record { last = last; all = option_map (λ _. c) last; new = c }
-
--- nothing came
-abbrev pub nothing : Held
-nothing = begun None nothing_came
 
 -- ---- a further part
 
@@ -47,25 +47,31 @@ pub data Turn : Type 0 where
   GivesUp : News → Came → Turn
   Gives : Came → List ℕ → Turn
 
--- what a whole makes: it is given, where it is fit to be
-abbrev pub turn_fit : Came → List ℕ → Option MisfitAs → Turn
-turn_fit c m None = Gives c m
-turn_fit c m (Some e) = GivesUp (Unfit e) nothing_came
+-- with what is begun anew where a whole isn't given out: with the part that made it whole, which
+-- may be of the next message, or with nothing
+abbrev pub seed : (again : Bool) → Piece → Came
+seed again q = if again then alone q else nothing_came
+
+-- what a whole makes: it is given, where it is fit to be, though its parts may not have come in
+-- their order
+abbrev pub turn_fit : (again : Bool) → Piece → Came → List ℕ → Option MisfitAs → Turn
+turn_fit again q c m None = Gives c m
+turn_fit again q c m (Some e) = GivesUp (Unfit e) (seed again q)
 
 -- what parts make that are joined to this
-abbrev pub turn_joined : ReadingAs → (any : Bool) → Came → Option (List ℕ) → Turn
-turn_joined r any c None = Waits c
-turn_joined r any c (Some m) = turn_fit c m (unfit r any m)
+abbrev pub turn_joined : ReadingAs → (any again : Bool) → Piece → Came → Option (List ℕ) → Turn
+turn_joined r any again q c None = Waits c
+turn_joined r any again q c (Some m) = turn_fit again q c m (unfit r any false m)
 
 -- what these make, with a part: one that contradicts the others begins anew
-abbrev pub turn_by : ReadingAs → (any : Bool) → Piece → Came → Turn
-turn_by r any q c =
+abbrev pub turn_by : ReadingAs → (any again : Bool) → Piece → Came → Turn
+turn_by r any again q c =
     if is_some c.against then GivesUp (dropped c) (alone q)
-    else turn_joined r any c (message_of c.parts)
+    else turn_joined r any again q c (message_of c.parts)
 
 -- what a part makes of others
-unfoldable pub turn : ReadingAs → (any : Bool) → Came → Piece → Turn
-turn r any c q = turn_by r any q (more c q)
+unfoldable pub turn : ReadingAs → (any again : Bool) → Came → Piece → Turn
+turn r any again c q = turn_by r any again q (more c q)
 
 -- whether it is a part of the last message
 abbrev pub is_old : Option Came → Piece → Bool
@@ -73,12 +79,12 @@ is_old None q = false
 is_old (Some c) q = has_part c.parts q
 
 -- what it makes of the new parts: one of the last message nothing
-abbrev pub new_turn : ReadingAs → (any : Bool) → Held → Piece → Turn
-new_turn r any h q = if is_old h.last q then Waits h.new else turn r any h.new q
+abbrev pub new_turn : ReadingAs → (any again : Bool) → Held → Piece → Turn
+new_turn r any again h q = if is_old h.last q then Waits h.new else turn r any again h.new q
 
 -- what it makes of all parts
-abbrev pub all_turn : ReadingAs → (any : Bool) → Option Came → Piece → Option Turn
-all_turn r any all q = option_map (λ c. turn r any c q) all
+abbrev pub all_turn : ReadingAs → (any again : Bool) → Option Came → Piece → Option Turn
+all_turn r any again all q = option_map (λ c. turn r any again c q) all
 
 -- a message is given out, and its name is begun anew
 abbrev pub given : Came → List ℕ → Held × Option News
@@ -99,36 +105,166 @@ after last (GivesUp w c) o = (begun last c, Some w)
 after last (Gives c m) o = given c m
 
 -- what is kept with a part more, and what is told
-unfoldable pub step : ReadingAs → (any : Bool) → Held → Piece → Held × Option News
-step r any h q = after h.last (new_turn r any h q) (all_turn r any h.all q)
+unfoldable pub gather : ReadingAs → (any again : Bool) → Held → Piece → Held × Option News
+gather r any again h q = after h.last (new_turn r any again h q) (all_turn r any again h.all q)
+
+-- ---- parts that come in their order
+
+-- Parts 1, 2 and so on that came in their order: behind the first of them nothing came of the name
+-- but the next one, or one of these again.
+pub record Run : Type 0 where
+  pub order : Order
+  pub came : Came
+
+-- none
+abbrev pub no_run : Run
+no_run = record { order = no_order; came = nothing_came }
+
+-- What a part makes of them: it goes on, with these; they are the message's, and with few counts
+-- missing between them or not.
+pub data RunTurn : Type 0 where
+  Goes : Run → RunTurn
+  Ends : Came → List ℕ → (sure : Bool) → RunTurn
+
+-- by what they are joined to
+abbrev pub run_joined : Order → Came → Option (List ℕ) → RunTurn
+run_joined o c None = Goes (record { order = o; came = c })
+run_joined o c (Some m) = Ends c m (is_in_order (last_of c.parts) o)
+
+abbrev pub run_by : Order → Came → RunTurn
+run_by o c = if is_some c.against then Goes no_run else run_joined o c (message_of c.parts)
+
+-- those behind which it comes: a first part begins anew
+abbrev pub run_before : Run → (number : ℕ) → Run
+run_before r n = if n == 1 then no_run else r
+
+-- a part more, up to which so many counts are missing
+unfoldable pub run_turn : Run → (now : ℕ) → Piece → RunTurn
+run_turn r now q =
+    if nat_le q.number ((run_before r q.number).order.count + 1)
+    then run_by (ordered (run_before r q.number).order q.number now)
+    (more (run_before r q.number).came q)
+    else Goes no_run
+
+-- ---- both
+
+-- What is kept of a name. Whether the new parts have some that came before the run began.
+pub record Course : Type 0 where
+  pub held : Held
+  pub run : Run
+  pub stale : Bool
+
+-- nothing came behind this message
+abbrev pub fresh : (last : Option Came) → Course
+fresh last = record { held = begun last nothing_came; run = no_run; stale = false }
+
+-- nothing came
+abbrev pub nothing : Course
+nothing = fresh None
+
+-- no part is there
+abbrev pub is_empty : Came → Bool
+is_empty c = highest c.parts == 0
+
+-- all parts behind the last message, where these are kept, and else the new ones
+abbrev pub most : Option Came → Came → Came
+most None new = new
+most (Some c) new = c
+
+-- whether parts are joined to this message
+abbrev pub spells : Option (List ℕ) → List ℕ → Bool
+spells None m = false
+spells (Some w) m = same_octets w m
+
+-- what is told of a message whose parts came in their order: where parts came before them that
+-- aren't known to be its own, these are given up
+abbrev pub told_in_order : (own : Bool) → Came → List ℕ → News
+told_in_order own c m = if own then Given m else overtaken c m
+
+-- whether the new parts are known to be the message's
+abbrev pub are_own : Course → Piece → List ℕ → Bool
+are_own c q m = not c.stale || spells (message_of (more (most c.held.all c.held.new) q).parts) m
+
+-- behind a part 1, the new parts before it came before the run
+abbrev pub staleness : Course → (number : ℕ) → Bool
+staleness c n = if n == 1 then not (is_empty c.held.new) else c.stale
+
+-- by what the others made of the part: a message that is given out ends the run; what is given up
+-- leaves no part from before it
+abbrev pub course_by : Run → (stale : Bool) → Held → Option News → Course
+course_by r stale h None = record { held = h; run = r; stale = stale }
+course_by r stale h (Some (Given m)) = record { held = h; run = no_run; stale = false }
+course_by r stale h (Some (Dropped parts last)) = record { held = h; run = r; stale = false }
+course_by r stale h (Some (Unfit e)) = record { held = h; run = r; stale = false }
+course_by r stale h (Some (Overtaken parts last m)) =
+    record { held = h; run = no_run; stale = false }
+
+-- a part with which no message is whole whose parts came in their order
+abbrev pub go_on : ReadingAs → (any again : Bool) → Course → Piece → Run → Course × Option News
+go_on r any again c q run = (
+  course_by run (staleness c q.number) (gather r any again c.held q).0
+      (gather r any again c.held q).1,
+  (gather r any again c.held q).1,
+)
+
+-- one with which one is: it is given out, where it may be
+abbrev pub end_run : ReadingAs → (any : Bool) → Course → Piece → Came → List ℕ → Option MisfitAs
+    → Course × Option News
+end_run r any c q d m None =
+    (fresh (Some d), Some (told_in_order (are_own c q m) (more c.held.new q) m))
+end_run r any c q d m (Some e) = go_on r any false c q no_run
+
+-- by the run first
+abbrev pub step_by : ReadingAs → (any : Bool) → Course → Piece → RunTurn → Course × Option News
+step_by r any c q (Goes run) = go_on r any true c q run
+step_by r any c q (Ends d m sure) = end_run r any c q d m (unfit r any sure m)
+
+-- what is kept with a part more, up to which so many counts are missing, and what is told
+unfoldable pub step : ReadingAs → (any : Bool) → (now : ℕ) → Course → Piece → Course × Option News
+step r any now c q = step_by r any c q (run_turn c.run now q)
 
 -- the same of what a packet carries
-abbrev pub step_of : ReadingAs → (any : Bool) → Held → Option Piece → Held × Option News
-step_of r any h None = (h, None)
-step_of r any h (Some q) = step r any h q
+abbrev pub step_of :
+    ReadingAs → (any : Bool) → (now : ℕ) → Course → Option Piece → Course × Option News
+step_of r any now c None = (c, None)
+step_of r any now c (Some q) = step r any now c q
 
 -- ---- packets
 
--- the part of this name among what a packet carries
-abbrev pub part_of : NameAs → Result Named SkipAs → Option Piece
-part_of n (Ok c) = if same_name (name_of c) n then Some c.piece else None
-part_of n (Err e) = None
+-- how many counts are missing up to a packet, behind so many
+abbrev pub missing_at : ReadingAs → Counted → List ℕ → ℕ
+missing_at r k b = (counted r k b).missing
 
--- what is kept of a name behind these packets
-abbrev pub held_from : ReadingAs → (any : Bool) → NameAs → Held → List (List ℕ) → Held
-held_from r any n h [] = h
-held_from r any n h (b ∷ bs) =
-    held_from r any n (step_of r any h (part_of n (carried r b))).0 bs
+-- what is kept of a name behind these packets, with the counts before them
+abbrev pub held_from :
+    ReadingAs → (any : Bool) → NameAs → Counted → Course → List (List ℕ) → Course
+held_from r any n k h [] = h
+held_from r any n k h (b ∷ bs) =
+    held_from r any n (counted r k b)
+    (step_of r any (missing_at r k b) h (part_of n (carried r b))).0 bs
 
 -- what is kept of it behind packets
-abbrev pub held : ReadingAs → (any : Bool) → NameAs → List (List ℕ) → Held
-held r any n bs = held_from r any n nothing bs
+abbrev pub held : ReadingAs → (any : Bool) → NameAs → List (List ℕ) → Course
+held r any n bs = held_from r any n nothing_counted nothing bs
+
+-- the counts behind packets
+abbrev pub counts_of : ReadingAs → List (List ℕ) → Counted
+counts_of r bs = all_counted r nothing_counted bs
 
 -- the news, as a list
 abbrev pub listed : Option News → List News
 listed None = []
 listed (Some w) = w ∷ []
 
+-- what is told of a name as they come
+abbrev pub news_from :
+    ReadingAs → (any : Bool) → NameAs → Counted → Course → List (List ℕ) → List News
+news_from r any n k c [] = []
+news_from r any n k c (b ∷ bs) =
+    listed (step_of r any (missing_at r k b) c (part_of n (carried r b))).1
+    ++ news_from r any n (counted r k b)
+    (step_of r any (missing_at r k b) c (part_of n (carried r b))).0 bs
+
 -- what is told at the end: of new parts that are left, which are numbered from 1
-abbrev pub left : Held → List News
-left h = if highest h.new.parts == 0 then [] else dropped h.new ∷ []
+abbrev pub left : Course → List News
+left c = if is_empty c.held.new then [] else dropped c.held.new ∷ []

@@ -6,14 +6,19 @@ use Rattle.lpt_part.specs.Parts.{Piece}
 use Rattle.lpt_layout_join.specs.declared.came.CameAs.{CameAs}
 use Rattle.lpt_layout_join.specs.declared.names.NameAs.{NameAs}
 use Rattle.lpt_layout_join.specs.declared.reading.ReadingAs.{ReadingAs}
-use Rattle.lpt_layout_join.specs.Came.{Came, nothing_came}
+use Rattle.lpt_layout_join.specs.Came.{Came}
 use Rattle.lpt_layout_join.specs.CameInside.{Shows}
+use Rattle.lpt_layout_join.specs.CountsInside.{shown}
+use Rattle.lpt_layout_each.specs.declared.course.CourseAs.{CourseAs}
 use Rattle.lpt_layout_each.specs.declared.held.HeldAs.{HeldAs}
 use Rattle.lpt_layout_each.specs.declared.helds.HeldsAs.{HeldsAs}
 use Rattle.lpt_layout_each.specs.declared.news.NewsAs.{NewsAs}
+use Rattle.lpt_layout_each.specs.declared.run.RunAs.{RunAs}
+use Rattle.lpt_layout_each.specs.declared.run.RunTurnAs.{RunTurnAs}
+use Rattle.lpt_layout_each.specs.declared.run.RunTurnAs.TheVariants as ran
 use Rattle.lpt_layout_each.specs.declared.turn.Turn as code
 use Rattle.lpt_layout_each.specs.declared.turn.Turn.TheVariants as turned
-use Rattle.lpt_layout_each.specs.Eaches.{Held, Turn, Waits, GivesUp, Gives, alone, held, more, nothing}
+use Rattle.lpt_layout_each.specs.Eaches.{Course, Ends, Goes, Held, Run, RunTurn, Turn, Waits, GivesUp, Gives, alone, counts_of, held, more, nothing, seed}
 use Rattle.lpt_layout_each.specs.Names.{name_cmp}
 use Rattle.lpt_layout_each.specs.News.{News, Unfit, dropped}
 use Rattle.lpt_layout_each.specs.Told.{news_of}
@@ -26,20 +31,21 @@ ShowsSome (Some c) None = ⊥
 ShowsSome (Some c) (Some s) = Shows c s
 
 -- a part made this turn of others
-abbrev pub IsTurn : Came → Piece → code.Turn → Turn → Type 0
-IsTurn c q (turned.Waits s) now = Shows (more c q) s × (now ≡ Waits (more c q))
-IsTurn c q (turned.Broken s) now =
+abbrev pub IsTurn : (again : Bool) → Came → Piece → code.Turn → Turn → Type 0
+IsTurn again c q (turned.Waits s) now = Shows (more c q) s × (now ≡ Waits (more c q))
+IsTurn again c q (turned.Broken s) now =
     Shows (more c q) s × (now ≡ GivesUp (dropped (more c q)) (alone q))
-IsTurn c q (turned.Unfit e) now = now ≡ GivesUp (Unfit e) nothing_came
-IsTurn c q (turned.Gives s m) now = Shows (more c q) s × (now ≡ Gives (more c q) m)
+IsTurn again c q (turned.Unfit e) now = now ≡ GivesUp (Unfit e) (seed again q)
+IsTurn again c q (turned.Gives s m) now = Shows (more c q) s × (now ≡ Gives (more c q) m)
 
 -- the same of all parts, where they are kept
-abbrev pub IsTurnOfAll : Option Came → Piece → Option code.Turn → Option Turn → Type 0
-IsTurnOfAll all q None None = Unit {0}
-IsTurnOfAll all q None (Some now) = ⊥
-IsTurnOfAll all q (Some t) None = ⊥
-IsTurnOfAll None q (Some t) (Some now) = ⊥
-IsTurnOfAll (Some c) q (Some t) (Some now) = IsTurn c q t now
+abbrev pub IsTurnOfAll : (again : Bool) → Option Came → Piece → Option code.Turn → Option Turn
+    → Type 0
+IsTurnOfAll again all q None None = Unit {0}
+IsTurnOfAll again all q None (Some now) = ⊥
+IsTurnOfAll again all q (Some t) None = ⊥
+IsTurnOfAll again None q (Some t) (Some now) = ⊥
+IsTurnOfAll again (Some c) q (Some t) (Some now) = IsTurn again c q t now
 
 -- this is kept of a name
 pub record Holds (h : Held) (g : HeldAs) : Type 0 where
@@ -52,12 +58,34 @@ pub record Takes (g : HeldAs × Option NewsAs) (h : Held × Option News) : Type 
   pub holds : Holds h.0 g.0
   pub tells : option_map news_of g.1 ≡ h.1
 
--- this is kept of the name, or nothing where nothing came
-abbrev pub IsHeld : Held → Option HeldAs → Type 0
-IsHeld h None = h ≡ nothing
-IsHeld h (Some g) = Holds h g
+-- these parts came in their order
+pub record IsRun (r : Run) (g : RunAs) : Type 0 where
+  pub order : g.order ≡ r.order
+  pub came : Shows r.came g.came
 
--- of each name this is kept behind the packets
+-- a part made this of them
+abbrev pub IsRunTurn : RunTurnAs → RunTurn → Type 0
+IsRunTurn (ran.Goes g) now = (r : Run) × IsRun r g × (now ≡ Goes r)
+IsRunTurn (ran.Ends s m sure) now = (c : Came) × Shows c s × (now ≡ Ends c m sure)
+
+-- this is kept, by its order too
+pub record Follows (c : Course) (g : CourseAs) : Type 0 where
+  pub held : Holds c.held g.held
+  pub run : IsRun c.run g.run
+  pub stale : g.stale ≡ c.stale
+
+-- and this is told
+pub record Steps (g : CourseAs × Option NewsAs) (c : Course × Option News) : Type 0 where
+  pub follows : Follows c.0 g.0
+  pub tells : option_map news_of g.1 ≡ c.1
+
+-- this is kept of the name, or nothing where nothing came
+abbrev pub IsHeld : Course → Option CourseAs → Type 0
+IsHeld c None = c ≡ nothing
+IsHeld c (Some g) = Follows c g
+
+-- of each name this is kept behind the packets, and their counts
 pub record HoldsEach (r : ReadingAs) (any : Bool) (bs : List (List ℕ)) (g : HeldsAs) : Type 0 where
   pub each : (n : NameAs) → IsHeld (held r any n bs) (get name_cmp g.kept n)
   pub in_order : IsOrdered name_cmp g.kept
+  pub counts : shown g.counts ≡ counts_of r bs

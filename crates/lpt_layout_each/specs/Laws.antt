@@ -1,13 +1,13 @@
 -- What is given out of any packets.
-use Rattle.std.specs.Prelude.{◌≡◌, ◌⊎◌, ℕ, Bool, List, [], ◌∷◌, Some, None}
+use Rattle.std.specs.Prelude.{◌≡◌, ◌⊎◌, ℕ, ◌+◌, ◌≤◌, Bool, true, false, nat_lt, if◌then◌else◌, List, [], ◌∷◌, Some, None, is_some}
 use Rattle.std.specs.List.{AllByRecursion}
 use Rattle.lpt_part.specs.Parts.{Piece}
 use Rattle.lpt_layout_join.specs.declared.names.NameAs.{NameAs}
 use Rattle.lpt_layout_join.specs.declared.reading.ReadingAs.{ReadingAs}
-use Rattle.lpt_layout_join.specs.Came.{message_of}
-use Rattle.lpt_layout_join.specs.Carried.{carried}
+use Rattle.lpt_layout_join.specs.Came.{Came, message_of, nothing_came}
+use Rattle.lpt_layout_join.specs.Carried.{carried, part_of}
 use Rattle.lpt_layout_join.specs.Writes.{unfit}
-use Rattle.lpt_layout_each.specs.Eaches.{part_of}
+use Rattle.lpt_layout_each.specs.Eaches.{more}
 
 -- one of these packets carries this part of a name
 abbrev pub IsThere : ReadingAs → NameAs → List (List ℕ) → Piece → Type 0
@@ -21,4 +21,46 @@ pub record IsGood (r : ReadingAs) (any : Bool) (bs : List (List ℕ)) (n : NameA
   pub parts : List Piece
   pub there : AllByRecursion (IsThere r n bs) parts
   pub joined : message_of parts ≡ Some m
-  pub fit : unfit r any m ≡ None
+  pub fit : unfit r any true m ≡ None
+
+-- the highest of two numbers
+abbrev pub higher : ℕ → ℕ → ℕ
+higher k n = if nat_lt k n then n else k
+
+-- a part agrees with others, and the message isn't whole with it
+pub record Continues (c : Came) (q : Piece) : Type 0 where
+  pub agrees : is_some (more c q).against ≡ false
+  pub waits : message_of (more c q).parts ≡ None
+
+-- each of these packets carries no part of the name, or the next part behind these up to this
+-- number, or one of them again but the first; it agrees with them, and they aren't whole with it;
+-- at the end these came, up to this number
+abbrev pub Runs : ReadingAs → NameAs → Came → (from : ℕ) → List (List ℕ) → Came → (to : ℕ) → Type 0
+Runs r n c from [] d to = (c ≡ d) × (from ≡ to)
+Runs r n c from (b ∷ bs) d to =
+    ((part_of n (carried r b) ≡ None) × Runs r n c from bs d to)
+    ⊎ ((q : Piece) × (part_of n (carried r b) ≡ Some q) × (2 ≤ q.number) × (q.number ≤ from + 1)
+    × Continues c q × Runs r n (more c q) (higher from q.number) bs d to)
+
+-- the parts of the message stand in these packets in their order: from part 1, in the first packet,
+-- to the part that makes them whole, in the last packet, no other part of their name stands between
+-- them; it may be given out in whichever order they come
+pub record InOrder (r : ReadingAs) (any : Bool) (n : NameAs) (m : List ℕ)
+    (front : List (List ℕ)) (last : List ℕ) : Type 0 where
+  pub fit : unfit r any false m ≡ None
+  pub first : List ℕ
+  pub middle : List (List ℕ)
+  pub are : front ≡ first ∷ middle
+  pub part : Piece
+  pub begins : part_of n (carried r first) ≡ Some part
+  pub one : part.number ≡ 1
+  pub continues : Continues nothing_came part
+  pub came : Came
+  pub number : ℕ
+  pub runs : Runs r n (more nothing_came part) 1 middle came number
+  pub final : Piece
+  pub ends : part_of n (carried r last) ≡ Some final
+  pub behind_first : 2 ≤ final.number
+  pub next : final.number ≤ number + 1
+  pub agrees : is_some (more came final).against ≡ false
+  pub joined : message_of (more came final).parts ≡ Some m

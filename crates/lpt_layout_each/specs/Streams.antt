@@ -5,8 +5,8 @@ use Rattle.std.specs.List.Sorted.{IsStrictlySortedBy}
 use Rattle.lpt_layout_join.specs.declared.names.NameAs.{NameAs}
 use Rattle.lpt_layout_join.specs.declared.reading.ReadingAs.{ReadingAs}
 use Rattle.lpt_layout_join.specs.declared.skip.SkipAs.{SkipAs}
-use Rattle.lpt_layout_join.specs.Carried.{Named, carried, name_of, same_name}
-use Rattle.lpt_layout_each.specs.Eaches.{held, left, listed, part_of, step_of}
+use Rattle.lpt_layout_join.specs.Carried.{Named, carried, name_of, part_of, same_name}
+use Rattle.lpt_layout_each.specs.Eaches.{counts_of, held, left, listed, missing_at, step_of}
 use Rattle.lpt_layout_each.specs.Names.{name_cmp}
 use Rattle.lpt_layout_each.specs.News.{Event, Hears, News}
 
@@ -17,7 +17,8 @@ of n ws = map (λ w. (n, w)) ws
 -- what a packet tells of a name, behind others
 abbrev pub told : ReadingAs → (any : Bool) → NameAs → (before : List (List ℕ)) → List ℕ → List Event
 told r any n before b =
-    of n (listed (step_of r any (held r any n before) (part_of n (carried r b))).1)
+    of n (listed (step_of r any (missing_at r (counts_of r before) b) (held r any n before)
+    (part_of n (carried r b))).1)
 
 -- what it tells of the name of its part, where it carries this
 abbrev pub told_by :

@@ -4,13 +4,14 @@ use Rattle.lpt_layout_join.specs.declared.names.NameAs.{NameAs}
 use Rattle.lpt_layout_join.specs.CameInside.{last_in, part_at}
 use Rattle.lpt_layout_each.specs.declared.news.NewsAs.{NewsAs}
 use Rattle.lpt_layout_each.specs.declared.news.NewsAs.TheVariants as said
-use Rattle.lpt_layout_each.specs.News.{Event, News, Given, Dropped, Unfit}
+use Rattle.lpt_layout_each.specs.News.{Event, News, Given, Dropped, Unfit, Overtaken}
 
 -- what is told
 abbrev pub news_of : NewsAs → News
 news_of (said.Given m) = Given m
 news_of (said.Dropped s) = Dropped (λ n. part_at s (n + 1)) (last_in s)
 news_of (said.Unfit e) = Unfit e
+news_of (said.Overtaken s m) = Overtaken (λ n. part_at s (n + 1)) (last_in s) m
 
 -- news of a name, where there are
 abbrev pub events_of : Option (NameAs × NewsAs) → List Event

@@ -37,7 +37,8 @@ pub struct EachedAs {
 /// read `out` passes on what it has kept back; nothing else is done with it.
 ///
 /// A message is given out where it is a packet of the layout and the direction, or with `any`
-/// whatever it is.
+/// whatever it is; by a layout without a checksum, but with `any`, only where its parts came in
+/// their order, and few sequence counts are missing between them.
 ///
 /// Errors: `Read` where a read failed, or where 2^64 - 1 packets came; `Write` where `out` failed;
 /// `Memory`; those of the taker. What was told before stays told.
@@ -135,11 +136,21 @@ fn take_packet<T: TakerAs>(
     let Hearing { helds, passed } = heard;
     match carried(reading, octets) {
         Ok(part) => {
-            let helds = take_part(alloc, reading, any, &part, helds, taker)?;
+            let helds = take_part(
+                alloc,
+                reading,
+                any,
+                passed.place,
+                octets,
+                &part,
+                helds,
+                taker,
+            )?;
             let passed = passed.further(octets.len());
             Ok(Hearing { helds, passed })
         }
         Err(skip) => {
+            let helds = helds.pass_over(reading, octets)?;
             let passed = passed.skipping(skip, octets.len());
             Ok(Hearing { helds, passed })
         }
@@ -151,22 +162,24 @@ fn take_part<T: TakerAs>(
     alloc: Global,
     reading: &ReadingAs,
     any: bool,
+    place: u64,
+    octets: &[u8],
     part: &CarriedAs<'_>,
     helds: HeldsAs,
     taker: &mut T,
 ) -> Result<HeldsAs, StreamFault>
     requires number { 1 ≤ part.now.part.number }
     requires short { length part.now.part.octets.now ≤ longest_packet }
-    ensures held { (bs : List (List ℕ)) (octets : List ℕ) → HoldsEach reading.now any bs helds
-        → carried reading.now octets ≡ Ok (named part.now)
-        → IfOk result (HoldsEach reading.now any (bs ++ octets ∷ [])) }
-    ensures told { (bs : List (List ℕ)) (octets : List ℕ) → HoldsEach reading.now any bs helds
-        → carried reading.now octets ≡ Ok (named part.now)
+    ensures held { (bs : List (List ℕ)) → HoldsEach reading.now any bs helds
+        → carried reading.now octets.now ≡ Ok (named part.now)
+        → IfOk result (HoldsEach reading.now any (bs ++ octets.now ∷ [])) }
+    ensures told { (bs : List (List ℕ)) → HoldsEach reading.now any bs helds
+        → carried reading.now octets.now ≡ Ok (named part.now)
         → OnOk result (Hears (T.heard taker.old) (T.heard taker.new)
-        (told_by reading.now any bs octets (carried reading.now octets))) }
+        (told_by reading.now any bs octets.now (carried reading.now octets.now))) }
     ensures fault { IfErr result (λ e. (e ≡ StreamFault.Write) ⊎ (e ≡ StreamFault.Memory)) }
 {
-    let (helds, event) = match helds.take(alloc, reading, any, part) {
+    let (helds, event) = match helds.take(alloc, reading, any, place, octets, part) {
         Ok(taken) => taken,
         Err(_) => return Err(StreamFault::Memory),
     };

@@ -1,22 +1,22 @@
 //! What is kept of one name.
 
-ghost use Rattle.std.specs.Prelude.{◌≡◌, ◌≤◌, ◌==◌, Option, length, IfOk};
+ghost use Rattle.std.specs.Prelude.{◌≡◌, ◌≤◌, ◌==◌, Bool, Option, length, IfOk};
 ghost use Rattle.lpt_packet.specs.Sizes.{longest_packet};
 ghost use Rattle.lpt_part.specs.Parts.{Piece};
 ghost use Rattle.lpt_layout.specs.Parts.{piece};
 ghost use Rattle.lpt_layout_join.specs.declared.reading.ReadingAs.{ReadingAs};
-ghost use Rattle.lpt_layout_join.specs.Came.{Came, highest, nothing_came};
+ghost use Rattle.lpt_layout_join.specs.Came.{Came, highest, message_of, nothing_came};
 ghost use Rattle.lpt_layout_join.specs.CameInside.{Shows};
 ghost use Rattle.lpt_layout_each.specs.Eaches as each;
 ghost use Rattle.lpt_layout_each.specs.Helds.{Holds, IsTurnOfAll, ShowsSome, Takes};
 
 use crate::NewsAs;
 use crate::turn::{Turn, alone, turn_with};
-use lpt_layout::PartAs;
+use lpt_layout::{Octets, PartAs};
 use lpt_layout_join::{CameAs, ReadingAs};
 use std::alloc::{AllocError, Global};
 
-/// What is kept of one name.
+/// The last message of a name, and what came behind it in any order.
 #[derive(Drop)]
 pub(crate) struct HeldAs {
     // The parts of the last whole message.
@@ -64,31 +64,85 @@ impl HeldAs {
         alloc: Global,
         reading: &ReadingAs,
         any: bool,
+        again: bool,
+        place: u64,
         part: &PartAs<'_>,
     ) -> Result<(HeldAs, Option<NewsAs>), AllocError>
         requires number { 1 ≤ part.now.number }
         requires short { length part.now.octets.now ≤ longest_packet }
         ensures { (h : each.Held) → Holds h self → IfOk result (λ r.
-            Takes r (each.step reading.now any h (piece part.now))) }
+            Takes r (each.gather reading.now any again h (piece part.now))) }
     {
         let HeldAs { last, all, new } = self;
         let old = is_old(&last, part);
-        let all = turn_of_all(alloc, reading, any, all, part)?;
+        let all = turn_of_all(alloc, reading, any, place, all, part)?;
         if old {
             return Ok(after_all(alloc, last, new, all));
         }
-        match turn_with(alloc, reading, any, new, part)? {
+        match turn_with(alloc, reading, any, place, new, part)? {
             Turn::Waits(new) => Ok(after_all(alloc, last, new, all)),
             Turn::Broken(came) => {
-                let held = begin(alloc, last, part)?;
+                let held = begin(alloc, last, place, part)?;
                 Ok((held, Some(NewsAs::Dropped(came))))
             }
-            Turn::Unfit(misfit) => Ok((HeldAs::behind(alloc, last), Some(NewsAs::Unfit(misfit)))),
+            Turn::Unfit(misfit) => {
+                let held = begin_after(alloc, again, last, place, part)?;
+                Ok((held, Some(NewsAs::Unfit(misfit))))
+            }
             Turn::Gives(came, message) => Ok((
                 HeldAs::behind(alloc, Some(came)),
                 Some(NewsAs::Given(message)),
             )),
         }
+    }
+
+    // Whether all parts behind the last message, with this one, are joined to this message, and
+    // those that aren't parts of the last, with this one. The only error is out of memory.
+    pub(crate) fn is_joined_to(
+        self,
+        alloc: Global,
+        place: u64,
+        part: &PartAs<'_>,
+        message: &Octets,
+    ) -> Result<(bool, CameAs), AllocError>
+        requires number { 1 ≤ part.now.number }
+        requires short { length part.now.octets.now ≤ longest_packet }
+        ensures own { (h : each.Held) → Holds h self → IfOk result (λ r.
+            r.0 ≡ each.spells
+            (message_of (each.more (each.most h.all h.new) (piece part.now)).parts)
+            message.now) }
+        ensures new { (h : each.Held) → Holds h self → IfOk result (λ r.
+            Shows (each.more h.new (piece part.now)) r.1) }
+    {
+        let HeldAs {
+            last: _,
+            all,
+            mut new,
+        } = self;
+        new.take_from(alloc, place, part)?;
+        match all {
+            None => {
+                let own = spells(alloc, &new, message)?;
+                Ok((own, new))
+            }
+            Some(came) => {
+                let mut all = came;
+                all.take_from(alloc, place, part)?;
+                let own = spells(alloc, &all, message)?;
+                Ok((own, new))
+            }
+        }
+    }
+}
+
+// Whether parts are joined to this message. The only error is out of memory.
+fn spells(alloc: Global, came: &CameAs, message: &Octets) -> Result<bool, AllocError>
+    ensures { (c : Came) → Shows c came.now → IfOk result (λ b.
+        b ≡ each.spells (message_of c.parts) message.now) }
+{
+    match came.message(alloc)? {
+        None => Ok(false),
+        Some(whole) => Ok(whole == *message),
     }
 }
 
@@ -110,23 +164,29 @@ fn turn_of_all(
     alloc: Global,
     reading: &ReadingAs,
     any: bool,
+    place: u64,
     all: Option<CameAs>,
     part: &PartAs<'_>,
 ) -> Result<Option<Turn>, AllocError>
     requires number { 1 ≤ part.now.number }
     requires short { length part.now.octets.now ≤ longest_packet }
-    ensures { (l : Option Came) → ShowsSome l all → IfOk result (λ o.
-        IsTurnOfAll l (piece part.now) o
-        (each.all_turn reading.now any l (piece part.now))) }
+    ensures { (l : Option Came) → ShowsSome l all → IfOk result (λ o. (again : Bool) →
+        IsTurnOfAll again l (piece part.now) o
+        (each.all_turn reading.now any again l (piece part.now))) }
 {
     match all {
         None => Ok(None),
-        Some(came) => Ok(Some(turn_with(alloc, reading, any, came, part)?)),
+        Some(came) => Ok(Some(turn_with(alloc, reading, any, place, came, part)?)),
     }
 }
 
 // This part alone came behind a message. The only error is out of memory.
-fn begin(alloc: Global, last: Option<CameAs>, part: &PartAs<'_>) -> Result<HeldAs, AllocError>
+fn begin(
+    alloc: Global,
+    last: Option<CameAs>,
+    place: u64,
+    part: &PartAs<'_>,
+) -> Result<HeldAs, AllocError>
     requires number { 1 ≤ part.now.number }
     requires short { length part.now.octets.now ≤ longest_packet }
     ensures { (l : Option Came) → ShowsSome l last → IfOk result
@@ -134,10 +194,30 @@ fn begin(alloc: Global, last: Option<CameAs>, part: &PartAs<'_>) -> Result<HeldA
 {
     let all = match &last {
         None => None,
-        Some(_) => Some(alone(alloc, part)?),
+        Some(_) => Some(alone(alloc, place, part)?),
     };
-    let new = alone(alloc, part)?;
+    let new = alone(alloc, place, part)?;
     Ok(HeldAs { last, all, new })
+}
+
+// With the part that made a whole that isn't given out, or with nothing. The only error is out of
+// memory.
+fn begin_after(
+    alloc: Global,
+    again: bool,
+    last: Option<CameAs>,
+    place: u64,
+    part: &PartAs<'_>,
+) -> Result<HeldAs, AllocError>
+    requires number { 1 ≤ part.now.number }
+    requires short { length part.now.octets.now ≤ longest_packet }
+    ensures { (l : Option Came) → ShowsSome l last → IfOk result
+        (Holds (each.begun l (each.seed again (piece part.now)))) }
+{
+    if again {
+        return begin(alloc, last, place, part);
+    }
+    Ok(HeldAs::behind(alloc, last))
 }
 
 // What is kept and told by what a part made of all, where it left these new ones.
@@ -147,8 +227,8 @@ fn after_all(
     new: CameAs,
     all: Option<Turn>,
 ) -> (HeldAs, Option<NewsAs>)
-    ensures { (l a : Option Came) (c : Came) (q : Piece) (o : Option each.Turn)
-        → ShowsSome l last → Shows c new → IsTurnOfAll a q all o
+    ensures { (l a : Option Came) (c : Came) (q : Piece) (o : Option each.Turn) (again : Bool)
+        → ShowsSome l last → Shows c new → IsTurnOfAll again a q all o
         → Takes result (each.after_all l c o) }
 {
     match all {

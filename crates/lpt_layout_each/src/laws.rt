@@ -1,16 +1,43 @@
-//! What is given out of a stream, proved of all streams: a function with an empty body.
+//! What is given out of a stream, proved of all streams: functions with empty bodies.
 
-ghost use Rattle.std.specs.Prelude.{◌≡◌, ◌∷◌, ◌++◌, ℕ, Bool, List};
+ghost use Rattle.std.specs.Prelude.{◌≡◌, [], ◌∷◌, ◌++◌, ℕ, Bool, false, List};
 ghost use Rattle.lpt_layout_join.specs.declared.names.NameAs.{NameAs};
 ghost use Rattle.lpt_layout_join.specs.declared.reading.ReadingAs.{ReadingAs};
-ghost use Rattle.lpt_layout_each.specs.Laws.{IsGood};
-ghost use Rattle.lpt_layout_each.specs.News.{Event, Given};
+ghost use Rattle.lpt_layout_join.specs.InOrder.{IsInOrder};
+ghost use Rattle.lpt_layout_each.specs.Eaches.{counts_of, held, news_from};
+ghost use Rattle.lpt_layout_each.specs.Laws.{InOrder, IsGood};
+ghost use Rattle.lpt_layout_each.specs.News.{Event, News, messages_in, messages_of};
 ghost use Rattle.lpt_layout_each.specs.Streams.{events};
 
 /// Each message that is given out is joined of parts of its name that stand among the packets,
 /// whatever these are, and a packet of its direction, where not any will do.
 pub fn given_is_there()
     ensures { (r : ReadingAs) (any : Bool) (packets : List (List ℕ)) (n : NameAs) (m : List ℕ)
-        (front back : List Event)
-        → events r any packets ≡ front ++ (n, Given m) ∷ back → IsGood r any packets n m }
+        (front back : List Event) (w : News)
+        → events r any packets ≡ front ++ (n, w) ∷ back → messages_of w ≡ m ∷ []
+        → IsGood r any packets n m }
+{}
+
+/// By a layout without a checksum each message that is given out, but with `any`, is joined of
+/// parts that stand in the order of their numbers, and between each of them and the next fewer
+/// sequence counts of the APID are missing than its number.
+pub fn given_is_in_order()
+    ensures { (r : ReadingAs) (packets : List (List ℕ)) (n : NameAs) (m : List ℕ)
+        (front back : List Event) (w : News) → r.layout.has_checksum ≡ false
+        → events r false packets ≡ front ++ (n, w) ∷ back → messages_of w ≡ m ∷ []
+        → IsInOrder r n packets m }
+{}
+
+/// Where the parts of a message stand in a stream in the order of their numbers, with no other part
+/// of their name between them, this message is given out with the last of them, and no other:
+/// whatever came before. The packets between its first and its last part may hold packets of other
+/// names, and parts of it again but its first. Only where one of these parts made another message
+/// whole, which has it too, isn't this one looked for.
+pub fn in_order_is_given()
+    ensures { (r : ReadingAs) (any : Bool) (n : NameAs) (before front : List (List ℕ))
+        (last m : List ℕ)
+        → InOrder r any n m front last
+        → messages_in (news_from r any n (counts_of r before) (held r any n before) front) ≡ []
+        → messages_in (news_from r any n (counts_of r before) (held r any n before)
+        (front ++ last ∷ [])) ≡ m ∷ [] }
 {}

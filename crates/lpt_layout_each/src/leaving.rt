@@ -3,11 +3,11 @@
 ghost use Rattle.std.specs.Prelude.{◌≡◌, ◌⊎◌, ℕ, Bool, List, IfErr, OnOk};
 ghost use Rattle.lpt_layout_join.specs.declared.reading.ReadingAs.{ReadingAs};
 ghost use Rattle.lpt_layout_each.specs.Eaches as each;
-ghost use Rattle.lpt_layout_each.specs.Helds.{Holds, HoldsEach};
+ghost use Rattle.lpt_layout_each.specs.Helds.{Follows, HoldsEach};
 ghost use Rattle.lpt_layout_each.specs.News.{Event, Hears};
 ghost use Rattle.lpt_layout_each.specs.Streams.{Leaves, of};
 
-use crate::held::HeldAs;
+use crate::course::CourseAs;
 use crate::helds::HeldsAs;
 use crate::{NewsAs, TakerAs};
 use lpt_layout_join::NameAs;
@@ -30,9 +30,9 @@ pub fn leave_as<T: TakerAs>(helds: HeldsAs, taker: &mut T) -> Result<(), StreamF
 }
 
 // Tells what is left of a name.
-fn tell_left<T: TakerAs>(name: NameAs, held: HeldAs, taker: &mut T) -> Result<(), StreamFault>
-    ensures told { (h : each.Held) → Holds h held → OnOk result
-        (Hears (T.heard taker.old) (T.heard taker.new) (of name (each.left h))) }
+fn tell_left<T: TakerAs>(name: NameAs, held: CourseAs, taker: &mut T) -> Result<(), StreamFault>
+    ensures told { (c : each.Course) → Follows c held → OnOk result
+        (Hears (T.heard taker.old) (T.heard taker.new) (of name (each.left c))) }
     ensures fault { IfErr result (λ e. (e ≡ StreamFault.Write) ⊎ (e ≡ StreamFault.Memory)) }
 {
     if held.is_empty() {

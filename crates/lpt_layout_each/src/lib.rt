@@ -9,6 +9,7 @@
 //! Who does something else with each packet, too, keeps `HeldsAs`, and calls `leave_as` at the end.
 #![tactic(auto)]
 
+mod course;
 mod each;
 mod held;
 mod helds;
@@ -16,6 +17,7 @@ pub mod laws;
 mod leaving;
 mod news;
 mod passing;
+mod run;
 mod turn;
 
 pub use each::{EachedAs, each_as};

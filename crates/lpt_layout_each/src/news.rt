@@ -13,6 +13,9 @@ pub enum NewsAs {
     Dropped(CameAs),
     /// What parts were joined to is no packet of the layout and the direction.
     Unfit(MisfitAs),
+    /// Parts were given up that weren't whole: these came; and with the same part a message is
+    /// whole.
+    Overtaken(CameAs, Octets),
 }
 
 /// Who is told what becomes of the parts of each name.

@@ -1,6 +1,6 @@
 //! What a further part makes of those that came before it.
 
-ghost use Rattle.std.specs.Prelude.{◌≤◌, length, IfOk};
+ghost use Rattle.std.specs.Prelude.{◌≤◌, Bool, length, IfOk};
 ghost use Rattle.lpt_packet.specs.Sizes.{longest_packet};
 ghost use Rattle.lpt_layout.specs.Parts.{piece};
 ghost use Rattle.lpt_layout_join.specs.Came.{Came};
@@ -25,40 +25,42 @@ pub(crate) enum Turn {
     Gives(CameAs, Octets),
 }
 
-// Adds a part to others. The only error is out of memory.
+// Adds a part, at this place, to others. The only error is out of memory.
 pub(crate) fn turn_with(
     alloc: Global,
     reading: &ReadingAs,
     any: bool,
+    place: u64,
     came: CameAs,
     part: &PartAs<'_>,
 ) -> Result<Turn, AllocError>
     requires number { 1 ≤ part.now.number }
     requires short { length part.now.octets.now ≤ longest_packet }
     ensures { (c : Came) → Shows c came → IfOk result (λ t.
-        IsTurn c (piece part.now) t (turn reading.now any c (piece part.now))) }
+        (again : Bool)
+        → IsTurn again c (piece part.now) t (turn reading.now any again c (piece part.now))) }
 {
     let mut came = came;
-    came.take(alloc, 0, part)?;
+    came.take_from(alloc, place, part)?;
     if came.against().is_some() {
         return Ok(Turn::Broken(came));
     }
     match came.message(alloc)? {
         None => Ok(Turn::Waits(came)),
-        Some(message) => match unfit(reading, any, message.as_slice()) {
+        Some(message) => match unfit(reading, any, false, message.as_slice()) {
             None => Ok(Turn::Gives(came, message)),
             Some(misfit) => Ok(Turn::Unfit(misfit)),
         },
     }
 }
 
-// The parts with which a part begins anew. The only error is out of memory.
-pub(crate) fn alone(alloc: Global, part: &PartAs<'_>) -> Result<CameAs, AllocError>
+// The parts with which a part at this place begins anew. The only error is out of memory.
+pub(crate) fn alone(alloc: Global, place: u64, part: &PartAs<'_>) -> Result<CameAs, AllocError>
     requires number { 1 ≤ part.now.number }
     requires short { length part.now.octets.now ≤ longest_packet }
     ensures { IfOk result (Shows (alone (piece part.now))) }
 {
     let mut came = CameAs::new(alloc);
-    came.take(alloc, 0, part)?;
+    came.take_from(alloc, place, part)?;
     Ok(came)
 }

@@ -13,7 +13,7 @@ use Rattle.lpt_extract.specs.Tallies.{IsTally}
 use Rattle.lpt_layout_join.specs.declared.reading.ReadingAs.{ReadingAs}
 use Rattle.lpt_layout_join.specs.declared.skip.SkipAs.{SkipAs}
 use Rattle.lpt_layout_join.specs.Carried.{Named, carried}
-use Rattle.lpt_layout_each.specs.News.{Event, News, Given, Dropped, Unfit}
+use Rattle.lpt_layout_each.specs.News.{Event, News, Given, Dropped, Unfit, Overtaken}
 use Rattle.lpt_layout_each.specs.Streams.{told_by}
 use Rattle.lpt_layout_extract.specs.Extracts.{areas_in, notices_as, PacketsLeave}
 
@@ -24,6 +24,7 @@ abbrev pub message_of : News → List (List ℕ)
 message_of (Given m) = m ∷ []
 message_of (Dropped parts last) = []
 message_of (Unfit e) = []
+message_of (Overtaken parts last m) = m ∷ []
 
 -- the messages that did
 abbrev pub messages_in : List Event → List (List ℕ)

@@ -175,7 +175,7 @@ fn take_packet<K: Sink, L: Listener, T: TakerAs>(
         Ok(part) => {
             let held = &mut holding;
             let helds = take_part(
-                alloc, wanted, reading, place, &part, helds, held, out, hearers,
+                alloc, wanted, reading, place, octets, &part, helds, held, out, hearers,
             )?;
             Ok(Joining {
                 helds,
@@ -184,6 +184,7 @@ fn take_packet<K: Sink, L: Listener, T: TakerAs>(
             })
         }
         Err(_) => {
+            let helds = helds.pass_over(reading, octets)?;
             let (layout, held) = (&reading.layout, &mut holding);
             let listener = &mut hearers.listener;
             take_frame(alloc, wanted, layout, place, octets, held, out, listener)?;
@@ -202,6 +203,7 @@ fn take_part<K: Sink, L: Listener, T: TakerAs>(
     wanted: &Wanted,
     reading: &ReadingAs,
     place: u64,
+    octets: &[u8],
     part: &CarriedAs<'_>,
     helds: HeldsAs,
     holding: &mut Holding,
@@ -210,30 +212,30 @@ fn take_part<K: Sink, L: Listener, T: TakerAs>(
 ) -> Result<HeldsAs, StreamFault>
     requires number { 1 ≤ part.now.part.number }
     requires short { length part.now.part.octets.now ≤ longest_packet }
-    ensures kept { (bs : List (List ℕ)) (b : List ℕ) → HoldsEach reading.now false bs helds
-        → carried reading.now b ≡ Ok (named part.now)
-        → IfOk result (HoldsEach reading.now false (bs ++ b ∷ [])) }
-    ensures read { (bs : List (List ℕ)) (b : List ℕ) → HoldsEach reading.now false bs helds
-        → carried reading.now b ≡ Ok (named part.now)
+    ensures kept { (bs : List (List ℕ)) → HoldsEach reading.now false bs helds
+        → carried reading.now octets.now ≡ Ok (named part.now)
+        → IfOk result (HoldsEach reading.now false (bs ++ octets.now ∷ [])) }
+    ensures read { (bs : List (List ℕ)) → HoldsEach reading.now false bs helds
+        → carried reading.now octets.now ≡ Ok (named part.now)
         → OnOk result (IsRead wanted.now reading.now place
-        (reads_by reading.now bs b (carried reading.now b))
+        (reads_by reading.now bs octets.now (carried reading.now octets.now))
         holding.old holding.new (K.contents out.old) (K.contents out.new)
         (L.heard hearers.old.listener) (L.heard hearers.new.listener)) }
-    ensures told { (bs : List (List ℕ)) (b : List ℕ) → HoldsEach reading.now false bs helds
-        → carried reading.now b ≡ Ok (named part.now)
+    ensures told { (bs : List (List ℕ)) → HoldsEach reading.now false bs helds
+        → carried reading.now octets.now ≡ Ok (named part.now)
         → OnOk result (each.Hears (T.heard hearers.old.taker) (T.heard hearers.new.taker)
-        (told_by reading.now false bs b (carried reading.now b))) }
+        (told_by reading.now false bs octets.now (carried reading.now octets.now))) }
     ensures fault { IfErr result (λ e. (e ≡ StreamFault.Write) ⊎ (e ≡ StreamFault.Memory)) }
-    ensures part { (bs : List (List ℕ)) (b : List ℕ) → HoldsEach reading.now false bs helds
-        → carried reading.now b ≡ Ok (named part.now)
+    ensures part { (bs : List (List ℕ)) → HoldsEach reading.now false bs helds
+        → carried reading.now octets.now ≡ Ok (named part.now)
         → IfErr result (λ _. AppendsPart (K.contents out.old) (K.contents out.new)
         (written_first wanted.now.at (areas_in wanted.now reading.now.layout
-        (reads_by reading.now bs b (carried reading.now b))))) }
+        (reads_by reading.now bs octets.now (carried reading.now octets.now))))) }
     ensures writer { OnOk result (K.failed out.new ≡ K.failed out.old) }
     ensures failed { IfErr result (λ e. (e ≡ StreamFault.Write)
         ⊎ (K.failed out.new ≡ failed_write e (K.failed out.old))) }
 {
-    let (helds, event) = match helds.take(alloc, reading, false, part) {
+    let (helds, event) = match helds.take(alloc, reading, false, place, octets, part) {
         Ok(taken) => taken,
         Err(_) => return Err(StreamFault::Memory),
     };
@@ -273,7 +275,7 @@ fn take_news<K: Sink, L: Listener, T: TakerAs>(
 {
     hearers.taker.take(name, news)?;
     match news {
-        NewsAs::Given(message) => {
+        NewsAs::Given(message) | NewsAs::Overtaken(_, message) => {
             let (layout, listener) = (&reading.layout, &mut hearers.listener);
             take_frame(
                 alloc,

@@ -36,7 +36,7 @@ highest-more (p ∷ qs) q =
     omega (arith, more)
 
 -- the octets of a number, with one part more
-octets-more : (qs : List Piece) (q : Piece) (n : ℕ) (same : Bool)
+pub octets-more : (qs : List Piece) (q : Piece) (n : ℕ) (same : Bool)
     → (q.number == n) ≡ same
     → octets_of (qs ++ q ∷ []) n ≡ option_or (octets_of qs n) (if same then Some q.octets else None)
 octets-more qs q n same e =

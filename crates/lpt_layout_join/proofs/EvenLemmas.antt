@@ -13,7 +13,7 @@ use Rattle.lpt_layout_join.specs.declared.reading.ReadingAs.{ReadingAs}
 use Rattle.lpt_layout_join.specs.declared.skip.SkipAs.{SkipAs}
 use Rattle.lpt_layout_join.specs.Came.{Came, size_by, size_told, last_by, last_told, octets_told, octets_of, size_of, last_of, highest, other_octets, other_size, other_last, other_end, contradicts, step}
 use Rattle.lpt_layout_join.specs.Carried.{Named, carried, name_of}
-use Rattle.lpt_layout_join.specs.Hearing.{Heard, all_heard, heard, is_joined, next, nothing_heard, with_packet, with_part}
+use Rattle.lpt_layout_join.specs.Hearing.{Heard, all_heard, heard, is_joined, next, nothing_heard, with_counts, with_packet, with_part}
 use Rattle.lpt_layout_join.specs.Laws.{HasItsLength}
 use Rattle.lpt_layout_join.proofs.CameLemmas.{first_told-more}
 
@@ -148,7 +148,8 @@ even-all : (r : ReadingAs) (h : Heard) (bs : List (List ℕ))
     → AreEven h.came.parts
     → AreEven (all_heard r h bs).came.parts
 even-all r h [] even = even
-even-all r h (b ∷ bs) even = even-all r (next r h b) bs (even-packet h (carried r b) even)
+even-all r h (b ∷ bs) even =
+    even-all r (next r h b) bs (even-packet (with_counts r h b) (carried r b) even)
 
 -- whatever packets came
 pub even-heard : (r : ReadingAs) (asked : Option NameAs) (bs : List (List ℕ)) (k : ℕ) (x : List ℕ)

@@ -1,5 +1,5 @@
 -- A stream of packets, heard packet by packet.
-use Rattle.std.proofs.Common.{◌≡◌, ◌∙◌, ap, sym, subst, refl, inl, ℕ, ◌+◌, Bool, Err, List, [], ◌∷◌, ◌++◌, length, take, drop, Option, length-append, arith}
+use Rattle.std.proofs.Common.{◌≡◌, ◌∙◌, ap, sym, subst, refl, inl, ℕ, ◌+◌, Bool, Err, List, [], ◌∷◌, ◌++◌, length, take, drop, Option, Some, length-append, arith}
 use Rattle.std.specs.Io.KnownBytes.{Consumes, IsAtEnd}
 use Rattle.std.proofs.KnownBytes.{Consumes-nil, Consumes-trans}
 use Rattle.lpt_text.specs.Streams.{ReadFails}
@@ -10,10 +10,13 @@ use Rattle.lpt_frames.specs.Frames.{IsCut, IsFrame}
 use Rattle.lpt_frames.specs.declared.buffer.FrameBuffer.{FrameBuffer}
 use Rattle.lpt_frames.proofs.FrameLemmas.{cut-more, cut-next, cut-none}
 use Rattle.lpt_stream.specs.Streams.{IsUnfinished}
+use Rattle.lpt_layout_join.specs.declared.came.CameAs.{CameAs}
 use Rattle.lpt_layout_join.specs.declared.hearing.HeardAs.{HeardAs}
 use Rattle.lpt_layout_join.specs.declared.hearing.LeftAs.{LeftAs}
 use Rattle.lpt_layout_join.specs.declared.names.NameAs.{NameAs}
 use Rattle.lpt_layout_join.specs.declared.reading.ReadingAs.{ReadingAs}
+use Rattle.lpt_layout_join.specs.Came.{Came}
+use Rattle.lpt_layout_join.specs.CameInside.{Shows}
 use Rattle.lpt_layout_join.specs.Hearing.{Heard, Hears, IsEndless, Leaves, ShowsHeard, all_heard, heard, left_at, next, nothing_heard}
 
 -- with one packet more behind them
@@ -122,3 +125,20 @@ pub find-reader : (Over : Type 0) (fault : StreamFault) (x y : FrameBuffer) (a b
 find-reader Over faults.Read x y a b had failed h = inl h.2
 find-reader Over faults.Write x y a b had failed h = h.2
 find-reader Over faults.Memory x y a b had failed h = h.2
+
+-- a part came of the transaction that is joined
+pub own-shown : (h : Heard) (s : HeardAs) (n : NameAs) (c : Came) (t : CameAs)
+    → ShowsHeard h s
+    → Shows c t
+    → ShowsHeard (record h { name = Some n; came = c }) (record s { name = Some n; came = t })
+own-shown h s n c t shows came = record {
+  name_is = refl;
+  came_is = came;
+  order_is = shows.order_is;
+  sure_is = shows.sure_is;
+  counts_are = shows.counts_are;
+  other_is = shows.other_is;
+  skipped_is = shows.skipped_is;
+  skips_are = shows.skips_are;
+  place_is = shows.place_is;
+}

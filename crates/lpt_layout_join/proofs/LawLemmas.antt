@@ -1,7 +1,6 @@
 -- A stream of packets that carry the parts of one message, and others.
 use Rattle.std.proofs.Common.{◌≡◌, ◌⊎◌, ◌∙◌, ap, sym, subst, refl, inl, inr, ℕ, ◌≤◌, ◌==◌, ◌&&◌, Bool, true, false, not, if◌then◌else◌, List, [], ◌∷◌, ◌++◌, length, arith, Ok, Err, Result}
 use Rattle.std.specs.Prelude.{Option, Some, None, is_some}
-use Rattle.std.proofs.lemmas.Bool.Decides.{nat_tests}
 use Rattle.lpt_part.specs.Parts.{Piece, nth_part}
 use Rattle.lpt_part.specs.Splitting.{part_count, part_of}
 use Rattle.lpt_packet.proofs.BoolLemmas.{not_true}
@@ -11,16 +10,11 @@ use Rattle.lpt_layout_join.specs.declared.skip.SkipAs.{SkipAs}
 use Rattle.lpt_layout_join.specs.declared.ending.EndAs.TheVariants.{Several}
 use Rattle.lpt_layout_join.specs.Came.{Came, contradicts, message_of, octets_of, step}
 use Rattle.lpt_layout_join.specs.Carried.{Named, carried, name_of, same_name}
-use Rattle.lpt_layout_join.specs.Hearing.{Heard, all_heard, heard, is_joined, next, nothing_heard, with_packet, with_part}
+use Rattle.lpt_layout_join.specs.Hearing.{Heard, all_heard, heard, is_joined, next, nothing_heard, with_counts, with_own, with_packet, with_part}
 use Rattle.lpt_layout_join.specs.Laws.{IsSplit, OneOrOther, AreOneOrOther, EachIsAmong, IsAmong, IsAsked, is_other, part_named}
 use Rattle.lpt_layout_join.specs.Writes.{end_by, end_of, end_whole, unfit}
+use Rattle.lpt_layout_join.proofs.NameLemmas.{same_name-refl}
 use Rattle.lpt_layout_join.proofs.PartsLemmas.{AreNth, agrees, joined-all, nth-more, octets-come, octets-kept}
-
-same_name-refl : (n : NameAs) → same_name n n ≡ true
-same_name-refl n =
-    let user : (n.user == n.user) ≡ true = grind (arith, nat_tests) in
-    let id : (n.id == n.id) ≡ true = grind (arith, nat_tests) in
-    λ i. user i && id i
 
 -- ---- what stays
 
@@ -50,7 +44,7 @@ all-kept : (r : ReadingAs) (h : Heard) (bs : List (List ℕ)) (k : ℕ) (x : Lis
     → octets_of (all_heard r h bs).came.parts k ≡ Some x
 all-kept r h [] k x e = e
 all-kept r h (b ∷ bs) k x e =
-    all-kept r (next r h b) bs k x (packet-kept h (carried r b) k x e)
+    all-kept r (next r h b) bs k x (packet-kept (with_counts r h b) (carried r b) k x e)
 
 module _ (r : ReadingAs) (asked : Option NameAs) (n : NameAs) (p : ℕ) (m : List ℕ)
     (split : IsSplit p m) (is_asked : IsAsked asked n) where
@@ -72,10 +66,9 @@ module _ (r : ReadingAs) (asked : Option NameAs) (n : NameAs) (p : ℕ) (m : Lis
   -- ---- a part of the message
 
   abbrev with_nth : Heard → ℕ → Heard
-  with_nth h k = record h {
-    name = Some n;
-    came = record h.came { parts = h.came.parts ++ nth_part p n.id m k ∷ [] };
-  }
+  with_nth h k =
+      with_own h (part_named n p m k)
+      (record h.came { parts = h.came.parts ++ nth_part p n.id m k ∷ [] })
 
   step-nth : (h : Heard) (k : ℕ)
       → Goes h
@@ -87,7 +80,7 @@ module _ (r : ReadingAs) (asked : Option NameAs) (n : NameAs) (p : ℕ) (m : Lis
       let agree : contradicts h.came.parts q ≡ false =
       agrees m p n.id split h.came.parts k g.parts_are some within in
       ap (with_part h (part_named n p m k)) (joins h.name g.name_is)
-      ∙ ap (λ (c : Came). record h { name = Some n; came = c })
+      ∙ ap (with_own h (part_named n p m k))
       (ap (λ (o : Option ℕ). if is_some o then h.came
       else if contradicts h.came.parts q then record h.came { against = Some h.place }
       else record h.came { parts = h.came.parts ++ q ∷ [] }) g.against_is
@@ -156,17 +149,27 @@ module _ (r : ReadingAs) (asked : Option NameAs) (n : NameAs) (p : ℕ) (m : Lis
     other_is = g.other_is;
   }
 
+  goes-counts : (h : Heard) (b : List ℕ) → Goes h → Goes (with_counts r h b)
+  goes-counts h b g = record {
+    name_is = g.name_is;
+    parts_are = g.parts_are;
+    against_is = g.against_is;
+    other_is = g.other_is;
+  }
+
   goes-next : (h : Heard) (b : List ℕ)
       → Goes h
       → OneOrOther r asked n p m b
       → Goes (next r h b)
   goes-next h b g (inl one) =
-      goes-moved (with_packet h (carried r b)) _
-      (subst Goes (sym (ap (with_packet h) one.carries
-      ∙ step-nth h one.number g one.some one.within))
-      (goes-nth h one.number g one.some one.within))
+      let now = with_counts r h b in
+      goes-moved (with_packet now (carried r b)) _
+      (subst Goes (sym (ap (with_packet now) one.carries
+      ∙ step-nth now one.number (goes-counts h b g) one.some one.within))
+      (goes-nth now one.number (goes-counts h b g) one.some one.within))
   goes-next h b g (inr other) =
-      goes-moved (with_packet h (carried r b)) _ (goes-other h (carried r b) g other)
+      goes-moved (with_packet (with_counts r h b) (carried r b)) _
+      (goes-other (with_counts r h b) (carried r b) (goes-counts h b g) other)
 
   goes-all : (h : Heard) (bs : List (List ℕ))
       → Goes h
@@ -187,7 +190,8 @@ module _ (r : ReadingAs) (asked : Option NameAs) (n : NameAs) (p : ℕ) (m : Lis
   comes h (b ∷ bs) k g all some within (inl here) =
       all-kept r (next r h b) bs k (part_of m p k)
       (ap (λ (x : Heard). octets_of x.came.parts k)
-      (ap (with_packet h) here ∙ step-nth h k g some within)
+      (ap (with_packet (with_counts r h b)) here
+      ∙ step-nth (with_counts r h b) k (goes-counts h b g) some within)
       ∙ octets-come m p n.id split h.came.parts k g.parts_are)
   comes h (b ∷ bs) k g all some within (inr later) =
       comes (next r h b) bs k (goes-next h b g all.0) all.1 some within later
@@ -216,7 +220,8 @@ module _ (r : ReadingAs) (asked : Option NameAs) (n : NameAs) (p : ℕ) (m : Lis
   pub end-is : (bs : List (List ℕ)) (any : Bool)
       → AreOneOrOther r asked n p m bs
       → EachIsAmong r n p m bs
-      → end_of r any (is_some asked) (heard r asked bs) ≡ end_whole m (unfit r any m)
+      → end_of r any (is_some asked) (heard r asked bs)
+      ≡ end_whole m (unfit r any (heard r asked bs).sure m)
   unfolding heard
   end-is bs any all each =
       let h : Heard = all_heard r (nothing_heard asked) bs in
@@ -224,7 +229,7 @@ module _ (r : ReadingAs) (asked : Option NameAs) (n : NameAs) (p : ℕ) (m : Lis
       let whole : message_of h.came.parts ≡ Some m = message-is bs all each in
       let few : (not (is_some asked) && is_some h.other) ≡ false =
       alone (is_some asked) h.other g.other_is in
-      (λ i. if few i then Several else end_by r any h.came.against (whole i)) where
+      (λ i. if few i then Several else end_by r any h.sure h.came.against (whole i)) where
         alone : (t : Bool) (o : Option NameAs)
             → (t ≡ false → o ≡ None)
             → (not t && is_some o) ≡ false

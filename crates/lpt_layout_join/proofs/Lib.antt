@@ -1,9 +1,13 @@
 pub mod CameLemmas
+pub mod CountLemmas
 pub mod EvenLemmas
 pub mod HearLemmas
+pub mod InOrderLemmas
 pub mod LawLemmas
 pub mod MadeLemmas
+pub mod NameLemmas
 pub mod OwnLemmas
 pub mod PartsLemmas
 pub mod SlotLemmas
+pub mod SureLemmas
 pub mod WriteLemmas

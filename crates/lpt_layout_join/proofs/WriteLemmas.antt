@@ -28,16 +28,19 @@ kept-leaves end m a b c k h = (h.0, kept-appends a b c _ k h.1)
 
 -- a front part of a whole message
 pub whole-leaves : (r : ReadingAs) (any asked : Bool) (h : Heard) (m : List ℕ)
-    (a b : Option (List ℕ)) (result : Result EndAs StreamFault)
+    (a b : Option (List ℕ)) (result : Result EndAs StreamFault) (sure : Bool)
+    → sure ≡ h.sure
     → (not asked && is_some h.other) ≡ false
     → message_of h.came.parts ≡ Some m
-    → IfErr result (λ _. LeavesEnd (end_whole m (unfit r any m)) (Some m) a b)
+    → IfErr result (λ _. LeavesEnd (end_whole m (unfit r any sure m)) (Some m) a b)
     → IfErr result (λ _. LeavesEnd (end_of r any asked h) (message_of h.came.parts) a b)
-whole-leaves r any asked h m a b (Ok end) one is leaves = tt
-whole-leaves r any asked h m a b (Err e) one is leaves =
+whole-leaves r any asked h m a b (Ok end) sure same one is leaves = tt
+whole-leaves r any asked h m a b (Err e) sure same one is leaves =
     let parts = message_of h.came.parts in
-    let ends : end_of r any asked h ≡ end_whole m (unfit r any m) =
-    ap (λ (s : Bool). if s then Several else end_by r any h.came.against parts) one
-    ∙ ap (end_by r any h.came.against) is in
+    let ends : end_of r any asked h ≡ end_whole m (unfit r any sure m) =
+    ap (λ (s : Bool). if s then Several else end_by r any h.sure h.came.against parts) one
+    ∙ ap (end_by r any h.sure h.came.against) is
+    ∙ ap (λ (s : Bool). end_whole m (unfit r any s m)) (sym same) in
     subst (λ (end : EndAs). LeavesEnd end parts a b) (sym ends)
-    (subst (λ (o : Option (List ℕ)). LeavesEnd (end_whole m (unfit r any m)) o a b) (sym is) leaves)
+    (subst (λ (o : Option (List ℕ)). LeavesEnd (end_whole m (unfit r any sure m)) o a b)
+    (sym is) leaves)

@@ -73,6 +73,11 @@ of_sight r (Ok (APacket f)) =
 unfoldable pub carried : ReadingAs → List ℕ → Result Named SkipAs
 carried r b = of_sight r (verdict_as r.layout.has_checksum b)
 
+-- the part of this name among what a packet carries
+abbrev pub part_of : NameAs → Result Named SkipAs → Option Piece
+part_of n (Ok c) = if same_name (name_of c) n then Some c.piece else None
+part_of n (Err e) = None
+
 -- what a reader answered is this
 abbrev pub Gives : Result CarriedAs SkipAs → Result Named SkipAs → Type 0
 Gives (Ok c) v = v ≡ Ok (named c)

@@ -1,5 +1,5 @@
 -- What a stream's packets give: of the transaction that is joined, and what else came.
-use Rattle.std.specs.Prelude.{◌≡◌, ◌<◌, ◌+◌, ℕ, Bool, true, false, List, [], ◌∷◌, length, Option, Some, None, Result, Ok, Err}
+use Rattle.std.specs.Prelude.{◌≡◌, ◌<◌, ◌+◌, ◌||◌, ℕ, Bool, true, false, if◌then◌else◌, List, [], ◌∷◌, length, Option, Some, None, is_some, Result, Ok, Err}
 use Rattle.std.specs.Io.KnownBytes.{Consumes, IsAtEnd}
 use Rattle.std.specs.Option.{option_or}
 use Rattle.lpt_frames.specs.Frames.{IsCut, IsStray}
@@ -9,18 +9,26 @@ use Rattle.lpt_layout_join.specs.declared.hearing.HeardAs.{HeardAs}
 use Rattle.lpt_layout_join.specs.declared.hearing.LeftAs.{LeftAs}
 use Rattle.lpt_layout_join.specs.declared.hearing.LeftAs.TheVariants.{Nothing, Unfinished, Stray}
 use Rattle.lpt_layout_join.specs.declared.names.NameAs.{NameAs}
+use Rattle.lpt_layout_join.specs.declared.order.Order.{Order}
 use Rattle.lpt_layout_join.specs.declared.reading.ReadingAs.{ReadingAs}
 use Rattle.lpt_layout_join.specs.declared.skip.SkipAs.{SkipAs}
-use Rattle.lpt_layout_join.specs.Came.{Came, nothing_came, step}
+use Rattle.lpt_layout_join.specs.Came.{Came, last_of, nothing_came, step}
 use Rattle.lpt_layout_join.specs.CameInside.{Shows}
 use Rattle.lpt_layout_join.specs.Carried.{Named, carried, name_of, same_name}
+use Rattle.lpt_layout_join.specs.Counts.{Counted, counted, nothing_counted}
+use Rattle.lpt_layout_join.specs.CountsInside.{shown}
+use Rattle.lpt_layout_join.specs.Orders.{is_in_order, no_order, ordered}
 
--- what packets gave: the name of the transaction that is joined and what came of it; the first
--- name of another; why the first carried no part, and its place; how many carried none; and how
--- many octets they had
+-- what packets gave: the name of the transaction that is joined and what came of it; which parts of
+-- it came in their order, and whether all of them did so, with few counts missing between them; the
+-- counts that are missing; the first name of another; why the first carried no part, and its place;
+-- how many carried none; and how many octets they had
 pub record Heard : Type 0 where
   pub name : Option NameAs
   pub came : Came
+  pub order : Order
+  pub sure : Bool
+  pub counts : Counted
   pub other : Option NameAs
   pub skipped : Option (ℕ × SkipAs)
   pub skips : ℕ
@@ -31,6 +39,9 @@ abbrev pub nothing_heard : Option NameAs → Heard
 nothing_heard name = record {
   name = name;
   came = nothing_came;
+  order = no_order;
+  sure = false;
+  counts = nothing_counted;
   other = None;
   skipped = None;
   skips = 0;
@@ -42,10 +53,27 @@ abbrev pub is_joined : Option NameAs → NameAs → Bool
 is_joined None n = true
 is_joined (Some m) n = same_name m n
 
--- a part came of the transaction that is joined, or of another
+-- with a part of this number; one that contradicts those that came ends it
+abbrev pub in_order : Heard → (against : Bool) → (number : ℕ) → Order
+in_order h against n = if against then no_order else ordered h.order n h.counts.missing
+
+-- these came, in this order
+abbrev pub with_came : Heard → Came → Order → Heard
+with_came h c o = record h {
+  came = c;
+  order = o;
+  sure = h.sure || is_in_order (last_of c.parts) o;
+}
+
+-- a part came of the transaction that is joined
+abbrev pub with_own : Heard → Named → Came → Heard
+with_own h c came =
+    with_came (record h { name = Some (name_of c) }) came
+    (in_order h (is_some came.against) c.piece.number)
+
+-- or of another
 abbrev pub with_part : Heard → Named → (joined : Bool) → Heard
-with_part h c true =
-    record h { name = Some (name_of c); came = step h.came h.place c.piece }
+with_part h c true = with_own h c (step h.came h.place c.piece)
 with_part h c false = record h { other = option_or h.other (Some (name_of c)) }
 
 -- a packet came that carries this
@@ -61,9 +89,13 @@ with_packet h (Err e) =
 abbrev pub moved : ℕ → Heard → Heard
 moved len h = record h { place = up_to_limit (h.place + len) }
 
+-- the counts that are missing before a packet are counted
+abbrev pub with_counts : ReadingAs → Heard → List ℕ → Heard
+with_counts r h b = record h { counts = counted r h.counts b }
+
 -- a packet more came
 abbrev pub next : ReadingAs → Heard → List ℕ → Heard
-next r h b = moved (length b) (with_packet h (carried r b))
+next r h b = moved (length b) (with_packet (with_counts r h b) (carried r b))
 
 -- packets came, one behind the other
 abbrev pub all_heard : ReadingAs → Heard → List (List ℕ) → Heard
@@ -78,6 +110,9 @@ heard r name bs = all_heard r (nothing_heard name) bs
 pub record ShowsHeard (h : Heard) (s : HeardAs) : Type 0 where
   pub name_is : s.name ≡ h.name
   pub came_is : Shows h.came s.came
+  pub order_is : s.order ≡ h.order
+  pub sure_is : s.sure ≡ h.sure
+  pub counts_are : shown s.counts ≡ h.counts
   pub other_is : s.other ≡ h.other
   pub skipped_is : s.skipped ≡ h.skipped
   pub skips_are : s.skips ≡ h.skips

@@ -1,8 +1,12 @@
 pub mod Came
 pub mod Carried
 pub mod CameInside
+pub mod Counts
+pub mod CountsInside
 pub mod Hearing
+pub mod InOrder
 pub mod Laws
+pub mod Orders
 pub mod Own
 pub mod Sizes
 pub mod Writes

@@ -1,6 +1,7 @@
 -- How a message is joined from one stream to another.
-use Rattle.std.specs.Prelude.{◌≡◌, ℕ, Bool, if◌then◌else◌, ◌&&◌, not, List, [], length, Option, Some, None, is_some, Result, Ok, Err}
+use Rattle.std.specs.Prelude.{◌≡◌, ℕ, Bool, if◌then◌else◌, ◌&&◌, ◌||◌, not, List, [], length, Option, Some, None, is_some, Result, Ok, Err}
 use Rattle.std.specs.Io.KnownBytes.{Appends, Keeps}
+use Rattle.std.specs.Option.{option_or}
 use Rattle.lpt_layout.specs.Messages.{is_kind}
 use Rattle.lpt_layout.specs.Packets.{verdict_as}
 use Rattle.lpt_packet.specs.declared.direction.Direction.{Direction}
@@ -11,7 +12,7 @@ use Rattle.lpt_text.specs.Streams.{AppendsPart}
 use Rattle.lpt_layout_join.specs.declared.ending.EndAs.{EndAs}
 use Rattle.lpt_layout_join.specs.declared.ending.EndAs.TheVariants.{Written, Unfit, Missing, BrokenOff, Several}
 use Rattle.lpt_layout_join.specs.declared.ending.MisfitAs.{MisfitAs}
-use Rattle.lpt_layout_join.specs.declared.ending.MisfitAs.TheVariants.{NoPacket, OtherKind}
+use Rattle.lpt_layout_join.specs.declared.ending.MisfitAs.TheVariants.{NoPacket, OtherKind, Unsure}
 use Rattle.lpt_layout_join.specs.declared.reading.ReadingAs.{ReadingAs}
 use Rattle.lpt_layout_join.specs.Came.{message_of}
 use Rattle.lpt_layout_join.specs.Carried.{kind_to}
@@ -31,9 +32,14 @@ sight_misfit r (Ok (APacket f)) = kind_misfit r.direction f.kind
 abbrev pub misfit : ReadingAs → List ℕ → Option MisfitAs
 misfit r m = sight_misfit r (verdict_as r.layout.has_checksum m)
 
+-- or, where packets have no checksum that tells a mixture, that they may be joined of parts of
+-- several: unless it is sure that they aren't
+abbrev pub unsure : ReadingAs → (sure : Bool) → Option MisfitAs
+unsure r sure = if r.layout.has_checksum || sure then None else Some Unsure
+
 -- the same, where not any octets are taken
-abbrev pub unfit : ReadingAs → (any : Bool) → List ℕ → Option MisfitAs
-unfit r any m = if any then None else misfit r m
+abbrev pub unfit : ReadingAs → (any sure : Bool) → List ℕ → Option MisfitAs
+unfit r any sure m = if any then None else option_or (misfit r m) (unsure r sure)
 
 -- how it ends, of a message that is joined: written, unless it isn't fit
 abbrev pub end_whole : List ℕ → (unfit : Option MisfitAs) → EndAs
@@ -46,15 +52,15 @@ end_missing None = Missing
 end_missing (Some place) = BrokenOff place
 
 -- how it ends, where the message is whole, and where it isn't
-abbrev pub end_by : ReadingAs → (any : Bool) → (against : Option ℕ) → Option (List ℕ) → EndAs
-end_by r any against (Some m) = end_whole m (unfit r any m)
-end_by r any against None = end_missing against
+abbrev pub end_by : ReadingAs → (any sure : Bool) → (against : Option ℕ) → Option (List ℕ) → EndAs
+end_by r any sure against (Some m) = end_whole m (unfit r any sure m)
+end_by r any sure against None = end_missing against
 
 -- how it ends; where any transaction was asked for, and parts of another came too, as several
 abbrev pub end_of : ReadingAs → (any asked : Bool) → Heard → EndAs
 end_of r any asked h =
     if not asked && is_some h.other then Several
-    else end_by r any h.came.against (message_of h.came.parts)
+    else end_by r any h.sure h.came.against (message_of h.came.parts)
 
 -- the message is written, where it ends so, and else nothing
 abbrev pub WritesEnd : EndAs → (m : Option (List ℕ)) → (old new : Option (List ℕ)) → Type 0

@@ -24,12 +24,14 @@ pub struct CameAs {
     size: Option<usize>,
     last: Option<LastPart>,
     against: Option<u64>,
+    began: Option<u64>,
     ghost small: { is_small size ≡ true },
     ghost small_last: { is_small_last last ≡ true },
 }
 
 impl CameAs {
-    ghost use Rattle.std.specs.Prelude.{◌≡◌, ◌≤◌, ◌∷◌, ◌++◌, [], length, OnOk, IfOk, None, is_some};
+    ghost use Rattle.std.specs.Prelude.{◌≡◌, ◌≤◌, ◌∷◌, ◌++◌, [], length, OnOk, IfOk, Some, None, is_some};
+    ghost use Rattle.std.specs.Option.{option_or};
     ghost use Rattle.lpt_packet.specs.Sizes.{longest_packet};
     ghost use Rattle.lpt_layout.specs.Parts.{piece};
     ghost use Rattle.lpt_layout_join.specs.Came.{Came, nothing_came, has_part, highest, is_against, last_of, message_of, octets_of, size_of, step};
@@ -45,6 +47,7 @@ impl CameAs {
             size: None,
             last: None,
             against: None,
+            began: None,
         }
     }
 
@@ -52,8 +55,9 @@ impl CameAs {
     pub fn take(&mut self, alloc: Global, place: u64, part: &PartAs<'_>) -> Result<(), AllocError>
         requires number { 1 ≤ part.now.number }
         requires short { length part.now.octets.now ≤ longest_packet }
-        ensures { (c : Came) → Shows c self.old
+        ensures came { (c : Came) → Shows c self.old
             → OnOk result (Shows (step c place (piece part.now)) self.new) }
+        ensures began { OnOk result (self.new.began ≡ self.old.began) }
     {
         if self.against.is_some() {
             return Ok(());
@@ -63,6 +67,32 @@ impl CameAs {
             return Ok(());
         }
         self.keep(alloc, part)
+    }
+
+    /// Takes a part whose packet stands at this place, from which on they are told. The only error
+    /// is out of memory.
+    pub fn take_from(
+        &mut self,
+        alloc: Global,
+        place: u64,
+        part: &PartAs<'_>,
+    ) -> Result<(), AllocError>
+        requires number { 1 ≤ part.now.number }
+        requires short { length part.now.octets.now ≤ longest_packet }
+        ensures came { (c : Came) → Shows c self.old
+            → OnOk result (Shows (step c 0 (piece part.now)) self.new) }
+        ensures began { OnOk result (self.new.began ≡ option_or self.old.began (Some place)) }
+    {
+        self.take(alloc, 0, part)?;
+        self.began = self.began.or(Some(place));
+        Ok(())
+    }
+
+    /// The place of the first of them, where it was told.
+    pub fn began(&self) -> Option<u64>
+        ensures { result ≡ self.now.began }
+    {
+        self.began
     }
 
     // Whether a part contradicts those that came.
@@ -82,8 +112,9 @@ impl CameAs {
     fn keep(&mut self, alloc: Global, part: &PartAs<'_>) -> Result<(), AllocError>
         requires number { 1 ≤ part.now.number }
         requires short { length part.now.octets.now ≤ longest_packet }
-        ensures { (c : Came) → Shows c self.old → c.against ≡ None
+        ensures came { (c : Came) → Shows c self.old → c.against ≡ None
             → OnOk result (Shows (record c { parts = c.parts ++ piece part.now ∷ [] }) self.new) }
+        ensures began { OnOk result (self.new.began ≡ self.old.began) }
     {
         put(alloc, &mut self.slots, part)?;
         self.missing = next_empty(&self.slots, self.missing);

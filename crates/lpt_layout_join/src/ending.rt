@@ -10,6 +10,10 @@ pub enum MisfitAs {
     NoPacket(PacketFault),
     /// It is telemetry upwards, a telecommand downwards, or an idle packet.
     OtherKind,
+    /// Packets have no checksum, and its parts may be of several messages: they didn't come in
+    /// their order, or between two of them as many sequence counts are missing as a message has
+    /// parts up to the first of these.
+    Unsure,
 }
 
 /// How a join ends whose stream was read.

@@ -3,7 +3,7 @@
 ghost use Rattle.std.specs.Prelude.{◌≡◌};
 ghost use Rattle.lpt_layout_join.specs.Hearing.{is_joined};
 
-use crate::{CameAs, CarriedAs, NameAs, ReadingAs, SkipAs, carried};
+use crate::{CameAs, CarriedAs, Counts, NameAs, Order, ReadingAs, SkipAs, carried};
 use std::alloc::{AllocError, Global};
 
 /// What a stream's packets gave: of the transaction that is joined, and what else came. A place is
@@ -14,6 +14,12 @@ pub struct HeardAs {
     pub name: Option<NameAs>,
     /// What came of it.
     pub came: CameAs,
+    /// Which of its parts came in their order.
+    pub order: Order,
+    /// Whether all of them did, with few sequence counts missing between them.
+    pub sure: bool,
+    /// How many counts are missing.
+    pub counts: Counts,
     /// The first other transaction of which a part came.
     pub other: Option<NameAs>,
     /// Why the first packet that carries no part carries none, and its place.
@@ -36,10 +42,10 @@ pub enum LeftAs {
 }
 
 impl HeardAs {
-    ghost use Rattle.std.specs.Prelude.{◌≤◌, length, OnOk};
+    ghost use Rattle.std.specs.Prelude.{◌≤◌, length, OnOk, is_some};
     ghost use Rattle.lpt_packet.specs.Sizes.{longest_packet};
-    ghost use Rattle.lpt_layout_join.specs.Carried.{name_of, named};
-    ghost use Rattle.lpt_layout_join.specs.Hearing.{Heard, ShowsHeard, next, nothing_heard, with_part};
+    ghost use Rattle.lpt_layout_join.specs.Carried.{carried, name_of, named};
+    ghost use Rattle.lpt_layout_join.specs.Hearing.{Heard, ShowsHeard, in_order, next, nothing_heard, with_came, with_packet, with_part};
 
     /// Nothing came yet, where a transaction of this name was asked for, or any.
     pub fn new(alloc: Global, name: Option<NameAs>) -> HeardAs
@@ -48,6 +54,9 @@ impl HeardAs {
         HeardAs {
             name,
             came: CameAs::new(alloc),
+            order: Order::none(),
+            sure: false,
+            counts: Counts::new(alloc),
             other: None,
             skipped: None,
             skips: 0,
@@ -65,6 +74,22 @@ impl HeardAs {
         ensures { (h : Heard) → ShowsHeard h self.old
             → OnOk result (ShowsHeard (next reading.now h octets.now) self.new) }
     {
+        self.counts.take(reading, octets)?;
+        self.take_carried(alloc, reading, octets)?;
+        self.place = self.place.saturating_add(octets.len() as u64);
+        Ok(())
+    }
+
+    // Takes what a packet carries. The only error is out of memory.
+    fn take_carried(
+        &mut self,
+        alloc: Global,
+        reading: &ReadingAs,
+        octets: &[u8],
+    ) -> Result<(), AllocError>
+        ensures { (h : Heard) → ShowsHeard h self.old → OnOk result (ShowsHeard
+            (with_packet h (carried reading.now octets.now)) self.new) }
+    {
         match carried(reading, octets) {
             Ok(carried) => self.take_part(alloc, &carried)?,
             Err(skip) => {
@@ -72,7 +97,6 @@ impl HeardAs {
                 self.skips = self.skips.saturating_add(1);
             }
         }
-        self.place = self.place.saturating_add(octets.len() as u64);
         Ok(())
     }
 
@@ -88,10 +112,23 @@ impl HeardAs {
         if is_joined(self.name, name) {
             self.came.take(alloc, self.place, &carried.part)?;
             self.name = Some(name);
+            self.put_in_order(carried.part.number);
         } else {
             self.other = self.other.or(Some(name));
         }
         Ok(())
+    }
+
+    // Notes in which order the part of this number came that was taken last.
+    fn put_in_order(&mut self, number: u32)
+        ensures { (h : Heard) → ShowsHeard h self.old → ShowsHeard
+            (with_came h h.came (in_order h (is_some h.came.against) number)) self.new }
+    {
+        self.order = match self.came.against() {
+            None => self.order.with(number, self.counts.missing()),
+            Some(_) => Order::none(),
+        };
+        self.sure = self.sure || self.order.is_whole(self.came.last());
     }
 }
 

@@ -5,7 +5,7 @@ ghost use Rattle.std.specs.Io.KnownBytes.{Keeps};
 ghost use Rattle.lpt_text.specs.Streams.{ReadEnds, WriteEnds};
 ghost use Rattle.lpt_layout_join.specs.Came.{message_of};
 ghost use Rattle.lpt_layout_join.specs.Hearing.{Heard, Hears, IsEndless, ShowsHeard, heard};
-ghost use Rattle.lpt_layout_join.specs.Writes.{Ends, LeavesEnd, WritesEnd, end_missing, end_of, end_whole, kind_misfit, unfit};
+ghost use Rattle.lpt_layout_join.specs.Writes.{Ends, LeavesEnd, WritesEnd, end_missing, end_of, end_whole, kind_misfit, misfit, unfit, unsure};
 ghost use Rattle.lpt_layout_join.specs.declared.hearing.LeftAs.{LeftAs};
 
 use crate::{EndAs, HeardAs, JoinedAs, MisfitAs, NameAs, ReadingAs, hear};
@@ -17,7 +17,9 @@ use std::alloc::Global;
 /// Reads a stream of packets up to its end, or to octets with which no packet begins, and writes
 /// the message of the transaction of this name, or of the only one of which parts came. Where the
 /// parts are joined to none, nothing is written, and neither where what they are joined to is no
-/// packet of the layout and the direction, unless `any` octets are taken.
+/// packet of the layout and the direction, unless `any` octets are taken. Nor is it, without `any`,
+/// by a layout without a checksum, unless the parts came in their order, and between each of them
+/// and the next fewer sequence counts of the APID are missing than the number of it.
 ///
 /// Errors: `Read` where a read failed, or where 2^64 - 1 packets came; `Write` where a write
 /// failed, behind a front part of the message; `Memory`.
@@ -79,7 +81,7 @@ fn write_heard<K: Sink>(
         return Ok(EndAs::Several);
     }
     match heard.came.message(alloc) {
-        Ok(Some(message)) => write_message(reading, any, message.as_slice(), out),
+        Ok(Some(message)) => write_message(reading, any, heard.sure, message.as_slice(), out),
         Ok(None) => Ok(end_missing(heard.came.against())),
         Err(_) => Err(StreamFault::Memory),
     }
@@ -99,20 +101,21 @@ fn end_missing(against: Option<u64>) -> EndAs
 fn write_message<K: Sink>(
     reading: &ReadingAs,
     any: bool,
+    sure: bool,
     message: &[u8],
     out: &mut K,
 ) -> Result<EndAs, StreamFault>
     ensures end { IfOk result (λ end. end
-        ≡ end_whole message.now (unfit reading.now any message.now)) }
+        ≡ end_whole message.now (unfit reading.now any sure message.now)) }
     ensures ok { IfOk result (λ end. WritesEnd end (Some message.now)
         (K.contents out.old) (K.contents out.new)) }
     ensures fault { IfErr result (λ e. e ≡ StreamFault.Write) }
     ensures leaves { IfErr result (λ _. LeavesEnd
-        (end_whole message.now (unfit reading.now any message.now)) (Some message.now)
+        (end_whole message.now (unfit reading.now any sure message.now)) (Some message.now)
         (K.contents out.old) (K.contents out.new)) }
     ensures writer { WriteEnds result (K.failed out.old) (K.failed out.new) }
 {
-    if let Some(misfit) = unfit(reading, any, message) {
+    if let Some(misfit) = unfit(reading, any, sure, message) {
         return Ok(EndAs::Unfit(misfit));
     }
     write_out(out, message)?;
@@ -120,18 +123,35 @@ fn write_message<K: Sink>(
 }
 
 /// Why octets are no packet of the layout and the direction, where they aren't, and not any are
-/// taken.
-pub fn unfit(reading: &ReadingAs, any: bool, octets: &[u8]) -> Option<MisfitAs>
-    ensures { result ≡ unfit reading.now any octets.now }
+/// taken; or that this isn't sure, where packets have no checksum.
+pub fn unfit(reading: &ReadingAs, any: bool, sure: bool, octets: &[u8]) -> Option<MisfitAs>
+    ensures { result ≡ unfit reading.now any sure octets.now }
 {
     if any {
         return None;
     }
+    misfit(reading, octets).or(unsure(reading, sure))
+}
+
+// Why octets are no packet of the layout and the direction, where they aren't.
+fn misfit(reading: &ReadingAs, octets: &[u8]) -> Option<MisfitAs>
+    ensures { result ≡ misfit reading.now octets.now }
+{
     match read_packet_as(&reading.layout, octets) {
         Ok(SeenAs::Packet(packet)) => kind_misfit(reading.direction, packet.kind),
         Ok(SeenAs::Idle) => Some(MisfitAs::OtherKind),
         Err(fault) => Some(MisfitAs::NoPacket(fault)),
     }
+}
+
+// That octets may be joined of parts of several messages, where nothing tells.
+fn unsure(reading: &ReadingAs, sure: bool) -> Option<MisfitAs>
+    ensures { result ≡ unsure reading.now sure }
+{
+    if reading.layout.has_checksum || sure {
+        return None;
+    }
+    Some(MisfitAs::Unsure)
 }
 
 // Why a packet of this type is none of the direction, where it isn't.

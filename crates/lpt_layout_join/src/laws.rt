@@ -1,6 +1,6 @@
 //! What the definitions say of the parts of one message: functions with empty bodies.
 
-ghost use Rattle.std.specs.Prelude.{◌≡◌, ◌⊎◌, ◌≤◌, ℕ, Bool, List, Option, Some, None, Ok, length, is_some};
+ghost use Rattle.std.specs.Prelude.{◌≡◌, ◌⊎◌, ◌≤◌, ℕ, Bool, false, List, Option, Some, None, Ok, length, is_some};
 ghost use Rattle.std.specs.Option.{option_map};
 ghost use Rattle.std.specs.Result.{result_ok};
 ghost use Rattle.lpt_events.specs.Arrivals.{arrival, part_subtype};
@@ -17,6 +17,8 @@ ghost use Rattle.lpt_layout_join.specs.declared.reading.ReadingAs.{ReadingAs};
 ghost use Rattle.lpt_layout_join.specs.Came.{message_of, octets_of};
 ghost use Rattle.lpt_layout_join.specs.Carried.{carried, kind_to};
 ghost use Rattle.lpt_layout_join.specs.Hearing.{heard};
+ghost use Rattle.lpt_layout_join.specs.declared.ending.EndAs.TheVariants.{Written};
+ghost use Rattle.lpt_layout_join.specs.InOrder.{IsInOrder};
 ghost use Rattle.lpt_layout_join.specs.Laws.{AreOneOrOther, EachIsAmong, HasItsLength, IsAsked, IsSplit, part_named};
 ghost use Rattle.lpt_layout_join.specs.Own.{IsOwn, in_own, part_arrived};
 ghost use Rattle.lpt_layout_join.specs.Writes.{end_of, end_whole, unfit};
@@ -35,7 +37,19 @@ pub fn split_is_joined()
     ensures end { (r : ReadingAs) (asked : Option NameAs) (n : NameAs) (p : ℕ) (m : List ℕ)
         (bs : List (List ℕ)) (any : Bool) → IsSplit p m → IsAsked asked n
         → AreOneOrOther r asked n p m bs → EachIsAmong r n p m bs
-        → end_of r any (is_some asked) (heard r asked bs) ≡ end_whole m (unfit r any m) }
+        → end_of r any (is_some asked) (heard r asked bs)
+        ≡ end_whole m (unfit r any (heard r asked bs).sure m) }
+{}
+
+/// Of whatever packets: what is written of a layout without a checksum, but with `any`, is joined
+/// of parts that stand in the order of their numbers, and between each of them and the next fewer
+/// sequence counts of the APID are missing than its number.
+pub fn written_is_in_order()
+    ensures { (r : ReadingAs) (asked : Option NameAs) (bs : List (List ℕ)) (len : ℕ) (m : List ℕ)
+        → r.layout.has_checksum ≡ false
+        → end_of r false (is_some asked) (heard r asked bs) ≡ Written len
+        → message_of (heard r asked bs).came.parts ≡ Some m
+        → (n : NameAs) × ((heard r asked bs).name ≡ Some n) × IsInOrder r n bs m }
 {}
 
 /// Of whatever packets: the octets that are joined of each part have the one length that is told,

@@ -12,7 +12,7 @@ returns-clause-told g c = λ h k.
     subst (λ (es : List Event). Hears (g.T.TakerAs.heard c.args.taker.now)
     (g.T.TakerAs.heard c.take.new.self) es)
     (left-told c.args.name _ h
-    (dropped-shown h.new c.into_new.result
-    (subst (λ (s : CameAs). Shows h.new s) (sym c.into_new.ensures) k.new))
+    (dropped-shown h.held.new c.into_new.result
+    (subst (λ (s : CameAs). Shows h.held.new s) (sym c.into_new.ensures) k.held.new))
     (sym (c.is_empty.ensures h k) ∙ c.if-is_empty.false))
     c.in_ok-take.ensures.heard

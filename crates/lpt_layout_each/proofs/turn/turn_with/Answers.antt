@@ -1,5 +1,5 @@
 -- By what the parts are joined to.
-use Rattle.std.proofs.Common.{◌∙◌, ap, sym}
+use Rattle.std.proofs.Common.{◌∙◌, ap, sym, false}
 use Rattle.std.specs.Prelude.{is_some}
 use Rattle.lpt_layout.specs.Parts.{piece}
 use Rattle.lpt_layout_join.specs.Writes.{unfit}
@@ -8,46 +8,46 @@ use Rattle.lpt_layout_each.proofs.TurnLemmas.{turn-broken, turn-gives, turn-unfi
 use Rattle.lpt_layout_each.proofs.turn.turn_with.Goals as goal
 
 pub returns-then-is_some : goal.returns-then-is_some
-returns-then-is_some c = λ came h.
+returns-then-is_some c = λ came h again.
     let q = piece c.args.part.now in
-    let shows = c.in_ok-take.ensures came h in (
+    let shows = c.in_ok-take_from.ensures.came came h in (
       shows,
-      turn-broken c.args.reading.now c.args.any came q
+      turn-broken c.args.reading.now c.args.any again came q
           (sym c.if-is_some.true ∙ c.is_some.ensures
           ∙ ap is_some (c.against.ensures (more came q) shows)),
     )
 
 pub returns-in-None : goal.returns-in-None
-returns-in-None c = λ came h.
+returns-in-None c = λ came h again.
     let q = piece c.args.part.now in
-    let shows = c.in_ok-take.ensures came h in (
+    let shows = c.in_ok-take_from.ensures.came came h in (
       shows,
-      sym (turn-waits c.args.reading.now c.args.any came q
+      sym (turn-waits c.args.reading.now c.args.any again came q
           (sym c.if-is_some.false ∙ c.is_some.ensures
           ∙ ap is_some (c.against.ensures (more came q) shows))
           (sym c.in-None.is ∙ c.in_ok-message.ensures (more came q) shows)),
     )
 
 pub returns-in-None-unfit : goal.returns-in-None-unfit
-returns-in-None-unfit c = λ came h.
+returns-in-None-unfit c = λ came h again.
     let r = c.args.reading.now in
     let q = piece c.args.part.now in
-    let shows = c.in_ok-take.ensures came h in (
+    let shows = c.in_ok-take_from.ensures.came came h in (
       shows,
-      sym (turn-gives r c.args.any came q c.in-Some.message
+      sym (turn-gives r c.args.any again came q c.in-Some.message
           (sym c.if-is_some.false ∙ c.is_some.ensures
           ∙ ap is_some (c.against.ensures (more came q) shows))
           (sym c.in-Some.is ∙ c.in_ok-message.ensures (more came q) shows)
-          (c.in-None-unfit.ensures ∙ ap (unfit r c.args.any) c.as_slice.ensures.same)),
+          (c.in-None-unfit.ensures ∙ ap (unfit r c.args.any false) c.as_slice.ensures.same)),
     )
 
 pub returns-in-Some-unfit : goal.returns-in-Some-unfit
-returns-in-Some-unfit c = λ came h.
+returns-in-Some-unfit c = λ came h again.
     let r = c.args.reading.now in
     let q = piece c.args.part.now in
-    let shows = c.in_ok-take.ensures came h in
-    sym (turn-unfit r c.args.any came q c.in-Some.message c.in-Some-unfit.misfit
+    let shows = c.in_ok-take_from.ensures.came came h in
+    sym (turn-unfit r c.args.any again came q c.in-Some.message c.in-Some-unfit.misfit
     (sym c.if-is_some.false ∙ c.is_some.ensures
     ∙ ap is_some (c.against.ensures (more came q) shows))
     (sym c.in-Some.is ∙ c.in_ok-message.ensures (more came q) shows)
-    (c.in-Some-unfit.ensures ∙ ap (unfit r c.args.any) c.as_slice.ensures.same))
+    (c.in-Some-unfit.ensures ∙ ap (unfit r c.args.any false) c.as_slice.ensures.same))

@@ -1,5 +1,5 @@
 -- It carries a part, or is read itself.
-use Rattle.std.proofs.Common.{◌≡◌, ◌∙◌, ap, sym, subst, refl, ◌∷◌, [], List, ℕ, Result}
+use Rattle.std.proofs.Common.{◌≡◌, ◌∙◌, ap, sym, subst, refl, false, ◌∷◌, [], List, ℕ, Result}
 use Rattle.std.specs.Prelude.{IfErr}
 use Rattle.std.proofs.lemmas.Result.{err_from_is_err_and}
 use Rattle.lpt_text.specs.Streams.{AppendsPart}
@@ -9,7 +9,7 @@ use Rattle.lpt_extract.proofs.ReadLemmas.{any-err}
 use Rattle.lpt_layout_join.specs.declared.skip.SkipAs.{SkipAs}
 use Rattle.lpt_layout_join.specs.Carried.{Named}
 use Rattle.lpt_layout_each.specs.News.{Hears}
-use Rattle.lpt_layout_each.proofs.HeldsLemmas.{each-none, told-none}
+use Rattle.lpt_layout_each.proofs.HeldsLemmas.{told-none}
 use Rattle.lpt_layout_each.proofs.TellLemmas.{hears-nothing}
 use Rattle.lpt_layout_extract.specs.Extracts.{areas_in}
 use Rattle.lpt_layout_extract.specs.Joined.{reads_by}
@@ -21,13 +21,12 @@ use Rattle.lpt_layout_extract.proofs.joining.take_packet.Goals as goal
 pub returns-in_err-helds-in-Ok-clause-part : goal.returns-in_err-helds-in-Ok-clause-part
 returns-in_err-helds-in-Ok-clause-part g c = λ bs h.
     any-err _ c.from_residual.result
-    (c.in_err-helds-in-Ok.ensures.part bs c.args.octets.now h c.in-Ok.ensures.exact)
+    (c.in_err-helds-in-Ok.ensures.part bs h c.in-Ok.ensures.exact)
 
 -- none
 pub returns-in_ok-take_frame-in-Err-clause-kept : goal.returns-in_ok-take_frame-in-Err-clause-kept
 returns-in_ok-take_frame-in-Err-clause-kept g c = λ bs h.
-    each-none c.args.reading.now _ bs c.args.octets.now c.in-Err.field-0 c.args.joining.helds
-    c.in-Err.ensures.exact h
+    c.in_ok-helds-in-Err.ensures.held false bs c.in-Err.field-0 h c.in-Err.ensures.exact
 
 pub returns-in_ok-take_frame-in-Err-clause-read : goal.returns-in_ok-take_frame-in-Err-clause-read
 returns-in_ok-take_frame-in-Err-clause-read g c = λ bs h.

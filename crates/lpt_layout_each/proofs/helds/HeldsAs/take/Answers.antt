@@ -1,50 +1,76 @@
 -- By the name of which it is a part.
 use Rattle.std.proofs.Common.{◌∙◌, ap, sym, Some, None}
 use Rattle.std.specs.Option.{option_map}
+use Rattle.lpt_layout_join.specs.declared.counts.Counts.{Counts}
 use Rattle.lpt_layout_join.specs.Carried.{named}
+use Rattle.lpt_layout_join.specs.Counts.{Counted, counted}
+use Rattle.lpt_layout_join.specs.CountsInside.{shown}
 use Rattle.lpt_layout_each.specs.Eaches.{held}
 use Rattle.lpt_layout_each.specs.Told.{news_of}
 use Rattle.lpt_layout_each.proofs.HeldsLemmas.{each-part, told-part}
 use Rattle.lpt_layout_each.proofs.helds.HeldsAs.take.Goals as goal
 
 pub returns-in-None-clause-held : goal.returns-in-None-clause-held
-returns-in-None-clause-held c = λ bs octets h is.
+returns-in-None-clause-held c = λ bs h is.
     let r = c.args.reading.now in
     let any = c.args.any in
     let name = c.name-name.result in
-    each-part r any bs octets (named c.args.part.now) is name c.name-name.ensures
-    c.args.self c.put.new.self c.in_ok-held.held
+    let b = c.args.octets.now in
+    let took = c.in_ok-take.ensures
+    ∙ ap (λ (k : Counts). counted r (shown k) b) c.take_out-held.ensures.counts in
+    let up_to = c.missing-missing.ensures
+    ∙ ap (λ (k : Counted). k.missing) (took ∙ ap (λ (k : Counted). counted r k b) h.counts) in
+    each-part r any bs b (named c.args.part.now) is name c.name-name.ensures
+    c.args.self c.put.new.self c.in_ok-held.held c.missing-missing.result
     (λ n other. c.in_ok-put.ensures.others n other ∙ c.take_out-held.ensures.others n other)
-    c.in_ok-put.ensures.kept c.in_ok-put.ensures.in_order
-    (c.in_ok-held.ensures (held r any name bs) (c.take_out-held.ensures.given r any bs h)).holds h
+    c.in_ok-put.ensures.kept c.in_ok-put.ensures.in_order up_to
+    (c.in_ok-held.ensures (held r any name bs) (c.take_out-held.ensures.given r any bs h)).follows
+    (ap shown c.in_ok-put.ensures.counts ∙ took) h
 
 pub returns-in-Some-clause-held : goal.returns-in-Some-clause-held
-returns-in-Some-clause-held c = λ bs octets h is.
+returns-in-Some-clause-held c = λ bs h is.
     let r = c.args.reading.now in
     let any = c.args.any in
     let name = c.name-name.result in
-    each-part r any bs octets (named c.args.part.now) is name c.name-name.ensures
-    c.args.self c.put.new.self c.in_ok-held.held
+    let b = c.args.octets.now in
+    let took = c.in_ok-take.ensures
+    ∙ ap (λ (k : Counts). counted r (shown k) b) c.take_out-held.ensures.counts in
+    let up_to = c.missing-missing.ensures
+    ∙ ap (λ (k : Counted). k.missing) (took ∙ ap (λ (k : Counted). counted r k b) h.counts) in
+    each-part r any bs b (named c.args.part.now) is name c.name-name.ensures
+    c.args.self c.put.new.self c.in_ok-held.held c.missing-missing.result
     (λ n other. c.in_ok-put.ensures.others n other ∙ c.take_out-held.ensures.others n other)
-    c.in_ok-put.ensures.kept c.in_ok-put.ensures.in_order
-    (c.in_ok-held.ensures (held r any name bs) (c.take_out-held.ensures.given r any bs h)).holds h
+    c.in_ok-put.ensures.kept c.in_ok-put.ensures.in_order up_to
+    (c.in_ok-held.ensures (held r any name bs) (c.take_out-held.ensures.given r any bs h)).follows
+    (ap shown c.in_ok-put.ensures.counts ∙ took) h
 
 -- nothing is told, or something
 pub returns-in-None-clause-told : goal.returns-in-None-clause-told
-returns-in-None-clause-told c = λ bs octets h is.
+returns-in-None-clause-told c = λ bs h is.
     let r = c.args.reading.now in
     let any = c.args.any in
     let name = c.name-name.result in
-    told-part r any bs octets (named c.args.part.now) is name c.name-name.ensures None
+    let b = c.args.octets.now in
+    let took = c.in_ok-take.ensures
+    ∙ ap (λ (k : Counts). counted r (shown k) b) c.take_out-held.ensures.counts in
+    let up_to = c.missing-missing.ensures
+    ∙ ap (λ (k : Counted). k.missing) (took ∙ ap (λ (k : Counted). counted r k b) h.counts) in
+    told-part r any bs b (named c.args.part.now) is name c.name-name.ensures None
+    c.missing-missing.result up_to
     (sym (ap (option_map news_of) c.in-None.is)
     ∙ (c.in_ok-held.ensures (held r any name bs) (c.take_out-held.ensures.given r any bs h)).tells)
 
 pub returns-in-Some-clause-told : goal.returns-in-Some-clause-told
-returns-in-Some-clause-told c = λ bs octets h is.
+returns-in-Some-clause-told c = λ bs h is.
     let r = c.args.reading.now in
     let any = c.args.any in
     let name = c.name-name.result in
-    told-part r any bs octets (named c.args.part.now) is name c.name-name.ensures
-    (Some c.in-Some.news)
+    let b = c.args.octets.now in
+    let took = c.in_ok-take.ensures
+    ∙ ap (λ (k : Counts). counted r (shown k) b) c.take_out-held.ensures.counts in
+    let up_to = c.missing-missing.ensures
+    ∙ ap (λ (k : Counted). k.missing) (took ∙ ap (λ (k : Counted). counted r k b) h.counts) in
+    told-part r any bs b (named c.args.part.now) is name c.name-name.ensures (Some c.in-Some.news)
+    c.missing-missing.result up_to
     (sym (ap (option_map news_of) c.in-Some.is)
     ∙ (c.in_ok-held.ensures (held r any name bs) (c.take_out-held.ensures.given r any bs h)).tells)

@@ -6,8 +6,8 @@ use Rattle.lpt_layout_join.specs.Came.{at}
 use Rattle.lpt_layout_join.proofs.CameLemmas.{shows-more}
 use Rattle.lpt_layout_join.proofs.came.CameAs.keep.Goals as goal
 
-pub returns : goal.returns
-returns c came h none =
+pub returns-clause-came : goal.returns-clause-came
+returns-clause-came c came h none =
     shows-more came c.args.self.now _ (piece c.args.part.now) h c.requires.number
     c.in_ok-put.ensures.others c.in_ok-put.ensures.here c.in_ok-put.ensures.len
     (c.or-size.ensures ∙ ap (option_or c.args.self.now.size) c.size_told.ensures.size)

@@ -1,0 +1,46 @@
+-- By what the part makes of those that came in their order.
+use Rattle.std.proofs.Common.{◌∙◌, ap, sym, subst, Option}
+use Rattle.std.specs.Prelude.{IfOk}
+use Rattle.lpt_layout.specs.Parts.{piece}
+use Rattle.lpt_layout_join.specs.Writes.{unfit}
+use Rattle.lpt_layout_each.specs.declared.run.RunTurnAs.{RunTurnAs}
+use Rattle.lpt_layout_each.specs.Eaches.{Course, no_run, run_turn}
+use Rattle.lpt_layout_each.specs.Helds.{IsRunTurn, Steps}
+use Rattle.lpt_layout_each.specs.News.{News}
+use Rattle.lpt_layout_each.proofs.StepLemmas.{step-ends, step-goes_on, step-unfit}
+use Rattle.lpt_layout_each.proofs.course.CourseAs.take.Goals as goal
+
+-- it goes on
+pub returns-in-Goes : goal.returns-in-Goes
+returns-in-Goes c = λ k h.
+    let r = c.args.reading.now in
+    let q = piece c.args.part.now in
+    let w = subst (λ (u : RunTurnAs). IsRunTurn u (run_turn k.run c.args.missing q)) c.in-Goes.is
+    (c.in_ok-turn.ensures k.run h.run) in
+    subst (λ (s : Course × Option News). IfOk c.go_on.result (λ o. Steps o s))
+    (step-goes_on r c.args.any c.args.missing k q w.0 w.2)
+    (c.go_on.ensures k w.0 h.held h.stale w.1)
+
+-- a message is whole, and given out
+pub returns-in-None : goal.returns-in-None
+returns-in-None c = λ k h.
+    let r = c.args.reading.now in
+    let q = piece c.args.part.now in
+    let w = subst (λ (u : RunTurnAs). IsRunTurn u (run_turn k.run c.args.missing q)) c.in-Ends.is
+    (c.in_ok-turn.ensures k.run h.run) in
+    subst (λ (s : Course × Option News). IfOk c.end_run.result (λ o. Steps o s))
+    (step-ends r c.args.any c.args.missing k q w.0 c.in-Ends.message c.in-Ends.sure w.2
+    (sym (c.in-None.ensures ∙ ap (unfit r c.args.any c.in-Ends.sure) c.as_slice.ensures.same)))
+    (c.end_run.ensures k w.0 h.held h.stale w.1)
+
+-- or not
+pub returns-in-Some : goal.returns-in-Some
+returns-in-Some c = λ k h.
+    let r = c.args.reading.now in
+    let q = piece c.args.part.now in
+    let w = subst (λ (u : RunTurnAs). IsRunTurn u (run_turn k.run c.args.missing q)) c.in-Ends.is
+    (c.in_ok-turn.ensures k.run h.run) in
+    subst (λ (s : Course × Option News). IfOk c.go_on-in-Some.result (λ o. Steps o s))
+    (step-unfit r c.args.any c.args.missing k q w.0 c.in-Ends.message c.in-Ends.sure _ w.2
+    (sym (c.in-Some.ensures ∙ ap (unfit r c.args.any c.in-Ends.sure) c.as_slice.ensures.same)))
+    (c.go_on-in-Some.ensures k no_run h.held h.stale c.none-empty.ensures)

@@ -1,0 +1,82 @@
+//! The parts of a name that come in the order of their numbers, one behind the other.
+
+ghost use Rattle.std.specs.Prelude.{◌≡◌, ◌≤◌, length, IfOk};
+ghost use Rattle.lpt_packet.specs.Sizes.{longest_packet};
+ghost use Rattle.lpt_layout.specs.Parts.{piece};
+ghost use Rattle.lpt_layout_each.specs.Eaches as each;
+ghost use Rattle.lpt_layout_each.specs.Helds.{IsRun, IsRunTurn};
+
+use lpt_layout::{Octets, PartAs};
+use lpt_layout_join::{CameAs, Order};
+use std::alloc::{AllocError, Global};
+
+/// Parts 1, 2 and so on that came in their order: behind the first of them nothing came of the name
+/// but the next one, or one of these again.
+#[derive(Drop)]
+pub(crate) struct RunAs {
+    pub(crate) order: Order,
+    pub(crate) came: CameAs,
+}
+
+/// What a further part makes of them.
+#[derive(Drop)]
+pub(crate) enum RunTurnAs {
+    /// It goes on, with these.
+    Goes(RunAs),
+    /// They are the message's, with few counts missing between them or not.
+    Ends(CameAs, Octets, bool),
+}
+
+impl RunAs {
+    // None.
+    pub(crate) fn none(alloc: Global) -> RunAs
+        ensures { IsRun each.no_run result }
+    {
+        RunAs {
+            order: Order::none(),
+            came: CameAs::new(alloc),
+        }
+    }
+
+    // Takes a part of the name, up to which so many counts are missing. The only error is out of
+    // memory.
+    pub(crate) fn take(
+        self,
+        alloc: Global,
+        missing: u64,
+        part: &PartAs<'_>,
+    ) -> Result<RunTurnAs, AllocError>
+        requires number { 1 ≤ part.now.number }
+        requires short { length part.now.octets.now ≤ longest_packet }
+        ensures { (r : each.Run) → IsRun r self → IfOk result (λ o.
+            IsRunTurn o (each.run_turn r missing (piece part.now))) }
+    {
+        let run = self.before(alloc, part.number);
+        if u64::from(part.number) > u64::from(run.order.count) + 1 {
+            return Ok(RunTurnAs::Goes(RunAs::none(alloc)));
+        }
+        let RunAs { order, mut came } = run;
+        let order = order.with(part.number, missing);
+        came.take(alloc, 0, part)?;
+        if came.against().is_some() {
+            return Ok(RunTurnAs::Goes(RunAs::none(alloc)));
+        }
+        match came.message(alloc)? {
+            None => Ok(RunTurnAs::Goes(RunAs { order, came })),
+            Some(message) => {
+                let sure = order.is_whole(came.last());
+                Ok(RunTurnAs::Ends(came, message, sure))
+            }
+        }
+    }
+
+    // Those behind which a part of this number comes: a first part begins anew.
+    fn before(self, alloc: Global, number: u32) -> RunAs
+        ensures { (r : each.Run) → IsRun r self → IsRun (each.run_before r number) result }
+    {
+        if number == 1 {
+            return RunAs::none(alloc);
+        }
+        self
+    }
+}

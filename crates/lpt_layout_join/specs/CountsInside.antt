@@ -1,0 +1,7 @@
+-- What is counted, as the code has it.
+use Rattle.lpt_layout_join.specs.declared.counts.Counts.{Counts}
+use Rattle.lpt_layout_join.specs.Counts.{Counted}
+
+abbrev pub shown : Counts → Counted
+shown s =
+    record { latest = record { count = s.count; octets = s.octets.items }; missing = s.missing }

@@ -1,0 +1,72 @@
+//! The order in which the parts of a name come.
+
+ghost use Rattle.std.specs.Prelude.{◌≡◌};
+ghost use Rattle.lpt_layout_join.specs.Orders.{are_few, is_in_order, no_order, ordered};
+
+use crate::LastPart;
+
+/// Parts 1, 2 and so on of a name that came in the order of their numbers: behind the first of them
+/// nothing came of the name but the next one, or one of these again.
+#[derive(Clone, Copy)]
+pub struct Order {
+    /// How many they are, 0 where there are none.
+    pub count: u32,
+    /// How many sequence counts were missing up to the last of them.
+    pub missing: u64,
+    /// Whether between each of them and the next fewer are missing than its number.
+    pub few: bool,
+}
+
+impl Order {
+    /// None came.
+    pub fn none() -> Order
+        ensures { result ≡ no_order }
+    {
+        Order {
+            count: 0,
+            missing: 0,
+            few: true,
+        }
+    }
+
+    /// With a part of this number, up to which so many counts are missing.
+    pub fn with(self, number: u32, missing: u64) -> Order
+        ensures { result ≡ ordered self number missing }
+    {
+        if number == 1 {
+            return Order {
+                count: 1,
+                missing,
+                few: true,
+            };
+        }
+        if number <= self.count {
+            return self;
+        }
+        if number - 1 != self.count {
+            return Order::none();
+        }
+        Order {
+            count: number,
+            missing,
+            few: self.few && are_few(self.count, self.missing, missing),
+        }
+    }
+
+    /// Whether all parts up to the last one came so, with few counts missing between them.
+    pub fn is_whole(self, last: Option<LastPart>) -> bool
+        ensures { result ≡ is_in_order last self }
+    {
+        match last {
+            Some(last) => self.count == last.number && self.few,
+            None => false,
+        }
+    }
+}
+
+// Whether fewer than so many are missing between two places of a stream.
+fn are_few(number: u32, before: u64, now: u64) -> bool
+    ensures { result ≡ are_few number before now }
+{
+    now < before.saturating_add(u64::from(number))
+}
