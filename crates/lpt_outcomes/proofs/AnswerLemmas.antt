@@ -1,6 +1,5 @@
 -- What was told by request ID is what reports tell, one after the other.
-use Rattle.std.proofs.Common.{◌≡◌, ◌∙◌, ap, sym, refl, ℕ, ◌==◌, eq-eqb, Bool, true, false, if◌then◌else◌, List, [], ◌∷◌, ◌++◌, length, take, drop, map, Option, Some, None, append-nil, take_all, arith}
-use Rattle.std.proofs.lemmas.List.{drop_all, length-map}
+use Rattle.std.proofs.Common.{◌≡◌, ◌∙◌, ap, sym, refl, ℕ, ◌==◌, eq-eqb, Bool, true, false, if◌then◌else◌, List, [], ◌∷◌, ◌++◌, map, Option, Some, None}
 use Rattle.std.specs.Prelude.{◌||◌}
 use Rattle.std.specs.List.{flat_map, list_any}
 use Rattle.std.specs.Option.{option_or}
@@ -118,23 +117,6 @@ pub told_at-next : (id : ℕ) (ns : List News) (n : News) (o : Option Outcome)
     → told_at id (ns ++ n ∷ []) o ≡ heard_at id n (told_at id ns o)
 told_at-next id [] n o = refl
 told_at-next id (m ∷ ns) n o = told_at-next id ns n (heard_at id m o)
-
--- ---- requests that were written over
-
--- each by what it becomes
-pub written_over : (len : ℕ) (new seen old : List Asked) (f : Asked → Asked)
-    → new ≡ map f seen
-    → seen ≡ old
-    → length old ≡ len
-    → take len (new ++ drop (length new) old) ≡ map f old
-written_over len new seen old f is same size =
-    let whole : new ≡ map f old = is ∙ ap (map f) same in
-    let as_many : length new ≡ length old = ap length whole ∙ length-map old f in
-    let gone : drop (length new) old ≡ [] = drop_all (length new) old (omega (arith, as_many)) in
-    ap (λ rest. take len (new ++ rest)) gone
-    ∙ ap (take len) (append-nil new)
-    ∙ take_all len new (omega (arith, as_many, size))
-    ∙ whole
 
 -- ---- lines
 

@@ -1,6 +1,6 @@
 -- What is sent on a request settles it.
 use Rattle.std.proofs.Common.{◌≡◌, ◌∙◌, ap, sym, refl, ℕ, ◌<◌, ◌^◌, eq-eqb, nat_le, Bool, true, false, if◌then◌else◌, List, [], ◌∷◌, ◌++◌, map, Option, Some, None, IfSome, append-nil}
-use Rattle.std.specs.Prelude.{not, is_some, ◌&&◌}
+use Rattle.std.specs.Prelude.{not, is_some, ◌&&◌, ◌||◌}
 use Rattle.std.specs.List.{filter_map}
 use Rattle.std.specs.Option.{option_map}
 use Rattle.std.proofs.lemmas.List.Elements.{filter_map-append}
@@ -15,7 +15,7 @@ use Rattle.lpt_outcomes.specs.declared.news.News.{News}
 use Rattle.lpt_outcomes.specs.declared.outcome.Outcome.{Outcome}
 use Rattle.lpt_outcomes.specs.Requests.{nothing_told}
 use Rattle.lpt_outcomes.specs.Reports.{all_heard, heard, news, told_by}
-use Rattle.lpt_outcomes.specs.Settled.{answered, has_last, is_settled, news_sent}
+use Rattle.lpt_outcomes.specs.Settled.{answered, has_last, is_acknowledged, is_settled, news_sent}
 
 -- ---- one report
 
@@ -88,13 +88,13 @@ by_failure a k code fits code_fits coded =
 abbrev all_told : (x y z : Bool) → Outcome
 all_told x y z = record { accepted = x; started = y; completed = z; failure = None }
 
--- the last of those is among them
+-- the last of those is among them, where any is asked for
 last_told : (x y z : Bool)
     → (if z then (all_told x y z).completed
     else if y then (all_told x y z).started
     else if x then (all_told x y z).accepted
-    else true)
-    ≡ true
+    else false)
+    ≡ (x || y || z)
 last_told true true true = refl
 last_told true true false = refl
 last_told true false true = refl
@@ -120,7 +120,8 @@ told_is false false false = refl
 
 -- of a request that was carried out
 carried_out : (a : Asked) → a.request.value < 2 ^ 32 → a.outcome ≡ nothing_told
-    → map is_settled (answered a.request.value a.flags None (a ∷ [])) ≡ true ∷ []
+    → map is_settled (answered a.request.value a.flags None (a ∷ []))
+    ≡ is_acknowledged a.flags ∷ []
 carried_out a fits before =
     let v = a.request.value in
     let x = asks a.flags 1 in
@@ -190,6 +191,7 @@ pub answered-settled : (a : Asked) (code : Option ℕ)
     → a.request.value < 2 ^ 32
     → IfSome code (λ c. c < 2 ^ 16)
     → a.outcome ≡ nothing_told
-    → map is_settled (answered a.request.value a.flags code (a ∷ [])) ≡ not (is_some code) ∷ []
+    → map is_settled (answered a.request.value a.flags code (a ∷ []))
+    ≡ (not (is_some code) && is_acknowledged a.flags) ∷ []
 answered-settled a None fits code_fits before = carried_out a fits before
 answered-settled a (Some code) fits code_fits before = failed a code fits code_fits before

@@ -1,69 +1,97 @@
--- What one more piece of a stream gives.
-use Rattle.std.proofs.Common.{◌≡◌, ◌∙◌, ap, sym, refl, ℕ, List, [], ◌∷◌, ◌++◌, Option, Some, None, append-nil}
+-- What one more piece of a stream is.
+use Rattle.std.proofs.Common.{◌≡◌, ◌∙◌, ap, sym, subst, ℕ, List, [], ◌∷◌, ◌++◌, Option, Some, None, Result, Ok, Err, append-nil}
 use Rattle.std.specs.List.{filter_map, cons_option}
+use Rattle.std.specs.Result.{result_ok, result_err}
+use Rattle.std.proofs.lemmas.List.{map-append}
 use Rattle.std.proofs.lemmas.List.Elements.{filter_map-append}
-use Rattle.lpt_stream.specs.declared.piece_kind.PieceKind.{PieceKind}
-use Rattle.lpt_stream.specs.declared.piece_kind.PieceKind.TheVariants.{Whole, Damaged, Stray}
-use Rattle.lpt_stream.specs.Pieces.{Piece, packet_before, packets_of}
-use Rattle.lpt_stream.proofs.CutLemmas.{packets-next}
+use Rattle.lpt_stream.specs.Pieces.{Piece}
 use Rattle.lpt_outcomes.specs.declared.news.News.{News}
 use Rattle.lpt_outcomes.specs.declared.outcome.Outcome.{Outcome}
+use Rattle.lpt_outcomes.specs.declared.passed.Beside.{Beside}
+use Rattle.lpt_outcomes.specs.declared.passed.Passed.{Passed}
 use Rattle.lpt_outcomes.specs.Answers.{heard_at, told_at}
-use Rattle.lpt_outcomes.specs.Requests.{in_piece}
+use Rattle.lpt_outcomes.specs.Passing.{found, in_piece, met, passed_over, IsPassed}
 use Rattle.lpt_outcomes.specs.Reports.{news_in, news_of}
 use Rattle.lpt_outcomes.proofs.AnswerLemmas.{told_at-next}
 
 -- ---- a piece
 
--- what one gives
-one_piece : {A : Type 0} (read : List ℕ → Option A) (k : PieceKind) (b : List ℕ)
-    → filter_map read (packet_before k b []) ≡ cons_option (in_piece read k b) []
-one_piece read Whole b = refl
-one_piece read Damaged b = refl
-one_piece read Stray b = refl
+-- what is taken from what pieces are, and one more
+taken-next : {A B : Type 0} (take : Result A Beside → Option B) (read : List ℕ → Result A Beside)
+    → (ps : List Piece) (p : Piece)
+    → filter_map take (met read (ps ++ p ∷ []))
+    ≡ filter_map take (met read ps) ++ cons_option (take (in_piece read p.kind p.octets)) []
+taken-next take read ps p =
+    ap (filter_map take) (map-append (λ (p : Piece). in_piece read p.kind p.octets) ps (p ∷ []))
+    ∙ filter_map-append take (met read ps) (in_piece read p.kind p.octets ∷ [])
 
--- what pieces give, and one more
-found-next : {A : Type 0} (read : List ℕ → Option A) (ps : List Piece) (p : Piece)
-    → filter_map read (packets_of (ps ++ p ∷ []))
-    ≡ filter_map read (packets_of ps) ++ cons_option (in_piece read p.kind p.octets) []
-found-next read ps p =
-    ap (filter_map read) (packets-next ps p)
-    ∙ filter_map-append read (packets_of ps) (packet_before p.kind p.octets [])
-    ∙ ap (λ found. filter_map read (packets_of ps) ++ found) (one_piece read p.kind p.octets)
+-- of one that gives nothing
+none-next : {A B : Type 0} (take : Result A Beside → Option B) (read : List ℕ → Result A Beside)
+    → (ps : List Piece) (p : Piece)
+    → take (in_piece read p.kind p.octets) ≡ None
+    → filter_map take (met read (ps ++ p ∷ [])) ≡ filter_map take (met read ps)
+none-next take read ps p none =
+    taken-next take read ps p
+    ∙ ap (λ o. filter_map take (met read ps) ++ cons_option o []) none
+    ∙ append-nil (filter_map take (met read ps))
 
--- a piece that gives nothing
-pub none-next : {A : Type 0} (read : List ℕ → Option A) (ps : List Piece) (p : Piece)
-    → in_piece read p.kind p.octets ≡ None
-    → filter_map read (packets_of (ps ++ p ∷ [])) ≡ filter_map read (packets_of ps)
-none-next read ps p none =
-    found-next read ps p
-    ∙ ap (λ o. filter_map read (packets_of ps) ++ cons_option o []) none
-    ∙ append-nil (filter_map read (packets_of ps))
+-- and of one that gives something
+some-next : {A B : Type 0} (take : Result A Beside → Option B) (read : List ℕ → Result A Beside)
+    → (ps : List Piece) (p : Piece) (x : B)
+    → take (in_piece read p.kind p.octets) ≡ Some x
+    → filter_map take (met read (ps ++ p ∷ [])) ≡ filter_map take (met read ps) ++ x ∷ []
+some-next take read ps p x some =
+    taken-next take read ps p
+    ∙ ap (λ o. filter_map take (met read ps) ++ cons_option o []) some
 
--- and one that gives something
-pub some-next : {A : Type 0} (read : List ℕ → Option A) (ps : List Piece) (p : Piece) (x : A)
-    → in_piece read p.kind p.octets ≡ Some x
-    → filter_map read (packets_of (ps ++ p ∷ [])) ≡ filter_map read (packets_of ps) ++ x ∷ []
-some-next read ps p x some =
-    found-next read ps p
-    ∙ ap (λ o. filter_map read (packets_of ps) ++ cons_option o []) some
+-- ---- one that is looked for
+
+pub found-more : {A : Type 0} (read : List ℕ → Result A Beside) (ps : List Piece) (p : Piece)
+    → (x : A)
+    → in_piece read p.kind p.octets ≡ Ok x
+    → found read (ps ++ p ∷ []) ≡ found read ps ++ x ∷ []
+found-more read ps p x is = some-next result_ok read ps p x (ap result_ok is)
+
+pub passed-same : {A : Type 0} (read : List ℕ → Result A Beside) (ps : List Piece) (p : Piece)
+    → (x : A) (t : Passed)
+    → in_piece read p.kind p.octets ≡ Ok x
+    → IsPassed (passed_over read ps) t
+    → IsPassed (passed_over read (ps ++ p ∷ [])) t
+passed-same read ps p x t is h =
+    subst (λ bs. IsPassed bs t) (sym (none-next result_err read ps p (ap result_err is))) h
+
+-- ---- one that is passed over
+
+pub found-same : {A : Type 0} (read : List ℕ → Result A Beside) (ps : List Piece) (p : Piece)
+    → (b : Beside)
+    → in_piece read p.kind p.octets ≡ Err b
+    → found read (ps ++ p ∷ []) ≡ found read ps
+found-same read ps p b is = none-next result_ok read ps p (ap result_ok is)
+
+pub passed-more : {A : Type 0} (read : List ℕ → Result A Beside) (ps : List Piece) (p : Piece)
+    → (b : Beside) (t : Passed)
+    → in_piece read p.kind p.octets ≡ Err b
+    → IsPassed (passed_over read ps ++ b ∷ []) t
+    → IsPassed (passed_over read (ps ++ p ∷ [])) t
+passed-more read ps p b t is h =
+    subst (λ bs. IsPassed bs t) (sym (some-next result_err read ps p b (ap result_err is))) h
 
 -- ---- reports
 
 -- a piece that is none
-pub unheard : (id : ℕ) (first now : Option Outcome) (ps : List Piece) (p : Piece)
+pub unheard : (id : ℕ) (first now : Option Outcome) (ps : List Piece) (p : Piece) (b : Beside)
     → now ≡ told_at id (news_of ps) first
-    → in_piece news_in p.kind p.octets ≡ None
+    → in_piece news_in p.kind p.octets ≡ Err b
     → now ≡ told_at id (news_of (ps ++ p ∷ [])) first
-unheard id first now ps p h none =
-    h ∙ ap (λ ns. told_at id ns first) (sym (none-next news_in ps p none))
+unheard id first now ps p b h is =
+    h ∙ ap (λ ns. told_at id ns first) (sym (found-same news_in ps p b is))
 
 -- and one that is
 pub heard_more : (id : ℕ) (first now more : Option Outcome) (ps : List Piece) (p : Piece) (n : News)
     → now ≡ told_at id (news_of ps) first
-    → in_piece news_in p.kind p.octets ≡ Some n
+    → in_piece news_in p.kind p.octets ≡ Ok n
     → more ≡ heard_at id n now
     → more ≡ told_at id (news_of (ps ++ p ∷ [])) first
-heard_more id first now more ps p n h some e =
+heard_more id first now more ps p n h is e =
     e ∙ ap (heard_at id n) h ∙ sym (told_at-next id (news_of ps) n first)
-    ∙ ap (λ ns. told_at id ns first) (sym (some-next news_in ps p n some))
+    ∙ ap (λ ns. told_at id ns first) (sym (found-more news_in ps p n is))

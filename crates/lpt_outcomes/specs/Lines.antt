@@ -1,5 +1,5 @@
 -- The lines of requests.
-use Rattle.std.specs.Prelude.{ℕ, ◌==◌, ◌||◌, nat_lt, is_some, Bool, if◌then◌else◌, List, [], ◌∷◌, ◌++◌, codes, count_by, Option, Some, None}
+use Rattle.std.specs.Prelude.{ℕ, ◌==◌, ◌||◌, not, nat_lt, is_some, Bool, if◌then◌else◌, List, [], ◌∷◌, ◌++◌, codes, count_by, Option, Some, None}
 use Rattle.std.specs.List.{flat_map}
 use Rattle.hex.specs.Hex.{encode_lower}
 use Rattle.lpt_packet.specs.Numbers.{be}
@@ -9,6 +9,7 @@ use Rattle.lpt_list.specs.Items.{Item, Number, Alone, areas_said, items_text}
 use Rattle.lpt_list.specs.Lists.{closing}
 use Rattle.lpt_outcomes.specs.declared.asked.Asked.{Asked}
 use Rattle.lpt_outcomes.specs.declared.outcome.Outcome.{Outcome}
+use Rattle.lpt_outcomes.specs.Settled.{is_acknowledged}
 
 -- ---- what is asked
 
@@ -67,9 +68,22 @@ abbrev pub is_told : Outcome → Bool
 is_told o = o.accepted || o.started || o.completed || is_some o.failure
 
 -- that nothing was
-abbrev pub pending_text : Form → Outcome → List ℕ
-pending_text Text o = if is_told o then [] else codes " nothing yet"
-pending_text Json o = []
+abbrev pub nothing_text : Form → List ℕ
+nothing_text Text = codes " nothing yet"
+nothing_text Json = []
+
+-- that a request asks for no report of success
+abbrev pub unasked_said : List Item
+unasked_said = Alone (codes "acknowledgement") (codes "not acknowledged") ∷ []
+
+-- what is open of a request that didn't fail: all, where it asks for no report of success, or
+-- where nothing was reported
+abbrev pub pending_text : Form → Asked → List ℕ
+pending_text form a =
+    if is_some a.outcome.failure then []
+    else if not (is_acknowledged a.flags) then items_text form unasked_said
+    else if is_told a.outcome then []
+    else nothing_text form
 
 -- ---- the lines
 
@@ -85,7 +99,7 @@ line_of form n a =
     ++ items_text form (areas_said a.areas)
     ++ success_text form a.outcome
     ++ items_text form (failure_said a.outcome.failure)
-    ++ pending_text form a.outcome
+    ++ pending_text form a
     ++ items_text form (shared_said n)
     ++ closing form
 

@@ -1,17 +1,19 @@
 -- What the verification reports of a stream tell of requests.
 use Rattle.std.specs.Prelude.{ℕ, ◌==◌, if◌then◌else◌, true, List, [], ◌∷◌, map, Option, Some, None, Result, Ok, Err}
-use Rattle.std.specs.List.{filter_map}
-use Rattle.std.specs.Option.{option_map, option_or}
+use Rattle.std.specs.Option.{option_map_or, option_or}
 use Rattle.lpt_packet.specs.declared.fault.PacketFault.{PacketFault}
 use Rattle.lpt_packet.specs.Packets.{Sight, IdlePacket, APacket, verdict}
 use Rattle.lpt_pus.specs.declared.fault.PusFault.{PusFault}
 use Rattle.lpt_pus.specs.Telemetry.{Telemetry, tm_verdict}
 use Rattle.lpt_verify.specs.declared.report.Report.{Report}
 use Rattle.lpt_verify.specs.Reading.{report_in}
-use Rattle.lpt_stream.specs.Pieces.{Piece, packets_of}
+use Rattle.lpt_stream.specs.Pieces.{Piece}
 use Rattle.lpt_outcomes.specs.declared.asked.Asked.{Asked}
 use Rattle.lpt_outcomes.specs.declared.news.News.{News}
 use Rattle.lpt_outcomes.specs.declared.outcome.Outcome.{Outcome}
+use Rattle.lpt_outcomes.specs.declared.passed.Beside.{Beside}
+use Rattle.lpt_outcomes.specs.declared.passed.Beside.TheVariants.{Foreign, Unread, Quiet}
+use Rattle.lpt_outcomes.specs.Passing.{found}
 
 -- ---- a report
 
@@ -19,29 +21,31 @@ use Rattle.lpt_outcomes.specs.declared.outcome.Outcome.{Outcome}
 abbrev pub news : (subtype : ℕ) → Report → News
 news subtype r = record { subtype = subtype; report = r }
 
--- telemetry, where it is a verification report
-abbrev pub news_of_telemetry : Telemetry → Option News
-news_of_telemetry t =
-    if t.service == 1 then option_map (news t.subtype) (report_in t.subtype t.body) else None
+-- the body of a verification report of this subtype; one of progress that succeeded (5) tells of
+-- nothing that is waited for
+abbrev pub news_of_body : (subtype : ℕ) → List ℕ → Result News Beside
+news_of_body subtype body =
+    option_map_or (λ r. Ok (news subtype r)) (report_in subtype body)
+    (if subtype == 5 then Err Quiet else Err Unread)
 
 -- a packet that is read as telemetry, or isn't
-abbrev pub news_by : Result Telemetry PusFault → Option News
-news_by (Ok t) = news_of_telemetry t
-news_by (Err e) = None
+abbrev pub news_by : Result Telemetry PusFault → Result News Beside
+news_by (Ok t) = if t.service == 1 then news_of_body t.subtype t.body else Err Quiet
+news_by (Err e) = Err Foreign
 
--- octets of this verdict
-abbrev pub news_as : Result Sight PacketFault → Option News
-news_as (Ok IdlePacket) = None
+-- octets of this verdict: of a packet without a secondary header there is nothing to tell
+abbrev pub news_as : Result Sight PacketFault → Result News Beside
+news_as (Ok IdlePacket) = Err Quiet
 news_as (Ok (APacket f)) = news_by (tm_verdict f)
-news_as (Err e) = None
+news_as (Err e) = Err Quiet
 
--- what octets tell of a request, where they are the packet of a verification report
-unfoldable pub news_in : List ℕ → Option News
+-- what a packet's octets tell of a request, or what they are beside
+unfoldable pub news_in : List ℕ → Result News Beside
 news_in b = news_as (verdict b)
 
 -- what a stream of these pieces tells
 abbrev pub news_of : List Piece → List News
-news_of pieces = filter_map news_in (packets_of pieces)
+news_of pieces = found news_in pieces
 
 -- ---- what it tells
 

@@ -1,18 +1,20 @@
 -- The requests of a stream.
-use Rattle.std.specs.Prelude.{ℕ, false, List, option_and_then, Option, Some, None, Result, Ok, Err}
-use Rattle.std.specs.List.{filter_map}
+use Rattle.std.specs.Prelude.{ℕ, false, if◌then◌else◌, List, is_some, Option, None, Result, Ok, Err}
+use Rattle.std.specs.Option.{option_map_or}
 use Rattle.lpt_packet.specs.declared.direction.Direction.TheVariants.{Up}
 use Rattle.lpt_packet.specs.declared.fault.PacketFault.{PacketFault}
 use Rattle.lpt_packet.specs.Packets.{Sight, IdlePacket, APacket, verdict}
 use Rattle.lpt_pus.specs.declared.fault.PusFault.{PusFault}
 use Rattle.lpt_pus.specs.Commands.{Command, tc_verdict}
 use Rattle.lpt_memory.specs.Fields.{front_long}
+use Rattle.lpt_events.specs.Arrivals.{carried_kind}
 use Rattle.lpt_areas.specs.Areas.{areas_in}
-use Rattle.lpt_stream.specs.declared.piece_kind.PieceKind.{PieceKind}
-use Rattle.lpt_stream.specs.declared.piece_kind.PieceKind.TheVariants.{Whole, Damaged, Stray}
-use Rattle.lpt_stream.specs.Pieces.{Piece, packets_of}
+use Rattle.lpt_stream.specs.Pieces.{Piece}
 use Rattle.lpt_outcomes.specs.declared.asked.Asked.{Asked}
 use Rattle.lpt_outcomes.specs.declared.outcome.Outcome.{Outcome}
+use Rattle.lpt_outcomes.specs.declared.passed.Beside.{Beside}
+use Rattle.lpt_outcomes.specs.declared.passed.Beside.TheVariants.{Part, Foreign, Quiet}
+use Rattle.lpt_outcomes.specs.Passing.{found}
 
 -- before any report
 abbrev pub nothing_told : Outcome
@@ -31,28 +33,24 @@ asked id c = record {
   outcome = nothing_told;
 }
 
--- a packet that is read as a telecommand, or isn't
-abbrev pub asked_by : (id : ℕ) → Result Command PusFault → Option Asked
-asked_by id (Ok c) = Some (asked id c)
-asked_by id (Err e) = None
+-- a packet that is read as a telecommand, or isn't: a part isn't a request, what it is a part of
+-- may be one
+abbrev pub asked_by : (id : ℕ) → Result Command PusFault → Result Asked Beside
+asked_by id (Ok c) =
+    if is_some (carried_kind Up c.service c.subtype) then Err Part else Ok (asked id c)
+asked_by id (Err e) = Err Foreign
 
 -- octets of this verdict
-abbrev pub asked_as : (id : ℕ) → Result Sight PacketFault → Option Asked
-asked_as id (Ok IdlePacket) = None
+abbrev pub asked_as : (id : ℕ) → Result Sight PacketFault → Result Asked Beside
+asked_as id (Ok IdlePacket) = Err Quiet
 asked_as id (Ok (APacket f)) = asked_by id (tc_verdict f)
-asked_as id (Err e) = None
+asked_as id (Err e) = Err Foreign
 
--- the request that octets are, where they are a telecommand's packet: its request ID are the first
+-- the request that a packet's octets are, or what they are beside: its request ID are the first
 -- four of them
-unfoldable pub request_in : List ℕ → Option Asked
-request_in b = option_and_then (λ id. asked_as id.0 (verdict b)) (front_long b)
-
--- what the octets of a piece give by this reading, where they are a packet
-abbrev pub in_piece : {A : Type 0} → (List ℕ → Option A) → PieceKind → List ℕ → Option A
-in_piece read Whole b = read b
-in_piece read Damaged b = None
-in_piece read Stray b = None
+unfoldable pub request_in : List ℕ → Result Asked Beside
+request_in b = option_map_or (λ id. asked_as id.0 (verdict b)) (front_long b) (Err Foreign)
 
 -- the requests of a stream of these pieces
 abbrev pub requests_in : List Piece → List Asked
-requests_in pieces = filter_map request_in (packets_of pieces)
+requests_in pieces = found request_in pieces

@@ -1,5 +1,5 @@
 -- When a request is settled.
-use Rattle.std.specs.Prelude.{ℕ, ◌&&◌, not, is_some, Bool, true, if◌then◌else◌, List, Option}
+use Rattle.std.specs.Prelude.{ℕ, ◌&&◌, ◌||◌, ◌<◌, not, is_some, Bool, false, if◌then◌else◌, IsTrue, All, List, length, Option}
 use Rattle.std.specs.List.{filter_map}
 use Rattle.std.specs.Option.{option_map}
 use Rattle.lpt_verify.specs.declared.report.EncodedReport.{EncodedReport}
@@ -8,20 +8,33 @@ use Rattle.lpt_verify.specs.Reports.{all_reports, asks}
 use Rattle.lpt_outcomes.specs.declared.asked.Asked.{Asked}
 use Rattle.lpt_outcomes.specs.declared.news.News.{News}
 use Rattle.lpt_outcomes.specs.declared.outcome.Outcome.{Outcome}
+use Rattle.lpt_outcomes.specs.declared.passed.Passed.{Passed}
+use Rattle.lpt_outcomes.specs.Passing.{is_nothing}
 use Rattle.lpt_outcomes.specs.Reports.{all_heard, news}
 
--- whether the last report of success that acknowledgement flags ask for has come: of completion, of
--- start or of acceptance
+-- whether acknowledgement flags ask for a report of success: of acceptance, start or completion
+abbrev pub is_acknowledged : (flags : ℕ) → Bool
+is_acknowledged flags = asks flags 1 || asks flags 2 || asks flags 8
+
+-- whether the last report of success that they ask for has come: of completion, of start or of
+-- acceptance. Where they ask for none, nothing tells that it is settled
 abbrev pub has_last : (flags : ℕ) → Outcome → Bool
 has_last flags o =
     if asks flags 8 then o.completed
     else if asks flags 2 then o.started
     else if asks flags 1 then o.accepted
-    else true
+    else false
 
 -- whether a request didn't fail, and the last that it asks for has come
 abbrev pub is_settled : Asked → Bool
 is_settled a = not (is_some a.outcome.failure) && has_last a.flags a.outcome
+
+-- nothing is open: there are requests, each is settled, and of both streams nothing was passed over
+pub record AreSettled (requests : List Asked) (of_requests of_reports : Passed) : Type 0 where
+  pub some : 0 < length requests
+  pub settled : All (λ a. IsTrue (is_settled a)) requests
+  pub all_read : IsTrue (is_nothing of_requests)
+  pub all_heard : IsTrue (is_nothing of_reports)
 
 -- what a report that is sent tells
 abbrev pub news_sent : EncodedReport → Option News

@@ -1,9 +1,9 @@
 //! Requests, and whether they are settled.
 
 ghost use Rattle.std.specs.Prelude.{◌↔◌, IsTrue, All};
-ghost use Rattle.lpt_outcomes.specs.Settled.{is_settled};
+ghost use Rattle.lpt_outcomes.specs.Settled.{is_settled, AreSettled};
 
-use crate::Outcome;
+use crate::{Outcome, Passed};
 use lpt_areas::Areas;
 use lpt_pus::RequestId;
 use std::collections::BTreeMap;
@@ -33,7 +33,7 @@ pub struct Asked {
 impl Asked {
     ghost use Rattle.std.specs.Prelude.{◌≡◌};
     ghost use Rattle.lpt_outcomes.specs.Answers.{answered_by};
-    ghost use Rattle.lpt_outcomes.specs.Settled.{is_settled};
+    ghost use Rattle.lpt_outcomes.specs.Settled.{is_acknowledged, is_settled};
 
     // Takes what was told on its request ID, where that is there.
     pub(crate) fn answer(&mut self, outcomes: &BTreeMap<u32, Outcome>)
@@ -44,6 +44,13 @@ impl Asked {
         }
     }
 
+    // Whether it asks for a report of success.
+    pub(crate) fn is_acknowledged(&self) -> bool
+        ensures { result ≡ is_acknowledged self.now.flags }
+    {
+        self.flags % 2 == 1 || self.flags / 2 % 2 == 1 || self.flags / 8 % 2 == 1
+    }
+
     // Whether it didn't fail, and the last report of success that it asks for has come.
     pub(crate) fn is_settled(&self) -> bool
         ensures { result ≡ is_settled self.now }
@@ -52,10 +59,23 @@ impl Asked {
     }
 }
 
-/// Whether all requests are settled: none failed, and of each the last report of success has come
-/// that its acknowledgement flags ask for, of acceptance, start and completion. No report of
-/// progress is waited for.
-pub fn are_settled(requests: &[Asked]) -> bool
+/// Whether nothing is open: there are requests, all of them are settled, and nothing is to be told
+/// that was passed over among them or among the reports.
+///
+/// A request is settled where it didn't fail, and the last report of success has come that its
+/// acknowledgement flags ask for, of acceptance, start and completion; no report of progress is
+/// waited for. One that asks for none of these is settled by nothing.
+pub fn are_settled(requests: &[Asked], of_requests: &Passed, of_reports: &Passed) -> bool
+    ensures { IsTrue result ↔ AreSettled requests.now of_requests.now of_reports.now }
+{
+    !requests.is_empty()
+        && all_settled(requests)
+        && of_requests.is_nothing()
+        && of_reports.is_nothing()
+}
+
+// Whether each of these is settled.
+fn all_settled(requests: &[Asked]) -> bool
     ensures { IsTrue result ↔ All (λ a. IsTrue (is_settled a)) requests.now }
 {
     requests.iter().all(|asked| asked.is_settled())

@@ -2,14 +2,15 @@
 //! of another (ECSS-E-ST-70-41C, service 1) by request ID, which is the first four octets of a
 //! telecommand's packet.
 //!
-//! A request that comes in parts isn't put together here: a part is a telecommand of its own. So
-//! the requests are given as they were written, before they were split.
+//! A request that comes in parts isn't put together here, and a part isn't judged. So the requests
+//! are given as they were written, before they were split.
 //!
 //! A count comes again behind 16,384 requests, and then two requests have one request ID: a report
 //! on it is told of both, and the lines of both say that they share it.
 //!
-//! The main types are `Asked`, a request, and `Outcome`, what reports have told of it. The first
-//! calls are `read_requests` and `read_reports`, each with a source, and then `write_outcomes`.
+//! The main types are `Asked`, a request, and `Outcome`, what reports have told of it; `Passed` is
+//! how much of a stream was passed over. The first calls are `read_requests` and `read_reports`,
+//! each with a source, and then `write_outcomes` and `are_settled`.
 #![tactic(auto)]
 
 mod answers;
@@ -18,6 +19,7 @@ pub mod laws;
 mod lines;
 mod news;
 mod outcome;
+mod passed;
 mod reading;
 mod reports;
 mod requests;
@@ -29,6 +31,7 @@ pub use lpt_list::Form;
 pub use lpt_pus::RequestId;
 pub use lpt_text::{Sink, Source, StreamFault};
 pub use outcome::Outcome;
+pub use passed::Passed;
 pub use reports::read_reports;
-pub use requests::read_requests;
+pub use requests::{Requests, read_requests};
 pub use writing::write_outcomes;

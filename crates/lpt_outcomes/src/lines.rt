@@ -4,7 +4,7 @@ ghost use Rattle.std.specs.Prelude.{◌≡◌, IfOk};
 ghost use Rattle.std.specs.String.{string_bytes};
 ghost use Rattle.lpt_list.specs.Items.{areas_said, items_text};
 ghost use Rattle.lpt_list.specs.Lists.{closing};
-ghost use Rattle.lpt_outcomes.specs.Lines.{asked_items, failure_said, flag_text, line_of, opening, pending_text, sentence, shared_said, success_text};
+ghost use Rattle.lpt_outcomes.specs.Lines.{asked_items, failure_said, flag_text, line_of, nothing_text, opening, pending_text, sentence, shared_said, success_text, unasked_said};
 
 use crate::{Asked, Outcome};
 use lpt_list::{Form, print_areas};
@@ -27,7 +27,7 @@ pub(crate) fn print_line(
     text.push_str(print_areas(alloc, form, asked.areas)?.as_str())?;
     text.push_str(success(alloc, form, &asked.outcome)?.as_str())?;
     text.push_str(failure(alloc, form, asked.outcome.failure)?.as_str())?;
-    text.push_str(pending(form, &asked.outcome))?;
+    text.push_str(pending(form, asked))?;
     text.push_str(shared(alloc, form, sharers)?.as_str())?;
     text.push_str(line_end(form))?;
     Ok(text)
@@ -117,21 +117,38 @@ fn sentence(code: u16) -> &'static str
     }
 }
 
-// That nothing was reported.
-fn pending(form: Form, outcome: &Outcome) -> &'static str
-    ensures { result.now ≡ pending_text form outcome.now }
+// What is open of a request that didn't fail.
+fn pending(form: Form, asked: &Asked) -> &'static str
+    ensures { result.now ≡ pending_text form asked.now }
 {
-    match (form, outcome) {
-        (
-            Form::Text,
-            Outcome {
-                accepted: false,
-                started: false,
-                completed: false,
-                failure: None,
-            },
-        ) => " nothing yet",
-        _ => "",
+    if asked.outcome.failure.is_some() {
+        ""
+    } else if !asked.is_acknowledged() {
+        unasked(form)
+    } else if asked.outcome.is_told() {
+        ""
+    } else {
+        nothing_yet(form)
+    }
+}
+
+// That it asks for no report of success.
+fn unasked(form: Form) -> &'static str
+    ensures { result.now ≡ items_text form unasked_said }
+{
+    match form {
+        Form::Text => " not acknowledged",
+        Form::Json => ",\"acknowledgement\":\"not acknowledged\"",
+    }
+}
+
+// That nothing was reported.
+fn nothing_yet(form: Form) -> &'static str
+    ensures { result.now ≡ nothing_text form }
+{
+    match form {
+        Form::Text => " nothing yet",
+        Form::Json => "",
     }
 }
 

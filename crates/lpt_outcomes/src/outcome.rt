@@ -21,6 +21,7 @@ impl Outcome {
     ghost use Rattle.lpt_outcomes.specs.Requests.{nothing_told};
     ghost use Rattle.lpt_outcomes.specs.Reports.{told};
     ghost use Rattle.lpt_outcomes.specs.Answers.{joined};
+    ghost use Rattle.lpt_outcomes.specs.Lines.{is_told};
     ghost use Rattle.lpt_outcomes.specs.Settled.{has_last};
 
     // Before any report.
@@ -61,7 +62,15 @@ impl Outcome {
         }
     }
 
-    // Whether the last report of success that these flags ask for has come.
+    // Whether anything was reported.
+    pub(crate) fn is_told(&self) -> bool
+        ensures { result ≡ is_told self.now }
+    {
+        self.accepted || self.started || self.completed || self.failure.is_some()
+    }
+
+    // Whether the last report of success that these flags ask for has come: never, where they ask
+    // for none.
     pub(crate) fn has_last(&self, flags: u8) -> bool
         ensures { result ≡ has_last flags self.now }
     {
@@ -72,7 +81,7 @@ impl Outcome {
         } else if flags % 2 == 1 {
             self.accepted
         } else {
-            true
+            false
         }
     }
 }

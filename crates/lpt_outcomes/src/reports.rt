@@ -3,46 +3,52 @@
 ghost use Rattle.std.specs.Prelude.{◌≡◌, ◌⊎◌, IfErr, IfOk};
 ghost use Rattle.lpt_text.specs.Streams.{ReadEnds};
 ghost use Rattle.lpt_stream.specs.Reads.{IsEndless, ReadsPieces};
-ghost use Rattle.lpt_outcomes.specs.Reports.{all_heard, news_of};
+ghost use Rattle.lpt_outcomes.specs.Passing.{passed_over, IsPassed};
+ghost use Rattle.lpt_outcomes.specs.Reports.{all_heard, news_in, news_of};
 
 use crate::answers::{answer, hear, untold};
 use crate::reading::news_in_piece;
-use crate::{Asked, Outcome};
+use crate::{Asked, Outcome, Passed};
 use lpt_stream::{PieceKind, PieceTaker, each_piece};
 use lpt_text::{Source, StreamFault};
 use std::alloc::Global;
 use std::collections::BTreeMap;
 
-/// The requests, once the verification reports among the packets of a stream have come, one after
-/// the other: each is told of all requests with its request ID. All else in the stream is passed
-/// over. A report is looked up by its request ID.
+/// Tells requests of the verification reports among the packets of a stream, one after the other:
+/// each is told of all requests with its request ID, by which it is looked up. What is none is
+/// counted, but for idle packets and other telemetry.
 ///
-/// Errors: `Read` where a read failed, or where 2^64 - 1 pieces came; `Memory`.
+/// Errors: `Read` where a read failed, or where 2^64 - 1 pieces came; `Memory`. The requests are
+/// unchanged.
 pub fn read_reports<S: Source>(
     alloc: Global,
-    requests: Vec<Asked>,
+    requests: &mut [Asked],
     source: &mut S,
-) -> Result<Vec<Asked>, StreamFault>
+) -> Result<Passed, StreamFault>
     // The stream is read to its end.
-    ensures heard { IfOk result (λ r. ReadsPieces (S.remaining source.old) (S.remaining source.new)
-        (λ pieces. r.items ≡ all_heard requests.items (news_of pieces))) }
+    ensures heard { IfOk result (λ passed. ReadsPieces (S.remaining source.old)
+        (S.remaining source.new) (λ pieces.
+        (requests.new ≡ all_heard requests.old (news_of pieces))
+        × IsPassed (passed_over news_in pieces) passed)) }
+    ensures unchanged { IfErr result (λ _. requests.new ≡ requests.old) }
     ensures reader { ReadEnds (IsEndless (S.remaining source.old) (S.remaining source.new)) result
         (S.failed source.old) (S.failed source.new) }
     ensures fault { IfErr result (λ e. (e ≡ StreamFault.Read) ⊎ (e ≡ StreamFault.Memory)) }
 {
-    let mut requests = requests;
     let first = ReportTaker {
-        outcomes: untold(alloc, &requests)?,
+        outcomes: untold(alloc, requests)?,
+        passed: Passed::new(),
     };
     let last = each_piece(alloc, source, first, &mut ())?;
-    answer(&mut requests, &last.outcomes);
-    Ok(requests)
+    answer(requests, &last.outcomes);
+    Ok(last.passed)
 }
 
-// What was told so far on each request ID of the requests.
+// What was told so far on each request ID of the requests, and what was passed over.
 #[derive(Drop)]
 struct ReportTaker {
     outcomes: BTreeMap<u32, Outcome>,
+    passed: Passed,
 }
 
 impl PieceTaker<()> for ReportTaker {
@@ -50,10 +56,12 @@ impl PieceTaker<()> for ReportTaker {
     ghost use Rattle.std.specs.BTreeMap.{get};
     ghost use Rattle.std.specs.Ordering.{nat_cmp};
     ghost use Rattle.lpt_outcomes.specs.Answers.{told_at};
-    ghost use Rattle.lpt_outcomes.specs.Reports.{news_of};
+    ghost use Rattle.lpt_outcomes.specs.Passing.{passed_over, IsPassed};
+    ghost use Rattle.lpt_outcomes.specs.Reports.{news_in, news_of};
 
-    ghost takes = { λ first now old new pieces. (id : ℕ) → get nat_cmp now.outcomes id
-        ≡ told_at id (news_of pieces) (get nat_cmp first.outcomes id) };
+    ghost takes = { λ first now old new pieces. ((id : ℕ) → get nat_cmp now.outcomes id
+        ≡ told_at id (news_of pieces) (get nat_cmp first.outcomes id))
+        × IsPassed (passed_over news_in pieces) now.passed };
 
     ghost fails = { λ e. ⊥ };
 
@@ -65,12 +73,18 @@ impl PieceTaker<()> for ReportTaker {
         kind: PieceKind,
         octets: &[u8],
     ) -> Result<ReportTaker, StreamFault> {
-        let ReportTaker { mut outcomes } = self;
+        let ReportTaker {
+            mut outcomes,
+            mut passed,
+        } = self;
         match news_in_piece(kind, octets) {
-            None => Ok(ReportTaker { outcomes }),
-            Some(news) => {
+            Err(beside) => {
+                passed.count(beside);
+                Ok(ReportTaker { outcomes, passed })
+            }
+            Ok(news) => {
                 hear(&mut outcomes, &news);
-                Ok(ReportTaker { outcomes })
+                Ok(ReportTaker { outcomes, passed })
             }
         }
     }

@@ -3,19 +3,28 @@ use Rattle.std.proofs.Common.{◌∙◌, sym}
 use Rattle.std.specs.BTreeMap.{get}
 use Rattle.std.specs.Ordering.{nat_cmp}
 use Rattle.lpt_stream.specs.Pieces.{Piece}
-use Rattle.lpt_outcomes.proofs.TakeLemmas.{heard_more, unheard}
+use Rattle.lpt_outcomes.specs.Reports.{news_in}
+use Rattle.lpt_outcomes.proofs.TakeLemmas.{heard_more, passed-more, passed-same, unheard}
 use Rattle.lpt_outcomes.proofs.reports.ReportTakerPieceTakerUnit.take.Goals as goal
 
 -- one that is no report
-pub returns-in-None-clause-taken : goal.returns-in-None-clause-taken
-returns-in-None-clause-taken c = λ first old pieces h at id.
+pub returns-in-Err-clause-taken : goal.returns-in-Err-clause-taken
+returns-in-Err-clause-taken c = λ first old pieces h at.
     let p : Piece = record { kind = c.args.kind; octets = c.args.octets.now } in
-    unheard id (get nat_cmp first.outcomes id) (get nat_cmp c.args.self.outcomes id) pieces p (h id)
-    (sym c.news_in_piece.ensures ∙ c.in-None.is)
+    let b = c.in-Err.beside in
+    let is = sym c.news_in_piece.ensures ∙ c.in-Err.is in (
+      λ id. unheard id (get nat_cmp first.outcomes id) (get nat_cmp c.args.self.outcomes id) pieces
+          p b (h.0 id) is,
+      passed-more news_in pieces p b c.count.new.self is (c.count.ensures _ h.1),
+    )
 
 -- one that is
-pub returns-in-Some-clause-taken : goal.returns-in-Some-clause-taken
-returns-in-Some-clause-taken c = λ first old pieces h at id.
+pub returns-in-Ok-clause-taken : goal.returns-in-Ok-clause-taken
+returns-in-Ok-clause-taken c = λ first old pieces h at.
     let p : Piece = record { kind = c.args.kind; octets = c.args.octets.now } in
-    heard_more id (get nat_cmp first.outcomes id) (get nat_cmp c.args.self.outcomes id) _ pieces p
-    c.in-Some.news (h id) (sym c.news_in_piece.ensures ∙ c.in-Some.is) (c.hear.ensures id)
+    let n = c.in-Ok.news in
+    let is = sym c.news_in_piece.ensures ∙ c.in-Ok.is in (
+      λ id. heard_more id (get nat_cmp first.outcomes id) (get nat_cmp c.args.self.outcomes id) _
+          pieces p n (h.0 id) is (c.hear.ensures id),
+      passed-same news_in pieces p n c.args.self.passed is h.1,
+    )
