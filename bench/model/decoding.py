@@ -14,10 +14,7 @@ def carried(headers, part_size):
     if part is not None:
         place = ("first", "middle", "last")[part.place]
         return [f"part {place} id {part.name.identifier} number {part.number} octets {len(part.octets)}"]
-    is_command = headers.packet.is_command
-    if kind in (((6, 2), (6, 5), (6, 9)) if is_command else ((6, 6), (6, 10))):
-        return areas(body)
-    if is_command:
+    if headers.packet.is_command:
         return []
     if kind == (13, ABORT_SUBTYPE) and len(body) == 3 and body[2] in (1, 2, 3):
         return [f"abort id {number_of(body[:2])} reason {body[2]}"]
@@ -28,22 +25,6 @@ def carried(headers, part_size):
     return []
 
 
-def areas(body):
-    """The line that says which areas a body names: how many, and the first of them."""
-    address, length = number_of(body[2:6]), number_of(body[6:8])
-    if len(body) < 8 or body[1] == 0 or length == 0:
-        return []
-    return [f"memory {body[0]} areas {body[1]} address {address} length {length}"]
-
-
-def segment(octets):
-    """What is said of a segment of a message in several packets, in front of its fault."""
-    kind = "tc" if octets[0] & 0x10 else "tm"
-    which = ("continuation", "first", "last")[octets[2] >> 6]
-    apid, count = number_of(octets[:2]) & 0x7FF, number_of(octets[2:4]) & 0x3FFF
-    return f"packet {kind} apid {apid} count {count} segment {which} "
-
-
 def decode(octets, part_size):
     """What octets are as a packet, and the status."""
     try:
@@ -52,7 +33,7 @@ def decode(octets, part_size):
             return "idle\n", 0
         headers = read_headers(packet)
     except Fault as fault:
-        return f"{segment(octets) if str(fault).startswith('4 ') else ''}fault {fault}\n", 1
+        return f"fault {fault}\n", 1
     kind = f"service {headers.service} subtype {headers.subtype}"
     if packet.is_command:
         kind = f"flags {headers.nibble} {kind} source {headers.peer}"

@@ -20,8 +20,6 @@ use Rattle.lpt_part.specs.declared.reason.Reason.{Reason}
 use Rattle.lpt_part.specs.Aborts.{abort_in, reason_code}
 use Rattle.lpt_part.specs.Parts.{Piece, part_in}
 use Rattle.lpt_events.specs.Arrivals.{carried_kind}
-use Rattle.lpt_areas.specs.declared.areas.Areas.{Areas}
-use Rattle.lpt_areas.specs.Areas.{areas_in}
 use Rattle.lpt_script_text.specs.Printing.{line_of, octets_text}
 use Rattle.lpt_part.specs.Kinds.{kind_word}
 
@@ -78,12 +76,6 @@ report_text r =
     line_of (codes "report" ∷ codes "request" ∷ octets_text (be r.request.value 4)
     ∷ code_words r.code)
 
--- the areas that a message of the memory service names: how many, and the first of them
-abbrev pub areas_text : Areas → List ℕ
-areas_text a =
-    line_of (codes "memory" ∷ decimal a.memory ∷ codes "areas" ∷ decimal a.count
-    ∷ codes "address" ∷ decimal a.address ∷ codes "length" ∷ decimal a.len ∷ [])
-
 -- ---- the third line
 
 -- a body that should be a part of this kind; nothing where it isn't read
@@ -98,23 +90,16 @@ abort_line body = option_map_or abort_text (abort_in body) []
 abbrev pub report_line : ℕ → List ℕ → List ℕ
 report_line subtype body = option_map_or report_text (report_in subtype body) []
 
--- areas, where there are any
-abbrev pub areas_line : Option Areas → List ℕ
-areas_line a = option_map_or areas_text a []
-
--- what a telecommand carries, where that is a part or a request that names areas
+-- what a telecommand carries, where that is a part
 abbrev pub tc_carried : ℕ → Command → List ℕ
-tc_carried p c =
-    option_map_or (part_line p c.body) (carried_kind Up c.service c.subtype)
-    (areas_line (areas_in Up c.service c.subtype c.body))
+tc_carried p c = option_map_or (part_line p c.body) (carried_kind Up c.service c.subtype) []
 
--- what telemetry carries that is no part, where that is a verification report, an abortion report
--- or one on areas
+-- what telemetry carries that is no part, where that is a verification report or an abortion report
 abbrev pub tm_reported : Telemetry → List ℕ
 tm_reported t =
     if t.service == 1 then report_line t.subtype t.body
     else if (t.service == 13) && (t.subtype == 16) then abort_line t.body
-    else areas_line (areas_in Down t.service t.subtype t.body)
+    else []
 
 -- what telemetry carries, where that is a part or a report
 abbrev pub tm_carried : ℕ → Telemetry → List ℕ

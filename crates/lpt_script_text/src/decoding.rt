@@ -6,10 +6,9 @@ ghost use Rattle.lpt_packet.specs.Packets.{fields};
 ghost use Rattle.lpt_pus.specs.Commands.{command, tc_verdict};
 ghost use Rattle.lpt_pus.specs.Telemetry.{telemetry, tm_verdict};
 ghost use Rattle.lpt_part.specs.Splitting.{IsPartSize};
-ghost use Rattle.lpt_script_text.specs.Decoding.{Says, decoding, tc_decoding, tm_decoding, fault_text, tc_text, tm_text, body_text, part_line, abort_line, report_line, tc_carried, tm_carried, areas_line};
+ghost use Rattle.lpt_script_text.specs.Decoding.{Says, decoding, tc_decoding, tm_decoding, fault_text, tc_text, tm_text, body_text, part_line, abort_line, report_line, tc_carried, tm_carried};
 
 use crate::words::octets_word;
-use lpt_areas::{Areas, read_areas};
 use lpt_events::part_kind;
 use lpt_packet::{Direction, Packet, PacketKind, Seen, read_packet};
 use lpt_part::{ABORT, Kind, TRANSFER, read_abort, read_part};
@@ -33,8 +32,8 @@ pub struct Decoded {
 ///
 /// `idle`; or a line with what the headers of the telecommand or the telemetry say, one with its
 /// body, and one with the part, the verification report or the abortion report that the body is,
-/// where it is read as one, or with the areas that it names; or `fault 3 Length`, the first test of
-/// the packet, and then of its secondary header, that fails.
+/// where it is read as one; or `fault 3 Length`, the first test of the packet, and then of its
+/// secondary header, that fails.
 pub fn print_decoded(alloc: Global, octets: &[u8], p: u32) -> Result<Decoded, AllocError>
     requires { IsPartSize p }
     ensures { IfOk result (λ d. Says (string_bytes d.text) d.faulty (decoding p octets.now)) }
@@ -158,15 +157,14 @@ fn print_body(alloc: Global, body: &[u8]) -> Result<String, AllocError>
     format!(in alloc; "body {octets}\n")
 }
 
-// The part or the request that a telecommand carries, where it carries one.
+// The part that a telecommand carries, where it carries one.
 fn print_tc_carried(alloc: Global, head: &TcHead, body: &[u8], p: u32) -> Result<String, AllocError>
     requires { IsPartSize p }
     ensures { IfOk result (λ t. string_bytes t ≡ tc_carried p (command head.now body.now)) }
 {
-    let (service, subtype) = (head.service, head.subtype);
-    match part_kind(Direction::Up, service, subtype) {
+    match part_kind(Direction::Up, head.service, head.subtype) {
         Some(kind) => print_part(alloc, kind, body, p),
-        None => print_areas(alloc, read_areas(Direction::Up, service, subtype, body)),
+        None => Ok(String::new(alloc)),
     }
 }
 
@@ -181,25 +179,9 @@ fn print_tm_carried(alloc: Global, head: &TmHead, body: &[u8], p: u32) -> Result
         None => match (service, subtype) {
             (VERIFICATION, _) => print_report(alloc, subtype, body),
             (TRANSFER, ABORT) => print_abort(alloc, body),
-            _ => print_areas(alloc, read_areas(Direction::Down, service, subtype, body)),
+            _ => Ok(String::new(alloc)),
         },
     }
-}
-
-// The areas that a message names; nothing where it names none.
-fn print_areas(alloc: Global, areas: Option<Areas>) -> Result<String, AllocError>
-    ensures { IfOk result (λ t. string_bytes t ≡ areas_line areas) }
-{
-    let Some(areas) = areas else {
-        return Ok(String::new(alloc));
-    };
-    let Areas {
-        memory,
-        count,
-        address,
-        len,
-    } = areas;
-    format!(in alloc; "memory {memory} areas {count} address {address} length {len}\n")
 }
 
 // The part of this kind that a body is; nothing where it isn't read as one.

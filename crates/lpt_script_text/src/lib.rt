@@ -5,11 +5,12 @@
 //! Texts are made here and written nowhere; the only error is out of memory. A text is a `String`:
 //! a new one, or where `write` stands in the name the caller's, which is made anew and can serve
 //! for all lines. The first calls are `write_accepted` with an event and its reply, and
-//! `print_decoded` with octets.
+//! `print_decoded` with octets; `print_areas` says more of them.
 #![tactic(auto)]
 
 mod answers;
 mod decoding;
+mod naming;
 mod printing;
 mod pushing;
 mod words;
@@ -18,6 +19,7 @@ pub use answers::{
     print_applied, print_expired, print_outcome, print_retired, write_accepted, write_refused,
 };
 pub use decoding::{Decoded, print_decoded};
+pub use naming::print_areas;
 pub use printing::{
     print_applied_count, print_clear, print_journal, print_memory_front, print_none, print_packet,
     print_plain_count, print_release, print_unreadable,
