@@ -1,3 +1,4 @@
+pub mod ChangeLemmas
 pub mod EventLemmas
 pub mod FlightLemmas
 pub mod FoldLemmas

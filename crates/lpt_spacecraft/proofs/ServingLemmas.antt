@@ -18,14 +18,14 @@ use Rattle.lpt_jobs.specs.Jobs.{Jobs, after_claim, after_commit}
 use Rattle.lpt_jobs.specs.declared.job.Job.{Job}
 use Rattle.lpt_jobs.specs.declared.job.Job.TheVariants.{Waiting, Claimed, Committed}
 use Rattle.lpt_memory.specs.Memories.{Contents, sizes_of}
-use Rattle.lpt_memory.specs.Readings.{Source}
+use Rattle.lpt_memory.specs.Readings.{Source, meant}
 use Rattle.lpt_memory.specs.Readings.{Job as Ticket}
 use Rattle.lpt_jobs.specs.Jobs.{head_of}
 use Rattle.lpt_node.specs.Jobs.{Execution, FrontIsFor, claimed, committed, executed, executed_of, with_opened}
 use Rattle.lpt_spacecraft.specs.Serving.{Onboard, after, after_accepted, all_sent, behind, first_expired, first_sent, then_expired, then_sent, read_over, taken, worked, worked_if}
 use Rattle.lpt_spacecraft.proofs.WritingLemmas.{appends-one, appends-list, part-behind, part-first, part-grown}
 use Rattle.lpt_spacecraft.specs.Streams.{Breaks}
-use Rattle.lpt_spacecraft.specs.Telling.{done_if, done_in, first_given_up, gave_up, taken_in, taken_of, work_done}
+use Rattle.lpt_spacecraft.specs.Telling.{done_if, done_in, first_given_up, front_done, gave_up, taken_in, taken_of, work_done, written_at, written_by}
 use Rattle.lpt_spacecraft.specs.declared.told.Done.{Done}
 use Rattle.lpt_spacecraft.specs.declared.told.Taken.{Taken}
 use Rattle.lpt_text.specs.Streams.{AppendsPart}
@@ -232,14 +232,36 @@ worked-writes c s t d x old mid new reads runs first node memories more =
 
 -- what became of it
 pub done-is : (c : Config) (s : Onboard) (d : NodeData) (x : (NodeData × Execution) × Contents)
-    (r : Done)
+    (wrote : Option ℕ) (r : Done)
     → d ≡ read_over c s.memories s.node
     → x ≡ executed c d s.memories
-    → r ≡ done_in c x.0.1
+    → wrote ≡ written_at (head_of d.jobs.jobs)
+    → r ≡ done_in c wrote x.0.1
     → r ≡ work_done c s
-done-is c s d x r reads runs is =
-    is ∙ ap (λ (z : (NodeData × Execution) × Contents). done_in c z.0.1)
-    (runs ∙ ap (λ (n : NodeData). executed c n s.memories) reads)
+done-is c s d x wrote r reads runs writes is =
+    is ∙ (λ i. done_in c (writes i) (runs i).0.1) ∙ ap (front_done c s.memories) reads
+
+-- the message of a request that waits alone is claimed
+pub claimed-message : (d : NodeData) (m : List ℕ)
+    → d.jobs.jobs ≡ Waiting m ∷ []
+    → (claimed d).1.message ≡ m
+claimed-message d m is =
+    subst (λ (q : Jobs). (claimed (record d { jobs = q })).1.message ≡ m)
+    (sym (ap (λ (js : List Job). record { first = d.jobs.first; jobs = js }) is)) refl
+
+-- the memory that it writes to
+pub written-front : (apid : ℕ) (ms : Contents) (js : List Job) (wrote : Option ℕ) (r : Source)
+    (message m : List ℕ)
+    → wrote ≡ written_by (meant r)
+    → r ≡ record { apid = apid; sizes = sizes_of ms; message = message }
+    → message ≡ m
+    → js ≡ Committed (record { apid = apid; sizes = sizes_of ms; message = m }) ∷ []
+    → wrote ≡ written_at (head_of js)
+written-front apid ms js wrote r message m writes reads same alone =
+    writes
+    ∙ ap (λ (x : Source). written_by (meant x))
+    (reads ∙ (λ i. record { apid = apid; sizes = sizes_of ms; message = same i }))
+    ∙ sym (ap (λ (l : List Job). written_at (head_of l)) alone)
 
 -- what follows from what a call answers where it is done
 pub on-ok : {A E : Type 0} {P Q : Type 0} (r : Result A E) → OnOk r P → (P → Q) → OnOk r Q

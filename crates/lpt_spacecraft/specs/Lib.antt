@@ -1,3 +1,4 @@
+pub mod Changes
 pub mod Flights
 pub mod Keeping
 pub mod Lines

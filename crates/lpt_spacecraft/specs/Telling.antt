@@ -1,5 +1,5 @@
 -- What is told of what the spacecraft's end does.
-use Rattle.std.specs.Prelude.{◌≡◌, ℕ, zero, suc, List, [], ◌∷◌, ◌++◌, length, Option, Some, None, ⊤}
+use Rattle.std.specs.Prelude.{◌≡◌, ℕ, zero, suc, List, [], ◌∷◌, ◌++◌, length, slice_get, if◌then◌else◌, Option, Some, None, ⊤}
 use Rattle.std.specs.Option.{option_map}
 use Rattle.lpt_events.specs.Arrivals.{arrival}
 use Rattle.lpt_events.specs.declared.config.Config.{Config}
@@ -8,7 +8,12 @@ use Rattle.lpt_events.specs.declared.outcome.Outcome.TheVariants.{Released, Brok
 use Rattle.lpt_events.specs.declared.side.Side.TheVariants.{Craft}
 use Rattle.lpt_ledger.specs.LeastFree.{least_free_in}
 use Rattle.lpt_ledger.specs.Marks.{Marks}
+use Rattle.lpt_jobs.specs.Jobs.{Head, NoJob, NotReady, Ready, head_of}
+use Rattle.lpt_memory.specs.Given.{accesses}
+use Rattle.lpt_memory.specs.declared.given.Access.{Access}
+use Rattle.lpt_memory.specs.Meanings.{Meaning}
 use Rattle.lpt_memory.specs.Memories.{Contents}
+use Rattle.lpt_memory.specs.Readings.{meant}
 use Rattle.lpt_node.specs.declared.accepted.Accepted.{Accepted}
 use Rattle.lpt_node.specs.Accepting.{accepted}
 use Rattle.lpt_node.specs.Jobs.{Execution, executed}
@@ -37,14 +42,37 @@ abbrev pub sent_in : Config → Option (Name × List ℕ) → Option (Name × �
 sent_in c None = None
 sent_in c (Some x) = Some (x.0, part_count (length x.1) c.part_size)
 
--- a request was executed
-abbrev pub done_in : Config → Execution → Done
-done_in c x =
-    record { applied = x.applied; reports = length x.packets; sent = sent_in c x.opened }
+-- the memory of an access, where it writes
+abbrev pub written_of : Option Access → Option ℕ
+written_of None = None
+written_of (Some a) = if a.is_write then Some a.memory else None
+
+-- the memory that a message writes to, where it does: that of its first access
+abbrev pub written_by : Meaning → Option ℕ
+written_by m = written_of (slice_get (accesses m) 0)
+
+-- the same of what stands at the front of the jobs
+abbrev pub written_at : Head → Option ℕ
+written_at NoJob = None
+written_at NotReady = None
+written_at (Ready r) = written_by (meant r)
+
+-- a request was executed, which wrote to this memory, or to none
+abbrev pub done_in : Config → Option ℕ → Execution → Done
+done_in c wrote x = record {
+  applied = x.applied;
+  reports = length x.packets;
+  sent = sent_in c x.opened;
+  wrote = wrote;
+}
+
+-- the request that stands at the front is executed
+abbrev pub front_done : Config → Contents → NodeData → Done
+front_done c ms d = done_in c (written_at (head_of d.jobs.jobs)) (executed c d ms).0.1
 
 -- the request that waits is read and executed
 abbrev pub work_done : Config → Onboard → Done
-work_done c s = done_in c (executed c (read_over c s.memories s.node) s.memories).0.1
+work_done c s = front_done c s.memories (read_over c s.memories s.node)
 
 -- the same, where something was released
 abbrev pub done_if : Config → Onboard → Option (List ℕ) → Option Done

@@ -1,12 +1,13 @@
 //! What outlasts a spacecraft that dies, kept before anything that it made is passed on.
 
-ghost use Rattle.std.specs.Prelude.{◌≡◌, ℕ, List, Option, None, IfErr, IsTrue, OnOk};
+ghost use Rattle.std.specs.Prelude.{◌≡◌, ◌||◌, ℕ, false, List, Option, None, IfErr, IsTrue, OnOk};
 ghost use Rattle.std.specs.Io.KnownBytes.{Appends};
 ghost use Rattle.lpt_memory.specs.Memories.{Contents};
 ghost use Rattle.lpt_text.specs.Streams.{AppendsPart, WriteEnds};
+ghost use Rattle.lpt_spacecraft.specs.Changes.{any_changes};
 ghost use Rattle.lpt_spacecraft.specs.Keeping.{IsKeptAs};
 
-use crate::Spacecraft;
+use crate::{Spacecraft, Told};
 use lpt_text::{Sink, StreamFault, write_out};
 
 /// Where the state of a spacecraft and its memories are kept, one in place of the other.
@@ -14,8 +15,9 @@ pub trait Keeper {
     // The state and the memories that were kept last, where they are known.
     ghost kept: { Self → Option (List ℕ × Contents) };
 
-    /// Keeps the spacecraft as it is, and answers whether it could.
-    fn keep(&mut self, craft: &Spacecraft) -> bool
+    /// Keeps the spacecraft as it is, of which this is told since it was kept last, and answers
+    /// whether it could. Where state and memories are still as they were kept last it isn't called.
+    fn keep(&mut self, craft: &Spacecraft, told: &[Told]) -> bool
         ensures { IsTrue result → IsKeptAs (kept self.new) craft.now };
 }
 
@@ -26,9 +28,34 @@ pub struct Unkept;
 impl Keeper for Unkept {
     ghost kept = { λ _. None };
 
-    fn keep(&mut self, _craft: &Spacecraft) -> bool {
+    fn keep(&mut self, _craft: &Spacecraft, _told: &[Told]) -> bool {
         true
     }
+}
+
+// Keeps a spacecraft of which this is told, where that or a tick may have changed what is kept of
+// it; answers whether it is kept as it is.
+pub(crate) fn keep_changed<H: Keeper>(
+    keeper: &mut H,
+    craft: &Spacecraft,
+    told: &[Told],
+    ticked: bool,
+) -> bool
+    requires { (ticked || any_changes told.now) ≡ false
+        → IsKeptAs (H.kept keeper.old) craft.now }
+    ensures { IsTrue result → IsKeptAs (H.kept keeper.new) craft.now }
+{
+    if ticked || any_changes(told) {
+        return keeper.keep(craft, told);
+    }
+    true
+}
+
+// Whether one of these changes what is kept of a spacecraft.
+fn any_changes(told: &[Told]) -> bool
+    ensures { result ≡ any_changes told.now }
+{
+    told.iter().any(|one| one.changes())
 }
 
 // Writes what a spacecraft made before it came to this, as which it is kept.

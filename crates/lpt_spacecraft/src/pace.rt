@@ -1,6 +1,7 @@
 //! When ticks come, when a name that was used is free again, and how a stream is cut.
 
-ghost use Rattle.std.specs.Prelude.{◌≡◌, ◌∷◌, [], ◌++◌, IfErr, OnOk, Some};
+ghost use Rattle.std.specs.Prelude.{◌≡◌, ◌<◌, ◌+◌, ◌^◌, ◌∷◌, [], ◌++◌, IfErr, OnOk, Some};
+ghost use Rattle.lpt_spacecraft.specs.Changes.{ticks_with};
 ghost use Rattle.lpt_spacecraft.specs.Flights.{cleared, due_now, freed, state_of, told_freed, use_of, uses_of};
 ghost use Rattle.lpt_spacecraft.specs.Telling.{all_noted, ended, took, used_up};
 
@@ -56,6 +57,14 @@ impl Course {
             since: 0,
             uses: VecDeque::new(alloc),
         }
+    }
+
+    // Whether a tick comes with the next packet, before which so many are due by the clock.
+    pub(crate) fn ticks_with(&self, due: u64) -> bool
+        requires { self.now.since + 1 < 2 ^ 64 }
+        ensures { result ≡ ticks_with due self.now.pace.every self.now.since }
+    {
+        due > 0 || self.since + 1 == self.pace.every
     }
 
     // Adds what has become of a packet at this end, and the names that this has used. The only

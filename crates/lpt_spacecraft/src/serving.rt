@@ -11,7 +11,7 @@ ghost use Rattle.lpt_spacecraft.specs.Telling.{Hears};
 
 use crate::clock::due_by;
 use crate::flying::serve_one;
-use crate::keeping::pass_on;
+use crate::keeping::{keep_changed, pass_on};
 use crate::pace::Course;
 use crate::{Clock, Keeper, Listener, Pace, Spacecraft, Stop, Told};
 use lpt_frames::{FrameBuffer, Front, Peer};
@@ -19,7 +19,8 @@ use lpt_text::{FromStd, Sink, StreamFault, flush_out};
 
 /// Reads a stream of packets to its end, or up to octets with which no packet can begin, takes each
 /// packet, and ticks at this pace. It is cut by the lengths that headers say. Behind each packet
-/// the spacecraft is kept, then what it made is written, and then what there is to tell is told.
+/// the spacecraft is kept, unless it still is as it was kept last; then what it made is written,
+/// and then what there is to tell is told.
 /// Before each read, and at the end, `out` passes on all that was written.
 ///
 /// Where the pace says so, such octets are passed over, up to the next packet whose checksum is
@@ -107,6 +108,7 @@ fn serve_packet<H: Keeper, L: Listener, K: Sink>(
     requires idle { IsIdle craft.old }
     requires room { numbered craft.old.node.at.jobs + 1 < 2 ^ 64 }
     requires since { course.old.since + 1 < 2 ^ 64 }
+    requires kept { IsKeptAs (H.kept keeper.old) craft.old }
     ensures ok { OnOk result (Flies (served craft.old.config (flight_of craft.old course.old)
         (clock_ticks due ++ came_with course.old.pace.every course.old.since octets.now))
         craft.new course.new (K.contents out.old) (K.contents out.new) (L.heard listener.old)
@@ -129,11 +131,12 @@ fn serve_packet<H: Keeper, L: Listener, K: Sink>(
 {
     let mut told = Vec::new(craft.alloc);
     let mut made = FromStd::new(Vec::new(craft.alloc));
+    let ticked = course.ticks_with(due);
     match serve_one(craft, course, due, octets, &mut told, &mut made) {
         Ok(()) => {}
         Err(_) => return Err(StreamFault::Memory),
     }
-    if !keeper.keep(craft) {
+    if !keep_changed(keeper, craft, &told, ticked) {
         return Err(StreamFault::Memory);
     }
     let made = made.into_inner();

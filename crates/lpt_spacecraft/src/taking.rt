@@ -6,19 +6,20 @@ ghost use Rattle.lpt_jobs.specs.declared.job.Job.TheVariants.{Waiting};
 ghost use Rattle.lpt_events.specs.Configs.{IsConfig};
 ghost use Rattle.lpt_events.specs.declared.side.Side.TheVariants.{Craft};
 ghost use Rattle.lpt_memory.specs.Memories.{content_of};
+ghost use Rattle.lpt_memory.specs.Readings.{meant};
 ghost use Rattle.lpt_state.specs.Lastings.{IsEnd};
 ghost use Rattle.lpt_state.specs.Spellings.{spelled};
 ghost use Rattle.lpt_state.specs.Verdicts.{reading, StateRefusedBy};
 ghost use Rattle.lpt_text.specs.Streams.{WriteEnds};
 ghost use Rattle.lpt_spacecraft.specs.Serving.{new_end, taken, worked, worked_if};
 ghost use Rattle.lpt_spacecraft.specs.Streams.{onboard, Breaks, IsIdle, WaitsFor, Writes};
-ghost use Rattle.lpt_spacecraft.specs.Telling.{done_if, taken_in, work_done};
+ghost use Rattle.lpt_spacecraft.specs.Telling.{done_if, taken_in, work_done, written_by};
 
 use crate::Spacecraft;
 use crate::told::{Done, Taken};
 use crate::writing::{write_all, write_one};
 use lpt_events::{Config, Side};
-use lpt_memory::{Memories, prepare};
+use lpt_memory::{Memories, Reading, prepare};
 use lpt_node::{Accepted, Executed, Node};
 use lpt_packet::Octets;
 use lpt_state::{StateFault, read_state, write_state};
@@ -195,6 +196,7 @@ impl Spacecraft {
                 return Err(StreamFault::Memory);
             }
         };
+        let wrote = written_by(&reading);
         self.node.commit(boot, job, reading);
         let Ok(executed) = self.node.apply_front(&mut self.memories) else {
             return Err(StreamFault::Memory);
@@ -214,8 +216,21 @@ impl Spacecraft {
                 applied,
                 reports,
                 sent,
+                wrote,
             }),
             Err(fault) => Err(fault),
         }
+    }
+}
+
+// The memory that a message writes to, where it does.
+fn written_by(reading: &Reading) -> Option<u8>
+    ensures { result ≡ written_by (meant reading.now) }
+{
+    let access = reading.access(0)?;
+    if access.is_write {
+        Some(access.memory)
+    } else {
+        None
     }
 }

@@ -1,5 +1,8 @@
 //! What is told of what comes to the spacecraft's end.
 
+ghost use Rattle.std.specs.Prelude.{◌≡◌};
+ghost use Rattle.lpt_spacecraft.specs.Changes.{uses_name};
+
 use lpt_events::{Applied, Outcome};
 use lpt_packet::{Direction, Name};
 
@@ -38,6 +41,8 @@ pub struct Done {
     pub reports: usize,
     /// The name of the report that was sent in parts, and how many, where one was.
     pub sent: Option<(Name, u16)>,
+    /// The memory that it wrote to, where it did.
+    pub wrote: Option<u8>,
 }
 
 /// Who is told what happens.
@@ -57,6 +62,7 @@ pub trait Listener {
 impl Told {
     ghost use Rattle.std.specs.Prelude.{◌≡◌};
     ghost use Rattle.lpt_spacecraft.specs.Telling.{ended};
+    ghost use Rattle.lpt_spacecraft.specs.Changes.{changes};
 
     // The name that this has used up, with the direction of its message, where it has.
     pub(crate) fn ended(&self) -> Option<(Direction, Name)>
@@ -73,4 +79,28 @@ impl Told {
             _ => None,
         }
     }
+
+    // Whether it changes what is kept of a spacecraft.
+    pub(crate) fn changes(&self) -> bool
+        ensures { result ≡ changes self.now }
+    {
+        match *self {
+            Told::Took(outcome) => uses_name(outcome),
+            Told::Did(done) => done.wrote.is_some() || done.sent.is_some(),
+            Told::GaveUp(_) => true,
+            Told::Freed(_, _) => true,
+            Told::UsedUp(_, _) => false,
+            Told::Skipped { .. } => false,
+        }
+    }
+}
+
+// Whether a packet of which this became has used a name up.
+fn uses_name(outcome: Outcome) -> bool
+    ensures { result ≡ uses_name outcome }
+{
+    matches!(
+        outcome,
+        Outcome::Released(_, _) | Outcome::Broken(_, _) | Outcome::AbortNoted(_, _)
+    )
 }

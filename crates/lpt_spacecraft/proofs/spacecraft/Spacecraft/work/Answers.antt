@@ -4,12 +4,12 @@ use Rattle.std.specs.Io.KnownBytes.{Appends}
 use Rattle.lpt_stream.specs.Streams.{all_octets}
 use Rattle.lpt_events.specs.declared.config.Config.{Config}
 use Rattle.lpt_memory.specs.Memories.{Contents}
-use Rattle.lpt_memory.specs.Readings.{ReadJob}
+use Rattle.lpt_memory.specs.Readings.{ReadJob, Job as Ticket}
 use Rattle.lpt_node.specs.Jobs.{Execution, executed}
 use Rattle.lpt_node.specs.Nodes.{NodeData}
 use Rattle.lpt_spacecraft.specs.Serving.{all_sent}
 use Rattle.lpt_spacecraft.specs.Streams.{onboard}
-use Rattle.lpt_spacecraft.proofs.ServingLemmas.{done-is, executed-jobs, read-over, read_over-jobs, worked-breaks, worked-writes}
+use Rattle.lpt_spacecraft.proofs.ServingLemmas.{claimed-message, done-is, executed-jobs, read-over, read_over-jobs, worked-breaks, worked-writes, written-front}
 use Rattle.lpt_spacecraft.proofs.WritingLemmas.{part-behind, part-first}
 use Rattle.lpt_text.specs.Streams.{AppendsPart}
 use Rattle.lpt_spacecraft.proofs.spacecraft.Spacecraft.work.Goals as goal
@@ -58,11 +58,18 @@ returns-in-Ok-send_opened-clause-done g c =
     let config = c.commit.ensures.config ∙ c.claim.ensures.config ∙ s.same_config in
     let runs = c.in-Ok-apply_front.ensures.ok
     ∙ ap (λ (k : Config). executed k c.commit.new.self.at s.memories) config in
-    done-is s.config (onboard s) c.commit.new.self.at _ _ over runs
+    let alone = ap (λ (d : NodeData). d.jobs.jobs) over
+    ∙ read_over-jobs s.config s.memories s.node.at c.requires.0 c.requires.1 in
+    let claims = ap (λ (x : NodeData × Ticket). x.1.message) c.in-Ok-claim.ensures.ok
+    ∙ claimed-message s.node.at c.requires.0 c.requires.1 in
+    done-is s.config (onboard s) c.commit.new.self.at _ _ _ over runs
+    (written-front s.config.apid s.memories _ _ _ _ c.requires.0 c.written_by-wrote.ensures reading
+    claims alone)
     (λ i. record {
       applied = c.in-Ok-apply_front.executed.applied;
       reports = (c.len-reports.ensures ∙ c.in-Ok-apply_front.executed.packets.ok.0) i;
       sent = c.in-Ok-send_opened.ensures.sent i;
+      wrote = c.written_by-wrote.result;
     })
 
 pub returns-in-Ok-send_opened-clause-idle : goal.returns-in-Ok-send_opened-clause-idle
