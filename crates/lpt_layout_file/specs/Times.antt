@@ -1,5 +1,5 @@
 -- How the time of telemetry is laid out.
-use Rattle.std.specs.Prelude.{ℕ, ◌+◌, ◌-◌, ◌==◌, ◌&&◌, nat_le, Bool, true, false, if◌then◌else◌, List, [], ◌∷◌, Option, Some, None, codes}
+use Rattle.std.specs.Prelude.{ℕ, ◌-◌, ◌==◌, ◌&&◌, nat_le, Bool, true, false, if◌then◌else◌, List, [], ◌∷◌, Option, Some, None, codes}
 use Rattle.toml_datetime.specs.declared.datetime.Date.{Date}
 use Rattle.toml_datetime.specs.declared.datetime.Datetime.{Datetime}
 use Rattle.toml_datetime.specs.declared.datetime.Time.{Time}
@@ -7,8 +7,13 @@ use Rattle.toml_datetime.specs.Parse.{parse_datetime}
 use Rattle.toml.specs.Data.{Data, as_datetime, as_str, Members, get_member}
 use Rattle.lpt_memory.specs.Fields.{◌>>=◌}
 use Rattle.lpt_settings.specs.Numbers.{number_in}
+use Rattle.lpt_layout_time.specs.declared.code.Submillisecond.{Submillisecond}
+use Rattle.lpt_layout_time.specs.declared.code.Submillisecond.TheVariants.{Absent, Microseconds, Picoseconds}
 use Rattle.lpt_layout_time.specs.declared.code.TimeCode.{TimeCode}
-use Rattle.lpt_layout_time.specs.Times.{day_number, preamble_octets}
+use Rattle.lpt_layout_time.specs.declared.code.TimeFields.{TimeFields}
+use Rattle.lpt_layout_time.specs.declared.code.TimeFields.TheVariants.{Unsegmented, DaySegmented}
+use Rattle.lpt_layout_time.specs.Codes.{code_octets}
+use Rattle.lpt_layout_time.specs.Times.{day_number}
 use Rattle.lpt_layout_file.specs.declared.times.TimeField.{TimeField}
 
 -- so many octets, of which nothing more is known
@@ -17,37 +22,58 @@ octets_alone n = record { octets = n; code = None }
 
 -- ---- the code
 
--- 1 January 1958, as a number of days behind 1 January 1900
-abbrev pub epoch_1958 : ℕ
-epoch_1958 = 21184
+-- a time by a code, since the epoch of the standard
+abbrev pub code_of : (preamble : Bool) → TimeFields → TimeCode
+code_of preamble fields = record { epoch = None; preamble = preamble; fields = fields }
 
--- A time of so many octets of seconds, by a digit from 1 to 4, and of parts of one, by a digit from
--- 0 to 3, since that day.
+abbrev pub coded : (preamble : Bool) → TimeFields → TimeField
+coded preamble fields = record {
+  octets = code_octets (code_of preamble fields);
+  code = Some (code_of preamble fields);
+}
+
+-- what a name ends with: ` p` where a preamble field is in front
+abbrev pub preamble_in : List ℕ → Option Bool
+preamble_in [] = Some false
+preamble_in (s ∷ p ∷ []) = if s == 32 && p == 112 then Some true else None
+preamble_in _ = None
+
+-- a time of so many octets of seconds, by a digit from 1 to 4, and of parts of one, by a digit from
+-- 0 to 3
 abbrev pub counted : (preamble : Bool) → (coarse fine : ℕ) → Option TimeField
 counted preamble coarse fine =
     if (nat_le 49 coarse && nat_le coarse 52) && (nat_le 48 fine && nat_le fine 51)
-    then Some (record {
-      octets = preamble_octets preamble + (coarse - 48) + (fine - 48);
-      code = Some (record {
-        epoch = epoch_1958;
-        preamble = preamble;
-        coarse = coarse - 48;
-        fine = fine - 48;
-      });
-    })
+    then Some (coded preamble (Unsegmented (coarse - 48) (fine - 48)))
     else None
 
--- what is said behind the word: two digits, and `p` where a preamble field is in front
+-- what is said behind the word `cuc`: two digits
 abbrev pub counts_in : List ℕ → Option TimeField
-counts_in (c ∷ s ∷ f ∷ []) = if s == 32 then counted false c f else None
-counts_in (c ∷ s ∷ f ∷ t ∷ p ∷ []) =
-    if s == 32 && t == 32 && p == 112 then counted true c f else None
+counts_in (c ∷ s ∷ f ∷ rest) =
+    if s == 32 then (preamble_in rest >>= λ p. counted p c f) else None
 counts_in _ = None
 
--- a code's name, as `cuc 4 3` or `cuc 4 3 p`
+-- behind the bits of days: ` us`, ` ps` or nothing for what stands behind the milliseconds
+abbrev pub segmented : (long : Bool) → Submillisecond → List ℕ → Option TimeField
+segmented long parts rest = preamble_in rest >>= λ p. Some (coded p (DaySegmented long parts))
+
+abbrev pub parts_in : (long : Bool) → List ℕ → Option TimeField
+parts_in long (s ∷ u ∷ t ∷ rest) =
+    if s == 32 && u == 117 && t == 115 then segmented long Microseconds rest
+    else if s == 32 && u == 112 && t == 115 then segmented long Picoseconds rest else None
+parts_in long rest = segmented long Absent rest
+
+-- behind the word `cds`: 16 or 24, the bits of days
+abbrev pub days_in : List ℕ → Option TimeField
+days_in (a ∷ b ∷ rest) =
+    if a == 49 && b == 54 then parts_in false rest
+    else if a == 50 && b == 52 then parts_in true rest else None
+days_in _ = None
+
+-- a code's name, as `cuc 4 3`, `cuc 4 3 p`, `cds 16` or `cds 24 us p`
 abbrev pub code_in : List ℕ → Option TimeField
 code_in (c ∷ u ∷ d ∷ s ∷ rest) =
-    if c == 99 && u == 117 && d == 99 && s == 32 then counts_in rest else None
+    if c == 99 && u == 117 && d == 99 && s == 32 then counts_in rest
+    else if c == 99 && u == 100 && d == 115 && s == 32 then days_in rest else None
 code_in _ = None
 
 -- ---- the values of the keys
@@ -87,7 +113,7 @@ day_in d = date_or (as_datetime d) (as_str d)
 abbrev pub since : TimeField → Option TimeCode → Option ℕ → Option TimeField
 since t None day = None
 since t (Some c) None = None
-since t (Some c) (Some day) = Some (record t { code = Some (record c { epoch = day }) })
+since t (Some c) (Some day) = Some (record t { code = Some (record c { epoch = Some day }) })
 
 -- the same since the day that a value is, where there is one
 abbrev pub since_or : TimeField → Option Data → Option TimeField

@@ -15,7 +15,7 @@
 //! | `counter` | telemetry | 0, 8 or 16 bits | 16 |
 //! | `destination` | telemetry | 0, 8 or 16 bits | 16 |
 //! | `source` | telecommands | 0, 8 or 16 bits | 16 |
-//! | `time` | telemetry | 0 to 16 octets, or `"cuc C F"` | 4 |
+//! | `time` | telemetry | 0 to 16 octets, `"cuc C F"` or `"cds D"` | 4 |
 //! | `epoch` | telemetry | a day of the years 1900 to 9999 | 1958-01-01 |
 //! | `spare` | both | 0 to 255 octets | 0 |
 //! | `transaction_id` | both | 16 or 32 bits | 16 |
@@ -23,8 +23,10 @@
 //! | `part_size` | both | 1 to 65,535 octets | it isn't known |
 //!
 //! Each table and each key may be absent, and there is no other. A time named `cuc C F` has C
-//! octets of seconds, 1 to 4, and F of parts of one, 0 to 3, and with ` p` behind them a preamble
-//! field of one octet in front. Only such a time has an epoch, a date or a text that is one.
+//! octets of seconds, 1 to 4, and F of parts of one, 0 to 3. One named `cds D` has D bits of days,
+//! 16 or 24, and 32 of milliseconds of the day; with ` us` behind it 16 of microseconds more, or
+//! with ` ps` 32 of picoseconds. With ` p` at the name's end a preamble field of one octet stands
+//! in front. Only such a time has an epoch, a date or a text that is one.
 #![tactic(auto)]
 
 mod complaint;

@@ -1,13 +1,14 @@
 //! How the time of telemetry is laid out.
 
-ghost use Rattle.std.specs.Prelude.{◌≡◌, None, Some, codes};
+ghost use Rattle.std.specs.Prelude.{◌≡◌, ◌<◌, None, Some, codes};
 ghost use Rattle.std.specs.Result.{result_ok};
 ghost use Rattle.toml.specs.Data.{get_member};
 ghost use Rattle.toml.specs.View.{view, table_view};
 ghost use Rattle.lpt_settings.specs.Numbers.{number_in};
-ghost use Rattle.lpt_layout_file.specs.Times.{code_in, code_or, counted, counts_in, date_or, day_in, day_of, since, time_at, time_in, time_or};
+ghost use Rattle.lpt_layout_time.specs.Codes.{field_octets};
+ghost use Rattle.lpt_layout_file.specs.Times.{code_in, code_or, coded, counted, counts_in, date_or, day_in, day_of, days_in, parts_in, preamble_in, since, time_at, time_in, time_or};
 
-use lpt_layout_time::{EPOCH_1958, TimeCode, day_number};
+use lpt_layout_time::{Submillisecond, TimeCode, TimeFields, day_number};
 use lpt_settings::{Reason, Wrong, number_of_value};
 use toml::{Table, Value};
 use toml_datetime::Datetime;
@@ -75,18 +76,18 @@ fn code_in(text: &[u8]) -> Option<TimeField>
     ensures { result ≡ code_in text.now }
 {
     match text {
-        [b'c', b'u', b'c', b' ', counts @ ..] => counts_in(counts),
+        [b'c', b'u', b'c', b' ', rest @ ..] => counts_in(rest),
+        [b'c', b'd', b's', b' ', rest @ ..] => days_in(rest),
         _ => None,
     }
 }
 
-// The same by what is behind the name's word.
-fn counts_in(counts: &[u8]) -> Option<TimeField>
-    ensures { result ≡ counts_in counts.now }
+// The time that counts seconds, by what is behind the code's word.
+fn counts_in(text: &[u8]) -> Option<TimeField>
+    ensures { result ≡ counts_in text.now }
 {
-    match counts {
-        [coarse, b' ', fine] => counted(false, *coarse, *fine),
-        [coarse, b' ', fine, b' ', b'p'] => counted(true, *coarse, *fine),
+    match text {
+        [coarse, b' ', fine, rest @ ..] => counted(preamble_in(rest)?, *coarse, *fine),
         _ => None,
     }
 }
@@ -99,15 +100,64 @@ fn counted(preamble: bool, coarse: u8, fine: u8) -> Option<TimeField>
         return None;
     }
     let (coarse, fine) = (coarse - b'0', fine - b'0');
-    Some(TimeField {
-        octets: u8::from(preamble) + coarse + fine,
-        code: Some(TimeCode {
-            epoch: EPOCH_1958,
-            preamble,
-            coarse,
-            fine,
-        }),
-    })
+    Some(coded(preamble, TimeFields::Unsegmented { coarse, fine }))
+}
+
+// The time that counts days, by what is behind the code's word.
+fn days_in(text: &[u8]) -> Option<TimeField>
+    ensures { result ≡ days_in text.now }
+{
+    match text {
+        [b'1', b'6', rest @ ..] => parts_in(false, rest),
+        [b'2', b'4', rest @ ..] => parts_in(true, rest),
+        _ => None,
+    }
+}
+
+// The same by what is behind the bits of days.
+fn parts_in(long: bool, text: &[u8]) -> Option<TimeField>
+    ensures { result ≡ parts_in long text.now }
+{
+    let (submillisecond, rest) = match text {
+        [b' ', b'u', b's', rest @ ..] => (Submillisecond::Microseconds, rest),
+        [b' ', b'p', b's', rest @ ..] => (Submillisecond::Picoseconds, rest),
+        rest => (Submillisecond::Absent, rest),
+    };
+    let preamble = preamble_in(rest)?;
+    Some(coded(
+        preamble,
+        TimeFields::DaySegmented {
+            long,
+            submillisecond,
+        },
+    ))
+}
+
+// Whether a preamble field is in front, by what is said last.
+fn preamble_in(text: &[u8]) -> Option<bool>
+    ensures { result ≡ preamble_in text.now }
+{
+    match text {
+        [] => Some(false),
+        [b' ', b'p'] => Some(true),
+        _ => None,
+    }
+}
+
+// A time by a code, since the epoch of the standard.
+fn coded(preamble: bool, fields: TimeFields) -> TimeField
+    requires { field_octets fields < 255 }
+    ensures { result ≡ coded preamble fields }
+{
+    let code = TimeCode {
+        epoch: None,
+        preamble,
+        fields,
+    };
+    TimeField {
+        octets: code.octets() as u8,
+        code: Some(code),
+    }
 }
 
 // The number of the day that a value is.
@@ -151,7 +201,10 @@ fn since(field: TimeField, day: Option<u32>) -> Result<TimeField, Wrong<'static>
         return Err(Wrong::at("epoch", Reason::NotDay));
     };
     Ok(TimeField {
-        code: Some(TimeCode { epoch, ..code }),
+        code: Some(TimeCode {
+            epoch: Some(epoch),
+            ..code
+        }),
         ..field
     })
 }

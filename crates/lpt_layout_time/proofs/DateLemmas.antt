@@ -1,21 +1,17 @@
 -- The kit's dates are those of the definitions.
-use Rattle.std.proofs.Common.{◌≡◌, ◌∙◌, ap, subst, sym, refl, ℕ, ◌+◌, ◌-◌, ◌/◌, ◌%◌, ◌<◌, ◌≤◌, [], ◌∷◌, ◌++◌, None, ℤ, pos, negsuc, true, Some, ◌+ℤ◌, ◌-ℤ◌, arith}
+use Rattle.std.proofs.Common.{◌≡◌, ◌∙◌, ap, subst, sym, refl, ℕ, ◌+◌, ◌-◌, ◌<◌, ◌≤◌, [], ◌∷◌, ◌++◌, ℤ, pos, negsuc, true, Some, ◌+ℤ◌, ◌-ℤ◌, arith}
 use Rattle.std.proofs.lemmas.Bool.Decides.{nat_tests}
 use Rattle.std.proofs.lemmas.Int.{by_lt_z}
 use Rattle.jiff_core.specs.declared.civil.date.Date.{Date}
-use Rattle.jiff_core.specs.declared.civil.datetime.DateTime.{DateTime}
-use Rattle.jiff_core.specs.declared.civil.time.Time.{Time}
 use Rattle.jiff_core.specs.Calendar.{day_count, days_in_month, days_from_civil, days_in_year, IsCivilDate}
 use Rattle.jiff_core.specs.Date.{epoch_day}
-use Rattle.jiff_core.specs.Time.{time_seconds}
 use Rattle.jiff_core.proofs.CalendarLemmas.{day_count-day, day_count-day_of_year, day_count-later_year, day_count-lt_year, day_count-next_month, day_count-next_year, day_of_year_bound, days_from_civil-day_count}
 use Rattle.jiff_core.proofs.DateLemmas.{civil}
 use Rattle.jiff_core.proofs.MarchLemmas.{day_count-early}
 use Rattle.jiff_core.proofs.SignedLemmas.{signed_arith}
 use Rattle.jiff_fmt.specs.Text as kit
-use Rattle.jiff_fmt.specs.Text.{fraction_part, pad2}
-use Rattle.lpt_layout_time.specs.declared.moment.Moment.{Moment}
-use Rattle.lpt_layout_time.specs.Times.{civil_text, clock_text, date_in_year, date_of, date_text, day_number, is_day, moment_text, month_at, year_at}
+use Rattle.jiff_fmt.specs.Text.{pad2}
+use Rattle.lpt_layout_time.specs.Times.{date_in_year, date_of, date_text, day_number, is_day, month_at, year_at}
 use Rattle.lpt_layout_time.proofs.StretchLemmas.{found, Follow}
 
 day_count-1900 : day_count (pos 1900) 1 1 ≡ 4_346_386
@@ -89,31 +85,15 @@ date_is (negsuc n) m d day h is =
       day_count-lt_year (negsuc n) m d (pos 1900) 1 1 h (omega arith) (omega (arith, signed_arith)),
     ))
 
--- the kit's time of day
-clock_is : (t : Time) (second nanosecond : ℕ)
-    → time_seconds t ≡ second
-    → t.subsec_nanosecond ≡ nanosecond
-    → kit.time_text None t ≡ clock_text second nanosecond
-clock_is t second nanosecond is part =
-    let hour : t.hour ≡ second / 3600 = omega arith in
-    let minute : t.minute ≡ second % 3600 / 60 = omega arith in
-    let last : t.second ≡ second % 60 = omega arith in
-    λ x. pad2 (hour x) ++ 58 ∷ pad2 (minute x) ++ 58 ∷ pad2 (last x) ++ fraction_part None (part x)
-
--- and both
-pub civil_is : (dt : DateTime) (m : Moment)
-    → epoch_day dt.date ≡ pos m.day -ℤ pos 25567
-    → time_seconds dt.time ≡ m.second
-    → dt.time.subsec_nanosecond ≡ m.nanosecond
-    → civil_text dt ≡ moment_text m
-civil_is dt m day second part =
-    let date = dt.date in
+-- the same by the kit's number of it
+pub day_text : (date : Date) (day : ℕ)
+    → epoch_day date ≡ pos day -ℤ pos 25567
+    → kit.date_text date ≡ date_text day
+day_text date day is =
     let count = days_from_civil-day_count date.year date.month date.day in
-    let is : day_count date.year date.month date.day ≡ day_count (pos 1900) 1 1 + m.day =
-    omega (arith, signed_arith, count, day, day_count-1900) in
-    let front = date_is date.year date.month date.day m.day (civil date) is in
-    let back = clock_is dt.time m.second m.nanosecond second part in
-    λ x. front x ++ 84 ∷ back x
+    let at : day_count date.year date.month date.day ≡ day_count (pos 1900) 1 1 + day =
+    omega (arith, signed_arith, count, is, day_count-1900) in
+    date_is date.year date.month date.day day (civil date) at
 
 -- a day of the calendar from the year 1900 on
 day_is : (y m d : ℕ) → 1900 ≤ y → y ≤ 9999 → IsCivilDate (pos y) m d → is_day y m d ≡ true

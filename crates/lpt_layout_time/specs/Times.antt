@@ -1,10 +1,13 @@
 -- Times as days of the calendar and times of day.
-use Rattle.std.specs.Prelude.{ℕ, zero, suc, ◌+◌, ◌-◌, ◌*◌, ◌/◌, ◌%◌, ◌^◌, ◌<◌, ◌≤◌, ◌==◌, ◌&&◌, nat_lt, nat_le, Bool, true, false, if◌then◌else◌, List, [], ◌∷◌, ◌++◌, length, take, drop, Option, Some, None, pos}
-use Rattle.std.specs.Option.{option_map}
+use Rattle.std.specs.Prelude.{ℕ, zero, suc, ◌+◌, ◌-◌, ◌*◌, ◌/◌, ◌%◌, ◌^◌, ◌≤◌, ◌==◌, ◌&&◌, min, nat_lt, nat_le, Bool, if◌then◌else◌, List, [], ◌∷◌, ◌++◌, length, take, drop, Option, Some, None, pos}
+use Rattle.std.specs.Option.{option_and_then, option_map}
 use Rattle.jiff_core.specs.Calendar.{day_count, days_in_month, days_in_year}
-use Rattle.jiff_core.specs.declared.civil.datetime.DateTime.{DateTime}
-use Rattle.jiff_fmt.specs.Text.{datetime_text, fraction_part, pad2, pad4}
+use Rattle.jiff_fmt.specs.Text.{pad2, pad4}
+use Rattle.lpt_layout_time.specs.Codes.{code_octets, day_octets, epoch_in, lengths_fit, parts_in, places_of, preamble_octets}
+use Rattle.lpt_layout_time.specs.declared.code.Submillisecond.{Submillisecond}
 use Rattle.lpt_layout_time.specs.declared.code.TimeCode.{TimeCode}
+use Rattle.lpt_layout_time.specs.declared.code.TimeFields.{TimeFields}
+use Rattle.lpt_layout_time.specs.declared.code.TimeFields.TheVariants.{Unsegmented, DaySegmented}
 use Rattle.lpt_layout_time.specs.declared.moment.Moment.{Moment}
 
 -- ---- the calendar
@@ -36,19 +39,26 @@ date_in_year year day =
 abbrev pub date_text : ℕ → List ℕ
 date_text day = date_in_year (year_at day).0 (year_at day).1
 
--- a time of day as 05:19:00.25
-abbrev pub clock_text : (second nanosecond : ℕ) → List ℕ
-clock_text second nanosecond =
-    pad2 (second / 3600) ++ 58 ∷ pad2 (second % 3600 / 60) ++ 58 ∷ pad2 (second % 60)
-    ++ fraction_part None nanosecond
+-- the last so many decimal digits of a number
+unfoldable pub digits : (places n : ℕ) → List ℕ
+digits zero n = []
+digits (suc k) n = (48 + n / 10 ^ k % 10) ∷ digits k n
 
--- a day of the calendar and a time of day
+-- the minute of a day in which a second is: a leap second is the last minute's
+abbrev pub minute_of : ℕ → ℕ
+minute_of second = min (second / 60) 1439
+
+-- a fraction of a second, in so many digits
+abbrev pub fraction_text : (places fraction : ℕ) → List ℕ
+fraction_text zero fraction = []
+fraction_text (suc k) fraction = 46 ∷ digits (suc k) fraction
+
+-- a day of the calendar and a time of day, as 2026-11-27T05:19:00.250
 abbrev pub moment_text : Moment → List ℕ
-moment_text m = date_text m.day ++ 84 ∷ clock_text m.second m.nanosecond
-
--- the same of the kit's
-abbrev pub civil_text : DateTime → List ℕ
-civil_text dt = datetime_text false 84 None dt
+moment_text m =
+    date_text m.day ++ 84 ∷ digits 2 (minute_of m.second / 60)
+    ++ 58 ∷ digits 2 (minute_of m.second % 60)
+    ++ 58 ∷ digits 2 (m.second - 60 * minute_of m.second) ++ fraction_text m.places m.fraction
 
 -- a day of the calendar from 1 January 1900 to 31 December 9999
 abbrev pub is_day : (year month day : ℕ) → Bool
@@ -62,54 +72,53 @@ day_number year month day =
     if is_day year month day
     then Some (day_count (pos year) month day - day_count (pos 1900) 1 1) else None
 
--- ---- the code
+-- ---- the moment
 
 -- the number that octets are, the greatest octet first
 abbrev pub number_of : List ℕ → ℕ
 number_of [] = 0
 number_of (x ∷ xs) = x * 256 ^ length xs + number_of xs
 
--- a preamble field's octets
-abbrev pub preamble_octets : Bool → ℕ
-preamble_octets true = 1
-preamble_octets _ = 0
-
--- a code has so many octets, with at most 4 of seconds and 3 of parts of one
-abbrev pub has_size : TimeCode → ℕ → Bool
-has_size c len =
-    nat_le c.coarse 4 && nat_le c.fine 3
-    && (len == preamble_octets c.preamble + c.coarse + c.fine)
-
--- a preamble field, where there is one, says as many octets of seconds, less one, and of parts
-abbrev pub preamble_says : TimeCode → List ℕ → Bool
-preamble_says c [] = true
-preamble_says c (x ∷ xs) = x % 16 + 4 == 4 * c.coarse + c.fine
-
 -- 31 December 9999
 abbrev pub last_day : ℕ
 last_day = 2958463
 
--- the moment so many seconds and parts of one behind the epoch, up to that day
-abbrev pub moment_of : TimeCode → (seconds parts : ℕ) → Option Moment
-moment_of c seconds parts =
-    if nat_lt last_day (c.epoch + seconds / 86400) then None
-    else Some (record {
-      day = c.epoch + seconds / 86400;
-      second = seconds % 86400;
-      nanosecond = parts * 1000000000 / 256 ^ c.fine;
-    })
+-- a moment up to that day
+abbrev pub known : (day second places fraction : ℕ) → Option Moment
+known day second places fraction =
+    if nat_lt last_day day then None
+    else Some (record { day = day; second = second; places = places; fraction = fraction })
 
--- the moment that octets behind a preamble say
-abbrev pub moment_behind : TimeCode → List ℕ → Option Moment
-moment_behind c b = moment_of c (number_of (take c.coarse b)) (number_of (drop c.coarse b))
+-- The moment so many seconds and parts of one behind the beginning of a day, of days of 86,400
+-- seconds. Its fraction has three digits for each octet of parts, and is rounded down.
+abbrev pub after_seconds : (epoch fine seconds parts : ℕ) → Option Moment
+after_seconds epoch fine seconds parts =
+    known (epoch + seconds / 86400) (seconds % 86400) (3 * fine)
+    (parts * 1000 ^ fine / 256 ^ fine)
+
+-- The moment on a day so many days behind another, by the milliseconds of the day and the parts of
+-- one. A day with a leap second has 86,401,000 of them, and none has more.
+abbrev pub on_day : Submillisecond → (epoch days milliseconds parts : ℕ) → Option Moment
+on_day s epoch days milliseconds parts =
+    if nat_lt milliseconds 86401000 && nat_lt parts (parts_in s)
+    then known (epoch + days) (milliseconds / 1000) (3 + places_of s)
+    (milliseconds % 1000 * parts_in s + parts) else None
+
+-- the moment that octets behind a preamble say, since a day
+abbrev pub moment_by : TimeFields → List ℕ → (epoch : ℕ) → Option Moment
+moment_by (Unsegmented coarse fine) b epoch =
+    after_seconds epoch fine (number_of (take coarse b)) (number_of (drop coarse b))
+moment_by (DaySegmented long s) b epoch =
+    on_day s epoch (number_of (take (day_octets long) b))
+    (number_of (take 4 (drop (day_octets long) b)))
+    (number_of (drop 4 (drop (day_octets long) b)))
 
 -- the moment that octets say
 abbrev pub moment_in : TimeCode → List ℕ → Option Moment
 moment_in c b =
-    if has_size c (length b) then
-    (if preamble_says c (take (preamble_octets c.preamble) b)
-    then moment_behind c (drop (preamble_octets c.preamble) b) else None)
-    else None
+    if lengths_fit c.fields && (length b == code_octets c)
+    then option_and_then (moment_by c.fields (drop (preamble_octets c.preamble) b))
+    (epoch_in c (take (preamble_octets c.preamble) b)) else None
 
 -- the text of the time that octets say
 abbrev pub time_text : TimeCode → List ℕ → Option (List ℕ)
@@ -118,5 +127,5 @@ time_text c b = option_map moment_text (moment_in c b)
 -- it is a moment up to the year 9999
 pub record IsMoment (m : Moment) : Type 0 where
   pub day_fits : m.day ≤ last_day
-  pub second_fits : m.second < 86400
-  pub nanosecond_fits : m.nanosecond < 1000000000
+  pub second_fits : m.second ≤ 86400
+  pub places_fit : m.places ≤ 12
