@@ -1,1 +1,2 @@
 mod CheckLemmas
+pub mod ReachLemmas

@@ -13,7 +13,9 @@ pub struct Image<'a> {
 }
 
 impl Image<'_> {
-    ghost use Rattle.std.specs.Prelude.{◌≡◌, ◌<◌, None, false, IfSome};
+    ghost use Rattle.std.specs.Prelude.{◌≡◌, ◌≤◌, false};
+    ghost use Rattle.std.specs.List.Sorted.{IsNonDecreasingBy};
+    ghost use Rattle.lpt_compare.specs.declared.checked.Checked.{Checked};
     ghost use Rattle.lpt_compare.specs.Images.{agrees, checksum_at, is_shown, AreShown, IsFirstOpen};
 
     /// The checksum that its octets have where an area of a report is, if it has all of them.
@@ -26,35 +28,38 @@ impl Image<'_> {
     }
 
     /// The first address of its octets that lies in no area that a report agrees on, if one does.
-    pub fn first_open(&self, checks: &[Checked]) -> Option<u64>
-        ensures { IsFirstOpen self.now.from self.now.octets.now checks.now result }
+    ///
+    /// In whatever order the areas come, the checksum of each is taken once at most.
+    pub fn first_open(&self, mut checks: Vec<Checked>) -> Option<u64>
+        ensures { IsFirstOpen self.now.from self.now.octets.now checks.items result }
     {
+        checks.sort_unstable_by_key(|check| check.address);
+        let open = self.reach(&checks);
         let end = u64::from(self.from) + self.octets.len() as u64;
-        let mut at = u64::from(self.from);
-        while at < end {
-            match self.reach(checks, at) {
-                Some(behind) => at = behind,
-                None => return Some(at),
-            }
+        if end <= open {
+            return None;
         }
-        None
+        Some(open)
     }
 
-    // How far an area reaches that a report agrees on and in which this address lies, if it does in
-    // one.
-    fn reach(&self, checks: &[Checked], at: u64) -> Option<u64>
-        ensures none { result ≡ None
-            → is_shown self.now.from self.now.octets.now checks.now at ≡ false }
-        ensures further { IfSome result (λ behind. at < behind) }
-        ensures shown { IfSome result (λ behind.
-            AreShown self.now.from self.now.octets.now checks.now at behind) }
+    // The first address from its own on that lies in no area that a report agrees on, of areas in
+    // the order of their addresses.
+    fn reach(&self, checks: &[Checked]) -> u64
+        requires { IsNonDecreasingBy (λ (c : Checked). c.address) checks.now }
+        ensures from { self.now.from ≤ result }
+        ensures shown { AreShown self.now.from self.now.octets.now checks.now self.now.from result }
+        ensures open { is_shown self.now.from self.now.octets.now checks.now result ≡ false }
     {
+        let mut at = u64::from(self.from);
         for check in checks {
-            if check.has(at) && self.agrees(check) {
-                return Some(check.end());
+            if at < u64::from(check.address) {
+                return at;
+            }
+            if at < check.end() && self.agrees(check) {
+                at = check.end();
             }
         }
-        None
+        at
     }
 
     // Whether a report agrees on an area.
