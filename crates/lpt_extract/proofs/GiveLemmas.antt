@@ -18,7 +18,7 @@ use Rattle.lpt_extract.specs.declared.image.Image.{Image}
 use Rattle.lpt_memory.specs.Requests.{LoadArea, Request}
 use Rattle.lpt_extract.specs.declared.holding.Holding.{Holding}
 use Rattle.lpt_extract.specs.declared.notice.Notice.{Notice}
-use Rattle.lpt_extract.specs.declared.notice.Notice.TheVariants.{OtherMemory, WrongChecksum}
+use Rattle.lpt_extract.specs.declared.notice.Notice.TheVariants.{OtherMemory}
 use Rattle.lpt_extract.specs.declared.seen_area.SeenArea.{SeenArea}
 use Rattle.lpt_extract.specs.declared.wanted.Place.{Place}
 use Rattle.lpt_extract.specs.declared.wanted.Wanted.{Wanted}
@@ -28,7 +28,7 @@ use Rattle.lpt_extract.specs.CoversInside.{gaps_of}
 use Rattle.lpt_extract.specs.Gaps.{is_given, AreGaps}
 use Rattle.lpt_extract.specs.ExtractsInside.{given, told_of, written_last, EndsBy, HasImage, Held}
 use Rattle.lpt_extract.specs.ImagesInside.{end_of_image, octets_of_image}
-use Rattle.lpt_extract.specs.Notices.{is_whole, notice, span, Hears}
+use Rattle.lpt_extract.specs.Notices.{is_taken, notice, untaken, Hears}
 use Rattle.lpt_extract.proofs.ImageLemmas.{extent-more, image-none}
 use Rattle.lpt_extract.specs.Reports.{Saying, Areas, report_in}
 use Rattle.lpt_extract.specs.ReportsInside.{load_area}
@@ -43,10 +43,11 @@ first-append (Some p) xs ys = refl
 pub given-append : (xs ys : List SeenArea) → given (xs ++ ys) ≡ given xs ++ given ys
 given-append xs ys =
     ap whole_areas (map-append load_area xs ys)
-    ∙ ap (map area) (filter-append is_whole (map load_area xs) (map load_area ys))
+    ∙ ap (map area) (filter-append is_taken (map load_area xs) (map load_area ys))
     ∙ map-append area _ _
 
-pub told-append : (m n : ℕ) (xs ys : List SeenArea) → told_of m n (xs ++ ys) ≡ told_of m n xs ++ told_of m n ys
+pub told-append : (m n : ℕ) (xs ys : List SeenArea) → told_of m n (xs ++ ys)
+    ≡ told_of m n xs ++ told_of m n ys
 told-append m n xs ys =
     ap (map (notice m n)) (map-append load_area xs ys) ∙ map-append (notice m n) _ _
 
@@ -62,16 +63,17 @@ pub told-more : (m n : ℕ) (xs : List SeenArea) (i : ℕ) (d : SeenArea)
 told-more m n xs i d h =
     ap (told_of m n) (take_more xs i d h) ∙ told-append m n (take i xs) (get_or xs i d ∷ [])
 
--- of one with a wrong checksum, and with a right one
-pub given-wrong : (s : SeenArea) → is_whole (load_area s) ≡ false → given (s ∷ []) ≡ []
+-- of one that isn't taken, and of one that is
+pub given-wrong : (s : SeenArea) → is_taken (load_area s) ≡ false → given (s ∷ []) ≡ []
 given-wrong s h = rw h refl
 
-pub given-right : (s : SeenArea) → is_whole (load_area s) ≡ true → given (s ∷ []) ≡ area (load_area s) ∷ []
+pub given-right : (s : SeenArea) → is_taken (load_area s) ≡ true → given (s ∷ [])
+    ≡ area (load_area s) ∷ []
 given-right s h = rw h refl
 
 pub told-wrong : (m n : ℕ) (s : SeenArea)
-    → is_whole (load_area s) ≡ false
-    → told_of m n (s ∷ []) ≡ WrongChecksum (span m (load_area s)) n ∷ []
+    → is_taken (load_area s) ≡ false
+    → told_of m n (s ∷ []) ≡ untaken m n (load_area s) ∷ []
 told-wrong m n s h = rw h refl
 
 -- what a report of a memory that is wanted gives
@@ -87,7 +89,8 @@ areas-said at m xs ys r h mine same =
 pub given-split : (n : ℕ) (xs : List SeenArea) → given (take n xs) ++ given (drop n xs) ≡ given xs
 given-split n xs = sym (given-append (take n xs) (drop n xs)) ∙ ap given (take-append-drop n xs)
 
-pub areas-append : (w : Wanted) (xs ys : List (List ℕ)) → areas_in w (xs ++ ys) ≡ areas_in w xs ++ areas_in w ys
+pub areas-append : (w : Wanted) (xs ys : List (List ℕ)) → areas_in w (xs ++ ys)
+    ≡ areas_in w xs ++ areas_in w ys
 areas-append w xs ys = flat_map-append (λ b. areas_of w.at (report_in w.apid b)) xs ys
 
 -- what is told of a piece more
@@ -100,7 +103,8 @@ notices-next w n [] p =
 notices-next w n (q ∷ ps) p =
     let first = notices_at w (up_to_limit n) q.kind q.octets in
     ap (λ ns. first ++ ns) (notices-next w (n + length q.octets) ps p
-    ∙ ap (λ k. notices_in w (n + length q.octets) ps ++ notices_at w (up_to_limit k) p.kind p.octets)
+    ∙ ap (λ k. notices_in w (n + length q.octets) ps ++ notices_at w
+    (up_to_limit k) p.kind p.octets)
     (omega arith))
     ∙ sym (append_assoc first (notices_in w (n + length q.octets) ps) _)
 
@@ -115,7 +119,8 @@ image-held-none None i end gaps octets = (end, gaps)
 image-held-none (Some p) i end gaps octets = record {
   covers = record {
     end_is = end;
-    gaps_are = subst (AreGaps (is_given []) p.from 0) (sym gaps) (λ n c d. absurd (omega (arith, d)));
+    gaps_are = subst (AreGaps (is_given []) p.from 0) (sym gaps)
+        (λ n c d. absurd (omega (arith, d)));
     reached = λ h. absurd (omega (arith, h));
   };
   octets_are = λ fits. octets ∙ image-none p.from p.fill;
@@ -159,7 +164,8 @@ pub held-same : (at : Option Place) (xs : List Area) (ns : List Notice) (h : Hol
 held-same at xs ns h k = held-as at xs (xs ++ []) ns ns h (sym (append-nil xs)) refl k
 
 -- with a report of another memory
-pub held-other : (at : Option Place) (r : Request LoadArea) (place : ℕ) (xs : List Area) (ns : List Notice)
+pub held-other : (at : Option Place) (r : Request LoadArea) (place : ℕ) (xs : List Area)
+    (ns : List Notice)
     (h : Holding)
     → is_of at r.memory ≡ false
     → Held at xs (ns ++ OtherMemory r.memory ∷ []) h
@@ -167,7 +173,8 @@ pub held-other : (at : Option Place) (r : Request LoadArea) (place : ℕ) (xs : 
 held-other at r place xs ns h e k = rw e (held-same at xs _ h k)
 
 -- more and more
-pub held-more : (at : Option Place) (xs ys zs all : List Area) (ns ms ks told : List Notice) (h : Holding)
+pub held-more : (at : Option Place) (xs ys zs all : List Area) (ns ms ks told : List Notice)
+    (h : Holding)
     → all ≡ ys ++ zs
     → told ≡ ms ++ ks
     → Held at ((xs ++ ys) ++ zs) ((ns ++ ms) ++ ks) h
@@ -236,7 +243,8 @@ never-false : true ≡ false → ⊥
 never-false h = cc
 
 -- how the whole ends, by how its end does
-pub ends-by : (at : Option Place) (areas : List Area) (u : Bool) (end : ExtractEnd) (a b c : Option (List ℕ))
+pub ends-by : (at : Option Place) (areas : List Area) (u : Bool) (end : ExtractEnd)
+    (a b c : Option (List ℕ))
     → Appends a b (written_first at areas)
     → EndsBy at areas u end b c
     → Ends at areas u end a c
@@ -277,7 +285,8 @@ leaves-last at areas a b c h k =
     subst (AppendsPart a c) (written-both at areas) (part_after a b c _ _ h k)
 
 -- and of what was written last, where it couldn't be passed on
-pub part-by : (at : Option Place) (areas : List Area) (u : Bool) (end : ExtractEnd) (a b c : Option (List ℕ))
+pub part-by : (at : Option Place) (areas : List Area) (u : Bool) (end : ExtractEnd)
+    (a b c : Option (List ℕ))
     → EndsBy at areas u end a b
     → Keeps b c
     → AppendsPart a c (written_last at areas)

@@ -22,7 +22,7 @@ use Rattle.lpt_extract.specs.declared.wanted.Wanted.{Wanted}
 use Rattle.lpt_extract.specs.Areas.{all_octets, extent, image, image_limit}
 use Rattle.lpt_extract.specs.Gaps.{is_given, AreGaps}
 use Rattle.lpt_extract.specs.Leaving.{PiecesLeave}
-use Rattle.lpt_extract.specs.Notices.{is_whole, notice, Hears}
+use Rattle.lpt_extract.specs.Notices.{is_taken, notice, Hears}
 use Rattle.lpt_extract.specs.Reports.{Saying, Other, Foreign, Unread, Areas, report_in}
 use Rattle.lpt_extract.specs.Tallies.{IsTally}
 
@@ -33,9 +33,9 @@ abbrev pub is_of : Option Place → ℕ → Bool
 is_of None m = true
 is_of (Some p) m = p.memory == m
 
--- the areas with a right checksum
+-- the areas that are taken
 abbrev pub whole_areas : List LoadArea → List Area
-whole_areas areas = map area (filter is_whole areas)
+whole_areas areas = map area (filter is_taken areas)
 
 -- the areas that a report gives
 abbrev pub areas_of : Option Place → Saying → List Area
@@ -157,7 +157,8 @@ is_clean x =
 
 -- what was written where memory ran out or a read failed is a front part of what is written as
 -- areas come; where a write failed, of what is to be written
-abbrev pub LeavesFront : StreamFault → Option Place → List Area → (old new : Option (List ℕ)) → Type 0
+abbrev pub LeavesFront : StreamFault → Option Place → List Area → (old new : Option (List ℕ))
+    → Type 0
 LeavesFront faults.Write at areas old new = AppendsPart old new (written at areas)
 LeavesFront faults.Read at areas old new = AppendsPart old new (written_first at areas)
 LeavesFront faults.Memory at areas old new = AppendsPart old new (written_first at areas)

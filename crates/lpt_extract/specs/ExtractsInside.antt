@@ -31,7 +31,7 @@ pub record Held (at : Option Place) (areas : List Area) (ns : List Notice) (h : 
   pub image : HasImage at areas h.image
   pub counted : IsTally ns h.tally
 
--- the areas with a right checksum among those that were seen
+-- the areas that are taken of those that were seen
 abbrev pub given : List SeenArea → List Area
 given areas = whole_areas (map load_area areas)
 

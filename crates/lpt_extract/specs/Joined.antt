@@ -8,7 +8,7 @@ use Rattle.lpt_stream.specs.declared.piece_kind.PieceKind.TheVariants.{Whole, Da
 use Rattle.lpt_stream.specs.Pieces.{Piece, packet_before, packets_of, up_to_limit}
 use Rattle.lpt_join.specs.Offers.{piece_in}
 use Rattle.lpt_join.specs.declared.transaction.Transaction.{Transaction}
-use Rattle.lpt_each.specs.News.{Event, News, Given, Dropped, Unfit}
+use Rattle.lpt_each.specs.News.{Event, News, Given, Dropped, Unfit, Overtaken}
 use Rattle.lpt_each.specs.Streams.{told_by}
 use Rattle.lpt_extract.specs.declared.extracted.Extracted.{Extracted}
 use Rattle.lpt_extract.specs.declared.notice.Notice.{Notice}
@@ -27,6 +27,7 @@ abbrev pub message_of : News → List (List ℕ)
 message_of (Given m) = m ∷ []
 message_of (Dropped came ended) = []
 message_of (Unfit e) = []
+message_of (Overtaken came ended m) = m ∷ []
 
 -- the messages that did
 abbrev pub messages_in : List Event → List (List ℕ)

@@ -1,13 +1,14 @@
 -- How much of a stream wasn't taken, by what is told of it.
 use Rattle.std.specs.Prelude.{◌≡◌, ℕ, Bool, true, false, List, [], ◌∷◌, length, count_by, flat_map, Option, Some, None}
 use Rattle.lpt_extract.specs.declared.notice.Notice.{Notice}
-use Rattle.lpt_extract.specs.declared.notice.Notice.TheVariants.{WrongChecksum, Unread, OtherMemory, OtherApid, Damaged, Stray}
+use Rattle.lpt_extract.specs.declared.notice.Notice.TheVariants.{PastEnd, WrongChecksum, Unread, OtherMemory, OtherApid, Damaged, Stray}
 use Rattle.lpt_extract.specs.declared.tally.Others.{Others}
 use Rattle.lpt_extract.specs.declared.tally.Tally.{Tally}
 use Rattle.lpt_stream.specs.Pieces.{up_to_limit}
 
 -- an area or a report that was passed over
 abbrev pub is_passed : Notice → Bool
+is_passed (PastEnd s n) = true
 is_passed (WrongChecksum s n) = true
 is_passed (Unread k n) = true
 is_passed other = false

@@ -217,7 +217,7 @@ fn take_part<K: Sink, L: Listener, T: Taker>(
     ensures failed { IfErr result (λ e. (e ≡ StreamFault.Write)
         ⊎ (K.failed out.new ≡ failed_write e (K.failed out.old))) }
 {
-    let (helds, event) = match helds.take(alloc, transaction, false, name, part) {
+    let (helds, event) = match helds.take(alloc, transaction, false, name, place, part) {
         Ok(taken) => taken,
         Err(_) => return Err(StreamFault::Memory),
     };
@@ -259,7 +259,7 @@ fn take_news<K: Sink, L: Listener, T: Taker>(
 {
     hearers.taker.take(name, news)?;
     match news {
-        News::Given(message) => {
+        News::Given(message) | News::Overtaken(_, message) => {
             let listener = &mut hearers.listener;
             take_message(
                 alloc,

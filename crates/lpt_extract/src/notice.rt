@@ -8,6 +8,9 @@
 pub enum Notice {
     /// The octets of an area were taken.
     Taken(Span),
+    /// An area ends past the last address, 4294967295, and it was passed over; the place of its
+    /// report.
+    PastEnd(Span, u64),
     /// The checksum of an area is wrong, and it was passed over; the place of its report.
     WrongChecksum(Span, u64),
     /// The body of a report, of so many octets, isn't read, and it was passed over; its place.

@@ -1,6 +1,6 @@
 //! What a piece of a stream gives.
 
-ghost use Rattle.std.specs.Prelude.{◌≡◌, ◌≢◌, ◌⊎◌, ◌∷◌, ◌++◌, List, [], Err, IfErr, OnOk};
+ghost use Rattle.std.specs.Prelude.{◌≡◌, ◌≢◌, ◌⊎◌, ◌∷◌, ◌++◌, if◌then◌else◌, List, [], Err, IfErr, OnOk};
 ghost use Rattle.std.specs.Io.KnownBytes.{Appends};
 ghost use Rattle.lpt_text.specs.Streams.{AppendsPart, WriteEnds};
 ghost use Rattle.lpt_stream.specs.Pieces.{packet_before, IsSealed};
@@ -12,7 +12,7 @@ ghost use Rattle.lpt_extract.specs.declared.notice.Notice.{Notice};
 ghost use Rattle.lpt_extract.specs.Extracts.{areas_in, areas_of, notices_at, notices_of, written_first};
 ghost use Rattle.lpt_extract.specs.ExtractsInside.{given, told_of, Held};
 ghost use Rattle.lpt_extract.specs.Joined.{notices_by};
-ghost use Rattle.lpt_extract.specs.Notices.{Hears};
+ghost use Rattle.lpt_extract.specs.Notices.{is_in_reach, is_taken, Hears};
 ghost use Rattle.lpt_extract.specs.Reports.{report_in, said_in};
 ghost use Rattle.lpt_extract.specs.ReportsInside.{found, load_area};
 
@@ -25,6 +25,9 @@ use lpt_packet::{crc16, read_packet};
 use lpt_stream::PieceKind;
 use lpt_text::{Sink, StreamFault, write_out};
 use std::alloc::Global;
+
+/// How many addresses a memory has at most.
+const ADDRESSES: u64 = 4_294_967_296;
 
 // Takes what a piece gives: a packet, or what is none and gives nothing.
 //
@@ -218,7 +221,7 @@ fn take_areas<K: Sink, L: Listener>(
     Ok(())
 }
 
-// Takes an area of a memory, where its checksum is right.
+// Takes an area of a memory, where it ends within the addresses and its checksum is right.
 fn take_area<K: Sink, L: Listener>(
     wanted: &Wanted,
     place: u64,
@@ -246,12 +249,38 @@ fn take_area<K: Sink, L: Listener>(
         address: seen.address,
         len: seen.octets.len(),
     };
-    if crc16(seen.octets) != seen.checksum {
-        holding.tell(listener, Notice::WrongChecksum(span, place));
+    if !is_taken(seen) {
+        holding.tell(listener, untaken(span, place, seen));
         return Ok(());
     }
     holding.tell(listener, Notice::Taken(span));
     keep_area(wanted, seen, holding, out)
+}
+
+// Whether an area is taken: it ends within the addresses, and its checksum is right.
+fn is_taken(seen: &SeenArea<'_>) -> bool
+    ensures { result ≡ is_taken (load_area seen.now) }
+{
+    is_in_reach(seen) && crc16(seen.octets) == seen.checksum
+}
+
+// Whether an area ends with the last address or before it.
+fn is_in_reach(seen: &SeenArea<'_>) -> bool
+    ensures { result ≡ is_in_reach (load_area seen.now) }
+{
+    seen.octets.len() as u64 <= ADDRESSES - u64::from(seen.address)
+}
+
+// What is told of an area that isn't taken.
+fn untaken(span: Span, place: u64, seen: &SeenArea<'_>) -> Notice
+    ensures { result ≡ (if is_in_reach (load_area seen.now)
+        then Notice.WrongChecksum span place else Notice.PastEnd span place) }
+{
+    if is_in_reach(seen) {
+        Notice::WrongChecksum(span, place)
+    } else {
+        Notice::PastEnd(span, place)
+    }
 }
 
 // Writes an area, or puts it into the image.

@@ -5,7 +5,8 @@ use crate::Notice;
 /// How much of a stream wasn't taken. Each number stays at 2^64 - 1 where it would be more.
 #[derive(Clone, Copy)]
 pub struct Tally {
-    /// Areas that were passed over since their checksum is wrong, and reports that aren't read.
+    /// Areas that were passed over since they end past the last address or their checksum is wrong,
+    /// and reports that aren't read.
     pub passed: u64,
     /// Reports of other memories.
     pub memories: Others,
@@ -50,6 +51,7 @@ impl Tally {
     {
         match notice {
             Notice::Taken(_) => {}
+            Notice::PastEnd(_, _) => self.passed = self.passed.saturating_add(1),
             Notice::WrongChecksum(_, _) => self.passed = self.passed.saturating_add(1),
             Notice::Unread(_, _) => self.passed = self.passed.saturating_add(1),
             Notice::OtherMemory(memory) => self.memories.add(u16::from(memory)),

@@ -24,8 +24,8 @@ use Rattle.lpt_part.specs.Parts.{Piece, part_in}
 use Rattle.lpt_reception.specs.Received.{Kept}
 use Rattle.lpt_skips.specs.declared.reading.Reading.{Reading}
 use Rattle.lpt_skips.specs.declared.skips.Skips.{Skips}
-use Rattle.lpt_skips.specs.declared.why.Why.TheVariants.{Taken, OtherApid, OtherName, Unread, NoPart as CarriesNone}
-use Rattle.lpt_skips.specs.Skipping.{fitting_size, why_body, why_command, why_name, why_of, why_telemetry, why_typed, why_verdict}
+use Rattle.lpt_skips.specs.declared.why.Why.TheVariants.{Taken, OtherApid, OtherName, NoPart as CarriesNone}
+use Rattle.lpt_skips.specs.Skipping.{why_body, why_command, why_name, why_of, why_telemetry, why_typed, why_unread, why_verdict}
 use Rattle.lpt_skips.specs.Tallies.{noted, with_why}
 use Rattle.lpt_events.specs.Arrivals.{AReport, ARequest, APart, AnAbort, Foreign, NoPart, NotRead, abort_arrival, carried_kind, command_arrival, packet_arrival, part_arrival, report_arrival, sight_arrival, telemetry_arrival}
 use Rattle.lpt_events.specs.NamedParts.{NamedPart, bare, named}
@@ -62,7 +62,7 @@ abort_none source (Some a) = refl
 module _ (r : Reading) (q : NamedPart) where
   body-why : (source : ℕ) (body : List ℕ) (kind : Kind) (o : Option Piece)
       → piece_of (option_map_or (λ p. APart (named source p)) o NoPart) ≡ Some q
-      → option_map_or (λ p. why_name r.name (named_by source p.id)) o (Unread (fitting_size kind body))
+      → option_map_or (λ p. why_name r.name (named_by source p.id)) o (why_unread kind body)
       ≡ why_name r.name q.name
   body-why source body kind None h = absurd (none_some q h)
   body-why source body kind (Some p) h =

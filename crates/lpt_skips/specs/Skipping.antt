@@ -1,11 +1,12 @@
 -- Why a piece of a stream is none of the parts that are wanted.
-use Rattle.std.specs.Prelude.{ℕ, ◌-◌, ◌==◌, ◌&&◌, nat_le, if◌then◌else◌, List, length, Option, Some, None, is_some, Result, Ok, Err}
+use Rattle.std.specs.Prelude.{ℕ, ◌-◌, ◌==◌, ◌&&◌, nat_le, Bool, if◌then◌else◌, List, length, Option, Some, None, is_some, Result, Ok, Err}
 use Rattle.std.specs.Option.{option_map_or}
 use Rattle.lpt_packet.specs.declared.direction.Direction.{Direction}
 use Rattle.lpt_packet.specs.declared.direction.Direction.TheVariants.{Up, Down}
 use Rattle.lpt_packet.specs.declared.fault.PacketFault.{PacketFault}
 use Rattle.lpt_packet.specs.declared.packet.PacketKind.{PacketKind}
 use Rattle.lpt_packet.specs.declared.packet.PacketKind.TheVariants.{Tm, Tc}
+use Rattle.lpt_packet.specs.Numbers.{word_at}
 use Rattle.lpt_packet.specs.Names.{Name, named_by, same_name}
 use Rattle.lpt_packet.specs.Packets.{Fields, Sight, IdlePacket, APacket, verdict}
 use Rattle.lpt_pus.specs.declared.fault.PusFault.{PusFault}
@@ -20,7 +21,7 @@ use Rattle.lpt_stream.specs.declared.piece_kind.PieceKind.TheVariants as piece
 use Rattle.lpt_stream.specs.Pieces.{Piece}
 use Rattle.lpt_skips.specs.declared.reading.Reading.{Reading}
 use Rattle.lpt_skips.specs.declared.why.Why.{Why}
-use Rattle.lpt_skips.specs.declared.why.Why.TheVariants.{Taken, Damaged, Stray, OtherApid, OtherDirection, Unread, OtherName, NoPart}
+use Rattle.lpt_skips.specs.declared.why.Why.TheVariants.{Taken, Damaged, Stray, OtherApid, OtherDirection, NoNumber, Unread, OtherName, NoPart}
 
 -- this part size, where it is one and the body is read by it
 abbrev pub size_tried : Kind → List ℕ → ℕ → Option ℕ
@@ -39,11 +40,19 @@ abbrev pub why_name : (wanted : Option Name) → Name → Why
 why_name None name = Taken
 why_name (Some wanted) name = if same_name name wanted then Taken else OtherName name
 
+-- whether a body has the part sequence number 0
+abbrev pub is_zero : List ℕ → Bool
+is_zero body = nat_le 4 (length body) && (word_at body 2 == 0)
+
+-- why a body that should be a part of this kind is none
+abbrev pub why_unread : Kind → List ℕ → Why
+why_unread kind body = if is_zero body then NoNumber else Unread (fitting_size kind body)
+
 -- a body that should be a part of this kind, from this source or to it
 abbrev pub why_body : Reading → (source : ℕ) → List ℕ → Kind → Why
 why_body r source body kind =
     option_map_or (λ q. why_name r.name (named_by source q.id)) (part_in r.part_size kind body)
-    (Unread (fitting_size kind body))
+    (why_unread kind body)
 
 -- a packet that is read as a telecommand, or isn't
 abbrev pub why_command : Reading → Result Command PusFault → Why

@@ -5,7 +5,7 @@ use Rattle.lpt_stream.specs.Pieces.{Piece, up_to_limit}
 use Rattle.lpt_skips.specs.declared.reading.Reading.{Reading}
 use Rattle.lpt_skips.specs.declared.skips.Skips.{Skips}
 use Rattle.lpt_skips.specs.declared.why.Why.{Why}
-use Rattle.lpt_skips.specs.declared.why.Why.TheVariants.{Taken, Damaged, Stray, OtherApid, OtherDirection, Unread, OtherName, NoPart}
+use Rattle.lpt_skips.specs.declared.why.Why.TheVariants.{Taken, Damaged, Stray, OtherApid, OtherDirection, NoNumber, Unread, OtherName, NoPart}
 use Rattle.lpt_skips.specs.Skipping.{why}
 
 -- a count and so many more, up to the greatest of 64 bits
@@ -18,6 +18,7 @@ nothing_noted = record {
   of_others = 0;
   apid = None;
   turned = 0;
+  zeros = 0;
   unread = 0;
   part_size = None;
   unnamed = 0;
@@ -35,6 +36,7 @@ with_why s (Stray octets) = record s { stray = raised s.stray octets }
 with_why s (OtherApid apid) =
     record s { of_others = raised s.of_others 1; apid = option_or s.apid (Some apid) }
 with_why s OtherDirection = record s { turned = raised s.turned 1 }
+with_why s NoNumber = record s { zeros = raised s.zeros 1 }
 with_why s (Unread size) =
     record s { unread = raised s.unread 1; part_size = option_or s.part_size size }
 with_why s (OtherName name) =

@@ -8,12 +8,13 @@ use Rattle.lpt_events.specs.NameTexts.{name_text}
 use Rattle.lpt_skips.specs.declared.reading.Reading.{Reading}
 use Rattle.lpt_skips.specs.declared.skips.Skips.{Skips}
 use Rattle.lpt_skips.specs.declared.topic.Topic.{Topic}
-use Rattle.lpt_skips.specs.declared.topic.Topic.TheVariants.{OtherApid, OtherDirection, Unread, OtherName, NoPart, Damaged, Stray}
+use Rattle.lpt_skips.specs.declared.topic.Topic.TheVariants.{OtherApid, OtherDirection, NoNumber, Unread, OtherName, NoPart, Damaged, Stray}
 
 -- how many there are of a topic
 abbrev pub count_of : Skips → Topic → ℕ
 count_of s OtherApid = s.of_others
 count_of s OtherDirection = s.turned
+count_of s NoNumber = s.zeros
 count_of s Unread = s.unread
 count_of s OtherName = s.unnamed
 count_of s NoPart = s.bare
@@ -24,6 +25,7 @@ count_of s Stray = s.stray
 abbrev pub words_of_one : Topic → List ℕ
 words_of_one OtherApid = codes " packet of another APID was skipped, of APID "
 words_of_one OtherDirection = codes " packet of the other direction was skipped"
+words_of_one NoNumber = codes " part has number 0"
 words_of_one Unread = codes " part doesn't fit part_size = "
 words_of_one OtherName = codes " part of another message was skipped, of "
 words_of_one NoPart = codes " packet carries no part"
@@ -34,6 +36,7 @@ words_of_one Stray = codes " octet is no packet"
 abbrev pub words_of_many : Topic → List ℕ
 words_of_many OtherApid = codes " packets of another APID were skipped, the first of APID "
 words_of_many OtherDirection = codes " packets of the other direction were skipped"
+words_of_many NoNumber = codes " parts have number 0"
 words_of_many Unread = codes " parts don't fit part_size = "
 words_of_many OtherName = codes " parts of other messages were skipped, the first of "
 words_of_many NoPart = codes " packets carry no part"
@@ -50,6 +53,7 @@ sizes_text p (Some fitting) = decimal p ++ (codes ", but part_size = " ++ decima
 abbrev pub ending_of : Reading → (source : ℕ) → Skips → Topic → List ℕ
 ending_of r source s OtherApid = option_map_or (λ apid. decimal apid) s.apid []
 ending_of r source s OtherDirection = []
+ending_of r source s NoNumber = []
 ending_of r source s Unread = sizes_text r.part_size s.part_size
 ending_of r source s OtherName = option_map_or (λ name. name_text source name) s.name []
 ending_of r source s NoPart = []
@@ -72,7 +76,8 @@ line_of r source s t = if count_of s t == 0 then None else Some (line_text r sou
 
 -- the topics, in the order in which they are told
 abbrev pub topics : List Topic
-topics = OtherApid ∷ OtherDirection ∷ Unread ∷ OtherName ∷ NoPart ∷ Damaged ∷ Stray ∷ []
+topics =
+    OtherApid ∷ OtherDirection ∷ NoNumber ∷ Unread ∷ OtherName ∷ NoPart ∷ Damaged ∷ Stray ∷ []
 
 -- what is told, a line for each topic of which there is something
 abbrev pub lines_of : Reading → (source : ℕ) → Skips → List (List ℕ)

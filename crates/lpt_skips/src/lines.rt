@@ -60,6 +60,7 @@ impl Skips {
         match topic {
             Topic::OtherApid => self.of_others,
             Topic::OtherDirection => self.turned,
+            Topic::NoNumber => self.zeros,
             Topic::Unread => self.unread,
             Topic::OtherName => self.unnamed,
             Topic::NoPart => self.bare,
@@ -91,9 +92,11 @@ impl Skips {
                 }
                 None => Ok(String::new(alloc)),
             },
-            Topic::OtherDirection | Topic::NoPart | Topic::Damaged | Topic::Stray => {
-                Ok(String::new(alloc))
-            }
+            Topic::OtherDirection
+            | Topic::NoNumber
+            | Topic::NoPart
+            | Topic::Damaged
+            | Topic::Stray => Ok(String::new(alloc)),
         }
     }
 }
@@ -134,6 +137,7 @@ fn words_of_one(topic: Topic) -> &'static str
     match topic {
         Topic::OtherApid => " packet of another APID was skipped, of APID ",
         Topic::OtherDirection => " packet of the other direction was skipped",
+        Topic::NoNumber => " part has number 0",
         Topic::Unread => " part doesn't fit part_size = ",
         Topic::OtherName => " part of another message was skipped, of ",
         Topic::NoPart => " packet carries no part",
@@ -149,6 +153,7 @@ fn words_of_many(topic: Topic) -> &'static str
     match topic {
         Topic::OtherApid => " packets of another APID were skipped, the first of APID ",
         Topic::OtherDirection => " packets of the other direction were skipped",
+        Topic::NoNumber => " parts have number 0",
         Topic::Unread => " parts don't fit part_size = ",
         Topic::OtherName => " parts of other messages were skipped, the first of ",
         Topic::NoPart => " packets carry no part",

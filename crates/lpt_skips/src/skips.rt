@@ -17,6 +17,8 @@ pub struct Skips {
     pub apid: Option<u16>,
     /// Packets of the other direction.
     pub turned: u64,
+    /// Parts of number 0.
+    pub zeros: u64,
     /// Parts whose body isn't read for the part size.
     pub unread: u64,
     /// The first part size by which one of these would be.
@@ -42,6 +44,7 @@ impl Skips {
             of_others: 0,
             apid: None,
             turned: 0,
+            zeros: 0,
             unread: 0,
             part_size: None,
             unnamed: 0,
@@ -68,6 +71,7 @@ impl Skips {
                 self.apid = self.apid.or(Some(apid));
             }
             Why::OtherDirection => self.turned = self.turned.saturating_add(1),
+            Why::NoNumber => self.zeros = self.zeros.saturating_add(1),
             Why::Unread(part_size) => {
                 self.unread = self.unread.saturating_add(1);
                 self.part_size = self.part_size.or(part_size);

@@ -5,7 +5,7 @@ ghost use Rattle.lpt_packet.specs.Packets.{fields};
 ghost use Rattle.lpt_pus.specs.Commands.{tc_verdict};
 ghost use Rattle.lpt_pus.specs.Telemetry.{tm_verdict};
 ghost use Rattle.lpt_stream.specs.Pieces.{IsSealed};
-ghost use Rattle.lpt_skips.specs.Skipping.{fitting_size, why_of, why_typed, why_command, why_telemetry, why_body, why_name};
+ghost use Rattle.lpt_skips.specs.Skipping.{fitting_size, is_zero, why_of, why_unread, why_typed, why_command, why_telemetry, why_body, why_name};
 
 use crate::{Reading, Why};
 use lpt_events::part_kind;
@@ -90,7 +90,7 @@ impl Reading {
                 source,
                 id: part.id,
             }),
-            Err(_) => Why::Unread(fitting_size(kind, body)),
+            Err(_) => why_unread(kind, body),
         }
     }
 
@@ -105,6 +105,24 @@ impl Reading {
             _ => Why::Taken,
         }
     }
+}
+
+// Why a body that should be a part of this kind is none.
+fn why_unread(kind: Kind, body: &[u8]) -> Why
+    ensures { result ≡ why_unread kind body.now }
+{
+    if is_zero(body) {
+        Why::NoNumber
+    } else {
+        Why::Unread(fitting_size(kind, body))
+    }
+}
+
+// Whether a body has the part sequence number 0.
+fn is_zero(body: &[u8]) -> bool
+    ensures { result ≡ is_zero body.now }
+{
+    body.len() >= PART_FIELDS && body[2] == 0 && body[3] == 0
 }
 
 /// The part size by which the body of a part of this kind would be read, where it is a first part:

@@ -7,6 +7,8 @@ pub enum Topic {
     OtherApid,
     /// Packets of the other direction.
     OtherDirection,
+    /// Parts of number 0.
+    NoNumber,
     /// Parts whose body isn't read.
     Unread,
     /// Parts of another name.
@@ -20,9 +22,10 @@ pub enum Topic {
 }
 
 /// All of them.
-pub(crate) const TOPICS: [Topic; 7] = [
+pub(crate) const TOPICS: [Topic; 8] = [
     Topic::OtherApid,
     Topic::OtherDirection,
+    Topic::NoNumber,
     Topic::Unread,
     Topic::OtherName,
     Topic::NoPart,

@@ -15,6 +15,8 @@ pub enum Why {
     OtherApid(u16),
     /// A packet of the other direction, as its packet type says.
     OtherDirection,
+    /// A part of number 0.
+    NoNumber,
     /// A part whose body isn't read for the part size; the part size by which it would be, where it
     /// is a first part and there is one.
     Unread(Option<u32>),

@@ -35,6 +35,14 @@ impl<S> Span<S> {
         }
     }
 
+    /// How many octets are still to be passed over. Behind a read that gave none these are lacking:
+    /// the source ended before the first place.
+    pub fn before(&self) -> u64
+        ensures { result ≡ before_of self.now }
+    {
+        self.before
+    }
+
     /// The source itself.
     pub fn source(&self) -> &S
         ensures { result.now ≡ source_of self.now }

@@ -1,23 +1,16 @@
 -- What is wanted of messages, and of one more.
-use Rattle.std.proofs.Common.{◌≡◌, ◌∙◌, ap, sym, subst, refl, ℕ, ◌+◌, ◌==◌, ◌<◌, ◌≤◌, nat_le, if◌then◌else◌, Bool, true, false, List, [], ◌∷◌, ◌++◌, length, drop, get_or, Option, Some, None, Result, Ok, Err, append-nil, append_assoc, arith}
+use Rattle.std.proofs.Common.{◌≡◌, ◌∙◌, ap, sym, subst, refl, ℕ, ◌+◌, ◌==◌, ◌<◌, ◌≤◌, nat_le, if◌then◌else◌, Bool, true, false, List, [], ◌∷◌, ◌++◌, length, drop, get_or, Option, Some, None, append-nil, append_assoc, arith}
 use Rattle.std.specs.Io.KnownBytes.{Appends}
-use Rattle.std.specs.Prelude.{IfErr}
 use Rattle.std.proofs.lemmas.Bool.Decides.{nat_tests}
 use Rattle.std.proofs.lemmas.List.{drop_more}
 use Rattle.lpt_events.specs.declared.config.Config.{Config}
 use Rattle.lpt_part.specs.Splitting.{part_count}
 use Rattle.lpt_split.specs.Lists.{numbers_of}
 use Rattle.lpt_split.specs.Splits.{octets_of}
-use Rattle.lpt_text.specs.Streams.{AppendsPart}
 use Rattle.lpt_split_each.specs.declared.each_wanted.EachWanted.{EachWanted}
 use Rattle.lpt_split_each.specs.declared.pick.Pick.{Pick}
 use Rattle.lpt_split_each.specs.declared.one.One.TheVariants.{Written}
 use Rattle.lpt_split_each.specs.Shares.{Share, Nothing, Itself, WritesOne, count_after, count_behind, count_in, list_of, packets_from, packets_in, packets_of, parts_or_none, picked, share, share_by}
-
--- what holds after any fault
-pub any-err : {A E : Type 0} (P : Type 0) (r : Result A E) → P → IfErr r (λ _. P)
-any-err P (Ok a) p = tt
-any-err P (Err e) p = p
 
 -- the pick at a place, and those behind it
 pub list-at : (ps : List Pick) (i : ℕ) (p : Pick) (id : ℕ)
@@ -74,15 +67,6 @@ module _ (c : Config) (w : EachWanted) (id : ℕ) (m : List ℕ) where
     onward ∙ ap (count_in count) (sym is),
     omega arith,
   )
-
-  -- or a front part of it
-  pub part-share : (count : ℕ) (s : Share) (old new : Option (List ℕ))
-      → share c w id m ≡ s
-      → AppendsPart old new (octets_of (packets_in c w id count m s))
-      → AppendsPart old new (octets_of (packets_of c w id count m))
-  part-share count s old new is h =
-      subst (λ (t : Share). AppendsPart old new (octets_of (packets_in c w id count m t)))
-      (sym is) h
 
 -- the octets of packets in two lists
 octets-append : (xs ys : List (List ℕ)) → octets_of (xs ++ ys) ≡ octets_of xs ++ octets_of ys

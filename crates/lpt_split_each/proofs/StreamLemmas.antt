@@ -1,13 +1,14 @@
 -- A stream of which each packet is split, message after message.
-use Rattle.std.proofs.Common.{◌≡◌, ◌⊎◌, ◌∙◌, ap, sym, subst, refl, inl, inr, ℕ, ◌+◌, ◌-◌, ◌^◌, ◌≤◌, min, Bool, Ok, Err, List, [], ◌∷◌, ◌++◌, length, take, drop, Option, append-nil, length-append, take-append-drop, arith}
+use Rattle.std.proofs.Common.{◌≡◌, ◌∙◌, ap, sym, subst, refl, inl, ℕ, ◌+◌, ◌-◌, ◌^◌, ◌<◌, ◌≤◌, min, Bool, Ok, Err, List, [], ◌∷◌, ◌++◌, length, take, drop, Option, length-append, take-append-drop, arith}
 use Rattle.std.specs.Io.KnownBytes.{Appends, Consumes, IsAtEnd, Keeps}
 use Rattle.std.proofs.KnownBytes.{Appends-kept, Appends-nil, Appends-trans, Consumes-nil, Consumes-trans}
 use Rattle.std.proofs.lemmas.List.{length-take-le}
 use Rattle.lpt_events.specs.declared.config.Config.{Config}
-use Rattle.lpt_text.specs.Streams.{AppendsPart, ReadFails}
+use Rattle.lpt_join.specs.Messages.{IsFit}
+use Rattle.lpt_packet.specs.declared.direction.Direction.{Direction}
+use Rattle.lpt_text.specs.Streams.{ReadFails}
 use Rattle.lpt_text.specs.declared.fault.StreamFault.{StreamFault}
 use Rattle.lpt_text.specs.declared.fault.StreamFault.TheVariants as faults
-use Rattle.lpt_text.proofs.StreamLemmas.{part_after, part_whole}
 use Rattle.lpt_split.specs.Splits.{octets_of}
 use Rattle.lpt_stream.specs.Pieces.{up_to_limit}
 use Rattle.lpt_stream.specs.Streams.{all_octets, IsUnfinished}
@@ -22,7 +23,8 @@ use Rattle.lpt_split_each.specs.declared.ending.EachEnd.TheVariants as ends
 use Rattle.lpt_split_each.specs.declared.one.One.{One}
 use Rattle.lpt_split_each.specs.declared.one.One.TheVariants as ones
 use Rattle.lpt_split_each.specs.Shares.{WritesOne, all_packets, count_after, count_behind, packets_of}
-use Rattle.lpt_split_each.specs.Streams.{end_at, EndsAt, IsNext, SplitsEach, Writes, WritesPart}
+use Rattle.lpt_split_each.specs.Streams.{end_at, AreMessages, EndsAt, IsNext, Writes}
+use Rattle.lpt_split_each.specs.StreamsInside.{MakesPackets}
 use Rattle.lpt_split_each.proofs.ShareLemmas.{count-more, octets-more}
 
 -- what is wanted of the messages that came was written, and these octets are held behind them
@@ -32,16 +34,19 @@ pub record IsSplit (c : Config) (w : EachWanted) (a b old new : Option (List ℕ
   pub messages : List (List ℕ)
   pub consumed : Consumes a b stream
   pub cut : IsCut stream messages held
+  pub fit : AreMessages w.direction messages
   pub writes : Writes c w old new messages
   pub next_is : next ≡ w.name.id + length messages
   pub count_is : count ≡ count_after c w w.name.id w.first messages
   pub place_is : place ≡ up_to_limit (length (all_octets messages))
 
--- octets that were consumed, with none lost
-none_lost : (a b : Option (List ℕ)) (stream : List ℕ)
-    → Consumes a b stream
-    → Consumes a b (stream ++ [])
-none_lost a b stream h = subst (Consumes a b) (sym (append-nil stream)) h
+-- one message more
+fit-more : (d : Direction) (ms : List (List ℕ)) (m : List ℕ)
+    → AreMessages d ms
+    → IsFit d m
+    → AreMessages d (ms ++ m ∷ [])
+fit-more d [] m all one = (one, tt)
+fit-more d (x ∷ xs) m all one = (all.0, fit-more d xs m all.1 one)
 
 module _ (c : Config) (w : EachWanted) where
   -- none came
@@ -53,6 +58,7 @@ module _ (c : Config) (w : EachWanted) where
     messages = [];
     consumed = Consumes-nil a;
     cut = cut-none held none;
+    fit = tt;
     writes = Appends-nil old;
     next_is = omega arith;
     count_is = refl;
@@ -72,6 +78,7 @@ module _ (c : Config) (w : EachWanted) where
     messages = h.messages;
     consumed = Consumes-trans a b d h.stream read h.consumed more;
     cut = cut-more h.stream h.messages held read now h.cut is;
+    fit = h.fit;
     writes = Appends-kept old new passed (octets_of (all_packets c w h.messages)) h.writes kept;
     next_is = h.next_is;
     count_is = h.count_is;
@@ -117,6 +124,7 @@ module _ (c : Config) (w : EachWanted) where
       (id next count place len behind then later : ℕ) (one : One)
       → IsSplit c w a b old between held next count place
       → IsFrame (take len held)
+      → IsFit w.direction octets
       → len ≤ length held
       → octets ≡ take len held
       → id ≡ next
@@ -127,7 +135,7 @@ module _ (c : Config) (w : EachWanted) where
       → now ≡ drop len held
       → IsSplit c w a b old new now later behind then
   split-next a b old between new held now octets id next count place len behind then later one h
-      front within is same was wrote placed onward left =
+      front fits within is same was wrote placed onward left =
       let m = take len held in
       let ms = h.messages in
       let at = at-next id next count octets m one (ones.Written behind) between new same is was wrote
@@ -137,6 +145,7 @@ module _ (c : Config) (w : EachWanted) where
         messages = ms ++ m ∷ [];
         consumed = h.consumed;
         cut = cut-next h.stream ms held now len h.cut front left;
+        fit = fit-more w.direction ms m h.fit (subst (IsFit w.direction) is fits);
         writes = subst (Appends old new) (one-more ms m next count h.next_is h.count_is)
             (Appends-trans old between new _ _ h.writes at.0);
         next_is = omega (arith, onward, h.next_is, length-append ms (m ∷ []));
@@ -172,15 +181,37 @@ module _ (c : Config) (w : EachWanted) where
       → s ≡ record { next = next; end = end }
       → (h : IsSplit c w a b old new held next count place)
       → EndsAt c w next (length (all_octets h.messages)) end held b
-      → SplitsEach c w (Ok s) a b old new
+      → MakesPackets c w (Ok s) a b old new
   split-stop s end a b old new held next count place is h at =
-      subst (λ (t : EachSplit). SplitsEach c w (Ok t) a b old new) (sym is) (
+      subst (λ (t : EachSplit). MakesPackets c w (Ok t) a b old new) (sym is) (
         h.stream,
         h.messages,
         held,
-        none_lost a b h.stream h.consumed,
+        h.consumed,
         h.cut,
+        h.fit,
         (h.next_is, at, h.writes),
+      )
+
+  -- the packet in front is no message
+  pub split-no-message : (s : EachSplit) (a b old new : Option (List ℕ)) (held octets : List ℕ)
+      (next count place len : ℕ)
+      → s ≡ record { next = next; end = ends.NoMessage place }
+      → IsSplit c w a b old new held next count place
+      → next < 65536
+      → IsFrame (take len held)
+      → octets ≡ take len held
+      → (IsFit w.direction octets → ⊥)
+      → MakesPackets c w (Ok s) a b old new
+  split-no-message s a b old new held octets next count place len told h few front is unfit =
+      split-stop s (ends.NoMessage place) a b old new held next count place told h (
+        h.place_is,
+        few,
+        (
+          take len held,
+          front-next held len front,
+          λ fit. unfit (subst (IsFit w.direction) (sym is) fit),
+        ),
       )
 
   -- the list isn't one of the parts of the message in front
@@ -190,84 +221,33 @@ module _ (c : Config) (w : EachWanted) where
       → s ≡ record { next = next; end = ends.NoSuchPart last }
       → IsSplit c w a b old between held next count place
       → IsFrame (take len held)
+      → IsFit w.direction octets
       → octets ≡ take len held
       → id ≡ next
       → one ≡ ones.NoSuchPart last
       → WritesOne c w id count octets one between new
-      → SplitsEach c w (Ok s) a b old new
-  split-no-part s last one a b old between new held octets id next count place len told h front is
-      same was wrote =
+      → MakesPackets c w (Ok s) a b old new
+  split-no-part s last one a b old between new held octets id next count place len told h front fits
+      is same was wrote =
       let m = take len held in
       let at = at-next id next count octets m one (ones.NoSuchPart last) between new same is was
       wrote in
-      subst (λ (x : Option (List ℕ)). SplitsEach c w (Ok s) a b old x) (sym at.2)
+      subst (λ (x : Option (List ℕ)). MakesPackets c w (Ok s) a b old x) (sym at.2)
       (split-stop s (ends.NoSuchPart last) a b old between held next count place told h
-      (m, front-next held len front, at.0, at.1))
+      (m, front-next held len front, subst (IsFit w.direction) is fits, at.0, at.1))
 
   -- a read or a write failed before the next packet
   pub split-fault : (fault : StreamFault) (x y : FrameBuffer)
-      (a b d old new passed : Option (List ℕ))
-      (had failed : Bool) (next count place : ℕ)
+      (a b d old new : Option (List ℕ)) (had failed : Bool) (next count place : ℕ)
       → FindsFrame (Err fault) x y b d had failed
       → IsSplit c w a b old new (held x) next count place
-      → Keeps new passed
-      → SplitsEach c w (Err fault) a d old passed
-  split-fault faults.Read x y a b d old new passed had failed next count place found h kept =
-      let at = split-more a b d old new passed (held x) (held y) found.0 next count place h
-      found.1.consumed found.1.behind kept in
-      (at.stream, at.messages, held y, none_lost a d at.stream at.consumed, at.cut, at.writes)
-  split-fault faults.Write x y a b d old new passed had failed next count place found h kept =
-      let at = split-more a b d old new passed (held x) (held y) found.0 next count place h
-      found.1.consumed found.1.behind kept in (
-        at.stream,
-        at.messages,
-        held y,
-        none_lost a d at.stream at.consumed,
-        at.cut,
-        part_whole old passed (octets_of (all_packets c w at.messages)) at.writes,
-      )
-  split-fault faults.Memory x y a b d old new passed had failed next count place found h kept = (
-    found.0,
-    (
-      h.stream,
-      h.messages,
-      held x,
-      Consumes-trans a b d h.stream found.0 h.consumed found.1,
-      h.cut,
-      part_whole old passed (octets_of (all_packets c w h.messages))
-          (Appends-kept old new passed (octets_of (all_packets c w h.messages)) h.writes kept),
-    ),
-  )
-
-  -- a write failed in a message, or memory ran out
-  pub split-broken : (fault : StreamFault) (a b old between new : Option (List ℕ))
-      (held octets : List ℕ) (id next count place len : ℕ)
-      → (fault ≡ faults.Write) ⊎ (fault ≡ faults.Memory)
-      → IsSplit c w a b old between held next count place
-      → IsFrame (take len held)
-      → octets ≡ take len held
-      → id ≡ next
-      → AppendsPart between new (octets_of (packets_of c w id count octets))
-      → SplitsEach c w (Err fault) a b old new
-  split-broken fault a b old between new held octets id next count place len which h front is same
-      part =
-      let m = take len held in
-      let ms = h.messages in
-      let cut = cut-next h.stream ms held (drop len held) len h.cut front refl in
-      let at : AppendsPart between new (octets_of (packets_of c w next count m)) =
-      subst (λ (n : ℕ). AppendsPart between new (octets_of (packets_of c w n count m))) same
-      (subst (λ (o : List ℕ). AppendsPart between new (octets_of (packets_of c w id count o))) is
-      part) in
-      let wrote : WritesPart c w old new (ms ++ m ∷ []) =
-      subst (AppendsPart old new) (one-more ms m next count h.next_is h.count_is)
-      (part_after old between new _ _ h.writes at) in
-      let read = none_lost a b h.stream h.consumed in
-      elim which [
-        | inl e ↦ subst (λ (f : StreamFault). SplitsEach c w (Err f) a b old new) (sym e)
-            (h.stream, ms ++ m ∷ [], drop len held, read, cut, wrote)
-        | inr e ↦ subst (λ (f : StreamFault). SplitsEach c w (Err f) a b old new) (sym e)
-            ([], (h.stream, ms ++ m ∷ [], drop len held, read, cut, wrote))
-      ]
+      → MakesPackets c w (Err fault) a d old new
+  split-fault faults.Read x y a b d old new had failed next count place found h =
+      (h.stream ++ found.0, Consumes-trans a b d h.stream found.0 h.consumed found.1.consumed)
+  split-fault faults.Write x y a b d old new had failed next count place found h =
+      (h.stream ++ found.0, Consumes-trans a b d h.stream found.0 h.consumed found.1.consumed)
+  split-fault faults.Memory x y a b d old new had failed next count place found h =
+      (h.stream ++ found.0, Consumes-trans a b d h.stream found.0 h.consumed found.1)
 
 -- how a fault leaves the reader
 pub find-reader : (Over : Type 0) (fault : StreamFault) (x y : FrameBuffer) (a b : Option (List ℕ))

@@ -10,13 +10,17 @@ pub enum EachEnd {
     Cut(u64),
     /// Before octets with which no packet can begin, at this place.
     Stray(u64),
+    /// Before a packet that is no message of its direction, at this place: it is damaged, idle, or
+    /// of the other packet type.
+    NoMessage(u64),
     /// Before a message for which a pick is no list of its parts, of which it has so many.
     NoSuchPart(u32),
     /// Before a packet for which no identifier is left, at this place.
     NoIdentifier(u64),
 }
 
-/// What a split of a stream's packets did.
+/// What a split of a stream's packets did. Everything that is wanted was written where it ended at
+/// the stream's end, and else nothing.
 #[derive(Clone, Copy)]
 pub struct EachSplit {
     /// The identifier behind that of the last message that was taken, up to 65,536.

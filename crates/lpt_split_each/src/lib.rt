@@ -3,7 +3,8 @@
 //! up to 65,535. The packets of their parts stand one message behind the other.
 //!
 //! The stream is cut by the lengths that its packets' headers say. A packet that has no more octets
-//! than a part goes as it is, and takes an identifier all the same.
+//! than a part goes as it is, and takes an identifier all the same. Each packet must be a message of
+//! its direction; where one isn't, or something else is no packet, nothing is written.
 //!
 //! The main types are `EachWanted`, what is to be written, and `Pick`, which names parts of one
 //! message. The first call is `split_each`.

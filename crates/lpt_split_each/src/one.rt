@@ -3,9 +3,8 @@
 ghost use Rattle.std.specs.Prelude.{◌≡◌, ◌≤◌, ◌+◌, ◌%◌, ◌⊎◌, IfErr, IfOk};
 ghost use Rattle.lpt_events.specs.Configs.{IsConfig};
 ghost use Rattle.lpt_frames.specs.Frames.{IsFrame};
-ghost use Rattle.lpt_split.specs.Splits.{octets_of};
-ghost use Rattle.lpt_text.specs.Streams.{AppendsPart, WriteEnds};
-ghost use Rattle.lpt_split_each.specs.Shares.{WritesOne, packets_of, share};
+ghost use Rattle.lpt_text.specs.Streams.{WriteEnds};
+ghost use Rattle.lpt_split_each.specs.Shares.{WritesOne, share};
 
 use crate::EachWanted;
 use crate::pick::picked;
@@ -27,7 +26,7 @@ pub(crate) enum One {
 // Writes the packets that are wanted of a message under this identifier, of sequence counts from
 // this one on.
 //
-// Errors: `Write` where a write failed; `Memory`. A front part of the packets stays written.
+// Errors: `Write` where a write failed; `Memory`.
 pub(crate) fn split_one<K: Sink>(
     alloc: Global,
     config: &Config,
@@ -44,8 +43,6 @@ pub(crate) fn split_one<K: Sink>(
         (K.contents out.old) (K.contents out.new)) }
     ensures writer { WriteEnds result (K.failed out.old) (K.failed out.new) }
     ensures fault { IfErr result (λ e. (e ≡ StreamFault.Write) ⊎ (e ≡ StreamFault.Memory)) }
-    ensures part { IfErr result (λ _. AppendsPart (K.contents out.old) (K.contents out.new)
-        (octets_of (packets_of config.now wanted.now id first message.now))) }
 {
     let Some(list) = picked(wanted.picks, id) else {
         return Ok(One::Written(first));

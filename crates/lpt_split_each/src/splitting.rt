@@ -1,27 +1,30 @@
 //! The packets of a stream, each split as a message of its own.
 
-ghost use Rattle.std.specs.Prelude.{◌≡◌, IfOk};
+ghost use Rattle.std.specs.Prelude.{◌≡◌, false, true};
 ghost use Rattle.lpt_events.specs.Configs.{IsConfig};
+ghost use Rattle.lpt_join.specs.Messages.{IsFit};
 ghost use Rattle.lpt_text.specs.Streams.{ReadEnds, WriteEnds};
-ghost use Rattle.lpt_split_each.specs.Streams.{SplitsEach, end_at};
+ghost use Rattle.lpt_split_each.specs.Streams.{SplitsEach, end_at, is_end};
+ghost use Rattle.lpt_split_each.specs.StreamsInside.{MakesPackets};
 
 use crate::one::{One, split_one};
 use crate::{EachEnd, EachSplit, EachWanted};
 use lpt_events::Config;
 use lpt_frames::{FrameBuffer, Front};
-use lpt_text::{Sink, Source, StreamFault};
+use lpt_join::check_message;
+use lpt_packet::Direction;
+use lpt_text::{FromStd, Sink, Source, StreamFault, write_out};
 use std::alloc::Global;
 
-/// Reads a stream of packets, and writes of each, as a message of its own, the packets that are
-/// wanted: the first under the identifier of the name that is wanted, and each other under the
-/// identifier behind. The sequence counts go on from message to message. Before each read `out`
-/// passes on what was written.
+/// Reads a stream of packets to its end, and then writes of each, as a message of its own, the
+/// packets that are wanted: the first under the identifier of the name that is wanted, and each
+/// other under the identifier behind. The sequence counts go on from message to message.
 ///
-/// The answer says where that ended. What is wanted of all packets before that place was written,
-/// and nothing else.
+/// The answer says where that ended. Before the stream's end it ends where something isn't to be
+/// split, and then nothing is written.
 ///
-/// Errors: `Read` where a read failed, after what is wanted of all packets before it; `Write` where
-/// a write failed; `Memory`. A front part of what would be written stays written.
+/// Errors: `Read` where a read failed, and `Memory`: nothing was written; `Write` where a write
+/// failed: a front part of what is wanted stays written.
 pub fn split_each<S: Source, K: Sink>(
     alloc: Global,
     config: &Config,
@@ -34,6 +37,35 @@ pub fn split_each<S: Source, K: Sink>(
         (S.remaining source.new) (K.contents out.old) (K.contents out.new) }
     ensures reader { ReadEnds ⊥ result (S.failed source.old) (S.failed source.new) }
     ensures writer { WriteEnds result (K.failed out.old) (K.failed out.new) }
+{
+    let mut made = FromStd::new(Vec::new(alloc));
+    let split = match make_packets(alloc, config, wanted, source, &mut made) {
+        Ok(split) => split,
+        Err(StreamFault::Read) => return Err(StreamFault::Read),
+        Err(_) => return Err(StreamFault::Memory),
+    };
+    let made = made.into_inner();
+    if !is_end(split.end) {
+        return Ok(split);
+    }
+    match write_out(out, &made) {
+        Ok(()) => Ok(split),
+        Err(_) => Err(StreamFault::Write),
+    }
+}
+
+// Reads a stream of packets, and writes what is wanted of each up to where it ends.
+fn make_packets<S: Source, K: Sink>(
+    alloc: Global,
+    config: &Config,
+    wanted: &EachWanted<'_>,
+    source: &mut S,
+    out: &mut K,
+) -> Result<EachSplit, StreamFault>
+    requires { IsConfig config.now }
+    ensures makes { MakesPackets config.now wanted.now result (S.remaining source.old)
+        (S.remaining source.new) (K.contents out.old) (K.contents out.new) }
+    ensures reader { ReadEnds ⊥ result (S.failed source.old) (S.failed source.new) }
 {
     let mut buffer = FrameBuffer::new(alloc);
     let mut next = u32::from(wanted.name.id);
@@ -49,7 +81,11 @@ pub fn split_each<S: Source, K: Sink>(
         let Ok(id) = u16::try_from(next) else {
             return Ok(ended(next, EachEnd::NoIdentifier(place)));
         };
-        match split_one(alloc, config, wanted, id, count, &buffer.held()[..len], out) {
+        let message = &buffer.held()[..len];
+        if !is_message(wanted.direction, message) {
+            return Ok(ended(next, EachEnd::NoMessage(place)));
+        }
+        match split_one(alloc, config, wanted, id, count, message, out) {
             Ok(One::Written(behind)) => count = behind,
             Ok(One::NoSuchPart(last)) => return Ok(ended(next, EachEnd::NoSuchPart(last))),
             Err(fault) => return Err(fault),
@@ -60,11 +96,26 @@ pub fn split_each<S: Source, K: Sink>(
     }
 }
 
+// Whether octets are a packet of this direction.
+fn is_message(direction: Direction, octets: &[u8]) -> bool
+    ensures fit { result ≡ true → IsFit direction octets.now }
+    ensures unfit { result ≡ false → IsFit direction octets.now → ⊥ }
+{
+    check_message(direction, octets).is_ok()
+}
+
 // An end before the message of this identifier.
 fn ended(next: u32, end: EachEnd) -> EachSplit
     ensures { result ≡ record { next = next; end = end } }
 {
     EachSplit { next, end }
+}
+
+// Whether it ended at the stream's end.
+fn is_end(end: EachEnd) -> bool
+    ensures { result ≡ is_end end }
+{
+    matches!(end, EachEnd::End)
 }
 
 // The end of a stream with these octets left behind its packets, at this place.

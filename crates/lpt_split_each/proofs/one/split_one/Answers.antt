@@ -2,10 +2,8 @@
 use Rattle.std.proofs.Common.{◌≤◌, ◌<◌, ◌∙◌, ap, sym, refl, length, Some, None, arith}
 use Rattle.std.specs.Option.{option_map}
 use Rattle.std.proofs.KnownBytes.{Appends-nil}
-use Rattle.lpt_split.specs.Splits.{octets_of}
-use Rattle.lpt_text.specs.Streams.{AppendsPart}
-use Rattle.lpt_split_each.specs.Shares.{Nothing, Itself, Parts, packets_of}
-use Rattle.lpt_split_each.proofs.ShareLemmas.{any-err, part-share, share-itself, share-nothing, share-parts, wrote-share}
+use Rattle.lpt_split_each.specs.Shares.{Nothing, Itself, Parts}
+use Rattle.lpt_split_each.proofs.ShareLemmas.{share-itself, share-nothing, share-parts, wrote-share}
 use Rattle.lpt_split_each.proofs.one.split_one.Goals as goal
 
 -- nothing is
@@ -27,20 +25,6 @@ returns-then-message-config-clause-ok g c =
     (share-itself c.args.config.now c.args.wanted.now c.args.id m c.in-Some.list.now
     c.in-Some.ensures short)
     c.in_ok-write_alone.ensures.ok refl c.requires.first
-
-pub returns-in_err-write_alone-clause-part : goal.returns-in_err-write_alone-clause-part
-returns-in_err-write_alone-clause-part g c =
-    let m = c.args.message.now in
-    let short : length m ≤ c.args.config.now.part_size = omega (arith, c.if-message-config.true) in
-    any-err
-    (AppendsPart (g.K.Sink.contents c.args.out.now) (g.K.Sink.contents c.write_alone.new.out)
-    (octets_of (packets_of c.args.config.now c.args.wanted.now c.args.id c.args.first m)))
-    c.from_residual.result
-    (part-share c.args.config.now c.args.wanted.now c.args.id m c.args.first Itself
-    (g.K.Sink.contents c.args.out.now) (g.K.Sink.contents c.write_alone.new.out)
-    (share-itself c.args.config.now c.args.wanted.now c.args.id m c.in-Some.list.now
-    c.in-Some.ensures short)
-    c.in_err-write_alone.ensures.part)
 
 -- parts that aren't there
 pub returns-in-Ok-None-clause-ok : goal.returns-in-Ok-None-clause-ok
@@ -69,20 +53,3 @@ returns-clause-ok g c =
     (ap Some c.as_slice-numbers.ensures.value
     ∙ ap (option_map (λ ns. ns.items)) (sym c.in-Ok-Some.field-0-is) ∙ c.in-Ok-Some.ensures.parts))
     c.in_ok-split.ensures.ok c.count_behind.ensures.behind c.count_behind.ensures.fits
-
-pub returns-in_err-split-clause-part : goal.returns-in_err-split-clause-part
-returns-in_err-split-clause-part g c =
-    let m = c.args.message.now in
-    let numbers = c.as_slice-numbers.result.now in
-    let long : c.args.config.now.part_size < length m = omega (arith, c.if-message-config.false) in
-    any-err
-    (AppendsPart (g.K.Sink.contents c.args.out.now) (g.K.Sink.contents c.split.new.out)
-    (octets_of (packets_of c.args.config.now c.args.wanted.now c.args.id c.args.first m)))
-    c.from_residual-in_err-split.result
-    (part-share c.args.config.now c.args.wanted.now c.args.id m c.args.first (Parts numbers)
-    (g.K.Sink.contents c.args.out.now) (g.K.Sink.contents c.split.new.out)
-    (share-parts c.args.config.now c.args.wanted.now c.args.id m c.in-Some.list.now (Some numbers)
-    c.count-last.result c.in-Some.ensures long c.count-last.ensures
-    (ap Some c.as_slice-numbers.ensures.value
-    ∙ ap (option_map (λ ns. ns.items)) (sym c.in-Ok-Some.field-0-is) ∙ c.in-Ok-Some.ensures.parts))
-    c.in_err-split.ensures.part)

@@ -6,9 +6,9 @@ use Rattle.lpt_split_each.specs.declared.ending.EachEnd.TheVariants.{Stray, NoId
 use Rattle.lpt_split_each.specs.declared.one.One.{One}
 use Rattle.lpt_split_each.specs.Shares.{WritesOne}
 use Rattle.lpt_split_each.specs.Streams.{end_at, EndsAt}
-use Rattle.lpt_split_each.proofs.StreamLemmas.{IsSplit, ends-at, front-next, split-broken, split-fault, split-more, split-next, split-no-part, split-none, split-stop}
+use Rattle.lpt_split_each.proofs.StreamLemmas.{IsSplit, ends-at, front-next, split-fault, split-more, split-next, split-no-message, split-no-part, split-none, split-stop}
 use Rattle.lpt_stream.specs.Streams.{all_octets}
-use Rattle.lpt_split_each.proofs.splitting.split_each.Goals as goal
+use Rattle.lpt_split_each.proofs.splitting.make_packets.Goals as goal
 
 pub loop-len-init : goal.loop-len-init
 loop-len-init g c = record {
@@ -25,8 +25,8 @@ loop-len-init g c = record {
 }
 
 -- it stops before octets with which no packet begins
-pub returns-in-Ok-Stray-clause-ends : goal.returns-in-Ok-Stray-clause-ends
-returns-in-Ok-Stray-clause-ends g c =
+pub returns-in-Ok-Stray-clause-makes : goal.returns-in-Ok-Stray-clause-makes
+returns-in-Ok-Stray-clause-makes g c =
     let found = subst (λ (f : Front). FindsFrame (Ok f) c.loop-len.buffer c.find_frame.new.self
     (g.S.Source.remaining c.loop-len.source) (g.S.Source.remaining c.find_frame.new.peer)
     (g.S.Source.failed c.loop-len.source) (g.S.Source.failed c.find_frame.new.peer))
@@ -38,8 +38,8 @@ returns-in-Ok-Stray-clause-ends g c =
     c.loop-len.next c.loop-len.count c.loop-len.place c.ended.ensures at (at.place_is, found.2)
 
 -- it stops at the end of the stream
-pub returns-in-Ok-End-clause-ends : goal.returns-in-Ok-End-clause-ends
-returns-in-Ok-End-clause-ends g c =
+pub returns-in-Ok-End-clause-makes : goal.returns-in-Ok-End-clause-makes
+returns-in-Ok-End-clause-makes g c =
     let found = subst (λ (f : Front). FindsFrame (Ok f) c.loop-len.buffer c.find_frame.new.self
     (g.S.Source.remaining c.loop-len.source) (g.S.Source.remaining c.find_frame.new.peer)
     (g.S.Source.failed c.loop-len.source) (g.S.Source.failed c.find_frame.new.peer))
@@ -58,15 +58,15 @@ returns-in-Ok-End-clause-ends g c =
     (held c.find_frame.new.self) _ at.place_is found.2.0 found.2.1))
 
 -- a read or a write failed
-pub returns-in-Err-clause-ends : goal.returns-in-Err-clause-ends
-returns-in-Err-clause-ends g c =
+pub returns-in-Err-clause-makes : goal.returns-in-Err-clause-makes
+returns-in-Err-clause-makes g c =
     split-fault c.args.config.now c.args.wanted.now c.in-Err.fault c.loop-len.buffer
-    c.find_frame.new.self _ _ _ _ _ _ _ _ c.loop-len.next c.loop-len.count c.loop-len.place
-    c.in-Err.ensures.finds c.loop-len.invariant.done c.in-Err.ensures.same
+    c.find_frame.new.self _ _ _ _ _ _ _ c.loop-len.next c.loop-len.count c.loop-len.place
+    c.in-Err.ensures.finds c.loop-len.invariant.done
 
 -- no identifier is left
-pub returns-in_default-clause-ends : goal.returns-in_default-clause-ends
-returns-in_default-clause-ends g c =
+pub returns-in_default-clause-makes : goal.returns-in_default-clause-makes
+returns-in_default-clause-makes g c =
     let found = subst (λ (f : Front). FindsFrame (Ok f) c.loop-len.buffer c.find_frame.new.self
     (g.S.Source.remaining c.loop-len.source) (g.S.Source.remaining c.find_frame.new.peer)
     (g.S.Source.failed c.loop-len.source) (g.S.Source.failed c.find_frame.new.peer))
@@ -88,9 +88,26 @@ returns-in_default-clause-ends g c =
       ),
     )
 
+-- the packet in front is no message
+pub returns-then-not-is_message-clause-makes : goal.returns-then-not-is_message-clause-makes
+returns-then-not-is_message-clause-makes g c =
+    let found = subst (λ (f : Front). FindsFrame (Ok f) c.loop-len.buffer c.find_frame.new.self
+    (g.S.Source.remaining c.loop-len.source) (g.S.Source.remaining c.find_frame.new.peer)
+    (g.S.Source.failed c.loop-len.source) (g.S.Source.failed c.find_frame.new.peer))
+    c.in-Ok-Frame.field-0-is c.in-Ok-Frame.ensures.finds in
+    let at = split-more c.args.config.now c.args.wanted.now _ _ _ _ _ _ _
+    (held c.find_frame.new.self) found.0 c.loop-len.next c.loop-len.count c.loop-len.place
+    c.loop-len.invariant.done found.1.consumed found.1.behind c.in-Ok-Frame.ensures.same in
+    split-no-message c.args.config.now c.args.wanted.now c.ended-then-not-is_message.result _ _ _ _
+    (held c.find_frame.new.self) (take c.in-Ok-Frame.len c.held-in-loop-len.result.now)
+    c.loop-len.next c.loop-len.count c.loop-len.place c.in-Ok-Frame.len
+    c.ended-then-not-is_message.ensures at (omega (arith, c.in-Ok.ensures)) found.2.1
+    (ap (take c.in-Ok-Frame.len) c.held-in-loop-len.ensures)
+    (c.is_message.ensures.unfit (search rules))
+
 -- the list isn't one of the message's parts
-pub returns-in-Ok-NoSuchPart-clause-ends : goal.returns-in-Ok-NoSuchPart-clause-ends
-returns-in-Ok-NoSuchPart-clause-ends g c =
+pub returns-in-Ok-NoSuchPart-clause-makes : goal.returns-in-Ok-NoSuchPart-clause-makes
+returns-in-Ok-NoSuchPart-clause-makes g c =
     let found = subst (λ (f : Front). FindsFrame (Ok f) c.loop-len.buffer c.find_frame.new.self
     (g.S.Source.remaining c.loop-len.source) (g.S.Source.remaining c.find_frame.new.peer)
     (g.S.Source.failed c.loop-len.source) (g.S.Source.failed c.find_frame.new.peer))
@@ -103,12 +120,13 @@ returns-in-Ok-NoSuchPart-clause-ends g c =
     c.in-Ok-NoSuchPart.last c.in-Ok-NoSuchPart.field-0 _ _ _ _ _ (held c.find_frame.new.self)
     (take c.in-Ok-Frame.len c.held-in-loop-len.result.now) c.in-Ok.id c.loop-len.next
     c.loop-len.count c.loop-len.place c.in-Ok-Frame.len c.ended-in-Ok-NoSuchPart.ensures at
-    found.2.1 (ap (take c.in-Ok-Frame.len) c.held-in-loop-len.ensures) same
+    found.2.1 (c.is_message.ensures.fit (search rules))
+    (ap (take c.in-Ok-Frame.len) c.held-in-loop-len.ensures) same
     c.in-Ok-NoSuchPart.field-0-is c.in-Ok-NoSuchPart.ensures.ok
 
 -- work broke off in a message
-pub returns-in-Err-split_one-clause-ends : goal.returns-in-Err-split_one-clause-ends
-returns-in-Err-split_one-clause-ends g c =
+pub returns-in-Err-split_one-clause-makes : goal.returns-in-Err-split_one-clause-makes
+returns-in-Err-split_one-clause-makes g c =
     let found = subst (λ (f : Front). FindsFrame (Ok f) c.loop-len.buffer c.find_frame.new.self
     (g.S.Source.remaining c.loop-len.source) (g.S.Source.remaining c.find_frame.new.peer)
     (g.S.Source.failed c.loop-len.source) (g.S.Source.failed c.find_frame.new.peer))
@@ -116,12 +134,7 @@ returns-in-Err-split_one-clause-ends g c =
     let at = split-more c.args.config.now c.args.wanted.now _ _ _ _ _ _ _
     (held c.find_frame.new.self) found.0 c.loop-len.next c.loop-len.count c.loop-len.place
     c.loop-len.invariant.done found.1.consumed found.1.behind c.in-Ok-Frame.ensures.same in
-    let same : c.in-Ok.id ≡ c.loop-len.next = omega (arith, c.in-Ok.ensures) in
-    split-broken c.args.config.now c.args.wanted.now c.in-Err-split_one.fault _ _ _ _ _
-    (held c.find_frame.new.self) (take c.in-Ok-Frame.len c.held-in-loop-len.result.now) c.in-Ok.id
-    c.loop-len.next c.loop-len.count c.loop-len.place c.in-Ok-Frame.len
-    c.in-Err-split_one.ensures.fault at found.2.1
-    (ap (take c.in-Ok-Frame.len) c.held-in-loop-len.ensures) same c.in-Err-split_one.ensures.part
+    (at.stream, at.consumed)
 
 -- a message was written
 pub loop-len-preserved : goal.loop-len-preserved
@@ -145,7 +158,8 @@ loop-len-preserved g c =
           (held c.find_frame.new.self) (held c.skip.new.self) octets c.in-Ok.id c.loop-len.next
           c.loop-len.count c.loop-len.place c.in-Ok-Frame.len c.in-Ok-Written.behind
           c.saturating_add-place.result (c.loop-len.next + 1) c.in-Ok-Written.field-0
-          at found.2.1 found.2.0 (ap (take c.in-Ok-Frame.len) c.held-in-loop-len.ensures) same
+          at found.2.1 (c.is_message.ensures.fit (search rules)) found.2.0
+          (ap (take c.in-Ok-Frame.len) c.held-in-loop-len.ensures) same
           c.in-Ok-Written.field-0-is c.in-Ok-Written.ensures.ok
           c.saturating_add-place.ensures refl c.skip.ensures;
       most = search rules;

@@ -1,7 +1,7 @@
 use Rattle.std.proofs.Common.{◌≡◌, ◌≤◌, ◌-◌}
 use Rattle.lpt_frames.specs.Buffers.{held}
 use Rattle.lpt_split_each.proofs.StreamLemmas.{IsSplit}
-use Rattle.lpt_split_each.proofs.splitting.split_each.Given as goal
+use Rattle.lpt_split_each.proofs.splitting.make_packets.Given as goal
 
 -- what is wanted of the messages that came was written
 abbrev pub invariant-loop-len : goal.invariant-loop-len
