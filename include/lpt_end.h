@@ -15,6 +15,9 @@
  *   - one call at a time uses an end, and none is made from a signal handler. An end may go to
  *     another thread where a lock, or a thread's start or end, stands between. Calls of different
  *     ends run at once only where the three functions may that give memory;
+ *   - what is handed to lpt_end_packet and reads as a part, or as a plain request, was put out by
+ *     the other end, since the name was last freed at this one: nobody forges, and no damage passes
+ *     the checksum;
  *   - the rules of lpt_end_new, lpt_end_packet and lpt_end_retire for the two ends of a link;
  *   - memories that are with the caller are read as lpt_end_access says before
  *     lpt_end_execute_given, and written before it, or after it and before the next request;
