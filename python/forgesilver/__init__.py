@@ -3,7 +3,7 @@ request verification (ECSS-E-ST-70-41C), over the libraries of Forgesilver, whic
 
     >>> from forgesilver import *
     >>> packets = list(split(bytes(20), name=(1, 7), part_size=8, apid=100))
-    >>> join(packets, part_size=8) == bytes(20)
+    >>> join(packets, part_size=8, any=True) == bytes(20)
     True
     >>> with End(Side.SPACECRAFT, Config(part_size=8), {1: bytes(256)}) as spacecraft:
     ...     [spacecraft.feed(it).kind.name for it in packets]

@@ -10,12 +10,19 @@ import operator
 import os
 import pathlib
 import sys
-from typing import Any, Union
+from typing import TYPE_CHECKING, Any, TypeVar, Union
 
 from .faults import Range
 
-#: What is taken as octets: anything that has a buffer of them.
-Octets = Union[bytes, bytearray, memoryview]
+#: Octets that were read, or are kept to be written.
+Held = Union[bytes, bytearray, memoryview]
+if TYPE_CHECKING:
+    from _typeshed import ReadableBuffer
+
+    #: What is taken as octets: anything that has a buffer of them.
+    Octets = ReadableBuffer
+else:
+    Octets = Held
 
 VERSION = "0.1.0"
 VERSION_NUMBER = 1000
@@ -222,9 +229,22 @@ if _HAS_ADDRESSES:
 def view_of(octets: Octets) -> memoryview:
     """A view of octets, one after the other; TypeError of what has none."""
     view = memoryview(octets)
-    if view.ndim != 1 or view.itemsize != 1 or not view.c_contiguous:
-        view = view.cast("B")
-    return view
+    if view.format == "B" and view.ndim == 1 and view.c_contiguous:
+        return view
+    try:
+        return view.cast("B")
+    except ValueError:
+        # The formats of ctypes can't be cast.
+        return memoryview(view.tobytes())
+
+
+def has_octets(it: object) -> bool:
+    """Whether it is taken as octets."""
+    try:
+        memoryview(it)  # type: ignore[arg-type]
+    except TypeError:
+        return False
+    return True
 
 
 class Given:
@@ -250,7 +270,7 @@ class Given:
         self.kept = view
 
 
-def piece_of(octets: Octets, at: int, length: int) -> Octets:
+def piece_of(octets: Octets, at: int, length: int) -> Held:
     """A piece of octets: of a view a view, of all else a copy."""
     if type(octets) is bytes:
         return octets[at : at + length]
@@ -283,7 +303,7 @@ class Room:
         return bytes(memoryview(self.buffer)[: self.needed.value])
 
 
-# ---- numbers ----
+# ---- numbers, and what has fields ----
 
 
 def number(value: Any, most: int, what: str, least: int = 0) -> int:
@@ -292,3 +312,14 @@ def number(value: Any, most: int, what: str, least: int = 0) -> int:
     if not least <= value <= most:
         raise Range(f"{what} is {value}, and not {least:,} to {most:,}")
     return int(value)
+
+
+_T = TypeVar("_T")
+
+
+def of_kind(it: _T, kind: Union[type, "tuple[type, ...]"]) -> _T:
+    """What is given; TypeError if it isn't of this kind."""
+    if not isinstance(it, kind):
+        kinds = kind if isinstance(kind, tuple) else (kind,)
+        raise TypeError(f"{it!r:.80} is no {' or '.join(each.__name__ for each in kinds)}")
+    return it

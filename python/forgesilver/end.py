@@ -4,21 +4,23 @@ gives a reception up. Ends that keep to the rules of docs/C.md keep the promise 
 from __future__ import annotations
 
 import operator
+import sys
 import threading
 import warnings
+from collections.abc import Mapping
 from ctypes import addressof, byref
 from dataclasses import dataclass
-from types import TracebackType
-from typing import Any, Iterable, Iterator, Mapping, Optional
+from types import FrameType, TracebackType
+from typing import Any, Iterable, Iterator, Optional
 
 from . import _library
-from ._library import U16, U32, Given, Octets, Room, number
+from ._library import U16, U32, Given, Octets, Room, number, of_kind
 from .faults import Empty, NoSuchPart, raise_fault
 from .kinds import (
     Acknowledge, AppliedKind, Direction, Failure, Mode, NameState, OutcomeKind, Reason, Side, Why,
 )
 from .memory import SERVICE as MEMORY_SERVICE
-from .memory import Area, Request
+from .memory import Area, Check, Dump, Load, Request
 from .parts import Name, Named, name_of, part_count
 
 _end = _library.end
@@ -148,7 +150,7 @@ class End:
     of another type raise TypeError.
     """
 
-    __slots__ = ("config", "side", "_at", "_length", "_lock", "_thread", "__weakref__")
+    __slots__ = ("config", "side", "_at", "_is_called", "_length", "_thread", "__weakref__")
 
     def __init__(
         self,
@@ -168,14 +170,13 @@ class End:
         """
         self._at: Optional[int] = None
         self._length, place = 0, _library.POINTER()
-        self._lock, self._thread = threading.Lock(), threading.get_ident()
-        self.side, self.config = Side(side), config if config is not None else Config()
-        if not isinstance(self.config, Config):
-            raise TypeError(f"{self.config!r} is no Config")
+        self._is_called, self._thread = False, threading.get_ident()
+        self.side, self.config = Side(side), of_kind(Config() if config is None else config, Config)
         made = _config_of(self.config)
-        listed, content = _memories_of(memories or {})
+        memories = {} if memories is None else memories
+        listed, content = _memories_of(memories)
         given = Given(content)
-        begun = addressof(listed), len(memories or {}), given.at, given.len
+        begun = addressof(listed), len(memories), given.at, given.len
         ours = byref(place), int(self.side), byref(made)
         if state is None:
             raise_fault(_end.lpt_end_new(*ours, *begun))
@@ -235,14 +236,26 @@ class End:
         """Calls a function of the library, on this end: its answer, or that the end was closed."""
         if threading.get_ident() != self._thread:
             raise WrongThread("the end is of another thread")
-        if not self._lock.acquire(blocking=False):
+        if self._is_called and self._is_under_way():
             raise WrongThread("a call of the end is under way")
+        # A mark, and no lock that an interrupt, as by Ctrl-C, might leave taken.
+        self._is_called = True
         try:
             if self._at is None:
                 return Empty.number
             return function(self._at, *words)  # type: ignore[no-any-return]
         finally:
-            self._lock.release()
+            self._is_called = False
+
+    def _is_under_way(self) -> bool:
+        """Whether this call came within another. Else the mark was left by an interrupt: Python 3.9
+        lets one in as a call ends."""
+        frame: Optional[FrameType] = sys._getframe(2)
+        while frame is not None:
+            if frame.f_code is End._call.__code__ and frame.f_locals.get("self") is self:
+                return True
+            frame = frame.f_back
+        return False
 
     def _done(self, function: Any, *words: Any) -> None:
         """The same of a call that has to end well."""
@@ -341,6 +354,7 @@ class End:
         self, request: Request, *, source: int, flags: Acknowledge = Acknowledge.NONE
     ) -> None:
         """The same of a request of a memory."""
+        of_kind(request, (Load, Dump, Check))
         self.plain(MEMORY_SERVICE, request.subtype, request.body(), source=source, flags=flags)
 
     def finish(self, name: Named) -> None:
@@ -437,7 +451,7 @@ class End:
     def memory_range(self, identifier: int, area: Area) -> Optional[bytes]:
         """A copy of an area of a memory; None where the end has no such memory. Raises `Range`
         where the memory ends before."""
-        room = Room(number(area.length, 1 << 20, "the length"))
+        room = Room(number(of_kind(area, Area).length, 1 << 20, "the length"))
         memory = number(identifier, 255, "the identifier")
         start = number(area.start, 0xFFFFFFFF, "the start")
         call = self._call(_end.lpt_end_memory_range, memory, start, room.at, room.len)
@@ -548,7 +562,7 @@ def _config_of(config: Config) -> Any:
 
 def _memories_of(memories: Mapping[int, Octets]) -> tuple[Any, bytes]:
     """Memories as the library takes them: the list, and their content."""
-    listed = (_library.LptMemory * max(len(memories), 1))()
+    listed = (_library.LptMemory * max(len(of_kind(memories, Mapping)), 1))()
     at, pieces = 0, []
     for it, (identifier, octets) in zip(listed, memories.items()):
         piece = _library.view_of(octets)

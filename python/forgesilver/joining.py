@@ -1,24 +1,28 @@
 """Joins the packets of files: of an archive, or of anything that gives packets.
 
-The parts are joined by an end of the link, as a receiver joins them. A file is no link, and nobody
-retires a name there. So a name is taken to be used again where a part of it comes after its
-message that isn't one of that message's, or that contradicts what was kept.
+A file is no link, and nobody retires a name there, so a name may be used again. What is joined
+then, and what is said to be missing, is what `lpt join --each` writes and says.
 """
 
 from __future__ import annotations
 
-from dataclasses import dataclass
+from dataclasses import dataclass, field
 from typing import BinaryIO, Iterable, Iterator, Optional, Union
 
-from ._library import Octets, view_of
-from .end import Config, End, Outcome
-from .faults import Fault
-from .kinds import Direction, OutcomeKind, PartKind, Side, Why
-from .packets import Telecommand, packets_of, read_message
-from .parts import SERVICE, Name, Named, name_of, part_of
+from ._course import Course, Kept, News, Parts
+from ._library import Octets, has_octets, number, view_of
+from .faults import Fault, WrongType
+from .kinds import Direction, PacketKind, PartKind
+from .packets import (
+    GREATEST_APID, Telecommand, Telemetry, read_message, read_packet, sound_packets_of,
+)
+from .parts import SERVICE, Name, Named, name_of, part_of, part_size_of
 
 _SUBTYPES = {Direction.UP: (9, 10, 11), Direction.DOWN: (1, 2, 3)}
-_MOST_RECEPTIONS = 64
+_KINDS = {Direction.UP: PacketKind.TC, Direction.DOWN: PacketKind.TM}
+
+# Of so many an exception's text tells.
+_MOST_TOLD = 4
 
 #: Packets: octets or a binary file in which they stand one after the other; or one by one.
 Packets = Union[Octets, BinaryIO, Iterable[Octets]]
@@ -30,13 +34,15 @@ class Joined:
 
     direction: Direction
     name: Name
-    #: The message; None where it isn't whole.
+    #: The message; None if there is none, and then what follows says why.
     message: Optional[bytes]
     #: The parts that are missing, as the program's `--parts` takes them: `2,4,12-`, where `12-` is
-    #: part 12 and all after it. Empty of a whole message.
+    #: part 12 and all after it. Empty if none is.
     missing: str = ""
     #: Whether another part contradicts those that came, as where another message of the name began.
     is_contradicted: bool = False
+    #: Why what was joined is no packet of its direction.
+    fault: Optional[Fault] = field(default=None, compare=False)
 
 
 class NotJoined(ValueError):
@@ -54,64 +60,92 @@ def join(
     name: Optional[Named] = None,
     apid: Optional[int] = None,
     direction: Optional[Direction] = None,
+    any: bool = False,
 ) -> bytes:
     """The one message whose parts these packets carry, in any order, with repeats, among others.
 
     With a name, a direction or an APID no other packets count; without an APID it is that of the
-    first packet with a part. Raises `NotJoined` where parts are missing or contradict one another,
-    or there are several messages, which `join_each` gives.
+    first packet with a part. A message is a packet of its direction, or with `any` whatever is
+    joined. Raises `NotJoined` if there is none, or several, or parts of others; `join_each` gives
+    those.
 
-    What is joined isn't looked at. Where it should be a packet, as a load or a dump's report is,
-    read it by `read_message`: where parts of two messages of one name were mixed up, its checksum
-    shows that, as far as 16 bits can.
-
-    >>> from forgesilver import split
-    >>> join(split(b"0123456789", name=(1, 7), part_size=8, apid=100), part_size=8)
-    b'0123456789'
+    >>> from forgesilver import Load, Loaded, split, write_telecommand
+    >>> load = Load(1, [Loaded(0, b"0123456789")]).telecommand(apid=100, count=7, source=1)
+    >>> message = write_telecommand(load)
+    >>> packets = split(message, name=(1, 7), part_size=8, apid=100)
+    >>> join(packets, part_size=8) == message
+    True
     """
     wanted = name_of(name) if name is not None else None
-    found = [
-        it
-        for it in join_each(packets, part_size=part_size, apid=apid)
-        if wanted in (None, it.name) and direction in (None, it.direction)
-    ]
+    found: list[Joined] = []
+    for it in join_each(packets, part_size=part_size, apid=apid, any=any):
+        is_wanted = wanted in (None, it.name) and direction in (None, it.direction)
+        # A message that came twice is one.
+        if is_wanted and (it.message is None or it not in found):
+            found.append(it)
     if len(found) == 1 and found[0].message is not None:
         return found[0].message
-    if len(found) == 1:
-        why = "parts contradict one another" if found[0].is_contradicted else "parts are missing"
-        raise NotJoined(f"{why}: {found[0].missing}", found)
-    said = f"{len(found)} messages" if found else f"no part of {part_size} octets of it came"
-    raise NotJoined(said, found)
+    said = [_said_of(it) for it in found[:_MOST_TOLD]]
+    if len(found) > _MOST_TOLD:
+        said.append(f"and {len(found) - _MOST_TOLD} more")
+    raise NotJoined("; ".join(said) or f"no part of {part_size} octets of it came", found)
+
+
+def _said_of(it: Joined) -> str:
+    """What is said of something that isn't the one message."""
+    who = f"{it.direction.name.lower()} {it.name.source}/{it.name.id}"
+    if it.message is not None:
+        return f"{who}: whole, {len(it.message)} octets"
+    if it.fault is not None:
+        return f"{who}: joined to what is no packet of its direction, {it.fault}: any=True takes it"
+    why = "parts contradict one another, missing parts" if it.is_contradicted else "missing parts"
+    return f"{who}: {why} {it.missing}"
 
 
 def join_each(
-    packets: Packets, *, part_size: int, apid: Optional[int] = None
+    packets: Packets, *, part_size: int, apid: Optional[int] = None, any: bool = False
 ) -> Iterator[Joined]:
-    """Each message of these packets, as it becomes whole or is contradicted; at the end what isn't
-    whole. Packets that are damaged, idle, of another APID or that carry no part are skipped.
+    """Each message of these packets, as it becomes whole; what is given up for another one of its
+    name, just then; and at the end, in the order of names, what isn't whole. Packets that are
+    damaged, idle, of another APID or that carry no part are skipped, and so are octets that are no
+    packets.
 
-    What is whole is kept until the end, to know what only repeats it. Raises `NotJoined` where
-    parts of more than 64 messages are mixed that aren't whole.
+    What is joined is a message if it is a packet of its direction, and else its `fault` says why it
+    isn't; with `any` whatever is joined is one. Raises `Range`; and `NotJoined` at the end, if
+    parts came and none fits the part size but last ones.
     """
-    if hasattr(packets, "read") or isinstance(packets, (bytes, bytearray, memoryview)):
-        packets = packets_of(packets)  # type: ignore[arg-type]
     joiners: dict[Direction, _Joiner] = {}
-    try:
-        for packet in packets:
-            direction = _direction_of(packet)  # type: ignore[arg-type]
-            if direction is None:
-                continue
+    part_size = part_size_of(part_size)
+    apid = None if apid is None else number(apid, GREATEST_APID, "the APID")
+    for packet in _packets_in(packets):
+        direction = _direction_of(packet)
+        message = None if direction is None else _message_of(packet)
+        if direction is None or message is None:
+            continue
+        apid = message.apid if apid is None else apid
+        if message.apid == apid:
             if direction not in joiners:
-                apid = _apid_of(packet) if apid is None else apid
-                if apid is None:
-                    continue
-                joiners[direction] = _Joiner(direction, apid, part_size)
-            yield from joiners[direction].take(packet)
-        for joiner in joiners.values():
-            yield from joiner.rest()
-    finally:
-        for joiner in joiners.values():
-            joiner.end.close()
+                joiners[direction] = _Joiner(direction, part_size, bool(any))
+            yield from joiners[direction].take(message)
+    rest = [it for joiner in joiners.values() for it in joiner.rest()]
+    _refuse_size(joiners.values(), part_size, rest)
+    yield from rest
+
+
+def _refuse_size(joiners: Iterable[_Joiner], part_size: int, found: list[Joined]) -> None:
+    """Raises `NotJoined` if parts came, and none fits this size but last ones."""
+    unread = sum(it.unread for it in joiners)
+    if unread and not sum(it.fitting for it in joiners):
+        sizes = {it.size for it in joiners if it.size is not None}
+        other = f", but part_size={min(sizes)}" if sizes else ""
+        raise NotJoined(f"{unread} parts don't fit part_size={part_size}{other}", found)
+
+
+def _packets_in(packets: Packets) -> Iterable[Octets]:
+    """The packets of a stream, or those that are given one by one."""
+    if hasattr(packets, "read") or has_octets(packets):
+        return sound_packets_of(packets)  # type: ignore[arg-type]
+    return packets  # type: ignore[return-value]
 
 
 def _direction_of(packet: Octets) -> Optional[Direction]:
@@ -123,113 +157,82 @@ def _direction_of(packet: Octets) -> Optional[Direction]:
     return direction if front[8] in _SUBTYPES[direction] else None
 
 
-def _apid_of(packet: Octets) -> Optional[int]:
-    """The APID of a packet, where it is one."""
+def _message_of(packet: Octets) -> Union[Telecommand, Telemetry, None]:
+    """The message of a packet, if it is one."""
     try:
-        return read_message(packet).apid
+        return read_message(packet)
     except Fault:
         return None
 
 
+def _other_end(message: Union[Telecommand, Telemetry]) -> int:
+    """Which end on ground a message comes from, or goes to."""
+    return message.source if isinstance(message, Telecommand) else message.destination
+
+
 class _Joiner:
-    """An end that joins the packets of a direction, and what is known of its messages."""
+    """The parts of a direction, by their names."""
 
-    def __init__(self, direction: Direction, apid: int, part_size: int) -> None:
+    def __init__(self, direction: Direction, part_size: int, any: bool) -> None:
         self.direction = direction
-        self.config = Config(apid, part_size, receptions=_MOST_RECEPTIONS)
-        if direction is Direction.UP:
-            self.end = End(Side.SPACECRAFT, self.config, {0: b"\0"})
-        else:
-            self.end = End(Side.GROUND, self.config)
-        self.kept: dict[Name, set[int]] = {}
-        self.last: dict[Name, int] = {}
-        self.whole: dict[Name, bytes] = {}
+        self.part_size = part_size
+        self.any = any
+        self.courses: dict[Name, Course] = {}
+        # How many parts came that aren't last ones, and how many that aren't read; and the part
+        # size by which the first of these would be.
+        self.fitting = self.unread = 0
+        self.size: Optional[int] = None
 
-    def take(self, packet: Octets) -> Iterator[Joined]:
-        """Takes a packet that may carry a part: what comes of it."""
-        outcome = self.end.feed(packet)
-        if outcome.kind is OutcomeKind.IGNORED:
-            if outcome.why is Why.NO_ROOM:
-                said = f"more than {_MOST_RECEPTIONS} messages that aren't whole"
-                raise NotJoined(said, self.rest())
-            if outcome.why is Why.CLOSED and not self._repeats(packet):
-                yield from self._again(self._name_of(packet), packet)
-        elif outcome.kind is OutcomeKind.KEPT:
-            self._keep(outcome, packet)
-        elif outcome.kind is OutcomeKind.RELEASED:
-            assert outcome.name is not None
-            message = self.end.released()
-            assert message is not None
-            self._forget(outcome.name)
-            self.whole[outcome.name] = message
-            yield Joined(self.direction, outcome.name, message)
-        elif outcome.kind is OutcomeKind.BROKEN:
-            assert outcome.name is not None
-            yield self._unwhole(outcome.name, is_contradicted=True)
-            yield from self._again(outcome.name, packet)
+    def take(self, message: Union[Telecommand, Telemetry]) -> Iterator[Joined]:
+        """Takes a message that should be a part: what comes of it."""
+        try:
+            part = part_of(message, self.part_size)
+        except Fault:
+            self._note_unread(message)
+            return
+        assert part is not None
+        is_last = part.kind is PartKind.LAST
+        self.fitting += not is_last
+        name = Name(_other_end(message), part.id)
+        if name not in self.courses:
+            self.courses[name] = Course(self.part_size, self._fault_of)
+        news = self.courses[name].take(Kept(part.number, is_last, bytes(part.octets)))
+        if news is not None:
+            yield from self._told(name, news)
 
     def rest(self) -> Iterator[Joined]:
         """What isn't whole."""
-        for name in list(self.kept):
-            yield self._unwhole(name, is_contradicted=False)
+        for name, course in sorted(self.courses.items(), key=lambda it: it[0]):
+            if course.new.by_number:
+                yield self._lost(name, course.new, False)
 
-    def _again(self, name: Name, packet: Octets) -> Iterator[Joined]:
-        """Takes a packet as one of another message of its name."""
-        for _ in self.end.outgoing():
-            pass
-        self._forget(name)
-        self.whole.pop(name, None)
-        self.end.retire(self.direction, name)
-        yield from self.take(packet)
+    def _told(self, name: Name, news: News) -> Iterator[Joined]:
+        """What a part told of its name."""
+        if news.given_up is not None:
+            yield self._lost(name, news.given_up, news.is_contradicted)
+        if news.unfit is not None:
+            yield Joined(self.direction, name, None, fault=news.unfit)
+        if news.message is not None:
+            yield Joined(self.direction, name, news.message)
 
-    def _keep(self, outcome: Outcome, packet: Octets) -> None:
-        """Notes a part that was kept."""
-        assert outcome.name is not None and outcome.part is not None
-        self.kept.setdefault(outcome.name, set()).add(outcome.part)
-        if view_of(packet)[8] == _SUBTYPES[self.direction][2]:
-            self.last[outcome.name] = outcome.part
+    def _lost(self, name: Name, parts: Parts, is_contradicted: bool) -> Joined:
+        """Parts of a message that isn't whole."""
+        return Joined(self.direction, name, None, parts.missing(), is_contradicted)
 
-    def _forget(self, name: Name) -> None:
-        """Forgets what was kept of a message. A spacecraft's end keeps what it releases as
-        requests, which nobody executes here: a restart drops them, where it drops no reception."""
-        self.kept.pop(name, None)
-        self.last.pop(name, None)
-        if self.direction is Direction.UP and not self.kept:
-            self.end.restart()
+    def _fault_of(self, message: bytes) -> Optional[Fault]:
+        """Why what was joined isn't a packet of its direction; None if it is, or needn't be."""
+        if self.any:
+            return None
+        try:
+            is_fit = read_packet(message).kind is _KINDS[self.direction]
+        except Fault as fault:
+            return fault.with_traceback(None)
+        return None if is_fit else WrongType()
 
-    def _unwhole(self, name: Name, is_contradicted: bool) -> Joined:
-        """What is known of a message that isn't whole."""
-        missing = _listed(self.kept[name], self.last.get(name))
-        return Joined(self.direction, name, None, missing, is_contradicted)
-
-    def _name_of(self, packet: Octets) -> Name:
-        """The name of a part, which is read."""
-        message = read_message(packet)
-        part = part_of(message, self.config.part_size)
-        assert part is not None
-        is_up = isinstance(message, Telecommand)
-        return Name(message.source if is_up else message.destination, part.id)
-
-    def _repeats(self, packet: Octets) -> bool:
-        """Whether a part is one of the message that was whole last under its name."""
-        part = part_of(read_message(packet), self.config.part_size)
-        message = self.whole.get(self._name_of(packet))
-        if part is None or message is None:
-            return False
-        size = self.config.part_size
-        octets = memoryview(message)[(part.number - 1) * size : part.number * size]
-        is_last = part.number * size >= len(message)
-        return octets == part.octets and is_last == (part.kind is PartKind.LAST)
-
-
-def _listed(kept: set[int], last: Optional[int]) -> str:
-    """The numbers that are missing, in runs; all after the greatest, where the last didn't
-    come."""
-    runs, first = [], 1
-    for it in sorted(kept):
-        if first < it:
-            runs.append(f"{first}" if first == it - 1 else f"{first}-{it - 1}")
-        first = it + 1
-    if last is None:
-        runs.append(f"{first}-")
-    return ",".join(runs)
+    def _note_unread(self, message: Union[Telecommand, Telemetry]) -> None:
+        """Notes a part that isn't read for the part size."""
+        self.unread += 1
+        size = len(message.body) - 4
+        is_first = message.subtype == _SUBTYPES[self.direction][0]
+        if self.size is None and is_first and 4 <= size <= 1024:
+            self.size = size

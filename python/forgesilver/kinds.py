@@ -31,9 +31,9 @@ class PartKind(IntEnum):
 
 
 class PieceKind(IntEnum):
-    """What the front of a stream is: a packet or an idle packet; as many octets as a header says,
-    which are none, with a packet after them or nothing; an octet with which none of these
-    begins."""
+    """What the front of a stream is: a packet, in step also an idle one, or one with a right checksum
+    that has no secondary header or is a segment; as many octets as a header says, which are none,
+    with a packet after them or nothing; an octet with which none of these begins."""
 
     WHOLE = 1
     DAMAGED = 2

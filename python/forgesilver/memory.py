@@ -11,7 +11,7 @@ from dataclasses import dataclass
 from typing import Any, ClassVar, Sequence, Union
 
 from . import _library
-from ._library import LONGEST_PACKET, Given, Octets, Room, number, piece_of
+from ._library import LONGEST_PACKET, Given, Held, Octets, Room, number, of_kind, piece_of
 from .faults import BadArea, LongLoad, NoReport, raise_fault
 from .kinds import Acknowledge
 from .packets import Telecommand, Telemetry
@@ -28,7 +28,7 @@ class Loaded:
     """An area of a load, or of a dump's report: from which address on, and its octets."""
 
     start: int
-    octets: Octets
+    octets: Held
 
 
 @dataclass(frozen=True)
@@ -80,7 +80,8 @@ class Load(_Request):
         packet would be too long: a load of one area has at most 65,519 octets."""
         if not 1 <= len(self.areas) <= 255:
             raise BadArea(f"{len(self.areas)} areas")
-        bodies = [write_load(self.memory, it.start, it.octets) for it in self.areas]
+        areas = [of_kind(it, Loaded) for it in self.areas]
+        bodies = [write_load(self.memory, it.start, it.octets) for it in areas]
         if len(bodies) == 1:
             return bodies[0]
         # Each area stands after a body's first two octets.
@@ -103,7 +104,7 @@ class _OfAreas(_Request):
         memory = number(self.memory, 255, "the memory")
         places = [
             (number(it.start, 0xFFFFFFFF, "the address"), number(it.length, 0xFFFF, "the length"))
-            for it in self.areas
+            for it in (of_kind(each, Area) for each in self.areas)
         ]
         ranges = (_library.LptRange * (len(places) or 1))(*places)
         room = Room(2 + 6 * len(places))
@@ -191,6 +192,7 @@ def read_check(body: Octets) -> CheckReport:
 def read_data_report(telemetry: Telemetry) -> Union[DumpReport, CheckReport]:
     """Reads telemetry as the report of a dump or a check, whichever it is. Raises `NoReport` of
     another service or subtype, and what `read_dump` and `read_check` do."""
+    of_kind(telemetry, Telemetry)
     if telemetry.service != SERVICE or telemetry.subtype not in (DUMPED, CHECKED):
         raise NoReport(f"service {telemetry.service}, subtype {telemetry.subtype}")
     return read_dump(telemetry.body) if telemetry.subtype == DUMPED else read_check(telemetry.body)

@@ -8,14 +8,18 @@ from __future__ import annotations
 
 from ctypes import byref
 from dataclasses import dataclass
-from typing import Any, BinaryIO, Iterator, Optional, Union
+from typing import Any, BinaryIO, Callable, Iterator, Optional, Union, overload
 
 from . import _library
-from ._library import SIZE, U32, Given, Octets, Room, number, piece_of
+from ._library import (
+    SIZE, U32, Given, Held, Octets, Room, has_octets, number, of_kind, piece_of, view_of,
+)
 from .faults import More, raise_fault
 from .kinds import Acknowledge, PacketKind, PieceKind
 
 LONGEST_PACKET = _library.LONGEST_PACKET
+# So many octets of a stream always show which piece is in front.
+_LOOKAHEAD = 2 * LONGEST_PACKET
 #: The greatest application process identifier; 2047 marks an idle packet.
 GREATEST_APID = 2046
 
@@ -31,7 +35,7 @@ class Packet:
     kind: PacketKind
     apid: int
     count: int
-    data: Octets
+    data: Held
 
 
 @dataclass(frozen=True)
@@ -44,7 +48,7 @@ class Telecommand:
     service: int
     subtype: int
     source: int
-    body: Octets = b""
+    body: Held = b""
 
     @property
     def request_id(self) -> int:
@@ -63,7 +67,7 @@ class Telemetry:
     service: int
     subtype: int
     destination: int
-    body: Octets = b""
+    body: Held = b""
     counter: int = 0
     time: int = 0
     status: int = 0
@@ -91,7 +95,7 @@ def read_packet(octets: Octets) -> Packet:
 
 def write_packet(packet: Packet) -> bytes:
     """The octets of a packet, 8 more than its data field has. Raises `Range` or `TooLong`."""
-    kind = number(packet.kind, 1, "the kind")
+    kind = number(of_kind(packet, Packet).kind, 1, "the kind")
     apid, count = _numbers(packet)
     given = Given(packet.data)
     room = Room(given.len + 8)
@@ -108,22 +112,27 @@ def packet_length(octets: Octets) -> int:
 
     Raises `More` where there are fewer, and `Version` where no packet begins so.
     """
-    front, length = bytes(_library.view_of(octets)[:6]), SIZE(0)
+    front, length = bytes(view_of(octets)[:6]), SIZE(0)
     _allow_idle(_codecs.lpt_packet_length(front, len(front), byref(length)))
     return length.value
 
 
-def packets_of(stream: Union[Octets, BinaryIO]) -> Iterator[Octets]:
+@overload
+def packets_of(stream: BinaryIO) -> Iterator[bytes]: ...
+@overload
+def packets_of(stream: Octets) -> Iterator[memoryview]: ...
+def packets_of(stream: Union[Octets, BinaryIO]) -> Iterator[Union[bytes, memoryview]]:
     """The whole packets of a stream, one after the other, idle ones too: of octets, as views of
     them, or of a binary file that is open. Where they begin is known from the first on.
 
     Raises `Version` where no packet begins, and `More` where the last is cut short: what comes from
     there on isn't searched for packets, since a message may hold packets that nobody sent.
+    `find_piece` finds them where a stream is damaged, and `join_each` takes what it finds.
     """
-    if hasattr(stream, "read"):
+    if not has_octets(stream):
         yield from _packets_of_file(stream)  # type: ignore[arg-type]
         return
-    view, at = _library.view_of(stream), 0  # type: ignore[arg-type]
+    view, at = view_of(stream), 0  # type: ignore[arg-type]
     while at < len(view):
         end = at + packet_length(view[at : at + 6])
         if end > len(view):
@@ -134,6 +143,7 @@ def packets_of(stream: Union[Octets, BinaryIO]) -> Iterator[Octets]:
 
 def _packets_of_file(file: BinaryIO) -> Iterator[bytes]:
     """The packets of a file."""
+    _reader_of(file)
     while True:
         front = _read_all(file, 6)
         if not front:
@@ -154,6 +164,38 @@ def _read_all(file: BinaryIO, size: int) -> bytes:
             break
         found += more
     return found or b""
+
+
+def _reader_of(file: BinaryIO) -> Callable[[int], Optional[bytes]]:
+    """What reads so many octets of a file, or fewer if no more have come yet."""
+    read = getattr(file, "read1", None) or getattr(file, "read", None)
+    if read is None:
+        raise TypeError(f"{file!r:.80} has neither octets nor a file's read")
+    return read  # type: ignore[no-any-return]
+
+
+def sound_packets_of(stream: Union[Octets, BinaryIO]) -> Iterator[memoryview]:
+    """The whole packets of a stream that may be damaged, idle ones too: the pieces that
+    `find_piece` finds. What is damaged or no packet is skipped."""
+    if has_octets(stream):
+        view, read = view_of(stream), None  # type: ignore[arg-type]
+    else:
+        view, read = memoryview(b""), _reader_of(stream)  # type: ignore[arg-type]
+    at, in_step = 0, True
+    while True:
+        front = view[at : at + _LOOKAHEAD]
+        is_end = read is None and at + len(front) == len(view)
+        piece = find_piece(front, in_step=in_step, is_end=is_end)
+        if piece is not None:
+            kind, size = piece
+            if kind is PieceKind.WHOLE:
+                yield front[:size]
+            at, in_step = at + size, kind is not PieceKind.STRAY
+        elif read is None:
+            return
+        else:
+            came = read(_LOOKAHEAD)
+            view, at, read = memoryview(bytes(front) + (came or b"")), 0, read if came else None
 
 
 def find_piece(
@@ -193,7 +235,7 @@ def read_telecommand(octets: Octets) -> Telecommand:
 def write_telecommand(telecommand: Telecommand) -> bytes:
     """The whole packet of a telecommand, 13 octets more than its body. Raises `Range` or
     `TooLong`."""
-    head, given = _head_of(telecommand), Given(telecommand.body)
+    head, given = _head_of(of_kind(telecommand, Telecommand)), Given(telecommand.body)
     room = Room(given.len + 13)
     raise_fault(
         _codecs.lpt_write_tc(byref(head), given.at, given.len, room.at, room.len, room.needs)
@@ -214,7 +256,7 @@ def read_telemetry(octets: Octets) -> Telemetry:
 
 def write_telemetry(telemetry: Telemetry) -> bytes:
     """The whole packet of telemetry, 19 octets more than its body. Raises `Range` or `TooLong`."""
-    apid, count = _numbers(telemetry)
+    apid, count = _numbers(of_kind(telemetry, Telemetry))
     head = _library.LptTmHead(
         apid, count, number(telemetry.status, 15, "the status"), *_types(telemetry),
         number(telemetry.counter, 0xFFFF, "the counter"),
@@ -231,7 +273,7 @@ def write_telemetry(telemetry: Telemetry) -> bytes:
 
 def read_message(octets: Octets) -> Union[Telecommand, Telemetry]:
     """Reads the octets of a whole packet as what it is, a telecommand or telemetry."""
-    front = _library.view_of(octets)
+    front = view_of(octets)
     is_telecommand = len(front) > 0 and front[0] & 0x10
     return read_telecommand(octets) if is_telecommand else read_telemetry(octets)
 

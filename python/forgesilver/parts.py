@@ -8,7 +8,7 @@ from dataclasses import dataclass
 from typing import Iterable, Iterator, NamedTuple, Optional, Union
 
 from . import _library
-from ._library import U32, Given, Octets, Room, number, piece_of
+from ._library import U32, Given, Held, Octets, Room, number, of_kind, piece_of
 from .faults import LongMessage, ShortMessage, raise_fault
 from .kinds import Acknowledge, Direction, PacketKind, PartKind, Reason
 from .packets import GREATEST_APID, Telecommand, Telemetry, write_telecommand, write_telemetry
@@ -40,7 +40,7 @@ class Part:
     kind: PartKind
     id: int
     number: int
-    octets: Octets
+    octets: Held
 
 
 @dataclass(frozen=True)
@@ -53,11 +53,14 @@ class AbortReport:
 
 def name_of(name: Named) -> Name:
     """A name, whose numbers are in their range."""
-    source, identifier = name
+    try:
+        source, identifier = name
+    except ValueError:
+        raise TypeError(f"{name!r:.80} is no name: a source and an identifier") from None
     return Name(number(source, 0xFFFF, "the source"), number(identifier, 0xFFFF, "the identifier"))
 
 
-def _part_size(size: int) -> int:
+def part_size_of(size: int) -> int:
     """A part size."""
     return number(size, 1024, "the part size", 4)
 
@@ -72,7 +75,7 @@ def part_kind(kind: PacketKind, service: int, subtype: int) -> Optional[PartKind
 
 def part_count(length: int, part_size: int) -> int:
     """How many parts of this size a message of this length has. Raises `Range`."""
-    size = _part_size(part_size)
+    size = part_size_of(part_size)
     length = number(length, _library.LONGEST_PACKET, "the length")
     return int(_codecs.lpt_part_count(length, size))
 
@@ -80,7 +83,7 @@ def part_count(length: int, part_size: int) -> int:
 def read_part(kind: PartKind, body: Octets, part_size: int) -> Part:
     """Reads a message's body as a part of this kind. Raises `ShortPart`, `ZeroNumber`, `KindNumber`
     or `PartLength`, the first that applies."""
-    its_kind, size = number(kind, 3, "the kind", 1), _part_size(part_size)
+    its_kind, size = number(kind, 3, "the kind", 1), part_size_of(part_size)
     given, out = Given(body), _library.LptPart()
     raise_fault(_codecs.lpt_read_part(its_kind, given.at, given.len, size, byref(out)))
     return Part(_KINDS[out.kind], out.id, out.number, piece_of(body, out.at, out.len))
@@ -89,7 +92,8 @@ def read_part(kind: PartKind, body: Octets, part_size: int) -> Part:
 def write_part(part: Part, part_size: int) -> bytes:
     """The body of a message that carries a part. Raises `Range`; and `ZeroNumber`, `KindNumber` or
     `PartLength` where there is no such part."""
-    kind, size = number(part.kind, 3, "the kind", 1), _part_size(part_size)
+    kind = number(of_kind(part, Part).kind, 3, "the kind", 1)
+    size = part_size_of(part_size)
     identifier = number(part.id, 0xFFFF, "the identifier")
     its_number = number(part.number, 0xFFFF, "the part sequence number")
     given = Given(part.octets)
@@ -105,6 +109,7 @@ def write_part(part: Part, part_size: int) -> bytes:
 def part_of(message: Union[Telecommand, Telemetry], part_size: int) -> Optional[Part]:
     """The part that a telecommand or telemetry carries; nothing where its types are of no part.
     Raises what `read_part` does."""
+    of_kind(message, (Telecommand, Telemetry))
     kind = message.subtype - (8 if isinstance(message, Telecommand) else 0)
     if message.service != SERVICE or kind not in _KINDS:
         return None
@@ -120,7 +125,7 @@ def read_abort(body: Octets) -> AbortReport:
 
 def write_abort(report: AbortReport) -> bytes:
     """The body of an abortion report. Raises `Range`."""
-    identifier = number(report.id, 0xFFFF, "the identifier")
+    identifier = number(of_kind(report, AbortReport).id, 0xFFFF, "the identifier")
     reason, room = number(report.reason, 3, "the reason", 1), Room(3)
     raise_fault(_codecs.lpt_write_abort(identifier, reason, room.at, room.len, room.needs))
     return room.octets()
@@ -148,7 +153,7 @@ def split(
     >>> [len(it) for it in packets]
     [25, 25, 21]
     """
-    its_name, size, given = name_of(name), _part_size(part_size), Given(message)
+    its_name, size, given = name_of(name), part_size_of(part_size), Given(message)
     number(apid, GREATEST_APID, "the APID"), number(time, 0xFFFFFFFF, "the time")
     count, direction = number(count, 16383, "the count"), Direction(direction)
     if given.len <= size:

@@ -7,7 +7,7 @@ from dataclasses import dataclass
 from typing import Optional, Union
 
 from . import _library
-from ._library import Given, Octets, Room, number
+from ._library import Given, Octets, Room, number, of_kind
 from .faults import NoReport, raise_fault
 from .kinds import Failure, ReportKind
 from .packets import Telemetry
@@ -46,7 +46,7 @@ def read_report(subtype: int, body: Octets) -> VerificationReport:
 def write_report(report: VerificationReport) -> bytes:
     """The body of a report; `report.kind` is the subtype of its message. Raises `Range`, as where
     the code of a failure isn't one of `Failure`."""
-    kind = number(report.kind, 255, "the kind")
+    kind = number(of_kind(report, VerificationReport).kind, 255, "the kind")
     request = number(report.request_id, 0xFFFFFFFF, "the request ID")
     code, room = number(report.code or 0, 0xFFFF, "the code"), Room(6)
     raise_fault(
@@ -57,6 +57,6 @@ def write_report(report: VerificationReport) -> bytes:
 
 def verification_of(telemetry: Telemetry) -> VerificationReport:
     """The verification report that telemetry carries. Raises `NoReport`."""
-    if telemetry.service != SERVICE:
+    if of_kind(telemetry, Telemetry).service != SERVICE:
         raise NoReport(f"service {telemetry.service}")
     return read_report(telemetry.subtype, telemetry.body)

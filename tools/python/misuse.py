@@ -11,6 +11,7 @@ import gc
 import inspect
 import pickle
 import random
+import signal
 import threading
 import warnings
 
@@ -19,6 +20,7 @@ from forgesilver import Config, Direction, End, Mode, Side, faults
 
 NAME = (1, 7)
 CONFIG = Config(part_size=8)
+INTERRUPTS = 1000
 # Calls of an end, with arguments that it takes.
 CALLS = {
     "feed": (b"",), "released": (), "expire": (), "open": (NAME, bytes(20)), "part": (NAME, 1), "parts": (NAME,),
@@ -82,9 +84,8 @@ def threads(want) -> None:
             want(f"{name}, from another thread", found.get(name), forgesilver.WrongThread)
         want("still open", end.memory(1), bytes(16))
         # As if a signal's handler came within a call.
-        end._lock.acquire()
-        want("within a call", raised(end.tick), forgesilver.WrongThread)
-        end._lock.release()
+        want("within a call", end._call(lambda _: raised(end.tick)), forgesilver.WrongThread)
+        want("behind it", raised(end.tick), None)
 
     # An end for each thread, all at once.
     message, joined = random.Random(3).randbytes(5000), []
@@ -106,6 +107,35 @@ def threads(want) -> None:
     want("each thread its own", joined == [message] * 16, True)
 
 
+def interrupts(want) -> None:
+    """Interrupts as by Ctrl-C, at any place of a call: they come out as such, and the end goes on."""
+    r, found = random.Random(5), []
+    packet = next(forgesilver.split(bytes(20), name=NAME, part_size=8, apid=100))
+    before = signal.signal(signal.SIGALRM, signal.default_int_handler)
+    end = spacecraft()
+    for at in range(INTERRUPTS):
+        found.append(interrupted(end, packet, r.uniform(2e-5, 4e-4)))
+        # Most ends go on; some are closed at once.
+        found += [raised(end.state) is faults.Empty, raised(end.memory, 1) != bytes(16)]
+        if at % 5 == 0:
+            found += [raised(end.close) is not None, not end.is_closed]
+            end = spacecraft()
+    end.close()
+    signal.signal(signal.SIGALRM, before)
+    want("interrupted", set(found), {KeyboardInterrupt, False})
+
+
+def interrupted(end: End, packet: bytes, seconds: float) -> object:
+    """What comes out of calls of an end that are interrupted so many seconds from now."""
+    try:
+        signal.setitimer(signal.ITIMER_REAL, seconds)
+        for _ in range(1_000_000):
+            end.feed(packet)
+    except BaseException as error:  # noqa: BLE001: whichever it is
+        return type(error)
+    return None
+
+
 def copies(want) -> None:
     """An end is neither copied nor pickled; one that is dropped warns."""
     with End(Side.GROUND, CONFIG) as ground:
@@ -120,13 +150,24 @@ def copies(want) -> None:
 
 
 def wrong_types(want) -> None:
-    """Arguments of other types, in each place of each call: an exception, or an answer, and the end goes on."""
+    """Arguments of other types, in each place of each call: a fault, a TypeError, a ValueError of an enumeration, or
+    an answer, and the end goes on."""
+    found: set[type] = set()
+
+    def tried(call, *words, **named) -> object:
+        got = raised(call, *words, **named)
+        # The class of ends has a `read`, as files have.
+        is_known = End in words or not isinstance(got, type) or issubclass(got, (TypeError, ValueError, faults.Fault))
+        if not is_known:
+            found.add(got)
+        return got
+
     with spacecraft() as craft, End(Side.GROUND, CONFIG) as ground:
         for end in (craft, ground):
             for name, words in CALLS.items():
                 for at in range(len(words)):
                     for junk in JUNK:
-                        raised(getattr(end, name), *words[:at], junk, *words[at + 1 :], **NAMED.get(name, {}))
+                        tried(getattr(end, name), *words[:at], junk, *words[at + 1 :], **NAMED.get(name, {}))
                 want(f"{name} without arguments", raised(getattr(end, name)) is TypeError, bool(words))
         for junk in (None, 1.5, "text", [], {}, object(), 7, memoryview(bytes(16))[::2]):
             want(f"feed {junk!r}", raised(ground.feed, junk), TypeError)
@@ -138,15 +179,20 @@ def wrong_types(want) -> None:
     for call in functions:
         for junk in JUNK:
             for words in ((junk,), (junk, junk), (junk, b"12345", 8), (1, junk, 8), (1, b"12345", junk)):
-                raised(call, *words)
-        want(f"{call.__name__} of nothing", raised(call, None) in (TypeError, AttributeError), True)
+                tried(call, *words)
+        want(f"{call.__name__} of nothing", raised(call, None), TypeError)
     for junk in JUNK:
-        raised(forgesilver.split, junk, name=junk, part_size=junk, apid=junk)
-        raised(forgesilver.split, bytes(20), name=NAME, part_size=8, apid=junk, count=junk)
+        tried(forgesilver.split, junk, name=junk, part_size=junk, apid=junk)
+        tried(forgesilver.split, bytes(20), name=NAME, part_size=8, apid=junk, count=junk)
+        tried(forgesilver.join, junk, part_size=8)
+        tried(forgesilver.join_each, [junk], part_size=8)
+        tried(forgesilver.Load(1, [junk]).body)
+        tried(forgesilver.Dump(1, [junk]).body)
         for words in ((junk,), (Side.GROUND, junk), (Side.SPACECRAFT, CONFIG, junk), (0, CONFIG, {junk: b"1"} if junk.__hash__ else junk)):
-            made = raised(End, *words)
+            made = tried(End, *words)
             if isinstance(made, End):
                 made.close()
+    want("other exceptions", found, set())
 
 
 def each_fault(want) -> None:
@@ -249,5 +295,5 @@ def codec_faults(want) -> None:
 
 def all_of(want) -> None:
     """All of them."""
-    for cases in (closed, threads, copies, wrong_types, each_fault):
+    for cases in (closed, threads, interrupts, copies, wrong_types, each_fault):
         cases(want)

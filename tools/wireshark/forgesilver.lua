@@ -112,6 +112,8 @@ local x = {
     contradiction = ProtoExpert.new("lpt.contradiction", "Contradiction", SEQUENCE, WARN),
     missing = ProtoExpert.new("lpt.part_missing", "Missing part", SEQUENCE, WARN),
     again = ProtoExpert.new("lpt.again", "Repeated part", SEQUENCE, NOTE),
+    unfit = ProtoExpert.new("lpt.unfit", "No packet was joined", SEQUENCE, WARN),
+    given_up = ProtoExpert.new("lpt.given_up", "Parts given up", SEQUENCE, WARN),
 }
 lpt.experts = x
 
@@ -140,116 +142,266 @@ local function checksum_of(octets)
     return register
 end
 
+-- The first test that these octets fail as a packet.
+local function fault_of(octets)
+    if #octets < 7 then return SHORT end
+    local one, two, three, _, five, six = octets:byte(1, 6)
+    if one >= 0x20 then return VERSION end
+    if #octets ~= 7 + five * 256 + six then return LENGTH end
+    if one % 8 * 256 + two == IDLE_APID then return end
+    if three < 0xC0 then return SEGMENTED end
+    if one % 16 < 8 then return NO_SECONDARY end
+    local high, low = octets:byte(-2, -1)
+    if #octets < 8 or checksum_of(octets:sub(1, -3)) ~= high * 256 + low then return CHECKSUM end
+end
+
 -- The octets of the packet that begins here, and the first test that they fail.
 local function front(rest)
-    if rest:len() < 7 then return rest, SHORT end
-    local length = 7 + rest(4, 2):uint()
+    local length = rest:len() < 7 and rest:len() or 7 + rest(4, 2):uint()
     local octets = length < rest:len() and rest(0, length) or rest
-    if rest(0, 1):bitfield(0, 3) ~= 0 then return octets, VERSION end
-    if length > rest:len() then return rest, LENGTH end
-    if octets(0, 2):bitfield(5, 11) == IDLE_APID then return octets end
-    if octets(2, 1):bitfield(0, 2) ~= 3 then return octets, SEGMENTED end
-    if octets(0, 1):bitfield(4, 1) == 0 then return octets, NO_SECONDARY end
-    if length < 8 or checksum_of(octets:raw(0, length - 2)) ~= octets(length - 2, 2):uint() then
-        return octets, CHECKSUM
-    end
-    return octets
+    return octets, fault_of(octets:raw())
 end
 
--- Messages in parts: what came of each name. Each part's place is found once, in the order of frames.
-
-local messages, places = {}, {}
-
-function lpt.init()
-    messages, places = {}, {}
+-- Why joined octets are no packet of their direction; nothing of one that is.
+local function misfit(octets, is_up)
+    local fault = fault_of(octets)
+    if fault then return "no packet: fault " .. fault .. " " .. FAULTS[fault] end
+    local one, two = octets:byte(1, 2)
+    local is_other = (math.floor(one / 16) % 2 == 1) ~= is_up
+    if is_other or one % 8 * 256 + two == IDLE_APID then return "no packet of its direction" end
 end
 
--- The part, of those that came, that a further one of its name contradicts.
-local function contradicted(message, part)
-    local kept = message.kept
-    local same, last, greatest = kept[part.number], kept[message.last], kept[message.greatest]
+-- Parts of one message, by their numbers.
+
+local function add(set, part)
+    set.parts[part.number], set.count = part, set.count + 1
+    set.greatest = math.max(set.greatest, part.number)
+    set.places[#set.places + 1] = part.place
+    if part.kind == LAST then set.last = part.number else set.size = #part.octets end
+end
+
+local function set_of(part)
+    local set = {parts = {}, places = {}, count = 0, greatest = 0}
+    if part then add(set, part) end
+    return set
+end
+
+-- The part of these that a further one contradicts.
+local function contradicted(set, part)
+    local parts = set.parts
+    local same, last, greatest = parts[part.number], parts[set.last], parts[set.greatest]
     if same then
         return (same.kind ~= part.kind or same.octets ~= part.octets) and same or nil
     elseif last and (part.kind == LAST or part.number > last.number or #part.octets < #last.octets) then
         return last
     elseif part.kind == LAST then
-        return (part.number < greatest.number or #part.octets > message.size) and greatest or nil
+        return greatest and (part.number < greatest.number or #part.octets > set.size) and greatest or nil
     end
-    return message.size and message.size ~= #part.octets and greatest or nil
+    return set.size and set.size ~= #part.octets and greatest or nil
 end
 
--- Takes a part of this name: behind a whole message, or where it contradicts what came, another begins.
-local function take(name, part)
-    local message, place = messages[name], {}
-    local other = message and contradicted(message, part)
-    if message and message.kept[part.number] and not other then
-        return {message = message, again = message.kept[part.number]}
-    end
-    if other then
-        place.contradicted = not message.whole and other or nil
-        message = nil
-    end
-    message = message or {kept = {}, count = 0, greatest = 0, first = part.frame}
-    messages[name], place.message, message.newest = message, message, place
-    message.kept[part.number], message.count = part, message.count + 1
-    message.greatest = math.max(message.greatest, part.number)
-    if part.kind == LAST then message.last = part.number else message.size = #part.octets end
-    message.whole = message.count == message.last and part.frame or nil
-    place.is_whole = message.whole ~= nil
-    return place
+-- The octets of the message, if the last of its parts and all before it are here.
+local function joined(set)
+    if set.count ~= set.last then return end
+    local octets = {}
+    for number = 1, set.last do octets[number] = set.parts[number].octets end
+    return table.concat(octets)
 end
 
 -- The parts that didn't come, as `lpt join` lists them.
-local function missing_parts(message)
+local function missing_parts(set)
     local runs, from = {}, 1
-    for number = 1, message.greatest do
-        if message.kept[number] then
+    for number = 1, set.greatest do
+        if set.parts[number] then
             if from == number - 1 then runs[#runs + 1] = from end
             if from < number - 1 then runs[#runs + 1] = from .. "-" .. number - 1 end
             from = number + 1
         end
     end
-    if not message.last then runs[#runs + 1] = from .. "-" end
+    if not set.last then runs[#runs + 1] = from .. "-" end
     return table.concat(runs, ",")
 end
 
--- The octets of a whole message, as a source of their own.
-local function joined(message)
-    local octets = {}
-    for number = 1, message.last do octets[number] = message.kept[number].octets end
-    return ByteArray.new(table.concat(octets), true):tvb("Large message")()
+-- Messages in parts, by the rule of `lpt join --each`. Of each name a course is kept: the parts of the last
+-- message; all that came behind it; the new ones, which aren't parts of it; and a run, of parts 1, 2 and so
+-- on that came in this order. Of each part there is a place, with what is known of it. It is found once, in
+-- the order of frames.
+
+local courses, places = {}, {}
+
+function lpt.init()
+    courses, places = {}, {}
+end
+
+-- Begins anew behind a message of these parts, with nothing or with a part. The new ones are known to be of a
+-- message, or are given up; either way their octets are let go.
+local function begin(course, last, part, is_given_up)
+    local old = course.new
+    old.missing, old.parts = is_given_up and missing_parts(old) or nil, nil
+    old.is_done = not is_given_up
+    course.last, course.all, course.new = last, last and set_of(part), set_of(part)
+    course.new.behind, course.is_stale = course.whole, false
+end
+
+-- Gives a message out: each of these parts is one of it, and so are the new ones, unless they are given up.
+local function give(course, set, octets, place, is_given_up)
+    local message = {whole = place.frame, first = place.frame}
+    for _, those in ipairs({set.places, is_given_up and {} or course.new.places}) do
+        for _, one in ipairs(those) do
+            message.first = math.min(message.first, one.frame)
+            if one.messages[#one.messages] ~= message then one.messages[#one.messages + 1] = message end
+        end
+    end
+    place.octets, course.whole, course.octets = octets, place.frame, octets
+    begin(course, set.parts, nil, is_given_up)
+end
+
+-- The run, if it is whole with this part, which ends it. A first part begins it; the next one, or one of these
+-- again, goes on with it; any other ends it.
+local function run_with(course, part)
+    if part.number == 1 then course.run, course.gave = set_of(), false end
+    local run = course.run
+    if part.number > run.greatest + 1 or contradicted(run, part) then run = set_of() end
+    if part.number == run.greatest + 1 then add(run, part) end
+    course.run = run.count ~= run.last and run or set_of()
+    return run.count == run.last and run or nil
+end
+
+-- Whether the new parts are those of a run that is this message: none came before it, or they spell it too.
+local function are_own(course, part, octets)
+    local most, with = course.all or course.new, set_of(part)
+    if not course.is_stale or contradicted(most, part) then return not course.is_stale end
+    for number, one in pairs(most.parts) do
+        if number ~= part.number then add(with, one) end
+    end
+    return joined(with) == octets
+end
+
+-- What a further part makes of others: it contradicts one, or came before, or they are whole.
+local function turn(set, part)
+    local other, again = contradicted(set, part), set.parts[part.number]
+    if not other and not again then add(set, part) end
+    return other, again, not other and not again and joined(set) or nil
+end
+
+-- What a part makes of the new ones, and of all. A whole that isn't given out ends the new ones, which begin anew
+-- with this part, or with nothing.
+local function gather(course, part, with_it)
+    local place, new, last = part.place, course.new, course.last
+    if part.number == 1 then course.is_stale = new.count > 0 end
+    local same, other, again, octets = last and last[part.number]
+    if same and same.kind == part.kind and same.octets == part.octets then
+        place.old = same.place
+    else
+        place.gathering, other, again, octets = new, turn(new, part)
+    end
+    place.again = again and not other and again.place or nil
+    place.misfit = octets and misfit(octets, part.is_up)
+    if other or place.misfit then
+        place.contradicted = other and other.place
+        begin(course, last, (other or with_it) and part or nil, other)
+        place.gathering = course.new
+    elseif octets then
+        course.gave = true
+        give(course, new, octets, place)
+    elseif course.all then
+        local others, _, whole = turn(course.all, part)
+        if others or whole and misfit(whole, part.is_up) then
+            course.all = nil
+        elseif whole then
+            course.gave = true
+            give(course, course.all, whole, place)
+        end
+    end
+end
+
+-- Takes a part of a name. The run looks first, and only if it doesn't give a message, the others.
+local function take(course, part)
+    local run, place, new = run_with(course, part), part.place, course.new
+    local octets = run and joined(run)
+    local is_told = octets and course.gave and octets == course.octets
+    if not octets or is_told or misfit(octets, part.is_up) then
+        gather(course, part, not octets)
+        return
+    end
+    place.given_up = not are_own(course, part, octets) and new or nil
+    give(course, run, octets, place, place.given_up)
 end
 
 local packet
 
--- Tells a part's place, and where it makes a message whole, what that is: a packet.
+-- The place of a part of a name, which is taken where it is seen first.
+local function place_of(name, part, at)
+    local key = at.pinfo.number .. ":" .. at.number
+    if not places[key] then
+        part.place = {frame = at.pinfo.number, messages = {}}
+        courses[name] = courses[name] or {run = set_of(), new = set_of(), is_stale = false}
+        take(courses[name], part)
+        places[key] = part.place
+    end
+    return places[key]
+end
+
+-- The last of these places that is of no message.
+local function last_lost(set)
+    for at = #set.places, 1, -1 do
+        if #set.places[at].messages == 0 then return set.places[at] end
+    end
+end
+
+-- Tells what is missing behind all frames, or so far at a last part.
+local function show_missing(place, part, at, node)
+    local set = place.gathering
+    if not set or set.is_done or last_lost(set) ~= place then return end
+    if not at.pinfo.visited and part.kind ~= LAST then return end
+    local missing = set.missing or missing_parts(set)
+    local text = (at.pinfo.visited and "Missing parts: " or "Missing parts so far: ") .. missing
+    if set.behind then text = text .. ", but for those that are as in the message whole in frame " .. set.behind end
+    node:add(m.missing, missing):set_generated()
+    node:add_proto_expert_info(x.missing, text)
+end
+
+-- Whether a part that came before is of the same message then and now, as far as is known.
+local function is_repeat(place)
+    local is_same = #place.messages == 0
+    for _, one in ipairs(place.messages) do
+        for _, other in ipairs(place.again.messages) do is_same = is_same or one == other end
+    end
+    return is_same
+end
+
+-- Tells what is known of a part in its frame.
 local function show_place(place, part, at, node)
-    local message = place.message
-    node:add(m.first, message.first):set_generated()
-    if place.again then
-        local text = "The part came before, in frame " .. place.again.frame
-        node:add_proto_expert_info(x.again, text)
+    local messages = #place.messages == 0 and place.again and place.again.messages or place.messages
+    for _, message in ipairs(messages) do
+        node:add(m.first, message.first):set_generated()
+        node:add(m.whole, message.whole):set_generated()
+    end
+    local first = place.gathering and place.gathering.places[1]
+    if #messages == 0 and first then node:add(m.first, first.frame):set_generated() end
+    if place.again and is_repeat(place) then
+        node:add_proto_expert_info(x.again, "The part came before, in frame " .. place.again.frame)
+    elseif place.old and #messages == 0 then
+        local text = "The part is as in frame " .. place.old.frame
+        node:add_proto_expert_info(x.again, text .. ": it came again, or the name is used anew")
     end
     if place.contradicted then
         local text = "The part contradicts the one in frame " .. place.contradicted.frame
         node:add_proto_expert_info(x.contradiction, text .. ": another message of this name begins")
     end
-    if message.whole then node:add(m.whole, message.whole):set_generated() end
-    if place.is_whole then
-        local whole = joined(message)
-        node:add(m.length, whole:len()):set_generated()
-        local octets, fault = front(whole)
-        if octets:len() < whole:len() then octets, fault = whole, LENGTH end
-        return ", whole: " .. packet(octets, fault, {pinfo = at.pinfo, root = at.root, is_joined = true})
+    if place.misfit then
+        local text = "What was joined is " .. place.misfit .. "; reading begins anew"
+        node:add_proto_expert_info(x.unfit, text)
     end
-    -- What is missing is known behind all frames, or told at a last part.
-    local is_told = at.pinfo.visited or part.kind == LAST
-    if is_told and message.newest == place and not message.whole then
-        local missing = missing_parts(message)
-        node:add(m.missing, missing):set_generated()
-        node:add_proto_expert_info(x.missing, "Missing parts: " .. missing)
+    if place.given_up then
+        local text = "Parts from frame " .. place.given_up.places[1].frame .. " on are given up for this message"
+        node:add_proto_expert_info(x.given_up, text .. "; missing of them: " .. place.given_up.missing)
     end
-    return ""
+    show_missing(place, part, at, node)
+    if not place.octets then return "" end
+    local whole = ByteArray.new(place.octets, true):tvb("Large message")()
+    node:add(m.length, whole:len()):set_generated()
+    return ", whole: " .. packet(whole, nil, {pinfo = at.pinfo, root = at.root, is_joined = true})
 end
 
 -- The first test that the body of a part fails.
@@ -282,18 +434,16 @@ local function part_body(kind)
             end
             return "part unread"
         end
-        local part = {kind = kind, number = body(2, 2):uint(), octets = body:raw(4), frame = at.pinfo.number}
+        local part = {kind = kind, number = body(2, 2):uint(), octets = body:raw(4)}
         tree:add(m.kind, kind):set_generated()
         tree:add(m.octets, #part.octets):set_generated()
         tree:add(m.data, body(4))
-        local direction = head.kind == TELECOMMAND and "up" or "down"
-        local name = string.format("%s %d/%d", direction, head.peer, body(0, 2):uint())
+        part.is_up = head.kind == TELECOMMAND
+        local name = string.format("%s %d/%d", part.is_up and "up" or "down", head.peer, body(0, 2):uint())
         tree:append_text(string.format(", %s, part %d", name, part.number))
         local said = string.format("%s part %d of %s", KINDS[kind], part.number, name)
         if at.is_joined or head.fault then return said end
-        local key = at.pinfo.number .. ":" .. at.number
-        places[key] = places[key] or take(head.apid .. " " .. name, part)
-        return said .. show_place(places[key], part, at, tree)
+        return said .. show_place(place_of(head.apid .. " " .. name, part, at), part, at, tree)
     end
 end
 

@@ -1,0 +1,180 @@
+"""What the parts of one name give, which may be used again: the rule of `lpt join --each`. Not for
+the caller.
+
+Three sets of parts are kept of a name: all that came behind the last message; of these the new
+ones, which aren't parts of it; and a run, of parts 1, 2 and so on that came in this order. Which
+of them is whole first, and fit, is the next message.
+"""
+
+from __future__ import annotations
+
+from typing import Callable, NamedTuple, Optional
+
+from .faults import Fault
+
+
+class Kept(NamedTuple):
+    """A part: its number, whether it is the last, its octets."""
+
+    number: int
+    is_last: bool
+    octets: bytes
+
+
+class Parts:
+    """Parts of one message, by their numbers."""
+
+    __slots__ = ("by_number", "greatest", "last")
+
+    def __init__(self, *parts: Kept) -> None:
+        self.by_number: dict[int, Kept] = {}
+        self.greatest = 0
+        self.last: Optional[int] = None
+        for it in parts:
+            self.add(it)
+
+    def add(self, part: Kept) -> None:
+        """A part more, which contradicts none of these."""
+        self.by_number[part.number] = part
+        self.greatest = max(self.greatest, part.number)
+        if part.is_last:
+            self.last = part.number
+
+    def contradicts(self, part: Kept) -> bool:
+        """Whether another part has its number, or a last part one below another's."""
+        kept = self.by_number.get(part.number)
+        if kept is not None:
+            return kept != part
+        is_behind = self.last is not None and part.number > self.last
+        return is_behind or (part.is_last and part.number < self.greatest)
+
+    def whole(self) -> Optional[bytes]:
+        """The message, if the last of its parts and all before it are here."""
+        if len(self.by_number) != self.last:
+            return None
+        return b"".join(self.by_number[it].octets for it in range(1, self.last + 1))
+
+    def missing(self) -> str:
+        """The numbers that are missing, in runs; all behind the greatest, if the last didn't
+        come."""
+        runs, first = [], 1
+        for it in sorted(self.by_number):
+            if first < it:
+                runs.append(f"{first}" if first == it - 1 else f"{first}-{it - 1}")
+            first = it + 1
+        if self.last is None:
+            runs.append(f"{first}-")
+        return ",".join(runs)
+
+
+class News(NamedTuple):
+    """What a part told: parts that are given up, why a whole isn't given out, a message."""
+
+    message: Optional[bytes] = None
+    given_up: Optional[Parts] = None
+    is_contradicted: bool = False
+    unfit: Optional[Fault] = None
+
+
+#: Why a whole isn't to be given out; None if it may be.
+Judge = Callable[[bytes], Optional[Fault]]
+
+
+class Course:
+    """What is kept of a name. A part comes by `take`; at the end `new` has what is left."""
+
+    __slots__ = ("new", "_all", "_gave", "_is_stale", "_judge", "_last", "_run", "_size")
+
+    def __init__(self, part_size: int, judge: Judge) -> None:
+        self._size, self._judge = part_size, judge
+        # Whether a message was given out since the run began.
+        self._run, self._gave = Parts(), False
+        self._begin(None)
+
+    def _begin(self, message: Optional[bytes], *parts: Kept) -> None:
+        """Begins anew behind a message, with these parts; no new one came before the run."""
+        self._last = message
+        self._all = None if message is None else Parts(*parts)
+        self.new, self._is_stale = Parts(*parts), False
+
+    def take(self, part: Kept) -> Optional[News]:
+        """Takes a part. The run looks first, and only if it doesn't give a message, the others."""
+        message = self._run_with(part)
+        if message is None:
+            return self._gather(part, with_it=True)
+        if self._judge(message) is not None or (self._gave and message == self._last):
+            # It came in its order, so the part is this whole's own, and of no next one.
+            return self._gather(part, with_it=False)
+        given_up = None if self._are_own(part, message) else self.new
+        self._begin(message)
+        return News(message, given_up)
+
+    # ---- the run ----
+
+    def _run_with(self, part: Kept) -> Optional[bytes]:
+        """The message, if the run is whole with this part, which ends it. A first part begins it;
+        the next one, or one of these again, goes on with it; any other ends it."""
+        if part.number == 1:
+            self._run, self._gave = Parts(), False
+        run = self._run
+        if part.number > run.greatest + 1 or run.contradicts(part):
+            self._run = Parts()
+            return None
+        run.add(part)
+        message = run.whole()
+        if message is not None:
+            self._run = Parts()
+        return message
+
+    def _are_own(self, part: Kept, message: bytes) -> bool:
+        """Whether the new parts are the message's of a run: none came before it, or with this part
+        they spell it too."""
+        if not self._is_stale:
+            return True
+        most = self.new if self._all is None else self._all
+        if most.contradicts(part):
+            return False
+        return Parts(*most.by_number.values(), part).whole() == message
+
+    # ---- the others ----
+
+    def _gather(self, part: Kept, with_it: bool) -> Optional[News]:
+        """What the part makes of the new parts, and of all. Where a whole isn't given out, they
+        begin anew with this part, or with nothing."""
+        if part.number == 1:
+            self._is_stale = bool(self.new.by_number)
+        news = None if self._is_old(part) else self._turn(self.new, part)
+        if news is None and self._all is not None:
+            news = self._turn(self._all, part)
+            if news is not None and news.message is None:
+                # These are gone on with no more, and nothing is lost: the new ones are.
+                self._all, news = None, None
+        if news is None:
+            return None
+        if news.message is not None:
+            self._gave = True
+            self._begin(news.message)
+        else:
+            self._begin(self._last, *([part] if with_it or news.is_contradicted else []))
+        return news
+
+    def _turn(self, parts: Parts, part: Kept) -> Optional[News]:
+        """What ends these parts with a further one; nothing, if they wait with it."""
+        if parts.contradicts(part):
+            return News(given_up=parts, is_contradicted=True)
+        if part.number in parts.by_number:
+            return None
+        parts.add(part)
+        message = parts.whole()
+        if message is None:
+            return None
+        unfit = self._judge(message)
+        return News(message) if unfit is None else News(unfit=unfit)
+
+    def _is_old(self, part: Kept) -> bool:
+        """Whether it is a part of the last message, octet for octet."""
+        if self._last is None:
+            return False
+        end = part.number * self._size
+        octets = self._last[end - self._size : end]
+        return part.octets == octets and part.is_last == (end >= len(self._last))
