@@ -14,18 +14,19 @@ _lpt() {
             ;;
         esac
     done
-    local options='--config --apid --source --part-size --mode --help --version'
+    local options='--config --apid --source --part-size --help --version'
     case $command:$request in
     lint:*) options='--help --version' ;;
-    chart:*) options+=' --stream --from --to --refused' ;;
-    decode:*) options+=' --layout' ;;
+    run:* | threads:* | shell:*) options+=' --mode' ;;
+    chart:*) options+=' --mode --stream --from --to --refused' ;;
+    decode:*) options+=' --more --layout' ;;
     list:*) options+=' --json --strict --from --to --layout --quiet' ;;
     split:*) options+=' --parts --count --each --whole --pcap --layout' ;;
     join:*) options+=' --id --first --any --each --from --to --layout --quiet' ;;
     extract:*) options+=' --at --from --fill --whole --join --layout --quiet' ;;
     link:*) options='--lose --repeat --damage --delay --seed --quiet --help --version' ;;
     verify:*) options='--json --quiet --help --version' ;;
-    spacecraft:*) options+=' --memory --save --tick-every --tick --reuse --resync --log --state' ;;
+    spacecraft:*) options+=' --mode --memory --save --tick-every --tick --reuse --resync --log --state' ;;
     compare:*) options+=' --quiet' ;;
     checksum:*) options='--from --length --help --version' ;;
     request:load) options+=' --area --each --ack --count' ;;

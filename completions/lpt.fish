@@ -57,6 +57,8 @@ for command in run threads shell chart decode list split join extract spacecraft
     complete -c lpt -n "__lpt_at $command" -l apid -x -d 'The APID of all packets, 0 to 2046'
     complete -c lpt -n "__lpt_at $command" -l source -x -d 'The source that is meant where none is given, 0 to 65535'
     complete -c lpt -n "__lpt_at $command" -l part-size -x -d 'The octets of a part, 4 to 1024'
+end
+for command in run threads shell chart spacecraft
     complete -c lpt -n "__lpt_at $command" -l mode -x -a 'any strict' -d 'Whether parts are taken in any order, or strictly in theirs'
 end
 complete -c lpt -n '__lpt_at chart' -l stream -d 'Draw the packets at the path, a row for each transaction'
@@ -64,6 +66,7 @@ complete -c lpt -n '__lpt_at chart' -l from -x -d 'The first place of the journa
 complete -c lpt -n '__lpt_at chart' -l to -x -d 'The last place of the journal that is drawn, or the end of the octets'
 complete -c lpt -n '__lpt_at chart' -l refused -d 'Draw the lines that were refused, too'
 complete -c lpt -n '__lpt_at list; or __lpt_at verify' -l json -d 'Print each line as an object of JSON'
+complete -c lpt -n '__lpt_at decode' -l more -d 'Say which areas a request or a report names, and which segment a packet is'
 complete -c lpt -n '__lpt_at decode; or __lpt_at list; or __lpt_at split; or __lpt_at join; or __lpt_at extract' -l layout -r -F -d "The mission's layouts of headers and parts, a TOML file"
 complete -c lpt -n '__lpt_at list' -l strict -d 'End at the first place where no packet is'
 for command in list join
@@ -94,14 +97,14 @@ complete -c lpt -n '__lpt_at link' -l repeat -x -d 'How many of them are written
 complete -c lpt -n '__lpt_at link' -l damage -x -d 'Of how many of them bits are changed'
 complete -c lpt -n '__lpt_at link' -l delay -x -d 'How many packets later one is written at most, 0 to 1000'
 complete -c lpt -n '__lpt_at link' -l seed -x -d 'The seed: the same one gives the same run'
-complete -c lpt -n '__lpt_at spacecraft' -l memory -x -d 'A memory, and the file of its first content'
-complete -c lpt -n '__lpt_at spacecraft' -l save -d 'Write the memories back into their files at the end'
+complete -c lpt -n '__lpt_at spacecraft' -l memory -x -d 'A memory, and the file of its first content, of 1 to 1048576 octets'
+complete -c lpt -n '__lpt_at spacecraft' -l save -d 'Write a memory back into its file after each load into it, and all at the end'
 complete -c lpt -n '__lpt_at spacecraft' -l tick-every -x -d 'Set the clock on after each N packets'
 complete -c lpt -n '__lpt_at spacecraft' -l tick -x -d 'Set the clock on every MS milliseconds'
 complete -c lpt -n '__lpt_at spacecraft' -l reuse -x -d 'Free a name N ticks after its use'
 complete -c lpt -n '__lpt_at spacecraft' -l resync -d 'Go on after octets that are no packet'
 complete -c lpt -n '__lpt_at spacecraft' -l log -d 'Tell on standard error what becomes of each packet and request'
-complete -c lpt -n '__lpt_at spacecraft' -l state -r -d 'Keep state and memories in this file, and go on where it says'
+complete -c lpt -n '__lpt_at spacecraft' -l state -r -d 'Keep state and memories in this file, for this process alone, and go on from it'
 for command in 'request load' 'request dump' 'request check'
     complete -c lpt -n "__lpt_at $command" -l each -x -d 'How many octets one request asks for at most'
     complete -c lpt -n "__lpt_at $command" -l ack -x -d 'The acknowledgement flags, 0 to 15'

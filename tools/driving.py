@@ -9,6 +9,17 @@ TOP = pathlib.Path(__file__).resolve().parent.parent
 LONGEST_RUN_SECONDS = 60
 
 
+def octets_text(count):
+    """So many octets, in words."""
+    return f"{count} octet{'s' if count != 1 else ''}"
+
+
+def beside_misfits(ran):
+    """What a run came to, without the note that what was split is no packet of its direction."""
+    status, printed, said = ran
+    return status, printed, [line for line in said if not line.startswith("lpt: what was split is no packet")]
+
+
 class Driver:
     """A script of tests/ by this name: it runs the program that was built, and counts its cases."""
 

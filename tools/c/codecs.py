@@ -173,9 +173,12 @@ def told_length(octets):
 
 
 def begins(octets, in_step):
-    """Whether a packet begins with these octets; in step an idle one counts."""
-    code, _ = seen(octets[: 7 + number_of(octets[4:6])] if len(octets) > 5 else octets)
-    return code == 0 or in_step and code == IDLE
+    """Whether a packet begins with these octets. In step an idle one counts, and one with a right checksum that is
+    a segment (4), or has no secondary header (5)."""
+    frame = octets[: 7 + number_of(octets[4:6])] if len(octets) > 5 else octets
+    code, _ = seen(frame)
+    is_sound = code in (4, 5) and len(frame) > 7 and frame[-2:] == checksum(frame[:-2])
+    return code == 0 or in_step and (code == IDLE or is_sound)
 
 
 def may_begin(octets):

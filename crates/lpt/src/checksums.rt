@@ -22,7 +22,11 @@ pub fn checksum(rt: &HostRuntime, words: &ChecksumWords<'_>) -> Result<Status, F
 fn written(rt: &HostRuntime, words: &ChecksumWords<'_>, octets: &[u8]) -> Result<Status, Failure> {
     let Some(named) = named_in(words, octets) else {
         let size = octets.len();
-        if let Ok(text) = format!(in rt.alloc(); "there are {size} octets alone") {
+        let text = match size {
+            1 => format!(in rt.alloc(); "there is 1 octet alone"),
+            _ => format!(in rt.alloc(); "there are {size} octets alone"),
+        };
+        if let Ok(text) = text {
             tell_place(rt, text.as_str());
         }
         return Ok(Status::Refused);

@@ -3,7 +3,7 @@
 ghost use Rattle.lpt_events.specs.Configs.{IsConfig};
 
 use crate::end::{Failure, Status, tell_place};
-use crate::input::{octets_from, opened, opened_packets, packets_end};
+use crate::input::{name_of, octets_from, opened, opened_packets, packets_end};
 use crate::progress::Voice;
 use crate::streams::{Output, finish, output};
 use lpt_command_line::CompareWords;
@@ -28,8 +28,7 @@ pub fn compare(
 {
     let octets = file_at(rt, words.file)?;
     let checks = checks_at(rt, voice, config.apid, words)?;
-    let status = told(rt, words, octets.as_slice(), &checks);
-    drop(checks);
+    let status = told(rt, words, octets.as_slice(), checks);
     drop(octets);
     status
 }
@@ -72,30 +71,44 @@ fn told(
     rt: &HostRuntime,
     words: &CompareWords<'_>,
     octets: &[u8],
-    checks: &[Checked],
+    checks: Vec<Checked>,
 ) -> Result<Status, Failure> {
     let image = Image {
         from: words.address,
         octets,
     };
     let mut out = output(rt)?;
-    let written = write_lines(rt.alloc(), words.memory, &image, checks, &mut out);
+    let written = write_lines(rt.alloc(), words.memory, &image, &checks, &mut out);
     finish(rt, out)?;
     let agree = written?;
     let open = image.first_open(checks);
-    if let Some(address) = open {
-        let memory = words.memory;
-        if let Ok(text) = format!(in rt.alloc();
-            "memory {memory}: no check report agrees at address {address}"
-        ) {
+    if let Some(text) = lacking(rt.alloc(), words, octets, open) {
+        if let Ok(text) = text {
             tell_place(rt, text.as_str());
         }
     }
-    Ok(if agree && open.is_none() {
+    Ok(if agree && open.is_none() && !octets.is_empty() {
         Status::Done
     } else {
         Status::Refused
     })
+}
+
+// What is lacking of a comparison, where no report agrees at this address: that, or that the file
+// has no octets to compare.
+fn lacking(
+    alloc: Global,
+    words: &CompareWords<'_>,
+    octets: &[u8],
+    open: Option<u64>,
+) -> Option<Result<String, AllocError>> {
+    if octets.is_empty() {
+        let name = name_of(words.file);
+        return Some(format!(in alloc; "{name}: there are no octets to compare"));
+    }
+    let address = open?;
+    let memory = words.memory;
+    Some(format!(in alloc; "memory {memory}: no check report agrees at address {address}"))
 }
 
 // Writes a line for each area, and gives whether all of them agree.

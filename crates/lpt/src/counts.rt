@@ -1,17 +1,25 @@
-//! How much of a stream is no packet.
+//! How much of a stream is no packet, and how many octets there are, in words.
 
 use crate::end::tell_place;
 use std::alloc::{AllocError, Global};
 
 /// Tells how many packets of a stream have a fault, and how many octets are part of none, where
-/// there are any.
-pub fn tell_no_packets(rt: &HostRuntime, damaged: u64, stray: u64) {
+/// there are any. In front stands what stream it is, where there are several.
+pub fn tell_no_packets(rt: &HostRuntime, stream: &str, damaged: u64, stray: u64) {
     if damaged == 0 && stray == 0 {
         return;
     }
-    if let Ok(text) = no_packets_text(rt.alloc(), damaged, stray) {
-        tell_place(rt, text.as_str());
+    let Ok(text) = no_packets_text(rt.alloc(), damaged, stray) else {
+        return;
+    };
+    if let Ok(line) = format!(in rt.alloc(); "{stream}{text}") {
+        tell_place(rt, line.as_str());
     }
+}
+
+/// What so many octets are called.
+pub fn octets_word(count: usize) -> &'static str {
+    if count == 1 { "octet" } else { "octets" }
 }
 
 // Those that aren't 0 of both numbers, in words. The only error is out of memory.

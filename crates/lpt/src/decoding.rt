@@ -15,6 +15,7 @@ use lpt_list::{Form, print_refused};
 use lpt_packet::{Direction, Octets, Packet, PacketFault, PacketKind, Seen, read_packet};
 use lpt_part::{Kind, read_part};
 use lpt_pus::{read_tc, read_tm};
+use lpt_script_text::print_areas;
 use lpt_script_words::read_hex;
 use lpt_text::{End, LONGEST_TEXT, read_text, write_out};
 use lpt_tool::ToolFault;
@@ -70,6 +71,7 @@ impl Given {
 /// Errors: `Read`, `Write` where a read or a write failed, `Memory`. What stands for no octets is
 /// no error here: it is reported on standard error, and the status says so. Where a part isn't read
 /// for the configured part size, a note on standard error says which one fits, if one does. Where
+/// more is asked for, the areas that they name are printed too, and which segment they are. Where
 /// layouts are given, they are read by these, and the note says by which other one they would be.
 pub fn decode(rt: &HostRuntime, config: Config, words: &DecodeWords<'_>) -> Result<Status, Failure>
     requires { IsPartSize config.part_size }
@@ -87,8 +89,20 @@ pub fn decode(rt: &HostRuntime, config: Config, words: &DecodeWords<'_>) -> Resu
     let octets = octets.as_slice();
     match words.layout {
         Some(path) if octets.len() >= LEAST_PACKET => decode_as(rt, path, octets),
-        _ => decode_octets(rt, octets, config.part_size),
+        Some(path) => decode_short(rt, path, octets, config.part_size),
+        None if words.more => decode_more(rt, octets, config.part_size),
+        None => decode_octets(rt, octets, "", config.part_size),
     }
+}
+
+// Prints what octets are that are too few for a packet, once the layouts at this path were read.
+fn decode_short(rt: &HostRuntime, path: &str, octets: &[u8], p: u32) -> Result<Status, Failure>
+    requires { IsPartSize p }
+{
+    let Some(_layouts) = layouts::read(rt, path)? else {
+        return Ok(Status::Unreadable);
+    };
+    decode_octets(rt, octets, "", p)
 }
 
 // Prints what octets are as a packet of the layouts of the file at this path.
@@ -106,19 +120,34 @@ fn decode_as(rt: &HostRuntime, path: &str, octets: &[u8]) -> Result<Status, Fail
     Ok(status_of(!is_read(&layouts, octets)))
 }
 
-// Prints what octets are as a packet, for parts of `p` octets.
-fn decode_octets(rt: &HostRuntime, octets: &[u8], p: u32) -> Result<Status, Failure>
+// Prints what octets are as a packet, for parts of `p` octets, and behind that these lines.
+fn decode_octets(rt: &HostRuntime, octets: &[u8], behind: &str, p: u32) -> Result<Status, Failure>
+    requires { IsPartSize p }
+{
+    let mut out = output(rt)?;
+    let decoded = lpt_tool::decode(rt.alloc(), octets, p, &mut out);
+    let written = match decoded {
+        Ok(_) => write_out(&mut out, behind.as_bytes()),
+        Err(_) => Ok(()),
+    };
+    finish(rt, out)?;
+    let is_faulty = decoded?;
+    written?;
+    tell_size(rt, octets, p);
+    Ok(status_of(is_faulty))
+}
+
+// The same with the areas that they name, or with which segment they are.
+fn decode_more(rt: &HostRuntime, octets: &[u8], p: u32) -> Result<Status, Failure>
     requires { IsPartSize p }
 {
     if octets.len() >= LEAST_PACKET && matches!(read_packet(octets), Err(PacketFault::Segmented)) {
         return decode_segment(rt, octets);
     }
-    let mut out = output(rt)?;
-    let decoded = lpt_tool::decode(rt.alloc(), octets, p, &mut out);
-    finish(rt, out)?;
-    let is_faulty = decoded?;
-    tell_size(rt, octets, p);
-    Ok(status_of(is_faulty))
+    match print_areas(rt.alloc(), octets) {
+        Ok(areas) => decode_octets(rt, octets, areas.as_str(), p),
+        Err(_) => Err(Failure::from(ToolFault::Memory)),
+    }
 }
 
 // Prints which segment of a message in several packets octets are.

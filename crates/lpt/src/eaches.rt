@@ -1,21 +1,22 @@
 //! Every message of packets, each written into a file of its own.
 
+ghost use Rattle.std.specs.Prelude.{◌≡◌, IfErr};
 ghost use Rattle.lpt_events.specs.Configs.{IsConfig};
 
 use crate::end::{Failure, Status};
 use crate::input::{Packets, opened_packets, packets_end};
-use crate::joins::{tell, tell_missing, tell_skips, tell_unfit};
+use crate::joins::{tell, tell_of, tell_skips, tell_unfit};
 use crate::progress::Voice;
 use crate::saving::write_beside;
 use lpt_command_line::JoinWords;
-use lpt_each::{News, Taker, each_stream};
+use lpt_each::{Came, News, Taker, each_stream};
 use lpt_events::Config;
-use lpt_join::Transaction;
+use lpt_join::{Transaction, missing_list};
 use lpt_packet::{Direction, Name};
 use lpt_skips::Skips;
 use lpt_text::StreamFault;
 use lpt_tool::ToolFault;
-use std::alloc::AllocError;
+use std::alloc::{AllocError, Global};
 use std::collections::BTreeMap;
 use std::fs;
 
@@ -45,29 +46,55 @@ impl Taker for Folder<'_> {
     fn take(&mut self, name: Name, news: &News) -> Result<(), StreamFault> {
         self.came = true;
         match news {
-            News::Given(message) => match self.write(name, message.as_slice()) {
-                Ok(()) => Ok(()),
-                Err(failure) => {
-                    self.failure = Some(failure);
-                    Err(StreamFault::Write)
-                }
-            },
-            lost => {
-                self.lost = true;
-                match self.tell(name, lost) {
-                    Ok(()) => Ok(()),
-                    Err(_) => Err(StreamFault::Memory),
-                }
+            News::Given(message) => self.write_given(name, message.as_slice()),
+            News::Overtaken(_, message) => {
+                self.tell_given_up(name, news)?;
+                self.write_given(name, message.as_slice())
             }
+            lost => self.tell_given_up(name, lost),
         }
     }
 }
 
 impl Folder<'_> {
+    // Writes a message that became whole.
+    //
+    // Errors: `Write`.
+    fn write_given(&mut self, name: Name, message: &[u8]) -> Result<(), StreamFault>
+        ensures { IfErr result (λ e. e ≡ StreamFault.Write) }
+    {
+        match self.write(name, message) {
+            Ok(()) => Ok(()),
+            Err(failure) => {
+                self.failure = Some(failure);
+                Err(StreamFault::Write)
+            }
+        }
+    }
+
+    // Says and notes that parts never became whole. The only error is out of memory.
+    fn tell_given_up(&mut self, name: Name, news: &News) -> Result<(), StreamFault>
+        ensures { IfErr result (λ e. e ≡ StreamFault.Memory) }
+    {
+        self.lost = true;
+        match self.tell(name, news) {
+            Ok(()) => Ok(()),
+            Err(_) => Err(StreamFault::Memory),
+        }
+    }
+
     // Says what never became whole. The only error is out of memory.
     fn tell(&self, name: Name, news: &News) -> Result<(), AllocError> {
         self.voice.clear(self.rt);
-        tell_lost(self.rt, self.config, self.words.direction, name, news)
+        let behind = self.words.span.from.unwrap_or(0);
+        tell_lost(
+            self.rt,
+            self.config,
+            self.words.direction,
+            behind,
+            name,
+            news,
+        )
     }
 
     // Writes a message into a new file: all of it, or there is none of that name.
@@ -110,19 +137,33 @@ pub fn write_new(rt: &HostRuntime, path: &str, octets: &[u8]) -> Result<(), Fail
     write_beside(rt, path, octets)
 }
 
-/// Says what of a name never became whole. The only error is out of memory.
+/// Says what of a name never became whole, in a stream behind so many octets. The only error is out
+/// of memory.
 pub fn tell_lost(
     rt: &HostRuntime,
     config: &Config,
     direction: Direction,
+    behind: u64,
     name: Name,
     news: &News,
 ) -> Result<(), AllocError> {
     match news {
         News::Given(_) => Ok(()),
-        News::Dropped(came) => tell_missing(rt, config, direction, true, name, came),
+        News::Dropped(came) | News::Overtaken(came, _) => {
+            let text = missing_text(rt.alloc(), behind, name, came);
+            tell_of(rt, config, direction, name, text)
+        }
         News::Unfit(misfit) => tell_unfit(rt, config, direction, name, *misfit),
     }
+}
+
+// Which parts of a message are missing, as a list for `split --each`, and from where on others of
+// it came. The only error is out of memory.
+fn missing_text(alloc: Global, behind: u64, name: Name, came: &Came) -> Result<String, AllocError> {
+    let id = name.id;
+    let list = missing_list(alloc, &came.numbers)?;
+    let place = came.place.unwrap_or(0).saturating_add(behind);
+    format!(in alloc; "from octet {place} on, missing parts: {id}:{list}")
 }
 
 /// Writes every message that packets carry, each into a file of its own in this folder, which is

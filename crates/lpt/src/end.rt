@@ -109,6 +109,13 @@ pub fn tell_place(rt: &impl Eprint, place: &str) {
     let _ = rt.eprintln("");
 }
 
+/// Says so of a text, unless there was no memory for it.
+pub fn tell_text(rt: &impl Eprint, text: Result<String, AllocError>) {
+    if let Ok(text) = text {
+        tell_place(rt, text.as_str());
+    }
+}
+
 // Names a fault on standard error, and gives the status that it ends by.
 fn named(rt: &impl Eprint, fault: ToolFault) -> Status {
     match fault {

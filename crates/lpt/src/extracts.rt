@@ -2,9 +2,9 @@
 
 ghost use Rattle.lpt_events.specs.Configs.{IsConfig};
 
-use crate::counts::tell_no_packets;
+use crate::counts::{octets_word, tell_no_packets};
 use crate::eaches::tell_lost;
-use crate::end::{Failure, Status, tell_place};
+use crate::end::{Failure, Status, tell_place, tell_text};
 use crate::input::{Packets, opened_packets, packets_end};
 use crate::layout_extracts;
 use crate::progress::Voice;
@@ -64,7 +64,7 @@ impl Taker for Losses<'_> {
         }
         self.lost = true;
         self.voice.clear(self.rt);
-        match tell_lost(self.rt, self.config, Direction::Down, name, news) {
+        match tell_lost(self.rt, self.config, Direction::Down, 0, name, news) {
             Ok(()) => Ok(()),
             Err(_) => Err(StreamFault::Memory),
         }
@@ -211,7 +211,7 @@ pub fn extract_status(
         ExtractEnd::Nothing => tell_nothing(rt, wanted, &extracted.tally),
         ExtractEnd::TooLarge(_) => {}
     }
-    tell_no_packets(rt, extracted.tally.damaged, extracted.tally.stray);
+    tell_no_packets(rt, "", extracted.tally.damaged, extracted.tally.stray);
     match extracted.end {
         ExtractEnd::TooLarge(size) => {
             let place = format!(in rt.alloc();
@@ -257,13 +257,6 @@ fn tell_nothing(rt: &HostRuntime, wanted: &Wanted, tally: &Tally) {
     }
 }
 
-// Tells a text, unless there was no memory for it.
-fn tell_text(rt: &HostRuntime, text: Result<String, AllocError>) {
-    if let Ok(text) = text {
-        tell_place(rt, text.as_str());
-    }
-}
-
 // Why nothing was written. The only error is out of memory.
 fn nothing_text(alloc: Global, wanted: &Wanted) -> Result<String, AllocError> {
     match wanted.at {
@@ -278,37 +271,40 @@ fn nothing_text(alloc: Global, wanted: &Wanted) -> Result<String, AllocError> {
 
 // What is reported of an area or a report, where something is. The only error is out of memory.
 fn notice_text(alloc: Global, notice: Notice) -> Result<Option<String>, AllocError> {
-    match notice {
-        Notice::Taken(
-            Span {
-                memory,
-                address,
-                len,
-            },
-        ) => {
-            let text = format!(in alloc; "memory {memory}, address {address}: {len} octets")?;
-            Ok(Some(text))
+    let text = match notice {
+        Notice::Taken(span) => area_text(alloc, span)?,
+        Notice::PastEnd(span, place) => {
+            passed_text(alloc, span, place, "the area ends past address 4294967295")?
         }
-        Notice::WrongChecksum(
-            Span {
-                memory,
-                address,
-                len,
-            },
-            place,
-        ) => {
-            let text = format!(in alloc;
-                "memory {memory}, address {address}: {len} octets passed over at octet {place}: \
-                their checksum is wrong"
-            )?;
-            Ok(Some(text))
+        Notice::WrongChecksum(span, place) => {
+            passed_text(alloc, span, place, "the checksum is wrong")?
         }
         Notice::Unread(len, place) => {
-            let text = format!(in alloc;
-                "a dump report passed over at octet {place}: its body of {len} octets isn't read"
-            )?;
-            Ok(Some(text))
+            let octets = octets_word(len);
+            format!(in alloc;
+                "a dump report passed over at octet {place}: its body of {len} {octets} isn't read"
+            )?
         }
-        Notice::OtherMemory(_) | Notice::OtherApid(_) | Notice::Damaged | Notice::Stray => Ok(None),
-    }
+        Notice::OtherMemory(_) | Notice::OtherApid(_) | Notice::Damaged | Notice::Stray => {
+            return Ok(None);
+        }
+    };
+    Ok(Some(text))
+}
+
+// Where the octets of an area stand, and how many they are.
+fn area_text(alloc: Global, span: Span) -> Result<String, AllocError> {
+    let Span {
+        memory,
+        address,
+        len,
+    } = span;
+    let octets = octets_word(len);
+    format!(in alloc; "memory {memory}, address {address}: {len} {octets}")
+}
+
+// That an area was passed over, at which place, and why.
+fn passed_text(alloc: Global, span: Span, place: u64, why: &str) -> Result<String, AllocError> {
+    let area = area_text(alloc, span)?;
+    format!(in alloc; "{area} passed over at octet {place}: {why}")
 }

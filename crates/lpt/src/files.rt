@@ -2,12 +2,17 @@
 
 ghost use Rattle.lpt_events.specs.Configs.{IsConfig};
 
+use crate::counts::octets_word;
 use crate::end::{Failure, Status, tell_place};
 use crate::input::{Incoming, opened, read_failure};
 use crate::streams::{finish, first_failure, output};
 use lpt_command_line::SplitWords;
 use lpt_events::Config;
+use lpt_join::{Misfit, check_message};
+use lpt_packet::LONGEST_PACKET;
+use lpt_sources::Keeping;
 use lpt_split::{Form, SplitEnd, Wanted, split_message};
+use lpt_stream::whole_length;
 use lpt_text::StreamFault;
 use std::alloc::{AllocError, Global};
 
@@ -18,7 +23,10 @@ pub fn split(rt: &HostRuntime, config: &Config, words: &SplitWords<'_>) -> Resul
     requires { IsConfig config.now }
 {
     let wanted = wanted(words, config.source);
-    let mut source = opened(rt, words.file)?;
+    let message = opened(rt, words.file)?;
+    let Ok(mut source) = Keeping::new(rt.alloc(), message, LONGEST_PACKET) else {
+        return Err(Failure::from(StreamFault::Memory));
+    };
     let status = split_from(rt, config, words, &wanted, &mut source);
     drop(source);
     status
@@ -30,20 +38,47 @@ fn split_from(
     config: &Config,
     words: &SplitWords<'_>,
     wanted: &Wanted<'_>,
-    source: &mut Incoming,
+    source: &mut Keeping<Incoming>,
 ) -> Result<Status, Failure>
     requires { IsConfig config.now }
 {
     let mut out = output(rt)?;
     let split = split_message(rt.alloc(), config, wanted, source, &mut out);
     let failure = match split {
-        Err(StreamFault::Read) => Some(read_failure(rt, source, words.file)),
+        Err(StreamFault::Read) => Some(read_failure(rt, source.source(), words.file)),
         _ => None,
     };
     first_failure(finish(rt, out), failure)?;
     match split {
-        Ok(end) => Ok(split_status(rt, config, words, end)),
+        Ok(end) => {
+            if let (SplitEnd::Written, Err(misfit)) = (
+                end,
+                check_message(words.direction, source.kept()),
+            ) {
+                tell_misfit(rt, misfit, source.kept());
+            }
+            Ok(split_status(rt, config, words, end))
+        }
         Err(fault) => Err(Failure::from(fault)),
+    }
+}
+
+// Says that what was split is no message, so that whoever joins it gets none, and by which word
+// several packets are split.
+fn tell_misfit(rt: &HostRuntime, misfit: Misfit, octets: &[u8]) {
+    let text = match misfit {
+        Misfit::OtherKind => format!(in rt.alloc(); "what was split is no packet of its direction"),
+        Misfit::NoPacket(fault) => {
+            let (code, name) = (fault.code(), fault.name());
+            let each = match whole_length(octets) {
+                Some(len) if len < octets.len() => "; --each splits each packet of a file",
+                _ => "",
+            };
+            format!(in rt.alloc(); "what was split is no packet: fault {code} {name}{each}")
+        }
+    };
+    if let Ok(text) = text {
+        tell_place(rt, text.as_str());
     }
 }
 
@@ -92,8 +127,9 @@ fn split_place(
     let parts = words.parts;
     match end {
         SplitEnd::Written => Ok(String::new(alloc)),
-        SplitEnd::Short(octets) => {
-            format!(in alloc; "a message of {octets} octets isn't split: a part has {least}")
+        SplitEnd::Short(len) => {
+            let octets = octets_word(len);
+            format!(in alloc; "a message of {len} {octets} isn't split: a part has {least}")
         }
         SplitEnd::Long => format!(in alloc; "a message of more than 65542 octets isn't split"),
         SplitEnd::NoSuchPart(last) => {

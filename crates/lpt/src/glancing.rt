@@ -34,9 +34,13 @@ pub fn glance(
     let seen = look(rt.alloc(), view, &mut source);
     let failed = matches!(seen, Err(StreamFault::Read));
     let failure = packets_end(rt, voice, &source, &paths, failed);
+    let is_short = source.before() > 0;
     drop(source);
     match (seen, failure) {
-        (Ok(glance), None) => drawn(rt, config.source, glance),
+        (Ok(glance), None) => {
+            let status = drawn(rt, config.source, glance)?;
+            Ok(if is_short { Status::Refused } else { status })
+        }
         (Ok(glance), Some(failure)) => {
             drop(glance);
             Err(failure)

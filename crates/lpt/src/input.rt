@@ -1,5 +1,6 @@
 //! What is read: a file, or standard input for `-`.
 
+use crate::counts::octets_word;
 use crate::end::{Failure, tell_place};
 use crate::progress::{Paced, Voice};
 use crate::recalled::{Kept, Recalled, Script};
@@ -9,6 +10,7 @@ use lpt_packet::Octets;
 use lpt_sources::{Chain, Span};
 use lpt_text::{End, FromStd, read_text};
 use lpt_tool::ToolFault;
+use std::alloc::Global;
 use std::fs::File;
 use std::io::{self, Read, StdinLock};
 
@@ -174,13 +176,17 @@ pub fn read_failure(rt: &HostRuntime, source: &Incoming, path: &str) -> Failure 
             let place = format!(in rt.alloc(); "{name}: {error}");
             Failure::at(ToolFault::Read, place)
         }
-        None => Failure::from(ToolFault::Read),
+        None => {
+            let name = name_of(path);
+            let place = format!(in rt.alloc(); "{name}: its places go past 18446744073709551615");
+            Failure::at(ToolFault::Read, place)
+        }
     }
 }
 
 /// Why the packets that are read at these paths failed, where a read did. Else standard error is
-/// told which captures end within a record, where the voice tells that: what stands in front of it
-/// was read.
+/// told where they end before the place from which on they are read, and which captures end within
+/// a record, where the voice tells that: what stands in front of it was read.
 pub fn packets_end(
     rt: &HostRuntime,
     voice: Voice,
@@ -190,6 +196,9 @@ pub fn packets_end(
 ) -> Option<Failure> {
     if failed {
         return Some(packets_failure(rt, packets, paths));
+    }
+    if let Some(text) = short_text(rt.alloc(), packets) {
+        tell_place(rt, text.as_str());
     }
     if !voice.tells() {
         return None;
@@ -203,6 +212,16 @@ pub fn packets_end(
         }
     }
     None
+}
+
+// How far behind their end the place is from which on packets are read, if it is.
+fn short_text(alloc: Global, packets: &Packets) -> Option<String> {
+    let before = packets.before();
+    if before == 0 {
+        return None;
+    }
+    let octets = octets_word(usize::try_from(before).unwrap_or(usize::MAX));
+    format!(in alloc; "--from is {before} {octets} beyond the end").ok()
 }
 
 // Why the packets that are read at these paths failed: what is wrong with a capture, or the read.

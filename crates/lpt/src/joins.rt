@@ -242,14 +242,7 @@ fn tell_end(
         JoinEnd::Written(_) if against.is_none() => return Ok(Status::Done),
         JoinEnd::Written(_) | JoinEnd::BrokenOff => {}
         JoinEnd::Unfit(misfit) => tell_unfit(rt, config, words.direction, name, misfit)?,
-        JoinEnd::Missing => tell_missing(
-            rt,
-            config,
-            words.direction,
-            words.each.is_some(),
-            name,
-            came,
-        )?,
+        JoinEnd::Missing => tell_missing(rt, config, words.direction, name, came)?,
     }
     if let Some(behind) = against {
         let place = behind.saturating_add(words.span.from.unwrap_or(0));
@@ -293,28 +286,21 @@ pub fn tell_unfit(
     tell_of(rt, config, direction, name, text)
 }
 
-/// Says on standard error which parts are missing, as a list for `split`, or for `split --each`
-/// where every message is written. The only error is out of memory.
-pub fn tell_missing(
+// Says which parts are missing, as a list for `split`. The only error is out of memory.
+fn tell_missing(
     rt: &HostRuntime,
     config: &Config,
     direction: Direction,
-    each: bool,
     name: Name,
     came: &PartNumbers,
 ) -> Result<(), AllocError> {
     let list = missing_list(rt.alloc(), came)?;
-    let text = if each {
-        let id = name.id;
-        format!(in rt.alloc(); "missing parts: {id}:{list}")
-    } else {
-        format!(in rt.alloc(); "missing parts: {list}")
-    };
+    let text = format!(in rt.alloc(); "missing parts: {list}");
     tell_of(rt, config, direction, name, text)
 }
 
-// Says this of a transaction on standard error, where there was memory for it.
-fn tell_of(
+/// Says this of a transaction on standard error, where there was memory for it.
+pub fn tell_of(
     rt: &HostRuntime,
     config: &Config,
     direction: Direction,

@@ -1,5 +1,7 @@
 //! Every message of packets that a mission lays out, each written into a file of its own.
 
+ghost use Rattle.std.specs.Prelude.{◌≡◌, IfErr};
+
 use crate::eaches::write_new;
 use crate::end::{Failure, Status};
 use crate::input::{Packets, packets_end};
@@ -26,6 +28,8 @@ struct Folder<'a> {
     user: u32,
     reading: ReadingAs,
     path: &'a str,
+    // From which octet on packets are taken.
+    from: u64,
     // How many messages of each name were written.
     counts: BTreeMap<NameAs, u64>,
     // Whether a part came, and whether parts never became whole.
@@ -43,26 +47,44 @@ impl TakerAs for Folder<'_> {
     fn take(&mut self, name: NameAs, news: &NewsAs) -> Result<(), StreamFault> {
         self.came = true;
         match news {
-            NewsAs::Given(message) => match self.write(name, message.as_slice()) {
-                Ok(()) => Ok(()),
-                Err(failure) => {
-                    self.failure = Some(failure);
-                    Err(StreamFault::Write)
-                }
-            },
-            lost => {
-                self.lost = true;
-                self.voice.clear(self.rt);
-                match tell_lost(self.rt, self.user, &self.reading, name, lost) {
-                    Ok(()) => Ok(()),
-                    Err(_) => Err(StreamFault::Memory),
-                }
+            NewsAs::Given(message) => self.write_given(name, message.as_slice()),
+            NewsAs::Overtaken(_, message) => {
+                self.tell_given_up(name, news)?;
+                self.write_given(name, message.as_slice())
             }
+            lost => self.tell_given_up(name, lost),
         }
     }
 }
 
 impl Folder<'_> {
+    // Writes a message that became whole.
+    //
+    // Errors: `Write`.
+    fn write_given(&mut self, name: NameAs, message: &[u8]) -> Result<(), StreamFault>
+        ensures { IfErr result (λ e. e ≡ StreamFault.Write) }
+    {
+        match self.write(name, message) {
+            Ok(()) => Ok(()),
+            Err(failure) => {
+                self.failure = Some(failure);
+                Err(StreamFault::Write)
+            }
+        }
+    }
+
+    // Says and notes that parts never became whole. The only error is out of memory.
+    fn tell_given_up(&mut self, name: NameAs, news: &NewsAs) -> Result<(), StreamFault>
+        ensures { IfErr result (λ e. e ≡ StreamFault.Memory) }
+    {
+        self.lost = true;
+        self.voice.clear(self.rt);
+        match tell_lost(self.rt, self.user, &self.reading, self.from, name, news) {
+            Ok(()) => Ok(()),
+            Err(_) => Err(StreamFault::Memory),
+        }
+    }
+
     // Writes a message into a new file: all of it, or there is none of that name.
     //
     // Errors: `Write`, also where there is a file of its name; `Memory`.
@@ -85,19 +107,22 @@ impl Folder<'_> {
     }
 }
 
-/// Says what of a name never became whole, where this source is configured. The only error is out
-/// of memory.
+/// Says what of a name never became whole, where this source is configured and packets are taken
+/// from this octet on. The only error is out of memory.
 pub fn tell_lost(
     rt: &HostRuntime,
     user: u32,
     reading: &ReadingAs,
+    from: u64,
     name: NameAs,
     news: &NewsAs,
 ) -> Result<(), AllocError> {
     let who = who(rt.alloc(), user, reading, Some(name))?;
     match news {
         NewsAs::Given(_) => Ok(()),
-        NewsAs::Dropped(came) => tell(rt, missing_text(rt.alloc(), &who, Some(name), came)),
+        NewsAs::Dropped(came) | NewsAs::Overtaken(came, _) => {
+            tell(rt, missing_text(rt.alloc(), &who, Some(name), came, from))
+        }
         NewsAs::Unfit(misfit) => tell(rt, unfit_text(rt.alloc(), &who, *misfit)),
     }
 }
@@ -126,6 +151,7 @@ pub fn join_each<'a>(
         user,
         reading: *reading,
         path,
+        from: words.span.from.unwrap_or(0),
         counts: BTreeMap::new(rt.alloc()),
         came: false,
         lost: false,

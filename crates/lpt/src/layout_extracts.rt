@@ -42,7 +42,7 @@ impl TakerAs for Losses<'_> {
         }
         self.lost = true;
         self.voice.clear(self.rt);
-        match tell_lost(self.rt, self.user, self.reading, name, news) {
+        match tell_lost(self.rt, self.user, self.reading, 0, name, news) {
             Ok(()) => Ok(()),
             Err(_) => Err(StreamFault::Memory),
         }

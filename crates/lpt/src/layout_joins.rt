@@ -1,5 +1,6 @@
 //! Messages joined of packets of a mission's layout, from files to standard output.
 
+use crate::counts::octets_word;
 use crate::end::{Failure, Status, tell_place};
 use crate::input::{Packets, opened_packets, packets_end};
 use crate::joins::tell;
@@ -132,7 +133,11 @@ fn told(
     let who = who(rt.alloc(), source, reading, joined.heard.name)?;
     let from = words.span.from.unwrap_or(0);
     if let (None, Some(size)) = (reading.part_size, joined.heard.came.size()) {
-        tell(rt, format!(in rt.alloc(); "{who}: parts of {size} octets"))?;
+        let octets = octets_word(size);
+        tell(
+            rt,
+            format!(in rt.alloc(); "{who}: parts of {size} {octets}"),
+        )?;
     }
     let ended = tell_end(rt, source, words, &who, from, joined)?;
     if !matches!(joined.end, EndAs::Written(_)) {
@@ -191,7 +196,7 @@ fn tell_end(
             _ => return Ok(Status::Done),
         },
         EndAs::Unfit(misfit) => unfit_text(alloc, who, misfit),
-        EndAs::Missing => missing_text(alloc, who, joined.heard.name, came),
+        EndAs::Missing => missing_text(alloc, who, joined.heard.name, came, from),
         EndAs::BrokenOff(behind) => broken_text(alloc, who, behind.saturating_add(from)),
         EndAs::Several => several_text(alloc, source, who, joined.heard.other),
     };
@@ -214,6 +219,10 @@ pub fn unfit_text(alloc: Global, who: &str, misfit: MisfitAs) -> Result<String, 
     let joined = "what was joined is no packet";
     match misfit {
         MisfitAs::OtherKind => format!(in alloc; "{who}: {joined} of its direction"),
+        MisfitAs::Unsure => format!(in alloc;
+            "{who}: whole, but its parts didn't come in order, or sequence counts are missing \
+             between them: join --any writes it"
+        ),
         MisfitAs::NoPacket(fault) => {
             let (code, word) = (fault.code(), fault.name());
             format!(in alloc; "{who}: {joined}: fault {code} {word}")
@@ -221,12 +230,14 @@ pub fn unfit_text(alloc: Global, who: &str, misfit: MisfitAs) -> Result<String, 
     }
 }
 
-/// That no part came, or which are missing.
+/// That no part came, or which are missing, and where the first stands that came, where that is
+/// known.
 pub fn missing_text(
     alloc: Global,
     who: &str,
     name: Option<NameAs>,
     came: &CameAs,
+    from: u64,
 ) -> Result<String, AllocError> {
     if name.is_none() {
         return format!(in alloc; "{who}: no part of a message came");
@@ -235,7 +246,13 @@ pub fn missing_text(
     let list = missing_list(alloc, &numbers);
     drop(numbers);
     let list = list?;
-    format!(in alloc; "{who}: missing parts: {list}")
+    match came.began() {
+        Some(began) => {
+            let place = began.saturating_add(from);
+            format!(in alloc; "{who}: from octet {place} on, missing parts: {list}")
+        }
+        None => format!(in alloc; "{who}: missing parts: {list}"),
+    }
 }
 
 // The numbers of the parts that came, up to 65,535.

@@ -55,6 +55,7 @@ fn list_packets(
     first_failure(finish(rt, out), failure)?;
     match listed {
         Ok(listed) => match list_status(rt, listed) {
+            Ok(Status::Done) if source.before() > 0 => Ok(Status::Refused),
             Ok(status) => Ok(status),
             Err(_) => Err(Failure::from(StreamFault::Memory)),
         },

@@ -3,14 +3,16 @@
 ghost use Rattle.lpt_events.specs.Configs.{IsConfig};
 ghost use Rattle.lpt_layout.specs.Parts.{IsPartSizeAs};
 
+use crate::counts::octets_word;
 use crate::end::{Failure, Status, tell_place};
 use crate::input::{octets_from, opened};
-use crate::layout_joins::user_of;
+use crate::layout_joins::{reading_of, user_of};
 use crate::layouts;
 use crate::streams::{finish, output};
 use lpt_command_line::SplitLayoutWords;
 use lpt_events::Config;
 use lpt_layout_file::{Layouts, Tailored};
+use lpt_layout_join::{MisfitAs, unfit};
 use lpt_layout_split::{SplitAs, WantedAs, split_as};
 use lpt_text::write_out;
 use std::alloc::{AllocError, Global};
@@ -78,8 +80,32 @@ fn split_octets(
     };
     finish(rt, out)?;
     match split {
-        Ok(end) => Ok(split_status(rt, &wanted, words, end)),
+        Ok(end) => {
+            let reading = reading_of(layouts, config.apid, words.direction);
+            if let (SplitAs::Written, Some(misfit)) = (end, unfit(&reading, false, true, message)) {
+                tell_misfit(rt, misfit);
+            }
+            Ok(split_status(rt, &wanted, words, end))
+        }
         Err(fault) => Err(Failure::from(fault)),
+    }
+}
+
+// Says that what was split is no message of the layout, so that whoever joins it gets none.
+fn tell_misfit(rt: &HostRuntime, misfit: MisfitAs) {
+    let text = match misfit {
+        // It is whole, so that doesn't come.
+        MisfitAs::Unsure => return,
+        MisfitAs::OtherKind => {
+            format!(in rt.alloc(); "what was split is no packet of its direction")
+        }
+        MisfitAs::NoPacket(fault) => {
+            let (code, name) = (fault.code(), fault.name());
+            format!(in rt.alloc(); "what was split is no packet: fault {code} {name}")
+        }
+    };
+    if let Ok(text) = text {
+        tell_place(rt, text.as_str());
     }
 }
 
@@ -148,8 +174,9 @@ fn split_place(
     let parts = words.parts;
     match end {
         SplitAs::Written => Ok(String::new(alloc)),
-        SplitAs::Short(octets) => {
-            format!(in alloc; "a message of {octets} octets isn't split: a part has {least}")
+        SplitAs::Short(len) => {
+            let octets = octets_word(len);
+            format!(in alloc; "a message of {len} {octets} isn't split: a part has {least}")
         }
         SplitAs::Long => {
             format!(in alloc; "a message of more than 65542 octets or 65535 parts isn't split")

@@ -69,7 +69,11 @@ fn list_packets(
                 tell_front(rt, listed.tally, source.kept());
                 tell_size(rt, source.kept(), size);
             }
-            Ok(list_status(rt, voice, listed))
+            let is_short = source.source().before() > 0;
+            match list_status(rt, voice, listed) {
+                Status::Done if is_short => Ok(Status::Refused),
+                status => Ok(status),
+            }
         }
         Err(fault) => Err(Failure::from(fault)),
     }

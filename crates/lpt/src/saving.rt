@@ -2,9 +2,13 @@
 
 use crate::end::Failure;
 use lpt_tool::ToolFault;
-use std::fs::File;
-use std::io::Write;
+use std::fs::{File, Metadata, OpenOptions};
+use std::io::{ErrorKind, Write};
+use std::os::unix::fs::{MetadataExt, OpenOptionsExt, fchown};
 use std::{fs, io};
+
+/// How many symbolic links a path leads through at most, as on the system.
+const LINKS: usize = 40;
 
 /// Writes octets under another name, and gives them this one once all are there.
 ///
@@ -17,15 +21,77 @@ pub fn write_beside(rt: &HostRuntime, path: &str, octets: &[u8]) -> Result<(), F
     }
 }
 
-/// The same, and forces to the disk first the octets, and then the name.
+/// The same, and forces to the disk first the octets, and then the name. Where this path is a
+/// symbolic link, it is the file behind it that is written. The file's mode stays, and where the
+/// system allows it the owner.
 ///
 /// Errors: `Write`; the file at this path is as it was then, or has these octets where its name
 /// alone couldn't be forced. `Memory`.
 pub fn write_for_good(rt: &HostRuntime, path: &str, octets: &[u8]) -> Result<(), Failure> {
-    let part = part_of(rt, path)?;
-    match forced(rt, part.as_str(), path, octets) {
-        Ok(()) => Ok(()),
-        Err(error) => Err(given_up(rt, part.as_str(), path, &error)),
+    let path = match file_behind(rt, path) {
+        Ok(path) => path,
+        Err(error) => return Err(not_written(rt, path, &error)),
+    };
+    let part = part_of(rt, path.as_str())?;
+    let (path, part) = (path.as_str(), part.as_str());
+    let old = match known_at(rt, path) {
+        Ok(old) => old,
+        Err(error) => return Err(not_written(rt, path, &error)),
+    };
+    match part_opened(rt, part, old.is_some()) {
+        Ok(file) => match forced(rt, file, &old, part, path, octets) {
+            Ok(()) => Ok(()),
+            Err(error) => Err(given_up(rt, part, path, &error)),
+        },
+        Err(error) => Err(not_written(rt, part, &error)),
+    }
+}
+
+/// The path of the file to which this one leads, through all symbolic links at its end, whether
+/// there is such a file or not.
+///
+/// Errors: a link can't be read, there are too many of them, or memory ran out.
+pub fn file_behind(rt: &HostRuntime, path: &str) -> io::Result<String> {
+    let mut at = format!(in rt.alloc(); "{path}")?;
+    for _ in 0..LINKS {
+        let Some(target) = link_at(rt, at.as_str())? else {
+            return Ok(at);
+        };
+        at = if target.as_str().starts_with('/') {
+            target
+        } else {
+            let folder = folder_of(at.as_str());
+            format!(in rt.alloc(); "{folder}/{target}")?
+        };
+    }
+    Err(io::Error::from(ErrorKind::FilesystemLoop))
+}
+
+// Where the symbolic link at a path leads, where there is one.
+fn link_at(rt: &HostRuntime, path: &str) -> io::Result<Option<String>> {
+    let target = fs::read_link(rt, path);
+    if let Err(error) = &target {
+        if matches!(error.kind(), ErrorKind::InvalidInput | ErrorKind::NotFound) {
+            return Ok(None);
+        }
+    }
+    Ok(Some(target?.into_string()))
+}
+
+// What the system knows of the file at a path, where there is one. It is an error where it is
+// anything else than a file.
+fn known_at(rt: &HostRuntime, path: &str) -> io::Result<Option<Metadata>> {
+    let known = fs::metadata(rt, path);
+    if let Err(error) = &known {
+        if error.kind() == ErrorKind::NotFound {
+            return Ok(None);
+        }
+    }
+    let known = known?;
+    if known.is_file() {
+        Ok(Some(known))
+    } else {
+        Err(io::Error::new(ErrorKind::InvalidInput, "it is no file"))
     }
 }
 
@@ -37,11 +103,17 @@ fn part_of(rt: &HostRuntime, path: &str) -> Result<String, Failure> {
     }
 }
 
+// That a file couldn't be written.
+fn not_written(rt: &HostRuntime, path: &str, error: &io::Error) -> Failure {
+    let place = format!(in rt.alloc(); "{path}: {error}");
+    Failure::at(ToolFault::Write, place)
+}
+
 // What failed, once nothing is left under the other name.
 fn given_up(rt: &HostRuntime, part: &str, path: &str, error: &io::Error) -> Failure {
-    let place = format!(in rt.alloc(); "{path}: {error}");
+    let failure = not_written(rt, path, error);
     let _ = fs::remove_file(rt, part);
-    Failure::at(ToolFault::Write, place)
+    failure
 }
 
 // Writes the octets under the other name, which then becomes the file's.
@@ -50,10 +122,30 @@ fn written(rt: &HostRuntime, part: &str, path: &str, octets: &[u8]) -> io::Resul
     fs::rename(rt, part, path)
 }
 
-// The same, and waits until the octets, and then the name, are on the disk.
-fn forced(rt: &HostRuntime, part: &str, path: &str, octets: &[u8]) -> io::Result<()> {
-    let mut file = File::create(rt, part)?;
-    let put = put_all(&mut file, octets);
+// A new file under the other name, in place of one that a process which died has left. Where it is
+// to have the mode of another, nobody else can read it yet.
+fn part_opened(rt: &HostRuntime, part: &str, is_private: bool) -> io::Result<File> {
+    let _ = fs::remove_file(rt, part);
+    let mut options = OpenOptions::new();
+    options.write(true).create_new(true);
+    if is_private {
+        options.mode(0o600);
+    }
+    options.open(rt, part)
+}
+
+// Writes the octets into it, which then gets the file's name, and waits until the octets, and then
+// the name, are on the disk.
+fn forced(
+    rt: &HostRuntime,
+    file: File,
+    old: &Option<Metadata>,
+    part: &str,
+    path: &str,
+    octets: &[u8],
+) -> io::Result<()> {
+    let mut file = file;
+    let put = put_all(&mut file, old, octets);
     drop(file);
     put?;
     fs::rename(rt, part, path)?;
@@ -63,10 +155,23 @@ fn forced(rt: &HostRuntime, part: &str, path: &str, octets: &[u8]) -> io::Result
     put
 }
 
-// Writes all octets, and waits until they are on the disk.
-fn put_all(file: &mut File, octets: &[u8]) -> io::Result<()> {
+// Writes all octets, gives the file what the old one had besides, and waits until all is on the
+// disk.
+fn put_all(file: &mut File, old: &Option<Metadata>, octets: &[u8]) -> io::Result<()> {
     file.write_all(octets)?;
+    if let Some(old) = old {
+        make_alike(file, old);
+    }
     file.sync_all()
+}
+
+// Gives a file the owner, the group and the mode of another, as far as the system allows it.
+fn make_alike(file: &File, old: &Metadata) {
+    let group = Some(old.gid());
+    if fchown(file, Some(old.uid()), group).is_err() {
+        let _ = fchown(file, None, group);
+    }
+    let _ = file.set_permissions(old.permissions());
 }
 
 // The folder in which a file stands.

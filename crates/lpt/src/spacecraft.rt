@@ -6,30 +6,34 @@ ghost use Rattle.lpt_spacecraft.specs.Keeping.{IsKeptAs};
 ghost use Rattle.lpt_spacecraft.specs.Streams.{IsIdle};
 
 use crate::configuration::read;
-use crate::end::{Failure, Status, tell_place};
+use crate::end::{Failure, Status, tell_place, told};
 use crate::input::{STANDARD, octets_from, opened, read_failure};
-use crate::keeping::StateFile;
+use crate::keeping::{KeptFiles, save_all};
+use crate::locking::locked;
 use crate::logging::Log;
-use crate::saving::write_beside;
+use crate::memories::memories_of;
+use crate::saving::file_behind;
 use crate::streams::{finish, first_failure, output};
 use crate::ticker::Ticker;
 use lpt_command_line::{SettingWords, SpacecraftWords};
 use lpt_events::Config;
 use lpt_memory::Memories;
-use lpt_packet::Octets;
-use lpt_spacecraft::{Keeper, Pace, Spacecraft, Stop, Unkept, serve_stream};
+use lpt_spacecraft::{Keeper, Pace, Spacecraft, Stop, serve_stream};
 use lpt_text::StreamFault;
 use lpt_tool::ToolFault;
 use std::fs;
+use std::io::ErrorKind;
 
 /// Takes the packets of standard input as the spacecraft does, and writes its reports to standard
-/// output. With `--save` the memories go back into their files, whatever ended it. With `--state`
-/// it goes on from that file, if it is there, and is kept in it before anything is written. Octets
-/// that are no packet end it, or with `--resync` are passed over: the status is then the same.
+/// output. With `--save` a memory goes back into its file behind each load that wrote to it, before
+/// that is reported, and all do so at the end, whatever ended it. With `--state` it goes on from
+/// that file, if it is there, and is kept in it before anything is written; no other process can
+/// use that file meanwhile. Octets that are no packet end it, or with `--resync` are passed over:
+/// the status is then the same.
 ///
 /// Errors: `Read` where a file or standard input can't be read, or a file isn't what was kept;
-/// `Config` where the files make no memories; `Write`, also where a file can't be written;
-/// `Memory`.
+/// `Config` where the files make no memories; `Write`, also where a file can't be written, or
+/// another process uses that of the state; `Memory`.
 pub fn spacecraft(
     rt: &HostRuntime,
     settings: &SettingWords<'_>,
@@ -42,34 +46,82 @@ pub fn spacecraft(
         drop(usual);
         memories_of(rt, words)?
     };
-    serve(rt, &config, memories, words)
+    match words.state {
+        Some(path) => serve_locked(rt, &config, memories, words, path),
+        None => {
+            let mut craft = new_craft(rt, &config, memories)?;
+            let ended = serve_saved(rt, &mut craft, words, None);
+            drop(craft);
+            ended
+        }
+    }
 }
 
-// Serves standard input with these memories, or those that were kept, and saves them where that is
-// asked for.
-fn serve(
+// Serves standard input with the spacecraft that was kept in the file at this path, or a new one
+// with these memories, and lets no other process do so meanwhile.
+fn serve_locked(
     rt: &HostRuntime,
     config: &Config,
     memories: Memories,
     words: &SpacecraftWords<'_>,
+    path: &str,
 ) -> Result<Status, Failure>
     requires { IsConfig config.now }
 {
-    let mut craft = match words.state {
-        Some(path) => begun(rt, config, memories, path)?,
-        None => new_craft(rt, config, memories)?,
+    let path = match file_behind(rt, path) {
+        Ok(path) => path,
+        Err(error) => {
+            drop(memories);
+            let place = format!(in rt.alloc(); "{path}: {error}");
+            return Err(Failure::at(ToolFault::Read, place));
+        }
     };
-    let ended = serve_kept(rt, &mut craft, words);
-    let saved = if words.save {
-        save(rt, &craft, words)
-    } else {
-        Ok(())
+    let lock = match locked(rt, path.as_str()) {
+        Ok(lock) => lock,
+        Err(failure) => {
+            drop(memories);
+            return Err(failure);
+        }
     };
+    let ended = serve_begun(rt, config, memories, words, path.as_str());
+    drop(lock);
+    ended
+}
+
+// The same, where no other process does so.
+fn serve_begun(
+    rt: &HostRuntime,
+    config: &Config,
+    memories: Memories,
+    words: &SpacecraftWords<'_>,
+    path: &str,
+) -> Result<Status, Failure>
+    requires { IsConfig config.now }
+{
+    let mut craft = begun(rt, config, memories, path)?;
+    let ended = serve_saved(rt, &mut craft, words, Some(path));
     drop(craft);
-    match saved {
+    ended
+}
+
+// Serves standard input, keeps the state at this path, where it is kept, and saves the memories
+// where that is asked for.
+fn serve_saved(
+    rt: &HostRuntime,
+    craft: &mut Spacecraft,
+    words: &SpacecraftWords<'_>,
+    state: Option<&str>,
+) -> Result<Status, Failure>
+    requires { IsIdle craft.old }
+{
+    let ended = serve_kept(rt, craft, words, state);
+    if !words.save {
+        return ended;
+    }
+    match save_all(rt, craft, words) {
         Ok(()) => ended,
         Err(failure) => {
-            drop(ended);
+            told(rt, ended);
             Err(failure)
         }
     }
@@ -96,8 +148,13 @@ fn begun(
     requires { IsConfig config.now }
     ensures { IfOk result IsIdle }
 {
-    if fs::symlink_metadata(rt, path).is_err() {
-        return new_craft(rt, config, memories);
+    if let Err(error) = fs::metadata(rt, path) {
+        if error.kind() == ErrorKind::NotFound {
+            return new_craft(rt, config, memories);
+        }
+        drop(memories);
+        let place = format!(in rt.alloc(); "{path}: {error}");
+        return Err(Failure::at(ToolFault::Read, place));
     }
     drop(memories);
     let mut source = opened(rt, path)?;
@@ -118,14 +175,12 @@ fn serve_kept(
     rt: &HostRuntime,
     craft: &mut Spacecraft,
     words: &SpacecraftWords<'_>,
+    state: Option<&str>,
 ) -> Result<Status, Failure>
     requires { IsIdle craft.old }
 {
-    let Some(path) = words.state else {
-        return serve_input(rt, craft, words, &mut Unkept);
-    };
-    let mut keeper = StateFile::new(rt, path);
-    if !keeper.keep(craft) {
+    let mut keeper = KeptFiles::new(rt, words, state);
+    if !keeper.keep(craft, &[]) {
         return Err(keeper.into_failure());
     }
     let ended = serve_input(rt, craft, words, &mut keeper);
@@ -190,51 +245,4 @@ fn status_at(rt: &HostRuntime, stop: Stop, has_skipped: bool) -> Status {
         tell_place(rt, text.as_str());
     }
     Status::Refused
-}
-
-// The memories whose first contents are these files.
-fn memories_of(rt: &HostRuntime, words: &SpacecraftWords<'_>) -> Result<Memories, Failure> {
-    let mut list = Vec::new(rt.alloc());
-    match read_memories(rt, words, &mut list) {
-        Ok(()) => {}
-        Err(failure) => {
-            drop(list);
-            return Err(failure);
-        }
-    }
-    match Memories::new(list) {
-        Ok(memories) => Ok(memories),
-        Err(_) => {
-            let place = format!(in rt.alloc();
-                "--memory: each has another ID and 1 to 1048576 octets"
-            );
-            Err(Failure::at(ToolFault::Config, place))
-        }
-    }
-}
-
-fn read_memories(
-    rt: &HostRuntime,
-    words: &SpacecraftWords<'_>,
-    list: &mut Vec<(u8, Octets)>,
-) -> Result<(), Failure> {
-    for (id, file) in &words.memories {
-        let mut source = opened(rt, file)?;
-        let octets = octets_from(rt, file, &mut source);
-        drop(source);
-        if list.push((*id, octets?)).is_err() {
-            return Err(Failure::from(ToolFault::Memory));
-        }
-    }
-    Ok(())
-}
-
-// Writes each memory beside its file, and renames it.
-fn save(rt: &HostRuntime, craft: &Spacecraft, words: &SpacecraftWords<'_>) -> Result<(), Failure> {
-    for (id, file) in &words.memories {
-        if let Some(content) = craft.content(*id) {
-            write_beside(rt, file, content)?;
-        }
-    }
-    Ok(())
 }

@@ -7,6 +7,7 @@ use crate::input::{Incoming, opened, read_failure};
 use crate::streams::{finish, first_failure, output};
 use lpt_command_line::SplitEachWords;
 use lpt_events::Config;
+use lpt_packet::Direction;
 use lpt_split_each::{EachEnd, EachSplit, EachWanted, Pick, split_each};
 use lpt_text::StreamFault;
 use lpt_tool::ToolFault;
@@ -84,6 +85,9 @@ fn told(
 ) -> Result<Status, AllocError> {
     let alloc = rt.alloc();
     match split.end {
+        EachEnd::End if split.next == u32::from(words.name.id) => {
+            tell(rt, format!(in alloc; "no packet came"), Status::Refused)
+        }
         EachEnd::End => tell_unknown(rt, words, split.next),
         EachEnd::Cut(place) | EachEnd::Stray(place) => {
             tell(
@@ -91,6 +95,11 @@ fn told(
                 format!(in alloc; "octet {place}: no packet"),
                 Status::Refused,
             )
+        }
+        EachEnd::NoMessage(place) => {
+            let kind = kind_of(words.direction);
+            let text = format!(in alloc; "octet {place}: this packet is damaged, or no {kind}");
+            tell(rt, text, Status::Refused)
         }
         EachEnd::NoSuchPart(last) => {
             let next = split.next;
@@ -102,6 +111,14 @@ fn told(
             let text = format!(in alloc; "octet {place}: no identifier is left after 65535");
             tell(rt, text, Status::Refused)
         }
+    }
+}
+
+// What packets of a direction are.
+fn kind_of(direction: Direction) -> &'static str {
+    match direction {
+        Direction::Up => "telecommand",
+        Direction::Down => "telemetry",
     }
 }
 

@@ -1,63 +1,37 @@
 //! Requests matched with the reports on them, from files or standard input to standard output.
 
-use crate::end::{Failure, Status};
-use crate::input::{opened_packets, packets_end};
+use crate::counts::tell_no_packets;
+use crate::end::{Failure, Status, tell_text};
+use crate::input::{name_of, opened_packets, packets_end};
 use crate::progress::Voice;
 use crate::streams::{finish, output};
 use lpt_command_line::VerifyWords;
 use lpt_list::Form;
-use lpt_outcomes::{Asked, are_settled, read_reports, read_requests, write_outcomes};
+use lpt_outcomes::{
+    Asked, Passed, Requests, are_settled, read_reports, read_requests, write_outcomes,
+};
 use lpt_text::StreamFault;
+use std::alloc::{AllocError, Global};
 
-/// Says what became of each request, by the reports on it.
+/// Says what became of each request, by the reports on it, and then what of requests and reports
+/// was passed over.
 ///
 /// Errors: `Read` where requests or reports can't be opened or read, or their capture is wrong;
 /// `Write`, `Memory`.
 pub fn verify(rt: &HostRuntime, voice: Voice, words: &VerifyWords<'_>) -> Result<Status, Failure> {
-    let requests = requests_at(rt, voice, words.requests)?;
-    let requests = reported(rt, voice, requests, &words.reports)?;
-    let status = told(rt, &requests, words.json);
-    drop(requests);
-    status
+    let mut requests = requests_at(rt, voice, words.requests)?;
+    let of_reports = reported(rt, voice, &mut requests.asked, &words.reports)?;
+    told(rt, words, &requests, &of_reports)
 }
 
 // The requests of the packets at this path.
-fn requests_at(rt: &HostRuntime, voice: Voice, path: &str) -> Result<Vec<Asked>, Failure> {
+fn requests_at(rt: &HostRuntime, voice: Voice, path: &str) -> Result<Requests, Failure> {
     let paths = [path];
     let mut source = opened_packets(rt, voice, &paths, None, None)?;
     let read = read_requests(rt.alloc(), &mut source);
     let failed = matches!(read, Err(StreamFault::Read));
     let failure = packets_end(rt, voice, &source, &paths, failed);
     drop(source);
-    read_or(read, failure)
-}
-
-// These requests, once the reports of the packets at these paths have come.
-fn reported(
-    rt: &HostRuntime,
-    voice: Voice,
-    requests: Vec<Asked>,
-    paths: &[&str],
-) -> Result<Vec<Asked>, Failure> {
-    let mut source = match opened_packets(rt, voice, paths, None, None) {
-        Ok(source) => source,
-        Err(failure) => {
-            drop(requests);
-            return Err(failure);
-        }
-    };
-    let read = read_reports(rt.alloc(), requests, &mut source);
-    let failed = matches!(read, Err(StreamFault::Read));
-    let failure = packets_end(rt, voice, &source, paths, failed);
-    drop(source);
-    read_or(read, failure)
-}
-
-// What was read, or why it wasn't.
-fn read_or(
-    read: Result<Vec<Asked>, StreamFault>,
-    failure: Option<Failure>,
-) -> Result<Vec<Asked>, Failure> {
     match (read, failure) {
         (Ok(requests), None) => Ok(requests),
         (Ok(requests), Some(failure)) => {
@@ -69,16 +43,116 @@ fn read_or(
     }
 }
 
-// Tells the requests, and gives whether nothing is open of them.
-fn told(rt: &HostRuntime, requests: &[Asked], json: bool) -> Result<Status, Failure> {
-    let form = if json { Form::Json } else { Form::Text };
+// Tells these requests of the reports among the packets at these paths. What was passed over of
+// those.
+fn reported(
+    rt: &HostRuntime,
+    voice: Voice,
+    requests: &mut [Asked],
+    paths: &[&str],
+) -> Result<Passed, Failure> {
+    let mut source = opened_packets(rt, voice, paths, None, None)?;
+    let read = read_reports(rt.alloc(), requests, &mut source);
+    let failed = matches!(read, Err(StreamFault::Read));
+    let failure = packets_end(rt, voice, &source, paths, failed);
+    drop(source);
+    match failure {
+        Some(failure) => Err(failure),
+        None => Ok(read?),
+    }
+}
+
+// Tells the requests, and what was passed over, and gives whether nothing is open of them.
+fn told(
+    rt: &HostRuntime,
+    words: &VerifyWords<'_>,
+    requests: &Requests,
+    of_reports: &Passed,
+) -> Result<Status, Failure> {
+    let form = if words.json { Form::Json } else { Form::Text };
     let mut out = output(rt)?;
-    let written = write_outcomes(rt.alloc(), form, requests, &mut out);
+    let written = write_outcomes(rt.alloc(), form, &requests.asked, &mut out);
     finish(rt, out)?;
     written?;
-    if are_settled(requests) {
+    tell_among_requests(rt, words.requests, requests);
+    tell_among_reports(rt, of_reports);
+    if are_settled(&requests.asked, &requests.passed, of_reports) {
         Ok(Status::Done)
     } else {
         Ok(Status::Refused)
     }
+}
+
+// Tells what of the requests at this path was passed over, and where there is none at all.
+fn tell_among_requests(rt: &HostRuntime, path: &str, requests: &Requests) {
+    let Passed {
+        parts,
+        foreign,
+        damaged,
+        stray,
+        ..
+    } = requests.passed;
+    tell_no_packets(rt, "among the requests: ", damaged, stray);
+    if foreign != 0 {
+        tell_text(rt, strangers_text(rt.alloc(), foreign));
+    }
+    if parts != 0 {
+        tell_text(rt, parts_text(rt.alloc(), parts));
+    }
+    if requests.asked.is_empty() {
+        let name = name_of(path);
+        let text = format!(in rt.alloc();
+            "no request was found in {name}: it should hold what request writes"
+        );
+        tell_text(rt, text);
+    }
+}
+
+// Tells what of the reports was passed over.
+fn tell_among_reports(rt: &HostRuntime, passed: &Passed) {
+    let Passed {
+        foreign,
+        unread,
+        damaged,
+        stray,
+        ..
+    } = *passed;
+    tell_no_packets(rt, "among the reports: ", damaged, stray);
+    if foreign != 0 {
+        let packets = if foreign == 1 {
+            "packet isn't"
+        } else {
+            "packets aren't"
+        };
+        let text = format!(in rt.alloc();
+            "among the reports: {foreign} {packets} read as telemetry"
+        );
+        tell_text(rt, text);
+    }
+    if unread != 0 {
+        let reports = if unread == 1 {
+            "verification report isn't"
+        } else {
+            "verification reports aren't"
+        };
+        let text = format!(in rt.alloc(); "among the reports: {unread} {reports} read");
+        tell_text(rt, text);
+    }
+}
+
+// That so many packets among the requests are no telecommands. The only error is out of memory.
+fn strangers_text(alloc: Global, count: u64) -> Result<String, AllocError> {
+    if count == 1 {
+        format!(in alloc; "among the requests: 1 packet isn't read as a telecommand")
+    } else {
+        format!(in alloc; "among the requests: {count} packets aren't read as telecommands")
+    }
+}
+
+// That so many of the requests are parts. The only error is out of memory.
+fn parts_text(alloc: Global, count: u64) -> Result<String, AllocError> {
+    let parts = if count == 1 { "part" } else { "parts" };
+    format!(in alloc;
+        "among the requests: {count} {parts}: give the requests themselves, not what split wrote"
+    )
 }

@@ -1,7 +1,7 @@
 //! The commands that write requests to a memory, and those that say what became of them.
 
 use crate::commands::{COUNT, JSON, QUIET, TEXT, U8};
-use crate::row::{Family, Named, Need, Row, Word};
+use crate::row::{Configured, Family, Named, Need, Row, Word};
 use clap::ArgAction;
 use clap::builder::ValueParser;
 
@@ -60,12 +60,12 @@ const VERIFY: Row = Row {
             name: "REQUESTS",
             value: TEXT,
             need: Need::One,
-            help: "The requests' path, or - for standard input",
+            help: "The path of the requests, before split, or - for standard input",
         },
         REPORTS,
     ],
     named: &[JSON, QUIET],
-    configured: false,
+    configured: Configured::No,
 };
 
 /// `compare`.
@@ -84,7 +84,7 @@ const COMPARE: Row = Row {
         REPORTS,
     ],
     named: &[QUIET],
-    configured: true,
+    configured: Configured::Packets,
 };
 
 /// `checksum`.
@@ -115,7 +115,7 @@ const CHECKSUM: Row = Row {
             help: "How many octets; without it all after that place",
         },
     ],
-    configured: false,
+    configured: Configured::No,
 };
 
 /// The commands that look at reports.
@@ -152,21 +152,21 @@ pub(crate) static FAMILIES: [Family; 1] = [Family {
                 ACK,
                 COUNT,
             ],
-            configured: true,
+            configured: Configured::Packets,
         },
         Row {
             name: "dump",
             about: "Ask for octets of a memory",
             words: &[MEMORY, PLACES],
             named: &[EACH, ACK, COUNT],
-            configured: true,
+            configured: Configured::Packets,
         },
         Row {
             name: "check",
             about: "Ask for checksums of a memory",
             words: &[MEMORY, PLACES],
             named: &[EACH, ACK, COUNT],
-            configured: true,
+            configured: Configured::Packets,
         },
     ],
 }];

@@ -3,7 +3,7 @@
 use crate::asking::{COMPARISONS, FAMILIES};
 use crate::commands::COMMANDS;
 use crate::passes::PASSES;
-use crate::row::{Family, Named, Row, Word};
+use crate::row::{Configured, Family, Named, Row, Word};
 use crate::setting_words::SETTINGS;
 use clap::builder::ValueParser;
 use clap::{Arg, Command};
@@ -134,12 +134,20 @@ fn words_of<'a>(alloc: Global, row: &'a Row) -> Result<Vec<Arg<'a>>, AllocError>
     for named in row.named {
         words.push(named_of(alloc, named))?;
     }
-    if row.configured {
-        for named in &SETTINGS {
-            words.push(named_of(alloc, named))?;
-        }
+    for named in settings_of(row.configured) {
+        words.push(named_of(alloc, named))?;
     }
     Ok(words)
+}
+
+// The words of a configuration that a command takes.
+fn settings_of(configured: Configured) -> &'static [Named] {
+    match configured {
+        Configured::No => &[],
+        // All but the last, `mode`.
+        Configured::Packets => &SETTINGS[..4],
+        Configured::Nodes => &SETTINGS,
+    }
 }
 
 // A word that is given by its place.

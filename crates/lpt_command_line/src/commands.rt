@@ -1,7 +1,7 @@
 //! The commands, and the words of each.
 
-use crate::layout_words::LAYOUT;
-use crate::row::{Named, Need, Row, Word};
+use crate::layout_words::{LAYOUT, MORE};
+use crate::row::{Configured, Named, Need, Row, Word};
 use clap::ArgAction;
 use clap::builder::ValueParser;
 
@@ -86,28 +86,28 @@ pub(crate) static COMMANDS: [Row; 10] = [
         about: "Run a script of the simulator",
         words: &[SCRIPT],
         named: &[],
-        configured: true,
+        configured: Configured::Nodes,
     },
     Row {
         name: "threads",
         about: "Run a script, and then ten threads on its world",
         words: &[SCRIPT],
         named: &[],
-        configured: true,
+        configured: Configured::Nodes,
     },
     Row {
         name: "shell",
         about: "Answer a script's lines as they are typed",
         words: &[],
         named: &[],
-        configured: true,
+        configured: Configured::Nodes,
     },
     Row {
         name: "lint",
         about: "Print which lines of a script can't be read, and why",
         words: &[SCRIPT],
         named: &[],
-        configured: false,
+        configured: Configured::No,
     },
     Row {
         name: "chart",
@@ -150,7 +150,7 @@ pub(crate) static COMMANDS: [Row; 10] = [
                 help: "Draw the lines that were refused, too",
             },
         ],
-        configured: true,
+        configured: Configured::Nodes,
     },
     Row {
         name: "decode",
@@ -161,8 +161,8 @@ pub(crate) static COMMANDS: [Row; 10] = [
             need: Need::One,
             help: "Octets as hexadecimal digits, or - for standard input",
         }],
-        named: &[LAYOUT],
-        configured: true,
+        named: &[MORE, LAYOUT],
+        configured: Configured::Packets,
     },
     Row {
         name: "list",
@@ -183,7 +183,7 @@ pub(crate) static COMMANDS: [Row; 10] = [
             LAYOUT,
             QUIET,
         ],
-        configured: true,
+        configured: Configured::Packets,
     },
     Row {
         name: "split",
@@ -239,7 +239,7 @@ pub(crate) static COMMANDS: [Row; 10] = [
             },
             LAYOUT,
         ],
-        configured: true,
+        configured: Configured::Packets,
     },
     Row {
         name: "join",
@@ -283,7 +283,7 @@ pub(crate) static COMMANDS: [Row; 10] = [
             LAYOUT,
             QUIET,
         ],
-        configured: true,
+        configured: Configured::Packets,
     },
     Row {
         name: "extract",
@@ -333,6 +333,6 @@ pub(crate) static COMMANDS: [Row; 10] = [
             LAYOUT,
             QUIET,
         ],
-        configured: true,
+        configured: Configured::Packets,
     },
 ];

@@ -3,6 +3,7 @@
 use crate::commands::TEXT;
 use crate::row::Named;
 use crate::word_fault::WordFault;
+use clap::builder::ValueParser;
 use clap::{ArgAction, ArgMatches};
 
 /// The file of a mission's layouts.
@@ -15,11 +16,23 @@ pub(crate) const LAYOUT: Named = Named {
     help: "The mission's layouts of headers and parts, a TOML file",
 };
 
+/// That more is said of octets than what they are.
+pub(crate) const MORE: Named = Named {
+    name: "more",
+    value: ValueParser::Bool,
+    behind: &[],
+    action: ArgAction::SetTrue,
+    other: &[],
+    help: "Say which areas a request or a report names, and which segment a packet is",
+};
+
 /// What `decode` asks for.
 #[derive(Clone, Copy)]
 pub struct DecodeWords<'a> {
     /// Octets as hexadecimal digits, or `-` for standard input.
     pub hex: &'a str,
+    /// Whether areas and segments are said.
+    pub more: bool,
     /// The path of the layouts, where one is given.
     pub layout: Option<&'a str>,
 }
@@ -30,6 +43,7 @@ pub struct DecodeWords<'a> {
 pub fn decode_words<'a>(matches: &ArgMatches<'a>) -> Result<DecodeWords<'a>, WordFault<'a>> {
     Ok(DecodeWords {
         hex: matches.get_str("HEX").ok_or(WordFault::Missing)?,
+        more: matches.get_flag("more"),
         layout: layout_in(matches),
     })
 }

@@ -1,7 +1,7 @@
 //! The commands that play a pass: the link, and the spacecraft's end.
 
 use crate::commands::{PACKETS, QUIET, TEXT, U32, U64};
-use crate::row::{Named, Row};
+use crate::row::{Configured, Named, Row};
 use clap::ArgAction;
 use clap::builder::ValueParser;
 
@@ -53,7 +53,7 @@ const LINK: Row = Row {
         },
         QUIET,
     ],
-    configured: false,
+    configured: Configured::No,
 };
 
 /// `spacecraft`.
@@ -68,7 +68,7 @@ const SPACECRAFT: Row = Row {
             behind: &["ID=FILE"],
             action: ArgAction::Append,
             other: &[],
-            help: "A memory, and the file of its first content",
+            help: "A memory, and the file of its first content, of 1 to 1048576 octets",
         },
         Named {
             name: "save",
@@ -76,7 +76,7 @@ const SPACECRAFT: Row = Row {
             behind: &[],
             action: ArgAction::SetTrue,
             other: &[],
-            help: "Write the memories back into their files at the end",
+            help: "Write a memory back into its file after each load into it, and all at the end",
         },
         Named {
             name: "tick-every",
@@ -124,10 +124,10 @@ const SPACECRAFT: Row = Row {
             behind: &["FILE"],
             action: ArgAction::Set,
             other: &[],
-            help: "Keep state and memories in this file, and go on where it says",
+            help: "Keep state and memories in this file, for this process alone, and go on from it",
         },
     ],
-    configured: true,
+    configured: Configured::Nodes,
 };
 
 /// The commands of a pass.

@@ -14,8 +14,19 @@ pub(crate) struct Row {
     pub(crate) words: &'static [Word],
     /// The words that are given behind a name.
     pub(crate) named: &'static [Named],
-    /// Whether it takes a configuration, by the words of `SETTINGS`.
-    pub(crate) configured: bool,
+    /// Which words of a configuration it takes.
+    pub(crate) configured: Configured,
+}
+
+/// Which words of a configuration a command takes.
+#[derive(Clone, Copy)]
+pub(crate) enum Configured {
+    /// None.
+    No,
+    /// Those of packets: all but in which order a node takes parts.
+    Packets,
+    /// Those of packets and of nodes: all.
+    Nodes,
 }
 
 /// A command with commands below it, and without words of its own.

@@ -1,0 +1,86 @@
+//! The memories whose first contents are files.
+
+use crate::end::Failure;
+use crate::input::{octets_from, opened};
+use lpt_command_line::SpacecraftWords;
+use lpt_memory::{MEMORY_LIMIT, Memories, SIZE_LIMIT};
+use lpt_packet::Octets;
+use lpt_tool::ToolFault;
+use std::fs;
+
+/// The memories whose first contents are the files that the words name.
+///
+/// Errors: `Read` where one can't be read; `Config` where a file is empty or too long, there are
+/// more than 16, or two of one identifier; `Memory`.
+pub fn memories_of(rt: &HostRuntime, words: &SpacecraftWords<'_>) -> Result<Memories, Failure> {
+    let count = words.memories.len();
+    if count > MEMORY_LIMIT {
+        let place = format!(in rt.alloc();
+            "--memory: there can be {MEMORY_LIMIT} memories, and not {count}"
+        );
+        return Err(Failure::at(ToolFault::Config, place));
+    }
+    let mut list = Vec::new(rt.alloc());
+    match read_memories(rt, words, &mut list) {
+        Ok(()) => {}
+        Err(failure) => {
+            drop(list);
+            return Err(failure);
+        }
+    }
+    match Memories::new(list) {
+        Ok(memories) => Ok(memories),
+        Err(_) => Err(Failure::from(ToolFault::Config)),
+    }
+}
+
+// Reads each file, unless there was a memory of its identifier before it.
+fn read_memories(
+    rt: &HostRuntime,
+    words: &SpacecraftWords<'_>,
+    list: &mut Vec<(u8, Octets)>,
+) -> Result<(), Failure> {
+    for (id, file) in &words.memories {
+        if list.iter().any(|(known, _)| known == id) {
+            let place = format!(in rt.alloc();
+                "--memory {id}={file}: there is a memory {id} already"
+            );
+            return Err(Failure::at(ToolFault::Config, place));
+        }
+        let octets = read_one(rt, file)?;
+        if list.push((*id, octets)).is_err() {
+            return Err(Failure::from(ToolFault::Memory));
+        }
+    }
+    Ok(())
+}
+
+// The octets of a file that can be a memory. One that says beforehand that it is too long isn't
+// read.
+fn read_one(rt: &HostRuntime, file: &str) -> Result<Octets, Failure> {
+    if let Ok(known) = fs::metadata(rt, file) {
+        if known.is_file() && known.len() > SIZE_LIMIT as u64 {
+            return Err(wrong_size(rt, file, known.len()));
+        }
+    }
+    let mut source = opened(rt, file)?;
+    let octets = octets_from(rt, file, &mut source);
+    drop(source);
+    let octets = octets?;
+    let len = octets.as_slice().len();
+    if len == 0 || len > SIZE_LIMIT {
+        drop(octets);
+        return Err(wrong_size(rt, file, len as u64));
+    }
+    Ok(octets)
+}
+
+// That a file of so many octets can't be a memory.
+fn wrong_size(rt: &HostRuntime, file: &str, len: u64) -> Failure {
+    let place = if len == 0 {
+        format!(in rt.alloc(); "{file}: it is empty, and a memory has at least one octet")
+    } else {
+        format!(in rt.alloc(); "{file}: {len} octets, and a memory has at most {SIZE_LIMIT}")
+    };
+    Failure::at(ToolFault::Config, place)
+}
