@@ -24,6 +24,22 @@ goes-nothing b a = record {
   at_end = λ h e. h e;
 }
 
+-- nor by what changes nothing of what is held
+pub goes-same : (b new : PacketBuffer) (a : Option (List ℕ))
+    → held new ≡ held b
+    → is_in_step new ≡ is_in_step b
+    → is_ended new ≡ is_ended b
+    → Goes b new a a []
+goes-same b new a same step end = record {
+  added = record {
+    consumed = Consumes-nil a;
+    behind = same ∙ sym (append-nil (held b));
+    step = step;
+  };
+  stays = λ e. (end ∙ e, refl);
+  at_end = λ h e. h (sym end ∙ e);
+}
+
 -- what is read after what was read
 pub adds-more : (old mid new : PacketBuffer) (a b c : Option (List ℕ)) (read more : List ℕ)
     → Adds old mid a b read
@@ -226,17 +242,6 @@ pub more_given : (n : ℕ) (buf : List ℕ) (after : Option (List ℕ))
 more_given zero buf after within some end = inr (refl, end refl some)
 more_given (suc n) buf after within some end =
     inl (grind (arith, nat_tests), omega (arith, length-take-le (suc n) buf within))
-
--- what there is room for behind it changes nothing of it
-pub roomed : (s e n : ℕ) (was now more : List ℕ)
-    → e ≤ length was
-    → length was ≤ n
-    → now ≡ take n was ++ more
-    → drop s (take e now) ≡ drop s (take e was)
-roomed s e n was now more within all is =
-    ap (λ (o : List ℕ). drop s (take e o))
-    (is ∙ ap (λ (o : List ℕ). o ++ more) (take_all n was all))
-    ∙ ap (λ (o : List ℕ). drop s o) (take-append-le e was more within)
 
 -- ---- what is kept
 

@@ -4,6 +4,7 @@ pub mod DamageLemmas
 pub mod EndLemmas
 pub mod FoundLemmas
 pub mod FrontLemmas
+pub mod KnownLemmas
 pub mod PieceLemmas
 pub mod SealLemmas
 pub mod StreamLemmas

@@ -3,8 +3,12 @@ use Rattle.std.proofs.Common.{◌≡◌, ◌⊎◌, ◌∙◌, ap, sym, subst, r
 use Rattle.std.proofs.lemmas.List.{drop-append-le, get_or_append_left, take-append-drop, take-append-le}
 use Rattle.lpt_packet.specs.declared.fault.PacketFault.{PacketFault}
 use Rattle.lpt_packet.specs.declared.fault.PacketFault.TheVariants.{Short, Version, Length}
-use Rattle.lpt_packet.specs.Numbers.{word_at}
-use Rattle.lpt_packet.specs.Packets.{APacket, Fields, IdlePacket, Sight, verdict}
+use Rattle.lpt_packet.specs.Checksums.{checksum}
+use Rattle.lpt_packet.specs.Numbers.{IsOctets, word_at}
+use Rattle.lpt_packet.specs.Packets.{APacket, Fields, IdlePacket, IsPacket, Sight, header, spelling, verdict}
+use Rattle.lpt_packet.proofs.Bursts.{sealed_is_zero}
+use Rattle.lpt_packet.proofs.Found.{found}
+use Rattle.lpt_packet.proofs.OctetLists.{IsOctets-take}
 use Rattle.lpt_packet.proofs.Readings.{eq_false, lt_false, not_lt, tests_passed, true_eq}
 use Rattle.lpt_stream.specs.declared.piece_kind.PieceKind.{PieceKind}
 use Rattle.lpt_stream.specs.declared.piece_kind.PieceKind.TheVariants.{Whole, Damaged, Stray}
@@ -199,6 +203,25 @@ begins_may b h =
 
 wanted_more : (n w : ℕ) → nat_le (7 + w) n ≡ false → n < (if nat_lt n 6 then 6 else 7 + w)
 wanted_more n w h = grind (arith, h)
+
+-- nor does one of another checksum than 0
+pub nonzero_begins : (b : List ℕ)
+    → IsOctets b
+    → (checksum (frame b) ≡ 0 → ⊥)
+    → begins false b ≡ false
+unfolding spelling
+nonzero_begins b octets other = go (begins false b) refl where
+  zero : begins false b ≡ true → checksum (frame b) ≡ 0
+  zero h =
+      let x = frame b in
+      let seen = taken_busy (ends_in_checksum x) (verdict x) h in
+      let packet : IsPacket x seen.0 =
+      found x (APacket seen.0) (IsOctets-take (7 + word_at b 4) b octets) seen.1 in
+      ap checksum packet.spelled ∙ sealed_is_zero (header seen.0 ++ seen.0.octets)
+
+  go : (t : Bool) → begins false b ≡ t → t ≡ false
+  go false e = refl
+  go true e = absurd (other (zero e))
 
 -- where not all of its octets have come no packet begins
 pub unframed_begins : (s : Bool) (b : List ℕ) → is_framed b ≡ false → begins s b ≡ false

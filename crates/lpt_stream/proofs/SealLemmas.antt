@@ -50,7 +50,8 @@ front_sealed s b h whole =
     let taken : is_found s (take n b) ≡ true =
     sym (ap (is_found s) (near n b short))
     ∙ begun (begins s f) s (is_passed f) whole in
-    λ e. untorn s (ends_in_checksum (take n b)) (verdict (take n b)) taken (sym (ap verdict same) ∙ e)
+    λ e. untorn s (ends_in_checksum (take n b)) (verdict (take n b)) taken
+    (sym (ap verdict same) ∙ e)
 
 -- nor has the piece that was found
 pub found_sealed : (b : PacketBuffer) (f : Found)

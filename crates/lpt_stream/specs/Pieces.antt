@@ -42,8 +42,8 @@ is_of_flags NoSecondary = true
 is_of_flags Checksum = false
 
 -- whether octets that are read like this, with a right checksum or not, are taken as a packet. In
--- step so is an idle one, which has no checksum that is looked at, and one with a right checksum that
--- fails a test of its flags alone
+-- step so is an idle one, which has no checksum that is looked at, and one with a right checksum
+-- that fails a test of its flags alone
 abbrev pub is_taken : (in_step right : Bool) → Result Sight PacketFault → Bool
 is_taken s c (Ok (APacket f)) = true
 is_taken s c (Ok IdlePacket) = s

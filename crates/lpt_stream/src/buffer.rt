@@ -1,12 +1,14 @@
 //! The pieces of a stream, packets and what is none, found as it comes.
 
-ghost use Rattle.std.specs.Prelude.{◌≤◌, length};
+ghost use Rattle.std.specs.Prelude.{◌≤◌, drop, length, take};
+ghost use Rattle.lpt_search.specs.Searches.{Knows};
 ghost use Rattle.lpt_stream.specs.Pieces.{most_kept};
 
 use crate::PieceKind;
 use crate::cutting::whole_length;
-use crate::found::{Found, other_in_front, packet_unless};
+use crate::found::{Found, announced, other_in_front, packet_unless};
 use crate::waiting::waits;
+use lpt_search::Search;
 use lpt_text::{Sink, Source, StreamFault, flush_out};
 use std::alloc::{AllocError, Global};
 
@@ -19,7 +21,9 @@ const LOOKAHEAD: usize = 131_084;
 /// The octets of a stream that were read and not passed over yet.
 ///
 /// What it keeps doesn't grow with the stream: at most 196,619 octets, which are fewer than those of
-/// two packets, and what one read gives.
+/// two packets, and what one read gives. Behind octets that are no packet, registers of the
+/// checksum are kept as well, 2 octets each: one for each octet of two packets at most, and as many
+/// as the octets of one.
 #[derive(Drop)]
 pub struct PacketBuffer {
     // What was read stands in front, and behind it what has been, in which the next is read.
@@ -32,9 +36,12 @@ pub struct PacketBuffer {
     in_step: bool,
     // Whether the stream's end was read.
     ended: bool,
+    // What is known of the checksums of packets that may begin within what is held.
+    search: Search,
     ghost ordered: { start ≤ end },
     ghost within: { end ≤ length octets.items },
     ghost few: { length octets.items ≤ most_kept },
+    ghost known: { Knows search (drop start (take end octets.items)) },
 }
 
 impl PacketBuffer {
@@ -56,6 +63,7 @@ impl PacketBuffer {
             end: 0,
             in_step: true,
             ended: false,
+            search: Search::new(alloc),
         }
     }
 
@@ -80,6 +88,7 @@ impl PacketBuffer {
         ensures step { is_in_step self.new ≡ keeps_step found.kind }
         ensures end { is_ended self.new ≡ is_ended self.old }
     {
+        self.search.pass(found.len);
         self.start += found.len;
         self.in_step = found.kind != PieceKind::Stray;
     }
@@ -94,7 +103,7 @@ impl PacketBuffer {
         ensures { FindsPiece result self.old self.new (S.remaining source.old)
             (S.remaining source.new) (S.failed source.old) (S.failed source.new) }
     {
-        let mut is_judged = false;
+        let mut is_judged = self.shows_none();
         loop {
             match self.settled(is_judged) {
                 Some(found) => return Ok(Some(found)),
@@ -130,7 +139,7 @@ impl PacketBuffer {
             (source.new ≡ source.old) ⊎ (K.flushed out.new ≡ K.contents out.new) }
         ensures writer { WriteEnds result (K.failed out.old) (K.failed out.new) }
     {
-        let mut is_judged = false;
+        let mut is_judged = self.shows_none();
         loop {
             match self.settled(is_judged) {
                 Some(found) => return Ok(Some(found)),
@@ -175,6 +184,25 @@ impl PacketBuffer {
             return None;
         }
         Some(other_in_front(near, self.in_step))
+    }
+
+    // Whether it shows already, behind octets that are no packet, that none begins in front: the
+    // checksum of what a header there announces is wrong.
+    fn shows_none(&mut self) -> bool
+        ensures none { result ≡ true
+            → begins (is_in_step self.new) (take lookahead (held self.new)) ≡ false }
+        ensures held { held self.new ≡ held self.old }
+        ensures step { is_in_step self.new ≡ is_in_step self.old }
+        ensures end { is_ended self.new ≡ is_ended self.old }
+    {
+        if self.in_step {
+            return false;
+        }
+        let octets = &self.octets[self.start..self.end];
+        match announced(&octets[..LOOKAHEAD.min(octets.len())]) {
+            Some(len) => !self.search.may_fit(octets, len),
+            None => false,
+        }
     }
 
     // Whether what is in front of these octets, which is no packet, depends on what may still come.

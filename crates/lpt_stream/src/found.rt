@@ -1,11 +1,14 @@
 //! The piece at the front of a stream (CCSDS 133.0-B), where not all octets are packets.
 
-ghost use Rattle.std.specs.Prelude.{◌≡◌, ◌+◌, ◌<◌, ◌≤◌, ◌==◌, ◌||◌, true, false, length, None, IfSome};
+ghost use Rattle.std.specs.Prelude.{◌≡◌, ◌≢◌, ◌+◌, ◌<◌, ◌≤◌, ◌==◌, ◌||◌, true, false, length, take, None, IfSome};
+ghost use Rattle.lpt_packet.specs.Checksums.{checksum};
 ghost use Rattle.lpt_packet.specs.Numbers.{word_at};
+ghost use Rattle.lpt_packet.specs.Sizes.{longest_packet};
 ghost use Rattle.lpt_stream.specs.Pieces.{begins, ends_in_checksum, is_found, is_of_flags, kind_in, size_in};
 
 use crate::PieceKind;
 use crate::cutting::whole_length;
+use crate::waiting::may_begin;
 use lpt_packet::{ERROR_CONTROL, PRIMARY_HEADER, PacketFault, Seen, crc16, read_packet};
 
 /// The piece at the front of octets.
@@ -77,6 +80,18 @@ pub(crate) fn packet_unless(is_judged: bool, bytes: &[u8], in_step: bool) -> Opt
         return None;
     }
     packet_in_front(bytes, in_step)
+}
+
+// How many octets the packet has that the header in front announces, where they have all come. If
+// their checksum isn't 0, no packet begins there, behind octets that are none.
+pub(crate) fn announced(bytes: &[u8]) -> Option<usize>
+    ensures within { IfSome result (λ n. n ≤ length bytes.now) }
+    ensures short { IfSome result (λ n. n ≤ longest_packet) }
+    ensures none { IfSome result (λ n. checksum (take n bytes.now) ≢ 0
+        → begins false bytes.now ≡ false) }
+{
+    let len = whole_length(bytes)?;
+    if may_begin(bytes) { Some(len) } else { None }
 }
 
 // What stands at the front of octets with which no packet begins.

@@ -18,8 +18,8 @@ pub fn streams_are_cut_one_way()
         → Cuts stream pieces → Cuts stream others → pieces ≡ others }
 {}
 
-/// In packets, one behind the other, just these are found: idle ones among them, and those with a right
-/// checksum that have no secondary header or are segments.
+/// In packets, one behind the other, just these are found: idle ones among them, and those with a
+/// right checksum that have no secondary header or are segments.
 pub fn packets_are_found()
     ensures { (packets : List (List ℕ)) → AreInStep packets → Finds (all_octets packets) packets }
 {}

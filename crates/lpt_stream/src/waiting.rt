@@ -29,7 +29,7 @@ fn is_open(bytes: &[u8]) -> bool
 
 // Whether one may begin with these octets and others behind them: none of the words of a header
 // that have come is wrong.
-fn may_begin(bytes: &[u8]) -> bool
+pub(crate) fn may_begin(bytes: &[u8]) -> bool
     ensures { result ≡ may_begin bytes.now }
 {
     first_fits(bytes) && flags_fit(bytes) && size_fits(bytes)

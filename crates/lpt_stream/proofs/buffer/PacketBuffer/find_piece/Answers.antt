@@ -1,12 +1,18 @@
 -- Read after read, until what is held shows a piece.
 use Rattle.std.proofs.Common.{◌∙◌, [], ◌++◌, inl, refl}
-use Rattle.lpt_stream.proofs.BufferLemmas.{goes-nothing, goes-more, nearer, asked-more, judged-more, fill-fault}
+use Rattle.lpt_stream.proofs.BufferLemmas.{goes-same, goes-more, nearer, asked-more, judged-more, fill-fault}
 use Rattle.lpt_stream.proofs.buffer.PacketBuffer.find_piece.Goals as goal
 
 pub loop-found-init : goal.loop-found-init
 loop-found-init g c = record {
-  goes = ([], goes-nothing c.args.self.now (g.S.Source.remaining c.args.source.now), inl refl);
-  judged = λ e. absurd cc;
+  goes = (
+    [],
+    goes-same c.args.self.now c.shows_none-is_judged.new.self
+        (g.S.Source.remaining c.args.source.now) c.shows_none-is_judged.ensures.held
+        c.shows_none-is_judged.ensures.step c.shows_none-is_judged.ensures.end,
+    inl refl,
+  );
+  judged = c.shows_none-is_judged.ensures.none;
   told = refl;
 }
 

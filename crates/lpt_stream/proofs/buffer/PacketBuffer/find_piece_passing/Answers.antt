@@ -1,13 +1,19 @@
 -- Read after read, until what is held shows a piece; what was written is passed on before each.
 use Rattle.std.proofs.Common.{◌∙◌, [], ◌++◌, inl, inr, refl}
 use Rattle.std.proofs.KnownBytes.{Keeps-refl, Keeps-trans}
-use Rattle.lpt_stream.proofs.BufferLemmas.{goes-nothing, goes-more, nearer, asked-more, judged-more, fill-fault, passing-fault}
+use Rattle.lpt_stream.proofs.BufferLemmas.{goes-same, goes-more, nearer, asked-more, judged-more, fill-fault, passing-fault}
 use Rattle.lpt_stream.proofs.buffer.PacketBuffer.find_piece_passing.Goals as goal
 
 pub loop-found-init : goal.loop-found-init
 loop-found-init g c = record {
-  goes = ([], goes-nothing c.args.self.now (g.S.Source.remaining c.args.source.now), inl refl);
-  judged = λ e. absurd cc;
+  goes = (
+    [],
+    goes-same c.args.self.now c.shows_none-is_judged.new.self
+        (g.S.Source.remaining c.args.source.now) c.shows_none-is_judged.ensures.held
+        c.shows_none-is_judged.ensures.step c.shows_none-is_judged.ensures.end,
+    inl refl,
+  );
+  judged = c.shows_none-is_judged.ensures.none;
   told = refl;
   same = Keeps-refl (g.K.Sink.contents c.args.out.now);
   passed = inl refl;

@@ -1,0 +1,3 @@
+pub mod RegisterLemmas
+pub mod SumLemmas
+pub mod SearchLemmas

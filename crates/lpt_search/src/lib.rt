@@ -1,0 +1,15 @@
+//! The checksums of frames that begin one octet after another, as a search for packets takes them:
+//! what is known of an octet is kept for all frames that hold it, so a frame costs a few steps, and
+//! not as many as it has octets.
+//!
+//! The checksum's register after some octets is the sum, without carry, of what it would be after
+//! as many zeros, and of what the octets make of another register. So the register before each
+//! octet of a stretch gives the checksum of each frame in it.
+//!
+//! The main type is `Search`. The first call is its `may_fit`.
+#![tactic(auto)]
+
+mod register;
+mod search;
+
+pub use search::Search;
