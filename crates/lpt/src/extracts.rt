@@ -12,13 +12,14 @@ use crate::streams::{finish, first_failure, output};
 use lpt_command_line::ExtractWords;
 use lpt_events::Config;
 use lpt_extract::{
-    ExtractEnd, Extracted, Gap, Hearers, Listener, News, Notice, Others, Place, Span, Taker, Tally,
+    ExtractEnd, Extracted, Hearers, Listener, News, Notice, Others, Place, Span, Taker, Tally,
     Transaction, Wanted, extract_joined, extract_stream,
 };
 use lpt_packet::{Direction, Name};
 use lpt_text::StreamFault;
 use lpt_tool::ToolFault;
 use std::alloc::{AllocError, Global};
+use std::collections::BTreeMap;
 
 /// Standard error, which is told of each area, and of each report that isn't read.
 #[derive(Drop)]
@@ -228,12 +229,11 @@ pub fn extract_status(
 }
 
 // Tells of which addresses of the image no octets came.
-fn tell_gaps(rt: &HostRuntime, wanted: &Wanted, gaps: &[Gap]) {
+fn tell_gaps(rt: &HostRuntime, wanted: &Wanted, gaps: &BTreeMap<u64, u64>) {
     let Some(Place { memory, .. }) = wanted.at else {
         return;
     };
-    for gap in gaps {
-        let Gap { first, last } = *gap;
+    for (first, last) in gaps {
         let text = if first == last {
             format!(in rt.alloc(); "memory {memory}: no octets came of {first}")
         } else {

@@ -1,9 +1,8 @@
 -- The gaps, where one area more is there.
 use Rattle.std.proofs.Common.{◌≡◌, ◌∙◌, ap, sym, refl, ℕ, ◌+◌, ◌-◌, ◌<◌, ◌≤◌, inl, inr, min, max, nat_lt, nat_le, Bool, true, false, if◌then◌else◌, List, [], ◌∷◌, ◌++◌, flat_map, arith}
 use Rattle.std.proofs.lemmas.Bool.{cases_lt}
-use Rattle.lpt_extract.specs.declared.gap.Gap.{Gap}
 use Rattle.lpt_extract.specs.CoversInside.{cut}
-use Rattle.lpt_extract.specs.Gaps.{AreAll, IsGap, AreGaps}
+use Rattle.lpt_extract.specs.Gaps.{AreAll, Gap, IsGap, AreGaps}
 
 not-both : (x : Bool) → x ≡ true → x ≡ false → ⊥
 not-both x h l = cc

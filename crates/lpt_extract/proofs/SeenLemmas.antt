@@ -1,5 +1,5 @@
 -- What octets are seen as, and the dump report in them.
-use Rattle.std.proofs.Common.{◌≡◌, ap, sym, refl, ℕ, List, Option, Some, None, Err}
+use Rattle.std.proofs.Common.{◌≡◌, ap, refl, ℕ, List, Option, Some, None, Err}
 use Rattle.std.specs.Result.{result_ok}
 use Rattle.lpt_packet.specs.declared.fault.PacketFault.{PacketFault}
 use Rattle.lpt_packet.specs.Packets.{Fields, IdlePacket, APacket, seen, verdict}

@@ -7,20 +7,19 @@ use Rattle.lpt_text.specs.declared.fault.StreamFault.{StreamFault}
 use Rattle.lpt_text.specs.declared.fault.StreamFault.TheVariants as faults
 use Rattle.lpt_stream.specs.declared.piece_kind.PieceKind.{PieceKind}
 use Rattle.lpt_stream.specs.declared.piece_kind.PieceKind.TheVariants.{Whole, Damaged, Stray}
-use Rattle.lpt_stream.specs.Pieces.{Piece, Cuts, Leads, packets_of, up_to_limit}
+use Rattle.lpt_stream.specs.Pieces.{Piece, Cuts, packets_of, up_to_limit}
 use Rattle.lpt_memory.specs.declared.request.Area.{Area}
 use Rattle.lpt_memory.specs.Meanings.{area}
 use Rattle.lpt_memory.specs.Requests.{LoadArea}
 use Rattle.lpt_extract.specs.declared.extracted.ExtractEnd.{ExtractEnd}
 use Rattle.lpt_extract.specs.declared.extracted.ExtractEnd.TheVariants as ends
 use Rattle.lpt_extract.specs.declared.extracted.Extracted.{Extracted}
-use Rattle.lpt_extract.specs.declared.gap.Gap.{Gap}
 use Rattle.lpt_extract.specs.declared.notice.Notice.{Notice}
 use Rattle.lpt_extract.specs.declared.notice.Notice.TheVariants as notices
 use Rattle.lpt_extract.specs.declared.wanted.Place.{Place}
 use Rattle.lpt_extract.specs.declared.wanted.Wanted.{Wanted}
 use Rattle.lpt_extract.specs.Areas.{all_octets, extent, image, image_limit}
-use Rattle.lpt_extract.specs.Gaps.{is_given, AreGaps}
+use Rattle.lpt_extract.specs.Gaps.{gaps_in, is_given, AreGaps, Gap}
 use Rattle.lpt_extract.specs.Leaving.{PiecesLeave}
 use Rattle.lpt_extract.specs.Notices.{is_taken, notice, Hears}
 use Rattle.lpt_extract.specs.Reports.{Saying, Other, Foreign, Unread, Areas, report_in}
@@ -135,8 +134,8 @@ pub record ExtractsTo (w : Wanted) (x : Extracted) (before after old new : Optio
   pub at_end : IsAtEnd after
   pub cut : Cuts stream pieces
   pub ends : Ends w.at (areas_in w (packets_of pieces))
-      (is_unbroken x.gaps.items x.tally.passed) x.end old new
-  pub missing : AreMissing w.at (areas_in w (packets_of pieces)) x.gaps.items
+      (is_unbroken (gaps_in x.gaps) x.tally.passed) x.end old new
+  pub missing : AreMissing w.at (areas_in w (packets_of pieces)) (gaps_in x.gaps)
   pub told : Hears heard hears (notices_in w 0 pieces)
   pub counted : IsTally (notices_in w 0 pieces) x.tally
 
@@ -150,7 +149,7 @@ is_written other = false
 -- whether what is wanted was written, with no gap, nothing passed over and nothing but packets
 abbrev pub is_clean : Extracted → Bool
 is_clean x =
-    is_written x.end && is_unbroken x.gaps.items x.tally.passed
+    is_written x.end && is_unbroken (gaps_in x.gaps) x.tally.passed
     && (x.tally.damaged == 0) && (x.tally.stray == 0)
 
 -- ---- faults

@@ -15,6 +15,7 @@ use Rattle.lpt_extract.specs.declared.wanted.Place.{Place}
 use Rattle.lpt_extract.specs.Areas.{extent, image}
 use Rattle.lpt_extract.specs.CoversInside.{gaps_of}
 use Rattle.lpt_extract.specs.Extracts.{areas_in, is_unbroken, notices_in, AreMissing, start, suits, whole_areas, Fits, IsTooLarge}
+use Rattle.lpt_extract.specs.Gaps.{gaps_in}
 use Rattle.lpt_extract.specs.ImagesInside.{end_of_image, Imaged}
 use Rattle.lpt_extract.specs.Notices.{notice, Hears}
 use Rattle.lpt_extract.specs.ReportsInside.{load_area}
@@ -63,8 +64,8 @@ is_unbroken_so_far h = is_unbroken (gaps_of h.image.cover) h.tally.passed
 -- what an extraction gives that ends so
 pub record EndsAs (at : Option Place) (areas : List Area) (ns : List Notice) (x : Extracted)
     (old new : Option (List ℕ)) : Type 0 where
-  pub by : EndsBy at areas (is_unbroken x.gaps.items x.tally.passed) x.end old new
-  pub missing : AreMissing at areas x.gaps.items
+  pub by : EndsBy at areas (is_unbroken (gaps_in x.gaps) x.tally.passed) x.end old new
+  pub missing : AreMissing at areas (gaps_in x.gaps)
   pub counted : IsTally ns x.tally
 
 -- what the packets among pieces give is held, and was told

@@ -1,9 +1,18 @@
 -- Which addresses of an image no area gave.
-use Rattle.std.specs.Prelude.{◌≡◌, ℕ, ◌+◌, ◌<◌, ◌≤◌, ◌&&◌, nat_le, nat_lt, Bool, true, false, List, [], ◌∷◌}
+use Rattle.std.specs.Prelude.{◌≡◌, ℕ, ◌+◌, ◌<◌, ◌≤◌, ◌&&◌, nat_le, nat_lt, Bool, true, false, List, [], ◌∷◌, map}
 use Rattle.std.specs.List.{list_any}
 use Rattle.lpt_memory.specs.declared.request.Area.{Area}
-use Rattle.lpt_extract.specs.declared.gap.Gap.{Gap}
+use Rattle.std.specs.BTreeMap.{BTreeMap}
 use Rattle.lpt_extract.specs.Areas.{end_of}
+
+-- a run of addresses of which no octet came
+pub record Gap : Type 0 where
+  pub first : ℕ
+  pub last : ℕ
+
+-- the runs of which a map has the first address, and the last
+abbrev pub gaps_in : BTreeMap ℕ ℕ → List Gap
+gaps_in m = map (λ e. record { first = e.0; last = e.1 }) m.entries
 
 -- whether an area has an octet of this address
 abbrev pub has : Area → ℕ → Bool

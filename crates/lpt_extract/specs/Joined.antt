@@ -16,6 +16,7 @@ use Rattle.lpt_extract.specs.declared.notice.Notice.TheVariants as notices
 use Rattle.lpt_extract.specs.declared.wanted.Wanted.{Wanted}
 use Rattle.lpt_extract.specs.Extracts.{areas_in, is_unbroken, notices_of, AreMissing, Ends, LeavesFront}
 use Rattle.lpt_extract.specs.Leaving.{PiecesLeave}
+use Rattle.lpt_extract.specs.Gaps.{gaps_in}
 use Rattle.lpt_extract.specs.Notices.{Hears}
 use Rattle.lpt_extract.specs.Reports.{report_in}
 use Rattle.lpt_extract.specs.Tallies.{IsTally}
@@ -78,8 +79,8 @@ joined_in w t before n (p ∷ ps) =
 pub record ExtractsJoined (w : Wanted) (t : Transaction) (x : Extracted) (pieces : List Piece)
     (old new : Option (List ℕ)) (heard hears : Option (List Notice)) : Type 0 where
   pub ends : Ends w.at (areas_in w (reads t (packets_of pieces)))
-      (is_unbroken x.gaps.items x.tally.passed) x.end old new
-  pub missing : AreMissing w.at (areas_in w (reads t (packets_of pieces))) x.gaps.items
+      (is_unbroken (gaps_in x.gaps) x.tally.passed) x.end old new
+  pub missing : AreMissing w.at (areas_in w (reads t (packets_of pieces))) (gaps_in x.gaps)
   pub told : Hears heard hears (joined_in w t [] 0 pieces)
   pub counted : IsTally (joined_in w t [] 0 pieces) x.tally
 

@@ -1,5 +1,5 @@
 -- What is held and told as parts are joined.
-use Rattle.std.specs.Prelude.{◌≡◌, ℕ, false, List, [], Option}
+use Rattle.std.specs.Prelude.{◌≡◌, false, List, [], Option}
 use Rattle.lpt_stream.specs.Pieces.{Piece, packets_of}
 use Rattle.lpt_each.specs.Helds.{HoldsEach}
 use Rattle.lpt_each.specs.News as teller

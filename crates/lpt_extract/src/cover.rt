@@ -1,24 +1,26 @@
 //! Which addresses areas gave.
 
-use crate::Gap;
 use std::alloc::{AllocError, Global};
+use std::collections::BTreeMap;
 
-/// Where the area ends that ends last, and the gaps in front of that.
+/// Where the area ends that ends last, and the gaps in front of that: of each, its first address
+/// and its last.
 ///
-/// There are no more gaps than areas. Each takes 16 octets of memory, and twice as many while an area
-/// is added that doesn't stand behind all others; and what a vector takes ahead. Such an area costs
-/// a look at each gap.
+/// There are no more gaps than areas. An area costs a few searches in the map, and one for each gap
+/// that it takes away.
 #[derive(Drop)]
 pub(crate) struct Cover {
     end: u64,
-    gaps: Vec<Gap>,
+    gaps: BTreeMap<u64, u64>,
 }
 
 impl Cover {
     ghost use Rattle.std.specs.Prelude.{◌≡◌, ◌==◌, ◌<◌, ◌++◌, ◌∷◌, List, [], length, max, not, flat_map, OnOk};
     ghost use Rattle.lpt_memory.specs.declared.request.Area.{Area};
     ghost use Rattle.lpt_extract.specs.Areas.{end_of};
-    ghost use Rattle.lpt_extract.specs.CoversInside.{cut, end_of_cover, gaps_of, Covers};
+    ghost use Rattle.std.specs.List.{filter};
+    ghost use Rattle.lpt_extract.specs.CoversInside.{cut, end_of_cover, gaps_of, is_apart, Ascend, Covers};
+    ghost use Rattle.lpt_extract.specs.Gaps.{gaps_in};
 
     // Of no areas.
     pub(crate) fn new(alloc: Global) -> Cover
@@ -27,7 +29,7 @@ impl Cover {
     {
         Cover {
             end: 0,
-            gaps: Vec::new(alloc),
+            gaps: BTreeMap::new(alloc),
         }
     }
 
@@ -46,8 +48,8 @@ impl Cover {
     }
 
     // The gaps.
-    pub(crate) fn into_gaps(self) -> Vec<Gap>
-        ensures { result.items ≡ gaps_of self }
+    pub(crate) fn into_gaps(self) -> BTreeMap<u64, u64>
+        ensures { gaps_in result ≡ gaps_of self }
     {
         let Cover { end: _, gaps } = self;
         gaps
@@ -70,10 +72,7 @@ impl Cover {
     {
         let reach = self.end.max(from);
         if reach < first {
-            self.gaps.push(Gap {
-                first: reach,
-                last: first - 1,
-            })?;
+            self.gaps.insert(reach, first - 1)?;
         } else {
             self.cut(first, end)?;
         }
@@ -84,28 +83,44 @@ impl Cover {
     // Leaves of each gap what isn't within an area. The only error is out of memory.
     fn cut(&mut self, first: u64, end: u64) -> Result<(), AllocError>
         requires { first < end }
-        ensures gaps { OnOk result
+        ensures gaps { Ascend (gaps_of self.old) → OnOk result
             (gaps_of self.new ≡ flat_map (cut first end) (gaps_of self.old)) }
         ensures end { end_of_cover self.new ≡ end_of_cover self.old }
     {
-        let count = self.gaps.len();
-        for i in 0..count {
-            let gap = self.gaps[i];
-            if gap.first < first {
-                self.gaps.push(Gap {
-                    first: gap.first,
-                    last: gap.last.min(first - 1),
-                })?;
-            }
-            if end <= gap.last {
-                self.gaps.push(Gap {
-                    first: gap.first.max(end),
-                    last: gap.last,
-                })?;
-            }
-        }
-        self.gaps.rotate_left(count);
-        self.gaps.truncate(self.gaps.len() - count);
+        self.part(end)?;
+        self.part(first)?;
+        self.fill(first, end);
         Ok(())
+    }
+
+    // Parts the gap that has an address and the one in front of it. The only error is out of
+    // memory.
+    fn part(&mut self, at: u64) -> Result<(), AllocError>
+        ensures gaps { Ascend (gaps_of self.old) → OnOk result
+            (gaps_of self.new ≡ flat_map (cut at at) (gaps_of self.old)) }
+        ensures end { end_of_cover self.new ≡ end_of_cover self.old }
+    {
+        let Some((first, last)) = self.gaps.range(..at).next_back() else {
+            return Ok(());
+        };
+        let (first, last) = (*first, *last);
+        if last < at {
+            return Ok(());
+        }
+        self.gaps.insert(first, at - 1)?;
+        self.gaps.insert(at, last)?;
+        Ok(())
+    }
+
+    // Takes away the gaps that begin within an area.
+    fn fill(&mut self, first: u64, end: u64)
+        requires { first < end }
+        ensures gaps { gaps_of self.new ≡ filter (is_apart first end) (gaps_of self.old) }
+        ensures end { end_of_cover self.new ≡ end_of_cover self.old }
+    {
+        while let Some((gap, _)) = self.gaps.range(first..end).next() {
+            let gap = *gap;
+            self.gaps.remove(&gap);
+        }
     }
 }

@@ -1,6 +1,7 @@
 //! What an extraction gave.
 
-use crate::{Gap, Tally};
+use crate::Tally;
+use std::collections::BTreeMap;
 
 /// How the extraction of a stream ends that was read to its end.
 #[derive(Clone, Copy)]
@@ -20,15 +21,16 @@ pub enum ExtractEnd {
 pub struct Extracted {
     /// How it ended.
     pub end: ExtractEnd,
-    /// The addresses of the image that no area gave, in ascending order.
-    pub gaps: Vec<Gap>,
+    /// The addresses of the image that no area gave: of each run of them the first, and the last.
+    pub gaps: BTreeMap<u64, u64>,
     /// What wasn't taken.
     pub tally: Tally,
 }
 
 impl Extracted {
-    ghost use Rattle.std.specs.Prelude.{◌≡◌};
+    ghost use Rattle.std.specs.Prelude.{◌≡◌, ◌==◌, length};
     ghost use Rattle.lpt_extract.specs.Extracts.{is_clean};
+    ghost use Rattle.lpt_extract.specs.Gaps.{gaps_in};
 
     /// Whether what is wanted was written, no address of the image is missing, nothing was passed
     /// over, and all octets were packets.
@@ -37,9 +39,16 @@ impl Extracted {
     {
         let tally = self.tally;
         matches!(self.end, ExtractEnd::Written)
-            && self.gaps.is_empty()
+            && self.has_none_missing()
             && tally.passed == 0
             && tally.damaged == 0
             && tally.stray == 0
+    }
+
+    // Whether there are no gaps.
+    fn has_none_missing(&self) -> bool
+        ensures { result ≡ (length (gaps_in self.now.gaps) == 0) }
+    {
+        self.gaps.is_empty()
     }
 }

@@ -1,7 +1,7 @@
 //! What is kept of a stream while it is read.
 
 use crate::image::Image;
-use crate::{ExtractEnd, Extracted, Gap, Listener, Notice, Tally};
+use crate::{ExtractEnd, Extracted, Listener, Notice, Tally};
 use std::alloc::Global;
 
 /// The image, as far as areas give it, and how much wasn't taken.
@@ -18,6 +18,7 @@ impl Holding {
     ghost use Rattle.lpt_extract.specs.declared.wanted.Place.{Place};
     ghost use Rattle.lpt_extract.specs.CoversInside.{gaps_of};
     ghost use Rattle.lpt_extract.specs.ExtractsInside.{is_unbroken_so_far, Held};
+    ghost use Rattle.lpt_extract.specs.Gaps.{gaps_in};
     ghost use Rattle.lpt_extract.specs.Notices.{Hears};
 
     /// Of nothing.
@@ -50,7 +51,7 @@ impl Holding {
     // What an extraction gave that ended so.
     pub(crate) fn into_extracted(self, end: ExtractEnd) -> Extracted
         ensures end { result.end ≡ end }
-        ensures gaps { result.gaps.items ≡ gaps_of self.image.cover }
+        ensures gaps { gaps_in result.gaps ≡ gaps_of self.image.cover }
         ensures tally { result.tally ≡ self.tally }
     {
         let Holding { image, tally } = self;

@@ -2,9 +2,10 @@
 
 ghost use Rattle.std.specs.Prelude.{◌<◌, ◌≤◌, length};
 
+use crate::Place;
 use crate::cover::Cover;
-use crate::{Gap, Place};
 use std::alloc::{AllocError, Global};
+use std::collections::BTreeMap;
 
 /// The most octets of an image.
 const IMAGE_LIMIT: u64 = 268_435_456;
@@ -21,6 +22,7 @@ impl Image {
     ghost use Rattle.lpt_memory.specs.declared.request.Area.{Area};
     ghost use Rattle.lpt_memory.specs.Memories.{put_at};
     ghost use Rattle.lpt_extract.specs.CoversInside.{gaps_of};
+    ghost use Rattle.lpt_extract.specs.Gaps.{gaps_in};
     ghost use Rattle.lpt_extract.specs.ImagesInside.{end_of_image, octets_of_image, Imaged, IsSize};
 
     // Of no areas.
@@ -50,8 +52,8 @@ impl Image {
     }
 
     // The gaps.
-    pub(crate) fn into_gaps(self) -> Vec<Gap>
-        ensures { result.items ≡ gaps_of self.cover }
+    pub(crate) fn into_gaps(self) -> BTreeMap<u64, u64>
+        ensures { gaps_in result ≡ gaps_of self.cover }
     {
         let Image { octets: _, cover } = self;
         cover.into_gaps()

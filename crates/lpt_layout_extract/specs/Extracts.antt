@@ -20,6 +20,7 @@ use Rattle.lpt_extract.specs.declared.notice.Notice.{Notice}
 use Rattle.lpt_extract.specs.declared.notice.Notice.TheVariants.{Damaged}
 use Rattle.lpt_extract.specs.declared.wanted.Wanted.{Wanted}
 use Rattle.lpt_extract.specs.Extracts.{areas_of, is_unbroken, notices_of, AreMissing, Ends, LeavesFront}
+use Rattle.lpt_extract.specs.Gaps.{gaps_in}
 use Rattle.lpt_extract.specs.Notices.{Hears}
 use Rattle.lpt_extract.specs.Reports.{Saying, said_in}
 use Rattle.lpt_extract.specs.Tallies.{IsTally}
@@ -76,9 +77,9 @@ octets_in (b ∷ bs) = length b + octets_in bs
 -- what these packets give was written; what is missing and what wasn't taken was told
 pub record ExtractsAs (w : Wanted) (l : Layout) (x : Extracted) (packets : List (List ℕ))
     (old new : Option (List ℕ)) (heard hears : Option (List Notice)) : Type 0 where
-  pub ends : Ends w.at (areas_in w l packets) (is_unbroken x.gaps.items x.tally.passed) x.end
+  pub ends : Ends w.at (areas_in w l packets) (is_unbroken (gaps_in x.gaps) x.tally.passed) x.end
       old new
-  pub missing : AreMissing w.at (areas_in w l packets) x.gaps.items
+  pub missing : AreMissing w.at (areas_in w l packets) (gaps_in x.gaps)
   pub told : Hears heard hears (notices_in w l 0 packets)
   pub counted : IsTally (notices_in w l 0 packets) x.tally
 

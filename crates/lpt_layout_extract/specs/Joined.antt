@@ -8,6 +8,7 @@ use Rattle.lpt_extract.specs.declared.extracted.Extracted.{Extracted}
 use Rattle.lpt_extract.specs.declared.notice.Notice.{Notice}
 use Rattle.lpt_extract.specs.declared.wanted.Wanted.{Wanted}
 use Rattle.lpt_extract.specs.Extracts.{is_unbroken, AreMissing, Ends, LeavesFront}
+use Rattle.lpt_extract.specs.Gaps.{gaps_in}
 use Rattle.lpt_extract.specs.Notices.{Hears}
 use Rattle.lpt_extract.specs.Tallies.{IsTally}
 use Rattle.lpt_layout_join.specs.declared.reading.ReadingAs.{ReadingAs}
@@ -71,9 +72,9 @@ joined_in w r before n (b ∷ bs) =
 pub record ExtractsJoined (w : Wanted) (r : ReadingAs) (x : Extracted)
     (packets : List (List ℕ)) (old new : Option (List ℕ)) (heard hears : Option (List Notice))
     : Type 0 where
-  pub ends : Ends w.at (areas_read w r packets) (is_unbroken x.gaps.items x.tally.passed) x.end
+  pub ends : Ends w.at (areas_read w r packets) (is_unbroken (gaps_in x.gaps) x.tally.passed) x.end
       old new
-  pub missing : AreMissing w.at (areas_read w r packets) x.gaps.items
+  pub missing : AreMissing w.at (areas_read w r packets) (gaps_in x.gaps)
   pub told : Hears heard hears (joined_in w r [] 0 packets)
   pub counted : IsTally (joined_in w r [] 0 packets) x.tally
 

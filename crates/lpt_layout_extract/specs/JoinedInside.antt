@@ -10,7 +10,6 @@ use Rattle.lpt_extract.specs.Extracts.{written_first}
 use Rattle.lpt_extract.specs.ExtractsInside.{Held}
 use Rattle.lpt_extract.specs.Notices.{Hears}
 use Rattle.lpt_layout_join.specs.declared.reading.ReadingAs.{ReadingAs}
-use Rattle.lpt_layout_each.specs.declared.helds.HeldsAs.{HeldsAs}
 use Rattle.lpt_layout_each.specs.Helds.{HoldsEach}
 use Rattle.lpt_layout_each.specs.News as each
 use Rattle.lpt_layout_each.specs.Streams.{events}

@@ -1,7 +1,6 @@
 -- Nothing was taken of nothing; and at the end what was taken is written.
 use Rattle.std.proofs.Common.{◌≡◌, sym, subst, refl, [], false}
 use Rattle.std.proofs.lemmas.Result.{err_from_is_err_and}
-use Rattle.std.specs.Io.KnownBytes.{Appends}
 use Rattle.lpt_text.specs.declared.fault.StreamFault.{StreamFault}
 use Rattle.lpt_text.specs.declared.fault.StreamFault.TheVariants as faults
 use Rattle.lpt_text.specs.Streams.{AppendsPart}

@@ -1,5 +1,5 @@
 -- What a part tells is read.
-use Rattle.std.proofs.Common.{◌≡◌, ◌++◌, [], rules, sym, subst, Some, append-nil}
+use Rattle.std.proofs.Common.{◌≡◌, ◌++◌, rules, sym, subst, Some, append-nil}
 use Rattle.std.specs.Io.KnownBytes.{Appends}
 use Rattle.lpt_text.specs.Streams.{AppendsPart}
 use Rattle.lpt_text.proofs.StreamLemmas.{part_unchanged}

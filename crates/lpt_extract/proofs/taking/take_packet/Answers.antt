@@ -1,10 +1,8 @@
 -- What the dump report gives that octets are is what they give.
-use Rattle.std.proofs.Common.{◌≡◌, ap, subst, List, ◌++◌}
+use Rattle.std.proofs.Common.{subst, ◌++◌}
 use Rattle.std.specs.Prelude.{IfErr, OnOk}
 use Rattle.std.specs.Io.KnownBytes.{Appends}
-use Rattle.lpt_memory.specs.declared.request.Area.{Area}
 use Rattle.lpt_text.specs.Streams.{AppendsPart}
-use Rattle.lpt_extract.specs.declared.notice.Notice.{Notice}
 use Rattle.lpt_extract.specs.Extracts.{areas_of, notices_of, written_first}
 use Rattle.lpt_extract.specs.ExtractsInside.{Held}
 use Rattle.lpt_extract.specs.Notices.{Hears}

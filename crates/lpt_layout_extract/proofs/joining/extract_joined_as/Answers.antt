@@ -1,5 +1,5 @@
 -- At the end what was taken is written.
-use Rattle.std.proofs.Common.{◌≡◌, ◌∙◌, inr, false, [], sym, subst}
+use Rattle.std.proofs.Common.{◌∙◌, inr, false, [], sym, subst}
 use Rattle.std.proofs.lemmas.Result.{err_from_is_err_and}
 use Rattle.lpt_text.specs.declared.fault.StreamFault.{StreamFault}
 use Rattle.lpt_text.specs.Streams.{AppendsPart}

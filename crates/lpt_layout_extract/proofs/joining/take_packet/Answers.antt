@@ -1,9 +1,7 @@
 -- It carries a part, or is read itself.
-use Rattle.std.proofs.Common.{◌≡◌, ◌∙◌, ap, sym, subst, refl, false, ◌∷◌, [], List, ℕ, Result}
-use Rattle.std.specs.Prelude.{IfErr}
+use Rattle.std.proofs.Common.{sym, subst, refl, false, Result}
 use Rattle.std.proofs.lemmas.Result.{err_from_is_err_and}
 use Rattle.lpt_text.specs.Streams.{AppendsPart}
-use Rattle.lpt_stream.proofs.EndLemmas.{writer-after}
 use Rattle.lpt_extract.specs.Extracts.{written_first}
 use Rattle.lpt_extract.proofs.ReadLemmas.{any-err}
 use Rattle.lpt_layout_join.specs.declared.skip.SkipAs.{SkipAs}
