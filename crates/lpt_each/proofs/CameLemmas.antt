@@ -1,7 +1,8 @@
 -- Which parts came, with one more.
-use Rattle.std.proofs.Common.{◌≡◌, ◌∙◌, ap, sym, refl, subst, inl, inr, ℕ, ◌==◌, Bool, true, false, not, ◌||◌, if◌then◌else◌, List, Option, Some, None}
+use Rattle.std.proofs.Common.{◌≡◌, ◌∙◌, ap, sym, refl, subst, inl, inr, arith, ◌⊎◌, ℕ, ◌≤◌, ◌==◌, Bool, true, false, not, ◌||◌, if◌then◌else◌, List, Option, Some, None}
 use Rattle.std.specs.Prelude.{is_some}
 use Rattle.std.specs.FinMap as map
+use Rattle.std.specs.Ordering.{nat_cmp}
 use Rattle.std.proofs.lemmas.Bool.{and_parts}
 use Rattle.std.proofs.lemmas.Bool.Decides.{eqb_tells}
 use Rattle.lpt_packet.proofs.EntryLemmas.{none_passes, passes_none, passes_some}
@@ -9,14 +10,42 @@ use Rattle.lpt_part.specs.declared.kind.Kind.{Kind}
 use Rattle.lpt_part.specs.declared.kind.Kind.TheVariants.{First, Middle, Last}
 use Rattle.lpt_part.specs.Parts.{same_kind}
 use Rattle.lpt_packet.specs.Numbers.{same_octets}
-use Rattle.lpt_reception.specs.Received.{Kept, Parts, no_parts, with_part, differs, is_last, is_overrun, is_whole, same_kept}
+use Rattle.lpt_reception.specs.Received.{Kept, Parts, no_parts, with_part, differs, greatest, is_last, is_overrun, is_whole, same_kept}
 use Rattle.lpt_each.specs.declared.came.Came.{Came}
-use Rattle.lpt_join.specs.PartNumbersInside.{has, is_ended}
+use Rattle.lpt_join.specs.PartNumbersInside.{has, is_ended, IsHighest}
+use Rattle.lpt_reception.proofs.GreatestLemmas.{greatest_least, greatest_most, greatest_none}
 use Rattle.lpt_join.specs.Joins.{Missing, Broken, kept_by, added}
 use Rattle.lpt_join.proofs.SetLemmas.{added_cases, get_more, get_none, get_other, get_same, not_none}
 use Rattle.lpt_each.specs.Eaches.{Course, are_own, most, spells, told_in_order}
 use Rattle.lpt_each.specs.Helds.{AreCame}
+use Rattle.lpt_each.specs.Streams.{waiting}
 use Rattle.lpt_each.specs.News.{News, Dropped, Overtaken, dropped, has_end}
+
+-- ---- the highest number
+
+some_or : {A : Type 0} (o : Option A) → is_some o ≡ true → (y : A) × (o ≡ Some y)
+some_or None h = absurd cc
+some_or (Some y) h = (y, refl)
+
+-- the highest of the numbers that came is the greatest of the parts
+pub highest-is : (c : Came) (s : Parts) (n : ℕ)
+    → AreCame c s
+    → IsHighest (has c.numbers) n
+    → n ≡ greatest s
+highest-is c s n are high = omega (arith, most, least high.is) where
+  most : greatest s ≤ n
+  most = greatest_most n (map.entries s) (map.entries_sorted s) (λ q y at.
+      high.most q (are.came q ∙ ap is_some (map.get-entries s q ∙ at)))
+
+  least : (n ≡ 0) ⊎ (has c.numbers n ≡ true) → n ≤ greatest s
+  least (inl none) = omega (arith, none)
+  least (inr some) =
+      let w = some_or (map.get s n) (sym (are.came n) ∙ some) in
+      greatest_least n w.0 (map.entries s) (sym (map.get-entries s n) ∙ w.1)
+
+-- where none came nothing is left
+pub waiting-none : waiting no_parts ≡ record { count = 0; highest = 0 }
+waiting-none = λ j. record { count = map.len-empty nat_cmp Kept j; highest = greatest_none j }
 
 no_true : true ≡ false → ⊥
 no_true h = cc

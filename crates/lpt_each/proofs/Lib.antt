@@ -1,11 +1,11 @@
-mod CameLemmas
-mod HeldsLemmas
+pub mod CameLemmas
+pub mod HeldsLemmas
 mod OrderLemmas
 pub mod ReadLemmas
 mod RestrictLemmas
 mod RunLemmas
 mod SendLemmas
-mod SieveLemmas
+pub mod SieveLemmas
 mod SoundLemmas
 mod SplitLemmas
 mod StepLemmas

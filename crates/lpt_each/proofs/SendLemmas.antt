@@ -10,7 +10,7 @@ use Rattle.lpt_reception.specs.PartsOf.{kept_of}
 use Rattle.lpt_reception.specs.Received.{Kept, Parts, is_last, no_parts}
 use Rattle.lpt_join.specs.declared.transaction.Transaction.{Transaction}
 use Rattle.lpt_join.specs.Joins.{Joined, Missing, Complete, Broken, added, join_part, joined}
-use Rattle.lpt_join.specs.Laws.{AllBelong, AllCame, Belongs, Carries, came, is_end, is_part}
+use Rattle.lpt_join.specs.Laws.{AllBelong, AllCame, Belongs, came, is_end, is_part}
 use Rattle.lpt_join.specs.Offers.{offered}
 use Rattle.lpt_join.proofs.GatherLemmas.{join_none, joined-next}
 use Rattle.lpt_join.proofs.LawLemmas.{IsGathered, gathered_all, gathered_none, joined_whole}

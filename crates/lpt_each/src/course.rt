@@ -7,12 +7,13 @@ ghost use Rattle.lpt_join.specs.declared.transaction.Transaction.{Transaction};
 ghost use Rattle.lpt_join.specs.Offers.{part_of_piece};
 ghost use Rattle.lpt_each.specs.Eaches as each;
 ghost use Rattle.lpt_each.specs.Eaches.{unfit};
+ghost use Rattle.lpt_each.specs.Streams.{waiting};
 ghost use Rattle.lpt_each.specs.Helds.{Follows, Holds, IsRun, news_of};
 
 use crate::held::Held;
 use crate::run::{Run, RunTurn};
 use crate::turn::check;
-use crate::{Came, News};
+use crate::{Came, News, Waiting};
 use lpt_join::Transaction;
 use lpt_packet::Octets;
 use lpt_part::Part;
@@ -50,6 +51,14 @@ impl Course {
             → result ≡ each.is_empty c.held.new }
     {
         self.held.is_empty()
+    }
+
+    // What is left.
+    pub(crate) fn waiting(&self) -> Waiting
+        ensures { (t : Transaction) (c : each.Course) → Follows t self.now c
+            → result ≡ waiting c.held.new }
+    {
+        self.held.waiting()
     }
 
     // Which parts are left.

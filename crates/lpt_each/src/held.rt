@@ -1,6 +1,7 @@
 //! What is kept of one name.
 
 ghost use Rattle.std.specs.Prelude.{◌≡◌, ℕ, Bool, Option, IfOk};
+ghost use Rattle.std.specs.FinMap as map;
 ghost use Rattle.std.specs.Option.{option_map};
 ghost use Rattle.lpt_part.specs.Parts.{piece};
 ghost use Rattle.lpt_reception.specs.Received.{Kept, Parts, no_parts};
@@ -8,10 +9,11 @@ ghost use Rattle.lpt_join.specs.declared.transaction.Transaction.{Transaction};
 ghost use Rattle.lpt_join.specs.Joins.{added};
 ghost use Rattle.lpt_join.specs.Offers.{part_of_piece};
 ghost use Rattle.lpt_each.specs.Eaches as each;
+ghost use Rattle.lpt_each.specs.Streams.{waiting};
 ghost use Rattle.lpt_each.specs.Helds.{AreCame, Holds, IsTurnOfAll, Keeps, KeepsAll, has_nothing, news_of};
 
 use crate::turn::{Turn, alone, turn_with};
-use crate::{Came, News};
+use crate::{Came, News, Waiting};
 use lpt_join::{Joining, Transaction, is_part_of};
 use lpt_packet::Octets;
 use lpt_part::Part;
@@ -65,6 +67,16 @@ impl Held {
             return false;
         };
         *last == *message
+    }
+
+    // What is left.
+    pub(crate) fn waiting(&self) -> Waiting
+        ensures { (t : Transaction) (h : each.Held) → Holds t self.now h → result ≡ waiting h.new }
+    {
+        Waiting {
+            count: count_of(&self.new),
+            highest: self.came.numbers.highest(),
+        }
     }
 
     // Which parts are left.
@@ -152,6 +164,18 @@ impl Held {
             Joining::Complete(whole) => Ok((whole == *message, came)),
             _ => Ok((false, came)),
         }
+    }
+}
+
+// How many parts are kept.
+fn count_of(joining: &Joining) -> u32
+    ensures { (t : Transaction) (s : Parts) → Keeps t joining.now s → result ≡ map.len s }
+{
+    match joining {
+        Joining::Nothing => 0,
+        Joining::Missing(filling) => filling.kept_count(),
+        Joining::Complete(_) => 0,
+        Joining::BrokenOff => 0,
     }
 }
 

@@ -10,10 +10,10 @@ ghost use Rattle.lpt_join.specs.Offers.{piece_in};
 ghost use Rattle.lpt_join.specs.Several.{of_name};
 ghost use Rattle.lpt_each.specs.Eaches.{held};
 ghost use Rattle.lpt_each.specs.Helds.{events_of, Follows, HoldsEach};
-ghost use Rattle.lpt_each.specs.Streams.{told_by};
+ghost use Rattle.lpt_each.specs.Streams.{told_by, waiting_of};
 
-use crate::News;
 use crate::course::Course;
+use crate::{News, Waiting};
 use lpt_join::Transaction;
 use lpt_packet::Name;
 use lpt_part::Part;
@@ -70,6 +70,20 @@ impl Helds {
         match news {
             None => Ok((helds, None)),
             Some(news) => Ok((helds, Some((name, news)))),
+        }
+    }
+
+    /// What is left of a name: what `leave` tells of it, as two numbers.
+    pub fn waiting(&self, name: Name) -> Waiting
+        ensures { (t : Transaction) (any : Bool) (bs : List (List ℕ)) → HoldsEach t any bs self.now
+            → result ≡ waiting_of t any bs name }
+    {
+        match self.kept.get(&name) {
+            Some(held) => held.waiting(),
+            None => Waiting {
+                count: 0,
+                highest: 0,
+            },
         }
     }
 

@@ -19,6 +19,7 @@ mod leaving;
 mod news;
 mod run;
 mod turn;
+mod waiting;
 
 pub use came::Came;
 pub use each::each_stream;
@@ -29,3 +30,4 @@ pub use lpt_packet::{Name, Octets};
 pub use lpt_skips::Skips;
 pub use lpt_text::{Source, StreamFault};
 pub use news::{News, Taker};
+pub use waiting::Waiting;

@@ -1,28 +1,22 @@
 -- The marks of parts are the stream's parts, in the rows of their transactions.
-use Rattle.std.proofs.Common.{◌≡◌, ◌∙◌, ap, sym, refl, ℕ, zero, suc, ◌+◌, nat_lt, nat_le, cond, Bool, true, false, ◌||◌, if◌then◌else◌, List, [], ◌∷◌, ◌++◌, filter, length, map, get_or, set, Option, Some, None, is_some, append_assoc, append-nil}
-use Rattle.std.specs.FinMap as map
+use Rattle.std.proofs.Common.{◌≡◌, ◌∙◌, ap, sym, refl, ℕ, zero, suc, ◌+◌, nat_lt, nat_le, ◌==◌, cond, Bool, true, false, ◌||◌, if◌then◌else◌, List, [], ◌∷◌, ◌++◌, filter, length, map, get_or, set, Option, Some, None, append_assoc, append-nil}
 use Rattle.std.specs.Option.{option_map}
 use Rattle.std.proofs.lemmas.Option.{slice_get-get_or}
-use Rattle.lpt_part.specs.Parts as parts
 use Rattle.lpt_packet.specs.declared.direction.Direction.{Direction}
 use Rattle.lpt_packet.specs.Names.{Name}
-use Rattle.lpt_reception.specs.Received.{Received, contradicts, is_whole, spelled, with_part}
-use Rattle.lpt_events.specs.NamedParts.{NamedPart, bare as unnamed}
 use Rattle.lpt_stream.specs.declared.piece_kind.PieceKind.{PieceKind}
 use Rattle.lpt_stream.specs.declared.piece_kind.PieceKind.TheVariants as piece
-use Rattle.lpt_stream.specs.Pieces.{Piece, keeps_step, up_to_limit}
-use Rattle.lpt_join.specs.Messages.{is_part_of}
-use Rattle.lpt_join.specs.Offers.{part_of_piece}
-use Rattle.lpt_glance.specs.declared.held.Held.{Held}
-use Rattle.lpt_glance.specs.declared.held.Held.TheVariants.{Nothing, Open, Whole}
+use Rattle.lpt_stream.specs.Pieces.{Piece, keeps_step, packets_of, up_to_limit}
+use Rattle.lpt_each.specs.declared.waiting.Waiting.{Waiting}
+use Rattle.lpt_each.specs.News.{Event, News, Given, Dropped, Unfit, Overtaken}
 use Rattle.lpt_glance.specs.declared.mark.Key.{Key}
 use Rattle.lpt_glance.specs.declared.mark.Key.TheVariants as key
 use Rattle.lpt_glance.specs.declared.mark.Mark.{Mark}
 use Rattle.lpt_glance.specs.declared.row.Row.{Row}
 use Rattle.lpt_glance.specs.declared.view.View.{View}
-use Rattle.lpt_glance.specs.Fates.{after, begun, filled, kept_of}
+use Rattle.lpt_glance.specs.Fates.{Fate, fresh, key_of_news, key_with, quiet_key}
 use Rattle.lpt_glance.specs.Laws.{Drawn, DrawsParts, drawn_of, named_at, parts_from, told_by}
-use Rattle.lpt_glance.specs.Looks.{Directed, Seen, bare, carried, code_of, fresh, key_at, key_of, mark_of, nothing, opened, part_of, passed, row_of, rows_with, seen, seen_from, stepped, with_piece}
+use Rattle.lpt_glance.specs.Looks.{Directed, Seen, bare, carried, code_of, fate_of, key_of, mark_of, nothing, opened, part_of, passed, row_of, rows_with, seen, seen_from, stepped, with_piece}
 use Rattle.lpt_glance.specs.Pictures.{is_part}
 use Rattle.lpt_glance.proofs.RowLemmas.{row-own, row-within}
 
@@ -30,47 +24,25 @@ use Rattle.lpt_glance.proofs.RowLemmas.{row-own, row-within}
 
 -- whether it is a part that is drawn so
 abbrev is_of_part : Key → Bool
-is_of_part k = nat_le (code_of k) 4
+is_of_part k = nat_le (code_of k) 5
 
-filled-part : (p : ℕ) (r : Received) (q : parts.Piece) → is_of_part (filled p r q).1 ≡ true
-unfolding filled
-filled-part p r q =
-    go (contradicts r.parts q.number (kept_of q)) (is_some (map.get r.parts q.number))
-    (is_whole (with_part r.parts q.number (kept_of q))) where
-      go : (contra known whole : Bool)
-          → is_of_part (
-          if contra then begun p key.Against q
-          else if known then (Open r, key.Again)
-          else if whole
-          then (Whole (spelled (with_part r.parts q.number (kept_of q))), key.Whole)
-          else (Open (record r { parts = with_part r.parts q.number (kept_of q) }), key.New)
-          ).1 ≡ true
-      go true known whole = refl
-      go false true whole = refl
-      go false false true = refl
-      go false false false = refl
+quiet-part : (was now : Waiting) (n : ℕ) → is_of_part (quiet_key was now n) ≡ true
+quiet-part was now n = go (now.count == was.count) (nat_lt (was.highest + 1) n) where
+  go : (same far : Bool)
+      → is_of_part (if same then key.Again else if far then key.Ahead else key.New) ≡ true
+  go true far = refl
+  go false true = refl
+  go false false = refl
 
-after-part : (p : ℕ) (h : Held) (q : parts.Piece) → is_of_part (after p h q).1 ≡ true
-after-part p Nothing q = refl
-after-part p (Open r) q = filled-part p r q
-after-part p (Whole m) q = go (is_part_of m p (part_of_piece q)) where
-  go : (own : Bool)
-      → is_of_part (if own then (Whole m, key.Again) else begun p key.New q).1 ≡ true
-  go true = refl
-  go false = refl
+news-part : (w : News) → is_of_part (key_of_news w) ≡ true
+news-part (Given m) = refl
+news-part (Dropped came ended) = refl
+news-part (Unfit e) = refl
+news-part (Overtaken came ended m) = refl
 
-key-part : (k : Key) (top n : ℕ) → is_of_part k ≡ true → is_of_part (key_at k top n) ≡ true
-key-part key.New top n h = go (nat_lt (top + 1) n) where
-  go : (b : Bool) → is_of_part (if b then key.Ahead else key.New) ≡ true
-  go true = refl
-  go false = refl
-key-part key.Ahead top n h = h
-key-part key.Again top n h = h
-key-part key.Against top n h = h
-key-part key.Whole top n h = h
-key-part key.NoPart top n h = h
-key-part key.Damaged top n h = h
-key-part key.Stray top n h = h
+key-part : (es : List Event) (k : Key) → is_of_part k ≡ true → is_of_part (key_with es k) ≡ true
+key-part [] k h = h
+key-part (e ∷ es) k h = news-part e.1
 
 -- ---- whose rows are
 
@@ -111,29 +83,33 @@ module _ (d : Direction) (n : Name) (rows : List Row) where
       (slice_get-get_or (opened d n rows) (row_of d n rows) x (row-within d n rows))
       ∙ (λ j. Some (own.0 j, own.1 j))
 
-module _ (p : ℕ) (d : Direction) (q : NamedPart) (rows : List Row) where
-  named-with : (k : ℕ) → named_at (rows_with p d q rows) k ≡ named_at (opened d q.name rows) k
+module _ (f : Fate) (rows : List Row) where
+  named-with : (k : ℕ)
+      → named_at (rows_with f rows) k ≡ named_at (opened f.direction f.name rows) k
   named-with k =
-      named-set (opened d q.name rows) (row_of d q.name rows) (stepped p d q rows).0
-      (fresh d q.name) k refl
+      named-set (opened f.direction f.name rows) (row_of f.direction f.name rows)
+      (stepped f rows).0 (fresh f.direction f.name) k refl
 
-  extends-with : Extends rows (rows_with p d q rows)
-  extends-with i t h = named-with i ∙ extends-opened d q.name rows i t h
+  extends-with : Extends rows (rows_with f rows)
+  extends-with i t h = named-with i ∙ extends-opened f.direction f.name rows i t h
 
-  own-with : named_at (rows_with p d q rows) (row_of d q.name rows) ≡ Some (d, q.name)
-  own-with = named-with (row_of d q.name rows) ∙ its-own d q.name rows
+  own-with : named_at (rows_with f rows) (row_of f.direction f.name rows)
+      ≡ Some (f.direction, f.name)
+  own-with = named-with (row_of f.direction f.name rows) ∙ its-own f.direction f.name rows
 
-extends-piece : (v : View) (s : Seen) (x : Piece) → Extends s.rows (with_piece v s x).rows
-extends-piece v s x = go (part_of v x.kind x.octets) where
-  go : (o : Option Directed)
-      → Extends s.rows (carried v.part_size x.kind (length x.octets) o s).rows
+extends-piece : (v : View) (bs : List (List ℕ)) (s : Seen) (x : Piece)
+    → Extends s.rows (with_piece v bs s x).rows
+extends-piece v bs s x = go (part_of v x.kind x.octets) where
+  go : (o : Option Directed) → Extends s.rows (carried v bs x o s).rows
   go None i t h = h
-  go (Some y) i t h = extends-with v.part_size y.0 y.1 s.rows i t h
+  go (Some y) i t h = extends-with (fate_of v bs x.octets y.0 y.1) s.rows i t h
 
-extends-from : (v : View) (s : Seen) (xs : List Piece) → Extends s.rows (seen_from v s xs).rows
-extends-from v s [] i t h = h
-extends-from v s (x ∷ xs) i t h =
-    extends-from v (with_piece v s x) xs i t (extends-piece v s x i t h)
+extends-from : (v : View) (before : List Piece) (s : Seen) (xs : List Piece)
+    → Extends s.rows (seen_from v before s xs).rows
+extends-from v before s [] i t h = h
+extends-from v before s (x ∷ xs) i t h =
+    extends-from v (before ++ x ∷ []) (with_piece v (packets_of before) s x) xs i t
+    (extends-piece v (packets_of before) s x i t h)
 
 -- ---- what marks tell of parts
 
@@ -172,49 +148,48 @@ module _ (rows : List Row) where
   told-one : (m : Mark) → is_part m ≡ true → told rows (m ∷ []) ≡ told_by rows m ∷ []
   told-one m h = ap (λ b. map (told_by rows) (cond b (m ∷ []) [])) h
 
-  told-piece : (v : View) (s : Seen) (x : Piece) → Extends (with_piece v s x).rows rows
-      → told rows (with_piece v s x).marks
+  told-piece : (v : View) (bs : List (List ℕ)) (s : Seen) (x : Piece)
+      → Extends (with_piece v bs s x).rows rows
+      → told rows (with_piece v bs s x).marks
       ≡ told rows s.marks ++ drawn_of s.octets (part_of v x.kind x.octets)
-  told-piece v s x = go (part_of v x.kind x.octets) where
-    p : ℕ
-    p = v.part_size
-
-    go : (o : Option Directed) → Extends (carried p x.kind (length x.octets) o s).rows rows
-        → told rows (carried p x.kind (length x.octets) o s).marks
-        ≡ told rows s.marks ++ drawn_of s.octets o
+  told-piece v bs s x = go (part_of v x.kind x.octets) where
+    go : (o : Option Directed) → Extends (carried v bs x o s).rows rows
+        → told rows (carried v bs x o s).marks ≡ told rows s.marks ++ drawn_of s.octets o
     go None ext = told-passed x.kind (length x.octets) s ∙ sym (append-nil (told rows s.marks))
     go (Some (d, q)) ext =
-        let m = mark_of p s.octets d q s.rows in
+        let f = fate_of v bs x.octets d q in
+        let m = mark_of s.octets f s.rows in
         let r = get_or (opened d q.name s.rows) (row_of d q.name s.rows) (fresh d q.name) in
-        let part : is_part m ≡ true = key-part (after p r.held (unnamed q)).1 r.counts.top q.number
-        (after-part p r.held (unnamed q)) in
-        let own = ext (row_of d q.name s.rows) (d, q.name) (own-with p d q s.rows) in
+        let part : is_part m ≡ true =
+        key-part f.told _ (quiet-part r.counts.left f.left f.number) in
+        let own = ext (row_of d q.name s.rows) (d, q.name) (own-with f s.rows) in
         told-append s.marks (m ∷ [])
         ∙ ap (λ xs. told rows s.marks ++ xs)
         (told-one m part
         ∙ (λ j. record { place = s.octets; number = q.number; of = own j } ∷ []))
 
-octets-piece : (v : View) (s : Seen) (x : Piece)
-    → (with_piece v s x).octets ≡ up_to_limit (s.octets + length x.octets)
-octets-piece v s x = go (part_of v x.kind x.octets) where
+octets-piece : (v : View) (bs : List (List ℕ)) (s : Seen) (x : Piece)
+    → (with_piece v bs s x).octets ≡ up_to_limit (s.octets + length x.octets)
+octets-piece v bs s x = go (part_of v x.kind x.octets) where
   go : (o : Option Directed)
-      → (carried v.part_size x.kind (length x.octets) o s).octets
-      ≡ up_to_limit (s.octets + length x.octets)
+      → (carried v bs x o s).octets ≡ up_to_limit (s.octets + length x.octets)
   go None = refl
   go (Some y) = refl
 
-told-from : (v : View) (s : Seen) (xs : List Piece) (rows : List Row)
-    → Extends (seen_from v s xs).rows rows
-    → told rows (seen_from v s xs).marks ≡ told rows s.marks ++ parts_from v s.octets xs
-told-from v s [] rows ext = sym (append-nil (told rows s.marks))
-told-from v s (x ∷ xs) rows ext =
-    let now = with_piece v s x in
-    told-from v now xs rows ext
-    ∙ ap (λ at. told rows now.marks ++ parts_from v at xs) (octets-piece v s x)
+told-from : (v : View) (before : List Piece) (s : Seen) (xs : List Piece) (rows : List Row)
+    → Extends (seen_from v before s xs).rows rows
+    → told rows (seen_from v before s xs).marks ≡ told rows s.marks ++ parts_from v s.octets xs
+told-from v before s [] rows ext = sym (append-nil (told rows s.marks))
+told-from v before s (x ∷ xs) rows ext =
+    let bs = packets_of before in
+    let now = with_piece v bs s x in
+    told-from v (before ++ x ∷ []) now xs rows ext
+    ∙ ap (λ at. told rows now.marks ++ parts_from v at xs) (octets-piece v bs s x)
     ∙ ap (λ ys. ys ++ parts_from v (up_to_limit (s.octets + length x.octets)) xs)
-    (told-piece rows v s x (λ i t h. ext i t (extends-from v now xs i t h)))
+    (told-piece rows v bs s x
+    (λ i t h. ext i t (extends-from v (before ++ x ∷ []) now xs i t h)))
     ∙ append_assoc (told rows s.marks) (drawn_of s.octets (part_of v x.kind x.octets))
     (parts_from v (up_to_limit (s.octets + length x.octets)) xs)
 
 pub draws_parts : (v : View) (pieces : List Piece) → DrawsParts v pieces
-draws_parts v pieces = told-from v nothing pieces (seen v pieces).rows (λ i t h. h)
+draws_parts v pieces = told-from v [] nothing pieces (seen v pieces).rows (λ i t h. h)

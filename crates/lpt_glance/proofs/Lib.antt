@@ -1,4 +1,5 @@
+mod CountLemmas
 mod DrawnLemmas
-mod FillLemmas
 mod RowLemmas
 mod SeenLemmas
+mod WayLemmas

@@ -12,11 +12,10 @@ use Rattle.lpt_packet.specs.declared.direction.Direction.{Direction}
 use Rattle.lpt_packet.specs.Names.{Name, same_name}
 use Rattle.lpt_events.proofs.LaneLemmas.{same_direction-refl, same_direction-true}
 use Rattle.lpt_events.specs.Lanes.{same_direction}
-use Rattle.lpt_events.specs.NamedParts.{NamedPart, bare}
 use Rattle.lpt_glance.specs.declared.places.Places.{Places}
 use Rattle.lpt_glance.specs.declared.row.Row.{Row}
-use Rattle.lpt_glance.specs.Fates.{IsOwn}
-use Rattle.lpt_glance.specs.Looks.{AreOwn, advanced, fresh, is_of, opened, row_of, stepped}
+use Rattle.lpt_glance.specs.Fates.{Fate, fresh}
+use Rattle.lpt_glance.specs.Looks.{advanced, is_of, opened, row_of, stepped}
 use Rattle.lpt_glance.specs.Places.{Finds, place_in}
 
 -- a number as a place among so many, where it is one
@@ -173,18 +172,12 @@ module _ (d : Direction) (n : Name) (rows now : List Row) (i : ℕ) (is : now �
         (λ j. (get_or (is j) (at j) x).name) ∙ own.1,
       )
 
-  pub its-own : (p id : ℕ) (x : Row) → AreOwn p now → id ≡ n.id → x ≡ get_or now i x
-      → IsOwn p id x.held
-  its-own p id x own same there =
-      subst (λ (r : Row). IsOwn p id r.held) (sym there)
-      (subst (λ (k : ℕ). IsOwn p k (get_or now i x).held)
-      (ap (λ (m : Name). m.id) (its-name x).1 ∙ sym same) (own i x its-place))
-
   -- what a part makes of it
-  pub its-step : (p : ℕ) (q : NamedPart) (x : Row) → q.name ≡ n → x ≡ get_or now i x
-      → advanced p x (bare q) ≡ stepped p d q rows
-  its-step p q x named there =
-      ap (λ (r : Row). advanced p r (bare q))
+  pub its-step : (f : Fate) (x : Row) → f.direction ≡ d → f.name ≡ n → x ≡ get_or now i x
+      → advanced f x ≡ stepped f rows
+  its-step f x way named there =
+      ap (λ (r : Row). advanced f r)
       (there ∙ (λ j. get_or (is j) (at j) x)
       ∙ get_or_default (opened d n rows) (row_of d n rows) x (fresh d n) (row-within d n rows)
-      ∙ ap (λ (m : Name). get_or (opened d m rows) (row_of d m rows) (fresh d m)) (sym named))
+      ∙ (λ j. get_or (opened (sym way j) (sym named j) rows)
+      (row_of (sym way j) (sym named j) rows) (fresh (sym way j) (sym named j))))

@@ -1,10 +1,17 @@
 -- What is seen with a piece more.
-use Rattle.std.proofs.Common.{◌≡◌, refl, List, [], ◌∷◌, ◌++◌}
-use Rattle.lpt_stream.specs.Pieces.{Piece}
+use Rattle.std.proofs.Common.{◌≡◌, ◌∙◌, ap, sym, List, [], ◌∷◌, ◌++◌, append-nil, append_assoc}
+use Rattle.lpt_stream.specs.Pieces.{Piece, packets_of}
 use Rattle.lpt_glance.specs.declared.view.View.{View}
 use Rattle.lpt_glance.specs.Looks.{Seen, seen_from, with_piece}
 
-pub seen-snoc : (v : View) (s : Seen) (xs : List Piece) (x : Piece)
-    → seen_from v s (xs ++ x ∷ []) ≡ with_piece v (seen_from v s xs) x
-seen-snoc v s [] x = refl
-seen-snoc v s (y ∷ ys) x = seen-snoc v (with_piece v s y) ys x
+pub seen-snoc : (v : View) (before : List Piece) (s : Seen) (xs : List Piece) (x : Piece)
+    → seen_from v before s (xs ++ x ∷ [])
+    ≡ with_piece v (packets_of (before ++ xs)) (seen_from v before s xs) x
+seen-snoc v before s [] x =
+    ap (λ (ps : List Piece). with_piece v (packets_of ps) s x) (sym (append-nil before))
+seen-snoc v before s (y ∷ ys) x =
+    let now = with_piece v (packets_of before) s y in
+    seen-snoc v (before ++ y ∷ []) now ys x
+    ∙ ap (λ (ps : List Piece). with_piece v (packets_of ps)
+    (seen_from v (before ++ y ∷ []) now ys) x)
+    (append_assoc before (y ∷ []) ys)

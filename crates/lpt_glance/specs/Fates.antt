@@ -1,50 +1,82 @@
--- What a part makes of those that came before it under its name.
-use Rattle.std.specs.Prelude.{◌≡◌, ℕ, if◌then◌else◌, is_some}
-use Rattle.std.specs.FinMap as map
-use Rattle.lpt_part.specs.Parts.{Piece}
-use Rattle.lpt_reception.specs.Received.{Kept, Received, contradicts, is_whole, no_parts, spelled, with_part}
-use Rattle.lpt_join.specs.Messages.{is_part_of}
-use Rattle.lpt_join.specs.Offers.{part_of_piece}
-use Rattle.lpt_glance.specs.declared.held.Held.{Held}
-use Rattle.lpt_glance.specs.declared.held.Held.TheVariants.{Nothing, Open, Whole}
+-- What a part makes of its row.
+use Rattle.std.specs.Prelude.{ℕ, ◌+◌, ◌==◌, nat_lt, max, if◌then◌else◌, List, [], ◌∷◌}
+use Rattle.lpt_packet.specs.declared.direction.Direction.{Direction}
+use Rattle.lpt_packet.specs.Names.{Name}
+use Rattle.lpt_stream.specs.Pieces.{up_to_limit}
+use Rattle.lpt_each.specs.declared.waiting.Waiting.{Waiting}
+use Rattle.lpt_each.specs.News.{Event, News, Given, Dropped, Unfit, Overtaken}
 use Rattle.lpt_glance.specs.declared.mark.Key.{Key}
 use Rattle.lpt_glance.specs.declared.mark.Key.TheVariants as key
+use Rattle.lpt_glance.specs.declared.row.Counts.{Counts}
+use Rattle.lpt_glance.specs.declared.row.Row.{Row}
 
--- the identifier of a reception, and the size of its parts; these where there is none
-abbrev pub id_in : (id : ℕ) → Held → ℕ
-id_in id (Open r) = r.id
-id_in id _ = id
+-- a part of a transaction: its number, what is told with it, and what is left of its name behind it
+pub record Fate : Type 0 where
+  pub direction : Direction
+  pub name : Name
+  pub number : ℕ
+  pub told : List Event
+  pub left : Waiting
 
-abbrev pub size_in : (p : ℕ) → Held → ℕ
-size_in p (Open r) = r.p
-size_in p _ = p
+-- the same, in short
+abbrev pub fate : Direction → Name → (number : ℕ) → List Event → Waiting → Fate
+fate d n k es w = record { direction = d; name = n; number = k; told = es; left = w }
 
--- the reception is one of parts of p octets, of this identifier
-abbrev pub IsOwn : (p id : ℕ) → Held → Type 0
-IsOwn p id h = (id_in id h ≡ id) × (size_in p h ≡ p)
+-- a row of which nothing came
+abbrev pub fresh : Direction → Name → Row
+fresh d n = record {
+  direction = d;
+  name = n;
+  counts =
+      record { whole = 0; given_up = 0; left = record { count = 0; highest = 0 }; most = 0 };
+}
 
--- what is kept of a part besides its number
-abbrev pub kept_of : Piece → Kept
-kept_of q = (part_of_piece q).1
+-- ---- how much came
 
--- a message begins with the part: what is kept then, and how the part is drawn
-abbrev pub begun : (p : ℕ) → Key → Piece → Held × Key
-begun p key q =
-    (Open (record { id = q.id; p = p; parts = with_part no_parts q.number (kept_of q) }), key)
+-- one more, as it is counted
+abbrev pub one_more : ℕ → ℕ
+one_more n = up_to_limit (n + 1)
 
--- what the part makes of parts of a message: one that contradicts them begins anew
-unfoldable pub filled : (p : ℕ) → Received → Piece → Held × Key
-filled p r q =
-    if contradicts r.parts q.number (kept_of q) then begun p key.Against q
-    else if is_some (map.get r.parts q.number) then (Open r, key.Again)
-    else if is_whole (with_part r.parts q.number (kept_of q))
-    then (Whole (spelled (with_part r.parts q.number (kept_of q))), key.Whole)
-    else (Open (record r { parts = with_part r.parts q.number (kept_of q) }), key.New)
+-- with this told
+abbrev pub with_news : News → Counts → Counts
+with_news (Given m) c = record c { whole = one_more c.whole }
+with_news (Dropped came ended) c = record c { given_up = one_more c.given_up }
+with_news (Unfit e) c = record c { given_up = one_more c.given_up }
+with_news (Overtaken came ended m) c =
+    record c { whole = one_more c.whole; given_up = one_more c.given_up }
 
--- what the part makes of what is kept: behind a whole message, what isn't a part of it begins
--- another
-abbrev pub after : (p : ℕ) → Held → Piece → Held × Key
-after p Nothing q = begun p key.New q
-after p (Open r) q = filled p r q
-after p (Whole m) q =
-    if is_part_of m p (part_of_piece q) then (Whole m, key.Again) else begun p key.New q
+-- with these
+abbrev pub with_told : List Event → Counts → Counts
+with_told [] c = c
+with_told (e ∷ es) c = with_told es (with_news e.1 c)
+
+-- with a part more
+abbrev pub counted : Fate → Counts → Counts
+counted f c = record (with_told f.told c) { left = f.left; most = max c.most f.number }
+
+-- ---- how a part is drawn
+
+-- with which this is told: a message became whole; others were given up for it; what became whole
+-- is no packet
+abbrev pub key_of_news : News → Key
+key_of_news (Given m) = key.Whole
+key_of_news (Dropped came ended) = key.Against
+key_of_news (Unfit e) = key.Unfit
+key_of_news (Overtaken came ended m) = key.Whole
+
+-- with which nothing is told: one that is left already, or is the last message's; one that leaves
+-- numbers out; or another
+abbrev pub quiet_key : (was now : Waiting) → (number : ℕ) → Key
+quiet_key was now n =
+    if now.count == was.count then key.Again
+    else if nat_lt (was.highest + 1) n then key.Ahead
+    else key.New
+
+-- with which these are told, and how where none is
+abbrev pub key_with : List Event → Key → Key
+key_with [] k = k
+key_with (e ∷ es) k = key_of_news e.1
+
+-- behind what was left
+abbrev pub key_by : Fate → (was : Waiting) → Key
+key_by f was = key_with f.told (quiet_key was f.left f.number)

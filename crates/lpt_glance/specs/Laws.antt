@@ -1,13 +1,19 @@
--- The parts of a stream, and how often they are drawn.
-use Rattle.std.specs.Prelude.{◌≡◌, ℕ, ◌+◌, List, [], ◌∷◌, ◌++◌, filter, length, map, slice_get, Option, Some, None}
+-- The parts of a stream, how often they are drawn, and what their rows count.
+use Rattle.std.specs.Prelude.{◌≡◌, ℕ, ◌+◌, Bool, true, false, List, [], ◌∷◌, ◌++◌, filter, length, map, slice_get, slice_index_or, Option, Some, None}
 use Rattle.std.specs.Option.{option_map}
 use Rattle.lpt_packet.specs.declared.direction.Direction.{Direction}
 use Rattle.lpt_packet.specs.Names.{Name}
-use Rattle.lpt_stream.specs.Pieces.{Piece, up_to_limit}
+use Rattle.lpt_stream.specs.Pieces.{Piece, packets_of, up_to_limit}
+use Rattle.lpt_join.specs.Several.{of_name}
+use Rattle.lpt_each.specs.Eaches as each
+use Rattle.lpt_each.specs.Eaches.{news_from}
+use Rattle.lpt_each.specs.News.{News, Given, Dropped, Unfit, Overtaken, messages_in}
+use Rattle.lpt_each.specs.Streams.{waiting_of}
 use Rattle.lpt_glance.specs.declared.mark.Mark.{Mark}
 use Rattle.lpt_glance.specs.declared.row.Row.{Row}
 use Rattle.lpt_glance.specs.declared.view.View.{View}
-use Rattle.lpt_glance.specs.Looks.{Directed, part_of, seen}
+use Rattle.lpt_glance.specs.Fates.{fresh}
+use Rattle.lpt_glance.specs.Looks.{Directed, part_of, row_of, seen, way}
 use Rattle.lpt_glance.specs.Pictures.{is_part}
 
 -- a part's place, its number, and the transaction of which it is
@@ -42,3 +48,32 @@ abbrev pub DrawsParts : View → List Piece → Type 0
 DrawsParts v pieces =
     map (told_by (seen v pieces).rows) (filter is_part (seen v pieces).marks)
     ≡ parts_from v 0 pieces
+
+-- the row of a transaction, or one of which nothing came
+abbrev pub row_at : Direction → Name → List Row → Row
+row_at d n rows = slice_index_or rows (row_of d n rows) (fresh d n)
+
+-- what packets tell of a name in this direction
+abbrev pub told_of : View → Direction → Name → List (List ℕ) → List News
+told_of v d n bs = news_from (of_name (way v d) n) false each.nothing bs
+
+-- whether it tells that parts are given up
+abbrev pub gives_up : News → Bool
+gives_up (Given m) = false
+gives_up (Dropped came ended) = true
+gives_up (Unfit e) = true
+gives_up (Overtaken came ended m) = true
+
+-- a row counts the messages that packets give out of its transaction, and how often they give parts
+-- up, and has what they leave
+pub record IsCounted (v : View) (d : Direction) (n : Name) (bs : List (List ℕ))
+    (r : Row) : Type 0 where
+  pub whole : r.counts.whole ≡ up_to_limit (length (messages_in (told_of v d n bs)))
+  pub given_up : r.counts.given_up ≡ up_to_limit (length (filter gives_up (told_of v d n bs)))
+  pub left : r.counts.left ≡ waiting_of (way v d) false bs n
+
+-- the row of each does
+abbrev pub CountsEach : View → List Piece → Type 0
+CountsEach v pieces =
+    (d : Direction) (n : Name)
+    → IsCounted v d n (packets_of pieces) (row_at d n (seen v pieces).rows)

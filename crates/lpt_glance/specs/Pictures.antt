@@ -5,8 +5,9 @@ use Rattle.std.specs.List.{flat_map}
 use Rattle.std.specs.Option.{option_map_or}
 use Rattle.lpt_packet.specs.Directions.{direction_word}
 use Rattle.lpt_events.specs.NameTexts.{name_text}
+use Rattle.lpt_each.specs.declared.waiting.Waiting.{Waiting}
 use Rattle.lpt_glance.specs.declared.mark.Key.{Key}
-use Rattle.lpt_glance.specs.declared.mark.Key.TheVariants.{New, Ahead, Again, Against, Whole, NoPart, Damaged, Stray}
+use Rattle.lpt_glance.specs.declared.mark.Key.TheVariants.{New, Ahead, Again, Against, Whole, Unfit, NoPart, Damaged, Stray}
 use Rattle.lpt_glance.specs.declared.mark.Mark.{Mark}
 use Rattle.lpt_glance.specs.declared.row.Counts.{Counts}
 use Rattle.lpt_glance.specs.declared.row.Row.{Row}
@@ -53,6 +54,7 @@ sign_text Ahead = codes "h3m-2 -9v18' class='g'/>"
 sign_text Again = codes "m-2 -2h4v4h-4z' class='a'/>"
 sign_text Against = codes "m-4 -4l8 8m0 -8l-8 8' class='c'/>"
 sign_text Whole = codes "m-4 0a4 4 0 1 0 8 0a4 4 0 1 0 -8 0' class='w'/>"
+sign_text Unfit = codes "m-4 0a4 4 0 1 0 8 0a4 4 0 1 0 -8 0m1 3l6 -6' class='u'/>"
 sign_text NoPart = codes "m0 -4v8' class='n'/>"
 sign_text Damaged = codes "m-4 4h8l-4 -8z' class='d'/>"
 sign_text Stray = codes "m-2 -5h4v10h-4z' class='s'/>"
@@ -69,12 +71,25 @@ marks_text rows octets marks = flat_map (mark_text rows octets) marks
 
 -- ---- what is said
 
--- how much came of a transaction; where a message is open, in a style of its own
+-- how many messages of a transaction became whole; where parts are left, in a style of its own
+abbrev pub whole_text : (left whole : ℕ) → List ℕ
+whole_text left whole =
+    (if left == 0 then codes "'>whole: " else codes "' class='o'>whole: ") ++ decimal whole
+
+-- how often parts were given up, where they were
+abbrev pub given_up_text : (given_up : ℕ) → List ℕ
+given_up_text n = if n == 0 then [] else codes ", given up: " ++ decimal n
+
+-- what is left, where something is
+abbrev pub open_text : Waiting → List ℕ
+open_text w =
+    if w.count == 0 then []
+    else codes ", open parts: " ++ (decimal w.count ++ (codes ", up to " ++ decimal w.highest))
+
+-- how much came of a transaction
 abbrev pub words_text : Counts → List ℕ
 words_text c =
-    if c.came == 0 then codes "'>whole: " ++ decimal c.whole
-    else codes "' class='o'>whole: " ++ (decimal c.whole ++ (codes ", open parts: "
-    ++ (decimal c.came ++ (codes ", up to " ++ decimal c.top))))
+    (whole_text c.left.count c.whole ++ given_up_text c.given_up) ++ open_text c.left
 
 -- whose a row is; a name of the configured source is written without it
 abbrev pub whose_text : (source : ℕ) → Row → List ℕ
@@ -108,7 +123,7 @@ count_of key marks = count_by (λ m. code_of m.key == code_of key) marks
 
 -- whether a mark is a part's
 abbrev pub is_part : Mark → Bool
-is_part m = nat_le (code_of m.key) 4
+is_part m = nat_le (code_of m.key) 5
 
 -- how many are, said in this word below so many rows
 unfoldable pub lane_text : (rows : ℕ) → List Mark → Key → (word : List ℕ) → List ℕ
@@ -134,7 +149,7 @@ legend_text =
     ++ codes "as high as their numbers; below them what is no part.</desc><style>"
     ++ codes "path{fill:none;stroke:#000}.l{stroke:#ddd}"
     ++ codes ".f{stroke:#1f4e8c;stroke-width:3}.g{stroke:#b00020;stroke-width:2}.a{stroke:#666}"
-    ++ codes ".c{stroke:#b00020;stroke-width:2}.w{stroke-width:1.5}.n{stroke:#888}"
+    ++ codes ".c,.u{stroke:#b00020;stroke-width:2}.w{stroke-width:1.5}.n{stroke:#888}"
     ++ codes ".d{fill:#b00020;stroke:none}.s{fill:#000;stroke:none}.o{font-weight:bold}</style>"
     ++ codes "<rect width='100%' height='100%' fill='#fff'/>"
     ++ codes "<path d='M156 40h3' class='f'/><text x='166' y='44'>a part</text>"
@@ -144,13 +159,15 @@ legend_text =
     ++ codes "<path d='M576 40m-4 -4l8 8m0 -8l-8 8' class='c'/><text x='586' y='44'>"
     ++ codes "contradicts the others</text>"
     ++ codes "<path d='M756 40m-4 0a4 4 0 1 0 8 0a4 4 0 1 0 -8 0' class='w'/><text x='766' y='44'>"
-    ++ codes "whole with it</text><text x='8' y='20'>"
+    ++ codes "whole with it</text>"
+    ++ codes "<path d='M886 40m-4 0a4 4 0 1 0 8 0a4 4 0 1 0 -8 0m1 3l6 -6' class='u'/>"
+    ++ codes "<text x='896' y='44'>whole, but no packet</text><text x='8' y='20'>"
 
 -- the size of a picture so high
 unfoldable pub size_text : (high : ℕ) → List ℕ
 size_text high =
-    codes "<svg xmlns='http://www.w3.org/2000/svg' role='img' width='1700' height='"
-    ++ (decimal high ++ (codes "' viewBox='0 0 1700 " ++ decimal high))
+    codes "<svg xmlns='http://www.w3.org/2000/svg' role='img' width='1760' height='"
+    ++ (decimal high ++ (codes "' viewBox='0 0 1760 " ++ decimal high))
 
 -- how much came
 unfoldable pub counts_text : (parts rows octets : ℕ) → List ℕ

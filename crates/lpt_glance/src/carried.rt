@@ -14,7 +14,7 @@ use lpt_part::Part;
 use lpt_stream::PieceKind;
 
 // A transaction of this direction, as parts are read.
-fn way(view: &View, direction: Direction) -> Transaction
+pub(crate) fn way(view: &View, direction: Direction) -> Transaction
     ensures { result ≡ way view.now direction }
 {
     Transaction {

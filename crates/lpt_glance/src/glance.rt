@@ -1,14 +1,16 @@
 //! What is drawn of a stream.
 
-ghost use Rattle.std.specs.Prelude.{◌≡◌, ◌⊎◌, length, IfErr, IfOk};
+ghost use Rattle.std.specs.Prelude.{◌≡◌, ◌⊎◌, ◌∷◌, ◌++◌, [], ℕ, List, Some, length, IfErr, IfOk};
 ghost use Rattle.lpt_events.specs.NamedParts.{named};
 ghost use Rattle.lpt_part.specs.Parts.{piece};
-ghost use Rattle.lpt_stream.specs.Pieces.{IsSealed};
+ghost use Rattle.lpt_stream.specs.Pieces.{IsSealed, packet_before};
 ghost use Rattle.lpt_stream.specs.Reads.{IsEndless, ReadsPieces};
 ghost use Rattle.lpt_text.specs.Streams.{ReadEnds};
-ghost use Rattle.lpt_glance.specs.Looks.{added, passed, seen, with_piece};
-ghost use Rattle.lpt_glance.specs.Shown.{seen_of};
+ghost use Rattle.lpt_join.specs.Offers.{piece_in};
+ghost use Rattle.lpt_glance.specs.Looks.{added, fate_of, passed, seen, way, with_piece};
+ghost use Rattle.lpt_glance.specs.Shown.{HoldsBoth, seen_of};
 
+use crate::both::Both;
 use crate::carried::part_of;
 use crate::rows::Rows;
 use crate::{Key, Mark, View};
@@ -24,6 +26,8 @@ use std::alloc::{AllocError, Global};
 pub struct Glance {
     // How parts are read, and the rows.
     pub(crate) rows: Rows,
+    // What is kept of each name.
+    pub(crate) both: Both,
     // The marks, in the order of the stream.
     pub(crate) marks: Vec<Mark>,
     // Whether what comes next stands behind a packet, or octets as long as one.
@@ -42,9 +46,10 @@ pub fn look<S: Source>(alloc: Global, view: View, source: &mut S) -> Result<Glan
         (S.failed source.old) (S.failed source.new) }
     ensures fault { IfErr result (λ e. (e ≡ StreamFault.Read) ⊎ (e ≡ StreamFault.Memory)) }
 {
-    let (rows, marks) = (Rows::new(alloc, view), Vec::new(alloc));
+    let (rows, both, marks) = (Rows::new(alloc, view), Both::new(alloc), Vec::new(alloc));
     let first = Glance {
         rows,
+        both,
         marks,
         in_step: true,
         octets: 0,
@@ -80,9 +85,14 @@ impl PieceTaker<()> for Glance {
 impl Glance {
     // With a piece more. The only error is out of memory, here and below.
     fn with_piece(self, alloc: Global, kind: PieceKind, octets: &[u8]) -> Result<Glance, AllocError>
-        requires { IsSealed kind octets.now }
+        requires sealed { IsSealed kind octets.now }
+        requires holds { (bs : List (List ℕ)) × HoldsBoth self.rows.view bs self.both }
         ensures view { IfOk result (λ g. g.rows.view ≡ self.rows.view) }
-        ensures seen { IfOk result (λ g. seen_of g ≡ with_piece self.rows.view (seen_of self)
+        ensures holds { (bs : List (List ℕ)) → HoldsBoth self.rows.view bs self.both
+            → IfOk result (λ g. HoldsBoth self.rows.view
+            (bs ++ packet_before kind octets.now []) g.both) }
+        ensures seen { (bs : List (List ℕ)) → HoldsBoth self.rows.view bs self.both
+            → IfOk result (λ g. seen_of g ≡ with_piece self.rows.view bs (seen_of self)
             (record { kind = kind; octets = octets.now })) }
     {
         let many = octets.len() as u64;
@@ -95,10 +105,12 @@ impl Glance {
     // With a piece of so many octets that carries no part.
     fn pass(self, kind: PieceKind, many: u64) -> Result<Glance, AllocError>
         ensures view { IfOk result (λ g. g.rows.view ≡ self.rows.view) }
+        ensures both { IfOk result (λ g. g.both ≡ self.both) }
         ensures seen { IfOk result (λ g. seen_of g ≡ passed kind many (seen_of self)) }
     {
         let Glance {
             rows,
+            both,
             mut marks,
             in_step,
             octets,
@@ -118,13 +130,14 @@ impl Glance {
         }
         Ok(Glance {
             rows,
+            both,
             marks,
             in_step: stays,
             octets: octets.saturating_add(many),
         })
     }
 
-    // With a part of this transaction, in so many octets.
+    // With a part of this transaction, in a packet of so many octets.
     fn add(
         self,
         alloc: Global,
@@ -133,19 +146,27 @@ impl Glance {
         part: &Part<'_>,
         many: u64,
     ) -> Result<Glance, AllocError>
+        requires holds { (bs : List (List ℕ)) × HoldsBoth self.rows.view bs self.both }
         requires id { part.now.id ≡ name.id }
         requires size { part.now.p ≡ self.rows.view.part_size }
         ensures view { IfOk result (λ g. g.rows.view ≡ self.rows.view) }
-        ensures seen { IfOk result (λ g. seen_of g ≡ added part.now.p direction
-            (named name.source (piece part.now)) many (seen_of self)) }
+        ensures holds { (bs : List (List ℕ)) (b : List ℕ) → HoldsBoth self.rows.view bs self.both
+            → Some (named name.source (piece part.now)) ≡ piece_in (way self.rows.view direction) b
+            → IfOk result (λ g. HoldsBoth self.rows.view (bs ++ b ∷ []) g.both) }
+        ensures seen { (bs : List (List ℕ)) (b : List ℕ) → HoldsBoth self.rows.view bs self.both
+            → Some (named name.source (piece part.now)) ≡ piece_in (way self.rows.view direction) b
+            → IfOk result (λ g. seen_of g ≡ added (fate_of self.rows.view bs b direction
+            (named name.source (piece part.now))) many (seen_of self)) }
     {
         let Glance {
             rows,
+            both,
             mut marks,
             in_step: _,
             octets,
         } = self;
-        let (rows, row, key) = rows.take(alloc, direction, name, part)?;
+        let (both, told, left) = both.take(alloc, &rows.view, direction, name, octets, part)?;
+        let (rows, row, key) = rows.take(direction, name, part.number, &told, left)?;
         marks.push(Mark {
             place: octets,
             key,
@@ -154,6 +175,7 @@ impl Glance {
         })?;
         Ok(Glance {
             rows,
+            both,
             marks,
             in_step: true,
             octets: octets.saturating_add(many),

@@ -3,11 +3,18 @@
 ghost use Rattle.std.specs.Prelude.{List};
 ghost use Rattle.lpt_stream.specs.Pieces.{Piece};
 ghost use Rattle.lpt_glance.specs.declared.view.View.{View};
-ghost use Rattle.lpt_glance.specs.Laws.{DrawsParts};
+ghost use Rattle.lpt_glance.specs.Laws.{CountsEach, DrawsParts};
 
 /// Each part of a stream is drawn exactly once: the marks of parts are the parts of its pieces, in
 /// their order, each at its place, with its number, in the row of its transaction. A picture has
 /// each mark once.
 pub fn each_part_is_drawn_once()
     ensures { (v : View) (pieces : List Piece) → DrawsParts v pieces }
+{}
+
+/// By the rule of `lpt_each` the row of a transaction counts the messages that packets give out of
+/// its name, each a packet of its direction, and how often they give parts up; and what is open in
+/// it is what they leave. Of a transaction that has no row they give out and leave nothing.
+pub fn rows_count_what_is_given()
+    ensures { (v : View) (pieces : List Piece) → CountsEach v pieces }
 {}

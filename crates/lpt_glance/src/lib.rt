@@ -5,9 +5,9 @@
 //! first calls are `look`, with a source, and then `draw`.
 #![tactic(auto)]
 
+mod both;
 mod carried;
 mod glance;
-mod held;
 pub mod laws;
 mod mark;
 mod picture;

@@ -12,10 +12,12 @@ pub enum Key {
     Ahead,
     /// A part that came before.
     Again,
-    /// A part that contradicts those before it: its message begins anew with it.
+    /// A part that contradicts those before it: these are given up, and it begins anew.
     Against,
     /// A part with which a message became whole.
     Whole,
+    /// A part with which parts became whole that are no packet of their direction.
+    Unfit,
     /// A packet that carries no part.
     NoPart,
     /// No packet, but as many octets as a header says.
@@ -48,9 +50,10 @@ impl Key {
             Key::Again => 2,
             Key::Against => 3,
             Key::Whole => 4,
-            Key::NoPart => 5,
-            Key::Damaged => 6,
-            Key::Stray => 7,
+            Key::Unfit => 5,
+            Key::NoPart => 6,
+            Key::Damaged => 7,
+            Key::Stray => 8,
         }
     }
 }

@@ -2,16 +2,17 @@
 
 ghost use Rattle.std.specs.Prelude.{◌≡◌, ◌≤◌, ◌^◌, ◌++◌, length, IfOk, OnOk};
 ghost use Rattle.std.specs.String.{string_bytes};
-ghost use Rattle.lpt_glance.specs.Pictures.{base_of, count_of, counts_text, foot_of, head_text, lane_text, lanes_text, legend_text, mark_text, mark_x, mark_y, marks_text, most_at, picture_text, pitch_of, row_text, rows_text, said_text, sign_text, size_text, title_text, whose_text, words_text};
+ghost use Rattle.lpt_glance.specs.Pictures.{base_of, count_of, counts_text, foot_of, given_up_text, head_text, lane_text, lanes_text, legend_text, mark_text, mark_x, mark_y, marks_text, most_at, open_text, picture_text, pitch_of, row_text, rows_text, said_text, sign_text, size_text, title_text, whole_text, whose_text, words_text};
 ghost use Rattle.lpt_glance.specs.Shown.{seen_of};
 
 use crate::row::{Counts, Row};
 use crate::{Glance, Key, Mark};
+use lpt_each::Waiting;
 use lpt_events::name_word;
 use std::alloc::{AllocError, Global};
 
 /// What is drawn of a stream, as one SVG of ASCII: for each mark an element, and of each row what
-/// came whole and what is open. A name of this source is written without it. The only error is out
+/// came whole and what is left. A name of this source is written without it. The only error is out
 /// of memory.
 #[tactic(auto, unfolding(crate::specs::Pictures::picture_text))]
 pub fn draw(alloc: Global, source: u16, glance: &Glance) -> Result<String, AllocError>
@@ -92,6 +93,7 @@ fn sign_text(key: Key) -> &'static str
         Key::Again => "m-2 -2h4v4h-4z' class='a'/>",
         Key::Against => "m-4 -4l8 8m0 -8l-8 8' class='c'/>",
         Key::Whole => "m-4 0a4 4 0 1 0 8 0a4 4 0 1 0 -8 0' class='w'/>",
+        Key::Unfit => "m-4 0a4 4 0 1 0 8 0a4 4 0 1 0 -8 0m1 3l6 -6' class='u'/>",
         Key::NoPart => "m0 -4v8' class='n'/>",
         Key::Damaged => "m-4 4h8l-4 -8z' class='d'/>",
         Key::Stray => "m-2 -5h4v10h-4z' class='s'/>",
@@ -128,20 +130,45 @@ fn write_marks(
     Ok(())
 }
 
+// How many messages of a transaction became whole, where so many parts are left.
+fn print_whole(alloc: Global, left: u32, whole: u64) -> Result<String, AllocError>
+    ensures { IfOk result (λ t. string_bytes t ≡ whole_text left whole) }
+{
+    if left == 0 {
+        return format!(in alloc; "'>whole: {whole}");
+    }
+    format!(in alloc; "' class='o'>whole: {whole}")
+}
+
+// How often parts were given up, where they were.
+fn print_given_up(alloc: Global, given_up: u64) -> Result<String, AllocError>
+    ensures { IfOk result (λ t. string_bytes t ≡ given_up_text given_up) }
+{
+    if given_up == 0 {
+        return Ok(String::new(alloc));
+    }
+    format!(in alloc; ", given up: {given_up}")
+}
+
+// What is left, where something is.
+fn print_open(alloc: Global, left: Waiting) -> Result<String, AllocError>
+    ensures { IfOk result (λ t. string_bytes t ≡ open_text left) }
+{
+    let Waiting { count, highest } = left;
+    if count == 0 {
+        return Ok(String::new(alloc));
+    }
+    format!(in alloc; ", open parts: {count}, up to {highest}")
+}
+
 // How much came of a transaction.
 fn print_words(alloc: Global, counts: Counts) -> Result<String, AllocError>
     ensures { IfOk result (λ t. string_bytes t ≡ words_text counts) }
 {
-    let Counts {
-        whole,
-        came,
-        top,
-        ..
-    } = counts;
-    if came == 0 {
-        return format!(in alloc; "'>whole: {whole}");
-    }
-    format!(in alloc; "' class='o'>whole: {whole}, open parts: {came}, up to {top}")
+    let mut text = print_whole(alloc, counts.left.count, counts.whole)?;
+    text.push_str(print_given_up(alloc, counts.given_up)?.as_str())?;
+    text.push_str(print_open(alloc, counts.left)?.as_str())?;
+    Ok(text)
 }
 
 // Whose a row is.
@@ -238,7 +265,7 @@ fn legend_text() -> &'static str
     as high as their numbers; below them what is no part.</desc><style>\
     path{fill:none;stroke:#000}.l{stroke:#ddd}\
     .f{stroke:#1f4e8c;stroke-width:3}.g{stroke:#b00020;stroke-width:2}.a{stroke:#666}\
-    .c{stroke:#b00020;stroke-width:2}.w{stroke-width:1.5}.n{stroke:#888}\
+    .c,.u{stroke:#b00020;stroke-width:2}.w{stroke-width:1.5}.n{stroke:#888}\
     .d{fill:#b00020;stroke:none}.s{fill:#000;stroke:none}.o{font-weight:bold}</style>\
     <rect width='100%' height='100%' fill='#fff'/>\
     <path d='M156 40h3' class='f'/><text x='166' y='44'>a part</text>\
@@ -248,7 +275,9 @@ fn legend_text() -> &'static str
     <path d='M576 40m-4 -4l8 8m0 -8l-8 8' class='c'/><text x='586' y='44'>\
     contradicts the others</text>\
     <path d='M756 40m-4 0a4 4 0 1 0 8 0a4 4 0 1 0 -8 0' class='w'/><text x='766' y='44'>\
-    whole with it</text><text x='8' y='20'>"
+    whole with it</text>\
+    <path d='M886 40m-4 0a4 4 0 1 0 8 0a4 4 0 1 0 -8 0m1 3l6 -6' class='u'/>\
+    <text x='896' y='44'>whole, but no packet</text><text x='8' y='20'>"
 }
 
 // The size of a picture so high.
@@ -257,8 +286,8 @@ fn print_size(alloc: Global, high: u128) -> Result<String, AllocError>
     ensures { IfOk result (λ t. string_bytes t ≡ size_text high) }
 {
     format!(in alloc;
-        "<svg xmlns='http://www.w3.org/2000/svg' role='img' width='1700' height='{high}' \
-        viewBox='0 0 1700 {high}"
+        "<svg xmlns='http://www.w3.org/2000/svg' role='img' width='1760' height='{high}' \
+        viewBox='0 0 1760 {high}"
     )
 }
 
@@ -274,7 +303,7 @@ fn print_counts(alloc: Global, parts: usize, rows: usize, octets: u64) -> Result
 fn print_head(alloc: Global, rows: usize, marks: &[Mark], octets: u64) -> Result<String, AllocError>
     ensures { IfOk result (λ t. string_bytes t ≡ head_text rows marks.now octets) }
 {
-    let parts = marks.iter().filter(|m| m.key.code() <= 4).count();
+    let parts = marks.iter().filter(|m| m.key.code() <= 5).count();
     let mut head = print_size(alloc, foot_of(rows, rows) + 72)?;
     head.push_str(legend_text())?;
     head.push_str(print_counts(alloc, parts, rows, octets)?.as_str())?;

@@ -1,74 +1,94 @@
 //! The row of a transaction.
 
-ghost use Rattle.std.specs.Prelude.{◌≡◌, IfOk, OnOk};
-ghost use Rattle.lpt_part.specs.Parts.{piece};
-ghost use Rattle.lpt_glance.specs.Fates.{IsOwn};
-ghost use Rattle.lpt_glance.specs.Looks.{advanced, counted, fresh, key_at};
+ghost use Rattle.std.specs.Prelude.{◌≡◌};
+ghost use Rattle.lpt_each.specs.Helds.{events_of, news_of};
+ghost use Rattle.lpt_glance.specs.Fates.{counted, fate, fresh, key_of_news, key_with, quiet_key, with_news, with_told};
+ghost use Rattle.lpt_glance.specs.Looks.{advanced};
 
 use crate::Key;
-use crate::held::{Held, after};
+use lpt_each::{News, Waiting};
 use lpt_packet::{Direction, Name};
-use lpt_part::Part;
-use std::alloc::{AllocError, Global};
-use std::mem;
 
-/// A transaction, what is kept of it, and what is said beside it.
+/// A transaction, and what is said beside it.
 #[derive(Drop)]
 pub(crate) struct Row {
     pub(crate) direction: Direction,
     pub(crate) name: Name,
-    pub(crate) held: Held,
     pub(crate) counts: Counts,
 }
 
 /// How much came of a transaction.
 #[derive(Clone, Copy)]
 pub(crate) struct Counts {
-    // How many messages became whole, at most 2^64 - 1.
+    // How many messages became whole, and how often parts were given up; each at most 2^64 - 1.
     pub(crate) whole: u64,
-    // How many parts came of the one that is open, at most as many, and the greatest number of
-    // these; 0 where none is.
-    pub(crate) came: u64,
-    pub(crate) top: u16,
+    pub(crate) given_up: u64,
+    // What is left.
+    pub(crate) left: Waiting,
     // The greatest number of any part.
     pub(crate) most: u16,
 }
 
 impl Counts {
-    // With a part more of this number that is drawn so.
-    fn with(self, key: Key, number: u16) -> Counts
-        ensures { result ≡ counted key number self }
+    // With this told.
+    fn with_news(self, news: &News) -> Counts
+        ensures { result ≡ with_news (news_of news.now) self }
     {
         let Counts {
             whole,
-            came,
-            top,
+            given_up,
+            left,
             most,
         } = self;
-        let (whole, came, top) = match key {
-            Key::New => (whole, came.saturating_add(1), top.max(number)),
-            Key::Against => (whole, 1, number),
-            Key::Whole => (whole.saturating_add(1), 0, 0),
-            _ => (whole, came, top),
+        let (whole, given_up) = match news {
+            News::Given(_) => (whole.saturating_add(1), given_up),
+            News::Dropped(_) => (whole, given_up.saturating_add(1)),
+            News::Unfit(_) => (whole, given_up.saturating_add(1)),
+            News::Overtaken(_, _) => (whole.saturating_add(1), given_up.saturating_add(1)),
         };
         Counts {
             whole,
-            came,
-            top,
-            most: most.max(number),
+            given_up,
+            left,
+            most,
+        }
+    }
+
+    // With this told, where something is.
+    fn with_told(self, told: &Option<(Name, News)>) -> Counts
+        ensures { result ≡ with_told (events_of told.now) self }
+    {
+        match told {
+            None => self,
+            Some((_, news)) => self.with_news(news),
         }
     }
 }
 
-// How a part of this number is drawn behind those up to another: as `Ahead` where numbers between
-// them are left out.
-fn key_at(key: Key, top: u16, number: u16) -> Key
-    ensures { result ≡ key_at key top number }
+// How a part is drawn with which this is told.
+fn key_of_news(news: &News) -> Key
+    ensures { result ≡ key_of_news (news_of news.now) }
 {
-    match key {
-        Key::New if u32::from(top) + 1 < u32::from(number) => Key::Ahead,
-        key => key,
+    match news {
+        News::Given(_) => Key::Whole,
+        News::Dropped(_) => Key::Against,
+        News::Unfit(_) => Key::Unfit,
+        News::Overtaken(_, _) => Key::Whole,
     }
+}
+
+// How a part of this number is drawn with which nothing is told, where this was left before, and
+// this is now.
+fn quiet_key(was: Waiting, now: Waiting, number: u16) -> Key
+    ensures { result ≡ quiet_key was now number }
+{
+    if now.count == was.count {
+        return Key::Again;
+    }
+    if u64::from(was.highest) + 1 < u64::from(number) {
+        return Key::Ahead;
+    }
+    Key::New
 }
 
 impl Row {
@@ -79,28 +99,42 @@ impl Row {
         Row {
             direction,
             name,
-            held: Held::Nothing,
             counts: Counts {
                 whole: 0,
-                came: 0,
-                top: 0,
+                given_up: 0,
+                left: Waiting {
+                    count: 0,
+                    highest: 0,
+                },
                 most: 0,
             },
         }
     }
 
-    // Takes a part more, and gives how it is drawn. The only error is out of memory.
-    pub(crate) fn take(&mut self, alloc: Global, part: &Part<'_>) -> Result<Key, AllocError>
-        requires { IsOwn part.now.p part.now.id self.old.held }
-        ensures row { OnOk result (self.new ≡ (advanced part.now.p self.old (piece part.now)).0) }
-        ensures key { IfOk result (λ k. k ≡ (advanced part.now.p self.old (piece part.now)).1) }
-        ensures own { OnOk result (IsOwn part.now.p part.now.id self.new.held) }
+    // Takes a part of this number, with which this is told, and behind which this is left, and
+    // gives how it is drawn.
+    pub(crate) fn take(&mut self, told: &Option<(Name, News)>, left: Waiting, number: u16) -> Key
+        ensures row { self.new ≡ (advanced (fate self.old.direction self.old.name number
+            (events_of told.now) left) self.old).0 }
+        ensures key { result ≡ (advanced (fate self.old.direction self.old.name number
+            (events_of told.now) left) self.old).1 }
     {
-        let held = mem::replace(&mut self.held, Held::Nothing);
-        let (held, key) = after(alloc, held, part)?;
-        let top = self.counts.top;
-        self.held = held;
-        self.counts = self.counts.with(key, part.number);
-        Ok(key_at(key, top, part.number))
+        let key = match told {
+            None => quiet_key(self.counts.left, left, number),
+            Some((_, news)) => key_of_news(news),
+        };
+        let Counts {
+            whole,
+            given_up,
+            left: _,
+            most,
+        } = self.counts.with_told(told);
+        self.counts = Counts {
+            whole,
+            given_up,
+            left,
+            most: most.max(number),
+        };
+        key
     }
 }

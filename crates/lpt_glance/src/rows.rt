@@ -1,13 +1,12 @@
 //! The rows of a picture.
 
-ghost use Rattle.lpt_glance.specs.Looks.{AreOwn};
 ghost use Rattle.lpt_glance.specs.Places.{Finds};
 
 use crate::places::Places;
 use crate::row::Row;
 use crate::{Key, View};
+use lpt_each::{News, Waiting};
 use lpt_packet::{Direction, Name};
-use lpt_part::Part;
 use std::alloc::{AllocError, Global};
 
 /// The rows of the transactions of which parts came, in the order of their first part.
@@ -17,14 +16,13 @@ pub(crate) struct Rows {
     pub(crate) view: View,
     pub(crate) list: Vec<Row>,
     pub(crate) places: Places,
-    ghost own: { AreOwn view.part_size list.items },
     ghost found: { Finds places list.items },
 }
 
 impl Rows {
     ghost use Rattle.std.specs.Prelude.{◌≡◌, [], IfOk};
-    ghost use Rattle.lpt_events.specs.NamedParts.{named};
-    ghost use Rattle.lpt_part.specs.Parts.{piece};
+    ghost use Rattle.lpt_each.specs.Helds.{events_of};
+    ghost use Rattle.lpt_glance.specs.Fates.{fate};
     ghost use Rattle.lpt_glance.specs.Looks.{opened, row_of, rows_with, stepped};
 
     // There is none.
@@ -39,23 +37,23 @@ impl Rows {
         }
     }
 
-    // Takes a part of a transaction, and gives its row and how it is drawn. The only error is out
-    // of memory, here and below.
+    // Takes a part of this number of a transaction, with which this is told, and behind which this
+    // is left of its name, and gives its row and how it is drawn. The only error is out of memory,
+    // here and below.
     pub(crate) fn take(
         self,
-        alloc: Global,
         direction: Direction,
         name: Name,
-        part: &Part<'_>,
+        number: u16,
+        told: &Option<(Name, News)>,
+        left: Waiting,
     ) -> Result<(Rows, usize, Key), AllocError>
-        requires id { part.now.id ≡ name.id }
-        requires size { part.now.p ≡ self.view.part_size }
         ensures view { IfOk result (λ r. r.0.view ≡ self.view) }
-        ensures rows { IfOk result (λ r. r.0.list.items ≡ rows_with part.now.p direction
-            (named name.source (piece part.now)) self.list.items) }
+        ensures rows { IfOk result (λ r. r.0.list.items
+            ≡ rows_with (fate direction name number (events_of told.now) left) self.list.items) }
         ensures row { IfOk result (λ r. r.1 ≡ row_of direction name self.list.items) }
-        ensures key { IfOk result (λ r. r.2 ≡ (stepped part.now.p direction
-            (named name.source (piece part.now)) self.list.items).1) }
+        ensures key { IfOk result (λ r. r.2
+            ≡ (stepped (fate direction name number (events_of told.now) left) self.list.items).1) }
     {
         let (rows, row) = self.with_row(direction, name)?;
         let Rows {
@@ -63,7 +61,7 @@ impl Rows {
             mut list,
             places,
         } = rows;
-        let key = list[row].take(alloc, part)?;
+        let key = list[row].take(told, left, number);
         Ok((Rows { view, list, places }, row, key))
     }
 

@@ -1,9 +1,7 @@
 -- A row more.
-use Rattle.std.proofs.Common.{◌≡◌, ◌∙◌, ap, sym, refl, subst, rules, arith, List, [], ◌∷◌, ◌++◌, length, Some, None}
-use Rattle.std.proofs.lemmas.List.Elements.{All-push}
+use Rattle.std.proofs.Common.{◌≡◌, ◌∙◌, ap, sym, subst, rules, arith, List, [], ◌∷◌, ◌++◌, length, Some, None}
 use Rattle.lpt_glance.specs.declared.row.Row.{Row}
-use Rattle.lpt_glance.specs.Fates.{IsOwn}
-use Rattle.lpt_glance.specs.Looks.{AreOwn, fresh}
+use Rattle.lpt_glance.specs.Fates.{fresh}
 use Rattle.lpt_glance.specs.Places.{Finds}
 use Rattle.lpt_glance.proofs.RowLemmas.{finds-push}
 use Rattle.lpt_glance.proofs.rows.Rows.with_row.Goals as goal
@@ -12,7 +10,6 @@ pub invariant_of-result : goal.invariant_of-result
 invariant_of-result c =
     let d = c.args.direction in
     let n = c.args.name in
-    let p = c.args.self.view.part_size in
     let rows = c.args.self.list.items in
     let none : c.get.result ≡ None =
     first_of (search rules, grind (arith, c.in_default.not-Some)) in
@@ -20,9 +17,6 @@ invariant_of-result c =
     let more : c.push.new.self.items ≡ rows ++ fresh d n ∷ [] =
     c.in_ok-push.ensures.items ∙ ap (λ (r : Row). rows ++ r ∷ []) c.new.ensures in
     record {
-      own = subst (λ (xs : List Row). AreOwn p xs) (sym more)
-          (All-push (λ (r : Row). IsOwn p r.name.id r.held) rows (fresh d n) c.args.self.own
-          (refl, refl));
       found = subst (λ (xs : List Row). Finds c.in_ok-places.places xs) (sym more)
           (finds-push c.args.self.places c.in_ok-places.places rows d n c.args.self.found
           (sym c.get.ensures ∙ none) (c.in_ok-places.ensures.there ∙ ap Some many)
