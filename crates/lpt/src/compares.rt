@@ -2,19 +2,20 @@
 
 ghost use Rattle.lpt_events.specs.Configs.{IsConfig};
 
+use crate::counts::tell_no_packets;
 use crate::end::{Failure, Status, tell_place};
 use crate::input::{name_of, octets_from, opened, opened_packets, packets_end};
 use crate::progress::Voice;
 use crate::streams::{Output, finish, output};
 use lpt_command_line::CompareWords;
-use lpt_compare::{Checked, Image, read_checks};
+use lpt_compare::{Checked, Checks, Image, read_checks};
 use lpt_events::Config;
 use lpt_packet::Octets;
 use lpt_text::{StreamFault, write_out};
 use std::alloc::{AllocError, Global};
 
 /// Writes a line for each area of the check reports: whether its checksum is that of the file's
-/// octets there.
+/// octets there. What is no packet is told, and the status says so.
 ///
 /// Errors: `Read` where the file or the packets can't be opened or read, or their capture is wrong;
 /// `Write`, `Memory`.
@@ -49,7 +50,7 @@ fn checks_at(
     voice: Voice,
     apid: u16,
     words: &CompareWords<'_>,
-) -> Result<Vec<Checked>, Failure> {
+) -> Result<Checks, Failure> {
     let mut source = opened_packets(rt, voice, &words.reports, None, None)?;
     let read = read_checks(rt.alloc(), apid, words.memory, &mut source);
     let failed = matches!(read, Err(StreamFault::Read));
@@ -71,23 +72,30 @@ fn told(
     rt: &HostRuntime,
     words: &CompareWords<'_>,
     octets: &[u8],
-    checks: Vec<Checked>,
+    checks: Checks,
 ) -> Result<Status, Failure> {
+    let Checks {
+        areas,
+        damaged,
+        stray,
+    } = checks;
     let image = Image {
         from: words.address,
         octets,
     };
     let mut out = output(rt)?;
-    let written = write_lines(rt.alloc(), words.memory, &image, &checks, &mut out);
+    let written = write_lines(rt.alloc(), words.memory, &image, &areas, &mut out);
     finish(rt, out)?;
     let agree = written?;
-    let open = image.first_open(checks);
+    tell_no_packets(rt, "", damaged, stray);
+    let open = image.first_open(areas);
     if let Some(text) = lacking(rt.alloc(), words, octets, open) {
         if let Ok(text) = text {
             tell_place(rt, text.as_str());
         }
     }
-    Ok(if agree && open.is_none() && !octets.is_empty() {
+    let sound = damaged == 0 && stray == 0;
+    Ok(if agree && sound && open.is_none() && !octets.is_empty() {
         Status::Done
     } else {
         Status::Refused

@@ -1,3 +1,4 @@
 pub mod Checks
 pub mod ChecksInside
 pub mod Images
+pub mod Read

@@ -12,6 +12,6 @@ mod image;
 mod reading;
 
 pub use checked::Checked;
-pub use checks::read_checks;
+pub use checks::{Checks, read_checks};
 pub use image::Image;
 pub use lpt_text::{Source, StreamFault};

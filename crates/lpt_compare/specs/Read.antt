@@ -1,0 +1,27 @@
+-- What is read of a stream: what it says of a memory, and how much of it is no packet.
+use Rattle.std.specs.Prelude.{◌≡◌, ℕ, Bool, true, false, List, count_by}
+use Rattle.lpt_stream.specs.declared.piece_kind.PieceKind.{PieceKind}
+use Rattle.lpt_stream.specs.declared.piece_kind.PieceKind.TheVariants.{Damaged, Stray}
+use Rattle.lpt_stream.specs.Pieces.{Piece, up_to_limit}
+use Rattle.lpt_compare.specs.Checks.{checks_of}
+use Rattle.lpt_compare.specs.declared.checks.Checks.{Checks}
+
+-- as many octets as their header says, which are no packet
+abbrev pub is_damaged : PieceKind → Bool
+is_damaged Damaged = true
+is_damaged other = false
+
+-- an octet that is part of no packet
+abbrev pub is_stray : PieceKind → Bool
+is_stray Stray = true
+is_stray other = false
+
+-- of so many damaged and stray pieces there are among these
+pub record AreCounted (pieces : List Piece) (c : Checks) : Type 0 where
+  pub damaged_are : c.damaged ≡ up_to_limit (count_by (λ (p : Piece). is_damaged p.kind) pieces)
+  pub stray_are : c.stray ≡ up_to_limit (count_by (λ (p : Piece). is_stray p.kind) pieces)
+
+-- what the pieces of a stream say of a memory, and how many of them are no packet
+pub record AreChecks (apid memory : ℕ) (pieces : List Piece) (c : Checks) : Type 0 where
+  pub areas_are : c.areas.items ≡ checks_of apid memory pieces
+  pub counted : AreCounted pieces c
