@@ -22,10 +22,11 @@ use Rattle.lpt_journal.specs.Legal.{Legal}
 use Rattle.lpt_journal.specs.Replies.{recorded}
 use Rattle.lpt_journal.specs.Senders.{sender, sender_of, current, is_over}
 use Rattle.lpt_journal.proofs.HeadlineLemmas.{every}
+use Rattle.lpt_journal.specs.Whole.{came}
 use Rattle.lpt_apart.specs.Ends.{PutOut, with_node}
 use Rattle.lpt_apart.specs.Facts.{Log}
 use Rattle.lpt_apart.proofs.Events.{finish}
-use Rattle.lpt_apart.proofs.Ties.{ends_of, IsTied, Follows}
+use Rattle.lpt_apart.proofs.Ties.{ends_of, IsTied, Came, Leads}
 
 -- an open name is one
 open_named : (c : Config) (first : Contents) (es : List Event) (d : Direction) (name : Name)
@@ -50,15 +51,21 @@ open_named c first es d name m good legal shown opened = go (current h d name) r
 module _ (c : Config) (first : Contents) (s : State) (ways : List PutOut) (log : Log)
     (es : List Event)
     (good : IsConfig c) (t : IsTied c first s ways log es) where
-  same : Follows c first (ends_of s ways log)
-  same = record { state = s; events = es; tied = t; is = refl }
+  abbrev had : Came
+  had = came c (recorded c first es)
+
+  same : Leads c first (ends_of s ways log) had
+  same = record {
+    follows = record { state = s; events = es; tied = t; is = refl };
+    comes = λ d name k. refl;
+  }
 
   pub closed_up : (name : Name)
-      → Follows c first (with_node (ends_of s ways log) Ground (closed s.on_ground name))
+      → Leads c first (with_node (ends_of s ways log) Ground (closed s.on_ground name)) had
   closed_up name = go (state_at s.on_ground.sending.ledger name) refl where
     go : (k : Known)
         → state_at s.on_ground.sending.ledger name ≡ k
-        → Follows c first (with_node (ends_of s ways log) Ground (closed s.on_ground name))
+        → Leads c first (with_node (ends_of s ways log) Ground (closed s.on_ground name)) had
     go known.Open e =
         finish c first s ways log es good t Up name (
           open_named c first es Up name s.on_ground.sending.ledger good t.legal
@@ -66,18 +73,18 @@ module _ (c : Config) (first : Contents) (s : State) (ways : List PutOut) (log :
           ap refusal_finish_in e,
         )
     go known.Free e =
-        subst (λ (k : Known). Follows c first (with_node (ends_of s ways log) Ground
-        (record s.on_ground { sending = closed_by k s.on_ground.sending name }))) (sym e) same
+        subst (λ (k : Known). Leads c first (with_node (ends_of s ways log) Ground
+        (record s.on_ground { sending = closed_by k s.on_ground.sending name })) had) (sym e) same
     go known.Closed e =
-        subst (λ (k : Known). Follows c first (with_node (ends_of s ways log) Ground
-        (record s.on_ground { sending = closed_by k s.on_ground.sending name }))) (sym e) same
+        subst (λ (k : Known). Leads c first (with_node (ends_of s ways log) Ground
+        (record s.on_ground { sending = closed_by k s.on_ground.sending name })) had) (sym e) same
 
   pub closed_down : (name : Name)
-      → Follows c first (with_node (ends_of s ways log) Craft (closed s.on_craft name))
+      → Leads c first (with_node (ends_of s ways log) Craft (closed s.on_craft name)) had
   closed_down name = go (state_at s.on_craft.sending.ledger name) refl where
     go : (k : Known)
         → state_at s.on_craft.sending.ledger name ≡ k
-        → Follows c first (with_node (ends_of s ways log) Craft (closed s.on_craft name))
+        → Leads c first (with_node (ends_of s ways log) Craft (closed s.on_craft name)) had
     go known.Open e =
         finish c first s ways log es good t Down name (
           open_named c first es Down name s.on_craft.sending.ledger good t.legal
@@ -85,8 +92,8 @@ module _ (c : Config) (first : Contents) (s : State) (ways : List PutOut) (log :
           ap refusal_finish_in e,
         )
     go known.Free e =
-        subst (λ (k : Known). Follows c first (with_node (ends_of s ways log) Craft
-        (record s.on_craft { sending = closed_by k s.on_craft.sending name }))) (sym e) same
+        subst (λ (k : Known). Leads c first (with_node (ends_of s ways log) Craft
+        (record s.on_craft { sending = closed_by k s.on_craft.sending name })) had) (sym e) same
     go known.Closed e =
-        subst (λ (k : Known). Follows c first (with_node (ends_of s ways log) Craft
-        (record s.on_craft { sending = closed_by k s.on_craft.sending name }))) (sym e) same
+        subst (λ (k : Known). Leads c first (with_node (ends_of s ways log) Craft
+        (record s.on_craft { sending = closed_by k s.on_craft.sending name })) had) (sym e) same

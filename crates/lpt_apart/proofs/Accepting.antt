@@ -1,5 +1,5 @@
 -- Octets are handed over: a lane takes their packet and delivers it, or they are harmless.
-use Rattle.std.proofs.Common.{◌≡◌, ◌∙◌, ap, subst, refl, ℕ, true, false, ◌&&◌, if◌then◌else◌, inl, inr, List, ◌∷◌, length, Option, Some, None, is_some}
+use Rattle.std.proofs.Common.{◌≡◌, ◌∙◌, ap, subst, refl, ℕ, Bool, true, false, ◌&&◌, ◌||◌, if◌then◌else◌, inl, inr, List, ◌∷◌, length, Option, Some, None, is_some}
 use Rattle.std.specs.Option.{option_map, option_map_or}
 use Rattle.std.specs.Prelude.{slice_get}
 use Rattle.lpt_packet.specs.declared.direction.Direction.{Direction}
@@ -8,6 +8,7 @@ use Rattle.lpt_memory.specs.Memories.{Contents}
 use Rattle.lpt_events.specs.Arrivals.{Arrival, NotRead, AnIdle, Foreign, ARequest, AReport, NoPart, APart, AnAbort, arrival_in}
 use Rattle.lpt_events.specs.Configs.{IsConfig}
 use Rattle.lpt_events.specs.Lanes.{lane_direction, same_direction}
+use Rattle.lpt_events.specs.Sides.{receiver_side}
 use Rattle.lpt_events.specs.declared.config.Config.{Config}
 use Rattle.lpt_events.specs.declared.event.Event.{Event}
 use Rattle.lpt_events.specs.declared.event.Event.TheVariants.{Take, Deliver}
@@ -26,14 +27,16 @@ use Rattle.lpt_refinement.specs.Views.{views}
 use Rattle.lpt_journal.specs.Journal.{History}
 use Rattle.lpt_journal.specs.Legal.{Legal}
 use Rattle.lpt_journal.specs.Replies.{recorded}
-use Rattle.lpt_apart.specs.Ends.{PutOut}
+use Rattle.lpt_journal.specs.Whole.{came}
+use Rattle.lpt_apart.specs.Ends.{PutOut, Ends, node_at}
 use Rattle.lpt_apart.specs.Facts.{Log}
 use Rattle.lpt_apart.specs.Steps.{is_harmless, CanHappen, with_release, accepted_on}
 use Rattle.lpt_apart.specs.Steps as steps
+use Rattle.lpt_apart.specs.Whole.{came_by, came_after}
 use Rattle.lpt_apart.proofs.Aborts.{closed_up, closed_down}
 use Rattle.lpt_apart.proofs.Links.{IsHeldAs, held_at, put_held, put_hands}
-use Rattle.lpt_apart.proofs.Telling.{delivery_told}
-use Rattle.lpt_apart.proofs.Ties.{ends_of, IsTied, Follows, IsLonger, longer}
+use Rattle.lpt_apart.proofs.Telling.{delivery_told, delivery_came}
+use Rattle.lpt_apart.proofs.Ties.{ends_of, IsTied, Came, Leads, IsLonger, longer}
 
 -- ---- a lane takes and delivers
 
@@ -75,6 +78,18 @@ deliver c first s es l n good took =
 module _ (c : Config) (first : Contents) (s : State) (ways : List PutOut) (log : Log)
     (es : List Event)
     (good : IsConfig c) (t : IsTied c first s ways log es) where
+  -- the parts that came before
+  abbrev had : Came
+  had = came c (recorded c first es)
+
+  -- what a node has taken leads on, and its part came
+  abbrev Led : Direction → Arrival → Type 0
+  Led d a =
+      let x : NodeData × Accepted =
+      accepted (receiver_side d) c (node_at (ends_of s ways log) (receiver_side d)) a in
+      Leads c first (accepted_on (ends_of s ways log) d x)
+      (λ e name k. came_by d a x.1.outcome e name k (had e name k))
+
   -- the packet goes in this direction, and is held
   held_for : (d : Direction) (p : PutOut) (h : IsHeldAs s.link.packets p)
       → p.direction ≡ d
@@ -97,8 +112,7 @@ module _ (c : Config) (first : Contents) (s : State) (ways : List PutOut) (log :
 
   up : (n : ℕ)
       → is_held_for s.link Up n ≡ true
-      → Follows c first (accepted_on (ends_of s ways log) Up
-      (accepted Craft c s.on_craft (arrival_held c Up (slice_get s.link.packets n))))
+      → Led Up (arrival_held c Up (slice_get s.link.packets n))
   up n held =
       let x : NodeData × Accepted =
       accepted Craft c s.on_craft (arrival_held c Up (slice_get s.link.packets n)) in
@@ -106,20 +120,26 @@ module _ (c : Config) (first : Contents) (s : State) (ways : List PutOut) (log :
       let took = take c first s es S1 n good t.legal t.shown (t.hands S1) held in
       let gave = deliver c first s es S1 n good took in
       record {
-        state = (delivered_on (length h) (taken s S1 n) S1 x).0;
-        events = Deliver S1 ∷ Take S1 n ∷ es;
-        tied = record {
-          legal = gave.legal;
-          shown = gave.shown;
-          hands = λ l. put_hands (after_drop (taken s S1 n).link S1) Down None (as_list x.1.packet)
-              l ∙ hands l;
-          held = put_held (after_drop (taken s S1 n).link S1) ways Down None (as_list x.1.packet)
-              t.held;
-          tells =
-              delivery_told c first (taken s S1 n) log (Take S1 n ∷ es) took.shown t.tells S1 gave x
-              refl;
+        follows = record {
+          state = (delivered_on (length h) (taken s S1 n) S1 x).0;
+          events = Deliver S1 ∷ Take S1 n ∷ es;
+          tied = record {
+            legal = gave.legal;
+            shown = gave.shown;
+            hands = λ l.
+                put_hands (after_drop (taken s S1 n).link S1) Down None (as_list x.1.packet) l
+                ∙ hands l;
+            held = put_held (after_drop (taken s S1 n).link S1) ways Down None (as_list x.1.packet)
+                t.held;
+            tells =
+                delivery_told c first (taken s S1 n) log (Take S1 n ∷ es) took.shown t.tells S1 gave
+                x refl;
+          };
+          is = refl;
         };
-        is = refl;
+        comes =
+            delivery_came c first (taken s S1 n) log (Take S1 n ∷ es) took.shown t.tells S1 gave
+            (arrival_held c Up (slice_get s.link.packets n)) x refl refl;
       } where
         hands : (l : Lane) → hand_of (after_drop (taken s S1 n).link S1) l ≡ None
         hands S1 = refl
@@ -129,8 +149,7 @@ module _ (c : Config) (first : Contents) (s : State) (ways : List PutOut) (log :
 
   down : (n : ℕ)
       → is_held_for s.link Down n ≡ true
-      → Follows c first (accepted_on (ends_of s ways log) Down
-      (accepted Ground c s.on_ground (arrival_held c Down (slice_get s.link.packets n))))
+      → Led Down (arrival_held c Down (slice_get s.link.packets n))
   down n held =
       let x : NodeData × Accepted =
       accepted Ground c s.on_ground (arrival_held c Down (slice_get s.link.packets n)) in
@@ -138,20 +157,26 @@ module _ (c : Config) (first : Contents) (s : State) (ways : List PutOut) (log :
       let took = take c first s es G1 n good t.legal t.shown (t.hands G1) held in
       let gave = deliver c first s es G1 n good took in
       record {
-        state = (delivered_on (length h) (taken s G1 n) G1 x).0;
-        events = Deliver G1 ∷ Take G1 n ∷ es;
-        tied = record {
-          legal = gave.legal;
-          shown = gave.shown;
-          hands = λ l. put_hands (after_drop (taken s G1 n).link G1) Down None (as_list x.1.packet)
-              l ∙ hands l;
-          held = put_held (after_drop (taken s G1 n).link G1) ways Down None (as_list x.1.packet)
-              t.held;
-          tells =
-              delivery_told c first (taken s G1 n) log (Take G1 n ∷ es) took.shown t.tells G1 gave x
-              refl;
+        follows = record {
+          state = (delivered_on (length h) (taken s G1 n) G1 x).0;
+          events = Deliver G1 ∷ Take G1 n ∷ es;
+          tied = record {
+            legal = gave.legal;
+            shown = gave.shown;
+            hands = λ l.
+                put_hands (after_drop (taken s G1 n).link G1) Down None (as_list x.1.packet) l
+                ∙ hands l;
+            held = put_held (after_drop (taken s G1 n).link G1) ways Down None (as_list x.1.packet)
+                t.held;
+            tells =
+                delivery_told c first (taken s G1 n) log (Take G1 n ∷ es) took.shown t.tells G1 gave
+                x refl;
+          };
+          is = refl;
         };
-        is = refl;
+        comes =
+            delivery_came c first (taken s G1 n) log (Take G1 n ∷ es) took.shown t.tells G1 gave
+            (arrival_held c Down (slice_get s.link.packets n)) x refl refl;
       } where
         hands : (l : Lane) → hand_of (after_drop (taken s G1 n).link G1) l ≡ None
         hands S1 = t.hands S1
@@ -160,50 +185,66 @@ module _ (c : Config) (first : Contents) (s : State) (ways : List PutOut) (log :
         hands G2 = t.hands G2
 
   -- nothing has happened
-  same : Follows c first (ends_of s ways log)
-  same = record { state = s; events = es; tied = t; is = refl }
+  same : Leads c first (ends_of s ways log) had
+  same = record {
+    follows = record { state = s; events = es; tied = t; is = refl };
+    comes = λ d name k. refl;
+  }
+
+  -- what is no part brings none
+  still : {e : Ends} (i : Direction)
+      → Leads c first e had
+      → Leads c first e (λ d name k. (same_direction i d && false) || had d name k)
+  still i l = record {
+    follows = l.follows;
+    comes = λ d name k. l.comes d name k ∙ go (same_direction i d) (had d name k);
+  } where
+    go : (b before : Bool) → before ≡ ((b && false) || before)
+    go true before = refl
+    go false before = refl
 
   -- what is harmless changes nothing, or finishes a message
   harmless_up : (a : Arrival)
       → is_harmless a ≡ true
-      → Follows c first (accepted_on (ends_of s ways log) Up (accepted Craft c s.on_craft a))
-  harmless_up NotRead harmless = same
-  harmless_up AnIdle harmless = same
-  harmless_up Foreign harmless = same
+      → Led Up a
+  harmless_up NotRead harmless = still Up same
+  harmless_up AnIdle harmless = still Up same
+  harmless_up Foreign harmless = still Up same
   harmless_up (ARequest b) harmless = absurd cc
-  harmless_up (AReport service subtype) harmless = same
-  harmless_up NoPart harmless = same
+  harmless_up (AReport service subtype) harmless = still Up same
+  harmless_up NoPart harmless = still Up same
   harmless_up (APart q) harmless = absurd cc
-  harmless_up (AnAbort name reason) harmless = closed_down c first s ways log es good t name
+  harmless_up (AnAbort name reason) harmless =
+      still Up (closed_down c first s ways log es good t name)
 
   harmless_down : (a : Arrival)
       → is_harmless a ≡ true
-      → Follows c first (accepted_on (ends_of s ways log) Down (accepted Ground c s.on_ground a))
-  harmless_down NotRead harmless = same
-  harmless_down AnIdle harmless = same
-  harmless_down Foreign harmless = same
+      → Led Down a
+  harmless_down NotRead harmless = still Down same
+  harmless_down AnIdle harmless = still Down same
+  harmless_down Foreign harmless = still Down same
   harmless_down (ARequest b) harmless = absurd cc
-  harmless_down (AReport service subtype) harmless = same
-  harmless_down NoPart harmless = same
+  harmless_down (AReport service subtype) harmless = still Down same
+  harmless_down NoPart harmless = still Down same
   harmless_down (APart q) harmless = absurd cc
-  harmless_down (AnAbort name reason) harmless = closed_up c first s ways log es good t name
+  harmless_down (AnAbort name reason) harmless =
+      still Down (closed_up c first s ways log es good t name)
 
   -- what may come does
   pub accept : (d : Direction) (b : List ℕ)
       → CanHappen c (ends_of s ways log) (steps.Accept d b)
-      → Follows c first (steps.after c (ends_of s ways log) (steps.Accept d b))
+      → Leads c first (steps.after c (ends_of s ways log) (steps.Accept d b))
+      (λ e name k. came_after c (ends_of s ways log) (steps.Accept d b) e name k (had e name k))
   accept Up b (inl on) =
       let h : IsHeldAs s.link.packets on.packet =
       held_at s.link.packets ways on.place on.packet t.held on.there in
-      subst (λ (a : Arrival). Follows c first
-      (accepted_on (ends_of s ways log) Up (accepted Craft c s.on_craft a)))
+      subst (Led Up)
       (arrives Up on.packet b h on.octets)
       (up h.number (held_for Up on.packet h on.goes))
   accept Down b (inl on) =
       let h : IsHeldAs s.link.packets on.packet =
       held_at s.link.packets ways on.place on.packet t.held on.there in
-      subst (λ (a : Arrival). Follows c first
-      (accepted_on (ends_of s ways log) Down (accepted Ground c s.on_ground a)))
+      subst (Led Down)
       (arrives Down on.packet b h on.octets)
       (down h.number (held_for Down on.packet h on.goes))
   accept Up b (inr harmless) = harmless_up (arrival_in c Up b) harmless

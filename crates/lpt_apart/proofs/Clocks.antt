@@ -1,6 +1,8 @@
 -- Two ends whose clocks begin later are two ends that have ticked, and keep the promise.
 use Rattle.std.proofs.Common.{◌≡◌, ◌∙◌, ap, sym, subst, refl, ℕ, zero, suc, ◌+◌, ◌<◌, ◌^◌, ◌==◌, Bool, false, if◌then◌else◌, List, [], ◌∷◌, Some, None, arith}
 use Rattle.std.proofs.lemmas.Bool.Decides.{nat_tests}
+use Rattle.lpt_packet.specs.declared.direction.Direction.{Direction}
+use Rattle.lpt_packet.specs.Names.{Name}
 use Rattle.lpt_memory.specs.Memories.{Contents}
 use Rattle.lpt_events.specs.Configs.{IsConfig}
 use Rattle.lpt_events.specs.Counts.{greatest_clock}
@@ -13,7 +15,9 @@ use Rattle.lpt_apart.specs.Ends.{no_ends}
 use Rattle.lpt_apart.specs.Moves.{Pair, Move, Do, no_pair, moved, CanMove, came_to, CanMoveAll}
 use Rattle.lpt_apart.specs.Steps.{Tick}
 use Rattle.lpt_apart.specs.Worlds.{IsPromised}
-use Rattle.lpt_apart.proofs.Moving.{ends_apart_keep_the_promise}
+use Rattle.lpt_apart.specs.Whole.{came_moved, came_in, came_since, CameWhole, last_opened, is_aborted, last_released, EndsWithClocksWithholdNothing}
+use Rattle.lpt_apart.proofs.Moving.{ends_apart_keep_the_promise, ends_apart_withhold_nothing}
+use Rattle.lpt_apart.proofs.Ties.{Came}
 
 -- two new ends with these clocks
 abbrev at_clocks : Config → Contents → (on_ground on_craft : ℕ) → Pair
@@ -32,6 +36,16 @@ pub record IsReached (c : Config) (first : Contents) (p : Pair) : Type 0 where
   pub can : CanMoveAll c first all
   pub is : came_to c first all ≡ p
 
+-- and these parts came with them
+pub record IsBrought (c : Config) (first : Contents) (p : Pair) (parts : Came) : Type 0 where
+  pub reached : IsReached c first p
+  pub came : (d : Direction) (name : Name) (n : ℕ)
+      → came_in c first reached.all d name n ≡ parts d name n
+
+-- with these moves no part came
+abbrev pub IsBegun : Config → Contents → Pair → Type 0
+IsBegun c first p = IsBrought c first p (λ d name n. false)
+
 -- ---- ticks
 
 -- a number below the greatest isn't it
@@ -42,53 +56,61 @@ module _ (c : Config) (first : Contents) where
   -- ground ticks
   tick_ground : (x y : ℕ)
       → x + 1 < 2 ^ 32
-      → IsReached c first (at_clocks c first x y)
-      → IsReached c first (at_clocks c first (x + 1) y)
+      → IsBegun c first (at_clocks c first x y)
+      → IsBegun c first (at_clocks c first (x + 1) y)
   tick_ground x y below r = record {
-    all = Do (Tick Ground) ∷ r.all;
-    can = (
-      r.can,
-      subst (λ (p : Pair). CanMove c p (Do (Tick Ground))) (sym r.is)
-          (ap (λ (b : Bool). if b then Some ClockEnd else None) (not_greatest x below)),
-    );
-    is = ap (λ (p : Pair). moved c p (Do (Tick Ground))) r.is;
+    reached = record {
+      all = Do (Tick Ground) ∷ r.reached.all;
+      can = (
+        r.reached.can,
+        subst (λ (p : Pair). CanMove c p (Do (Tick Ground))) (sym r.reached.is)
+            (ap (λ (b : Bool). if b then Some ClockEnd else None) (not_greatest x below)),
+      );
+      is = ap (λ (p : Pair). moved c p (Do (Tick Ground))) r.reached.is;
+    };
+    came = r.came;
   }
 
   -- the spacecraft ticks
   tick_craft : (x y : ℕ)
       → y + 1 < 2 ^ 32
-      → IsReached c first (at_clocks c first x y)
-      → IsReached c first (at_clocks c first x (y + 1))
+      → IsBegun c first (at_clocks c first x y)
+      → IsBegun c first (at_clocks c first x (y + 1))
   tick_craft x y below r = record {
-    all = Do (Tick Craft) ∷ r.all;
-    can = (
-      r.can,
-      subst (λ (p : Pair). CanMove c p (Do (Tick Craft))) (sym r.is)
-          (ap (λ (b : Bool). if b then Some ClockEnd else None) (not_greatest y below)),
-    );
-    is = ap (λ (p : Pair). moved c p (Do (Tick Craft))) r.is;
+    reached = record {
+      all = Do (Tick Craft) ∷ r.reached.all;
+      can = (
+        r.reached.can,
+        subst (λ (p : Pair). CanMove c p (Do (Tick Craft))) (sym r.reached.is)
+            (ap (λ (b : Bool). if b then Some ClockEnd else None) (not_greatest y below)),
+      );
+      is = ap (λ (p : Pair). moved c p (Do (Tick Craft))) r.reached.is;
+    };
+    came = r.came;
   }
 
   -- the same ends
   same : (x y g k : ℕ)
       → x ≡ g + c.clock
       → y ≡ k + c.clock
-      → IsReached c first (at_clocks c first x y)
-      → IsReached c first (no_pair_later c first g k)
+      → IsBegun c first (at_clocks c first x y)
+      → IsBegun c first (no_pair_later c first g k)
   same x y g k ground craft r = record {
-    all = r.all;
-    can = r.can;
-    is = r.is ∙ (λ i. at_clocks c first (ground i) (craft i));
+    reached = record {
+      all = r.reached.all;
+      can = r.reached.can;
+      is = r.reached.is ∙ (λ i. at_clocks c first (ground i) (craft i));
+    };
+    came = r.came;
   }
 
   ground_later : (g : ℕ)
       → g + c.clock < 2 ^ 32
-      → IsReached c first (no_pair_later c first g 0)
+      → IsBegun c first (no_pair_later c first g 0)
   ground_later zero fits =
       same c.clock c.clock 0 0 (omega arith) (omega arith) (record {
-        all = [];
-        can = tt;
-        is = refl;
+        reached = record { all = []; can = tt; is = refl };
+        came = λ d name n. refl;
       })
   ground_later (suc g) fits =
       same ((g + c.clock) + 1) (0 + c.clock) (suc g) 0 (omega arith) refl
@@ -98,7 +120,7 @@ module _ (c : Config) (first : Contents) where
   both_later : (g k : ℕ)
       → g + c.clock < 2 ^ 32
       → k + c.clock < 2 ^ 32
-      → IsReached c first (no_pair_later c first g k)
+      → IsBegun c first (no_pair_later c first g k)
   both_later g zero fits_g fits_k = ground_later g fits_g
   both_later g (suc k) fits_g fits_k =
       same (g + c.clock) ((k + c.clock) + 1) g (suc k) refl (omega arith)
@@ -119,6 +141,26 @@ module _ (c : Config) (first : Contents) where
         is = ap (λ (q : Pair). moved c q x) rest.is;
       }
 
+  -- and what came with them
+  pub brought : (p : Pair) (xs : List Move)
+      → IsBegun c first p
+      → CanAll c p xs
+      → IsBrought c first (after_all c p xs) (came_since c p xs)
+  brought p [] r can = r
+  brought p (x ∷ xs) r can =
+      let rest : IsBrought c first (after_all c p xs) (came_since c p xs) = brought p xs r can.0 in
+      record {
+        reached = record {
+          all = x ∷ rest.reached.all;
+          can = (
+            rest.reached.can,
+            subst (λ (q : Pair). CanMove c q x) (sym rest.reached.is) can.1,
+          );
+          is = ap (λ (q : Pair). moved c q x) rest.reached.is;
+        };
+        came = λ d name n i. came_moved c (rest.reached.is i) x d name n (rest.came d name n i);
+      }
+
 -- ---- the promise
 
 -- the configuration whose clock begins before is one, too
@@ -136,13 +178,18 @@ earlier c g good = record {
   clock_fits = omega (arith, good.clock_fits);
 }
 
--- two new ends with clocks of their own are reached
+-- two new ends with clocks of their own are reached, and no part came
+begun : (c : Config) (first : Contents) (g k : ℕ)
+    → IsConfig (later g c)
+    → IsConfig (later k c)
+    → IsBegun c first (no_pair_later c first g k)
+begun c first g k good_g good_k = both_later c first g k good_g.clock_fits good_k.clock_fits
+
 pub begun_later : (c : Config) (first : Contents) (g k : ℕ)
     → IsConfig (later g c)
     → IsConfig (later k c)
     → IsReached c first (no_pair_later c first g k)
-begun_later c first g k good_g good_k =
-    both_later c first g k good_g.clock_fits good_k.clock_fits
+begun_later c first g k good_g good_k = (begun c first g k good_g good_k).reached
 
 -- two ends that were reached keep the promise
 pub reached_keep : (c : Config) (first : Contents) (g : ℕ) (p : Pair)
@@ -157,3 +204,14 @@ pub ends_with_clocks_keep_the_promise : EndsWithClocksKeepThePromise
 ends_with_clocks_keep_the_promise c first g k xs good_g good_k can =
     reached_keep c first g (after_all c (no_pair_later c first g k) xs) good_g
     (joined c first (no_pair_later c first g k) xs (begun_later c first g k good_g good_k) can)
+
+pub ends_with_clocks_withhold_nothing : EndsWithClocksWithholdNothing
+ends_with_clocks_withhold_nothing c first g k xs good_g good_k can =
+    let new : Pair = no_pair_later c first g k in
+    let b = brought c first new xs (begun c first g k good_g good_k) can in
+    (λ d name m. subst (λ (q : Pair). last_opened q.ends.log d name ≡ Some m
+    → CameWhole c (came_since c new xs d name) m
+    → is_aborted q.ends.log d name ≡ false
+    → last_released q.ends.log d name ≡ Some m) b.reached.is
+    (λ now all live. ends_apart_withhold_nothing c first b.reached.all (earlier c g good_g)
+    b.reached.can d name m now (λ n low high. b.came d name n ∙ all n low high) live))

@@ -1,7 +1,7 @@
 -- Each step but handing over and retiring is one event.
-use Rattle.std.proofs.Common.{◌≡◌, ◌∙◌, ap, subst, refl, ℕ, true, List, [], ◌∷◌, length, Option, Some, None, is_some}
+use Rattle.std.proofs.Common.{◌≡◌, ◌∙◌, ap, subst, refl, ℕ, Bool, true, false, if◌then◌else◌, List, [], ◌∷◌, length, Option, Some, None, is_some}
 use Rattle.std.specs.Option.{option_map}
-use Rattle.std.specs.Prelude.{IfSome, IsTrue}
+use Rattle.std.specs.Prelude.{IfSome, IsTrue, cond}
 use Rattle.lpt_packet.specs.declared.direction.Direction.{Direction}
 use Rattle.lpt_packet.specs.declared.direction.Direction.TheVariants.{Up, Down}
 use Rattle.lpt_packet.specs.Names.{Name}
@@ -30,16 +30,25 @@ use Rattle.lpt_model.specs.State.{State, after, as_list, committed_on, refusal_o
 use Rattle.lpt_model.specs.Tickets.{ticket_of}
 use Rattle.lpt_refinement.specs.Shows.{Shows}
 use Rattle.lpt_refinement.specs.Views.{views}
+use Rattle.lpt_events.specs.declared.entry.Opening.{Opening}
 use Rattle.lpt_journal.specs.Replies.{recorded}
+use Rattle.lpt_journal.specs.Whole.{came}
 use Rattle.lpt_apart.specs.Ends.{PutOut, put_out}
-use Rattle.lpt_apart.specs.Facts.{Opened, Asked, Aborted, Executed, Restarted, Log}
+use Rattle.lpt_apart.specs.Facts.{Opened, Asked, Aborted, Executed, Restarted, Log, is_same}
 use Rattle.lpt_apart.specs.Steps.{CanHappen, with_report}
 use Rattle.lpt_apart.specs.Steps as steps
 use Rattle.lpt_apart.specs.Told.{told}
+use Rattle.lpt_apart.specs.Whole.{came_after}
 use Rattle.lpt_apart.specs.Worlds.{IsReadyNode}
 use Rattle.lpt_apart.proofs.Links.{AllHeld, put_held, put_hands}
-use Rattle.lpt_apart.proofs.Telling.{plain_told, expiry_told, execution_told}
-use Rattle.lpt_apart.proofs.Ties.{ends_of, IsTied, Follows, longer}
+use Rattle.lpt_apart.proofs.Telling.{plain_told, expiry_told, execution_told, execution_opens}
+use Rattle.lpt_apart.proofs.Ties.{ends_of, IsTied, Came, Leads, longer}
+
+-- nothing came of what is opened now
+pub open_came : (b : Bool) (o : Opening) (before : Bool)
+    → (if is_some (cond b (Some o) None) then false else before) ≡ (if b then false else before)
+open_came true o before = refl
+open_came false o before = refl
 
 module _ (c : Config) (first : Contents) (s : State) (ways : List PutOut) (log : Log)
     (es : List Event)
@@ -48,6 +57,11 @@ module _ (c : Config) (first : Contents) (s : State) (ways : List PutOut) (log :
   abbrev state_after : Event → State
   state_after e = (after c (length (recorded c first es)) s e).0
 
+  -- the parts that came with a step
+  abbrev pub came_on : steps.Step → Came
+  came_on x d name k =
+      came_after c (ends_of s ways log) x d name k (came c (recorded c first es) d name k)
+
   -- an event is done: it leaves no hand full, what may be handed over is held, and the log is told
   once : (e : Event) (ways' : List PutOut) (log' : Log)
       → IsEvent e
@@ -55,55 +69,66 @@ module _ (c : Config) (first : Contents) (s : State) (ways : List PutOut) (log :
       → ((l : Lane) → hand_of (state_after e).link l ≡ None)
       → AllHeld (state_after e).link.packets ways'
       → told c (recorded c first (e ∷ es)) ≡ log'
-      → Follows c first (ends_of (state_after e) ways' log')
-  once e ways' log' ranged free hands held tells =
+      → {parts : Came}
+      → ((d : Direction) (name : Name) (k : ℕ)
+      → came c (recorded c first (e ∷ es)) d name k ≡ parts d name k)
+      → Leads c first (ends_of (state_after e) ways' log') parts
+  once e ways' log' ranged free hands held tells comes =
       let more = longer c first s es e good t.legal t.shown ranged free in
       record {
-        state = state_after e;
-        events = e ∷ es;
-        tied = record {
-          legal = more.legal;
-          shown = more.shown;
-          hands = hands;
-          held = held;
-          tells = tells;
+        follows = record {
+          state = state_after e;
+          events = e ∷ es;
+          tied = record {
+            legal = more.legal;
+            shown = more.shown;
+            hands = hands;
+            held = held;
+            tells = tells;
+          };
+          is = refl;
         };
-        is = refl;
+        comes = comes;
       }
 
   -- ---- sending
 
   pub open_step : (d : Direction) (name : Name) (m : List ℕ)
       → CanHappen c (ends_of s ways log) (steps.Open d name m)
-      → Follows c first (steps.after c (ends_of s ways log) (steps.Open d name m))
+      → Leads c first (steps.after c (ends_of s ways log) (steps.Open d name m))
+      (came_on (steps.Open d name m))
   open_step Up name m can =
       once (Open Up name m) ways (Opened Up name m ∷ log) can.0 (ap (option_map node_fault) can.1)
       t.hands t.held
       (ap (λ (l : Log). Opened Up name m ∷ l) t.tells)
+      (λ e i k. open_came (is_same Up name e i) _ (came c (recorded c first es) e i k))
   open_step Down name m can =
       once (Open Down name m) ways (Opened Down name m ∷ log) can.0
       (ap (option_map node_fault) can.1)
       t.hands t.held
       (ap (λ (l : Log). Opened Down name m ∷ l) t.tells)
+      (λ e i k. open_came (is_same Down name e i) _ (came c (recorded c first es) e i k))
 
   pub send : (d : Direction) (name : Name) (k : ℕ)
       → CanHappen c (ends_of s ways log) (steps.Send d name k)
-      → Follows c first (steps.after c (ends_of s ways log) (steps.Send d name k))
+      → Leads c first (steps.after c (ends_of s ways log) (steps.Send d name k))
+      (came_on (steps.Send d name k))
   send Up name k can =
       let b : List ℕ = (sent Ground c s.on_ground name k).1 in
       once (Send Up name k) (put_out ways Up (Some name) (b ∷ [])) log can.0
       (ap (option_map node_fault) can.1) t.hands
-      (put_held s.link ways Up (Some name) (b ∷ []) t.held) t.tells
+      (put_held s.link ways Up (Some name) (b ∷ []) t.held) t.tells (λ e i k. refl)
   send Down name k can =
       let b : List ℕ = (sent Craft c s.on_craft name k).1 in
       once (Send Down name k) (put_out ways Down (Some name) (b ∷ [])) log can.0
       (ap (option_map node_fault) can.1) t.hands
-      (put_held s.link ways Down (Some name) (b ∷ []) t.held) t.tells
+      (put_held s.link ways Down (Some name) (b ∷ []) t.held) t.tells (λ e i k. refl)
 
   pub plain : (source flags service subtype : ℕ) (body : List ℕ)
       → CanHappen c (ends_of s ways log) (steps.Plain source flags service subtype body)
-      → Follows c first (steps.after c (ends_of s ways log)
+      → Leads c first (steps.after c (ends_of s ways log)
       (steps.Plain source flags service subtype body))
+      (came_on (steps.Plain source flags service subtype body))
   plain source flags service subtype body can =
       let b : List ℕ = (plain_made c s.on_ground source flags service subtype body).1 in
       once (Plain source flags service subtype body) (put_out ways Up None (b ∷ []))
@@ -111,29 +136,34 @@ module _ (c : Config) (first : Contents) (s : State) (ways : List PutOut) (log :
       (ap (option_map node_fault) can.1) t.hands
       (put_held s.link ways Up None (b ∷ []) t.held)
       (plain_told c first s log es t.shown t.tells source flags service subtype body)
+      (λ e i k. refl)
 
   pub finish : (d : Direction) (name : Name)
       → CanHappen c (ends_of s ways log) (steps.Finish d name)
-      → Follows c first (steps.after c (ends_of s ways log) (steps.Finish d name))
+      → Leads c first (steps.after c (ends_of s ways log) (steps.Finish d name))
+      (came_on (steps.Finish d name))
   finish Up name can =
       once (Finish Up name) ways log can.0 (ap (option_map node_fault) can.1) t.hands t.held t.tells
+      (λ e i k. refl)
   finish Down name can =
       once (Finish Down name) ways log can.0 (ap (option_map node_fault) can.1) t.hands
-      t.held t.tells
+      t.held t.tells (λ e i k. refl)
 
   -- ---- time and restarts
 
   pub tick : (side : Side)
       → CanHappen c (ends_of s ways log) (steps.Tick side)
-      → Follows c first (steps.after c (ends_of s ways log) (steps.Tick side))
+      → Leads c first (steps.after c (ends_of s ways log) (steps.Tick side))
+      (came_on (steps.Tick side))
   tick Ground can = once (Tick Ground) ways log tt (ap (option_map node_fault) can) t.hands t.held
-      t.tells
+      t.tells (λ e i k. refl)
   tick Craft can = once (Tick Craft) ways log tt (ap (option_map node_fault) can) t.hands t.held
-      t.tells
+      t.tells (λ e i k. refl)
 
   pub expire : (side : Side)
       → CanHappen c (ends_of s ways log) (steps.Expire side)
-      → Follows c first (steps.after c (ends_of s ways log) (steps.Expire side))
+      → Leads c first (steps.after c (ends_of s ways log) (steps.Expire side))
+      (came_on (steps.Expire side))
   expire Ground can =
       let x : NodeData × Ended = expired Ground c s.on_ground in
       let bs : List (List ℕ) = as_list x.1.packet in
@@ -143,7 +173,7 @@ module _ (c : Config) (first : Contents) (s : State) (ways : List PutOut) (log :
       (λ l. put_hands s.link Down None bs l ∙ t.hands l)
       (put_held s.link ways Down None bs t.held)
       (expiry_told c first s log es t.shown t.tells Ground
-      (longer c first s es (Expire Ground) good t.legal t.shown tt free))
+      (longer c first s es (Expire Ground) good t.legal t.shown tt free)) (λ e i k. refl)
   expire Craft can =
       let x : NodeData × Ended = expired Craft c s.on_craft in
       let bs : List (List ℕ) = as_list x.1.packet in
@@ -153,58 +183,65 @@ module _ (c : Config) (first : Contents) (s : State) (ways : List PutOut) (log :
       (λ l. put_hands s.link Down None bs l ∙ t.hands l)
       (put_held s.link ways Down None bs t.held)
       (expiry_told c first s log es t.shown t.tells Craft
-      (longer c first s es (Expire Craft) good t.legal t.shown tt free))
+      (longer c first s es (Expire Craft) good t.legal t.shown tt free)) (λ e i k. refl)
 
   pub restart : (side : Side)
       → CanHappen c (ends_of s ways log) (steps.Restart side)
-      → Follows c first (steps.after c (ends_of s ways log) (steps.Restart side))
+      → Leads c first (steps.after c (ends_of s ways log) (steps.Restart side))
+      (came_on (steps.Restart side))
   restart Ground can =
       once (Restart Ground) ways (Restarted Ground ∷ log) tt refl t.hands t.held
-      (ap (λ (l : Log). Restarted Ground ∷ l) t.tells)
+      (ap (λ (l : Log). Restarted Ground ∷ l) t.tells) (λ e i k. refl)
   restart Craft can =
       once (Restart Craft) ways (Restarted Craft ∷ log) tt refl t.hands t.held
-      (ap (λ (l : Log). Restarted Craft ∷ l) t.tells)
+      (ap (λ (l : Log). Restarted Craft ∷ l) t.tells) (λ e i k. refl)
 
   -- ---- jobs
 
   pub claim : (w : Worker)
       → CanHappen c (ends_of s ways log) (steps.Claim w)
-      → Follows c first (steps.after c (ends_of s ways log) (steps.Claim w))
+      → Leads c first (steps.after c (ends_of s ways log) (steps.Claim w))
+      (came_on (steps.Claim w))
   claim w can =
       once (Claim w) ways log tt
       (ap (refusal_claim_by s.on_craft) can.0 ∙ ap (option_map node_fault) can.1) t.hands t.held
-      t.tells
+      t.tells (λ e i k. refl)
 
   pub commit : (w : Worker)
       → CanHappen c (ends_of s ways log) (steps.Commit w)
-      → Follows c first (steps.after c (ends_of s ways log) (steps.Commit w))
+      → Leads c first (steps.after c (ends_of s ways log) (steps.Commit w))
+      (came_on (steps.Commit w))
   commit w can = go (ticket_of s.tickets w) refl can where
     go : (o : Option Job)
         → ticket_of s.tickets w ≡ o
         → is_some o ≡ true
-        → Follows c first (steps.committed_on c (ends_of s ways log) w o)
+        → Leads c first (steps.committed_on c (ends_of s ways log) w o)
+        (came c (recorded c first es))
     go None e some = absurd cc
     go (Some j) e some =
         let free : refusal_of c s (Commit w) ≡ None = ap refusal_commit_of e in
         let more = longer c first s es (Commit w) good t.legal t.shown tt free in
         record {
-          state = (committed_on c s w (Some j)).0;
-          events = Commit w ∷ es;
-          tied = record {
-            legal = more.legal;
-            shown =
-                subst (λ (o : Option Job). Shows (committed_on c s w o).0
-                (views c first (recorded c first (Commit w ∷ es))))
-                e more.shown;
-            hands = t.hands;
-            held = t.held;
-            tells = t.tells;
+          follows = record {
+            state = (committed_on c s w (Some j)).0;
+            events = Commit w ∷ es;
+            tied = record {
+              legal = more.legal;
+              shown =
+                  subst (λ (o : Option Job). Shows (committed_on c s w o).0
+                  (views c first (recorded c first (Commit w ∷ es))))
+                  e more.shown;
+              hands = t.hands;
+              held = t.held;
+              tells = t.tells;
+            };
+            is = refl;
           };
-          is = refl;
+          comes = λ d name k. refl;
         }
 
   pub apply : CanHappen c (ends_of s ways log) steps.Apply
-      → Follows c first (steps.after c (ends_of s ways log) steps.Apply)
+      → Leads c first (steps.after c (ends_of s ways log) steps.Apply) (came_on steps.Apply)
   apply can =
       let free : refusal_of c s Apply ≡ None = ap (option_map node_fault) can in
       let x = executed c s.on_craft s.memories in
@@ -214,6 +251,9 @@ module _ (c : Config) (first : Contents) (s : State) (ways : List PutOut) (log :
       (put_held s.link ways Down None x.0.1.packets t.held)
       (execution_told c first s log es t.shown t.tells
       (longer c first s es Apply good t.legal t.shown tt free))
+      (λ e i k. ap (λ (b : Bool). if b then false else came c (recorded c first es) e i k)
+      (execution_opens c first s log es t.shown t.tells
+      (longer c first s es Apply good t.legal t.shown tt free) e i))
 
   -- ---- what the node asks for besides
 

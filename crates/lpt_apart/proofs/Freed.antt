@@ -14,7 +14,7 @@ use Rattle.lpt_journal.proofs.CountLemmas.{same_name-comm}
 use Rattle.lpt_apart.specs.Ends.{Ends, without}
 use Rattle.lpt_apart.specs.Moves.{with_ledgers, KnowsLess}
 use Rattle.lpt_apart.proofs.Links.{held_without}
-use Rattle.lpt_apart.proofs.Ties.{Follows}
+use Rattle.lpt_apart.proofs.Ties.{Came, Follows, Leads}
 
 -- ---- what holds of them
 
@@ -22,11 +22,11 @@ use Rattle.lpt_apart.proofs.Ties.{Follows}
 abbrev pub AreUnheard : NodeData → (Name → Bool) → Type 0
 AreUnheard n freed = (name : Name) → freed name ≡ true → maps.get n.receiving.entries name ≡ None
 
--- Two ends follow a world, and receivers that know these names know less by the freed ones, of
--- which no reception is open.
+-- Two ends follow a world, to which these parts came, and receivers that know these names know less
+-- by the freed ones, of which no reception is open.
 pub record IsLess (c : Config) (first : Contents) (freed : Direction → Name → Bool) (w : Ends)
-    (g k : Marks) : Type 0 where
-  pub follows : Follows c first w
+    (parts : Came) (g k : Marks) : Type 0 where
+  pub leads : Leads c first w parts
   pub on_ground : KnowsLess g (freed Down) w.on_ground.receiving.ledger
   pub on_craft : KnowsLess k (freed Up) w.on_craft.receiving.ledger
   pub no_down : AreUnheard w.on_ground (freed Down)
@@ -34,11 +34,11 @@ pub record IsLess (c : Config) (first : Contents) (freed : Direction → Name �
 
 -- two ends are some that follow a world, but for the freed names
 pub record IsBut (c : Config) (first : Contents) (freed : Direction → Name → Bool)
-    (e : Ends) : Type 0 where
+    (e : Ends) (parts : Came) : Type 0 where
   pub whole : Ends
   pub on_ground : Marks
   pub on_craft : Marks
-  pub less : IsLess c first freed whole on_ground on_craft
+  pub less : IsLess c first freed whole parts on_ground on_craft
   pub is : with_ledgers on_ground on_craft whole ≡ e
 
 -- ---- what freeing changes
@@ -97,20 +97,25 @@ abbrev pub forgetting : Direction → Name → Ends → Ends
 forgetting d name e = record e { on_the_way = without d name e.on_the_way }
 
 -- they follow a world still
-pub forget : (c : Config) (first : Contents) (d : Direction) (name : Name) (e : Ends)
-    → Follows c first e
-    → Follows c first (forgetting d name e)
-forget c first d name e f = record {
-  state = f.state;
-  events = f.events;
-  tied = record {
-    legal = f.tied.legal;
-    shown = f.tied.shown;
-    hands = f.tied.hands;
-    held =
-        held_without f.state.link.packets f.state.link.packets d name e.on_the_way
-        (λ k p there other. there) f.tied.held;
-    tells = f.tied.tells;
-  };
-  is = ap (λ (y : Ends). record y { on_the_way = without d name e.on_the_way }) f.is;
-}
+pub forget : (c : Config) (first : Contents) (d : Direction) (name : Name) (e : Ends) (parts : Came)
+    → Leads c first e parts
+    → Leads c first (forgetting d name e) parts
+forget c first d name e parts l =
+    let f : Follows c first e = l.follows in
+    record {
+      follows = record {
+        state = f.state;
+        events = f.events;
+        tied = record {
+          legal = f.tied.legal;
+          shown = f.tied.shown;
+          hands = f.tied.hands;
+          held =
+              held_without f.state.link.packets f.state.link.packets d name e.on_the_way
+              (λ k p there other. there) f.tied.held;
+          tells = f.tied.tells;
+        };
+        is = ap (λ (y : Ends). record y { on_the_way = without d name e.on_the_way }) f.is;
+      };
+      comes = l.comes;
+    }

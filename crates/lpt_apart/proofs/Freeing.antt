@@ -1,6 +1,6 @@
 -- Two ends of which receivers have freed some names do a step as the others do, where no part of
 -- these comes.
-use Rattle.std.proofs.Common.{◌≡◌, ◌∙◌, ap, sym, subst, refl, ℕ, Bool, true, false, inl, inr, List, Option, Some, None}
+use Rattle.std.proofs.Common.{◌≡◌, ◌∙◌, ap, sym, subst, refl, ℕ, Bool, true, false, if◌then◌else◌, inl, inr, List, Option, Some, None}
 use Rattle.std.specs.FinMap as maps
 use Rattle.lpt_packet.specs.declared.direction.Direction.{Direction}
 use Rattle.lpt_packet.specs.declared.direction.Direction.TheVariants.{Up, Down}
@@ -11,6 +11,7 @@ use Rattle.lpt_events.specs.Arrivals.{Arrival, APart, arrival_in}
 use Rattle.lpt_events.specs.Configs.{IsConfig}
 use Rattle.lpt_events.specs.NamedParts.{NamedPart}
 use Rattle.lpt_events.specs.declared.config.Config.{Config}
+use Rattle.lpt_events.specs.declared.outcome.Outcome.{Outcome}
 use Rattle.lpt_events.specs.declared.side.Side.{Side}
 use Rattle.lpt_events.specs.declared.side.Side.TheVariants.{Ground, Craft}
 use Rattle.lpt_events.specs.declared.worker.Worker.{Worker}
@@ -18,7 +19,7 @@ use Rattle.lpt_jobs.specs.Jobs.{head_of, unclaimed}
 use Rattle.lpt_ledger.specs.Marks.{Marks}
 use Rattle.lpt_node.specs.declared.accepted.Accepted.{Accepted}
 use Rattle.lpt_node.specs.declared.expired.Expired.{Expired}
-use Rattle.lpt_node.specs.Jobs.{Execution}
+use Rattle.lpt_node.specs.Jobs.{Execution, executed}
 use Rattle.lpt_node.specs.Nodes.{Receiving, NodeData, message_at}
 use Rattle.lpt_node.specs.Receivers.{table_in}
 use Rattle.lpt_node.specs.Receiving.{receiver_of}
@@ -29,34 +30,43 @@ use Rattle.lpt_table.proofs.DueLemmas.{due_of_is}
 use Rattle.lpt_model.specs.Tickets.{ticket_of}
 use Rattle.lpt_apart.specs.Ends.{Ends}
 use Rattle.lpt_apart.specs.Steps.{Step, Open, Send, Plain, Finish, Accept, Tick, Expire, Claim, Commit, Apply, Retire, Restart, CanHappen, after, sent_on, accepted_on, expired_on, claimed_on, committed_on, executed_on}
-use Rattle.lpt_apart.specs.Moves.{with_ledgers, KnowsLess}
+use Rattle.lpt_apart.specs.Whole.{came_by, is_reported, came_after}
+use Rattle.lpt_apart.specs.Moves.{with_ledger, with_ledgers, KnowsLess}
 use Rattle.lpt_apart.proofs.Lessening.{sent_less, sent_receiving, claimed_less, claimed_receiving, committed_less, committed_receiving, executed_less, executed_receiving}
 use Rattle.lpt_apart.proofs.Fewer.{accepted_less, expired_less}
 use Rattle.lpt_apart.proofs.Staleness.{is_stale}
-use Rattle.lpt_apart.proofs.Stepping.{run_on}
+use Rattle.lpt_apart.proofs.Stepping.{lead_on}
+use Rattle.lpt_apart.proofs.Ties.{Came, Leads}
 use Rattle.lpt_apart.proofs.Freed.{IsLess, IsBut}
 
 -- ---- steps
 
 module _ (c : Config) (first : Contents) (good : IsConfig c) (freed : Direction → Name → Bool)
-    (w : Ends) (g k : Marks) (l : IsLess c first freed w g k) where
+    (w : Ends) (parts : Came) (g k : Marks) (l : IsLess c first freed w parts g k) where
   -- what two ends are that know less
   abbrev ends : Ends
   ends = with_ledgers g k w
+
+  -- the parts that came with a step of these
+  abbrev came_with : Ends → Step → Came
+  came_with e x d name n = came_after c e x d name n (parts d name n)
 
   -- a step that no receiver has a part in
   quiet : (x : Step)
       → CanHappen c w x
       → with_ledgers g k (after c w x) ≡ after c ends x
+      → came_with w x ≡ came_with ends x
       → (after c w x).on_ground.receiving ≡ w.on_ground.receiving
       → (after c w x).on_craft.receiving ≡ w.on_craft.receiving
-      → IsBut c first freed (after c ends x)
-  quiet x can is rg rk = record {
+      → IsBut c first freed (after c ends x) (came_with ends x)
+  quiet x can is same rg rk = record {
     whole = after c w x;
     on_ground = g;
     on_craft = k;
     less = record {
-      follows = run_on c first good w x l.follows can;
+      leads =
+          subst (λ (p : Came). Leads c first (after c w x) p) same
+          (lead_on c first good w x parts l.leads can);
       on_ground = subst (λ (r : Receiving). KnowsLess g (freed Down) r.ledger) (sym rg) l.on_ground;
       on_craft = subst (λ (r : Receiving). KnowsLess k (freed Up) r.ledger) (sym rk) l.on_craft;
       no_down = λ name gone. ap (λ (r : Receiving). maps.get r.entries name) rg
@@ -68,30 +78,32 @@ module _ (c : Config) (first : Contents) (good : IsConfig c) (freed : Direction 
 
   send : (d : Direction) (name : Name) (n : ℕ)
       → CanHappen c ends (Send d name n)
-      → IsBut c first freed (after c ends (Send d name n))
+      → IsBut c first freed (after c ends (Send d name n)) (came_with ends (Send d name n))
   send Up name n can =
       quiet (Send Up name n) can
       (ap (λ (x : NodeData × List ℕ). sent_on ends Up name x)
-      (sym (sent_less Ground c g w.on_ground name n (message_at w.on_ground name))))
+      (sym (sent_less Ground c g w.on_ground name n (message_at w.on_ground name)))) refl
       (sent_receiving Ground c w.on_ground name n (message_at w.on_ground name)) refl
   send Down name n can =
       quiet (Send Down name n) can
       (ap (λ (x : NodeData × List ℕ). sent_on ends Down name x)
       (sym (sent_less Craft c k w.on_craft name n (message_at w.on_craft name))))
-      refl (sent_receiving Craft c w.on_craft name n (message_at w.on_craft name))
+      refl refl (sent_receiving Craft c w.on_craft name n (message_at w.on_craft name))
 
-  claim : (v : Worker) → CanHappen c ends (Claim v) → IsBut c first freed (after c ends (Claim v))
+  claim : (v : Worker)
+      → CanHappen c ends (Claim v)
+      → IsBut c first freed (after c ends (Claim v)) (came_with ends (Claim v))
   claim v can =
       quiet (Claim v) can
       (ap (λ (x : NodeData × Job). claimed_on ends v x)
       (sym (claimed_less k w.on_craft (unclaimed w.on_craft.jobs))))
-      refl (claimed_receiving w.on_craft (unclaimed w.on_craft.jobs))
+      refl refl (claimed_receiving w.on_craft (unclaimed w.on_craft.jobs))
 
   commit : (v : Worker)
       → CanHappen c ends (Commit v)
-      → IsBut c first freed (after c ends (Commit v))
+      → IsBut c first freed (after c ends (Commit v)) (came_with ends (Commit v))
   commit v can =
-      quiet (Commit v) can (is (ticket_of w.tickets v)) (same_g (ticket_of w.tickets v))
+      quiet (Commit v) can (is (ticket_of w.tickets v)) refl (same_g (ticket_of w.tickets v))
       (same_k (ticket_of w.tickets v)) where
         is : (o : Option Job) → with_ledgers g k (committed_on c w v o) ≡ committed_on c ends v o
         is None = refl
@@ -118,24 +130,31 @@ module _ (c : Config) (first : Contents) (good : IsConfig c) (freed : Direction 
               message = t.message;
             })
 
-  apply : CanHappen c ends Apply → IsBut c first freed (after c ends Apply)
+  apply : CanHappen c ends Apply → IsBut c first freed (after c ends Apply) (came_with ends Apply)
   apply can =
-      quiet Apply can
-      (ap (λ (x : (NodeData × Execution) × Contents). executed_on ends x)
-      (sym (executed_less c k w.on_craft w.memories (head_of w.on_craft.jobs.jobs))))
+      let same : ◌≡◌ {A = (NodeData × Execution) × Contents} (
+        (
+          with_ledger k (executed c w.on_craft w.memories).0.0,
+          (executed c w.on_craft w.memories).0.1,
+        ),
+        (executed c w.on_craft w.memories).1,
+      ) (executed c ends.on_craft w.memories) =
+      sym (executed_less c k w.on_craft w.memories (head_of w.on_craft.jobs.jobs)) in
+      quiet Apply can (ap (λ (x : (NodeData × Execution) × Contents). executed_on ends x) same)
+      (λ i d name n. if is_reported (same i).0.1.opened d name then false else parts d name n)
       refl (executed_receiving c w.on_craft w.memories (head_of w.on_craft.jobs.jobs))
 
   -- ---- moves of a receiver
 
   restart : (side : Side)
       → CanHappen c ends (Restart side)
-      → IsBut c first freed (after c ends (Restart side))
+      → IsBut c first freed (after c ends (Restart side)) (came_with ends (Restart side))
   restart Ground can = record {
     whole = after c w (Restart Ground);
     on_ground = g;
     on_craft = k;
     less = record {
-      follows = run_on c first good w (Restart Ground) l.follows tt;
+      leads = lead_on c first good w (Restart Ground) parts l.leads tt;
       on_ground = l.on_ground;
       on_craft = l.on_craft;
       no_down = λ name gone. maps.get-empty name_cmp name;
@@ -148,7 +167,7 @@ module _ (c : Config) (first : Contents) (good : IsConfig c) (freed : Direction 
     on_ground = g;
     on_craft = k;
     less = record {
-      follows = run_on c first good w (Restart Craft) l.follows tt;
+      leads = lead_on c first good w (Restart Craft) parts l.leads tt;
       on_ground = l.on_ground;
       on_craft = l.on_craft;
       no_down = l.no_down;
@@ -183,7 +202,7 @@ module _ (c : Config) (first : Contents) (good : IsConfig c) (freed : Direction 
 
   expire : (side : Side)
       → CanHappen c ends (Expire side)
-      → IsBut c first freed (after c ends (Expire side))
+      → IsBut c first freed (after c ends (Expire side)) (came_with ends (Expire side))
   expire Ground can =
       let x = expired_less Ground c g w.on_ground (due c w.on_ground) (freed Down) l.on_ground
       (not_freed w.on_ground (freed Down) l.no_down) in
@@ -192,7 +211,7 @@ module _ (c : Config) (first : Contents) (good : IsConfig c) (freed : Direction 
         on_ground = x.marks;
         on_craft = k;
         less = record {
-          follows = run_on c first good w (Expire Ground) l.follows can;
+          leads = lead_on c first good w (Expire Ground) parts l.leads can;
           on_ground = x.knows;
           on_craft = l.on_craft;
           no_down = λ name gone. x.unheard name gone (l.no_down name gone);
@@ -208,7 +227,7 @@ module _ (c : Config) (first : Contents) (good : IsConfig c) (freed : Direction 
         on_ground = g;
         on_craft = x.marks;
         less = record {
-          follows = run_on c first good w (Expire Craft) l.follows can;
+          leads = lead_on c first good w (Expire Craft) parts l.leads can;
           on_ground = l.on_ground;
           on_craft = x.knows;
           no_down = l.no_down;
@@ -241,7 +260,7 @@ module _ (c : Config) (first : Contents) (good : IsConfig c) (freed : Direction 
   accept : (d : Direction) (b : List ℕ)
       → CanHappen c ends (Accept d b)
       → is_stale freed d (arrival_in c d b) ≡ false
-      → IsBut c first freed (after c ends (Accept d b))
+      → IsBut c first freed (after c ends (Accept d b)) (came_with ends (Accept d b))
   accept Up b can new =
       let x = accepted_less Craft c k w.on_craft (arrival_in c Up b) (freed Up) l.on_craft
       (new_part Up (arrival_in c Up b) new) in
@@ -250,7 +269,11 @@ module _ (c : Config) (first : Contents) (good : IsConfig c) (freed : Direction 
         on_ground = g;
         on_craft = x.marks;
         less = record {
-          follows = run_on c first good w (Accept Up b) l.follows (may_come Up b can);
+          leads =
+              subst (λ (o : Outcome). Leads c first (after c w (Accept Up b))
+              (λ e name n. came_by Up (arrival_in c Up b) o e name n (parts e name n)))
+              (ap (λ (y : NodeData × Accepted). y.1.outcome) (sym x.is))
+              (lead_on c first good w (Accept Up b) parts l.leads (may_come Up b can));
           on_ground = l.on_ground;
           on_craft = x.knows;
           no_down = l.no_down;
@@ -266,7 +289,11 @@ module _ (c : Config) (first : Contents) (good : IsConfig c) (freed : Direction 
         on_ground = x.marks;
         on_craft = k;
         less = record {
-          follows = run_on c first good w (Accept Down b) l.follows (may_come Down b can);
+          leads =
+              subst (λ (o : Outcome). Leads c first (after c w (Accept Down b))
+              (λ e name n. came_by Down (arrival_in c Down b) o e name n (parts e name n)))
+              (ap (λ (y : NodeData × Accepted). y.1.outcome) (sym x.is))
+              (lead_on c first good w (Accept Down b) parts l.leads (may_come Down b can));
           on_ground = x.knows;
           on_craft = l.on_craft;
           no_down = λ name gone. x.unheard name gone (l.no_down name gone);
@@ -284,17 +311,20 @@ module _ (c : Config) (first : Contents) (good : IsConfig c) (freed : Direction 
   IsUsual x = Unit {0}
 
   -- two ends that know less do a step
-  pub step : (x : Step) → CanHappen c ends x → IsUsual x → IsBut c first freed (after c ends x)
-  step (Open Up name m) can usual = quiet (Open Up name m) can refl refl refl
-  step (Open Down name m) can usual = quiet (Open Down name m) can refl refl refl
+  pub step : (x : Step)
+      → CanHappen c ends x
+      → IsUsual x
+      → IsBut c first freed (after c ends x) (came_with ends x)
+  step (Open Up name m) can usual = quiet (Open Up name m) can refl refl refl refl
+  step (Open Down name m) can usual = quiet (Open Down name m) can refl refl refl refl
   step (Send d name n) can usual = send d name n can
   step (Plain source flags service subtype body) can usual =
-      quiet (Plain source flags service subtype body) can refl refl refl
-  step (Finish Up name) can usual = quiet (Finish Up name) can refl refl refl
-  step (Finish Down name) can usual = quiet (Finish Down name) can refl refl refl
+      quiet (Plain source flags service subtype body) can refl refl refl refl
+  step (Finish Up name) can usual = quiet (Finish Up name) can refl refl refl refl
+  step (Finish Down name) can usual = quiet (Finish Down name) can refl refl refl refl
   step (Accept d b) can usual = accept d b can usual
-  step (Tick Ground) can usual = quiet (Tick Ground) can refl refl refl
-  step (Tick Craft) can usual = quiet (Tick Craft) can refl refl refl
+  step (Tick Ground) can usual = quiet (Tick Ground) can refl refl refl refl
+  step (Tick Craft) can usual = quiet (Tick Craft) can refl refl refl refl
   step (Expire side) can usual = expire side can
   step (Claim v) can usual = claim v can
   step (Commit v) can usual = commit v can

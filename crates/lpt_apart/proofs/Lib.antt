@@ -2,6 +2,7 @@ pub mod Aborts
 pub mod Accepting
 pub mod Asking
 pub mod Awaiting
+pub mod Bringing
 pub mod Clocks
 pub mod Closing
 pub mod Dues
@@ -28,3 +29,4 @@ pub mod Staleness
 pub mod Stepping
 pub mod Telling
 pub mod Ties
+pub mod Withheld

@@ -1,6 +1,9 @@
 -- What a world's lists of openings and releases grew by is what the log says, and what it answers.
-use Rattle.std.proofs.Common.{◌≡◌, ◌∙◌, ap, sym, refl, ℕ, List, [], ◌∷◌, ◌++◌, Option, Some, None}
+use Rattle.std.proofs.Common.{◌≡◌, ◌∙◌, ap, sym, refl, ℕ, Bool, true, false, List, [], ◌∷◌, ◌++◌, Option, Some, None, is_some}
+use Rattle.std.specs.List.{find}
+use Rattle.std.specs.Prelude.{cond}
 use Rattle.lpt_packet.specs.declared.direction.Direction.{Direction}
+use Rattle.lpt_packet.specs.declared.direction.Direction.TheVariants.{Down}
 use Rattle.lpt_packet.specs.Names.{Name}
 use Rattle.lpt_events.specs.declared.entry.Opening.{Opening}
 use Rattle.lpt_events.specs.declared.entry.Release.{Release}
@@ -8,10 +11,12 @@ use Rattle.lpt_events.specs.declared.outcome.Outcome.{Outcome}
 use Rattle.lpt_events.specs.declared.reply.Answer.{Answer}
 use Rattle.lpt_model.specs.State.{add_opening, add_release, released_of, put_some}
 use Rattle.lpt_journal.specs.Journal.{with_all}
+use Rattle.lpt_journal.specs.Senders.{is_opening_of}
 use Rattle.lpt_refinement.proofs.LinkShown.{with_all-append}
-use Rattle.lpt_apart.specs.Facts.{Log}
+use Rattle.lpt_apart.specs.Facts.{Log, is_same}
 use Rattle.lpt_apart.specs.Steps.{with_release, with_report}
 use Rattle.lpt_apart.specs.Told.{with_openings, with_releases}
+use Rattle.lpt_apart.specs.Whole.{is_reported}
 
 -- what stands behind a list is determined by the whole
 same_rest : {A : Type 0} (xs ys zs : List A) → xs ++ ys ≡ xs ++ zs → ys ≡ zs
@@ -39,6 +44,20 @@ opened_told os place None new log e =
     ap (λ (n : List Opening). with_openings n log) (nothing_more os new e)
 opened_told os place (Some x) new log e =
     ap (λ (n : List Opening). with_openings n log) (one_more os _ new e)
+
+-- whether it is of a transaction
+pub opened_of_it : (os : List Opening) (place : ℕ) (o : Option (Name × List ℕ)) (new : List Opening)
+    (d : Direction) (name : Name)
+    → add_opening os place o ≡ with_all os new
+    → is_some (find (is_opening_of d name) new) ≡ is_reported o d name
+opened_of_it os place None new d name e =
+    ap (λ (n : List Opening). is_some (find (is_opening_of d name) n)) (nothing_more os new e)
+opened_of_it os place (Some x) new d name e =
+    ap (λ (n : List Opening). is_some (find (is_opening_of d name) n)) (one_more os _ new e)
+    ∙ go (is_same Down x.0 d name) _ where
+      go : (b : Bool) (o : Opening) → is_some (cond b (Some o) None) ≡ b
+      go true o = refl
+      go false o = refl
 
 -- the message that was released, or none
 pub released_told : (rs : List Release) (place : ℕ) (d : Direction) (o : Outcome)

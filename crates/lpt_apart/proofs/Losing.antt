@@ -19,6 +19,7 @@ use Rattle.lpt_refinement.specs.Shows.{Shows}
 use Rattle.lpt_refinement.specs.Views.{views}
 use Rattle.lpt_journal.specs.Legal.{Legal}
 use Rattle.lpt_journal.specs.Replies.{recorded}
+use Rattle.lpt_journal.specs.Whole.{came}
 use Rattle.lpt_apart.specs.Told.{told}
 use Rattle.lpt_apart.proofs.Links.{unheld, get_lost}
 use Rattle.lpt_link.proofs.PacketLists.{length-with_lost}
@@ -47,6 +48,8 @@ pub record WereLost (c : Config) (first : Contents) (s : State) (es : List Event
       → slice_get link.packets k ≡ Some p
   pub many : length link.packets ≡ length s.link.packets
   pub tells : told c (recorded c first events) ≡ told c (recorded c first es)
+  pub comes : (e : Direction) (i : Name) (k : ℕ)
+      → came c (recorded c first events) e i k ≡ came c (recorded c first es) e i k
 
 -- ---- one packet
 
@@ -144,6 +147,7 @@ module _ (c : Config) (first : Contents) (good : IsConfig c) (s : State) (es : L
         kept = had.kept;
         many = had.many;
         tells = had.tells;
+        comes = had.comes;
       }
       go true e =
           let held : is_held had.link n ≡ true = held_is d name (slice_get had.link.packets n) e in
@@ -164,6 +168,7 @@ module _ (c : Config) (first : Contents) (good : IsConfig c) (s : State) (es : L
                 other;
             many = length-with_lost had.link.packets n ∙ had.many;
             tells = had.tells;
+            comes = had.comes;
           }
 
   -- all below a number
@@ -181,5 +186,6 @@ module _ (c : Config) (first : Contents) (good : IsConfig c) (s : State) (es : L
     kept = λ k p there other. there;
     many = refl;
     tells = refl;
+    comes = λ e i k. refl;
   }
   lose_below legal shown (suc n) = lose_next n (lose_below legal shown n)

@@ -1,30 +1,36 @@
 -- Two ends that free names one after the other are a world's but for the freed names, and keep its
 -- promise.
-use Rattle.std.proofs.Common.{◌≡◌, ap, subst, refl, Bool, true, not, ◌&&◌, List, [], ◌∷◌, is_some}
+use Rattle.std.proofs.Common.{◌≡◌, ap, subst, refl, Bool, true, not, ◌&&◌, List, [], ◌∷◌, Some, is_some}
+use Rattle.std.specs.List.{slice_get}
 use Rattle.std.specs.FinMap as maps
 use Rattle.lpt_packet.specs.declared.direction.Direction.{Direction}
 use Rattle.lpt_packet.specs.declared.direction.Direction.TheVariants.{Up, Down}
 use Rattle.lpt_packet.specs.Names.{Name, same_name}
 use Rattle.lpt_memory.specs.Memories.{Contents}
+use Rattle.lpt_memory.specs.Readings.{Source}
 use Rattle.lpt_events.specs.Configs.{IsConfig}
 use Rattle.lpt_events.specs.declared.config.Config.{Config}
+use Rattle.lpt_jobs.specs.Jobs.{head_of, Ready}
 use Rattle.lpt_ledger.specs.Marks.{Marks}
 use Rattle.lpt_packet.proofs.BoolLemmas.{and_right, none_is}
 use Rattle.lpt_journal.specs.Jobs.{left_by}
 use Rattle.lpt_apart.specs.Ends.{Ends, no_ends}
-use Rattle.lpt_apart.specs.Facts.{AllDue, executed as executed_in}
+use Rattle.lpt_apart.specs.Facts.{AllDue, executed as executed_in, waiting}
 use Rattle.lpt_apart.specs.Steps.{Accept, Retire, after}
 use Rattle.lpt_apart.specs.Worlds.{IsPromised}
+use Rattle.lpt_apart.specs.Whole.{came_moved, came_in, WithholdsNothing, EndsApartWithholdNothing}
 use Rattle.lpt_apart.specs.Moves.{Pair, Move, Do, Free, moved, CanMove, came_to, CanMoveAll, with_ledgers, EndsApartAreAWorld, EndsApartKeepThePromise}
 use Rattle.lpt_apart.proofs.Promise.{promised}
-use Rattle.lpt_apart.proofs.Stepping.{run_on, begins, is_a_world}
+use Rattle.lpt_apart.proofs.Withheld.{withholds_nothing}
+use Rattle.lpt_apart.proofs.Stepping.{leads_off, lead_on, is_a_world}
 use Rattle.lpt_apart.proofs.Freed.{IsLess, IsBut, less_removed, less_retired, removed_unheard, forgetting, forget}
 use Rattle.lpt_apart.proofs.Freeing.{may_come, step}
 use Rattle.lpt_apart.proofs.Silence.{AreSilent, AreMute, silent_on}
+use Rattle.lpt_apart.proofs.Ties.{Came}
 use Rattle.lpt_apart.proofs.Staleness.{are_mute, not_stale, silent_whole, mute_less}
 
 module _ (c : Config) (first : Contents) (good : IsConfig c) (freed : Direction → Name → Bool)
-    (w : Ends) (g k : Marks) (l : IsLess c first freed w g k)
+    (w : Ends) (parts : Came) (g k : Marks) (l : IsLess c first freed w parts g k)
     (silent : AreSilent freed (with_ledgers g k w)) where
   -- two ends that know less
   abbrev pair : Pair
@@ -34,13 +40,13 @@ module _ (c : Config) (first : Contents) (good : IsConfig c) (freed : Direction 
   free : (d : Direction) (name : Name)
       → CanMove c pair (Free d name)
       → IsBut c first (moved c pair (Free d name)).freed
-      (moved c pair (Free d name)).ends
+      (moved c pair (Free d name)).ends parts
   free Up name can = record {
     whole = forgetting Up name w;
     on_ground = g;
     on_craft = maps.remove k name;
     less = record {
-      follows = forget c first Up name w l.follows;
+      leads = forget c first Up name w parts l.leads;
       on_ground = l.on_ground;
       on_craft = less_removed k w.on_craft.receiving.ledger (freed Up) name l.on_craft;
       no_down = l.no_down;
@@ -54,7 +60,7 @@ module _ (c : Config) (first : Contents) (good : IsConfig c) (freed : Direction 
     on_ground = maps.remove g name;
     on_craft = k;
     less = record {
-      follows = forget c first Down name w l.follows;
+      leads = forget c first Down name w parts l.leads;
       on_ground = less_removed g w.on_ground.receiving.ledger (freed Down) name l.on_ground;
       on_craft = l.on_craft;
       no_down = removed_unheard w.on_ground (freed Down) name l.no_down
@@ -68,13 +74,13 @@ module _ (c : Config) (first : Contents) (good : IsConfig c) (freed : Direction 
   retire : (d : Direction) (name : Name)
       → CanMove c pair (Do (Retire d name))
       → IsBut c first (moved c pair (Do (Retire d name))).freed
-      (moved c pair (Do (Retire d name))).ends
+      (moved c pair (Do (Retire d name))).ends parts
   retire Up name can = record {
     whole = after c w (Retire Up name);
     on_ground = g;
     on_craft = k;
     less = record {
-      follows = run_on c first good w (Retire Up name) l.follows (
+      leads = lead_on c first good w (Retire Up name) parts l.leads (
         can.0,
         record {
           closed = silent.shut Up name can.1;
@@ -94,7 +100,7 @@ module _ (c : Config) (first : Contents) (good : IsConfig c) (freed : Direction 
     on_ground = g;
     on_craft = k;
     less = record {
-      follows = run_on c first good w (Retire Down name) l.follows (
+      leads = lead_on c first good w (Retire Down name) parts l.leads (
         can.0,
         record {
           closed = silent.shut Down name can.1;
@@ -112,31 +118,32 @@ module _ (c : Config) (first : Contents) (good : IsConfig c) (freed : Direction 
 
   -- a move
   move : (x : Move) → CanMove c pair x → IsBut c first (moved c pair x).freed (moved c pair x).ends
+      (λ d name n. came_moved c pair x d name n (parts d name n))
   move (Do (Accept d b)) can =
-      step c first good freed w g k l (Accept d b) can
-      (not_stale c first freed w d b good l.follows (silent_whole freed g k w silent)
-      (may_come c first good freed w g k l d b can))
+      step c first good freed w parts g k l (Accept d b) can
+      (not_stale c first freed w d b good l.leads.follows (silent_whole freed g k w silent)
+      (may_come c first good freed w parts g k l d b can))
   move (Do (Retire d name)) can = retire d name can
-  move (Do x) can = step c first good freed w g k l x can tt
+  move (Do x) can = step c first good freed w parts g k l x can tt
   move (Free d name) can = free d name can
 
 -- Two ends are a world's but for freed names, and of those no part comes.
-record AreApart (c : Config) (first : Contents) (p : Pair) : Type 0 where
-  but : IsBut c first p.freed p.ends
+record AreApart (c : Config) (first : Contents) (p : Pair) (parts : Came) : Type 0 where
+  but : IsBut c first p.freed p.ends parts
   silent : AreSilent p.freed p.ends
 
 -- whatever moves they did
 apart : (c : Config) (first : Contents) (xs : List Move)
     → IsConfig c
     → CanMoveAll c first xs
-    → AreApart c first (came_to c first xs)
+    → AreApart c first (came_to c first xs) (came_in c first xs)
 apart c first [] good can = record {
   but = record {
     whole = no_ends c first;
     on_ground = maps.empty;
     on_craft = maps.empty;
     less = record {
-      follows = begins c first;
+      leads = leads_off c first;
       on_ground = λ name. refl;
       on_craft = λ name. refl;
       no_down = λ name gone. absurd cc;
@@ -148,19 +155,23 @@ apart c first [] good can = record {
 }
 apart c first (x ∷ xs) good can =
     let p : Pair = came_to c first xs in
-    let a : AreApart c first p = apart c first xs good can.0 in
-    let b : IsBut c first p.freed p.ends = a.but in
+    let parts : Came = came_in c first xs in
+    let a : AreApart c first p parts = apart c first xs good can.0 in
+    let b : IsBut c first p.freed p.ends parts = a.but in
     let mute : AreMute p.ends =
     subst (λ (e : Ends). AreMute e) b.is
-    (mute_less b.on_ground b.on_craft b.whole (are_mute c first b.whole b.less.follows)) in
+    (mute_less b.on_ground b.on_craft b.whole (are_mute c first b.whole b.less.leads.follows)) in
     record {
       but =
           subst (λ (e : Ends). AreSilent p.freed e
           → CanMove c (record { ends = e; freed = p.freed }) x
           → IsBut c first (moved c (record { ends = e; freed = p.freed }) x).freed
-          (moved c (record { ends = e; freed = p.freed }) x).ends) b.is
-          (λ silent can. move c first good p.freed b.whole b.on_ground b.on_craft b.less silent x
-          can)
+          (moved c (record { ends = e; freed = p.freed }) x).ends
+          (λ d name n.
+          came_moved c (record { ends = e; freed = p.freed }) x d name n (parts d name n)))
+          b.is
+          (λ silent can.
+          move c first good p.freed b.whole parts b.on_ground b.on_craft b.less silent x can)
           a.silent can.1;
       silent = silent_on c p x can.1 mute a.silent;
     }
@@ -172,7 +183,7 @@ ends_apart_are_a_world c first xs good can =
       whole = b.whole;
       on_ground = b.on_ground;
       on_craft = b.on_craft;
-      world = is_a_world c first b.whole good b.less.follows;
+      world = is_a_world c first b.whole good b.less.leads.follows;
       less_on_ground = b.less.on_ground;
       less_on_craft = b.less.on_craft;
       is = b.is;
@@ -182,9 +193,18 @@ pub ends_apart_keep_the_promise : EndsApartKeepThePromise
 ends_apart_keep_the_promise c first xs good can =
     let b = (apart c first xs good can).but in
     let whole : IsPromised c first b.whole =
-    promised c first b.whole good (is_a_world c first b.whole good b.less.follows) in
+    promised c first b.whole good (is_a_world c first b.whole good b.less.leads.follows) in
     record {
       due = subst (λ (e : Ends). AllDue e.log) b.is whole.due;
       memories = subst (λ (e : Ends). e.memories ≡ left_by c.apid (executed_in e.log) first) b.is
           whole.memories;
+      next = subst (λ (e : Ends). (r : Source)
+          → head_of e.on_craft.jobs.jobs ≡ Ready r
+          → slice_get (waiting e.log) 0 ≡ Some r.message) b.is whole.next;
     }
+
+pub ends_apart_withhold_nothing : EndsApartWithholdNothing
+ends_apart_withhold_nothing c first xs good can =
+    let b = (apart c first xs good can).but in
+    subst (λ (e : Ends). WithholdsNothing c e.log (came_in c first xs)) b.is
+    (withholds_nothing c first b.whole (came_in c first xs) good b.less.leads)

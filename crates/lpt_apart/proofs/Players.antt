@@ -1,11 +1,12 @@
 -- What is tied of two ends that play a world's journal, and what a world has that doesn't refuse an
 -- event.
 use Rattle.std.proofs.Common.{◌≡◌, ◌∙◌, ap, sym, refl, ℕ, Bool, true, false, if◌then◌else◌, List, [], map, Option, Some, None, is_some}
-use Rattle.std.specs.Option.{option_map, option_map_or}
+use Rattle.std.specs.Option.{option_map, option_map_or, option_and_then}
 use Rattle.std.specs.Prelude.{slice_get}
 use Rattle.std.proofs.lemmas.Option.{slice_get-map}
 use Rattle.lpt_memory.specs.Memories.{Contents}
 use Rattle.lpt_memory.specs.Readings.{Job}
+use Rattle.lpt_events.specs.Arrivals.{arrival_in}
 use Rattle.lpt_events.specs.Configs.{IsConfig}
 use Rattle.lpt_events.specs.Lanes.{lane_direction}
 use Rattle.lpt_events.specs.declared.config.Config.{Config}
@@ -17,9 +18,9 @@ use Rattle.lpt_ledger.specs.declared.state.State.TheVariants as known
 use Rattle.lpt_link.specs.declared.fault.LinkFault.{LinkFault}
 use Rattle.lpt_link.specs.declared.fault.LinkFault.TheVariants.{NotHeld, HandFull, HandEmpty}
 use Rattle.lpt_link.specs.declared.packet.LinkPacket.{LinkPacket}
-use Rattle.lpt_link.specs.Links.{hand_of}
+use Rattle.lpt_link.specs.Links.{hand_of, packet_in_hand}
 use Rattle.lpt_node.specs.Nodes.{NodeData}
-use Rattle.lpt_model.specs.State.{State, link_fault, refusal_of, refusal_claim_by, refusal_retire_by, refusal_commit_of}
+use Rattle.lpt_model.specs.State.{State, link_fault, refusal_of, refusal_claim_by, refusal_retire_by, refusal_commit_of, arrival_held}
 use Rattle.lpt_refinement.specs.Shows.{Shows, sent_packet}
 use Rattle.lpt_refinement.specs.Views.{views}
 use Rattle.lpt_journal.specs.Hands.{hand}
@@ -152,3 +153,14 @@ has_in_hand c first s es l good legal shown free =
       goes = ap (λ (p : SentPacket). p.direction) q.2 ∙ it.goes_there;
       octets = ap (λ (p : SentPacket). p.octets) q.2 ∙ sym octets;
     }
+
+-- and is that to the node that receives it
+pub arrives : (c : Config) (s : State) (h : History) (l : Lane)
+    → HasInHand s h l
+    → arrival_held c (lane_direction l) (packet_in_hand s.link l)
+    ≡ arrival_in c (lane_direction l) (octets_held h l)
+arrives c s h l it =
+    ap (λ (o : Option ℕ). arrival_held c (lane_direction l)
+    (option_and_then (slice_get s.link.packets) o)) it.in_hand
+    ∙ ap (arrival_held c (lane_direction l)) it.there
+    ∙ ap (arrival_in c (lane_direction l)) it.octets

@@ -1,7 +1,5 @@
 -- Two ends play what a world sends, and what its link does.
-use Rattle.std.proofs.Common.{◌≡◌, ◌∙◌, ap, sym, subst, refl, ℕ, true, inl, inr, List, [], ◌∷◌, length, Option, Some, None, is_some}
-use Rattle.std.specs.Option.{option_and_then}
-use Rattle.std.specs.Prelude.{slice_get}
+use Rattle.std.proofs.Common.{◌≡◌, ◌∙◌, ap, sym, subst, refl, ℕ, true, inl, inr, List, [], ◌∷◌, length, Some, None, is_some}
 use Rattle.lpt_packet.specs.declared.direction.Direction.{Direction}
 use Rattle.lpt_packet.specs.declared.direction.Direction.TheVariants.{Up, Down}
 use Rattle.lpt_packet.specs.Names.{Name}
@@ -35,7 +33,7 @@ use Rattle.lpt_apart.specs.Told.{told}
 use Rattle.lpt_apart.proofs.Leaving.{IsHad, AllHad, out_at, had_one, had_put, had_taken, had_dropped}
 use Rattle.lpt_apart.proofs.Telling.{plain_told, delivery_told}
 use Rattle.lpt_apart.proofs.Ties.{ends_of, IsLonger, longer, not_refused}
-use Rattle.lpt_apart.proofs.Players.{Plays, Goes, CanPlay, HasInHand, unmapped, takes_held, has_in_hand}
+use Rattle.lpt_apart.proofs.Players.{Plays, Goes, CanPlay, HasInHand, unmapped, takes_held, has_in_hand, arrives}
 use Rattle.lpt_link.proofs.HandLemmas.{taken_held}
 
 module _ (c : Config) (first : Contents) (s : State) (ways : List PutOut) (log : Log)
@@ -172,17 +170,6 @@ module _ (c : Config) (first : Contents) (s : State) (ways : List PutOut) (log :
     go (inr unread) =
         inr (ap is_harmless ((λ i. arrival_in c (sym it.goes i) (sym it.octets i)) ∙ unread))
 
-  -- and is that to the node that receives it
-  arrives : (l : Lane)
-      → HasInHand s h l
-      → arrival_held c (lane_direction l) (packet_in_hand s.link l)
-      ≡ arrival_in c (lane_direction l) (octets_held h l)
-  arrives l it =
-      ap (λ (o : Option ℕ). arrival_held c (lane_direction l)
-      (option_and_then (slice_get s.link.packets) o)) it.in_hand
-      ∙ ap (arrival_held c (lane_direction l)) it.there
-      ∙ ap (arrival_in c (lane_direction l)) it.octets
-
   -- what a lane delivers is handed over
   pub delivers : (l : Lane) → GoesOn (event.Deliver l)
   delivers S1 legal =
@@ -191,7 +178,7 @@ module _ (c : Config) (first : Contents) (s : State) (ways : List PutOut) (log :
       accepted Craft c s.on_craft (arrival_held c Up (packet_in_hand s.link S1)) in (
         comes S1 it,
         subst (λ (a : Arrival). Plays c first (event.Deliver S1 ∷ es)
-            (accepted_on ends Up (accepted Craft c s.on_craft a))) (arrives S1 it)
+            (accepted_on ends Up (accepted Craft c s.on_craft a))) (arrives c s h S1 it)
             (plays (event.Deliver S1) (put_out ways Down None (as_list x.1.packet))
             (with_abortion Up x.1.outcome
             (with_release log (released_of Up x.1.outcome) x.1.released)) legal
@@ -206,7 +193,7 @@ module _ (c : Config) (first : Contents) (s : State) (ways : List PutOut) (log :
       accepted Craft c s.on_craft (arrival_held c Up (packet_in_hand s.link S2)) in (
         comes S2 it,
         subst (λ (a : Arrival). Plays c first (event.Deliver S2 ∷ es)
-            (accepted_on ends Up (accepted Craft c s.on_craft a))) (arrives S2 it)
+            (accepted_on ends Up (accepted Craft c s.on_craft a))) (arrives c s h S2 it)
             (plays (event.Deliver S2) (put_out ways Down None (as_list x.1.packet))
             (with_abortion Up x.1.outcome
             (with_release log (released_of Up x.1.outcome) x.1.released)) legal
@@ -221,7 +208,7 @@ module _ (c : Config) (first : Contents) (s : State) (ways : List PutOut) (log :
       accepted Ground c s.on_ground (arrival_held c Down (packet_in_hand s.link G1)) in (
         comes G1 it,
         subst (λ (a : Arrival). Plays c first (event.Deliver G1 ∷ es)
-            (accepted_on ends Down (accepted Ground c s.on_ground a))) (arrives G1 it)
+            (accepted_on ends Down (accepted Ground c s.on_ground a))) (arrives c s h G1 it)
             (plays (event.Deliver G1) (put_out ways Down None (as_list x.1.packet))
             (with_abortion Down x.1.outcome
             (with_release log (released_of Down x.1.outcome) x.1.released)) legal
@@ -236,7 +223,7 @@ module _ (c : Config) (first : Contents) (s : State) (ways : List PutOut) (log :
       accepted Ground c s.on_ground (arrival_held c Down (packet_in_hand s.link G2)) in (
         comes G2 it,
         subst (λ (a : Arrival). Plays c first (event.Deliver G2 ∷ es)
-            (accepted_on ends Down (accepted Ground c s.on_ground a))) (arrives G2 it)
+            (accepted_on ends Down (accepted Ground c s.on_ground a))) (arrives c s h G2 it)
             (plays (event.Deliver G2) (put_out ways Down None (as_list x.1.packet))
             (with_abortion Down x.1.outcome
             (with_release log (released_of Down x.1.outcome) x.1.released)) legal

@@ -29,7 +29,7 @@ use Rattle.lpt_journal.proofs.TicketSteps.{jobs_sound}
 use Rattle.lpt_apart.specs.Facts.{Released, Log, with_abortion, waiting, executed}
 use Rattle.lpt_apart.specs.Told.{with_openings, with_releases, with_ended, told}
 
-abbrev message_of : Release → List ℕ
+abbrev pub message_of : Release → List ℕ
 message_of r = r.message
 
 abbrev messages_of : List Release → List (List ℕ)

@@ -22,13 +22,14 @@ use Rattle.lpt_link.specs.Links.{LinkData, is_of, hand_of, any_held, any_in_hand
 use Rattle.lpt_node.specs.Nodes.{NodeData}
 use Rattle.lpt_model.specs.State.{State, after, end_of, is_gone, refusal_of, refusal_retire_by}
 use Rattle.lpt_journal.specs.Replies.{recorded}
+use Rattle.lpt_journal.specs.Whole.{came}
 use Rattle.lpt_apart.specs.Ends.{PutOut, node_at}
 use Rattle.lpt_apart.specs.Facts.{Retired, Log}
 use Rattle.lpt_apart.specs.Steps.{CanHappen}
 use Rattle.lpt_apart.specs.Steps as steps
 use Rattle.lpt_apart.proofs.Links.{held_without}
 use Rattle.lpt_apart.proofs.Losing.{is_held_part, WereLost, lose_below}
-use Rattle.lpt_apart.proofs.Ties.{ends_of, IsTied, Follows, longer}
+use Rattle.lpt_apart.proofs.Ties.{ends_of, IsTied, Leads, longer}
 
 none_any : {A : Type 0} (test : A → Bool) (xs : List A)
     → ((k : ℕ) → k < length xs → option_map_or test (slice_get xs k) false ≡ false)
@@ -74,7 +75,8 @@ pub retire : (c : Config) (first : Contents) (s : State) (ways : List PutOut) (l
     → IsConfig c
     → IsTied c first s ways log es
     → CanHappen c (ends_of s ways log) (steps.Retire d name)
-    → Follows c first (steps.after c (ends_of s ways log) (steps.Retire d name))
+    → Leads c first (steps.after c (ends_of s ways log) (steps.Retire d name))
+    (came c (recorded c first es))
 retire c first s ways log es d name good t can =
     let n : ℕ = length s.link.packets in
     let cut : WereLost c first s es d name n =
@@ -99,14 +101,17 @@ retire c first s ways log es d name good t can =
     cut.shown can.0 free
     in
     record {
-      state = (after c (length (recorded c first cut.events)) cut_state (Retire d name)).0;
-      events = Retire d name ∷ cut.events;
-      tied = record {
-        legal = more.legal;
-        shown = more.shown;
-        hands = hands;
-        held = held_without s.link.packets cut.link.packets d name ways cut.kept t.held;
-        tells = ap (λ (l : Log). Retired d name ∷ l) (cut.tells ∙ t.tells);
+      follows = record {
+        state = (after c (length (recorded c first cut.events)) cut_state (Retire d name)).0;
+        events = Retire d name ∷ cut.events;
+        tied = record {
+          legal = more.legal;
+          shown = more.shown;
+          hands = hands;
+          held = held_without s.link.packets cut.link.packets d name ways cut.kept t.held;
+          tells = ap (λ (l : Log). Retired d name ∷ l) (cut.tells ∙ t.tells);
+        };
+        is = refl;
       };
-      is = refl;
+      comes = cut.comes;
     }

@@ -1,5 +1,5 @@
 -- Two ends follow a world, whatever steps they do.
-use Rattle.std.proofs.Common.{◌≡◌, ap, subst, refl, List, [], ◌∷◌, None}
+use Rattle.std.proofs.Common.{◌≡◌, ap, subst, refl, false, List, [], ◌∷◌, None}
 use Rattle.lpt_memory.specs.Memories.{Contents}
 use Rattle.lpt_events.specs.Configs.{IsConfig}
 use Rattle.lpt_events.specs.declared.config.Config.{Config}
@@ -8,15 +8,18 @@ use Rattle.lpt_events.specs.declared.lane.Lane.{Lane}
 use Rattle.lpt_events.specs.declared.lane.Lane.TheVariants.{S1, S2, G1, G2}
 use Rattle.lpt_link.specs.Links.{hand_of, empty_link}
 use Rattle.lpt_model.specs.State.{State, no_state}
+use Rattle.lpt_journal.specs.Replies.{recorded}
+use Rattle.lpt_journal.specs.Whole as journal
 use Rattle.lpt_refinement.proofs.Follows.{follows}
 use Rattle.lpt_apart.specs.Ends.{PutOut, Ends, no_ends}
 use Rattle.lpt_apart.specs.Facts.{Log}
 use Rattle.lpt_apart.specs.Steps.{Step, Open, Send, Plain, Finish, Accept, Tick, Expire, Claim, Commit, Apply, Retire, Restart, CanHappen, CanRun, after, reached}
+use Rattle.lpt_apart.specs.Whole.{came_after, came}
 use Rattle.lpt_apart.specs.Worlds.{IsReadyNode, IsAWorld, EndsAreAWorld}
 use Rattle.lpt_apart.proofs.Accepting.{accept}
 use Rattle.lpt_apart.proofs.Events.{open_step, send, plain, finish, tick, expire, claim, commit, apply, restart, ready}
 use Rattle.lpt_apart.proofs.Retiring.{retire}
-use Rattle.lpt_apart.proofs.Ties.{ends_of, IsTied, Follows}
+use Rattle.lpt_apart.proofs.Ties.{ends_of, IsTied, Came, Follows, Leads}
 
 -- two ends that are tied to a world follow one after a step
 step : (c : Config) (first : Contents) (s : State) (ways : List PutOut) (log : Log)
@@ -24,7 +27,9 @@ step : (c : Config) (first : Contents) (s : State) (ways : List PutOut) (log : L
     → IsConfig c
     → IsTied c first s ways log es
     → CanHappen c (ends_of s ways log) x
-    → Follows c first (after c (ends_of s ways log) x)
+    → Leads c first (after c (ends_of s ways log) x)
+    (λ d name k.
+    came_after c (ends_of s ways log) x d name k (journal.came c (recorded c first es) d name k))
 step c first s ways log es (Open d name m) good t can =
     open_step c first s ways log es good t d name m can
 step c first s ways log es (Send d name k) good t can =
@@ -49,40 +54,50 @@ no_hand S2 = refl
 no_hand G1 = refl
 no_hand G2 = refl
 
--- two new ends follow a new world
-pub begins : (c : Config) (first : Contents) → Follows c first (no_ends c first)
-begins c first = record {
-  state = no_state c first;
-  events = [];
-  tied = record {
-    legal = tt;
-    shown = follows.begins c first;
-    hands = no_hand;
-    held = tt;
-    tells = refl;
+-- two new ends follow a new world, to which nothing came
+pub leads_off : (c : Config) (first : Contents)
+    → Leads c first (no_ends c first) (λ d name k. false)
+leads_off c first = record {
+  follows = record {
+    state = no_state c first;
+    events = [];
+    tied = record {
+      legal = tt;
+      shown = follows.begins c first;
+      hands = no_hand;
+      held = tt;
+      tells = refl;
+    };
+    is = refl;
   };
-  is = refl;
+  comes = λ d name k. refl;
 }
 
--- two ends that follow a world follow one after a step
-pub run_on : (c : Config) (first : Contents)
+-- a step leads on, and what came with it came to the world
+pub lead_on : (c : Config) (first : Contents)
     → IsConfig c
-    → (e : Ends) (x : Step)
-    → Follows c first e
+    → (e : Ends) (x : Step) (parts : Came)
+    → Leads c first e parts
     → CanHappen c e x
-    → Follows c first (after c e x)
-run_on c first good e x f can =
-    subst (λ (y : Ends). CanHappen c y x → Follows c first (after c y x)) f.is
-    (step c first f.state e.on_the_way e.log f.events x good f.tied) can
+    → Leads c first (after c e x) (λ d name k. came_after c e x d name k (parts d name k))
+lead_on c first good e x parts l can =
+    let f : Follows c first e = l.follows in
+    let before : Came = journal.came c (recorded c first f.events) in
+    let same : before ≡ parts = (λ i d name k. l.comes d name k i) in
+    subst (λ (p : Came). Leads c first (after c e x)
+    (λ d name k. came_after c e x d name k (p d name k))) same
+    (subst (λ (y : Ends). CanHappen c y x → Leads c first (after c y x)
+    (λ d name k. came_after c y x d name k (before d name k))) f.is
+    (step c first f.state e.on_the_way e.log f.events x good f.tied) can)
 
--- two ends follow a world, whatever steps they do
-run : (c : Config) (first : Contents) (xs : List Step)
+-- two ends follow a world to which the same parts came, whatever steps they do
+pub lead : (c : Config) (first : Contents) (xs : List Step)
     → IsConfig c
     → CanRun c first xs
-    → Follows c first (reached c first xs)
-run c first [] good can = begins c first
-run c first (x ∷ xs) good can =
-    run_on c first good (reached c first xs) x (run c first xs good can.0) can.1
+    → Leads c first (reached c first xs) (came c first xs)
+lead c first [] good can = leads_off c first
+lead c first (x ∷ xs) good can =
+    lead_on c first good (reached c first xs) x (came c first xs) (lead c first xs good can.0) can.1
 
 -- what follows a world is one
 pub is_a_world : (c : Config) (first : Contents) (e : Ends)
@@ -106,4 +121,4 @@ is_a_world c first e good f = record {
 
 pub ends_are_a_world : EndsAreAWorld
 ends_are_a_world c first xs good can =
-    is_a_world c first (reached c first xs) good (run c first xs good can)
+    is_a_world c first (reached c first xs) good (lead c first xs good can).follows

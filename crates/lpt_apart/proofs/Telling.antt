@@ -1,6 +1,10 @@
 -- What a journal tells with one event more is what the nodes of a world that shows it say.
-use Rattle.std.proofs.Common.{◌≡◌, ◌∙◌, ap, sym, ℕ, List, ◌∷◌, length}
+use Rattle.std.proofs.Common.{◌≡◌, ◌∙◌, ap, sym, ℕ, List, ◌∷◌, length, is_some}
+use Rattle.std.specs.List.{find}
+use Rattle.lpt_packet.specs.declared.direction.Direction.{Direction}
+use Rattle.lpt_packet.specs.Names.{Name}
 use Rattle.lpt_memory.specs.Memories.{Contents}
+use Rattle.lpt_events.specs.Arrivals.{Arrival}
 use Rattle.lpt_events.specs.Lanes.{lane_direction}
 use Rattle.lpt_events.specs.MadePackets.{tc_made}
 use Rattle.lpt_events.specs.Sides.{receiver_side, direction_to}
@@ -27,14 +31,18 @@ use Rattle.lpt_refinement.specs.Shows.{Shows}
 use Rattle.lpt_refinement.specs.Views.{views}
 use Rattle.lpt_journal.specs.Delivery.{outcome}
 use Rattle.lpt_journal.specs.Executions.{front_opens}
+use Rattle.lpt_journal.specs.Hands.{in_hand}
 use Rattle.lpt_journal.specs.Journal.{History}
 use Rattle.lpt_journal.specs.Releases.{released_by, releases}
 use Rattle.lpt_journal.specs.Replies.{answer, recorded, entry}
-use Rattle.lpt_journal.specs.Senders.{opened}
+use Rattle.lpt_journal.specs.Senders.{is_opening_of, opened}
+use Rattle.lpt_journal.specs.Whole.{came}
+use Rattle.lpt_refinement.proofs.ArrivalsAgree.{arrival_agrees}
 use Rattle.lpt_apart.specs.Facts.{Asked, Aborted, Executed, Log, with_abortion}
 use Rattle.lpt_apart.specs.Steps.{with_release, with_report}
 use Rattle.lpt_apart.specs.Told.{with_releases, with_ended, told}
-use Rattle.lpt_apart.proofs.Logs.{opened_told, released_told, put_some-answer}
+use Rattle.lpt_apart.specs.Whole.{came_by, is_reported}
+use Rattle.lpt_apart.proofs.Logs.{opened_told, opened_of_it, released_told, put_some-answer}
 use Rattle.lpt_apart.proofs.Ties.{IsLonger}
 
 module _ (c : Config) (first : Contents) (s : State) (log : Log) (es : List Event)
@@ -80,6 +88,54 @@ module _ (c : Config) (first : Contents) (s : State) (log : Log) (es : List Even
       ap (λ (l : Log). Executed ∷ l)
       (opened_told (opened h) (length h) o (front_opens c first h) (told c h) opens
       ∙ ap (λ (l : Log). with_report l o) tells)
+
+  -- whether it is of a transaction
+  pub execution_opens : IsLonger c first s es Apply
+      → (d : Direction) (name : Name)
+      → is_some (find (is_opening_of d name) (front_opens c first h))
+      ≡ is_reported (executed c s.on_craft s.memories).0.1.opened d name
+  execution_opens more d name =
+      let o = (executed c s.on_craft s.memories).0.1.opened in
+      let opens : add_opening (opened h) (length h) o ≡ opened (entry c first h Apply ∷ h) =
+      ap (λ (os : List Opening). add_opening os (length h) o) (sym shown.opened)
+      ∙ more.shown.opened in
+      opened_of_it (opened h) (length h) o (front_opens c first h) d name opens
+
+  -- the outcome of a delivery is what a node answers
+  answers : (l : Lane)
+      → IsLonger c first s es (Deliver l)
+      → outcome c h l ≡ (accepted (receiver_side (lane_direction l)) c
+      (end_of s (receiver_side (lane_direction l)))
+      (arrival_held c (lane_direction l) (packet_in_hand s.link l))).1.outcome
+  answers l more =
+      let d = lane_direction l in
+      let x : NodeData × Accepted =
+      accepted (receiver_side d) c (end_of s (receiver_side d))
+      (arrival_held c d (packet_in_hand s.link l)) in
+      let both : Delivered x.1.outcome ≡ Delivered (outcome c h l) =
+      sym (put_some-answer (length s.link.packets) (Delivered x.1.outcome) (as_list x.1.packet))
+      ∙ ap (λ (r : Reply). r.answer) more.answered in
+      cc
+
+  -- the part that it hands over came
+  pub delivery_came : (l : Lane)
+      → IsLonger c first s es (Deliver l)
+      → (a : Arrival) (x : NodeData × Accepted)
+      → a ≡ arrival_held c (lane_direction l) (packet_in_hand s.link l)
+      → x ≡ accepted (receiver_side (lane_direction l)) c
+      (end_of s (receiver_side (lane_direction l))) a
+      → (d : Direction) (name : Name) (k : ℕ)
+      → came c (recorded c first (Deliver l ∷ es)) d name k
+      ≡ came_by (lane_direction l) a x.1.outcome d name k (came c h d name k)
+  delivery_came l more a x held is d name k =
+      let arrived : in_hand c h l ≡ a =
+      sym (held ∙ arrival_agrees c first s h l shown) in
+      let same : outcome c h l ≡ x.1.outcome =
+      answers l more
+      ∙ ap (λ (a : Arrival). (accepted (receiver_side (lane_direction l)) c
+      (end_of s (receiver_side (lane_direction l))) a).1.outcome) (sym held)
+      ∙ ap (λ (y : NodeData × Accepted). y.1.outcome) (sym is) in
+      (λ i. came_by (lane_direction l) (arrived i) (same i) d name k (came c h d name k))
 
   -- what a node answers to a delivery was released or broken off
   pub delivery_told : (l : Lane)

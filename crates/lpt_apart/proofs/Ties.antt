@@ -1,6 +1,8 @@
 -- Two ends are tied to a world that shows a legal journal, and each event leads on.
-use Rattle.std.proofs.Common.{◌≡◌, ◌∙◌, sym, ◌∷◌, List, length, None, arith}
+use Rattle.std.proofs.Common.{◌≡◌, ◌∙◌, sym, ℕ, Bool, ◌∷◌, List, length, None, arith}
 use Rattle.std.proofs.lemmas.List.{length-map}
+use Rattle.lpt_packet.specs.declared.direction.Direction.{Direction}
+use Rattle.lpt_packet.specs.Names.{Name}
 use Rattle.lpt_memory.specs.Memories.{Contents}
 use Rattle.lpt_events.specs.Configs.{IsConfig}
 use Rattle.lpt_events.specs.Events.{IsEvent}
@@ -18,6 +20,7 @@ use Rattle.lpt_journal.specs.Journal.{History}
 use Rattle.lpt_journal.specs.Legal.{Legal}
 use Rattle.lpt_journal.specs.Refusals.{refusal}
 use Rattle.lpt_journal.specs.Replies.{reply, recorded}
+use Rattle.lpt_journal.specs.Whole.{came}
 use Rattle.lpt_refinement.proofs.Follows.{follows}
 use Rattle.lpt_journal.proofs.HeadlineLemmas.{every}
 use Rattle.lpt_journal.proofs.TicketSteps.{jobs_sound}
@@ -55,6 +58,16 @@ pub record Follows (c : Config) (first : Contents) (e : Ends) : Type 0 where
   pub events : List Event
   pub tied : IsTied c first state e.on_the_way e.log events
   pub is : ends_of state e.on_the_way e.log ≡ e
+
+-- which parts of which transactions came
+abbrev pub Came : Type 0
+Came = Direction → Name → (k : ℕ) → Bool
+
+-- two ends follow a world to which these parts came
+pub record Leads (c : Config) (first : Contents) (e : Ends) (parts : Came) : Type 0 where
+  pub follows : Follows c first e
+  pub comes : (d : Direction) (name : Name) (k : ℕ)
+      → came c (recorded c first follows.events) d name k ≡ parts d name k
 
 -- ---- legal journals fit
 

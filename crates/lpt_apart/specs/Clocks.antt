@@ -11,6 +11,8 @@ use Rattle.lpt_apart.specs.Moves.{Pair, Move, no_pair, moved, CanMove}
 use Rattle.lpt_apart.specs.Worlds.{IsPromised}
 
 -- a configuration whose clock begins so many ticks later
+--
+-- Assumed: Both ends have one configuration, but for the numbers at which their clocks begin.
 abbrev pub later : (ticks : ℕ) → Config → Config
 later ticks c = record c { clock = ticks + c.clock }
 

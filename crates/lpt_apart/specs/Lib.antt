@@ -5,4 +5,5 @@ pub mod Moves
 pub mod Plays
 pub mod Steps
 pub mod Told
+pub mod Whole
 pub mod Worlds

@@ -40,6 +40,8 @@ use Rattle.lpt_apart.specs.Facts.{Opened, Asked, Released, Aborted, Executed, Re
 -- a side sets its clock on, or gives the reception up that is due; a worker of the spacecraft
 -- claims a request, or hands its reading in; the spacecraft executes its oldest request; both nodes
 -- free a name; the node of a side is restarted.
+--
+-- Assumed: Memories, names and clocks outlast a restart, and none falls within a call.
 pub data Step : Type 0 where
   Open : Direction → Name → (message : List ℕ) → Step
   Send : Direction → Name → (k : ℕ) → Step
@@ -76,6 +78,9 @@ is_harmless (APart q) = false
 is_harmless (AnAbort name reason) = true
 
 -- the network may hand octets to the node that receives in this direction
+--
+-- Assumed: What reads as a part, or as a plain request, was put out by the other end since its name
+-- was freed (no damage passes the 16-bit checksum, nobody forges).
 abbrev pub MayCome : Config → Ends → Direction → List ℕ → Type 0
 MayCome c e d b = IsOnTheWay e d b ⊎ (is_harmless (arrival_in c d b) ≡ true)
 

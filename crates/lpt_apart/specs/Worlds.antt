@@ -1,12 +1,13 @@
 -- Two ends apart are a world, and keep its promise.
 use Rattle.std.specs.Prelude.{◌≡◌, List, Some, IsTrue}
+use Rattle.std.specs.List.{slice_get}
 use Rattle.lpt_memory.specs.Memories.{Contents}
-use Rattle.lpt_memory.specs.Readings.{Job}
+use Rattle.lpt_memory.specs.Readings.{Job, Source}
 use Rattle.lpt_events.specs.Configs.{IsConfig}
 use Rattle.lpt_events.specs.declared.config.Config.{Config}
 use Rattle.lpt_events.specs.declared.event.Event.{Event}
 use Rattle.lpt_events.specs.declared.worker.Worker.{Worker}
-use Rattle.lpt_jobs.specs.Jobs.{head_of, is_claimed}
+use Rattle.lpt_jobs.specs.Jobs.{head_of, is_claimed, Ready}
 use Rattle.lpt_node.specs.Jobs.{FrontIsFor}
 use Rattle.lpt_model.specs.State.{State}
 use Rattle.lpt_model.specs.Tickets.{ticket_of}
@@ -16,7 +17,7 @@ use Rattle.lpt_journal.specs.Replies.{recorded}
 use Rattle.lpt_refinement.specs.Shows.{Shows}
 use Rattle.lpt_refinement.specs.Views.{views}
 use Rattle.lpt_apart.specs.Ends.{Ends}
-use Rattle.lpt_apart.specs.Facts.{AllDue, executed}
+use Rattle.lpt_apart.specs.Facts.{AllDue, executed, waiting}
 use Rattle.lpt_apart.specs.Steps.{Step, reached, CanRun}
 use Rattle.lpt_apart.specs.Told.{told}
 
@@ -52,10 +53,14 @@ EndsAreAWorld =
 
 -- Each fact of the log was due: a message that was released under a name was the awaited one, and
 -- a plain request one that ground asked. The memories are their first content, changed by the
--- executed requests in order of release.
+-- executed requests in order of release. What the spacecraft's node executes next, once it was
+-- read, is the oldest request that waits.
 pub record IsPromised (c : Config) (first : Contents) (e : Ends) : Type 0 where
   pub due : AllDue e.log
   pub memories : e.memories ≡ left_by c.apid (executed e.log) first
+  pub next : (r : Source)
+      → head_of e.on_craft.jobs.jobs ≡ Ready r
+      → slice_get (waiting e.log) 0 ≡ Some r.message
 
 -- whatever steps two ends did
 abbrev pub EndsKeepThePromise : Type 0

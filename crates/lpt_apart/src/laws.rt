@@ -3,6 +3,7 @@
 ghost use Rattle.lpt_apart.specs.Clocks.{EndsWithClocksKeepThePromise};
 ghost use Rattle.lpt_apart.specs.Moves.{EndsApartAreAWorld, EndsApartKeepThePromise};
 ghost use Rattle.lpt_apart.specs.Plays.{WorldsAreEnds, StepsAreMoves};
+ghost use Rattle.lpt_apart.specs.Whole.{EndsApartWithholdNothing, EndsWithClocksWithholdNothing, EndsWithholdNothing, MovesBringTheSame, WorldsBringTheSame};
 ghost use Rattle.lpt_apart.specs.Worlds.{EndsAreAWorld, EndsKeepThePromise};
 
 /// Take two nodes of one configuration, one on each side, and any list of steps of them that can
@@ -49,4 +50,32 @@ pub fn worlds_are_ends()
 /// at its sender.
 pub fn steps_are_moves()
     ensures { StepsAreMoves }
+{}
+
+/// Two ends withhold nothing that came whole. Take what was last opened under a name. If each of
+/// its parts was handed over since then, and since its receiver was last restarted, while there was
+/// room, the log says since then that it was released; but where it says since then that its
+/// reception expired or was broken off. Nothing is said of parts that don't come.
+pub fn ends_withhold_nothing()
+    ensures { EndsWithholdNothing }
+{}
+
+/// So it is where a name is freed at its receiver first and then at its sender.
+pub fn ends_apart_withhold_nothing()
+    ensures { EndsApartWithholdNothing }
+{}
+
+/// And so it is where their clocks begin at numbers of their own.
+pub fn ends_with_clocks_withhold_nothing()
+    ensures { EndsWithClocksWithholdNothing }
+{}
+
+/// The parts that came to a world come by the steps that its journal is.
+pub fn worlds_bring_the_same()
+    ensures { WorldsBringTheSame }
+{}
+
+/// The parts that came by steps come by the moves that these are.
+pub fn moves_bring_the_same()
+    ensures { MovesBringTheSame }
 {}

@@ -2,8 +2,9 @@
 //!
 //! There is no code here but laws. `specs/Ends` says what two ends have, `specs/Steps` what each
 //! step of one of them does and when it can happen. `specs/Facts` is the log of what happened, with
-//! what is promised of it. In `specs/Moves` a name is freed at one end after the other, so that no
-//! call is of both. The main law is `laws::ends_apart_keep_the_promise`.
+//! what is promised of it, and `specs/Whole` says which parts came. In `specs/Moves` a name is
+//! freed at one end after the other, so that no call is of both. The main law is
+//! `laws::ends_apart_keep_the_promise`.
 #![tactic(auto)]
 
 pub mod laws;

@@ -1,5 +1,5 @@
 -- The worked run, computed by the definitions.
-use Rattle.std.proofs.Common.{◌≡◌, ◌∙◌, ap, sym, subst, refl, List, [], ◌∷◌, ◌++◌, drop, take, reverse}
+use Rattle.std.proofs.Common.{◌≡◌, ◌∙◌, ap, sym, subst, refl, ℕ, zero, suc, Bool, true, arith, List, [], ◌∷◌, ◌++◌, drop, take, reverse}
 use Rattle.lpt_packet.specs.declared.direction.Direction.TheVariants.{Up, Down}
 use Rattle.lpt_packet.specs.Checksums.{checksum, octets_in, shift_all}
 use Rattle.lpt_packet.specs.Packets.{seen, spelling}
@@ -19,11 +19,14 @@ use Rattle.lpt_events.specs.declared.side.Side.TheVariants.{Craft}
 use Rattle.lpt_events.specs.declared.worker.Worker.TheVariants.{W1}
 use Rattle.lpt_journal.specs.Jobs.{memories}
 use Rattle.lpt_journal.specs.Replies.{recorded}
+use Rattle.lpt_journal.specs.Whole as whole
 use Rattle.lpt_apart.specs.Ends.{Ends}
 use Rattle.lpt_apart.specs.Moves.{Pair, Move, Do, came_to, CanMoveAll}
 use Rattle.lpt_apart.specs.Plays.{steps_of, moves_of}
 use Rattle.lpt_apart.specs.Steps as steps
 use Rattle.lpt_apart.specs.Told.{told}
+use Rattle.lpt_apart.specs.Whole.{came_in, CameWhole}
+use Rattle.lpt_apart.proofs.Bringing.{moves_bring_the_same, worlds_bring_the_same}
 use Rattle.lpt_apart.proofs.Freely.{steps_are_moves}
 use Rattle.lpt_apart.proofs.Played.{worlds_are_ends}
 use Rattle.lpt_journal_examples.specs.Passes.{IsPass, usual, usual_memories, loaded_memories, load, m20, m9, own}
@@ -31,7 +34,7 @@ use Rattle.lpt_journal_examples.proofs.LegalRows.{usual_pass}
 use Rattle.lpt_journal_examples.proofs.Listed.{recorded_is}
 use Rattle.lpt_apart_examples.specs.Runs.{forged, worked, worked_log}
 use Rattle.lpt_apart_examples.proofs.ListedSteps.{steps_is, told_of}
-use Rattle.lpt_apart_examples.proofs.Swapped.{swapped}
+use Rattle.lpt_apart_examples.proofs.Swapped.{swapped, swapped_came}
 
 -- ---- a world that does the same, but that the message is finished
 
@@ -85,6 +88,19 @@ unfolding seen spelling checksum octets_in shift_all tc_field tc_verdict command
     body_meaning meaning arrival
 loaded = ap (memories usual usual_memories) (recorded_is usual (reverse journal))
 
+-- both parts of the shorter message came
+first_came : whole.came usual (recorded usual usual_memories (reverse journal)) Up (own 7) 1 ≡ true
+unfolding seen spelling checksum octets_in shift_all tc_field tc_verdict command_in tm_field
+    tm_verdict body_of part_verdict first_of_numbers front_load_area front_head request_in
+    body_meaning meaning arrival
+first_came = ap (λ h. whole.came usual h Up (own 7) 1) (recorded_is usual (reverse journal))
+
+last_came : whole.came usual (recorded usual usual_memories (reverse journal)) Up (own 7) 2 ≡ true
+unfolding seen spelling checksum octets_in shift_all tc_field tc_verdict command_in tm_field
+    tm_verdict body_of part_verdict first_of_numbers front_load_area front_head request_in
+    body_meaning meaning arrival
+last_came = ap (λ h. whole.came usual h Up (own 7) 2) (recorded_is usual (reverse journal))
+
 -- the forged octets read as a report of an abortion
 reads : arrival_in usual Down forged ≡ AnAbort (own 7) Expired
 unfolding seen spelling checksum octets_in shift_all tm_field tm_verdict abort_body abort_verdict
@@ -93,11 +109,19 @@ reads = refl
 
 -- ---- the run
 
+-- the shorter message has two parts
+both : (came : ℕ → Bool) → came 1 ≡ true → came 2 ≡ true → CameWhole usual came m9
+both came one two zero low high = absurd (omega (arith, low))
+both came one two (suc zero) low high = one
+both came one two (suc (suc zero)) low high = two
+both came one two (suc (suc (suc k))) low high = absurd (omega (arith, high))
+
 -- the run can be, and comes to the ends of that world
 pub record IsRun : Type 0 where
   pub can : CanMoveAll usual usual_memories (reverse worked)
   pub log : (came_to usual usual_memories (reverse worked)).ends.log ≡ reverse worked_log
   pub left : (came_to usual usual_memories (reverse worked)).ends.memories ≡ loaded_memories
+  pub whole : CameWhole usual (came_in usual usual_memories (reverse worked) Up (own 7)) m9
 
 pub runs : IsRun
 runs =
@@ -107,6 +131,17 @@ runs =
     let it =
     swapped usual usual_memories behind before (own 7) forged Expired reads
     (subst (λ (ms : List Move). CanMoveAll usual usual_memories ms) finished moves.can) in
+    let came : (k : ℕ)
+    → whole.came usual (recorded usual usual_memories es) Up (own 7) k ≡ true
+    → came_in usual usual_memories (reverse worked) Up (own 7) k ≡ true =
+    λ k it.
+    swapped_came usual usual_memories behind before (own 7) forged Expired reads
+    (subst (λ (ms : List Move). CanMoveAll usual usual_memories ms) finished moves.can) (own 7) k
+    ∙ ap (λ (ms : List Move). came_in usual usual_memories ms Up (own 7) k) (sym finished)
+    ∙ moves_bring_the_same usual usual_memories (steps_of usual usual_memories es) Up (own 7) k
+    world.can
+    ∙ worlds_bring_the_same usual usual_memories es Up (own 7) k passes.configured passes.legal
+    ∙ it in
     let same : (came_to usual usual_memories (reverse worked)).ends
     ≡ (came_to usual usual_memories (moves_of (steps_of usual usual_memories es))).ends =
     ap (λ (p : Pair). p.ends) it.is
@@ -118,4 +153,6 @@ runs =
       left =
           ap (λ (e : Ends). e.memories) (same ∙ moves.ends) ∙ sym world.are.memories
           ∙ world.are.shown.memories ∙ loaded;
+      whole = both (came_in usual usual_memories (reverse worked) Up (own 7))
+          (came 1 first_came) (came 2 last_came);
     }

@@ -1,5 +1,5 @@
 -- A report of an abortion that nobody made does to ground what it does to finish the message.
-use Rattle.std.proofs.Common.{◌≡◌, ap, sym, subst, ℕ, inr, List, [], ◌∷◌, ◌++◌}
+use Rattle.std.proofs.Common.{◌≡◌, ap, sym, subst, refl, ℕ, inr, List, [], ◌∷◌, ◌++◌}
 use Rattle.lpt_packet.specs.declared.direction.Direction.TheVariants.{Up, Down}
 use Rattle.lpt_packet.specs.Names.{Name}
 use Rattle.lpt_part.specs.declared.reason.Reason.{Reason}
@@ -10,6 +10,7 @@ use Rattle.lpt_events.specs.declared.side.Side.TheVariants.{Ground}
 use Rattle.lpt_node.specs.Accepting.{accepted}
 use Rattle.lpt_apart.specs.Moves.{Pair, Move, Do, moved, CanMove, came_to, CanMoveAll}
 use Rattle.lpt_apart.specs.Steps.{Finish, Accept, is_harmless, accepted_on}
+use Rattle.lpt_apart.specs.Whole.{came_moved, came_in}
 
 -- moves that can be done, and come to two ends
 pub record Come (c : Config) (first : Contents) (xs : List Move) (p : Pair) : Type 0 where
@@ -38,3 +39,17 @@ swapped c first (x ∷ behind) before name b why is can =
       can = (rest.can, subst (λ (p : Pair). CanMove c p x) (sym rest.is) can.1);
       is = ap (λ (p : Pair). moved c p x) rest.is;
     }
+
+-- and the same parts came up
+pub swapped_came : (c : Config) (first : Contents) (behind before : List Move) (name : Name)
+    (b : List ℕ) (why : Reason)
+    → arrival_in c Down b ≡ AnAbort name why
+    → CanMoveAll c first (behind ++ Do (Finish Up name) ∷ before)
+    → (i : Name) (k : ℕ)
+    → came_in c first (behind ++ Do (Accept Down b) ∷ before) Up i k
+    ≡ came_in c first (behind ++ Do (Finish Up name) ∷ before) Up i k
+swapped_came c first [] before name b why is can i k = refl
+swapped_came c first (x ∷ behind) before name b why is can i k =
+    let rest = swapped c first behind before name b why is can.0 in
+    let had = swapped_came c first behind before name b why is can.0 i k in
+    (λ j. came_moved c (rest.is j) x Up i k (had j))

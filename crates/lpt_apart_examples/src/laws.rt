@@ -2,8 +2,10 @@
 
 ghost use Rattle.std.specs.Prelude.{◌≡◌, reverse};
 ghost use Rattle.lpt_events.specs.Configs.{IsConfig};
+ghost use Rattle.lpt_packet.specs.declared.direction.Direction.TheVariants.{Up};
 ghost use Rattle.lpt_apart.specs.Moves.{came_to, CanMoveAll};
-ghost use Rattle.lpt_journal_examples.specs.Passes.{usual, usual_memories, loaded_memories};
+ghost use Rattle.lpt_apart.specs.Whole.{came_in, CameWhole};
+ghost use Rattle.lpt_journal_examples.specs.Passes.{own, m9, usual, usual_memories, loaded_memories};
 ghost use Rattle.lpt_apart_examples.specs.Runs.{worked, worked_log};
 
 /// Ground asks for a load, which is executed; its packet comes again, and is released again. A
@@ -11,10 +13,11 @@ ghost use Rattle.lpt_apart_examples.specs.Runs.{worked, worked_log};
 /// another order, one of them twice, and one again once all are there. A forged report of an
 /// abortion closes its sender. Its name is freed at the spacecraft and then on ground, and opened
 /// for a shorter message. The spacecraft is restarted behind its first part, which is handed over
-/// again after that, and the message is released.
+/// again after that, and the message is released: each of its parts came since the restart.
 pub fn forged_and_reused_can_be()
     ensures configured { IsConfig usual }
     ensures can { CanMoveAll usual usual_memories (reverse worked) }
     ensures log { (came_to usual usual_memories (reverse worked)).ends.log ≡ reverse worked_log }
     ensures left { (came_to usual usual_memories (reverse worked)).ends.memories ≡ loaded_memories }
+    ensures whole { CameWhole usual (came_in usual usual_memories (reverse worked) Up (own 7)) m9 }
 {}

@@ -1,5 +1,5 @@
 -- What is copied and told out of an end is what the log's newest facts are.
-use Rattle.std.proofs.Common.{◌≡◌, ◌∙◌, ap, sym, subst, refl, ℕ, List, ◌∷◌, Option, Some, None}
+use Rattle.std.proofs.Common.{◌≡◌, ◌∙◌, ap, sym, subst, refl, ℕ, List, [], ◌∷◌, Option, Some, None}
 use Rattle.std.specs.Option.{option_map}
 use Rattle.lpt_apart.specs.Facts.{Executed, Released, Log, AllDue, with_abortion}
 use Rattle.lpt_apart.specs.Steps.{with_release, with_report}
@@ -7,19 +7,21 @@ use Rattle.lpt_c_end.specs.Accesses.{IsAppliedGiven, first_read, length_refusal,
 use Rattle.lpt_c_end.specs.Calls.{IsApplied}
 use Rattle.lpt_c_end.specs.Changes.{delivery}
 use Rattle.lpt_c_end.specs.Codes.{elsewhere, node_code}
-use Rattle.lpt_c_end.specs.Kept.{elsewhere_refusal, here_refusal, sizes_in}
+use Rattle.lpt_c_end.specs.Kept.{elsewhere_refusal, here_refusal, sizes_in, text_or_nothing}
 use Rattle.lpt_c_end.specs.Refusals.{sending_refusal}
 use Rattle.lpt_c_end.proofs.ReadyLemmas.{front_ready}
 use Rattle.lpt_c_end.specs.declared.end.End.{End}
 use Rattle.lpt_c_end.specs.declared.kept.Kept.{Kept}
-use Rattle.lpt_c_end.specs.declared.kept.Kept.TheVariants.{Here, Elsewhere}
+use Rattle.lpt_c_end.specs.declared.kept.Kept.TheVariants.{Nowhere, Here, Elsewhere}
 use Rattle.lpt_c_end.specs.declared.words.LptApplied.{LptApplied}
 use Rattle.lpt_c_end.specs.declared.words.LptOutcome.{LptOutcome}
 use Rattle.lpt_c_end.specs.Words.{applied_words, words}
-use Rattle.lpt_c_pair.specs.Handed.{ExecutionsAreTold, GivenExecutionsAreTold, IsExecutedSo, IsHanded, MessagesAreHanded}
-use Rattle.lpt_c_pair.specs.Pairs.{AreEndsOf, Execute, ExecuteGiven, InEnd, IsEndOf, Place, WithProgram, kept_in}
-use Rattle.lpt_c_pair.specs.Runs.{Standing, CanTurnBy}
+use Rattle.lpt_c_pair.specs.Handed.{AllLeave, ExecutionsAreTold, GivenExecutionsAreTold, IsExecutedSo, IsHanded, LeavesReleased, MessagesAreHanded, MessagesStay}
+use Rattle.lpt_c_pair.specs.Pairs.{AreEndsOf, Call, Open, Part, Plain, Finish, LetGo, Packet, Expire, Tick, Read, Execute, ExecuteGiven, Retire, Restart, Resume, ResumeSized, InEnd, IsDone, IsEndOf, Place, WithProgram, end_of, kept_in}
+use Rattle.lpt_c_pair.specs.Runs.{Turn, Standing, CanTurnBy, CanStand, KeepsThePromise, stood, turned_by}
 use Rattle.lpt_c_pair.proofs.Clockless.{executes, executes_over, takes}
+use Rattle.lpt_c_pair.proofs.GivenLemmas.{not_short}
+use Rattle.lpt_c_pair.proofs.Lemmas.{IsRead, no_fault, not_unsent, was_read}
 use Rattle.lpt_c_pair.proofs.Telling.{is_there}
 use Rattle.lpt_events.specs.Arrivals.{Arrival, NotRead, AnIdle, Foreign, ARequest, AReport, NoPart, APart, AnAbort, arrival}
 use Rattle.lpt_events.specs.Sides.{direction_to}
@@ -34,7 +36,7 @@ use Rattle.lpt_jobs.specs.Jobs.{Head, NoJob, NotReady, Ready, head_of}
 use Rattle.lpt_memory.specs.Memories.{Contents, sizes_of}
 use Rattle.lpt_model.specs.State.{released_of}
 use Rattle.lpt_node.proofs.GivenLemmas.{given_over}
-use Rattle.lpt_node.specs.Jobs.{Execution, FrontIsFor, executed, executed_of, refusal_apply}
+use Rattle.lpt_node.specs.Jobs.{Execution, FrontIsFor, executed, executed_of, front_reading, refusal_apply}
 use Rattle.lpt_node.specs.Accepting.{accepted}
 use Rattle.lpt_node.specs.declared.accepted.Accepted.{Accepted}
 use Rattle.lpt_node.specs.Nodes.{NodeData}
@@ -137,6 +139,71 @@ messages_are_handed c first s Craft b new told m before after can says copied =
     before.ends.craft can.0.released says (is_there new.released m copied) refl
     after.promised.due
 
+-- ---- calls that leave what was released
+
+released_stays : (call : Call) (e new : End)
+    → IsDone call e new
+    → LeavesReleased call
+    → new.released ≡ e.released
+released_stays (Open name m) e new done may = done.1.released
+released_stays (Part name k) e new done may = done.1.released
+released_stays (Plain source flags service subtype body) e new done may = done.1.released
+released_stays (Finish name) e new done may = done.1.released
+released_stays LetGo e new done may = done.1.released
+released_stays (Packet b) e new done may = absurd may
+released_stays Expire e new done may = done.1.released
+released_stays Tick e new done may = done.1.released
+released_stays Read e new done may = done.1.released
+released_stays Execute e new done may = done.1.released
+released_stays (ExecuteGiven octets) e new done may = done.1.released
+released_stays (Retire direction name) e new done may = done.released
+released_stays Restart e new done may = done.released
+released_stays (Resume config state ms content) e new done may = absurd may
+released_stays (ResumeSized config state sizes) e new done may = absurd may
+
+module _ (c : Config) where
+  -- what the end of a side has released
+  abbrev released_at : Side → Standing → Option (List ℕ)
+  released_at side s = (end_of side s.on_ground s.on_craft).released
+
+  turn_leaves : (s : Standing) (of side : Side) (call : Call) (new : End)
+      → CanTurnBy c s of call new
+      → (of ≡ side → LeavesReleased call)
+      → released_at side (turned_by c s of call new) ≡ released_at side s
+  turn_leaves s Ground Ground call new can may =
+      released_stays call s.on_ground new can.0 (may refl)
+  turn_leaves s Ground Craft call new can may = refl
+  turn_leaves s Craft Ground call new can may = refl
+  turn_leaves s Craft Craft call new can may =
+      released_stays call s.on_craft new can.0 (may refl)
+
+  turns_leave : (s : Standing) (side : Side) (ts : List Turn)
+      → CanStand c s ts
+      → AllLeave side ts
+      → released_at side (stood c s ts) ≡ released_at side s
+  turns_leave s side [] can may = refl
+  turns_leave s side (t ∷ ts) can may =
+      turn_leaves (stood c s ts) t.side side t.call t.new can.1 may.1
+      ∙ turns_leave s side ts can.0 may.0
+
+-- what is copied is what was released
+copied_is : (side : Side) (c : Config) (s : Standing) (b : List ℕ) (new : End) (ts : List Turn)
+    → CanStand c (turned_by c s side (Packet b) new) ts
+    → AllLeave side ts
+    → (end_of side
+    (stood c (turned_by c s side (Packet b) new) ts).on_ground
+    (stood c (turned_by c s side (Packet b) new) ts).on_craft).released ≡ new.released
+copied_is Ground c s b new ts can may =
+    turns_leave c (turned_by c s Ground (Packet b) new) Ground ts can may
+copied_is Craft c s b new ts can may =
+    turns_leave c (turned_by c s Craft (Packet b) new) Craft ts can may
+
+pub messages_stay : MessagesStay
+messages_stay c first s side b new told ts m before after can says stand leave copied =
+    messages_are_handed c first s side b new told m before after can says
+    (ap (λ (o : Option (List ℕ)). text_or_nothing o)
+    (sym (copied_is side c s b new ts stand leave)) ∙ copied)
+
 -- ---- executions
 
 -- a name that is told is that of the report
@@ -157,16 +224,35 @@ is_named c d ms NoJob name is = absurd cc
 is_named c d ms NotReady name is = absurd cc
 is_named c d ms (Ready r) name is = names _ _ name is
 
+-- where a call needs memories in their place, what isn't refused wasn't before
+not_elsewhere : (kept : Kept) (o : Option ℕ) → here_refusal kept o ≡ None → o ≡ None
+not_elsewhere Nowhere o none = absurd cc
+not_elsewhere (Here ms) o none = none
+not_elsewhere (Elsewhere sizes) o none = absurd cc
+
+not_here : (kept : Kept) (o : Option ℕ) → elsewhere_refusal kept o ≡ None → o ≡ None
+not_here Nowhere o none = absurd cc
+not_here (Here ms) o none = absurd cc
+not_here (Elsewhere sizes) o none = none
+
 module _ (c : Config) (first : Contents) (s : Standing) where
   -- the execution of the two ends apart
   abbrev it : Execution
   it = (executed c s.pair.ends.on_craft s.pair.ends.memories).0.1
 
   told_so : (told : LptApplied)
+      → KeepsThePromise c first s
+      → IsRead (head_of s.on_craft.node.at.jobs.jobs)
       → told ≡ applied_words it.applied
       → AllDue (Executed ∷ with_report s.pair.ends.log it.opened)
-      → IsExecutedSo told s.pair.ends.log (Executed ∷ with_report s.pair.ends.log it.opened)
-  told_so told says due = record {
+      → IsExecutedSo s.on_craft told s.pair.ends.log
+      (Executed ∷ with_report s.pair.ends.log it.opened)
+  told_so told before front says due = record {
+    request = front.read;
+    read = ap front_reading front.is;
+    oldest =
+        before.promised.next front.read
+        (ap (λ (n : NodeData). head_of n.jobs.jobs) (sym before.ends.craft.node) ∙ front.is);
     applied = it.applied;
     report = it.opened;
     says = says;
@@ -229,11 +315,21 @@ module _ (c : Config) (first : Contents) (s : Standing) where
 
 pub executions_are_told : ExecutionsAreTold
 executions_are_told c first s new told before after can says =
-    told_so c first s told
+    let k : End = s.on_craft in
+    let o : Option ℕ = node_code (refusal_apply k.node.at) in
+    told_so c first s told before
+    (was_read (head_of k.node.at.jobs.jobs) (no_fault (refusal_apply k.node.at)
+    (not_unsent o k.outbox.items
+    (not_elsewhere k.memories (sending_refusal o k.outbox.items) can.0.0))))
     (of_end c first s new told before.ends.place before.ends refl can says) after.promised.due
 
 pub given_executions_are_told : GivenExecutionsAreTold
 given_executions_are_told c first s octets new told before after can says =
-    told_so c first s told
+    let k : End = s.on_craft in
+    let o : Option ℕ = length_refusal (unready k) (first_read k) octets in
+    told_so c first s told before
+    (was_read (head_of k.node.at.jobs.jobs) (no_fault (refusal_apply k.node.at)
+    (not_short (unready k) (first_read k) octets (not_unsent o k.outbox.items
+    (not_here k.memories (sending_refusal o k.outbox.items) can.0.0)))))
     (of_program c first s octets new told before.ends.place before.ends refl can says)
     after.promised.due

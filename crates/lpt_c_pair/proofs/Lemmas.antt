@@ -10,7 +10,10 @@ use Rattle.lpt_c_pair.specs.Outboxes.{AllOnTheWay}
 use Rattle.lpt_c_pair.specs.Pairs.{AreEndsOf, Place, InEnd, WithProgram, kept_in}
 use Rattle.lpt_packet.specs.declared.direction.Direction.TheVariants.{Up, Down}
 use Rattle.lpt_events.specs.declared.config.Config.{Config}
+use Rattle.lpt_jobs.specs.Jobs.{Head, NoJob, NotReady, Ready}
 use Rattle.lpt_memory.specs.Memories.{Contents, sizes_of}
+use Rattle.lpt_memory.specs.Readings.{Source}
+use Rattle.lpt_node.specs.Jobs.{refusal_apply_of}
 use Rattle.lpt_node.specs.declared.fault.NodeFault.{NodeFault}
 use Rattle.lpt_model.specs.Tickets.{no_tickets}
 
@@ -33,6 +36,16 @@ pub not_unsent : (o : Option ℕ) (packets : List (List ℕ)) → sending_refusa
     → o ≡ None
 not_unsent None packets e = refl
 not_unsent (Some code) packets e = absurd cc
+
+-- a request whose execution isn't refused was read
+pub record IsRead (h : Head) : Type 0 where
+  pub read : Source
+  pub is : h ≡ Ready read
+
+pub was_read : (h : Head) → refusal_apply_of h ≡ None → IsRead h
+was_read NoJob none = absurd cc
+was_read NotReady none = absurd cc
+was_read (Ready r) none = record { read = r; is = refl }
 
 -- ---- memories
 

@@ -17,3 +17,4 @@ pub mod Resuming
 pub mod Running
 pub mod Telling
 pub mod Waiting
+pub mod Withholding

@@ -1,23 +1,28 @@
 -- The memories of the spacecraft's program, whatever it and the two ends do.
-use Rattle.std.proofs.Common.{◌≡◌, ◌∙◌, ap, sym, subst, refl, ℕ, ◌+◌, List, [], ◌∷◌, ◌++◌, length, Option, Some, None, arith}
-use Rattle.lpt_apart.specs.Clocks.{after_all}
+use Rattle.std.proofs.Common.{◌≡◌, ◌∙◌, ap, sym, subst, refl, ℕ, ◌+◌, List, [], ◌∷◌, ◌++◌, length, map, Option, Some, None, arith}
+use Rattle.lpt_apart.specs.Clocks.{later, after_all}
 use Rattle.lpt_apart.specs.Moves.{Pair}
 use Rattle.lpt_apart.proofs.Clocks.{reached_keep}
 use Rattle.lpt_c_end.specs.Accesses.{first_read, length_refusal, unready}
+use Rattle.lpt_c_end.specs.Changes.{IsNew}
 use Rattle.lpt_c_end.specs.Codes.{elsewhere, no_job, node_code}
 use Rattle.lpt_c_end.specs.Kept.{elsewhere_refusal, here_refusal, memories_refusal}
 use Rattle.lpt_c_end.specs.Refusals.{sending_refusal}
+use Rattle.lpt_c_end.specs.Sizes.{size_said, IsNewSized}
 use Rattle.lpt_c_end.specs.Words.{direction_from as direction_by}
 use Rattle.lpt_c_end.specs.declared.end.End.{End}
 use Rattle.lpt_c_end.specs.declared.kept.Kept.{Kept}
 use Rattle.lpt_c_end.specs.declared.kept.Kept.TheVariants.{Nowhere, Elsewhere}
+use Rattle.lpt_c_end.specs.declared.memories.LptMemory.{LptMemory}
+use Rattle.lpt_c_end.specs.declared.sizing.LptSize.{LptSize}
 use Rattle.lpt_c_pair.specs.Pairs.{WithProgram, Call, Open, Part, Plain, Finish, LetGo, Packet, Expire, Tick, Read, Execute, ExecuteGiven, Retire, Restart, Resume, ResumeSized, IsDone, Promises, freeing, moves}
 use Rattle.lpt_c_pair.specs.Programs.{Told, IsTold, AreTold, put_told, Program, Act, Calls, Writes, Gives, Puts, Settles, acted, came_by, CanAct, CanActAll, MayCall, ProgramsKeepTheirMemories, started}
 use Rattle.lpt_c_pair.proofs.GivenLemmas.{not_short}
-use Rattle.lpt_c_pair.proofs.Lemmas.{no_fault, not_unsent}
+use Rattle.lpt_c_pair.proofs.Lemmas.{IsRead, no_fault, not_unsent, was_read}
 use Rattle.lpt_c_pair.proofs.Running.{IsStood, begins, turn}
 use Rattle.lpt_c_pair.proofs.Fronting.{GoesOn, told_stays}
 use Rattle.lpt_c_pair.proofs.Telling.{WereTold, are_of, put_told-append, reads_same, told_all, told_is_effect, told_more}
+use Rattle.lpt_events.specs.Configs.{IsConfig}
 use Rattle.lpt_events.specs.declared.config.Config.{Config}
 use Rattle.lpt_events.specs.declared.side.Side.{Side}
 use Rattle.lpt_events.specs.declared.side.Side.TheVariants.{Ground, Craft}
@@ -121,29 +126,26 @@ module _ (c : Config) (p : Pair) where
   craft_leaves g k new sizes q (ResumeSized config state given) at done vow may =
       record { memories = refl; place = done.memories ∙ vow.memories ∙ at }
 
--- ---- an execution
-
--- what isn't refused was read
-record IsRead (h : Head) : Type 0 where
-  read : Source
-  is : h ≡ Ready read
-
-was_read : (h : Head) → refusal_apply_of h ≡ None → IsRead h
-was_read NoJob none = absurd cc
-was_read NotReady none = absurd cc
-was_read (Ready r) none = record { read = r; is = refl }
-
 -- ---- all acts
 
 module _ (c : Config) (first : Contents) where
   -- the ends stand where moves lead, the program has the memories, and they are those of the two
   -- ends apart, but for what it has written ahead and what it owes
-  record IsKeeping (p : Program) : Type 0 where
-    stands : IsStood c first p.ends
-    sizes : Sizes
-    place : p.ends.on_craft.memories ≡ Elsewhere sizes
-    same : put_told p.owed p.memories ≡ put_told p.ahead p.ends.pair.ends.memories
-    told : WereTold 0 p.ahead p.ends.on_craft
+  pub record IsKeeping (p : Program) : Type 0 where
+    pub stands : IsStood c first p.ends
+    pub sizes : Sizes
+    pub place : p.ends.on_craft.memories ≡ Elsewhere sizes
+    pub same : put_told p.owed p.memories ≡ put_told p.ahead p.ends.pair.ends.memories
+    pub told : WereTold 0 p.ahead p.ends.on_craft
+
+  -- what a program gives that executes the oldest request: it was read, all writes were told, and
+  -- the octets are those that the ends' memories have where it reads
+  pub record IsVow (p : Program) (octets : List ℕ) (owed : List Told) : Type 0 where
+    front : IsRead (head_of p.ends.on_craft.node.at.jobs.jobs)
+    all : AreTold 0 (p.ahead ++ owed) p.ends.on_craft
+    own : p.memories ≡ put_told p.ahead p.ends.pair.ends.memories
+    pub vow : FrontHolds (head_of p.ends.on_craft.node.at.jobs.jobs)
+        p.ends.pair.ends.memories octets
 
   -- what was told stays, where the end goes on or nothing was
   still_told : (n : ℕ) (ts : List Told) (k new : End) (call : Call)
@@ -224,15 +226,14 @@ module _ (c : Config) (first : Contents) where
         told = told_after p r.sizes new call r.place can.0.0 can.1 r.told;
       }
 
-  gives : (p : Program) (octets : List ℕ) (owed : List Told) (new : End)
+  pub vow_of : (p : Program) (octets : List ℕ) (owed : List Told) (new : End)
       → IsKeeping p
       → CanAct c p (Gives octets owed new)
-      → IsKeeping (acted c p (Gives octets owed new))
-  gives p octets owed new r can =
+      → IsVow p octets owed
+  vow_of p octets owed new r can =
       let k : End = p.ends.on_craft in
       let zero_on : 0 + length p.ahead ≡ length p.ahead = omega arith in
       let ghost : Contents = p.ends.pair.ends.memories in
-      let d : NodeData = p.ends.pair.ends.on_craft in
       let read : Option ℕ = length_refusal (unready k) (first_read k) octets in
       let unsent : sending_refusal read k.outbox.items ≡ None =
       sym (ap (λ (o : Kept). elsewhere_refusal o (sending_refusal read k.outbox.items)) r.place)
@@ -252,18 +253,32 @@ module _ (c : Config) (first : Contents) where
       sym (ap (octets_read (meant front.read)) own
       ∙ reads_same (meant front.read) p.ahead owed ghost
       (are_of k front.read front.is 0 (p.ahead ++ owed) all)) ∙ held in
-      let vow : FrontHolds (head_of k.node.at.jobs.jobs) ghost octets =
-      subst (λ (h : Head). FrontHolds h ghost octets) (sym front.is) held_there in
-      let apart : head_of d.jobs.jobs ≡ Ready front.read =
-      ap (λ (x : NodeData). head_of x.jobs.jobs) (sym r.stands.ends.craft.node) ∙ front.is in
       record {
-        stands = turn c first p.ends Craft (ExecuteGiven octets) new r.stands (can.0, vow);
+        front = front;
+        all = all;
+        own = own;
+        vow = subst (λ (h : Head). FrontHolds h ghost octets) (sym front.is) held_there;
+      }
+
+  gives : (p : Program) (octets : List ℕ) (owed : List Told) (new : End)
+      → IsKeeping p
+      → CanAct c p (Gives octets owed new)
+      → IsKeeping (acted c p (Gives octets owed new))
+  gives p octets owed new r can =
+      let k : End = p.ends.on_craft in
+      let ghost : Contents = p.ends.pair.ends.memories in
+      let d : NodeData = p.ends.pair.ends.on_craft in
+      let w : IsVow p octets owed = vow_of p octets owed new r can in
+      let apart : head_of d.jobs.jobs ≡ Ready w.front.read =
+      ap (λ (x : NodeData). head_of x.jobs.jobs) (sym r.stands.ends.craft.node) ∙ w.front.is in
+      record {
+        stands = turn c first p.ends Craft (ExecuteGiven octets) new r.stands (can.0, w.vow);
         sizes = r.sizes;
         place = can.0.1.fixed.memories ∙ r.place;
         same =
-            ap (put_told owed) own
+            ap (put_told owed) w.own
             ∙ sym (put_told-append p.ahead owed ghost)
-            ∙ told_is_effect k front.read front.is (p.ahead ++ owed) ghost all
+            ∙ told_is_effect k w.front.read w.front.is (p.ahead ++ owed) ghost w.all
             ∙ ap (λ (h : Head). (executed_of c d ghost h).1) (sym apart);
         told = tt;
       }
@@ -304,21 +319,26 @@ module _ (c : Config) (first : Contents) where
         told = r.told;
       }
 
-  all_acts : (p : Program) (xs : List Act)
+  pub all_acts : (p : Program) (xs : List Act)
       → IsKeeping p
       → CanActAll c p xs
       → IsKeeping (came_by c p xs)
   all_acts p [] r can = r
   all_acts p (x ∷ xs) r can = acts (came_by c p xs) x (all_acts p xs r can.0) can.1
 
-pub programs_keep_their_memories : ProgramsKeepTheirMemories
-programs_keep_their_memories c a b none nothing sizes first g k xs good_g good_k same new_g new_k
-    can =
-    let p : Program = started c first a b g k in
+-- two new ends, and memories that nothing was written over
+pub starts : (c : Config) (a b : ℕ) (none : List LptMemory) (nothing : List ℕ)
+    (sizes : List LptSize) (first : Contents)
+    (g k : End)
+    → IsConfig (later a c)
+    → IsConfig (later b c)
+    → map size_said sizes ≡ sizes_of first
+    → IsNew Ground (later a c) none nothing g
+    → IsNewSized (later b c) sizes k
+    → IsKeeping c first (started c first a b g k)
+starts c a b none nothing sizes first g k good_g good_k same new_g new_k =
     let known : k.memories ≡ Elsewhere (sizes_of first) = new_k.memories ∙ ap Elsewhere same in
-    let r : IsKeeping c first (came_by c p xs) =
-    all_acts c first p xs
-    (record {
+    record {
       stands =
           begins c a b none nothing WithProgram first g k good_g good_k new_g (record {
             side = new_k.side;
@@ -332,8 +352,15 @@ programs_keep_their_memories c a b none nothing sizes first g k xs good_g good_k
       place = known;
       same = refl;
       told = tt;
-    })
-    can in
+    }
+
+pub programs_keep_their_memories : ProgramsKeepTheirMemories
+programs_keep_their_memories c a b none nothing sizes first g k xs good_g good_k same new_g new_k
+    can =
+    let p : Program = started c first a b g k in
+    let r : IsKeeping c first (came_by c p xs) =
+    all_acts c first p xs
+    (starts c a b none nothing sizes first g k good_g good_k same new_g new_k) can in
     let end : Program = came_by c p xs in
     let kept = reached_keep c first a end.ends.pair good_g r.stands.reached in
     record {

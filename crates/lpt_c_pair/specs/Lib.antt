@@ -9,3 +9,4 @@ pub mod Programs
 pub mod Redo
 pub mod Resets
 pub mod Runs
+pub mod Withheld

@@ -71,6 +71,8 @@ pub record AreEndsOf (c : Config) (p : Pair) (on_ground on_craft : End) : Type 0
 
 -- A call of an end, as `include/lpt_end.h` has them; a name is freed in a direction, by its number.
 -- An end is made again of its state, in place of the one that its program had.
+--
+-- Assumed: A C program drops no request.
 pub data Call : Type 0 where
   Open : Name → (message : List ℕ) → Call
   Part : Name → (k : ℕ) → Call
@@ -141,6 +143,8 @@ moves side (ResumeSized config state sizes) = Do (step.Restart side) ∷ []
 
 -- what was kept of an end is this state, which reads as its restart, and these memories; nothing
 -- happened at it since, and a number is left for a start
+--
+-- Assumed: Memories, names and clocks outlast a restart, and none falls within a call.
 pub record IsKept (c : Config) (e : End) (config : Config) (state : List ℕ)
     (kept : Kept) : Type 0 where
   pub ticks : ℕ

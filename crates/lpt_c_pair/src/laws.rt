@@ -2,7 +2,7 @@
 
 ghost use Rattle.lpt_c_pair.specs.Answers.{ZeroIsAlwaysDone};
 ghost use Rattle.lpt_c_pair.specs.Drops.{DroppedIsPassedOver, DropsOldest, GivenIsPassedOver};
-ghost use Rattle.lpt_c_pair.specs.Handed.{ExecutionsAreTold, GivenExecutionsAreTold, MessagesAreHanded};
+ghost use Rattle.lpt_c_pair.specs.Handed.{ExecutionsAreTold, GivenExecutionsAreTold, MessagesAreHanded, MessagesStay};
 ghost use Rattle.lpt_c_pair.specs.Histories.{CarefulProgramsMayBeReset, ResetEndsOfCKeepThePromise, SendingsLeaveTheState};
 ghost use Rattle.lpt_c_pair.specs.Loads.{LoadsGoWhereTheySay};
 ghost use Rattle.lpt_c_pair.specs.Pairs.{CallsAreMoves};
@@ -10,6 +10,7 @@ ghost use Rattle.lpt_c_pair.specs.Programs.{ProgramsKeepTheirMemories};
 ghost use Rattle.lpt_c_pair.specs.Redo.{WritesCanBeMadeAgain, WritesCanBeTakenBack};
 ghost use Rattle.lpt_c_pair.specs.Resets.{CarefulMachinesMayBeReset, ResetProgramsKeepTheirMemories};
 ghost use Rattle.lpt_c_pair.specs.Runs.{EndsOfCKeepThePromise};
+ghost use Rattle.lpt_c_pair.specs.Withheld.{EndsOfCWithholdNothing, ProgramsWithholdNothing};
 
 /// Where two ends behind handles are those of two ends apart, and one of them is called, answers 0,
 /// and the program keeps what it promises of that call, its moves can happen, and the ends are
@@ -31,6 +32,15 @@ pub fn calls_are_moves()
 pub fn ends_of_c_keep_the_promise()
     ensures in_end { EndsOfCKeepThePromise }
     ensures with_program { ProgramsKeepTheirMemories }
+{}
+
+/// Such ends withhold nothing that came whole. Take what was last opened under a name. If
+/// `lpt_end_packet` took each of its parts since then, and since its receiver was last restarted or
+/// made again, while there was room, it was released since; but where its reception expired or was
+/// broken off.
+pub fn ends_of_c_withhold_nothing()
+    ensures in_end { EndsOfCWithholdNothing }
+    ensures with_program { ProgramsWithholdNothing }
 {}
 
 /// So it is whenever a machine is reset, once or again and again, also where its program had made
@@ -62,14 +72,16 @@ pub fn writes_can_be_made_again()
 /// If `lpt_end_packet` answers 0, and `lpt_end_released` copies a message then, the newest fact of
 /// the log is that this message was released, of the transaction that the first call told, or of
 /// none; and that was due. So what a caller is handed is the message last opened under that name at
-/// the other end, or a request that ground asked.
+/// the other end, or a request that ground asked. So it is too if other calls come in between, but
+/// for `lpt_end_packet` and such as make the end again.
 pub fn messages_are_handed()
-    ensures { MessagesAreHanded }
+    ensures at_once { MessagesAreHanded }
+    ensures later { MessagesStay }
 {}
 
 /// Where `lpt_end_execute` or `lpt_end_execute_given` answers 0, the newest fact of the log is that
-/// the oldest request was executed; one waited; and a report whose name the call told was opened
-/// under that name.
+/// the oldest request was executed; one waited, and it is the one that was read at that end, of
+/// which `lpt_end_access` tells; and a report whose name the call told was opened under that name.
 pub fn executions_are_told()
     ensures in_end { ExecutionsAreTold }
     ensures with_program { GivenExecutionsAreTold }

@@ -1,8 +1,10 @@
 -- Nothing that came whole is withheld: in every legal journal it was released, unless it was
 -- aborted.
-use Rattle.std.proofs.Common.{◌≡◌, ◌∙◌, ap, refl, ℕ, zero, suc, ◌≤◌, Bool, true, false, ◌&&◌, ◌==◌, if◌then◌else◌, inl, inr, List, length, arith}
+use Rattle.std.proofs.Common.{◌≡◌, ◌∙◌, ap, refl, ℕ, zero, suc, ◌≤◌, Bool, true, false, ◌&&◌, ◌==◌, if◌then◌else◌, inl, inr, List, length, Some, arith}
 use Rattle.std.specs.Option.{is_some}
 use Rattle.std.specs.FinMap as map
+use Rattle.lpt_packet.specs.declared.direction.Direction.{Direction}
+use Rattle.lpt_packet.specs.Names.{Name}
 use Rattle.lpt_packet.proofs.BoolLemmas.{and_both, some_is}
 use Rattle.lpt_packet.proofs.Readings.{eq_true, eq_false}
 use Rattle.lpt_part.specs.declared.kind.Kind.TheVariants.{First, Middle, Last}
@@ -11,9 +13,16 @@ use Rattle.lpt_part.proofs.SplitLemmas.{part_count-two}
 use Rattle.lpt_reception.specs.Received.{Parts, is_last, has_all_to, is_whole}
 use Rattle.lpt_reception.specs.PartsOf.{IsPartsOf, IsMessage}
 use Rattle.lpt_reception.proofs.SetLemmas.{none_there}
+use Rattle.lpt_memory.specs.Memories.{Contents}
+use Rattle.lpt_events.specs.Configs.{IsConfig}
+use Rattle.lpt_events.specs.declared.config.Config.{Config}
+use Rattle.lpt_events.specs.declared.entry.Opening.{Opening}
+use Rattle.lpt_events.specs.declared.event.Event.{Event}
+use Rattle.lpt_journal.specs.Legal.{Legal}
 use Rattle.lpt_journal.specs.Receivers.{heard, is_closed}
 use Rattle.lpt_journal.specs.Replies.{recorded}
-use Rattle.lpt_journal.specs.Whole.{WasReleased, NothingIsWithheld}
+use Rattle.lpt_journal.specs.Senders.{current}
+use Rattle.lpt_journal.specs.Whole.{came, WasReleased, NothingIsWithheld}
 use Rattle.lpt_journal.proofs.CameLemmas.{came_kept, never_whole}
 use Rattle.lpt_journal.proofs.Deliveries.{heard_parts}
 use Rattle.lpt_journal.proofs.EndedLemmas.{every_ended}
@@ -54,6 +63,24 @@ not_all m p s size message are unwhole all =
     none_there (λ e. is_last e.1 && has_all_to s e.0) s n w.0 unwhole w.1 in
     let yes = and_both (is_last w.0) (has_all_to s n) last (all_to s n all) in cc
 
+-- what was last opened under a name and hasn't ended didn't come whole
+pub not_whole : (c : Config) (first : Contents) (es : List Event) (d : Direction) (name : Name)
+    (o : Opening)
+    → IsConfig c
+    → Legal c first es
+    → current (recorded c first es) d name ≡ Some o
+    → is_closed (recorded c first es) d name ≡ false
+    → ¬ ((k : ℕ) → 1 ≤ k → k ≤ part_count (length o.message) c.part_size
+    → came c (recorded c first es) d name k ≡ true)
+not_whole c first es d name o good legal now is_open all =
+    let h = recorded c first es in
+    let sound = (every c first es good legal).0 in
+    not_all o.message c.part_size (heard c h d name)
+    (omega (arith, good.part_size_fits.0))
+    (sound.openings d name o now).splits (heard_parts c h d name o sound now)
+    (never_whole c first es d name)
+    (λ k a b. came_kept c first es d name o now is_open k (all k a b))
+
 -- what was last opened under a name, and all of which came, was released unless it was aborted
 pub nothing_is_withheld : NothingIsWithheld
 nothing_is_withheld c first es good legal d name o now all unaborted =
@@ -65,11 +92,4 @@ nothing_is_withheld c first es good legal d name o now all unaborted =
         | inl released ↦ released
         | inr aborted ↦ absurd (unaborted aborted)
       ]
-      go false is_open =
-          let h = recorded c first es in
-          let sound = (every c first es good legal).0 in
-          absurd (not_all o.message c.part_size (heard c h d name)
-          (omega (arith, good.part_size_fits.0))
-          (sound.openings d name o now).splits (heard_parts c h d name o sound now)
-          (never_whole c first es d name)
-          (λ k a b. came_kept c first es d name o now is_open k (all k a b)))
+      go false is_open = absurd (not_whole c first es d name o good legal now is_open all)

@@ -7,4 +7,5 @@ returns f = record {
   can = runs.can;
   log = runs.log;
   left = runs.left;
+  whole = runs.whole;
 }

@@ -1,0 +1,66 @@
+-- Two ends behind handles withhold nothing that came whole.
+use Rattle.std.specs.Prelude.{◌≡◌, ℕ, List, [], ◌∷◌, ◌++◌, map}
+use Rattle.lpt_apart.specs.Clocks.{later, no_pair_later}
+use Rattle.lpt_apart.specs.Moves.{Move}
+use Rattle.lpt_apart.specs.Whole.{came_since, WithholdsNothing}
+use Rattle.lpt_c_end.specs.Changes.{IsNew}
+use Rattle.lpt_c_end.specs.Contents.{memories_told}
+use Rattle.lpt_c_end.specs.Sizes.{size_said, IsNewSized}
+use Rattle.lpt_c_end.specs.declared.end.End.{End}
+use Rattle.lpt_c_end.specs.declared.memories.LptMemory.{LptMemory}
+use Rattle.lpt_c_end.specs.declared.sizing.LptSize.{LptSize}
+use Rattle.lpt_c_pair.specs.Pairs.{ExecuteGiven, moves}
+use Rattle.lpt_c_pair.specs.Programs.{Act, Calls, Writes, Gives, Puts, Settles, started, came_by, CanActAll}
+use Rattle.lpt_c_pair.specs.Runs.{Turn, begun, stood, CanStand}
+use Rattle.lpt_events.specs.Configs.{IsConfig}
+use Rattle.lpt_events.specs.declared.config.Config.{Config}
+use Rattle.lpt_events.specs.declared.side.Side.TheVariants.{Ground, Craft}
+use Rattle.lpt_memory.specs.Memories.{Contents, sizes_of}
+
+-- the moves of these calls, the newest first
+abbrev pub moves_of : List Turn → List Move
+moves_of [] = []
+moves_of (t ∷ ts) = moves t.side t.call ++ moves_of ts
+
+-- the calls that these acts are, the newest first
+abbrev pub turns_of : List Act → List Turn
+turns_of [] = []
+turns_of (Calls t ∷ xs) = t ∷ turns_of xs
+turns_of (Writes t ∷ xs) = turns_of xs
+turns_of (Gives octets owed new ∷ xs) =
+    record { side = Craft; call = ExecuteGiven octets; new = new } ∷ turns_of xs
+turns_of (Puts ms ∷ xs) = turns_of xs
+turns_of (Settles ∷ xs) = turns_of xs
+
+-- Whatever calls were made of two ends that were new: what was last opened under a name, and each
+-- part of which `lpt_end_packet` took since then, and since its receiver was last restarted or made
+-- again, was released since; but where there was no room, or its reception expired or was broken
+-- off.
+abbrev pub EndsOfCWithholdNothing : Type 0
+EndsOfCWithholdNothing =
+    (c : Config) (a b : ℕ)
+    (none : List LptMemory) (nothing : List ℕ) (ms : List LptMemory) (content : List ℕ)
+    (g k : End) (ts : List Turn)
+    → IsConfig (later a c)
+    → IsConfig (later b c)
+    → IsNew Ground (later a c) none nothing g
+    → IsNew Craft (later b c) ms content k
+    → CanStand c (begun c (memories_told content ms) a b g k) ts
+    → WithholdsNothing c
+    (stood c (begun c (memories_told content ms) a b g k) ts).pair.ends.log
+    (came_since c (no_pair_later c (memories_told content ms) a b) (moves_of ts))
+
+-- the same where the spacecraft's program has the memories
+abbrev pub ProgramsWithholdNothing : Type 0
+ProgramsWithholdNothing =
+    (c : Config) (a b : ℕ)
+    (none : List LptMemory) (nothing : List ℕ) (sizes : List LptSize) (first : Contents)
+    (g k : End) (xs : List Act)
+    → IsConfig (later a c)
+    → IsConfig (later b c)
+    → map size_said sizes ≡ sizes_of first
+    → IsNew Ground (later a c) none nothing g
+    → IsNewSized (later b c) sizes k
+    → CanActAll c (started c first a b g k) xs
+    → WithholdsNothing c (came_by c (started c first a b g k) xs).ends.pair.ends.log
+    (came_since c (no_pair_later c first a b) (moves_of (turns_of xs)))
