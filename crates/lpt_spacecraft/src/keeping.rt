@@ -1,6 +1,6 @@
 //! What outlasts a spacecraft that dies, kept before anything that it made is passed on.
 
-ghost use Rattle.std.specs.Prelude.{◌≡◌, ◌||◌, ℕ, false, List, Option, None, IfErr, IsTrue, OnOk};
+ghost use Rattle.std.specs.Prelude.{◌≡◌, ◌||◌, ℕ, Bool, false, List, Option, None, IfErr, IsTrue, OnOk};
 ghost use Rattle.std.specs.Io.KnownBytes.{Appends};
 ghost use Rattle.lpt_memory.specs.Memories.{Contents};
 ghost use Rattle.lpt_text.specs.Streams.{AppendsPart, WriteEnds};
@@ -58,19 +58,40 @@ fn any_changes(told: &[Told]) -> bool
     told.iter().any(|one| one.changes())
 }
 
-// Writes what a spacecraft made before it came to this, as which it is kept.
-pub(crate) fn pass_on<H: Keeper, K: Sink>(
-    _keeper: &H,
-    _craft: &Spacecraft,
-    made: &[u8],
-    out: &mut K,
-) -> Result<(), StreamFault>
-    requires { IsKeptAs (H.kept _keeper.now) _craft.now }
-    ensures ok { OnOk result (Appends (K.contents out.old) (K.contents out.new) made.now) }
-    ensures fault { IfErr result (λ e. e ≡ StreamFault.Write) }
-    ensures writer { WriteEnds result (K.failed out.old) (K.failed out.new) }
-    ensures part { IfErr result (λ _.
-        AppendsPart (K.contents out.old) (K.contents out.new) made.now) }
-{
-    write_out(out, made)
+/// Where what a spacecraft made is passed on, and nothing else is written.
+pub(crate) trait Outlet {
+    // The octets that were written, where they are known.
+    ghost contents: { Self → Option (List ℕ) };
+
+    // Whether a write has failed or taken nothing.
+    ghost failed: { Self → Bool };
+
+    /// Writes what a spacecraft made before it came to this, as which it is kept.
+    fn pass_on<H: Keeper>(
+        &mut self,
+        keeper: &H,
+        craft: &Spacecraft,
+        made: &[u8],
+    ) -> Result<(), StreamFault>
+        requires { IsKeptAs (H.kept keeper.now) craft.now }
+        ensures ok { OnOk result (Appends (contents self.old) (contents self.new) made.now) }
+        ensures fault { IfErr result (λ e. e ≡ StreamFault.Write) }
+        ensures writer { WriteEnds result (failed self.old) (failed self.new) }
+        ensures part { IfErr result (λ _.
+            AppendsPart (contents self.old) (contents self.new) made.now) };
+}
+
+impl<K: Sink> Outlet for K {
+    ghost contents = { λ out. K.contents out };
+
+    ghost failed = { λ out. K.failed out };
+
+    fn pass_on<H: Keeper>(
+        &mut self,
+        _keeper: &H,
+        _craft: &Spacecraft,
+        made: &[u8],
+    ) -> Result<(), StreamFault> {
+        write_out(self, made)
+    }
 }

@@ -11,7 +11,7 @@ ghost use Rattle.lpt_spacecraft.specs.Telling.{Hears};
 
 use crate::clock::due_by;
 use crate::flying::serve_one;
-use crate::keeping::{keep_changed, pass_on};
+use crate::keeping::{Outlet, keep_changed};
 use crate::pace::Course;
 use crate::{Clock, Keeper, Listener, Pace, Spacecraft, Stop, Told};
 use lpt_frames::{FrameBuffer, Front, Peer};
@@ -96,7 +96,7 @@ pub fn serve_stream<P: Peer, C: Clock, H: Keeper, L: Listener, K: Sink>(
 
 // Ticks as often as is due, takes a packet, and ticks behind it where that is due. What they make
 // is written once the spacecraft is kept, and then what there is to tell is told.
-fn serve_packet<H: Keeper, L: Listener, K: Sink>(
+fn serve_packet<H: Keeper, L: Listener, K: Outlet>(
     craft: &mut Spacecraft,
     course: &mut Course,
     due: u64,
@@ -140,7 +140,7 @@ fn serve_packet<H: Keeper, L: Listener, K: Sink>(
         return Err(StreamFault::Memory);
     }
     let made = made.into_inner();
-    pass_on(keeper, craft, &made, out)?;
+    out.pass_on(keeper, craft, &made)?;
     tell_all(listener, &told);
     Ok(())
 }
