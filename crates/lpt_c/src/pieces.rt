@@ -10,9 +10,9 @@ ghost use Rattle.lpt_c.specs.Readings.{code_read, left_in};
 use crate::codes::{DONE, MORE};
 use lpt_stream::{PieceKind, piece_in_front};
 
-/// Finds the piece in front of octets of a stream: its kind, 1 a packet, 2 a damaged one, 3 an octet
-/// with which none of these begins; and how many octets it has. In step an idle packet is one, and so
-/// is one with a right checksum that has no secondary header or is a segment.
+/// Finds the piece in front of octets of a stream: its kind, 1 a packet, 2 a damaged one, 3 an
+/// octet with which none of these begins; and how many octets it has. In step an idle packet is
+/// one, and so is one with a right checksum that has no secondary header or is a segment.
 ///
 /// `in_step` isn't 0 where the octets begin the stream, or come right behind a piece of kind 1 or
 /// 2; `is_end` isn't 0 where nothing comes behind them. 0, and kind and size are written; 104 where

@@ -224,8 +224,8 @@ segment_items b = header_items b ++ flags_items (segment_text (word_at b 2 / 163
 abbrev pub bare_items : List ℕ → List Item
 bare_items b = if ends_in_checksum b then header_items b else []
 
--- what is said of octets that fail this test, in front of the test: what a segment says, or a packet
--- without a secondary header
+-- what is said of octets that fail this test, in front of the test: what a segment says, or a
+-- packet without a secondary header
 abbrev pub refused_front : List ℕ → PacketFault → List Item
 refused_front b Short = []
 refused_front b Version = []

@@ -1,0 +1,118 @@
+#!/usr/bin/env python3
+"""What the theorems assume that README's promise cites, as one list: `tools/assumptions.py` prints each
+assumption with the definition where it stands.
+
+An assumption stands in the comment above the definition that states it, behind `Assumed:`, as one
+sentence. Those of a theorem are the ones above the definitions that its premises reach."""
+
+import pathlib
+import re
+
+TOP = pathlib.Path(__file__).resolve().parent.parent
+
+# The statements of the theorems that README cites, in its order.
+THEOREMS = [
+    ("lpt_apart", "Clocks", "EndsWithClocksKeepThePromise"),
+    ("lpt_apart", "Whole", "EndsWithClocksWithholdNothing"),
+    ("lpt_c_pair", "Runs", "EndsOfCKeepThePromise"),
+    ("lpt_c_pair", "Programs", "ProgramsKeepTheirMemories"),
+    ("lpt_c_pair", "Withheld", "EndsOfCWithholdNothing"),
+    ("lpt_c_pair", "Withheld", "ProgramsWithholdNothing"),
+]
+
+HEAD = re.compile(r"^(?:abbrev |unfoldable )?pub (?:record |data )?([\w◌-]+)")
+USE = re.compile(r"^use Rattle\.(lpt_\w+)\.specs\.([\w.]+?)(?:\.\{(.*)\})?(?: as (\w+))?$")
+ASSUMED = "Assumed: "
+
+
+class File:
+    """A file of definitions: the comment and the text of each, and where its other names are from."""
+
+    def __init__(self, crate, path):
+        text = (TOP / "crates" / crate / "specs" / f"{path}.antt").read_text(encoding="utf-8")
+        self.definitions, self.names, self.modules = {}, {}, {}
+        comment, current = [], None
+        for line in text.splitlines():
+            if used := USE.match(line):
+                self.add_names(*used.groups())
+            elif line.startswith("--"):
+                comment, current = [*comment, line.removeprefix("--").strip()], None
+            elif head := HEAD.match(line):
+                if head[1] not in self.definitions:
+                    self.definitions[head[1]] = [" ".join(comment), ""]
+                comment, current = [], head[1]
+                self.definitions[current][1] += line + "\n"
+            elif line and current:
+                self.definitions[current][1] += line + "\n"
+            elif not line:
+                comment = []
+
+    def add_names(self, crate, path, names, module):
+        if names is None:
+            self.modules[module or path.rpartition(".")[2]] = (crate, path)
+        for name in (names or "").split(","):
+            name, _, other = name.strip().partition(" as ")
+            if name:
+                self.names[other or name] = (crate, path, name)
+
+    def reached(self, here, text):
+        """The definitions that a text names."""
+        for module, name in re.findall(r"(?:(\b\w+)\.)?([A-Za-z_]\w*)", text):
+            if module in self.modules:
+                yield (*self.modules[module], name)
+            elif name in self.definitions:
+                yield (*here, name)
+            elif name in self.names:
+                yield self.names[name]
+
+
+FILES = {}
+
+
+def file_of(crate, path):
+    """A file, read once; none where it isn't one of definitions."""
+    if (crate, path) not in FILES:
+        there = (TOP / "crates" / crate / "specs" / f"{path}.antt").is_file()
+        FILES[crate, path] = File(crate, path) if there else None
+    return FILES[crate, path]
+
+
+def premises(text):
+    """What a statement has before its last arrow."""
+    return text.rpartition("\n    → ")[0].partition("=")[2]
+
+
+def assumed(comment):
+    """The assumptions in a comment."""
+    return re.findall(rf"{ASSUMED}([^.]*\.)", comment)
+
+
+def assumptions():
+    """Each assumption, with the definitions where it stands and the theorems whose it is."""
+    found = {}
+    for theorem in THEOREMS:
+        crate, path, name = theorem
+        file = file_of(crate, path)
+        waiting = list(file.reached((crate, path), premises(file.definitions[name][1])))
+        seen = set()
+        while waiting:
+            place = waiting.pop(0)
+            file = file_of(*place[:2])
+            if place in seen or file is None or place[2] not in file.definitions:
+                continue
+            seen.add(place)
+            comment, text = file.definitions[place[2]]
+            for sentence in assumed(comment):
+                places, whose = found.setdefault(sentence, ([], []))
+                places.extend([place] if place not in places else [])
+                whose.extend([name] if name not in whose else [])
+            waiting.extend(file.reached(place[:2], text))
+    return found
+
+
+if __name__ == "__main__":
+    for sentence, (places, whose) in assumptions().items():
+        print(f"- {sentence}")
+        for crate, path, name in places:
+            print(f"    {crate}/specs/{path}: {name}")
+        print(f"    of {', '.join(whose)}")
