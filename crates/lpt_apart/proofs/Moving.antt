@@ -128,12 +128,12 @@ module _ (c : Config) (first : Contents) (good : IsConfig c) (freed : Direction 
   move (Free d name) can = free d name can
 
 -- Two ends are a world's but for freed names, and of those no part comes.
-record AreApart (c : Config) (first : Contents) (p : Pair) (parts : Came) : Type 0 where
-  but : IsBut c first p.freed p.ends parts
-  silent : AreSilent p.freed p.ends
+pub record AreApart (c : Config) (first : Contents) (p : Pair) (parts : Came) : Type 0 where
+  pub but : IsBut c first p.freed p.ends parts
+  pub silent : AreSilent p.freed p.ends
 
 -- whatever moves they did
-apart : (c : Config) (first : Contents) (xs : List Move)
+pub apart : (c : Config) (first : Contents) (xs : List Move)
     → IsConfig c
     → CanMoveAll c first xs
     → AreApart c first (came_to c first xs) (came_in c first xs)

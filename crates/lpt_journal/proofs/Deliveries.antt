@@ -216,7 +216,7 @@ hears c h l n d name o e tells = go (same_direction (lane_direction l) d) refl o
   go true b o tells = inl refl
 
 -- what is broken off is a name
-broken_named : (c : Config) (h : History) (l : Lane) (n : ℕ) (name : Name) (reason : Reason)
+pub broken_named : (c : Config) (h : History) (l : Lane) (n : ℕ) (name : Name) (reason : Reason)
     → IsSound c h
     → hand h l ≡ Some n
     → outcome c h l ≡ Broken name reason

@@ -60,7 +60,7 @@ in_its_hand : (o : Option ℕ) → not (is_some o) ≡ false → (n : ℕ) × (o
 in_its_hand None e = absurd cc
 in_its_hand (Some n) e = (n, refl)
 
-delivered : (c : Config) (h : History) (l : Lane)
+pub delivered : (c : Config) (h : History) (l : Lane)
     → refusal c h (Deliver l) ≡ None
     → (n : ℕ) × (hand h l ≡ Some n)
 delivered c h l e = in_its_hand (hand h l) (one_passes (not (is_some (hand h l))) HandEmpty e)

@@ -77,7 +77,7 @@ puts_report c h g Craft (Some name) k p good sound named f =
     (named name refl).source_fits refl refl f
 
 -- what is due is a name
-due_named : (c : Config) (h : History) (d : Direction) (name : Name)
+pub due_named : (c : Config) (h : History) (d : Direction) (name : Name)
     → IsSound c h
     → due c h d ≡ Some name
     → IsName name

@@ -1,0 +1,3 @@
+pub mod AskedLemmas
+pub mod GrowthLemmas
+pub mod PassLemmas

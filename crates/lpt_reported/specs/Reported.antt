@@ -1,0 +1,173 @@
+-- What verification reports on the link say of the requests that were executed.
+use Rattle.std.specs.Prelude.{◌≡◌, ◌≢◌, ◌⊎◌, ℕ, suc, List, take, drop, slice_get, Option, Some}
+use Rattle.lpt_packet.specs.declared.direction.Direction.TheVariants.{Down}
+use Rattle.lpt_pus.specs.declared.failure_code.FailureCode.{FailureCode}
+use Rattle.lpt_pus.specs.Codes.{number_of}
+use Rattle.lpt_pus.specs.Numbers.{long_at}
+use Rattle.lpt_pus.specs.Telemetry.{Telemetry, telemetry_in}
+use Rattle.lpt_memory.specs.declared.request.AreaRange.{AreaRange}
+use Rattle.lpt_memory.specs.Effects.{dump_body}
+use Rattle.lpt_memory.specs.Meanings.{Dump, meaning}
+use Rattle.lpt_memory.specs.Memories.{Contents, sizes_of, effect}
+use Rattle.lpt_verify.specs.declared.report.Report.{Report as Verification}
+use Rattle.lpt_verify.specs.Reading.{report_in}
+use Rattle.lpt_events.specs.Configs.{IsConfig}
+use Rattle.lpt_events.specs.declared.config.Config.{Config}
+use Rattle.lpt_events.specs.declared.entry.Release.{Release}
+use Rattle.lpt_events.specs.declared.event.Event.{Event}
+use Rattle.lpt_events.specs.declared.event.Event.TheVariants.{Apply}
+use Rattle.lpt_events.specs.TelemetryKinds.{service_of, subtype_of}
+use Rattle.lpt_execution.specs.declared.ending.Ending.{Ending}
+use Rattle.lpt_execution.specs.declared.ending.Ending.TheVariants.{Refused, Carried}
+use Rattle.lpt_execution.specs.declared.ending.Report.{Report}
+use Rattle.lpt_execution.specs.Reporting.{message_reports, request_source}
+use Rattle.lpt_journal.specs.Executions.{ending_of}
+use Rattle.lpt_journal.specs.Jobs.{front_job, executed, memories}
+use Rattle.lpt_journal.specs.Journal.{SentPacket, Recorded, History}
+use Rattle.lpt_journal.specs.Legal.{Legal}
+use Rattle.lpt_journal.specs.Link.{sent}
+use Rattle.lpt_journal.specs.Replies.{recorded}
+
+-- ---- executions
+
+-- An entry executed the oldest request, so that it is one of those that were executed, and ended it
+-- so. The memories are then what it leaves of those before it. Behind an entry stands the history
+-- before it.
+pub record WasExecuted (c : Config) (first : Contents) (h : History) (r : Release)
+    (end : Ending) : Type 0 where
+  pub number : ℕ
+  pub entry : Recorded
+  pub is_there : slice_get h number ≡ Some entry
+  pub applies : entry.event ≡ Apply
+  pub was_oldest : front_job c (drop (suc number) h) ≡ Some r
+  pub ended : ending_of c first (drop (suc number) h) r.message ≡ end
+  pub place : ℕ
+  pub is_executed : slice_get (executed c h) place ≡ Some r
+  pub so_far : executed c (drop (suc number) h) ≡ take place (executed c h)
+  pub left : memories c first (drop number h)
+      ≡ effect
+      (meaning c.apid (sizes_of (memories c first (drop (suc number) h))) r.message)
+      (memories c first (drop (suc number) h))
+
+-- a request of this source and with this request ID, its first four octets, was executed and
+-- carried out
+pub record WasCarriedOut (c : Config) (first : Contents) (h : History)
+    (from request : ℕ) : Type 0 where
+  pub release : Release
+  pub answer : Option Report
+  pub execution : WasExecuted c first h release (Carried answer)
+  pub of_source : request_source c.apid release.message ≡ from
+  pub is_request : long_at release.message 0 ≡ request
+
+-- a request of this source and with this request ID was executed, and failed with this code: no
+-- memory was changed
+pub record HasFailed (c : Config) (first : Contents) (h : History)
+    (from request code : ℕ) : Type 0 where
+  pub release : Release
+  pub fault : FailureCode
+  pub execution : WasExecuted c first h release (Refused fault)
+  pub of_source : request_source c.apid release.message ≡ from
+  pub is_request : long_at release.message 0 ≡ request
+  pub of_code : number_of fault ≡ code
+  pub unchanged : memories c first (drop execution.number h)
+      ≡ memories c first (drop (suc execution.number) h)
+
+-- ---- reports
+
+-- the packet goes down, and is telemetry to this destination, of this service and message subtype,
+-- with this body
+pub record IsTelemetryDown (c : Config) (p : SentPacket) (to service subtype : ℕ)
+    (body : List ℕ) : Type 0 where
+  pub goes_down : p.direction ≡ Down
+  pub telemetry : Telemetry
+  pub is_read : telemetry_in c.apid p.octets ≡ Some telemetry
+  pub goes_to : telemetry.destination ≡ to
+  pub of_service : telemetry.service ≡ service
+  pub of_subtype : telemetry.subtype ≡ subtype
+  pub of_body : telemetry.body ≡ body
+
+-- the packet is a verification report to this destination, of this message subtype, which says this
+pub record IsVerification (c : Config) (p : SentPacket) (to subtype : ℕ)
+    (said : Verification) : Type 0 where
+  pub body : List ℕ
+  pub is_down : IsTelemetryDown c p to 1 subtype body
+  pub says : report_in subtype body ≡ Some said
+
+-- a report of an execution goes to this destination, the source of its request, and has this
+-- service, message subtype and body
+pub record IsReportOf (c : Config) (first : Contents) (h : History) (to service subtype : ℕ)
+    (body : List ℕ) : Type 0 where
+  pub release : Release
+  pub end : Ending
+  pub execution : WasExecuted c first h release end
+  pub number : ℕ
+  pub report : Report
+  pub is_report : slice_get (message_reports c.apid release.message end) number ≡ Some report
+  pub of_source : request_source c.apid release.message ≡ to
+  pub of_service : service_of report.kind ≡ service
+  pub of_subtype : subtype_of report.kind ≡ subtype
+  pub of_body : report.body ≡ body
+
+-- a dump of this source was executed, and this is what it says of the memories as they were then
+pub record WasDumped (c : Config) (first : Contents) (h : History) (from : ℕ)
+    (body : List ℕ) : Type 0 where
+  pub release : Release
+  pub answer : Option Report
+  pub execution : WasExecuted c first h release (Carried answer)
+  pub of_source : request_source c.apid release.message ≡ from
+  pub memory : ℕ
+  pub ranges : List AreaRange
+  pub is_dump : meaning c.apid
+      (sizes_of (memories c first (drop (suc execution.number) h)))
+      release.message
+      ≡ Dump memory ranges
+  pub is_body : body ≡ dump_body memory ranges (memories c first (drop (suc execution.number) h))
+
+-- ---- the laws
+
+-- what goes down and is neither of a part nor of an abortion, both of service 13
+abbrev pub ReportsAreOfExecutions : Type 0
+ReportsAreOfExecutions =
+    (c : Config) (first : Contents) (es : List Event) (n : ℕ) (p : SentPacket)
+    (to service subtype : ℕ) (body : List ℕ)
+    → IsConfig c
+    → Legal c first es
+    → slice_get (sent (recorded c first es)) n ≡ Some p
+    → IsTelemetryDown c p to service subtype body
+    → service ≢ 13
+    → IsReportOf c first (recorded c first es) to service subtype body
+
+-- what a report of a dump says
+abbrev pub DumpedIsMemory : Type 0
+DumpedIsMemory =
+    (c : Config) (first : Contents) (es : List Event) (n : ℕ) (p : SentPacket) (to : ℕ)
+    (body : List ℕ)
+    → IsConfig c
+    → Legal c first es
+    → slice_get (sent (recorded c first es)) n ≡ Some p
+    → IsTelemetryDown c p to 6 6 body
+    → WasDumped c first (recorded c first es) to body
+
+-- what a report of start or of completion says was carried out
+abbrev pub CompletedWasExecuted : Type 0
+CompletedWasExecuted =
+    (c : Config) (first : Contents) (es : List Event) (n : ℕ) (p : SentPacket) (to subtype : ℕ)
+    (said : Verification)
+    → IsConfig c
+    → Legal c first es
+    → slice_get (sent (recorded c first es)) n ≡ Some p
+    → IsVerification c p to subtype said
+    → (subtype ≡ 3) ⊎ (subtype ≡ 7)
+    → WasCarriedOut c first (recorded c first es) to said.request.value
+
+-- what a report of a failure says has failed, and changed nothing
+abbrev pub FailedChangedNothing : Type 0
+FailedChangedNothing =
+    (c : Config) (first : Contents) (es : List Event) (n : ℕ) (p : SentPacket)
+    (to subtype code : ℕ) (said : Verification)
+    → IsConfig c
+    → Legal c first es
+    → slice_get (sent (recorded c first es)) n ≡ Some p
+    → IsVerification c p to subtype said
+    → said.code ≡ Some code
+    → HasFailed c first (recorded c first es) to said.request.value code
