@@ -1,3 +1,4 @@
+mod AloneLemmas
 pub mod CameLemmas
 pub mod HeldsLemmas
 mod OrderLemmas

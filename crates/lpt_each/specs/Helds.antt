@@ -1,9 +1,9 @@
 -- What is kept, as the code has it.
-use Rattle.std.specs.Prelude.{◌≡◌, ℕ, Bool, true, false, List, [], ◌∷◌, Option, Some, None, is_some}
+use Rattle.std.specs.Prelude.{◌≡◌, ℕ, zero, suc, ◌+◌, ◌==◌, ◌&&◌, not, nat_le, Bool, true, false, if◌then◌else◌, List, [], ◌∷◌, Option, Some, None, is_some, is_none}
 use Rattle.std.specs.BTreeMap.{get, IsOrdered}
 use Rattle.std.specs.FinMap as map
 use Rattle.lpt_packet.specs.Names.{Name, name_cmp}
-use Rattle.lpt_reception.specs.Received.{Kept, Parts}
+use Rattle.lpt_reception.specs.Received.{Kept, Parts, is_last}
 use Rattle.lpt_join.specs.declared.joining.Joining.{Joining}
 use Rattle.lpt_join.specs.declared.joining.Joining.TheVariants as joining
 use Rattle.lpt_join.specs.declared.transaction.Transaction.{Transaction}
@@ -22,7 +22,7 @@ use Rattle.lpt_each.specs.declared.run.RunTurn as code_turns
 use Rattle.lpt_each.specs.declared.run.RunTurn.TheVariants as ran
 use Rattle.lpt_each.specs.declared.turn.Turn as code_turn
 use Rattle.lpt_each.specs.declared.turn.Turn.TheVariants as turned
-use Rattle.lpt_each.specs.Eaches.{Course, Held, Run, RunTurn, Goes, Ends, Turn, Waits, GivesUp, Gives, alone, held, is_empty, nothing, seed}
+use Rattle.lpt_each.specs.Eaches.{Course, Held, Run, RunTurn, Goes, Ends, Turn, Waits, GivesUp, Gives, alone, held, higher, is_empty, no_run, nothing, seed}
 use Rattle.lpt_each.specs.News.{Event, News, Given, Dropped, Unfit, Overtaken, dropped, has_end}
 
 -- ---- news
@@ -107,10 +107,50 @@ abbrev pub IsRunTurn : Transaction → code_turns.RunTurn → RunTurn → Type 0
 IsRunTurn t (ran.Goes g) now = (r : Run) × IsRun t g r × (now ≡ Goes r)
 IsRunTurn t (ran.Ends m) now = now ≡ Ends m
 
+-- no message was given out, and nothing is kept but new parts
+abbrev pub IsFirst : Held → Type 0
+IsFirst h = (h.last ≡ None) × (h.all ≡ None)
+
+-- what is held of a name, of which so many parts came alone: in the order of their numbers, and
+-- nothing else; 0 where that isn't so
+abbrev pub first_course : (alone : ℕ) → Held → Course
+first_course alone h = record {
+  held = h;
+  run = if alone == 0 then no_run else record { count = alone; parts = h.new };
+  stale = false;
+  gave = false;
+}
+
+-- these parts came in their order: those that are kept so, or all that are held
+abbrev pub IsRunOf : Transaction → (alone : ℕ) → code_run.Run → Course → Type 0
+IsRunOf t zero g c = IsRun t g c.run
+IsRunOf t (suc k) g c = IsRun t g no_run × IsFirst c.held × (c ≡ first_course (suc k) c.held)
+
+-- how many came alone, with a part more: none where it is a last one
+abbrev pub alone_with : (alone : ℕ) → ℕ × Kept → ℕ
+alone_with k x = if is_last x.1 then 0 else higher k x.0
+
+-- by what is told of it: none where something is
+abbrev pub alone_by : (alone : ℕ) → ℕ × Kept → Option News → ℕ
+alone_by k x None = alone_with k x
+alone_by k x (Some w) = 0
+
+-- whether a part of this number is the next of those that came alone, or one of these again
+abbrev pub goes_on_alone : code_course.Course → (number : ℕ) → Bool
+goes_on_alone g n = not (n == 1) && not (g.alone == 0) && nat_le n (g.alone + 1)
+
+-- whether nothing is held, and no message was given out
+abbrev pub is_new : code.Held → Bool
+is_new h = is_none h.last && is_none h.all && has_nothing h.new
+
+-- whether one of this number is the first that came of the name
+abbrev pub begins_alone : code_course.Course → (number : ℕ) → Bool
+begins_alone g n = (n == 1) && is_new g.held
+
 -- this is kept, by its order too
 pub record Follows (t : Transaction) (g : code_course.Course) (c : Course) : Type 0 where
   pub held : Holds t g.held c.held
-  pub run : IsRun t g.run c.run
+  pub run : IsRunOf t g.alone g.run c
   pub stale : g.stale ≡ c.stale
   pub gave : g.gave ≡ c.gave
 

@@ -1,6 +1,6 @@
 //! What is kept of one name, and by the order in which its parts come.
 
-ghost use Rattle.std.specs.Prelude.{◌≡◌, Bool, Some, IfOk};
+ghost use Rattle.std.specs.Prelude.{◌≡◌, Bool, true, false, Some, IfOk};
 ghost use Rattle.std.specs.Option.{option_map};
 ghost use Rattle.lpt_part.specs.Parts.{piece};
 ghost use Rattle.lpt_join.specs.declared.transaction.Transaction.{Transaction};
@@ -8,7 +8,7 @@ ghost use Rattle.lpt_join.specs.Offers.{part_of_piece};
 ghost use Rattle.lpt_each.specs.Eaches as each;
 ghost use Rattle.lpt_each.specs.Eaches.{unfit};
 ghost use Rattle.lpt_each.specs.Streams.{waiting};
-ghost use Rattle.lpt_each.specs.Helds.{Follows, Holds, IsRun, news_of};
+ghost use Rattle.lpt_each.specs.Helds.{Follows, Holds, IsRun, goes_on_alone, news_of};
 
 use crate::held::Held;
 use crate::run::{Run, RunTurn};
@@ -24,8 +24,11 @@ use std::alloc::{AllocError, Global};
 pub(crate) struct Course {
     // The last message, and what came behind it in any order.
     pub(crate) held: Held,
-    // What came in the order of its numbers.
+    // What came in the order of its numbers, where that isn't all that came of the name.
     pub(crate) run: Run,
+    // How many parts came in the order of their numbers, where nothing else came of the name: they
+    // are what is held, and aren't kept a second time. 0 where that isn't so.
+    pub(crate) alone: u16,
     // Whether some of what came behind the last message came before that.
     pub(crate) stale: bool,
     // Whether a message was given out since that began.
@@ -40,6 +43,7 @@ impl Course {
         Course {
             held: Held::behind(alloc, last),
             run: Run::none(),
+            alone: 0,
             stale: false,
             gave: false,
         }
@@ -88,9 +92,39 @@ impl Course {
             option_map news_of r.1
             ≡ (each.step transaction.now any c (part_of_piece (piece part.now))).1) }
     {
+        if self.goes_on_alone(part.number) {
+            return self.add_alone(alloc, transaction, any, place, part);
+        }
+        if self.begins_alone(part.number) {
+            return self.begin_alone(alloc, transaction, any, place, part);
+        }
+        self.take_apart(alloc, transaction, any, place, part)
+    }
+
+    // Takes a part of a name of which others came than a run. The only error is out of memory.
+    fn take_apart(
+        self,
+        alloc: Global,
+        transaction: &Transaction,
+        any: bool,
+        place: u64,
+        part: &Part<'_>,
+    ) -> Result<(Course, Option<News>), AllocError>
+        requires follows { (c : each.Course) × Follows transaction.now self c }
+        requires id { part.now.id ≡ transaction.now.name.id }
+        requires size { part.now.p ≡ transaction.now.part_size }
+        requires apart { goes_on_alone self part.now.number ≡ false }
+        ensures follows { (c : each.Course) → Follows transaction.now self c → IfOk result (λ r.
+            Follows transaction.now r.0
+            (each.step transaction.now any c (part_of_piece (piece part.now))).0) }
+        ensures told { (c : each.Course) → Follows transaction.now self c → IfOk result (λ r.
+            option_map news_of r.1
+            ≡ (each.step transaction.now any c (part_of_piece (piece part.now))).1) }
+    {
         let Course {
             held,
             run,
+            alone: _,
             stale,
             gave,
         } = self;
@@ -100,6 +134,7 @@ impl Course {
                 let course = Course {
                     held,
                     run,
+                    alone: 0,
                     stale,
                     gave,
                 };
@@ -109,6 +144,7 @@ impl Course {
                 let course = Course {
                     held,
                     run: Run::none(),
+                    alone: 0,
                     stale,
                     gave,
                 };
@@ -131,6 +167,7 @@ impl Course {
         requires follows { (c : each.Course) × Follows transaction.now self c }
         requires id { part.now.id ≡ transaction.now.name.id }
         requires size { part.now.p ≡ transaction.now.part_size }
+        requires apart { self.alone ≡ 0 }
         ensures follows { (c : each.Course) → Follows transaction.now self c → IfOk result (λ o.
             Follows transaction.now o.0
             (each.go_on transaction.now any again c (part_of_piece (piece part.now))).0) }
@@ -141,6 +178,7 @@ impl Course {
         let Course {
             held,
             run,
+            alone: _,
             stale,
             gave,
         } = self;
@@ -164,6 +202,7 @@ impl Course {
         requires follows { (c : each.Course) × Follows transaction.now self c }
         requires id { part.now.id ≡ transaction.now.name.id }
         requires size { part.now.p ≡ transaction.now.part_size }
+        requires apart { self.alone ≡ 0 }
         ensures follows { (c : each.Course) → Follows transaction.now self c → IfOk result (λ o.
             Follows transaction.now o.0 (each.end_run transaction.now any c
             (part_of_piece (piece part.now)) message (unfit transaction.now any message)).0) }
@@ -191,6 +230,7 @@ impl Course {
         requires follows { (c : each.Course) × Follows transaction.now self c }
         requires id { part.now.id ≡ transaction.now.name.id }
         requires size { part.now.p ≡ transaction.now.part_size }
+        requires apart { self.alone ≡ 0 }
         ensures follows { (c : each.Course) → Follows transaction.now self c → IfOk result (λ o.
             Follows transaction.now o.0 (each.end_by transaction.now any c
             (part_of_piece (piece part.now)) message (each.repeats c part.now.number message)).0) }
@@ -249,12 +289,14 @@ fn course_by(held: Held, run: Run, stale: bool, gave: bool, news: &Option<News>)
         None => Course {
             held,
             run,
+            alone: 0,
             stale,
             gave,
         },
         Some(told) => Course {
             held,
             run,
+            alone: 0,
             stale: false,
             gave: gave || is_given(told),
         },

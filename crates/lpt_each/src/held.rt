@@ -1,16 +1,16 @@
 //! What is kept of one name.
 
-ghost use Rattle.std.specs.Prelude.{◌≡◌, ℕ, Bool, Option, IfOk};
+ghost use Rattle.std.specs.Prelude.{◌≡◌, ℕ, Bool, false, Option, IfOk};
 ghost use Rattle.std.specs.FinMap as map;
 ghost use Rattle.std.specs.Option.{option_map};
 ghost use Rattle.lpt_part.specs.Parts.{piece};
-ghost use Rattle.lpt_reception.specs.Received.{Kept, Parts, no_parts};
+ghost use Rattle.lpt_reception.specs.Received.{Kept, Parts, is_whole, no_parts};
 ghost use Rattle.lpt_join.specs.declared.transaction.Transaction.{Transaction};
 ghost use Rattle.lpt_join.specs.Joins.{added};
 ghost use Rattle.lpt_join.specs.Offers.{part_of_piece};
 ghost use Rattle.lpt_each.specs.Eaches as each;
 ghost use Rattle.lpt_each.specs.Streams.{waiting};
-ghost use Rattle.lpt_each.specs.Helds.{AreCame, Holds, IsTurnOfAll, Keeps, KeepsAll, has_nothing, news_of};
+ghost use Rattle.lpt_each.specs.Helds.{AreCame, Holds, IsTurnOfAll, Keeps, KeepsAll, has_nothing, is_new, news_of};
 
 use crate::turn::{Turn, alone, turn_with};
 use crate::{Came, News, Waiting};
@@ -57,6 +57,13 @@ impl Held {
             Joining::Nothing => true,
             _ => false,
         }
+    }
+
+    // Whether nothing came of the name, and no message was given out.
+    pub(crate) fn is_new(&self) -> bool
+        ensures { result ≡ is_new self.now }
+    {
+        self.last.is_none() && self.all.is_none() && self.is_empty()
     }
 
     // Whether this is the last message.
@@ -224,7 +231,7 @@ fn turn_of_all(
 }
 
 // This part alone came behind a message, at this place. The only error is out of memory.
-fn begin(
+pub(crate) fn begin(
     alloc: Global,
     transaction: &Transaction,
     last: Option<Octets>,
@@ -233,8 +240,10 @@ fn begin(
 ) -> Result<Held, AllocError>
     requires id { part.now.id ≡ transaction.now.name.id }
     requires size { part.now.p ≡ transaction.now.part_size }
-    ensures { IfOk result (λ g. Holds transaction.now g (each.begun last
+    ensures holds { IfOk result (λ g. Holds transaction.now g (each.begun last
         (each.alone (part_of_piece (piece part.now))))) }
+    ensures waits { IfOk result (λ _. is_whole
+        (each.alone (part_of_piece (piece part.now))) ≡ false) }
 {
     let all = match &last {
         None => None,

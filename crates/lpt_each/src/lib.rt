@@ -9,6 +9,7 @@
 //! Who does something else with each packet, too, keeps `Helds`, and calls `leave` at the end.
 #![tactic(auto)]
 
+mod alone;
 mod came;
 mod course;
 mod each;

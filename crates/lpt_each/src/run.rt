@@ -97,7 +97,7 @@ fn longer(count: u16, joining: Joining, part: &Part<'_>) -> Run
 }
 
 // Whether it is a last part.
-fn ends(part: &Part<'_>) -> bool
+pub(crate) fn ends(part: &Part<'_>) -> bool
     ensures { result ≡ is_last (part_of_piece (piece part.now)).1 }
 {
     match part.kind {
@@ -108,7 +108,7 @@ fn ends(part: &Part<'_>) -> bool
 }
 
 // The highest of two numbers.
-fn higher(count: u16, number: u16) -> u16
+pub(crate) fn higher(count: u16, number: u16) -> u16
     ensures { result ≡ each.higher count number }
 {
     if count < number {

@@ -1,8 +1,8 @@
 //! What a further part makes of those that came before it.
 
-ghost use Rattle.std.specs.Prelude.{◌≡◌, ℕ, Bool, IfOk};
+ghost use Rattle.std.specs.Prelude.{◌≡◌, ℕ, Bool, false, IfOk};
 ghost use Rattle.lpt_part.specs.Parts.{piece};
-ghost use Rattle.lpt_reception.specs.Received.{no_parts, with_part, Parts};
+ghost use Rattle.lpt_reception.specs.Received.{is_whole, no_parts, with_part, Parts};
 ghost use Rattle.lpt_join.specs.Messages.{Finding};
 ghost use Rattle.lpt_join.specs.Offers.{part_of_piece};
 ghost use Rattle.lpt_each.specs.Eaches.{turn, unfit};
@@ -70,8 +70,10 @@ pub(crate) fn alone(
 ) -> Result<Joining, AllocError>
     requires id { part.now.id ≡ transaction.now.name.id }
     requires size { part.now.p ≡ transaction.now.part_size }
-    ensures { IfOk result (λ j. Keeps transaction.now j
+    ensures keeps { IfOk result (λ j. Keeps transaction.now j
         (with_part no_parts part.now.number (part_of_piece (piece part.now)).1)) }
+    ensures waits { is_whole (with_part no_parts part.now.number
+        (part_of_piece (piece part.now)).1) ≡ false }
 {
     let filling = Filling::start(alloc, part, transaction.part_size)?;
     Ok(Joining::Missing(filling))

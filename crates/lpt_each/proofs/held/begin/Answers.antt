@@ -11,8 +11,8 @@ use Rattle.lpt_each.proofs.StepLemmas.{behind-none, behind-some}
 use Rattle.lpt_each.proofs.held.begin.Goals as goal
 use Rattle.lpt_each.proofs.held.begin.Goals.{in-None, in-Some+in_ok-alone-in-Some}
 
-pub returns : goal.returns
-returns c =
+pub returns-clause-holds : goal.returns-clause-holds
+returns-clause-holds c =
     let t = c.args.transaction.now in
     let x = part_of_piece (piece c.args.part.now) in
     record {
@@ -26,9 +26,9 @@ returns c =
             (sym w.all-is)
             (behind-some t c.args.last w.in-Some.field-0 w.in_ok-alone-in-Some.field-0
             (with_part no_parts x.0 x.1)
-            w.in-Some.is w.in_ok-alone-in-Some.ensures)
+            w.in-Some.is w.in_ok-alone-in-Some.ensures.keeps)
       ];
-      new = c.in_ok-new.ensures;
+      new = c.in_ok-new.ensures.keeps;
       came = came-alone c.none.result c.in_ok-came.came x.0 x.1
           (came-none c.none.result c.none.ensures.none c.none.ensures.ended)
           c.in_ok-came.ensures.came c.in_ok-came.ensures.ended;

@@ -6,8 +6,8 @@ use Rattle.lpt_join.specs.Offers.{part_of_piece}
 use Rattle.lpt_each.proofs.TurnLemmas.{empty-more}
 use Rattle.lpt_each.proofs.turn.alone.Goals as goal
 
-pub returns : goal.returns
-returns c =
+pub returns-clause-keeps : goal.returns-clause-keeps
+returns-clause-keeps c =
     let x = part_of_piece (piece c.args.part.now) in
     record {
       of = (

@@ -4,6 +4,7 @@ use Rattle.lpt_join.specs.Offers.{part_of_piece}
 use Rattle.lpt_each.specs.Eaches.{course_by, gather, gave_before}
 use Rattle.lpt_each.specs.Helds.{Follows}
 use Rattle.lpt_each.specs.News.{News}
+use Rattle.lpt_each.proofs.AloneLemmas.{run-apart}
 use Rattle.lpt_each.proofs.course.Course.go_on.Goals as goal
 
 pub returns-clause-follows : goal.returns-clause-follows
@@ -21,4 +22,5 @@ returns-clause-follows c = λ k h.
     Follows t c.course_by.result
     (course_by k.run c.staleness-stale.result c.since-gave.result g.0 o))
     (c.in_ok-held.ensures.told k.held h.held)
-    (c.course_by.ensures t g.0 k.run (c.in_ok-held.ensures.held k.held h.held) h.run)))
+    (c.course_by.ensures t g.0 k.run (c.in_ok-held.ensures.held k.held h.held)
+    (run-apart t c.args.self.alone c.args.self.run k c.requires.apart h.run))))

@@ -86,7 +86,7 @@ returns-in_ok-held-in-Broken-clause-held c = λ h k.
     (dropped h.new)
     (alone x) (sym c.if-old.false ∙ c.is_old-old.ensures) w)
     (subst (λ (l : Option (List ℕ)). Holds t c.in_ok-held-in-Broken.held (begun l (alone x)))
-    k.last c.in_ok-held-in-Broken.ensures)
+    k.last c.in_ok-held-in-Broken.ensures.holds)
 
 pub returns-in_ok-held-in-Broken-clause-told : goal.returns-in_ok-held-in-Broken-clause-told
 returns-in_ok-held-in-Broken-clause-told c = λ h k.
