@@ -1,5 +1,5 @@
--- What was told by request ID is what reports tell, one after the other.
-use Rattle.std.proofs.Common.{◌≡◌, ◌∙◌, ap, sym, refl, ℕ, ◌==◌, eq-eqb, Bool, true, false, if◌then◌else◌, List, [], ◌∷◌, ◌++◌, map, Option, Some, None}
+-- What was told by source and request ID is what reports tell, one after the other.
+use Rattle.std.proofs.Common.{◌≡◌, ◌∙◌, ap, sym, refl, ℕ, ◌==◌, Bool, true, false, if◌then◌else◌, List, [], ◌∷◌, ◌++◌, map, Option, Some, None}
 use Rattle.std.specs.Prelude.{◌||◌}
 use Rattle.std.specs.List.{flat_map, list_any}
 use Rattle.std.specs.Option.{option_or}
@@ -8,9 +8,11 @@ use Rattle.lpt_outcomes.specs.declared.asked.Asked.{Asked}
 use Rattle.lpt_outcomes.specs.declared.news.News.{News}
 use Rattle.lpt_outcomes.specs.declared.outcome.Outcome.{Outcome}
 use Rattle.lpt_outcomes.specs.Answers.{heard_at, joined, told_at, with_told}
-use Rattle.lpt_outcomes.specs.Lines.{has_id, line_of}
+use Rattle.lpt_outcomes.specs.Keys.{Key, key_of, reported_key, same_key}
+use Rattle.lpt_outcomes.specs.Lines.{has_key, line_of}
 use Rattle.lpt_outcomes.specs.Reports.{all_heard, heard, told, told_by}
 use Rattle.lpt_outcomes.specs.Requests.{nothing_told}
+use Rattle.lpt_outcomes.proofs.KeyLemmas.{same-self}
 
 -- ---- what was told first, and what was told then
 
@@ -61,17 +63,17 @@ one a [] = a
 one a (n ∷ ns) = one (heard n a) ns
 
 one-told : (a : Asked) (s : Outcome) (ns : List News)
-    → with_told a (told_at a.request.value ns (Some s)) ≡ one (with_told a (Some s)) ns
+    → with_told a (told_at (key_of a) ns (Some s)) ≡ one (with_told a (Some s)) ns
 one-told a s [] = refl
 one-told a s (n ∷ ns) =
-    by_id (a.request.value == n.report.request.value) refl (one-told a (told s n) ns)
+    by_id (same_key (reported_key n) (key_of a)) refl (one-told a (told s n) ns)
     (one-told a s ns)
   where
-    by_id : (b : Bool) → (a.request.value == n.report.request.value) ≡ b
-        → with_told a (told_at a.request.value ns (Some (told s n)))
+    by_id : (b : Bool) → same_key (reported_key n) (key_of a) ≡ b
+        → with_told a (told_at (key_of a) ns (Some (told s n)))
         ≡ one (with_told a (Some (told s n))) ns
-        → with_told a (told_at a.request.value ns (Some s)) ≡ one (with_told a (Some s)) ns
-        → with_told a (told_at a.request.value (n ∷ ns) (Some s))
+        → with_told a (told_at (key_of a) ns (Some s)) ≡ one (with_told a (Some s)) ns
+        → with_told a (told_at (key_of a) (n ∷ ns) (Some s))
         ≡ one (with_told a (Some s)) (n ∷ ns)
     by_id true e own other =
         rw e (own ∙ ap (λ (o : Outcome). one (record a { outcome = o }) ns)
@@ -80,7 +82,7 @@ one-told a s (n ∷ ns) =
 
 -- from nothing on
 one-answered : (a : Asked) (ns : List News)
-    → with_told a (told_at a.request.value ns (Some nothing_told)) ≡ one a ns
+    → with_told a (told_at (key_of a) ns (Some nothing_told)) ≡ one a ns
 one-answered a ns =
     one-told a nothing_told ns
     ∙ ap (λ (o : Outcome). one (record a { outcome = o }) ns) (joined-nothing a.outcome)
@@ -96,38 +98,38 @@ heard-one : (a : Asked) (rest : List Asked) (ns : List News)
 heard-one a rest [] = refl
 heard-one a rest (n ∷ ns) = heard-one (heard n a) (map (heard n) rest) ns
 
--- requests with what was told on their request IDs
-pub answered-heard : (m : ℕ → Option Outcome) (requests : List Asked) (ns : List News)
-    → ((id : ℕ) → list_any (has_id id) requests ≡ true → m id ≡ told_at id ns (Some nothing_told))
-    → map (λ a. with_told a (m a.request.value)) requests ≡ all_heard requests ns
+-- requests with what was told on them
+pub answered-heard : (m : Key → Option Outcome) (requests : List Asked) (ns : List News)
+    → ((k : Key) → list_any (has_key k) requests ≡ true → m k ≡ told_at k ns (Some nothing_told))
+    → map (λ a. with_told a (m (key_of a))) requests ≡ all_heard requests ns
 answered-heard m [] ns h = sym (heard-none ns)
 answered-heard m (a ∷ rest) ns h =
-    let id = a.request.value in
-    let own = h id (ap (λ b. b || list_any (has_id id) rest) (eq-eqb id id refl)) in
+    let k = key_of a in
+    let own = h k (ap (λ b. b || list_any (has_key k) rest) (same-self k)) in
     let others = answered-heard m rest ns
-    (λ i some. h i (ap (λ b. has_id i a || b) some ∙ or-true (has_id i a))) in
-    ap (λ o. with_told a o ∷ map (λ a. with_told a (m a.request.value)) rest) own
-    ∙ ap (λ x. x ∷ map (λ a. with_told a (m a.request.value)) rest) (one-answered a ns)
+    (λ i some. h i (ap (λ b. has_key i a || b) some ∙ or-true (has_key i a))) in
+    ap (λ o. with_told a o ∷ map (λ a. with_told a (m (key_of a))) rest) own
+    ∙ ap (λ x. x ∷ map (λ a. with_told a (m (key_of a))) rest) (one-answered a ns)
     ∙ ap (λ xs. one a ns ∷ xs) others
     ∙ sym (heard-one a rest ns)
 
 -- ---- one more report
 
-pub told_at-next : (id : ℕ) (ns : List News) (n : News) (o : Option Outcome)
-    → told_at id (ns ++ n ∷ []) o ≡ heard_at id n (told_at id ns o)
-told_at-next id [] n o = refl
-told_at-next id (m ∷ ns) n o = told_at-next id ns n (heard_at id m o)
+pub told_at-next : (k : Key) (ns : List News) (n : News) (o : Option Outcome)
+    → told_at k (ns ++ n ∷ []) o ≡ heard_at k n (told_at k ns o)
+told_at-next k [] n o = refl
+told_at-next k (m ∷ ns) n o = told_at-next k ns n (heard_at k m o)
 
 -- ---- lines
 
 -- by the same numbers the lines are the same
-pub lines-counted : (form : Form) (f g : ℕ → ℕ)
-    → ((id : ℕ) → f id ≡ g id)
+pub lines-counted : (form : Form) (f g : Key → ℕ)
+    → ((k : Key) → f k ≡ g k)
     → (requests : List Asked)
-    → flat_map (λ a. line_of form (f a.request.value) a) requests
-    ≡ flat_map (λ a. line_of form (g a.request.value) a) requests
+    → flat_map (λ a. line_of form (f (key_of a)) a) requests
+    ≡ flat_map (λ a. line_of form (g (key_of a)) a) requests
 lines-counted form f g same [] = refl
 lines-counted form f g same (a ∷ rest) =
-    ap (λ n. line_of form n a ++ flat_map (λ a. line_of form (f a.request.value) a) rest)
-    (same a.request.value)
-    ∙ ap (λ t. line_of form (g a.request.value) a ++ t) (lines-counted form f g same rest)
+    ap (λ n. line_of form n a ++ flat_map (λ a. line_of form (f (key_of a)) a) rest)
+    (same (key_of a))
+    ∙ ap (λ t. line_of form (g (key_of a)) a ++ t) (lines-counted form f g same rest)

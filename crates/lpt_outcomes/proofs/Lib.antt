@@ -1,3 +1,4 @@
 pub mod AnswerLemmas
+pub mod KeyLemmas
 pub mod SettleLemmas
 pub mod TakeLemmas

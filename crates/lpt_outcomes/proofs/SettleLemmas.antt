@@ -1,5 +1,5 @@
 -- What is sent on a request settles it.
-use Rattle.std.proofs.Common.{◌≡◌, ◌∙◌, ap, sym, refl, ℕ, ◌<◌, ◌^◌, eq-eqb, nat_le, Bool, true, false, if◌then◌else◌, List, [], ◌∷◌, ◌++◌, map, Option, Some, None, IfSome, append-nil}
+use Rattle.std.proofs.Common.{◌≡◌, ◌∙◌, ap, sym, refl, ℕ, ◌<◌, ◌^◌, nat_le, Bool, true, false, if◌then◌else◌, List, [], ◌∷◌, ◌++◌, map, Option, Some, None, IfSome, append-nil}
 use Rattle.std.specs.Prelude.{not, is_some, ◌&&◌, ◌||◌}
 use Rattle.std.specs.List.{filter_map}
 use Rattle.std.specs.Option.{option_map}
@@ -13,9 +13,11 @@ use Rattle.lpt_verify.proofs.ReadingLemmas.{IsReport-read}
 use Rattle.lpt_outcomes.specs.declared.asked.Asked.{Asked}
 use Rattle.lpt_outcomes.specs.declared.news.News.{News}
 use Rattle.lpt_outcomes.specs.declared.outcome.Outcome.{Outcome}
+use Rattle.lpt_outcomes.specs.Keys.{key_of}
 use Rattle.lpt_outcomes.specs.Requests.{nothing_told}
 use Rattle.lpt_outcomes.specs.Reports.{all_heard, heard, news, told_by}
 use Rattle.lpt_outcomes.specs.Settled.{answered, has_last, is_acknowledged, is_settled, news_sent}
+use Rattle.lpt_outcomes.proofs.KeyLemmas.{same-self}
 
 -- ---- one report
 
@@ -23,20 +25,21 @@ use Rattle.lpt_outcomes.specs.Settled.{answered, has_last, is_acknowledged, is_s
 abbrev on : ℕ → Option ℕ → Report
 on id code = record { request = record { value = id }; code = code }
 
-success-told : (id k : ℕ) → id < 2 ^ 32 → is_success k ≡ true
-    → news_sent (success id k) ≡ Some (news k (on id None))
-success-told id k fits coded =
-    ap (option_map (news k)) (IsReport-read k (be id 4) (on id None) (record {
+success-told : (to id k : ℕ) → id < 2 ^ 32 → is_success k ≡ true
+    → news_sent to (success id k) ≡ Some (news to k (on id None))
+success-told to id k fits coded =
+    ap (option_map (news to k)) (IsReport-read k (be id 4) (on id None) (record {
       is_coded = coded;
       request_fits = fits;
       code_fits = tt;
       spelled = sym (append-nil (be id 4));
     }))
 
-failure-told : (id k code : ℕ) → id < 2 ^ 32 → code < 2 ^ 16 → is_failure k ≡ true
-    → news_sent (failure id k code) ≡ Some (news k (on id (Some code)))
-failure-told id k code fits code_fits coded =
-    ap (option_map (news k)) (IsReport-read k (be id 4 ++ be code 2) (on id (Some code)) (record {
+failure-told : (to id k code : ℕ) → id < 2 ^ 32 → code < 2 ^ 16 → is_failure k ≡ true
+    → news_sent to (failure id k code) ≡ Some (news to k (on id (Some code)))
+failure-told to id k code fits code_fits coded =
+    ap (option_map (news to k))
+    (IsReport-read k (be id 4 ++ be code 2) (on id (Some code)) (record {
       is_coded = coded;
       request_fits = fits;
       code_fits = code_fits;
@@ -45,8 +48,9 @@ failure-told id k code fits code_fits coded =
 
 -- what a request becomes by it
 own : (a : Asked) (k : ℕ) (code : Option ℕ)
-    → heard (news k (on a.request.value code)) a ≡ record a { outcome = told_by a.outcome k code }
-own a k code = rw (eq-eqb a.request.value a.request.value refl) refl
+    → heard (news a.source k (on a.request.value code)) a
+    ≡ record a { outcome = told_by a.outcome k code }
+own a k code = rw (same-self (key_of a)) refl
 
 -- ---- reports one after the other
 
@@ -55,31 +59,31 @@ heard-append : (requests : List Asked) (ns ms : List News)
 heard-append requests [] ms = refl
 heard-append requests (n ∷ ns) ms = heard-append (map (heard n) requests) ns ms
 
--- what requests become by reports that are sent
-abbrev sent : List Asked → List EncodedReport → List Asked
-sent requests es = all_heard requests (filter_map news_sent es)
+-- what requests become by reports that are sent to a destination
+abbrev sent : (to : ℕ) → List Asked → List EncodedReport → List Asked
+sent to requests es = all_heard requests (filter_map (news_sent to) es)
 
-sent-append : (requests : List Asked) (es fs : List EncodedReport)
-    → sent requests (es ++ fs) ≡ sent (sent requests es) fs
-sent-append requests es fs =
-    ap (all_heard requests) (filter_map-append news_sent es fs)
-    ∙ heard-append requests (filter_map news_sent es) (filter_map news_sent fs)
+sent-append : (to : ℕ) (requests : List Asked) (es fs : List EncodedReport)
+    → sent to requests (es ++ fs) ≡ sent to (sent to requests es) fs
+sent-append to requests es fs =
+    ap (all_heard requests) (filter_map-append (news_sent to) es fs)
+    ∙ heard-append requests (filter_map (news_sent to) es) (filter_map (news_sent to) fs)
 
 -- a success that may be asked for
 by_success : (a : Asked) (x : Bool) (k : ℕ) → a.request.value < 2 ^ 32 → is_success k ≡ true
-    → sent (a ∷ []) (success_if x a.request.value k)
+    → sent a.source (a ∷ []) (success_if x a.request.value k)
     ≡ (record a { outcome = (if x then told_by a.outcome k None else a.outcome) }) ∷ []
 by_success a false k fits coded = refl
 by_success a true k fits coded =
-    rw (success-told a.request.value k fits coded) (ap (λ b. b ∷ []) (own a k None))
+    rw (success-told a.source a.request.value k fits coded) (ap (λ b. b ∷ []) (own a k None))
 
 -- and a failure
 by_failure : (a : Asked) (k code : ℕ) → a.request.value < 2 ^ 32 → code < 2 ^ 16
     → is_failure k ≡ true
-    → sent (a ∷ []) (failure a.request.value k code ∷ [])
+    → sent a.source (a ∷ []) (failure a.request.value k code ∷ [])
     ≡ (record a { outcome = told_by a.outcome k (Some code) }) ∷ []
 by_failure a k code fits code_fits coded =
-    rw (failure-told a.request.value k code fits code_fits coded)
+    rw (failure-told a.source a.request.value k code fits code_fits coded)
     (ap (λ b. b ∷ []) (own a k (Some code)))
 
 -- ---- all reports
@@ -120,9 +124,10 @@ told_is false false false = refl
 
 -- of a request that was carried out
 carried_out : (a : Asked) → a.request.value < 2 ^ 32 → a.outcome ≡ nothing_told
-    → map is_settled (answered a.request.value a.flags None (a ∷ []))
+    → map is_settled (answered a.source a.request.value a.flags None (a ∷ []))
     ≡ is_acknowledged a.flags ∷ []
 carried_out a fits before =
+    let s = a.source in
     let v = a.request.value in
     let x = asks a.flags 1 in
     let y = asks a.flags 2 in
@@ -131,15 +136,15 @@ carried_out a fits before =
     let one : Asked = record a { outcome = told a.outcome x 1 } in
     let two : Asked = record a { outcome = told one.outcome y 3 } in
     let three : Asked = record a { outcome = told two.outcome z 7 } in
-    let first : sent (a ∷ []) (success_if x v 1) ≡ one ∷ [] = by_success a x 1 fits refl in
-    let second : sent (one ∷ []) (success_if y v 3) ≡ two ∷ [] = by_success one y 3 fits refl in
-    let third : sent (two ∷ []) (success_if z v 7) ≡ three ∷ [] = by_success two z 7 fits refl in
-    let all : answered v a.flags None (a ∷ []) ≡ three ∷ [] =
-    sent-append (a ∷ []) (success_if x v 1 ++ success_if y v 3) (success_if z v 7)
-    ∙ ap (λ rs. sent rs (success_if z v 7))
-    (sent-append (a ∷ []) (success_if x v 1) (success_if y v 3))
-    ∙ ap (λ rs. sent (sent rs (success_if y v 3)) (success_if z v 7)) first
-    ∙ ap (λ rs. sent rs (success_if z v 7)) second ∙ third in
+    let first : sent s (a ∷ []) (success_if x v 1) ≡ one ∷ [] = by_success a x 1 fits refl in
+    let second : sent s (one ∷ []) (success_if y v 3) ≡ two ∷ [] = by_success one y 3 fits refl in
+    let third : sent s (two ∷ []) (success_if z v 7) ≡ three ∷ [] = by_success two z 7 fits refl in
+    let all : answered s v a.flags None (a ∷ []) ≡ three ∷ [] =
+    sent-append s (a ∷ []) (success_if x v 1 ++ success_if y v 3) (success_if z v 7)
+    ∙ ap (λ rs. sent s rs (success_if z v 7))
+    (sent-append s (a ∷ []) (success_if x v 1) (success_if y v 3))
+    ∙ ap (λ rs. sent s (sent s rs (success_if y v 3)) (success_if z v 7)) first
+    ∙ ap (λ rs. sent s rs (success_if z v 7)) second ∙ third in
     let is : three.outcome ≡ all_told x y z =
     ap (λ (o : Outcome). told (told (told o x 1) y 3) z 7) before ∙ told_is x y z in
     ap (map is_settled) all
@@ -160,16 +165,19 @@ none_yet o false h = h
 -- of a request that failed
 failed : (a : Asked) (code : ℕ) → a.request.value < 2 ^ 32 → code < 2 ^ 16
     → a.outcome ≡ nothing_told
-    → map is_settled (answered a.request.value a.flags (Some code) (a ∷ [])) ≡ false ∷ []
+    → map is_settled (answered a.source a.request.value a.flags (Some code) (a ∷ [])) ≡ false ∷ []
 failed a code fits code_fits before = go (nat_le code 2) where
   none : a.outcome.failure ≡ None
   none = ap (λ (o : Outcome). o.failure) before
+
+  s : ℕ
+  s = a.source
 
   v : ℕ
   v = a.request.value
 
   go : (early : Bool)
-      → map is_settled (sent (a ∷ [])
+      → map is_settled (sent s (a ∷ [])
       ((if early then failure v 2 code ∷ []
       else success_if (asks a.flags 1) v 1 ++ failure v 4 code ∷ []) ++ []))
       ≡ false ∷ []
@@ -180,10 +188,10 @@ failed a code fits code_fits before = go (nat_le code 2) where
       let x = asks a.flags 1 in
       let first : Outcome = if x then told_by a.outcome 1 None else a.outcome in
       let one : Asked = record a { outcome = first } in
-      ap (λ es. map is_settled (sent (a ∷ []) es))
+      ap (λ es. map is_settled (sent s (a ∷ []) es))
       (append-nil (success_if x v 1 ++ failure v 4 code ∷ []))
-      ∙ ap (map is_settled) (sent-append (a ∷ []) (success_if x v 1) (failure v 4 code ∷ []))
-      ∙ ap (λ rs. map is_settled (sent rs (failure v 4 code ∷ []))) (by_success a x 1 fits refl)
+      ∙ ap (map is_settled) (sent-append s (a ∷ []) (success_if x v 1) (failure v 4 code ∷ []))
+      ∙ ap (λ rs. map is_settled (sent s rs (failure v 4 code ∷ []))) (by_success a x 1 fits refl)
       ∙ ap (map is_settled) (by_failure one 4 code fits code_fits refl)
       ∙ ap (λ b. b ∷ []) (unsettled one 4 code (none_yet a.outcome x none))
 
@@ -191,7 +199,7 @@ pub answered-settled : (a : Asked) (code : Option ℕ)
     → a.request.value < 2 ^ 32
     → IfSome code (λ c. c < 2 ^ 16)
     → a.outcome ≡ nothing_told
-    → map is_settled (answered a.request.value a.flags code (a ∷ []))
+    → map is_settled (answered a.source a.request.value a.flags code (a ∷ []))
     ≡ (not (is_some code) && is_acknowledged a.flags) ∷ []
 answered-settled a None fits code_fits before = carried_out a fits before
 answered-settled a (Some code) fits code_fits before = failed a code fits code_fits before

@@ -10,6 +10,7 @@ use Rattle.lpt_outcomes.specs.declared.outcome.Outcome.{Outcome}
 use Rattle.lpt_outcomes.specs.declared.passed.Beside.{Beside}
 use Rattle.lpt_outcomes.specs.declared.passed.Passed.{Passed}
 use Rattle.lpt_outcomes.specs.Answers.{heard_at, told_at}
+use Rattle.lpt_outcomes.specs.Keys.{Key}
 use Rattle.lpt_outcomes.specs.Passing.{found, in_piece, met, passed_over, IsPassed}
 use Rattle.lpt_outcomes.specs.Reports.{news_in, news_of}
 use Rattle.lpt_outcomes.proofs.AnswerLemmas.{told_at-next}
@@ -79,19 +80,20 @@ passed-more read ps p b t is h =
 -- ---- reports
 
 -- a piece that is none
-pub unheard : (id : ℕ) (first now : Option Outcome) (ps : List Piece) (p : Piece) (b : Beside)
-    → now ≡ told_at id (news_of ps) first
+pub unheard : (k : Key) (first now : Option Outcome) (ps : List Piece) (p : Piece) (b : Beside)
+    → now ≡ told_at k (news_of ps) first
     → in_piece news_in p.kind p.octets ≡ Err b
-    → now ≡ told_at id (news_of (ps ++ p ∷ [])) first
-unheard id first now ps p b h is =
-    h ∙ ap (λ ns. told_at id ns first) (sym (found-same news_in ps p b is))
+    → now ≡ told_at k (news_of (ps ++ p ∷ [])) first
+unheard k first now ps p b h is =
+    h ∙ ap (λ ns. told_at k ns first) (sym (found-same news_in ps p b is))
 
 -- and one that is
-pub heard_more : (id : ℕ) (first now more : Option Outcome) (ps : List Piece) (p : Piece) (n : News)
-    → now ≡ told_at id (news_of ps) first
+pub heard_more : (k : Key) (first now more : Option Outcome) (ps : List Piece) (p : Piece)
+    → (n : News)
+    → now ≡ told_at k (news_of ps) first
     → in_piece news_in p.kind p.octets ≡ Ok n
-    → more ≡ heard_at id n now
-    → more ≡ told_at id (news_of (ps ++ p ∷ [])) first
-heard_more id first now more ps p n h is e =
-    e ∙ ap (heard_at id n) h ∙ sym (told_at-next id (news_of ps) n first)
-    ∙ ap (λ ns. told_at id ns first) (sym (found-more news_in ps p n is))
+    → more ≡ heard_at k n now
+    → more ≡ told_at k (news_of (ps ++ p ∷ [])) first
+heard_more k first now more ps p n h is e =
+    e ∙ ap (heard_at k n) h ∙ sym (told_at-next k (news_of ps) n first)
+    ∙ ap (λ ns. told_at k ns first) (sym (found-more news_in ps p n is))

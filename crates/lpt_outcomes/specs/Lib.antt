@@ -1,4 +1,5 @@
 pub mod Answers
+pub mod Keys
 pub mod Lines
 pub mod Passing
 pub mod Reports

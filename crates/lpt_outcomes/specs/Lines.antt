@@ -9,6 +9,7 @@ use Rattle.lpt_list.specs.Items.{Item, Number, Alone, areas_said, items_text}
 use Rattle.lpt_list.specs.Lists.{closing}
 use Rattle.lpt_outcomes.specs.declared.asked.Asked.{Asked}
 use Rattle.lpt_outcomes.specs.declared.outcome.Outcome.{Outcome}
+use Rattle.lpt_outcomes.specs.Keys.{Key, key_of, same_key}
 use Rattle.lpt_outcomes.specs.Settled.{is_acknowledged}
 
 -- ---- what is asked
@@ -87,11 +88,11 @@ pending_text form a =
 
 -- ---- the lines
 
--- how many requests have a request ID, where it isn't one alone
+-- how many requests have a source and a request ID, where it isn't one alone
 abbrev pub shared_said : ℕ → List Item
 shared_said n = if nat_lt 1 n then Number (codes "shared by") (codes "sharers") n ∷ [] else []
 
--- the line of a request whose request ID so many requests have
+-- the line of a request whose source and request ID so many requests have
 abbrev pub line_of : Form → (sharers : ℕ) → Asked → List ℕ
 line_of form n a =
     opening form a.request.value
@@ -103,17 +104,17 @@ line_of form n a =
     ++ items_text form (shared_said n)
     ++ closing form
 
--- whether a request has this request ID
-abbrev pub has_id : (id : ℕ) → Asked → Bool
-has_id id a = a.request.value == id
+-- whether a request has this source and this request ID
+abbrev pub has_key : Key → Asked → Bool
+has_key k a = same_key (key_of a) k
 
--- how many of these requests have it
-abbrev pub with_id : List Asked → (id : ℕ) → ℕ
-with_id requests id = count_by (has_id id) requests
+-- how many of these requests have them
+abbrev pub with_key : List Asked → Key → ℕ
+with_key requests k = count_by (has_key k) requests
 
--- how many of these requests have the request ID of this one
+-- how many of these requests have those of this one
 abbrev pub sharers : List Asked → Asked → ℕ
-sharers requests a = with_id requests a.request.value
+sharers requests a = with_key requests (key_of a)
 
 -- a line for each request
 abbrev pub lines_of : Form → List Asked → List ℕ

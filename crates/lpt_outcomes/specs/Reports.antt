@@ -13,24 +13,25 @@ use Rattle.lpt_outcomes.specs.declared.news.News.{News}
 use Rattle.lpt_outcomes.specs.declared.outcome.Outcome.{Outcome}
 use Rattle.lpt_outcomes.specs.declared.passed.Beside.{Beside}
 use Rattle.lpt_outcomes.specs.declared.passed.Beside.TheVariants.{Foreign, Unread, Quiet}
+use Rattle.lpt_outcomes.specs.Keys.{key_of, reported_key, same_key}
 use Rattle.lpt_outcomes.specs.Passing.{found}
 
 -- ---- a report
 
--- a report of this subtype
-abbrev pub news : (subtype : ℕ) → Report → News
-news subtype r = record { subtype = subtype; report = r }
+-- a report to this destination, of this subtype
+abbrev pub news : (destination subtype : ℕ) → Report → News
+news destination subtype r = record { destination = destination; subtype = subtype; report = r }
 
--- the body of a verification report of this subtype; one of progress that succeeded (5) tells of
--- nothing that is waited for
-abbrev pub news_of_body : (subtype : ℕ) → List ℕ → Result News Beside
-news_of_body subtype body =
-    option_map_or (λ r. Ok (news subtype r)) (report_in subtype body)
+-- the body of a verification report to this destination, of this subtype; one of progress that
+-- succeeded (5) tells of nothing that is waited for
+abbrev pub news_of_body : (destination subtype : ℕ) → List ℕ → Result News Beside
+news_of_body destination subtype body =
+    option_map_or (λ r. Ok (news destination subtype r)) (report_in subtype body)
     (if subtype == 5 then Err Quiet else Err Unread)
 
 -- a packet that is read as telemetry, or isn't
 abbrev pub news_by : Result Telemetry PusFault → Result News Beside
-news_by (Ok t) = if t.service == 1 then news_of_body t.subtype t.body else Err Quiet
+news_by (Ok t) = if t.service == 1 then news_of_body t.destination t.subtype t.body else Err Quiet
 news_by (Err e) = Err Foreign
 
 -- octets of this verdict: of a packet without a secondary header there is nothing to tell
@@ -61,11 +62,10 @@ told_by o subtype None =
 abbrev pub told : Outcome → News → Outcome
 told o n = told_by o n.subtype n.report.code
 
--- a request with it, where the report is on its request ID
+-- a request with it, where the report is on this one
 abbrev pub heard : News → Asked → Asked
 heard n a =
-    if a.request.value == n.report.request.value then (record a { outcome = told a.outcome n })
-    else a
+    if same_key (reported_key n) (key_of a) then (record a { outcome = told a.outcome n }) else a
 
 -- requests with what reports tell, one after the other
 abbrev pub all_heard : List Asked → List News → List Asked

@@ -1,5 +1,5 @@
 -- The requests of a stream.
-use Rattle.std.specs.Prelude.{ℕ, false, if◌then◌else◌, List, is_some, Option, None, Result, Ok, Err}
+use Rattle.std.specs.Prelude.{ℕ, false, if◌then◌else◌, List, is_some, None, Result, Ok, Err}
 use Rattle.std.specs.Option.{option_map_or}
 use Rattle.lpt_packet.specs.declared.direction.Direction.TheVariants.{Up}
 use Rattle.lpt_packet.specs.declared.fault.PacketFault.{PacketFault}
@@ -23,6 +23,7 @@ nothing_told = record { accepted = false; started = false; completed = false; fa
 -- a telecommand of this request ID
 abbrev pub asked : (id : ℕ) → Command → Asked
 asked id c = record {
+  source = c.source;
   request = record { value = id };
   apid = c.apid;
   count = c.count;

@@ -36,12 +36,12 @@ pub record AreSettled (requests : List Asked) (of_requests of_reports : Passed) 
   pub all_read : IsTrue (is_nothing of_requests)
   pub all_heard : IsTrue (is_nothing of_reports)
 
--- what a report that is sent tells
-abbrev pub news_sent : EncodedReport → Option News
-news_sent e = option_map (news e.subtype) (report_in e.subtype e.body)
+-- what a report that is sent to this destination tells
+abbrev pub news_sent : (destination : ℕ) → EncodedReport → Option News
+news_sent destination e = option_map (news destination e.subtype) (report_in e.subtype e.body)
 
--- requests once all reports have come that are sent on one of this request ID and these flags,
--- which failed with this code or was carried out
-abbrev pub answered : (id flags : ℕ) → (code : Option ℕ) → List Asked → List Asked
-answered id flags code requests =
-    all_heard requests (filter_map news_sent (all_reports id flags code))
+-- requests once all reports have come that are sent on one of this source, this request ID and
+-- these flags, which failed with this code or was carried out
+abbrev pub answered : (source id flags : ℕ) → (code : Option ℕ) → List Asked → List Asked
+answered source id flags code requests =
+    all_heard requests (filter_map (news_sent source) (all_reports id flags code))

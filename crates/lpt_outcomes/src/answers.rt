@@ -1,43 +1,44 @@
-//! What was told by request ID.
+//! What was told by source and request ID.
 
-ghost use Rattle.std.specs.Prelude.{◌≡◌, ℕ, map, IfOk};
+ghost use Rattle.std.specs.Prelude.{◌≡◌, map, IfOk};
 ghost use Rattle.std.specs.BTreeMap.{get};
 ghost use Rattle.std.specs.Map.{count_at};
-ghost use Rattle.std.specs.Ordering.{nat_cmp};
 ghost use Rattle.lpt_outcomes.specs.Answers.{answered_by, heard_at, untold};
-ghost use Rattle.lpt_outcomes.specs.Lines.{with_id};
+ghost use Rattle.lpt_outcomes.specs.Keys.{Key, key_cmp, key_of};
+ghost use Rattle.lpt_outcomes.specs.Lines.{with_key};
 
+use crate::key::Key;
 use crate::news::News;
 use crate::{Asked, Outcome};
 use std::alloc::{AllocError, Global};
 use std::collections::BTreeMap;
 
-// Each request ID of these requests, of which nothing was told. The only error is out of memory.
+// The key of each of these requests, of which nothing was told. The only error is out of memory.
 pub(crate) fn untold(
     alloc: Global,
     requests: &[Asked],
-) -> Result<BTreeMap<u32, Outcome>, AllocError>
-    ensures { IfOk result (λ m. (id : ℕ) → get nat_cmp m id ≡ untold requests.now id) }
+) -> Result<BTreeMap<Key, Outcome>, AllocError>
+    ensures { IfOk result (λ m. (k : Key) → get key_cmp m k ≡ untold requests.now k) }
 {
     let mut outcomes = BTreeMap::new(alloc);
     for asked in requests {
-        outcomes.insert(asked.request.value, Outcome::new())?;
+        outcomes.insert(asked.key(), Outcome::new())?;
     }
     Ok(outcomes)
 }
 
-// Takes what a report tells, where its request ID is there.
-pub(crate) fn hear(outcomes: &mut BTreeMap<u32, Outcome>, news: &News)
-    ensures { (id : ℕ) → get nat_cmp outcomes.new id
-        ≡ heard_at id news.now (get nat_cmp outcomes.old id) }
+// Takes what a report tells, where the request that it is on is there.
+pub(crate) fn hear(outcomes: &mut BTreeMap<Key, Outcome>, news: &News)
+    ensures { (k : Key) → get key_cmp outcomes.new k
+        ≡ heard_at k news.now (get key_cmp outcomes.old k) }
 {
-    if let Some(outcome) = outcomes.get_mut(&news.report.request.value) {
+    if let Some(outcome) = outcomes.get_mut(&news.key()) {
         *outcome = outcome.told(news);
     }
 }
 
-// Tells each request what was told on its request ID.
-pub(crate) fn answer(requests: &mut [Asked], outcomes: &BTreeMap<u32, Outcome>)
+// Tells each request what was told on it.
+pub(crate) fn answer(requests: &mut [Asked], outcomes: &BTreeMap<Key, Outcome>)
     ensures { requests.new ≡ map (answered_by outcomes.now) requests.old }
 {
     for asked in requests.iter_mut() {
@@ -45,26 +46,26 @@ pub(crate) fn answer(requests: &mut [Asked], outcomes: &BTreeMap<u32, Outcome>)
     }
 }
 
-// How many of these requests have each request ID. The only error is out of memory.
+// How many of these requests have each key. The only error is out of memory.
 pub(crate) fn count_sharers(
     alloc: Global,
     requests: &[Asked],
-) -> Result<BTreeMap<u32, u64>, AllocError>
-    ensures { IfOk result (λ m. (id : ℕ) → count_at (get nat_cmp m) id ≡ with_id requests.now id) }
+) -> Result<BTreeMap<Key, u64>, AllocError>
+    ensures { IfOk result (λ m. (k : Key) → count_at (get key_cmp m) k ≡ with_key requests.now k) }
 {
     let mut counts = BTreeMap::new(alloc);
     for asked in requests {
         let count = sharers(&counts, asked);
-        counts.insert(asked.request.value, count + 1)?;
+        counts.insert(asked.key(), count + 1)?;
     }
     Ok(counts)
 }
 
-// How many of the requests that were counted have the request ID of this one.
-pub(crate) fn sharers(counts: &BTreeMap<u32, u64>, asked: &Asked) -> u64
-    ensures { result ≡ count_at (get nat_cmp counts.now) asked.now.request.value }
+// How many of the requests that were counted have the key of this one.
+pub(crate) fn sharers(counts: &BTreeMap<Key, u64>, asked: &Asked) -> u64
+    ensures { result ≡ count_at (get key_cmp counts.now) (key_of asked.now) }
 {
-    match counts.get(&asked.request.value) {
+    match counts.get(&asked.key()) {
         Some(count) => *count,
         None => 0,
     }

@@ -3,6 +3,7 @@
 ghost use Rattle.std.specs.Prelude.{◌↔◌, IsTrue, All};
 ghost use Rattle.lpt_outcomes.specs.Settled.{is_settled, AreSettled};
 
+use crate::key::Key;
 use crate::{Outcome, Passed};
 use lpt_areas::Areas;
 use lpt_pus::RequestId;
@@ -11,6 +12,8 @@ use std::collections::BTreeMap;
 /// A telecommand of a stream, and what reports have told of it.
 #[derive(Clone, Copy)]
 pub struct Asked {
+    /// The source ID, the destination of reports on it.
+    pub source: u16,
     /// Its request ID.
     pub request: RequestId,
     /// The application process identifier, 0 to 2046.
@@ -33,13 +36,24 @@ pub struct Asked {
 impl Asked {
     ghost use Rattle.std.specs.Prelude.{◌≡◌};
     ghost use Rattle.lpt_outcomes.specs.Answers.{answered_by};
+    ghost use Rattle.lpt_outcomes.specs.Keys.{key_of};
     ghost use Rattle.lpt_outcomes.specs.Settled.{is_acknowledged, is_settled};
 
-    // Takes what was told on its request ID, where that is there.
-    pub(crate) fn answer(&mut self, outcomes: &BTreeMap<u32, Outcome>)
+    // What names it.
+    pub(crate) fn key(&self) -> Key
+        ensures { result ≡ key_of self.now }
+    {
+        Key {
+            source: self.source,
+            id: self.request.value,
+        }
+    }
+
+    // Takes what was told on it, where that is there.
+    pub(crate) fn answer(&mut self, outcomes: &BTreeMap<Key, Outcome>)
         ensures { self.new ≡ answered_by outcomes.now self.old }
     {
-        if let Some(outcome) = outcomes.get(&self.request.value) {
+        if let Some(outcome) = outcomes.get(&self.key()) {
             self.outcome = self.outcome.joined(outcome);
         }
     }

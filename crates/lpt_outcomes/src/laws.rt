@@ -10,6 +10,6 @@ ghost use Rattle.lpt_outcomes.specs.Settled.{answered, is_acknowledged, is_settl
 pub fn answered_is_settled()
     ensures { (a : Asked) (code : Option ℕ) → a.request.value < 2 ^ 32
         → IfSome code (λ c. c < 2 ^ 16) → a.outcome ≡ nothing_told
-        → map is_settled (answered a.request.value a.flags code (a ∷ []))
+        → map is_settled (answered a.source a.request.value a.flags code (a ∷ []))
         ≡ (not (is_some code) && is_acknowledged a.flags) ∷ [] }
 {}

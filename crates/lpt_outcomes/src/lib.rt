@@ -1,12 +1,12 @@
 //! What became of requests: the telecommands of one stream, matched with the verification reports
-//! of another (ECSS-E-ST-70-41C, service 1) by request ID, which is the first four octets of a
-//! telecommand's packet.
+//! of another (ECSS-E-ST-70-41C, service 1): a report's destination is its request's source, and it
+//! says the request ID, which is the first four octets of a telecommand's packet.
 //!
 //! A request that comes in parts isn't put together here, and a part isn't judged. So the requests
 //! are given as they were written, before they were split.
 //!
-//! A count comes again behind 16,384 requests, and then two requests have one request ID: a report
-//! on it is told of both, and the lines of both say that they share it.
+//! A count comes again behind 16,384 requests, and then two requests of a source have one request
+//! ID: a report on it is told of both, and the lines of both say that they share it.
 //!
 //! The main types are `Asked`, a request, and `Outcome`, what reports have told of it; `Passed` is
 //! how much of a stream was passed over. The first calls are `read_requests` and `read_reports`,
@@ -15,6 +15,7 @@
 
 mod answers;
 mod asked;
+mod key;
 pub mod laws;
 mod lines;
 mod news;

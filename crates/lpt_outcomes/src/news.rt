@@ -1,10 +1,27 @@
 //! What a report tells.
 
+use crate::key::Key;
 use lpt_verify::Report;
 
-/// A verification report: its message subtype, and what its body says.
+/// A verification report: its destination, its message subtype, and what its body says.
 #[derive(Clone, Copy)]
 pub(crate) struct News {
+    pub(crate) destination: u16,
     pub(crate) subtype: u8,
     pub(crate) report: Report,
+}
+
+impl News {
+    ghost use Rattle.std.specs.Prelude.{◌≡◌};
+    ghost use Rattle.lpt_outcomes.specs.Keys.{reported_key};
+
+    // Which request it is on.
+    pub(crate) fn key(&self) -> Key
+        ensures { result ≡ reported_key self.now }
+    {
+        Key {
+            source: self.destination,
+            id: self.report.request.value,
+        }
+    }
 }

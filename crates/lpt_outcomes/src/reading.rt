@@ -58,6 +58,7 @@ fn request_in(octets: &[u8]) -> Result<Asked, Beside>
         return Err(Beside::Part);
     }
     Ok(Asked {
+        source: head.source,
         request: RequestId { value },
         apid: head.apid,
         count: head.count,
@@ -96,15 +97,19 @@ fn news_in(octets: &[u8]) -> Result<News, Beside>
     if head.service != VERIFICATION {
         return Err(Beside::Quiet);
     }
-    news_in_body(head.subtype, body)
+    news_in_body(head.destination, head.subtype, body)
 }
 
-// What the body of a verification report of this subtype tells.
-fn news_in_body(subtype: u8, body: &[u8]) -> Result<News, Beside>
-    ensures { result ≡ news_of_body subtype body.now }
+// What the body of a verification report to this destination, of this subtype, tells.
+fn news_in_body(destination: u16, subtype: u8, body: &[u8]) -> Result<News, Beside>
+    ensures { result ≡ news_of_body destination subtype body.now }
 {
     match read_report(subtype, body) {
-        Some(report) => Ok(News { subtype, report }),
+        Some(report) => Ok(News {
+            destination,
+            subtype,
+            report,
+        }),
         None if subtype == PROGRESS => Err(Beside::Quiet),
         None => Err(Beside::Unread),
     }

@@ -7,6 +7,7 @@ ghost use Rattle.lpt_outcomes.specs.Passing.{passed_over, IsPassed};
 ghost use Rattle.lpt_outcomes.specs.Reports.{all_heard, news_in, news_of};
 
 use crate::answers::{answer, hear, untold};
+use crate::key::Key;
 use crate::reading::news_in_piece;
 use crate::{Asked, Outcome, Passed};
 use lpt_stream::{PieceKind, PieceTaker, each_piece};
@@ -15,8 +16,8 @@ use std::alloc::Global;
 use std::collections::BTreeMap;
 
 /// Tells requests of the verification reports among the packets of a stream, one after the other:
-/// each is told of all requests with its request ID, by which it is looked up. What is none is
-/// counted, but for idle packets and other telemetry.
+/// each is told of all requests whose source is its destination and that have its request ID, by
+/// which it is looked up. What is none is counted, but for idle packets and other telemetry.
 ///
 /// Errors: `Read` where a read failed, or where 2^64 - 1 pieces came; `Memory`. The requests are
 /// unchanged.
@@ -44,23 +45,23 @@ pub fn read_reports<S: Source>(
     Ok(last.passed)
 }
 
-// What was told so far on each request ID of the requests, and what was passed over.
+// What was told so far on each key of the requests, and what was passed over.
 #[derive(Drop)]
 struct ReportTaker {
-    outcomes: BTreeMap<u32, Outcome>,
+    outcomes: BTreeMap<Key, Outcome>,
     passed: Passed,
 }
 
 impl PieceTaker<()> for ReportTaker {
-    ghost use Rattle.std.specs.Prelude.{◌≡◌, ℕ};
+    ghost use Rattle.std.specs.Prelude.{◌≡◌};
     ghost use Rattle.std.specs.BTreeMap.{get};
-    ghost use Rattle.std.specs.Ordering.{nat_cmp};
     ghost use Rattle.lpt_outcomes.specs.Answers.{told_at};
+    ghost use Rattle.lpt_outcomes.specs.Keys.{Key, key_cmp};
     ghost use Rattle.lpt_outcomes.specs.Passing.{passed_over, IsPassed};
     ghost use Rattle.lpt_outcomes.specs.Reports.{news_in, news_of};
 
-    ghost takes = { λ first now old new pieces. ((id : ℕ) → get nat_cmp now.outcomes id
-        ≡ told_at id (news_of pieces) (get nat_cmp first.outcomes id))
+    ghost takes = { λ first now old new pieces. ((k : Key) → get key_cmp now.outcomes k
+        ≡ told_at k (news_of pieces) (get key_cmp first.outcomes k))
         × IsPassed (passed_over news_in pieces) now.passed };
 
     ghost fails = { λ e. ⊥ };

@@ -1,9 +1,12 @@
 -- One request more.
-use Rattle.std.proofs.Common.{arith}
-use Rattle.std.proofs.lemmas.Grind.{common_steps}
-use Rattle.std.proofs.lemmas.List.Sums.{count_by_more_no, count_by_more_yes}
+use Rattle.std.proofs.Common.{rules}
+use Rattle.std.specs.BTreeMap.{get}
+use Rattle.lpt_outcomes.specs.Keys.{key_cmp}
+use Rattle.lpt_outcomes.proofs.KeyLemmas.{counted-put}
 use Rattle.lpt_outcomes.proofs.answers.count_sharers.Goals as goal
 
 pub loop-asked-preserved : goal.loop-asked-preserved
-loop-asked-preserved c = λ id.
-    grind (arith, common_steps, count_by_more_yes, count_by_more_no, c.loop-asked.invariant id)
+loop-asked-preserved c = λ k.
+    counted-put c.args.requests.now c.loop-asked.asked-index _ c.key.result k c.sharers-count.result
+    (get key_cmp c.loop-asked.counts) _ (search rules) c.key.ensures c.sharers-count.ensures
+    (c.loop-asked.invariant k) (c.in_ok-insert.ensures.updates.0 k)

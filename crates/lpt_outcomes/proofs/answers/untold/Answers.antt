@@ -1,15 +1,10 @@
 -- One request more.
-use Rattle.std.proofs.Common.{arith}
-use Rattle.std.proofs.lemmas.Grind.{common_steps}
-use Rattle.std.proofs.lemmas.List.Folds.{list_any_more}
-use Rattle.lpt_outcomes.specs.Lines.{has_id}
+use Rattle.std.proofs.Common.{rules}
+use Rattle.lpt_outcomes.proofs.KeyLemmas.{untold-put}
 use Rattle.lpt_outcomes.proofs.answers.untold.Goals as goal
 
 pub loop-asked-preserved : goal.loop-asked-preserved
-loop-asked-preserved c = λ id.
-    grind (
-      arith,
-      common_steps,
-      list_any_more (has_id id) c.args.requests.now c.loop-asked.asked-index,
-      c.loop-asked.invariant id,
-    )
+loop-asked-preserved c = λ k.
+    untold-put c.args.requests.now c.loop-asked.asked-index _ c.key.result k c.new.result _ _
+    (search rules) c.key.ensures c.new.ensures (c.loop-asked.invariant k)
+    (c.in_ok-insert.ensures.updates.0 k)

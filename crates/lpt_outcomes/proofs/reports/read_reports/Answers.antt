@@ -1,8 +1,8 @@
--- What was told by request ID is what the reports of the stream tell.
+-- What was told by source and request ID is what the reports of the stream tell.
 use Rattle.std.proofs.Common.{◌∙◌, ap, if◌then◌else◌, Some, None}
 use Rattle.std.specs.BTreeMap.{get}
-use Rattle.std.specs.Ordering.{nat_cmp}
 use Rattle.lpt_outcomes.specs.Answers.{told_at}
+use Rattle.lpt_outcomes.specs.Keys.{key_cmp}
 use Rattle.lpt_outcomes.specs.Reports.{news_of}
 use Rattle.lpt_outcomes.specs.Requests.{nothing_told}
 use Rattle.lpt_outcomes.proofs.AnswerLemmas.{answered-heard}
@@ -19,9 +19,9 @@ returns-clause-heard g c =
       read.4,
       (
         c.answer.ensures
-            ∙ answered-heard (get nat_cmp m) c.args.requests.now (news_of read.1)
-            (λ id some. read.5.0 id ∙ ap (told_at id (news_of read.1))
-            (c.in_ok-untold.ensures id ∙ ap (λ b. if b then Some nothing_told else None) some)),
+            ∙ answered-heard (get key_cmp m) c.args.requests.now (news_of read.1)
+            (λ k some. read.5.0 k ∙ ap (told_at k (news_of read.1))
+            (c.in_ok-untold.ensures k ∙ ap (λ b. if b then Some nothing_told else None) some)),
         read.5.1,
       ),
     )
