@@ -8,7 +8,8 @@ from dataclasses import dataclass
 from typing import Iterator
 
 FUNCTION = re.compile(r"( *)(?:pub(?:\([a-z]+\))? )?(?:const |unsafe |extern \"C\" )*fn (\w+)")
-IMPL = re.compile(r"impl(?:<.*?>)? (?:(?:\w+::)*(\w+)(?:<(.*)>)? for )?(\w+)")
+IMPL = re.compile(r"impl(?:<(.*?)>)? (?:(?:\w+::)*(\w+)(?:<(.*)>)? for )?(\w+)")
+PARAMETER = re.compile(r"(?:^|, )(\w+)")
 TYPE = re.compile(r"^(?:pub(?:\([a-z]+\))? )?(?:struct|enum|union) (\w+)", re.MULTILINE)
 
 
@@ -34,7 +35,7 @@ def functions_of(path: str, text: str) -> Iterator[Function]:
     for head, line in enumerate(lines):
         impl, function = IMPL.match(line), FUNCTION.match(line)
         if impl:
-            owner, is_own = owner_of(impl), not impl[1]
+            owner, is_own = owner_of(impl), not impl[2]
         elif line.startswith("}"):
             owner = None
         if not function or function[1] and owner is None:
@@ -50,8 +51,9 @@ def functions_of(path: str, text: str) -> Iterator[Function]:
 
 
 def owner_of(impl: re.Match[str]) -> str:
-    """What the methods of an impl go by: its type, its trait, and the unit that this is given."""
-    return impl[3] + (impl[1] or "") + ("Unit" if impl[2] == "()" else "")
+    """What the methods of an impl go by: its type, or `Any`; its trait, and the unit that this is given."""
+    any_type = impl[4] in PARAMETER.findall(impl[1] or "")
+    return ("Any" if any_type else impl[4]) + (impl[2] or "") + ("Unit" if impl[3] == "()" else "")
 
 
 def opening_of(lines: list[str], head: int, indent: str) -> int:
