@@ -319,9 +319,9 @@ enum LptFailure {
     LPT_FAILURE_TOO_MANY_OPEN = 8
 };
 
-/* The longest packet, and the longest message that is sent in parts, in octets; and so many of a
-   stream as always show which piece is in front. */
-enum { LPT_LONGEST_PACKET = 65542, LPT_LOOKAHEAD = 131084 };
+/* The longest packet, and the longest message that is sent in parts, in octets; so many of a stream
+   as always show which piece is in front; and the room that lpt_count_strays is quick with. */
+enum { LPT_LONGEST_PACKET = 65542, LPT_LOOKAHEAD = 131084, LPT_STRAY_ROOM = 2049 };
 
 /* ---- packets ---- */
 
@@ -351,6 +351,18 @@ uint32_t lpt_packet_length(const uint8_t *octets, size_t octets_len, size_t *len
 LPT_MUST_USE
 uint32_t lpt_find_piece(const uint8_t *octets, size_t octets_len, uint32_t in_step, uint32_t is_end,
                         uint32_t *kind, size_t *size);
+
+/*
+ * Counts the octets in front of a stream that are part of no packet, right after an octet that is
+ * none: so many times, one after the other, lpt_find_piece with `in_step` 0 would tell
+ * LPT_PIECE_STRAY. At most LPT_LONGEST_PACKET at a call, and 0 where it would tell something else.
+ * If headers among them announce long packets, this is much quicker: what it works out is kept in
+ * `room` during the call. With LPT_STRAY_ROOM numbers there each octet takes a bounded time; with
+ * fewer, or with none, the answer is the same. `room` needn't be set before, nor kept.
+ */
+LPT_MUST_USE
+size_t lpt_count_strays(const uint8_t *octets, size_t octets_len, uint32_t is_end, uint16_t *room,
+                        size_t room_len);
 
 /* A packet that was read: what stands at octets[at], len octets long, is its data field. */
 typedef struct LptPacket {

@@ -64,6 +64,7 @@ static void read_all(const uint8_t *octets, size_t len)
     LptChecked checked = {0, 0, 0, 0, 0};
     size_t length = 0, size = 0;
     uint32_t kind = 0;
+    uint16_t room[3] = {0, 0, 0};
     /* One random number a statement: the order of a call's arguments is the compiler's. */
     uint32_t part_size = below(1100), subtype = below(12), number = below(4), of_part = below(5);
     uint32_t in_step = below(3), is_end = below(3);
@@ -72,6 +73,7 @@ static void read_all(const uint8_t *octets, size_t len)
     note(lpt_packet_length(octets, len, &length));
     note(lpt_find_piece(octets, len, in_step, is_end, &kind, &size));
     note(length + 31 * size + 1009 * kind);
+    note(lpt_count_strays(octets, len, is_end, room, below(4)));
     note(lpt_read_packet(octets, len, &packet));
     note(packet.kind + 7 * (uint64_t)packet.apid + 65537 * (uint64_t)packet.count);
     note(packet.at + 131 * packet.len);

@@ -71,6 +71,7 @@ static void codecs(void) {
     EXPECT(lpt_crc16(NULL, 0) == 0xffff);
     EXPECT(lpt_packet_length(NULL, 0, &length) == LPT_E_MORE);
     EXPECT(lpt_find_piece(NULL, 0, 1, 1, &kind, &size) != LPT_DONE);
+    EXPECT(lpt_count_strays(NULL, 0, 1, NULL, 0) == 0);
     EXPECT(lpt_read_packet(NULL, 0, &read) == LPT_E_SHORT);
     EXPECT(lpt_read_tc(NULL, 0, &command) == LPT_E_SHORT);
     EXPECT(lpt_read_tm(NULL, 0, &told) == LPT_E_SHORT);

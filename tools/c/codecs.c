@@ -157,6 +157,8 @@ static void lengths(void) {
     EXPECT(lpt_packet_length(other, 1, &length) == LPT_E_VERSION && length == sizeof IDLE);
 }
 
+static uint16_t ROOM[LPT_STRAY_ROOM];
+
 /* The piece in front of octets has to be of this kind and size; nothing is said where it is 0. */
 static void is_piece(int line, const uint8_t *octets, size_t len, uint32_t in_step, uint32_t is_end,
                      uint32_t kind, size_t size) {
@@ -167,6 +169,10 @@ static void is_piece(int line, const uint8_t *octets, size_t len, uint32_t in_st
     look(said == (uint32_t)(kind == 0 ? LPT_E_MORE : LPT_DONE), line, "lpt_find_piece answers so");
     look(got == (kind == 0 ? 9 : kind) && has == (kind == 0 ? 99999 : size), line,
          "lpt_find_piece tells this kind and size");
+    if (!in_step) {
+        size_t strays = lpt_count_strays(front, len, is_end, ROOM, LPT_STRAY_ROOM);
+        look((strays > 0) == (kind == LPT_PIECE_STRAY), line, "lpt_count_strays agrees");
+    }
     free(front);
 }
 
@@ -198,6 +204,12 @@ static void pieces(void) {
     PIECE(stream, sizeof stream - 1, 1, 1, LPT_PIECE_STRAY, 1);
     PIECE(stream, first, 1, 0, 0, 0);
     PIECE(stream, first, 1, 1, LPT_PIECE_DAMAGED, first);
+    /* Out of step a damaged packet's octets are of none, up to the packet behind it. */
+    EXPECT(lpt_count_strays(stream, sizeof stream, 0, ROOM, LPT_STRAY_ROOM) == first);
+    EXPECT(lpt_count_strays(stream, sizeof stream, 0, ROOM, 0) == first);
+    EXPECT(lpt_count_strays(stream, sizeof stream, 0, NULL, 0) == first);
+    EXPECT(lpt_count_strays(stream + first, sizeof LAST, 1, ROOM, LPT_STRAY_ROOM) == 0);
+    EXPECT(lpt_count_strays(stream, first, 1, ROOM, 1) == first);
     stream[first] = 0x38;
     PIECE(stream, sizeof stream, 1, 0, LPT_PIECE_STRAY, 1);
 }

@@ -82,10 +82,12 @@ def values(made):
 
 
 def given(words):
-    """Words as they are passed: octets as a pointer and a length, structures by a pointer."""
+    """Words as they are passed: octets and arrays as a pointer and a length, structures by a pointer."""
     for word in words:
         if isinstance(word, bytes):
             yield from (ctypes.c_char_p(word), SIZE(len(word)))
+        elif isinstance(word, ctypes.Array):
+            yield from (word, SIZE(len(word)))
         else:
             yield U32(word) if isinstance(word, int) else ctypes.byref(word)
 
@@ -275,6 +277,17 @@ class Turns:
             pieces.append(stream[at : at + size])
             at, in_step = at + size, int(kind != 3)
         self.calls.wants("all of it", b"".join(pieces), stream)
+        self.strays(stream[self.random.randrange(len(stream) + 1) :])
+
+    def strays(self, octets):
+        """So many octets of none are in front as pieces are found, one behind the other, out of step."""
+        for is_end in (0, 1):
+            strays = 0
+            while told_piece(octets[strays:], 0, is_end)[:2] == (0, 3):
+                strays += 1
+            room = (ctypes.c_uint16 * self.random.choice([0, 1, 2, 9]))()
+            got = self.calls.call("lpt_count_strays", octets, is_end, room)
+            self.calls.wants(f"strays {octets.hex()} {is_end}", got, strays)
 
     def memories(self):
         """Loads, and reports of dumps, whole or damaged."""

@@ -40,7 +40,7 @@ pub use parts::{
     LptPart, lpt_build_part, lpt_part_count, lpt_part_kind, lpt_read_part, lpt_slice_part,
     lpt_write_part,
 };
-pub use pieces::lpt_find_piece;
+pub use pieces::{lpt_count_strays, lpt_find_piece};
 pub use reports::{LptReport, lpt_read_report, lpt_write_report};
 pub use requests::{LptRange, lpt_write_check, lpt_write_dump};
 pub use streams::lpt_packet_length;

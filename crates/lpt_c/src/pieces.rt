@@ -1,14 +1,16 @@
 //! The pieces of a stream, where not all of it is packets.
 
-ghost use Rattle.std.specs.Prelude.{◌≡◌, ◌≤◌, length, IfOk};
+ghost use Rattle.std.specs.Prelude.{◌≡◌, ◌≤◌, length, min, IfOk};
+ghost use Rattle.lpt_packet.specs.Sizes.{longest_packet};
 ghost use Rattle.lpt_stream.specs.Fronts.{Stays};
 ghost use Rattle.lpt_stream.specs.Pieces.{lookahead};
+ghost use Rattle.lpt_stream.specs.Strays.{strays_in};
 ghost use Rattle.lpt_c.specs.Codes.{done};
 ghost use Rattle.lpt_c.specs.Pieces.{is_set, kind_number, piece_read};
 ghost use Rattle.lpt_c.specs.Readings.{code_read, left_in};
 
 use crate::codes::{DONE, MORE};
-use lpt_stream::{PieceKind, piece_in_front};
+use lpt_stream::{PieceKind, piece_in_front, strays_in_front};
 
 /// Finds the piece in front of octets of a stream: its kind, 1 a packet, 2 a damaged one, 3 an
 /// octet with which none of these begins; and how many octets it has. In step an idle packet is
@@ -41,6 +43,18 @@ pub fn lpt_find_piece(
     *kind = number_of(found.kind);
     *size = found.len;
     DONE
+}
+
+/// Counts the octets in front of a stream that are none of a packet, one behind the other, right
+/// behind such an octet: so many times `lpt_find_piece` with `in_step` 0 would tell kind 3. At most
+/// 65,542. `is_end` isn't 0 where nothing comes behind the octets.
+///
+/// What it works out goes into `room`: with 2,049 numbers in it an octet takes a bounded time,
+/// however long the packets are that headers announce. With fewer the answer is the same.
+pub fn lpt_count_strays(octets: &[u8], is_end: u32, room: &mut [u16]) -> usize
+    ensures { result ≡ min longest_packet (strays_in (is_set is_end) octets.now) }
+{
+    strays_in_front(octets, is_end != 0, room)
 }
 
 // The number of a kind.

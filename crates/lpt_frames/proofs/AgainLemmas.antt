@@ -7,7 +7,7 @@ use Rattle.lpt_stream.specs.declared.found.Found.{Found}
 use Rattle.lpt_stream.specs.declared.piece_kind.PieceKind.{PieceKind}
 use Rattle.lpt_stream.specs.declared.piece_kind.PieceKind.TheVariants.{Whole, Damaged, Stray}
 use Rattle.lpt_stream.specs.Fronts.{found_in, shown_piece, Stays}
-use Rattle.lpt_stream.specs.Pieces.{Piece, begins, is_framed, is_passed, lookahead, may_begin, piece_at, waits}
+use Rattle.lpt_stream.specs.Pieces.{Piece, begins, is_framed, is_passed, lookahead, may_begin, piece_at, piece_by, waits}
 use Rattle.lpt_stream.proofs.StreamLemmas.{word_at-front}
 use Rattle.lpt_frames.specs.Stretches.{begins_again, IsFront, NeverBegins}
 
@@ -31,7 +31,7 @@ pub packet-again : (b : List ℕ) (f : Found)
     → Stays false false b (found_in b f)
     → f.kind ≡ Whole
     → (more : List ℕ) → begins_again (b ++ more) ≡ true
-unfolding piece_at
+unfolding piece_by
 packet-again b f stays is more =
     packet_kind (begins false (take lookahead (b ++ more)))
     (is_passed (take lookahead (b ++ more)))
@@ -42,7 +42,7 @@ pub none-again : (b : List ℕ) (f : Found)
     → Stays false false b (found_in b f)
     → (f.kind ≡ Damaged) ⊎ (f.kind ≡ Stray)
     → NeverBegins b
-unfolding piece_at
+unfolding piece_by
 none-again b f stays is more =
     other_kind (begins false (take lookahead (b ++ more)))
     (is_passed (take lookahead (b ++ more))) f.kind

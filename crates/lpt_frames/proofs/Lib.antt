@@ -1,4 +1,5 @@
 pub mod AgainLemmas
 pub mod FrameLemmas
+pub mod PushLemmas
 pub mod RunLemmas
 pub mod StretchLemmas

@@ -2,7 +2,8 @@
 
 ghost use Rattle.std.specs.Prelude.{◌≡◌, ◌+◌, ◌<◌, ◌^◌};
 
-use crate::{FrameBuffer, Front, Peer};
+use crate::{FrameBuffer, Front};
+use lpt_stream::Peer;
 use lpt_text::{Sink, StreamFault};
 
 /// Octets that were passed over, since no packet begins with them.

@@ -3,8 +3,9 @@
 ghost use Rattle.std.specs.Prelude.{◌≤◌, length};
 ghost use Rattle.lpt_frames.specs.Frames.{most_kept};
 
+use crate::Front;
 use crate::front::front_by;
-use crate::{Front, Peer};
+use lpt_stream::Peer;
 use lpt_text::{Sink, StreamFault, flush_out};
 use std::alloc::Global;
 

@@ -11,10 +11,9 @@ mod again;
 mod buffer;
 mod front;
 pub mod laws;
-mod peer;
 
 pub use again::Skipped;
 pub use buffer::FrameBuffer;
 pub use front::Front;
+pub use lpt_stream::Peer;
 pub use lpt_text::{Sink, Source, StreamFault};
-pub use peer::Peer;

@@ -1,3 +1,4 @@
 pub mod RegisterLemmas
 pub mod SumLemmas
+pub mod MarkLemmas
 pub mod SearchLemmas

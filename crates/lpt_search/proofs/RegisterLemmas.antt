@@ -15,7 +15,7 @@ octets_in-none : (r : ℕ) → octets_in r [] ≡ r
 unfolding octets_in
 octets_in-none r = refl
 
-octets_in-one : (r x : ℕ) → octets_in r (x ∷ []) ≡ shift_all r (bits x)
+pub octets_in-one : (r x : ℕ) → octets_in r (x ∷ []) ≡ shift_all r (bits x)
 unfolding octets_in
 octets_in-one r x = refl
 

@@ -112,6 +112,19 @@ pub zeros-last : (n r : ℕ) → zeros_in r (suc n) ≡ shift_all (zeros_in r n)
 zeros-last zero r = refl
 zeros-last (suc n) r = zeros-last n (shift_all r (bits 0))
 
+-- behind others
+zeros-add : (m n r : ℕ) → zeros_in (zeros_in r m) n ≡ zeros_in r (m + n)
+zeros-add zero n r =
+    let same : n ≡ 0 + n = omega arith in
+    ap (zeros_in r) same
+zeros-add (suc m) n r =
+    let one : suc (m + n) ≡ suc m + n = omega arith in
+    zeros-add m n (shift_all r (bits 0)) ∙ ap (zeros_in r) one
+
+-- as many again
+pub zeros-twice : (n half : ℕ) → half ≡ zeros_in 1 n → zeros_in half n ≡ zeros_in 1 (n + n)
+zeros-twice n half h = ap (λ r. zeros_in r n) h ∙ zeros-add n n 1
+
 -- a register without its lowest bit, moved
 doubled : (a : ℕ) → a < 32768 → shift a 0 ≡ a * 2
 doubled a h =

@@ -1,5 +1,5 @@
 -- The registers of the checksum along a stretch of octets.
-use Rattle.std.specs.Prelude.{◌≡◌, ℕ, zero, suc, ◌+◌, ◌<◌, ◌≤◌, List, length, take, get_or}
+use Rattle.std.specs.Prelude.{◌≡◌, ℕ, zero, suc, ◌+◌, ◌*◌, ◌<◌, ◌≤◌, List, length, take, get_or}
 use Rattle.lpt_packet.specs.Checksums.{bits, shift_all, octets_in}
 
 -- so many registers are kept at most: those of the two longest packets
@@ -25,3 +25,9 @@ AreRegisters at registers octets =
     (n : ℕ) → at + n < length registers
     → (n ≤ length octets)
     × (get_or registers (at + n) 0 ≡ octets_in (get_or registers at 0) (take n octets))
+
+-- so many numbers are the registers before each 64th octet, from the front on, the first one 0
+abbrev pub AreMarks : (marked : ℕ) → (room octets : List ℕ) → Type 0
+AreMarks marked room octets =
+    (n : ℕ) → n < marked
+    → (n * 64 ≤ length octets) × (get_or room n 0 ≡ octets_in 0 (take (n * 64) octets))

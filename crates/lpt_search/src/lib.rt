@@ -6,10 +6,13 @@
 //! as many zeros, and of what the octets make of another register. So the register before each
 //! octet of a stretch gives the checksum of each frame in it.
 //!
-//! The main type is `Search`. The first call is its `may_fit`.
+//! The main type is `Search`, which keeps a register for each octet. The first call is its
+//! `may_fit`. `Marks` has the same call without a heap: it keeps one for each 64 octets.
 #![tactic(auto)]
 
+mod marks;
 mod register;
 mod search;
 
+pub use marks::Marks;
 pub use search::Search;

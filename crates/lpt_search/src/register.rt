@@ -1,7 +1,7 @@
 //! The checksum's register: an octet further, and behind zeros.
 
 ghost use Rattle.std.specs.Prelude.{◌≡◌, ◌/◌, ◌<◌, ℕ};
-ghost use Rattle.lpt_packet.specs.Checksums.{bits, shift, shift_all};
+ghost use Rattle.lpt_packet.specs.Checksums.{bits, octets_in, shift, shift_all};
 ghost use Rattle.lpt_search.specs.Registers.{zeros_in};
 
 // Shifts one bit in.
@@ -22,6 +22,17 @@ pub(crate) fn octet_in(register: u16, octet: u8) -> u16
     ensures { result ≡ shift_all register (bits octet) }
 {
     (register << 8) ^ of_octet((register >> 8) as u8 ^ octet)
+}
+
+// Shifts these octets in.
+pub(crate) fn octets_in(first: u16, octets: &[u8]) -> u16
+    ensures { result ≡ octets_in first octets.now }
+{
+    let mut register = first;
+    for octet in octets {
+        register = octet_in(register, *octet);
+    }
+    register
 }
 
 // The same into a register of zeros: the polynomial is taken for each bit of its upper half, and
@@ -57,5 +68,31 @@ fn with_bit(sum: u16, of_one: u16, register: u16) -> u16
         moved ^ of_one
     } else {
         moved
+    }
+}
+
+// What so many octets of zeros make of the register 1, by their number's bits, from the highest on.
+pub(crate) fn power(count: usize) -> u16
+    requires { count < 131072 }
+    ensures { result ≡ zeros_in 1 count }
+{
+    let mut power = 1;
+    let mut place: u32 = 17;
+    while place > 0 {
+        place -= 1;
+        power = power_with_bit(power, count >> place);
+    }
+    power
+}
+
+// The same of this number, where this is that of its half.
+fn power_with_bit(half: u16, count: usize) -> u16
+    ensures { half ≡ zeros_in 1 (count / 2) → result ≡ zeros_in 1 count }
+{
+    let doubled = behind_zeros(half, half);
+    if count % 2 == 1 {
+        octet_in(doubled, 0)
+    } else {
+        doubled
     }
 }

@@ -100,7 +100,7 @@ impl Search {
 
 // Whether the checksum of so many octets may be 0, by the registers before and behind them, and
 // what as many zeros make of the register 1.
-fn may_be_zero(before: u16, of_one: u16, behind: u16) -> bool
+pub(crate) fn may_be_zero(before: u16, of_one: u16, behind: u16) -> bool
     ensures small { before < 65536 }
     ensures never { (n : ℕ) → result ≡ false → of_one ≡ zeros_in 1 n
         → zeros_in (bit_xor before 65535) n ≢ behind }

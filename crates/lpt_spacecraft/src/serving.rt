@@ -14,7 +14,8 @@ use crate::flying::serve_one;
 use crate::keeping::{Outlet, keep_changed};
 use crate::pace::Course;
 use crate::{Clock, Keeper, Listener, Pace, Spacecraft, Stop, Told};
-use lpt_frames::{FrameBuffer, Front, Peer};
+use lpt_frames::{FrameBuffer, Front};
+use lpt_stream::Peer;
 use lpt_text::{FromStd, Sink, StreamFault, flush_out};
 
 /// Reads a stream of packets to its end, or up to octets with which no packet can begin, takes each

@@ -1,5 +1,5 @@
 -- Octets of a stream that are read behind those that are held.
-use Rattle.std.proofs.Common.{◌≡◌, ◌⊎◌, ◌∙◌, ap, sym, subst, inl, inr, ℕ, zero, suc, ◌+◌, ◌-◌, ◌<◌, ◌≤◌, ◌==◌, min, Bool, true, false, if◌then◌else◌, refl, List, [], ◌∷◌, ◌++◌, length, take, drop, Option, Err, arith, append_assoc, append-nil, length-append, length-drop, take_all}
+use Rattle.std.proofs.Common.{◌≡◌, ◌⊎◌, ◌∙◌, ap, sym, subst, inl, inr, ℕ, zero, suc, ◌+◌, ◌-◌, ◌<◌, ◌≤◌, ◌==◌, min, Bool, true, false, if◌then◌else◌, refl, List, [], ◌∷◌, ◌++◌, length, take, drop, Option, Ok, Err, arith, append_assoc, append-nil, length-append, length-drop, take_all}
 use Rattle.std.specs.Io.KnownBytes.{Consumes, IsAtEnd}
 use Rattle.std.proofs.KnownBytes.{Consumes-nil, Consumes-trans}
 use Rattle.std.proofs.lemmas.Bool.Decides.{nat_tests}
@@ -10,31 +10,26 @@ use Rattle.lpt_packet.specs.Numbers.{word_at}
 use Rattle.lpt_text.specs.declared.fault.StreamFault.{StreamFault}
 use Rattle.lpt_text.specs.declared.fault.StreamFault.TheVariants as faults
 use Rattle.lpt_stream.specs.declared.buffer.PacketBuffer.{PacketBuffer}
+use Rattle.lpt_stream.specs.declared.found.Found.{Found}
 use Rattle.lpt_stream.specs.declared.piece_kind.PieceKind.{PieceKind}
 use Rattle.lpt_stream.specs.declared.piece_kind.PieceKind.TheVariants.{Whole}
-use Rattle.lpt_stream.specs.Buffers.{held, is_in_step, is_ended, found_piece, IsInFront, IsUnsettled, Adds, Goes, IsAsked, Fills, FindsPiece, FindsPassing}
-use Rattle.lpt_stream.specs.Pieces.{lookahead, begins, is_framed, kind_in, size_in, piece_at, waits}
-use Rattle.lpt_stream.proofs.PieceLemmas.{packet_stays, piece_stays, last_stays, judged_stays, unframed_begins}
+use Rattle.lpt_stream.specs.Buffers.{cut_of, held, is_in_step, is_ended, found_piece, IsInFront, IsUnsettled, Adds, Goes, IsAsked, IsOpenAt, Fills, FindsPiece, FindsPassing}
+use Rattle.lpt_stream.specs.Pieces.{lookahead, begins_by, is_framed, kind_by, size_in, piece_by, waits_by}
+use Rattle.lpt_stream.proofs.ByLemmas.{packet_stays_by, piece_stays_by, last_stays_by, judged_stays_by, nothing_shows, unframed_begins_by}
 
--- nothing was read
-pub goes-nothing : (b : PacketBuffer) (a : Option (List ℕ)) → Goes b b a a []
-goes-nothing b a = record {
-  added = record { consumed = Consumes-nil a; behind = sym (append-nil (held b)); step = refl };
-  stays = λ e. (e, refl);
-  at_end = λ h e. h e;
-}
-
--- nor by what changes nothing of what is held
+-- nothing was read by what changes nothing of what is held
 pub goes-same : (b new : PacketBuffer) (a : Option (List ℕ))
     → held new ≡ held b
+    → cut_of new ≡ cut_of b
     → is_in_step new ≡ is_in_step b
     → is_ended new ≡ is_ended b
     → Goes b new a a []
-goes-same b new a same step end = record {
+goes-same b new a same by step end = record {
   added = record {
     consumed = Consumes-nil a;
     behind = same ∙ sym (append-nil (held b));
     step = step;
+    cut = by;
   };
   stays = λ e. (end ∙ e, refl);
   at_end = λ h e. h (sym end ∙ e);
@@ -49,6 +44,7 @@ adds-more old mid new a b c read more p q = record {
   consumed = Consumes-trans a b c read more p.consumed q.consumed;
   behind = q.behind ∙ ap (λ x. x ++ more) p.behind ∙ append_assoc (held old) read more;
   step = q.step ∙ p.step;
+  cut = q.cut ∙ p.cut;
 }
 
 both : (e : Bool) → e ≡ true → e ≡ false → ⊥
@@ -109,12 +105,12 @@ pub asked-more : (old mid : PacketBuffer) (a b : Option (List ℕ)) (read more :
     → Goes old mid a b read
     → IsUnsettled mid
     → length more ≤ 65536
-    → IsAsked (is_in_step old) (held old) (read ++ more)
+    → IsAsked (cut_of old) (is_in_step old) (held old) (read ++ more)
 asked-more old mid a b read more goes h size = inr (
   read,
   more,
   refl,
-  sym (λ i. waits (goes.added.step i) (goes.added.behind i)) ∙ h.waits,
+  sym (λ i. waits_by (goes.added.cut i) (goes.added.step i) (goes.added.behind i)) ∙ h.waits,
   subst (λ x. length x < lookahead) goes.added.behind h.few,
   size,
 )
@@ -125,23 +121,39 @@ pub judged-more : (mid new : PacketBuffer) (b c : Option (List ℕ)) (more : Lis
     → IsUnsettled mid
     → framed ≡ is_framed (held mid)
     → framed ≡ true
-    → begins (is_in_step new) (take lookahead (held new)) ≡ false
+    → begins_by (cut_of new) (is_in_step new) (take lookahead (held new)) ≡ false
 judged-more mid new b c more framed added h is e =
-    (λ i. begins (added.step i) (take lookahead (added.behind i)))
-    ∙ judged_stays (is_in_step mid) (held mid) more (sym is ∙ e) h.none h.few
+    (λ i. begins_by (added.cut i) (added.step i) (take lookahead (added.behind i)))
+    ∙ judged_stays_by (cut_of mid) (is_in_step mid) (held mid) more (sym is ∙ e) h.none h.few
+
+-- a read that failed while what was held waited
+pub open-more : (old mid new : PacketBuffer) (a b c : Option (List ℕ)) (read : List ℕ)
+    → is_ended mid ≡ false
+    → Goes old mid a b read
+    → IsUnsettled mid
+    → Adds mid new b c []
+    → IsOpenAt old new a c
+open-more old mid new a b c read more_comes p h q = (
+  read ++ [],
+  adds-more old mid new a b c read [] p.added q,
+  λ e. absurd (both (is_ended mid) (p.stays e).0 more_comes),
+  (λ i. waits_by (q.cut i) (q.step i) ((q.behind ∙ append-nil (held mid)) i)) ∙ h.waits,
+)
 
 -- a read that failed, or for which memory ran out, ends the search
 pub fill-fault : (fault : StreamFault) (old mid new : PacketBuffer) (a b c : Option (List ℕ))
     (read : List ℕ) (had told failed : Bool)
-    → Adds old mid a b read
+    → is_ended mid ≡ false
+    → Goes old mid a b read
+    → IsUnsettled mid
     → told ≡ had
     → Fills (Err fault) mid new b c told failed
     → FindsPiece (Err fault) old new a c had failed
-fill-fault faults.Read old mid new a b c read had told failed p same q =
-    (read ++ [], (adds-more old mid new a b c read [] p q.0).consumed, q.1)
-fill-fault faults.Memory old mid new a b c read had told failed p same q =
-    (read ++ q.0, Consumes-trans a b c read q.0 p.consumed q.1, q.2 ∙ same)
-fill-fault faults.Write old mid new a b c read had told failed p same q = q
+fill-fault faults.Read old mid new a b c read had told failed more_comes p h same q =
+    (open-more old mid new a b c read more_comes p h q.0, q.1)
+fill-fault faults.Memory old mid new a b c read had told failed more_comes p h same q =
+    (read ++ q.0, Consumes-trans a b c read q.0 p.added.consumed q.1, q.2 ∙ same)
+fill-fault faults.Write old mid new a b c read had told failed more_comes p h same q = q
 
 -- and a search that passes on
 pub passing-fault : (fault : StreamFault) (old new : PacketBuffer) (a b : Option (List ℕ))
@@ -152,43 +164,33 @@ passing-fault faults.Read old new a b had failed h = h
 passing-fault faults.Memory old new a b had failed h = h
 passing-fault faults.Write old new a b had failed h = absurd h
 
--- a search ends by a read that failed, or when out of memory
-pub find-fault : (fault : StreamFault) (old new : PacketBuffer) (a b : Option (List ℕ))
+-- what a search gave, where that is something
+pub finds_as : (given was : Option Found) (old new : PacketBuffer) (a b : Option (List ℕ))
     (had failed : Bool)
-    → FindsPiece (Err fault) old new a b had failed
-    → ((fault ≡ faults.Read) × (failed ≡ true)) ⊎ ((fault ≡ faults.Memory) × (failed ≡ had))
-find-fault faults.Read old new a b had failed h = inl (refl, h.2)
-find-fault faults.Memory old new a b had failed h = inr (refl, h.2)
-find-fault faults.Write old new a b had failed h = absurd h
-
--- one that passes on ends so as well, or by the sink
-pub passing-ends : (fault : StreamFault) (old new : PacketBuffer) (a b : Option (List ℕ))
-    (had failed : Bool)
-    → FindsPassing (Err fault) old new a b had failed
-    → ((fault ≡ faults.Read) × (failed ≡ true))
-    ⊎ (((fault ≡ faults.Write) ⊎ (fault ≡ faults.Memory)) × (failed ≡ had))
-passing-ends faults.Read old new a b had failed h = inl (refl, h.2)
-passing-ends faults.Memory old new a b had failed h = inr (inr refl, h.2)
-passing-ends faults.Write old new a b had failed h = inr (inl refl, h.2)
-
--- by one of these faults
-pub passing-faults : (fault : StreamFault) (old new : PacketBuffer) (a b : Option (List ℕ))
-    (had failed : Bool)
-    → FindsPassing (Err fault) old new a b had failed
-    → (fault ≡ faults.Read) ⊎ ((fault ≡ faults.Write) ⊎ (fault ≡ faults.Memory))
-passing-faults fault old new a b had failed h = elim (passing-ends fault old new a b had failed h) [
-  | inl r ↦ inl (r.0)
-  | inr o ↦ inr (o.0)
-]
+    → was ≡ given
+    → FindsPassing (Ok was) old new a b had failed
+    → FindsPassing (Ok given) old new a b had failed
+finds_as given was old new a b had failed is h =
+    subst (λ f. FindsPassing (Ok f) old new a b had failed) is h
 
 -- what it has read then
 pub passing-lost : (fault : StreamFault) (old new : PacketBuffer) (a b : Option (List ℕ))
     (had failed : Bool)
     → FindsPassing (Err fault) old new a b had failed
     → (lost : List ℕ) × Consumes a b lost
-passing-lost faults.Read old new a b had failed h = (h.0, h.1)
+passing-lost faults.Read old new a b had failed h = (h.0.0, h.0.1.consumed)
 passing-lost faults.Memory old new a b had failed h = (h.0, h.1)
 passing-lost faults.Write old new a b had failed h = (h.0, h.1.added.consumed)
+
+-- and what is held, where a read failed
+pub passing-open : (fault : StreamFault) (old new : PacketBuffer) (a b : Option (List ℕ))
+    (had failed : Bool)
+    → fault ≡ faults.Read
+    → FindsPassing (Err fault) old new a b had failed
+    → IsOpenAt old new a b
+passing-open faults.Read old new a b had failed is h = h.0
+passing-open faults.Memory old new a b had failed is h = absurd cc
+passing-open faults.Write old new a b had failed is h = absurd cc
 
 -- ---- what is read in its place
 
@@ -243,28 +245,6 @@ more_given zero buf after within some end = inr (refl, end refl some)
 more_given (suc n) buf after within some end =
     inl (grind (arith, nat_tests), omega (arith, length-take-le (suc n) buf within))
 
--- ---- what is kept
-
--- where there is room, what is pushed behind others fits, and as well where it isn't pushed
-pub pushed_fits : (ok : Bool) (was more now : List ℕ) (most : ℕ)
-    → now ≡ (if ok then was ++ more else was)
-    → length was + length more ≤ most
-    → length now ≤ most
-pushed_fits true was more now most is room =
-    let size : length now ≡ length was + length more = ap length is ∙ length-append was more in
-    omega (arith, size, room)
-pushed_fits false was more now most is room = let size = ap length is in omega (arith, size, room)
-
--- and none is lost
-pub pushed_keeps : (ok : Bool) (start : ℕ) (was more now : List ℕ)
-    → now ≡ (if ok then was ++ more else was)
-    → start ≤ length was
-    → start ≤ length now
-pushed_keeps true start was more now is least =
-    let size : length now ≡ length was + length more = ap length is ∙ length-append was more in
-    omega (arith, size, least)
-pushed_keeps false start was more now is least = let size = ap length is in omega (arith, size, least)
-
 -- ---- what is in front
 
 -- what is looked at is no longer than is held, nor than two packets
@@ -281,7 +261,7 @@ pub packet_settled : (p : PacketBuffer) (near : List ℕ) (n : ℕ)
     → near ≡ take lookahead (held p)
     → 0 < length (held p)
     → 0 < n
-    → begins (is_in_step p) near ≡ true
+    → begins_by (cut_of p) (is_in_step p) near ≡ true
     → n ≡ 7 + word_at near 4
     → n ≤ length near
     → IsInFront p (record { kind = Whole; len = n })
@@ -293,7 +273,8 @@ packet_settled p near n is some least taken size within =
       most = fits.1;
       within = fits.0;
       is = λ more e.
-          packet_stays (is_in_step p) (held p) more n (ap (begins (is_in_step p)) (sym is) ∙ taken)
+          packet_stays_by (cut_of p) (is_in_step p) (held p) more n
+          (ap (begins_by (cut_of p) (is_in_step p)) (sym is) ∙ taken)
           (size ∙ ap (λ x. 7 + word_at x 4) is) (subst (λ x. n ≤ length x) is within) fits.0;
     }
 
@@ -302,14 +283,14 @@ pub other_settled : (p : PacketBuffer) (near : List ℕ) (k : PieceKind) (n : �
     → near ≡ take lookahead (held p)
     → 0 < length (held p)
     → 0 < n
-    → (waits (is_in_step p) near ≡ false) ⊎ (is_ended p ≡ true)
-    → k ≡ kind_in (is_in_step p) near
+    → (waits_by (cut_of p) (is_in_step p) near ≡ false) ⊎ (is_ended p ≡ true)
+    → k ≡ kind_by (cut_of p) (is_in_step p) near
     → n ≡ size_in k near
     → n ≤ length near
     → IsInFront p (record { kind = k; len = n })
 other_settled p near k n is some least known kind size within =
     let fits = near_size (held p) near n is within in
-    let kind_is = kind ∙ ap (kind_in (is_in_step p)) is in
+    let kind_is = kind ∙ ap (kind_by (cut_of p) (is_in_step p)) is in
     let size_is = size ∙ ap (size_in k) is in
     record {
       some = some;
@@ -320,16 +301,18 @@ other_settled p near k n is some least known kind size within =
     } where
       go : (more : List ℕ)
           → (is_ended p ≡ true → more ≡ [])
-          → k ≡ kind_in (is_in_step p) (take lookahead (held p))
+          → k ≡ kind_by (cut_of p) (is_in_step p) (take lookahead (held p))
           → n ≡ size_in k (take lookahead (held p))
           → n ≤ length (held p)
-          → (waits (is_in_step p) near ≡ false) ⊎ (is_ended p ≡ true)
-          → piece_at (is_in_step p) (held p ++ more) ≡ found_piece p (record { kind = k; len = n })
+          → (waits_by (cut_of p) (is_in_step p) near ≡ false) ⊎ (is_ended p ≡ true)
+          → piece_by (cut_of p) (is_in_step p) (held p ++ more)
+          ≡ found_piece p (record { kind = k; len = n })
       go more e kind_is size_is fits (inl h) =
-          piece_stays (is_in_step p) (held p) more k n (sym (ap (waits (is_in_step p)) is)
+          piece_stays_by (cut_of p) (is_in_step p) (held p) more k n
+          (sym (ap (waits_by (cut_of p) (is_in_step p)) is)
           ∙ h) kind_is size_is fits
       go more e kind_is size_is fits (inr h) =
-          last_stays (is_in_step p) (held p) more k n (e h) kind_is size_is fits
+          last_stays_by (cut_of p) (is_in_step p) (held p) more k n (e h) kind_is size_is fits
 
 -- where fewer are held than are looked at, those are all
 pub all_held : (b near : List ℕ) → near ≡ take lookahead b → length near < 131084 → near ≡ b
@@ -340,17 +323,17 @@ all_held b near is few =
 -- what is looked at waits
 pub unsettled : (p : PacketBuffer) (near : List ℕ)
     → near ≡ take lookahead (held p)
-    → waits (is_in_step p) near ≡ true
+    → waits_by (cut_of p) (is_in_step p) near ≡ true
     → length near < 131084
-    → begins (is_in_step p) near ≡ false
+    → begins_by (cut_of p) (is_in_step p) near ≡ false
     → is_ended p ≡ false
     → IsUnsettled p
 unsettled p near is waiting few none more_comes =
     let all = all_held (held p) near is few in
     record {
-      waits = sym (ap (waits (is_in_step p)) all) ∙ waiting;
+      waits = sym (ap (waits_by (cut_of p) (is_in_step p)) all) ∙ waiting;
       few = subst (λ x. length x < lookahead) all few;
-      none = sym (ap (begins (is_in_step p)) all) ∙ none;
+      none = sym (ap (begins_by (cut_of p) (is_in_step p)) all) ∙ none;
       last = λ e. absurd (both (is_ended p) e more_comes);
     }
 
@@ -360,18 +343,16 @@ pub nothing_held : (p : PacketBuffer) (o : List ℕ) → o ≡ held p → (lengt
 nothing_held p o is none =
     let empty : [] ≡ held p = sym (no_octets o none) ∙ is in
     record {
-      waits = sym (ap (waits (is_in_step p)) empty) ∙ at_none (is_in_step p);
+      waits = sym (ap (waits_by (cut_of p) (is_in_step p)) empty)
+          ∙ nothing_shows (cut_of p) (is_in_step p);
       few = subst (λ x. length x < lookahead) empty (omega arith);
-      none = sym (ap (begins (is_in_step p)) empty) ∙ unframed_begins (is_in_step p) [] refl;
+      none = sym (ap (begins_by (cut_of p) (is_in_step p)) empty)
+          ∙ unframed_begins_by (cut_of p) (is_in_step p) [] refl;
       last = λ e. sym empty;
     } where
       no_octets : (o : List ℕ) → (length o == 0) ≡ true → o ≡ []
       no_octets [] h = refl
       no_octets (x ∷ o) h = grind (arith, h)
-
-      at_none : (s : Bool) → waits s [] ≡ true
-      at_none true = refl
-      at_none false = refl
 
 -- some octets are held
 pub some_held : (b o : List ℕ) → o ≡ b → false ≡ (length o == 0) → 0 < length b

@@ -6,7 +6,7 @@ use Rattle.lpt_packet.specs.Packets.{APacket, Fields, IsPacket}
 use Rattle.lpt_packet.proofs.Codec.{length-spelling}
 use Rattle.lpt_packet.proofs.Found.{again}
 use Rattle.lpt_stream.specs.declared.piece_kind.PieceKind.TheVariants.{Whole, Damaged, Stray}
-use Rattle.lpt_stream.specs.Pieces.{Piece, lookahead, frame, behind, is_framed, is_passed, ends_in_checksum, is_found, is_of_flags, is_taken, begins, kind_in, piece_of, piece_at, Leads, Finds}
+use Rattle.lpt_stream.specs.Pieces.{Piece, lookahead, frame, behind, is_framed, is_passed, ends_in_checksum, is_found, is_of_flags, is_taken, begins, kind_in, piece_of, piece_at, piece_by, Leads, Finds}
 use Rattle.lpt_stream.specs.Streams.{IsDamaged, IsEndOrPacket, IsFramed}
 use Rattle.lpt_stream.proofs.StreamLemmas.{framed_packet, word_at-front}
 
@@ -112,7 +112,7 @@ damaged_piece : (b rest : List ℕ)
     → IsDamaged b
     → IsEndOrPacket rest
     → piece_at true (b ++ rest) ≡ damaged b
-unfolding piece_at
+unfolding piece_by
 damaged_piece b rest h next =
     let short = h.short in
     let more = take (131084 - length b) rest in

@@ -4,8 +4,13 @@ use Rattle.std.specs.Prelude.{IfErr}
 use Rattle.lpt_text.specs.declared.fault.StreamFault.{StreamFault}
 use Rattle.lpt_text.specs.declared.fault.StreamFault.TheVariants as faults
 use Rattle.lpt_text.specs.Streams.{failed_write, ReadEnds, ReadFails, WriteEnds}
-use Rattle.lpt_stream.specs.Buffers.{FindsPassing, FindsPiece}
+use Rattle.lpt_stream.specs.Buffers.{FindsPassing}
 use Rattle.lpt_stream.specs.declared.buffer.PacketBuffer.{PacketBuffer}
+
+-- what holds anyway holds of a fault
+pub any-err : {A E : Type 0} (P : Type 0) (r : Result A E) → P → IfErr r (λ _. P)
+any-err P (Ok x) p = tt
+any-err P (Err e) p = p
 
 -- a search for a piece that ended by a fault
 pub passing-reader : (Over : Type 0) (fault : StreamFault) (old new : PacketBuffer)
@@ -13,19 +18,9 @@ pub passing-reader : (Over : Type 0) (fault : StreamFault) (old new : PacketBuff
     (had failed : Bool)
     → FindsPassing (Err fault) old new a b had failed
     → ReadFails Over fault had failed
-passing-reader Over faults.Read old new a b had failed h = inl (h.2)
+passing-reader Over faults.Read old new a b had failed h = inl (h.1)
 passing-reader Over faults.Write old new a b had failed h = h.2
 passing-reader Over faults.Memory old new a b had failed h = h.2
-
--- and one that passes nothing on
-pub find-reader : (Over : Type 0) (fault : StreamFault) (old new : PacketBuffer)
-    (a b : Option (List ℕ))
-    (had failed : Bool)
-    → FindsPiece (Err fault) old new a b had failed
-    → ReadFails Over fault had failed
-find-reader Over faults.Read old new a b had failed h = inl (h.2)
-find-reader Over faults.Write old new a b had failed h = absurd h
-find-reader Over faults.Memory old new a b had failed h = h.2
 
 -- behind work that left the reader as it was
 pub reader-after : (Over : Type 0) (fault : StreamFault) (first had failed : Bool)

@@ -1,5 +1,5 @@
 -- What is held stays so while octets are read behind it, and what is known of it rules out a packet.
-use Rattle.std.proofs.Common.{◌≡◌, ◌∙◌, ap, sym, subst, refl, ℕ, ◌+◌, ◌-◌, ◌<◌, ◌≤◌, min, Bool, true, false, not, if◌then◌else◌, List, ◌++◌, length, take, drop, arith, append-nil, length-append, length-drop, take_all}
+use Rattle.std.proofs.Common.{◌≡◌, ◌∙◌, ap, sym, subst, refl, ℕ, ◌+◌, ◌-◌, ◌≤◌, min, Bool, true, false, not, if◌then◌else◌, List, ◌++◌, length, take, drop, arith, append-nil, length-append, length-drop, take_all}
 use Rattle.std.proofs.lemmas.List.{drop-take, length-take, length-take-le, take-append-le, take-take}
 use Rattle.lpt_packet.specs.Checksums.{checksum}
 use Rattle.lpt_stream.specs.Pieces.{lookahead, begins}
@@ -18,7 +18,8 @@ pub unread : (s e len : ℕ) (items slice buf post more : List ℕ)
 unread s e len items slice buf post more none same within fits =
     let all : e ≡ e + 0 = omega arith in
     ap (λ (k : ℕ). drop s (take k (take len ((take e slice ++ (buf ++ post)) ++ more)))) all
-    ∙ filled s e 0 len items slice buf post more none same within (omega arith) (omega (arith, fits))
+    ∙ filled s e 0 len items slice buf post more none same within
+    (omega arith) (omega (arith, fits))
     ∙ append-nil (drop s (take e items))
 
 -- nor how many octets there are in all
@@ -41,8 +42,10 @@ refilled e m len items slice buf same room size all =
     let five = length-drop e slice in
     let six = length-append inner (drop (length inner) items) in
     let seven = length-drop (length inner) items in
-    let whole : length inner ≡ length items = omega (arith, slices, one, two, three, four, five, size, room) in
-    let most : len ≤ length (inner ++ drop (length inner) items) = omega (arith, whole, six, seven, all) in
+    let whole : length inner
+    ≡ length items = omega (arith, slices, one, two, three, four, five, size, room) in
+    let most : len ≤ length (inner ++ drop (length inner) items) =
+    omega (arith, whole, six, seven, all) in
     length-take-le len (inner ++ drop (length inner) items) most ∙ all
 
 -- what there is room for behind it changes nothing of it

@@ -1,4 +1,5 @@
 pub mod BufferLemmas
+pub mod ByLemmas
 pub mod CutLemmas
 pub mod DamageLemmas
 pub mod EndLemmas
@@ -7,4 +8,6 @@ pub mod FrontLemmas
 pub mod KnownLemmas
 pub mod PieceLemmas
 pub mod SealLemmas
+pub mod StrayLemmas
 pub mod StreamLemmas
+pub mod TakeLemmas

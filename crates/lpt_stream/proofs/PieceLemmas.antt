@@ -12,7 +12,7 @@ use Rattle.lpt_packet.proofs.OctetLists.{IsOctets-take}
 use Rattle.lpt_packet.proofs.Readings.{eq_false, lt_false, not_lt, tests_passed, true_eq}
 use Rattle.lpt_stream.specs.declared.piece_kind.PieceKind.{PieceKind}
 use Rattle.lpt_stream.specs.declared.piece_kind.PieceKind.TheVariants.{Whole, Damaged, Stray}
-use Rattle.lpt_stream.specs.Pieces.{Piece, lookahead, frame, behind, ends_in_checksum, is_of_flags, is_taken, is_found, begins, is_framed, is_passed, first_fits, flags_fit, size_fits, may_begin, is_open, waits, kind_in, size_in, piece_of, piece_at}
+use Rattle.lpt_stream.specs.Pieces.{Piece, lookahead, frame, behind, ends_in_checksum, is_of_flags, is_taken, is_found, begins, is_framed, is_passed, first_fits, flags_fit, size_fits, may_begin, is_open, waits, kind_in, size_in, piece_of, piece_at, piece_by}
 use Rattle.lpt_stream.specs.Streams.{IsUnfinished}
 use Rattle.lpt_stream.proofs.StreamLemmas.{word_at-front}
 
@@ -49,7 +49,7 @@ unfinished_begins s b h =
 -- ---- with more behind
 
 -- the front of octets with more behind them is theirs, and perhaps more
-take_more : (n : ℕ) (xs ys : List ℕ) → (zs : List ℕ) × (take n (xs ++ ys) ≡ take n xs ++ zs)
+pub take_more : (n : ℕ) (xs ys : List ℕ) → (zs : List ℕ) × (take n (xs ++ ys) ≡ take n xs ++ zs)
 take_more zero xs ys = ([], refl)
 take_more (suc n) [] ys = (take (suc n) ys, refl)
 take_more (suc n) (x ∷ xs) ys =
@@ -72,7 +72,7 @@ pub packet_stays : (s : Bool) (b more : List ℕ) (n : ℕ)
     → n ≤ length (take lookahead b)
     → n ≤ length b
     → piece_at s (b ++ more) ≡ whole (take n b)
-unfolding piece_at
+unfolding piece_by
 packet_stays s b more n is size near within =
     let m = take_more lookahead b more in
     let fits : 7 + word_at (take lookahead b) 4 ≤ length (take lookahead b) =
@@ -227,7 +227,7 @@ nonzero_begins b octets other = go (begins false b) refl where
 pub unframed_begins : (s : Bool) (b : List ℕ) → is_framed b ≡ false → begins s b ≡ false
 unframed_begins s b h = unfinished_begins s b (wanted_more (length b) (word_at b 4) h)
 
-framed_fits : (b : List ℕ) → is_framed b ≡ true → 7 + word_at b 4 ≤ length b
+pub framed_fits : (b : List ℕ) → is_framed b ≡ true → 7 + word_at b 4 ≤ length b
 framed_fits b h = grind (arith, h)
 
 -- where nothing is open, what comes changes nothing
@@ -344,7 +344,7 @@ front_kept s b more h = go (is_framed b) refl where
       }
 
 -- the piece of this kind
-abbrev of_kind : PieceKind → List ℕ → Piece
+abbrev pub of_kind : PieceKind → List ℕ → Piece
 of_kind k b = record { kind = k; octets = b }
 
 -- a piece that doesn't wait stays in front
@@ -354,7 +354,7 @@ pub piece_stays : (s : Bool) (b more : List ℕ) (k : PieceKind) (n : ℕ)
     → n ≡ size_in k (take lookahead b)
     → n ≤ length b
     → piece_at s (b ++ more) ≡ of_kind k (take n b)
-unfolding piece_at
+unfolding piece_by
 piece_stays s b more k n known kind size within =
     let m = take_more lookahead b more in
     let stays = front_kept s (take lookahead b) m.0 known in
@@ -372,7 +372,7 @@ pub last_stays : (s : Bool) (b more : List ℕ) (k : PieceKind) (n : ℕ)
     → n ≡ size_in k (take lookahead b)
     → n ≤ length b
     → piece_at s (b ++ more) ≡ of_kind k (take n b)
-unfolding piece_at
+unfolding piece_by
 last_stays s b more k n none kind size within =
     ap (λ m. piece_at s (b ++ m)) none
     ∙ ap (piece_at s) (append-nil b)

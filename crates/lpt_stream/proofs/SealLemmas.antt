@@ -5,12 +5,14 @@ use Rattle.lpt_packet.specs.declared.fault.PacketFault.{PacketFault}
 use Rattle.lpt_packet.specs.declared.fault.PacketFault.TheVariants.{Checksum}
 use Rattle.lpt_packet.specs.Numbers.{word_at}
 use Rattle.lpt_packet.specs.Packets.{Sight, verdict}
+use Rattle.lpt_stream.specs.declared.cut.Cut.{Cut}
+use Rattle.lpt_stream.specs.declared.cut.Cut.TheVariants.{Sealed, Framed, Resumed}
 use Rattle.lpt_stream.specs.declared.buffer.PacketBuffer.{PacketBuffer}
 use Rattle.lpt_stream.specs.declared.found.Found.{Found}
 use Rattle.lpt_stream.specs.declared.piece_kind.PieceKind.{PieceKind}
 use Rattle.lpt_stream.specs.declared.piece_kind.PieceKind.TheVariants.{Whole, Damaged, Stray}
-use Rattle.lpt_stream.specs.Buffers.{held, is_in_step, found_piece, IsInFront}
-use Rattle.lpt_stream.specs.Pieces.{Piece, IsSealed, begins, ends_in_checksum, is_found, is_taken, is_passed, kind_in, size_in, lookahead, piece_at}
+use Rattle.lpt_stream.specs.Buffers.{cut_of, held, is_in_step, found_piece, IsInFront}
+use Rattle.lpt_stream.specs.Pieces.{Piece, IsSealed, IsSealedBy, begins, ends_in_checksum, is_found, is_taken, is_passed, kind_in, size_in, lookahead, piece_at, piece_by}
 
 -- what is taken has no fault
 untorn : (s c : Bool) (r : Result Sight PacketFault) → is_taken s c r ≡ true → r ≡ Err Checksum → ⊥
@@ -40,7 +42,7 @@ near n b h = go (nat_le n lookahead) refl where
 front_sealed : (s : Bool) (b : List ℕ)
     → length (piece_at s b).octets ≤ lookahead
     → IsSealed (piece_at s b).kind (piece_at s b).octets
-unfolding piece_at
+unfolding piece_by
 front_sealed s b h whole =
     let f = take lookahead b in
     let n = 7 + word_at f 4 in
@@ -53,15 +55,24 @@ front_sealed s b h whole =
     λ e. untorn s (ends_in_checksum (take n b)) (verdict (take n b)) taken
     (sym (ap verdict same) ∙ e)
 
--- nor has the piece that was found
+sealed_by : (c : Cut) (s : Bool) (b : List ℕ)
+    → length (piece_by c s b).octets ≤ lookahead
+    → IsSealedBy c (piece_by c s b).kind (piece_by c s b).octets
+sealed_by Sealed s b h = front_sealed s b h
+sealed_by Framed s b h = tt
+sealed_by Resumed s b h = tt
+
+-- nor has the piece that was found, where checksums are looked at
 pub found_sealed : (b : PacketBuffer) (f : Found)
     → IsInFront b f
-    → IsSealed f.kind (take f.len (held b))
+    → IsSealedBy (cut_of b) f.kind (take f.len (held b))
 found_sealed b f h =
-    let is : piece_at (is_in_step b) (held b) ≡ found_piece b f =
-    sym (ap (piece_at (is_in_step b)) (append-nil (held b))) ∙ h.is [] (λ e. refl) in
+    let c = cut_of b in
+    let s = is_in_step b in
+    let is : piece_by c s (held b) ≡ found_piece b f =
+    sym (ap (piece_by c s) (append-nil (held b))) ∙ h.is [] (λ e. refl) in
     let size = length-take-le f.len (held b) h.within in
     let most = h.most in
-    subst (λ (p : Piece). IsSealed p.kind p.octets) is
-    (front_sealed (is_in_step b) (held b)
+    subst (λ (p : Piece). IsSealedBy c p.kind p.octets) is
+    (sealed_by c s (held b)
     (subst (λ (p : Piece). length p.octets ≤ lookahead) (sym is) (omega (arith, size, most))))

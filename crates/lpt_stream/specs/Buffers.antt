@@ -4,8 +4,9 @@ use Rattle.std.specs.Io.KnownBytes.{Consumes, IsAtEnd}
 use Rattle.lpt_text.specs.declared.fault.StreamFault.{StreamFault}
 use Rattle.lpt_text.specs.declared.fault.StreamFault.TheVariants as faults
 use Rattle.lpt_stream.specs.declared.buffer.PacketBuffer.{PacketBuffer}
+use Rattle.lpt_stream.specs.declared.cut.Cut.{Cut}
 use Rattle.lpt_stream.specs.declared.found.Found.{Found}
-use Rattle.lpt_stream.specs.Pieces.{Piece, begins, lookahead, piece_at, waits}
+use Rattle.lpt_stream.specs.Pieces.{Piece, begins_by, lookahead, piece_by, waits_by}
 
 -- ---- what is held
 
@@ -20,6 +21,10 @@ kept b = b.octets.items
 -- whether they come right behind a packet
 abbrev pub is_in_step : PacketBuffer → Bool
 is_in_step b = b.in_step
+
+-- how the stream is cut
+abbrev pub cut_of : PacketBuffer → Cut
+cut_of b = b.cut
 
 -- whether the stream's end was read
 abbrev pub is_ended : PacketBuffer → Bool
@@ -36,13 +41,13 @@ pub record IsInFront (b : PacketBuffer) (f : Found) : Type 0 where
   pub most : f.len ≤ lookahead
   pub within : f.len ≤ length (held b)
   pub is : (more : List ℕ) → (is_ended b ≡ true → more ≡ [])
-      → piece_at (is_in_step b) (held b ++ more) ≡ found_piece b f
+      → piece_by (cut_of b) (is_in_step b) (held b ++ more) ≡ found_piece b f
 
 -- nothing can be said of it yet: it depends on octets that may still come
 pub record IsUnsettled (b : PacketBuffer) : Type 0 where
-  pub waits : waits (is_in_step b) (held b) ≡ true
+  pub waits : waits_by (cut_of b) (is_in_step b) (held b) ≡ true
   pub few : length (held b) < lookahead
-  pub none : begins (is_in_step b) (held b) ≡ false
+  pub none : begins_by (cut_of b) (is_in_step b) (held b) ≡ false
   pub last : is_ended b ≡ true → held b ≡ []
 
 -- ---- reads
@@ -53,6 +58,7 @@ pub record Adds (old new : PacketBuffer) (before after : Option (List ℕ))
   pub consumed : Consumes before after read
   pub behind : held new ≡ held old ++ read
   pub step : is_in_step new ≡ is_in_step old
+  pub cut : cut_of new ≡ cut_of old
 
 -- what a read gives: octets, or the end of the stream; or that it failed; where memory runs out,
 -- octets were read and lost
@@ -77,11 +83,18 @@ pub record Goes (old new : PacketBuffer) (before after : Option (List ℕ))
 
 -- the last octets were asked for while those that were held before them left open what is in front,
 -- and were fewer than those of two packets
-abbrev pub IsAsked : (in_step : Bool) → (held read : List ℕ) → Type 0
-IsAsked s held read =
+abbrev pub IsAsked : Cut → (in_step : Bool) → (held read : List ℕ) → Type 0
+IsAsked c s held read =
     (read ≡ [])
-    ⊎ ((most : List ℕ) × (last : List ℕ) × (read ≡ most ++ last) × (waits s (held ++ most) ≡ true)
+    ⊎ ((most : List ℕ) × (last : List ℕ) × (read ≡ most ++ last)
+    × (waits_by c s (held ++ most) ≡ true)
     × (length (held ++ most) < lookahead) × (length last ≤ 65536))
+
+-- a read failed while what was held left open what is in front
+abbrev pub IsOpenAt : (old new : PacketBuffer) → (before after : Option (List ℕ)) → Type 0
+IsOpenAt old new before after =
+    (read : List ℕ) × Adds old new before after read × (is_ended old ≡ true → read ≡ [])
+    × (waits_by (cut_of new) (is_in_step new) (held new) ≡ true)
 
 -- what a search for a piece gives: the one in front; or that none is left at the end of the stream;
 -- or that a read failed
@@ -90,12 +103,12 @@ abbrev pub FindsPiece :
     → (had failed : Bool) → Type 0
 FindsPiece (Ok (Some f)) old new before after had failed =
     (read : List ℕ) × Goes old new before after read × IsInFront new f × (failed ≡ had)
-    × IsAsked (is_in_step old) (held old) read
+    × IsAsked (cut_of old) (is_in_step old) (held old) read
 FindsPiece (Ok None) old new before after had failed =
     (read : List ℕ) × Goes old new before after read × (held new ≡ []) × (is_ended new ≡ true)
     × (failed ≡ had)
 FindsPiece (Err faults.Read) old new before after had failed =
-    (read : List ℕ) × Consumes before after read × (failed ≡ true)
+    IsOpenAt old new before after × (failed ≡ true)
 FindsPiece (Err faults.Memory) old new before after had failed =
     (lost : List ℕ) × Consumes before after lost × (failed ≡ had)
 FindsPiece (Err faults.Write) old new before after had failed = ⊥

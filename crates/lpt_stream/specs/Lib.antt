@@ -2,4 +2,6 @@ pub mod Buffers
 pub mod Fronts
 pub mod Pieces
 pub mod Reads
+pub mod Strays
 pub mod Streams
+pub mod Takes

@@ -1,10 +1,12 @@
 -- How a stream is cut into pieces, where not all of its octets are packets.
-use Rattle.std.specs.Prelude.{◌≡◌, ◌≢◌, ℕ, ◌+◌, ◌-◌, ◌^◌, ◌<◌, ◌==◌, ◌&&◌, ◌||◌, not, ◌/◌, ◌%◌, min, nat_lt, nat_le, Bool, true, false, if◌then◌else◌, List, [], ◌∷◌, length, take, drop, Result, Ok, Err}
+use Rattle.std.specs.Prelude.{◌≡◌, ◌≢◌, ℕ, ◌+◌, ◌-◌, ◌^◌, ◌<◌, ◌==◌, ◌&&◌, ◌||◌, not, ◌/◌, ◌%◌, min, nat_lt, nat_le, Bool, true, false, if◌then◌else◌, List, [], ◌∷◌, length, take, drop, slice_index, Result, Ok, Err, ⊤}
 use Rattle.lpt_packet.specs.declared.fault.PacketFault.{PacketFault}
 use Rattle.lpt_packet.specs.declared.fault.PacketFault.TheVariants.{Short, Version, Length, Segmented, NoSecondary, Checksum}
 use Rattle.lpt_packet.specs.Checksums.{checksum}
 use Rattle.lpt_packet.specs.Numbers.{word_at}
 use Rattle.lpt_packet.specs.Packets.{Sight, IdlePacket, APacket, verdict}
+use Rattle.lpt_stream.specs.declared.cut.Cut.{Cut}
+use Rattle.lpt_stream.specs.declared.cut.Cut.TheVariants.{Sealed, Framed, Resumed}
 use Rattle.lpt_stream.specs.declared.piece_kind.PieceKind.{PieceKind}
 use Rattle.lpt_stream.specs.declared.piece_kind.PieceKind.TheVariants.{Whole, Damaged, Stray}
 
@@ -66,9 +68,31 @@ is_framed b = nat_le (7 + word_at b 4) (length b)
 abbrev pub is_passed : List ℕ → Bool
 is_passed b = is_framed b && ((length (behind b) == 0) || begins false (behind b))
 
+-- whether the version of what begins at the front is 0, as far as it has come
+abbrev pub is_version : List ℕ → Bool
+is_version b = slice_index b 0 / 32 == 0
+
+-- whether a packet begins at the front, by this cut: one with a right checksum; or in step as many
+-- octets as a header of version 0 says
+abbrev pub begins_by : Cut → (in_step : Bool) → List ℕ → Bool
+begins_by Sealed s b = begins s b
+begins_by Framed s b = s && (is_version b && is_framed b)
+begins_by Resumed true b = is_version b && is_framed b
+begins_by Resumed false b = begins false b
+
+-- whether octets that are as many as a header says, and no packet, are passed over as one
+abbrev pub passes_by : Cut → List ℕ → Bool
+passes_by Sealed b = is_passed b
+passes_by Framed b = false
+passes_by Resumed b = false
+
 -- what stands at the front: a packet; or in step as many octets as a header says; or one octet
+abbrev pub kind_by : Cut → (in_step : Bool) → List ℕ → PieceKind
+kind_by c s b = if begins_by c s b then Whole else if s && passes_by c b then Damaged else Stray
+
+-- the same by checksums
 abbrev pub kind_in : (in_step : Bool) → List ℕ → PieceKind
-kind_in s b = if begins s b then Whole else if s && is_passed b then Damaged else Stray
+kind_in s b = kind_by Sealed s b
 
 -- how many octets that is
 abbrev pub size_in : PieceKind → List ℕ → ℕ
@@ -108,6 +132,13 @@ abbrev pub waits : (in_step : Bool) → List ℕ → Bool
 waits s b =
     if is_framed b then s && not (begins s b) && is_open (behind b) else s || may_begin b
 
+-- the same by each cut: lengths alone depend on what may come until the header's octets have come
+abbrev pub waits_by : Cut → (in_step : Bool) → List ℕ → Bool
+waits_by Sealed s b = waits s b
+waits_by Framed s b = (length b == 0) || (s && (is_version b && not (is_framed b)))
+waits_by Resumed true b = (length b == 0) || (is_version b && not (is_framed b))
+waits_by Resumed false b = waits false b
+
 -- ---- the stream
 
 -- octets of a stream, and what they are
@@ -119,13 +150,23 @@ pub record Piece : Type 0 where
 abbrev pub piece_of : PieceKind → (near b : List ℕ) → Piece
 piece_of k near b = record { kind = k; octets = take (size_in k near) b }
 
--- the piece at the front
-unfoldable pub piece_at : (in_step : Bool) → List ℕ → Piece
-piece_at s b = piece_of (kind_in s (take lookahead b)) (take lookahead b) b
+-- the piece at the front, by this cut
+unfoldable pub piece_by : Cut → (in_step : Bool) → List ℕ → Piece
+piece_by c s b = piece_of (kind_by c s (take lookahead b)) (take lookahead b) b
+
+-- the same by checksums
+abbrev pub piece_at : (in_step : Bool) → List ℕ → Piece
+piece_at s b = piece_by Sealed s b
 
 -- a packet's checksum isn't at fault: it was taken as the piece was found
 abbrev pub IsSealed : PieceKind → List ℕ → Type 0
 IsSealed k b = k ≡ Whole → verdict b ≢ Err Checksum
+
+-- nor where a cut looks at checksums
+abbrev pub IsSealedBy : Cut → PieceKind → List ℕ → Type 0
+IsSealedBy Sealed k b = IsSealed k b
+IsSealedBy Framed k b = ⊤
+IsSealedBy Resumed k b = ⊤
 
 -- whether what comes behind is in step
 abbrev pub keeps_step : PieceKind → Bool
@@ -133,16 +174,24 @@ keeps_step Whole = true
 keeps_step Damaged = true
 keeps_step Stray = false
 
--- the octets are these pieces, one behind the other, up to others
-abbrev pub Leads : (in_step : Bool) → List ℕ → List Piece → (at_last : Bool) → List ℕ → Type 0
-Leads s b [] t c = (s ≡ t) × (b ≡ c)
-Leads s b (p ∷ ps) t c =
-    (0 < length b) × (p ≡ piece_at s b)
-    × Leads (keeps_step p.kind) (drop (length p.octets) b) ps t c
+-- the octets are these pieces, one behind the other, up to others, by this cut
+abbrev pub LeadsBy : Cut → (in_step : Bool) → List ℕ → List Piece → (at_last : Bool) → List ℕ
+    → Type 0
+LeadsBy cut s b [] t c = (s ≡ t) × (b ≡ c)
+LeadsBy cut s b (p ∷ ps) t c =
+    (0 < length b) × (p ≡ piece_by cut s b)
+    × LeadsBy cut (keeps_step p.kind) (drop (length p.octets) b) ps t c
 
--- the stream is these pieces; it begins in step
+-- the stream is these pieces, by this cut; it begins in step
+abbrev pub CutsBy : Cut → List ℕ → List Piece → Type 0
+CutsBy cut stream ps = (t : Bool) × LeadsBy cut true stream ps t []
+
+-- the same by checksums
+abbrev pub Leads : (in_step : Bool) → List ℕ → List Piece → (at_last : Bool) → List ℕ → Type 0
+Leads s b ps t c = LeadsBy Sealed s b ps t c
+
 abbrev pub Cuts : List ℕ → List Piece → Type 0
-Cuts stream ps = (t : Bool) × Leads true stream ps t []
+Cuts stream ps = CutsBy Sealed stream ps
 
 -- how many octets pieces have
 abbrev pub octets_in : List Piece → ℕ

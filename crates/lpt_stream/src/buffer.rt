@@ -4,12 +4,12 @@ ghost use Rattle.std.specs.Prelude.{◌≤◌, drop, length, take};
 ghost use Rattle.lpt_search.specs.Searches.{Knows};
 ghost use Rattle.lpt_stream.specs.Pieces.{most_kept};
 
-use crate::PieceKind;
 use crate::cutting::whole_length;
 use crate::found::{Found, announced, other_in_front, packet_unless};
 use crate::waiting::waits;
+use crate::{Cut, Peer, PieceKind};
 use lpt_search::Search;
-use lpt_text::{Sink, Source, StreamFault, flush_out};
+use lpt_text::{Sink, StreamFault, flush_out};
 use std::alloc::{AllocError, Global};
 
 /// How many octets are asked for at a time.
@@ -32,6 +32,8 @@ pub struct PacketBuffer {
     start: usize,
     // How many were read, those among them.
     end: usize,
+    // How the stream is cut.
+    cut: Cut,
     // Whether they come right behind a packet.
     in_step: bool,
     // Whether the stream's end was read.
@@ -48,12 +50,13 @@ impl PacketBuffer {
     ghost use Rattle.std.specs.Prelude.{◌≡◌, ◌≢◌, ◌⊎◌, ◌+◌, ◌<◌, [], drop, take, true, false, None, Err, IfSome, OnOk};
     ghost use Rattle.std.specs.Io.KnownBytes.{Keeps};
     ghost use Rattle.lpt_text.specs.Streams.{WriteEnds};
-    ghost use Rattle.lpt_stream.specs.Buffers.{held, is_ended, is_in_step, kept, Fills, FindsPassing, FindsPiece, IsInFront, IsUnsettled};
-    ghost use Rattle.lpt_stream.specs.Pieces.{begins, is_framed, keeps_step, lookahead, waits};
+    ghost use Rattle.lpt_stream.specs.Buffers.{cut_of, held, is_ended, is_in_step, kept, Fills, FindsPassing, IsInFront, IsUnsettled};
+    ghost use Rattle.lpt_stream.specs.Pieces.{begins_by, is_framed, keeps_step, lookahead, waits_by};
 
     /// A stream of which nothing was read.
-    pub fn new(alloc: Global) -> Self
+    pub fn new(alloc: Global, cut: Cut) -> Self
         ensures held { held result ≡ [] }
+        ensures cut { cut_of result ≡ cut }
         ensures step { is_in_step result ≡ true }
         ensures end { is_ended result ≡ false }
     {
@@ -61,6 +64,7 @@ impl PacketBuffer {
             octets: Vec::new(alloc),
             start: 0,
             end: 0,
+            cut,
             in_step: true,
             ended: false,
             search: Search::new(alloc),
@@ -85,6 +89,7 @@ impl PacketBuffer {
     pub fn skip(&mut self, found: Found)
         requires { found.len ≤ length (held self.old) }
         ensures held { held self.new ≡ drop found.len (held self.old) }
+        ensures cut { cut_of self.new ≡ cut_of self.old }
         ensures step { is_in_step self.new ≡ keeps_step found.kind }
         ensures end { is_ended self.new ≡ is_ended self.old }
     {
@@ -94,44 +99,20 @@ impl PacketBuffer {
     }
 
     /// Reads until the octets that are held show which piece is in front of them, and gives it.
-    /// Where they do already, nothing is read.
+    /// Where they do already, nothing is read. Before each read `out` passes on what it has kept
+    /// back.
     ///
     /// There is none where the stream is at its end and nothing is held.
     ///
-    /// Errors: `Read` where a read failed; `Memory`, with which some octets of the stream are lost.
-    pub fn find_piece<S: Source>(&mut self, source: &mut S) -> Result<Option<Found>, StreamFault>
-        ensures { FindsPiece result self.old self.new (S.remaining source.old)
-            (S.remaining source.new) (S.failed source.old) (S.failed source.new) }
-    {
-        let mut is_judged = self.shows_none();
-        loop {
-            match self.settled(is_judged) {
-                Some(found) => return Ok(Some(found)),
-                None => {}
-            }
-            if self.ended {
-                return Ok(None);
-            }
-            is_judged = self.is_framed();
-            match self.fill(source) {
-                Ok(()) => {}
-                Err(fault) => return Err(fault),
-            }
-        }
-    }
-
-    /// Does the same for a stream that somebody waits for: before each read `out` passes on what it
-    /// has kept back.
-    ///
-    /// Errors: `Read` and `Memory`, as there; `Write` where `out` failed. All that was read is held
-    /// then.
-    pub fn find_piece_passing<S: Source, K: Sink>(
+    /// Errors: `Read` where a read failed; `Memory`, with which some octets of the stream are lost;
+    /// `Write` where `out` failed. All that was read is held then.
+    pub fn find_piece_passing<P: Peer, K: Sink>(
         &mut self,
-        source: &mut S,
+        source: &mut P,
         out: &mut K,
     ) -> Result<Option<Found>, StreamFault>
-        ensures finds { FindsPassing result self.old self.new (S.remaining source.old)
-            (S.remaining source.new) (S.failed source.old) (S.failed source.new) }
+        ensures finds { FindsPassing result self.old self.new (P.remaining source.old)
+            (P.remaining source.new) (P.failed source.old) (P.failed source.new) }
 
         // What was written stays, and where something was read, all of it was passed on before.
         ensures same { Keeps (K.contents out.old) (K.contents out.new) }
@@ -151,7 +132,7 @@ impl PacketBuffer {
                 Ok(()) => {}
                 Err(fault) => return Err(fault),
             }
-            match self.fill(source) {
+            match self.fill_passing(source, out) {
                 Ok(()) => {}
                 Err(fault) => return Err(fault),
             }
@@ -162,7 +143,8 @@ impl PacketBuffer {
     // change it. Where it is judged already that no packet is there, that isn't looked at again.
     fn settled(&self, is_judged: bool) -> Option<Found>
         requires { is_judged ≡ true
-            → begins (is_in_step self.now) (take lookahead (held self.now)) ≡ false }
+            → begins_by (cut_of self.now) (is_in_step self.now) (take lookahead (held self.now))
+            ≡ false }
         ensures some { IfSome result (IsInFront self.now) }
         ensures none { result ≡ None → IsUnsettled self.now }
     {
@@ -171,7 +153,7 @@ impl PacketBuffer {
             return None;
         }
         let near = &octets[..LOOKAHEAD.min(octets.len())];
-        match packet_unless(is_judged, near, self.in_step) {
+        match packet_unless(is_judged, self.cut, near, self.in_step) {
             Some(len) => {
                 return Some(Found {
                     kind: PieceKind::Whole,
@@ -183,15 +165,17 @@ impl PacketBuffer {
         if self.is_unsettled(near) {
             return None;
         }
-        Some(other_in_front(near, self.in_step))
+        Some(other_in_front(self.cut, near, self.in_step))
     }
 
     // Whether it shows already, behind octets that are no packet, that none begins in front: the
     // checksum of what a header there announces is wrong.
     fn shows_none(&mut self) -> bool
         ensures none { result ≡ true
-            → begins (is_in_step self.new) (take lookahead (held self.new)) ≡ false }
+            → begins_by (cut_of self.new) (is_in_step self.new) (take lookahead (held self.new))
+            ≡ false }
         ensures held { held self.new ≡ held self.old }
+        ensures cut { cut_of self.new ≡ cut_of self.old }
         ensures step { is_in_step self.new ≡ is_in_step self.old }
         ensures end { is_ended self.new ≡ is_ended self.old }
     {
@@ -207,13 +191,15 @@ impl PacketBuffer {
 
     // Whether what is in front of these octets, which is no packet, depends on what may still come.
     fn is_unsettled(&self, near: &[u8]) -> bool
-        requires { begins (is_in_step self.now) near.now ≡ false }
-        ensures waits { result ≡ true → (waits (is_in_step self.now) near.now ≡ true)
+        requires { begins_by (cut_of self.now) (is_in_step self.now) near.now ≡ false }
+        ensures waits { result ≡ true
+            → (waits_by (cut_of self.now) (is_in_step self.now) near.now ≡ true)
             × (length near.now < 131084) × (is_ended self.now ≡ false) }
-        ensures shows { result ≡ false → (waits (is_in_step self.now) near.now ≡ false)
+        ensures shows { result ≡ false
+            → (waits_by (cut_of self.now) (is_in_step self.now) near.now ≡ false)
             ⊎ (is_ended self.now ≡ true) }
     {
-        !self.ended && waits(near, self.in_step)
+        !self.ended && waits(self.cut, near, self.in_step)
     }
 
     // Whether as many octets are held as the header in front says.
@@ -223,23 +209,25 @@ impl PacketBuffer {
         whole_length(self.held()).is_some()
     }
 
-    // Reads some octets behind those that are held, or the stream's end.
-    fn fill<S: Source>(&mut self, source: &mut S) -> Result<(), StreamFault>
+    // Reads some octets behind those that are held, or the stream's end, where a sink has passed on
+    // all that was written to it.
+    fn fill_passing<P: Peer, K: Sink>(&mut self, peer: &mut P, out: &K) -> Result<(), StreamFault>
         requires more { is_ended self.old ≡ false }
         requires few { length (held self.old) < lookahead }
-        ensures { Fills result self.old self.new (S.remaining source.old) (S.remaining source.new)
-            (S.failed source.old) (S.failed source.new) }
+        requires flushed { K.flushed out.now ≡ K.contents out.now }
+        ensures { Fills result self.old self.new (P.remaining peer.old) (P.remaining peer.new)
+            (P.failed peer.old) (P.failed peer.new) }
     {
         self.compact();
         let Ok(()) = self.make_room() else {
             return Err(StreamFault::Memory);
         };
         let room = self.end..self.end + CHUNK;
-        let Some(count) = source.read(&mut self.octets[room]) else {
+        let Some(given) = peer.read(out, &mut self.octets[room]) else {
             return Err(StreamFault::Read);
         };
-        self.ended = count == 0;
-        self.end += count;
+        self.ended = given == 0;
+        self.end += given;
         Ok(())
     }
 
@@ -249,6 +237,7 @@ impl PacketBuffer {
         ensures front { self.new.start ≡ 0 }
         ensures last { self.new.end ≡ length (held self.old) }
         ensures step { is_in_step self.new ≡ is_in_step self.old }
+        ensures cut { cut_of self.new ≡ cut_of self.old }
         ensures end { is_ended self.new ≡ is_ended self.old }
     {
         self.octets.copy_within(self.start..self.end, 0);
@@ -264,6 +253,7 @@ impl PacketBuffer {
         ensures last { self.new.end ≡ self.old.end }
         ensures room { OnOk result (self.new.end + 65536 ≤ length self.new.octets.items) }
         ensures step { is_in_step self.new ≡ is_in_step self.old }
+        ensures cut { cut_of self.new ≡ cut_of self.old }
         ensures end { is_ended self.new ≡ is_ended self.old }
     {
         let room = self.end + CHUNK;

@@ -1,14 +1,14 @@
 //! The piece at the front of a stream (CCSDS 133.0-B), where not all octets are packets.
 
-ghost use Rattle.std.specs.Prelude.{◌≡◌, ◌≢◌, ◌+◌, ◌<◌, ◌≤◌, ◌==◌, ◌||◌, true, false, length, take, None, IfSome};
+ghost use Rattle.std.specs.Prelude.{◌≡◌, ◌≢◌, ◌+◌, ◌<◌, ◌≤◌, ◌==◌, ◌||◌, ◌&&◌, true, false, length, take, None, IfSome};
 ghost use Rattle.lpt_packet.specs.Checksums.{checksum};
 ghost use Rattle.lpt_packet.specs.Numbers.{word_at};
 ghost use Rattle.lpt_packet.specs.Sizes.{longest_packet};
-ghost use Rattle.lpt_stream.specs.Pieces.{begins, ends_in_checksum, is_found, is_of_flags, kind_in, size_in};
+ghost use Rattle.lpt_stream.specs.Pieces.{begins, begins_by, ends_in_checksum, is_found, is_framed, is_of_flags, is_version, kind_by, passes_by, size_in};
 
-use crate::PieceKind;
 use crate::cutting::whole_length;
 use crate::waiting::may_begin;
+use crate::{Cut, PieceKind};
 use lpt_packet::{ERROR_CONTROL, PRIMARY_HEADER, PacketFault, Seen, crc16, read_packet};
 
 /// The piece at the front of octets.
@@ -20,9 +20,48 @@ pub struct Found {
     pub len: usize,
 }
 
-// How many octets the packet at the front has, where one has come whole; an idle one counts in step
-// alone, and so does one without a secondary header, or a segment.
-pub(crate) fn packet_in_front(bytes: &[u8], in_step: bool) -> Option<usize>
+// How many octets the packet at the front has, where one has come whole.
+pub(crate) fn packet_in_front(cut: Cut, bytes: &[u8], in_step: bool) -> Option<usize>
+    ensures some { IfSome result (λ n. (begins_by cut in_step bytes.now ≡ true)
+        × (n ≡ 7 + word_at bytes.now 4)
+        × (n ≤ length bytes.now)) }
+    ensures least { IfSome result (λ n. 0 < n) }
+    ensures none { result ≡ None → begins_by cut in_step bytes.now ≡ false }
+{
+    match cut {
+        Cut::Sealed => sealed_in_front(bytes, in_step),
+        Cut::Framed => framed_in_front(bytes, in_step),
+        Cut::Resumed if in_step => framed_in_front(bytes, true),
+        Cut::Resumed => sealed_in_front(bytes, false),
+    }
+}
+
+// The same by lengths alone, which are looked at in step alone.
+fn framed_in_front(bytes: &[u8], in_step: bool) -> Option<usize>
+    ensures some { IfSome result (λ n.
+        ((in_step && (is_version bytes.now && is_framed bytes.now)) ≡ true)
+        × (n ≡ 7 + word_at bytes.now 4)
+        × (n ≤ length bytes.now)) }
+    ensures least { IfSome result (λ n. 0 < n) }
+    ensures none { result ≡ None
+        → (in_step && (is_version bytes.now && is_framed bytes.now)) ≡ false }
+{
+    if !in_step || !has_version(bytes) {
+        return None;
+    }
+    whole_length(bytes)
+}
+
+// Whether the version of what begins here is 0, as far as it has come.
+pub(crate) fn has_version(bytes: &[u8]) -> bool
+    ensures { result ≡ is_version bytes.now }
+{
+    bytes.is_empty() || bytes[0] >> 5 == 0
+}
+
+// The same by checksums; an idle packet counts in step alone, and so does one without a secondary
+// header, or a segment.
+fn sealed_in_front(bytes: &[u8], in_step: bool) -> Option<usize>
     ensures some { IfSome result (λ n. (begins in_step bytes.now ≡ true)
         × (n ≡ 7 + word_at bytes.now 4)
         × (n ≤ length bytes.now)) }
@@ -68,18 +107,18 @@ pub fn ends_in_checksum(octets: &[u8]) -> bool
 }
 
 // The same, where it isn't judged already that none is there.
-pub(crate) fn packet_unless(is_judged: bool, bytes: &[u8], in_step: bool) -> Option<usize>
-    requires { is_judged ≡ true → begins in_step bytes.now ≡ false }
-    ensures some { IfSome result (λ n. (begins in_step bytes.now ≡ true)
+pub(crate) fn packet_unless(is_judged: bool, cut: Cut, bytes: &[u8], in_step: bool) -> Option<usize>
+    requires { is_judged ≡ true → begins_by cut in_step bytes.now ≡ false }
+    ensures some { IfSome result (λ n. (begins_by cut in_step bytes.now ≡ true)
         × (n ≡ 7 + word_at bytes.now 4)
         × (n ≤ length bytes.now)) }
     ensures least { IfSome result (λ n. 0 < n) }
-    ensures none { result ≡ None → begins in_step bytes.now ≡ false }
+    ensures none { result ≡ None → begins_by cut in_step bytes.now ≡ false }
 {
     if is_judged {
         return None;
     }
-    packet_in_front(bytes, in_step)
+    packet_in_front(cut, bytes, in_step)
 }
 
 // How many octets the packet has that the header in front announces, where they have all come. If
@@ -95,16 +134,16 @@ pub(crate) fn announced(bytes: &[u8]) -> Option<usize>
 }
 
 // What stands at the front of octets with which no packet begins.
-pub(crate) fn other_in_front(bytes: &[u8], in_step: bool) -> Found
+pub(crate) fn other_in_front(cut: Cut, bytes: &[u8], in_step: bool) -> Found
     requires some { 0 < length bytes.now }
-    requires none { begins in_step bytes.now ≡ false }
-    ensures kind { result.kind ≡ kind_in in_step bytes.now }
+    requires none { begins_by cut in_step bytes.now ≡ false }
+    ensures kind { result.kind ≡ kind_by cut in_step bytes.now }
     ensures len { result.len ≡ size_in result.kind bytes.now }
     ensures least { 0 < result.len }
     ensures within { result.len ≤ length bytes.now }
 {
     match whole_length(bytes) {
-        Some(len) if in_step && ends_or_goes_on(&bytes[len..]) => Found {
+        Some(len) if in_step && passes_over(cut, bytes, len) => Found {
             kind: PieceKind::Damaged,
             len,
         },
@@ -115,9 +154,21 @@ pub(crate) fn other_in_front(bytes: &[u8], in_step: bool) -> Found
     }
 }
 
+// Whether so many octets in front, as many as their header says, are passed over as one.
+fn passes_over(cut: Cut, bytes: &[u8], len: usize) -> bool
+    requires within { len ≤ length bytes.now }
+    requires len { len ≡ 7 + word_at bytes.now 4 }
+    ensures { result ≡ passes_by cut bytes.now }
+{
+    match cut {
+        Cut::Sealed => ends_or_goes_on(&bytes[len..]),
+        Cut::Framed | Cut::Resumed => false,
+    }
+}
+
 // Whether there are no octets, or a packet begins with them.
 fn ends_or_goes_on(bytes: &[u8]) -> bool
     ensures { result ≡ ((length bytes.now == 0) || begins false bytes.now) }
 {
-    bytes.is_empty() || packet_in_front(bytes, false).is_some()
+    bytes.is_empty() || sealed_in_front(bytes, false).is_some()
 }

@@ -2,7 +2,8 @@
 
 ghost use Rattle.std.specs.Prelude.{◌≡◌, ◌++◌, ◌∷◌, ℕ, List, Some};
 ghost use Rattle.lpt_packet.specs.Packets.{Fields, IsPacket, IsIdle};
-ghost use Rattle.lpt_stream.specs.Pieces.{Piece, Cuts, Finds};
+ghost use Rattle.lpt_stream.specs.declared.cut.Cut.{Cut};
+ghost use Rattle.lpt_stream.specs.Pieces.{Piece, CutsBy, Finds};
 ghost use Rattle.lpt_stream.specs.Streams.{IsDamaged, IsEndOrPacket, IsInStep, AreInStep, all_octets, front_of};
 
 /// A packet and an idle packet are cut out whole, whatever comes behind.
@@ -12,10 +13,10 @@ pub fn packets_are_cut()
     ensures idle { (b rest : List ℕ) → IsIdle b → front_of (b ++ rest) ≡ Some (b, rest) }
 {}
 
-/// A stream is cut into pieces in one way.
+/// A stream is cut into pieces in one way, by each cut.
 pub fn streams_are_cut_one_way()
-    ensures { (stream : List ℕ) (pieces others : List Piece)
-        → Cuts stream pieces → Cuts stream others → pieces ≡ others }
+    ensures { (cut : Cut) (stream : List ℕ) (pieces others : List Piece)
+        → CutsBy cut stream pieces → CutsBy cut stream others → pieces ≡ others }
 {}
 
 /// In packets, one behind the other, just these are found: idle ones among them, and those with a

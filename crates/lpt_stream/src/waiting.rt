@@ -1,14 +1,40 @@
 //! Whether what stands at the front of a stream depends on octets that may still come.
 
-ghost use Rattle.std.specs.Prelude.{◌≡◌, ◌+◌, ◌<◌, length, true, false};
+ghost use Rattle.std.specs.Prelude.{◌≡◌, ◌+◌, ◌<◌, ◌==◌, ◌||◌, ◌&&◌, not, length, true, false};
 ghost use Rattle.lpt_packet.specs.Numbers.{word_at};
 ghost use Rattle.lpt_packet.specs.Sizes.{longest_packet};
-ghost use Rattle.lpt_stream.specs.Pieces.{begins, first_fits, flags_fit, is_open, may_begin, size_fits, waits};
+ghost use Rattle.lpt_stream.specs.Pieces.{begins, begins_by, first_fits, flags_fit, is_framed, is_open, is_version, may_begin, size_fits, waits, waits_by};
 
+use crate::Cut;
 use crate::cutting::whole_length;
+use crate::found::has_version;
 
 // Whether it does, of octets with which no packet begins as they are.
-pub(crate) fn waits(bytes: &[u8], in_step: bool) -> bool
+pub(crate) fn waits(cut: Cut, bytes: &[u8], in_step: bool) -> bool
+    requires { begins_by cut in_step bytes.now ≡ false }
+    ensures waits { result ≡ waits_by cut in_step bytes.now }
+    ensures few { result ≡ true → length bytes.now < 131084 }
+{
+    match cut {
+        Cut::Sealed => sealed_waits(bytes, in_step),
+        Cut::Framed => framed_waits(bytes, in_step),
+        Cut::Resumed if in_step => framed_waits(bytes, true),
+        Cut::Resumed => sealed_waits(bytes, false),
+    }
+}
+
+// The same by lengths alone.
+fn framed_waits(bytes: &[u8], in_step: bool) -> bool
+    ensures waits { result
+        ≡ ((length bytes.now == 0)
+        || (in_step && (is_version bytes.now && not (is_framed bytes.now)))) }
+    ensures few { result ≡ true → length bytes.now < 131084 }
+{
+    bytes.is_empty() || in_step && has_version(bytes) && whole_length(bytes).is_none()
+}
+
+// The same by checksums.
+fn sealed_waits(bytes: &[u8], in_step: bool) -> bool
     requires { begins in_step bytes.now ≡ false }
     ensures waits { result ≡ waits in_step bytes.now }
     ensures few { result ≡ true → length bytes.now < 131084 }

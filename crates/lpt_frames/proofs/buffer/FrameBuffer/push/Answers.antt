@@ -2,7 +2,7 @@
 use Rattle.std.proofs.Common.{◌≤◌, ◌+◌, subst, sym, length, rules}
 use Rattle.std.specs.Prelude.{is_ok}
 use Rattle.lpt_frames.specs.Frames.{most_kept}
-use Rattle.lpt_stream.proofs.BufferLemmas.{pushed_fits, pushed_keeps}
+use Rattle.lpt_frames.proofs.PushLemmas.{pushed_fits, pushed_keeps}
 use Rattle.lpt_frames.proofs.buffer.FrameBuffer.push.Goals as goal
 
 pub invariant_of-self : goal.invariant_of-self

@@ -9,8 +9,9 @@ loop-found-init g c = record {
   goes = (
     [],
     goes-same c.args.self.now c.shows_none-is_judged.new.self
-        (g.S.Source.remaining c.args.source.now) c.shows_none-is_judged.ensures.held
-        c.shows_none-is_judged.ensures.step c.shows_none-is_judged.ensures.end,
+        (g.P.Peer.remaining c.args.source.now) c.shows_none-is_judged.ensures.held
+        c.shows_none-is_judged.ensures.cut c.shows_none-is_judged.ensures.step
+        c.shows_none-is_judged.ensures.end,
     inl refl,
   );
   judged = c.shows_none-is_judged.ensures.none;
@@ -40,30 +41,32 @@ returns-in-None-clause-finds g c = (
 
 pub loop-found-smaller : goal.loop-found-smaller
 loop-found-smaller g c =
-    nearer c.loop-found.self c.fill.new.self (g.S.Source.remaining c.loop-found.source)
-    (g.S.Source.remaining c.fill.new.source) c.in-Ok-fill.ensures.0 c.if-self.false
-    (c.in-None.ensures.none refl).few c.in-Ok-fill.ensures.1 c.in-Ok-fill.ensures.4
+    nearer c.loop-found.self c.fill_passing.new.self (g.P.Peer.remaining c.loop-found.source)
+    (g.P.Peer.remaining c.fill_passing.new.peer) c.in-Ok-fill_passing.ensures.0 c.if-self.false
+    (c.in-None.ensures.none refl).few c.in-Ok-fill_passing.ensures.1 c.in-Ok-fill_passing.ensures.4
 
 pub loop-found-preserved : goal.loop-found-preserved
 loop-found-preserved g c = record {
   goes = (
-    c.loop-found.invariant.goes.0 ++ c.in-Ok-fill.ensures.0,
-    goes-more c.args.self.now c.loop-found.self c.fill.new.self
-        (g.S.Source.remaining c.args.source.now) (g.S.Source.remaining c.loop-found.source)
-        (g.S.Source.remaining c.fill.new.source) c.loop-found.invariant.goes.0
-        c.in-Ok-fill.ensures.0
-        c.if-self.false c.loop-found.invariant.goes.1 c.in-Ok-fill.ensures.1 c.in-Ok-fill.ensures.4,
-    asked-more c.args.self.now c.loop-found.self (g.S.Source.remaining c.args.source.now)
-        (g.S.Source.remaining c.loop-found.source) c.loop-found.invariant.goes.0
-        c.in-Ok-fill.ensures.0
-        c.loop-found.invariant.goes.1 (c.in-None.ensures.none refl) c.in-Ok-fill.ensures.3,
+    c.loop-found.invariant.goes.0 ++ c.in-Ok-fill_passing.ensures.0,
+    goes-more c.args.self.now c.loop-found.self c.fill_passing.new.self
+        (g.P.Peer.remaining c.args.source.now) (g.P.Peer.remaining c.loop-found.source)
+        (g.P.Peer.remaining c.fill_passing.new.peer) c.loop-found.invariant.goes.0
+        c.in-Ok-fill_passing.ensures.0
+        c.if-self.false c.loop-found.invariant.goes.1 c.in-Ok-fill_passing.ensures.1
+        c.in-Ok-fill_passing.ensures.4,
+    asked-more c.args.self.now c.loop-found.self (g.P.Peer.remaining c.args.source.now)
+        (g.P.Peer.remaining c.loop-found.source) c.loop-found.invariant.goes.0
+        c.in-Ok-fill_passing.ensures.0
+        c.loop-found.invariant.goes.1 (c.in-None.ensures.none refl) c.in-Ok-fill_passing.ensures.3,
   );
   judged = λ e.
-      judged-more c.loop-found.self c.fill.new.self (g.S.Source.remaining c.loop-found.source)
-      (g.S.Source.remaining c.fill.new.source) c.in-Ok-fill.ensures.0 c.is_framed-is_judged.result
-      c.in-Ok-fill.ensures.1
+      judged-more c.loop-found.self c.fill_passing.new.self (g.P.Peer.remaining c.loop-found.source)
+      (g.P.Peer.remaining c.fill_passing.new.peer) c.in-Ok-fill_passing.ensures.0
+      c.is_framed-is_judged.result
+      c.in-Ok-fill_passing.ensures.1
       (c.in-None.ensures.none refl) c.is_framed-is_judged.ensures e;
-  told = c.in-Ok-fill.ensures.2 ∙ c.loop-found.invariant.told;
+  told = c.in-Ok-fill_passing.ensures.2 ∙ c.loop-found.invariant.told;
   same = Keeps-trans (g.K.Sink.contents c.args.out.now) (g.K.Sink.contents c.loop-found.out)
       (g.K.Sink.contents c.flush_out.new.out) c.loop-found.invariant.same c.in-Ok.ensures.same;
   passed = inr c.in-Ok.ensures.all;
@@ -71,14 +74,15 @@ loop-found-preserved g c = record {
 }
 
 -- a read failed, or memory ran out, before a piece was shown
-pub returns-in-Err-fill-clause-finds : goal.returns-in-Err-fill-clause-finds
-returns-in-Err-fill-clause-finds g c =
-    passing-fault c.in-Err-fill.fault c.args.self.now c.fill.new.self
-    (g.S.Source.remaining c.args.source.now) (g.S.Source.remaining c.fill.new.source)
-    (g.S.Source.failed c.args.source.now) (g.S.Source.failed c.fill.new.source)
-    (fill-fault c.in-Err-fill.fault c.args.self.now c.loop-found.self c.fill.new.self
-    (g.S.Source.remaining c.args.source.now) (g.S.Source.remaining c.loop-found.source)
-    (g.S.Source.remaining c.fill.new.source) c.loop-found.invariant.goes.0
-    (g.S.Source.failed c.args.source.now) (g.S.Source.failed c.loop-found.source)
-    (g.S.Source.failed c.fill.new.source) c.loop-found.invariant.goes.1.added
-    c.loop-found.invariant.told c.in-Err-fill.ensures)
+pub returns-in-Err-fill_passing-clause-finds : goal.returns-in-Err-fill_passing-clause-finds
+returns-in-Err-fill_passing-clause-finds g c =
+    passing-fault c.in-Err-fill_passing.fault c.args.self.now c.fill_passing.new.self
+    (g.P.Peer.remaining c.args.source.now) (g.P.Peer.remaining c.fill_passing.new.peer)
+    (g.P.Peer.failed c.args.source.now) (g.P.Peer.failed c.fill_passing.new.peer)
+    (fill-fault c.in-Err-fill_passing.fault c.args.self.now c.loop-found.self
+    c.fill_passing.new.self
+    (g.P.Peer.remaining c.args.source.now) (g.P.Peer.remaining c.loop-found.source)
+    (g.P.Peer.remaining c.fill_passing.new.peer) c.loop-found.invariant.goes.0
+    (g.P.Peer.failed c.args.source.now) (g.P.Peer.failed c.loop-found.source)
+    (g.P.Peer.failed c.fill_passing.new.peer) c.if-self.false c.loop-found.invariant.goes.1
+    (c.in-None.ensures.none refl) c.loop-found.invariant.told c.in-Err-fill_passing.ensures)

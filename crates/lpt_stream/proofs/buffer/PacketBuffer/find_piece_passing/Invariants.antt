@@ -1,17 +1,18 @@
 use Rattle.std.proofs.Common.{◌≡◌, ◌⊎◌, ◌-◌, ℕ, List, length, take, true, false, if◌then◌else◌}
 use Rattle.std.specs.Io.KnownBytes.{Keeps}
-use Rattle.lpt_stream.specs.Buffers.{held, is_ended, is_in_step, Goes, IsAsked}
-use Rattle.lpt_stream.specs.Pieces.{begins, lookahead}
+use Rattle.lpt_stream.specs.Buffers.{cut_of, held, is_ended, is_in_step, Goes, IsAsked}
+use Rattle.lpt_stream.specs.Pieces.{begins_by, lookahead}
 use Rattle.lpt_stream.proofs.buffer.PacketBuffer.find_piece_passing.Given as goal
 
 -- what was read is held behind the rest
 abbrev pub invariant-loop-found : goal.invariant-loop-found
 invariant-loop-found g l = record {
-  goes : (read : List ℕ) × Goes l.fn.self l.self (g.S.Source.remaining l.fn.source)
-      (g.S.Source.remaining l.source) read
-      × IsAsked (is_in_step l.fn.self) (held l.fn.self) read;
-  judged : l.is_judged ≡ true → begins (is_in_step l.self) (take lookahead (held l.self)) ≡ false;
-  told : g.S.Source.failed l.source ≡ g.S.Source.failed l.fn.source;
+  goes : (read : List ℕ) × Goes l.fn.self l.self (g.P.Peer.remaining l.fn.source)
+      (g.P.Peer.remaining l.source) read
+      × IsAsked (cut_of l.fn.self) (is_in_step l.fn.self) (held l.fn.self) read;
+  judged : l.is_judged ≡ true
+      → begins_by (cut_of l.self) (is_in_step l.self) (take lookahead (held l.self)) ≡ false;
+  told : g.P.Peer.failed l.source ≡ g.P.Peer.failed l.fn.source;
   same : Keeps (g.K.Sink.contents l.fn.out) (g.K.Sink.contents l.out);
   passed : (l.source ≡ l.fn.source) ⊎ (g.K.Sink.flushed l.out ≡ g.K.Sink.contents l.out);
   written : g.K.Sink.failed l.out ≡ g.K.Sink.failed l.fn.out;

@@ -1,7 +1,7 @@
 -- What is looked at shows the piece in front.
 use Rattle.std.proofs.Common.{◌∙◌, ap, sym, refl}
 use Rattle.lpt_stream.specs.Buffers.{held}
-use Rattle.lpt_stream.specs.Pieces.{begins}
+use Rattle.lpt_stream.specs.Pieces.{begins_by}
 use Rattle.lpt_stream.proofs.BufferLemmas.{packet_settled, other_settled, unsettled, nothing_held, some_held, near_held}
 use Rattle.lpt_stream.proofs.buffer.PacketBuffer.settled.Goals as goal
 
@@ -25,7 +25,7 @@ returns-then-is_empty-clause-none c =
 -- what is judged is what is looked at
 pub packet_unless-requires : goal.packet_unless-requires
 packet_unless-requires c =
-    λ judged. ap (begins c.args.self.now.in_step)
+    λ judged. ap (begins_by c.args.self.now.cut c.args.self.now.in_step)
     (near_held (held c.args.self.now) c.held-octets.result.now c.min.result c.held-octets.ensures
     c.min.ensures)
     ∙ c.requires judged

@@ -1,4 +1,4 @@
--- What was read stands behind what was held.
+-- What was read stands behind what was held, of a source that waits as well.
 use Rattle.std.proofs.Common.{◌≡◌, ◌∙◌, ◌<◌, ◌≤◌, ◌+◌, ◌++◌, List, ℕ, ap, sym, subst, length, take, arith, length-drop}
 use Rattle.std.proofs.lemmas.List.{length-take, length-take-le}
 use Rattle.lpt_search.specs.Searches.{Knows}
@@ -7,12 +7,12 @@ use Rattle.lpt_stream.specs.Buffers.{held}
 use Rattle.lpt_stream.specs.Pieces.{most_kept}
 use Rattle.lpt_stream.proofs.BufferLemmas.{filled, more_given}
 use Rattle.lpt_stream.proofs.KnownLemmas.{refilled, unread}
-use Rattle.lpt_stream.proofs.buffer.PacketBuffer.fill.Goals as goal
+use Rattle.lpt_stream.proofs.buffer.PacketBuffer.fill_passing.Goals as goal
 
 pub returns : goal.returns
 returns g c =
     let b = c.make_room.new.self in
-    let n = c.in-Some.count in
+    let n = c.in-Some.given in
     let buf = c.read.new.buf in
     let call = c.in-Some.ensures in
     let slice = ap (λ (o : List ℕ). length o) c.deref_mut.ensures.value in
@@ -29,6 +29,7 @@ returns g c =
             call.bound fits
             ∙ ap (λ (o : List ℕ). o ++ take n buf) (c.in-Ok.ensures.held ∙ c.compact.ensures.held);
         step = c.in-Ok.ensures.step ∙ c.compact.ensures.step;
+        cut = c.in-Ok.ensures.cut ∙ c.compact.ensures.cut;
       },
       call.cause,
       omega (arith, size, call.bound, length-take-le n buf call.bound),
@@ -61,7 +62,7 @@ invariant_of-self g c =
 pub invariant_of-self-2 : goal.invariant_of-self-2
 invariant_of-self-2 g c =
     let b = c.make_room.new.self in
-    let n = c.in-Some.count in
+    let n = c.in-Some.given in
     let buf = c.read.new.buf in
     let call = c.in-Some.ensures in
     let slice = ap (λ (o : List ℕ). length o) c.deref_mut.ensures.value in

@@ -1,10 +1,16 @@
 -- What is looked at shows the piece in front.
-use Rattle.std.proofs.Common.{◌≡◌, ◌⊎◌, ◌∙◌, inl, inr, refl, sym, true, false, take}
-use Rattle.lpt_stream.specs.Pieces.{waits}
+use Rattle.std.proofs.Common.{◌≡◌, ◌⊎◌, ◌∙◌, inl, inr, refl, sym, subst, List, ℕ, true, false, take}
+use Rattle.lpt_stream.specs.Pieces.{begins, waits}
 use Rattle.lpt_stream.proofs.BufferLemmas.{near_held, some_held}
 use Rattle.lpt_stream.proofs.FrontLemmas.{packet_there, other_there, open_there}
-use Rattle.lpt_stream.proofs.front.piece_in_front.Goals as goal
-use Rattle.lpt_stream.proofs.front.piece_in_front.Goals.{else-not-is_end-via-then-not-is_end+else-waits, else-not-is_end-via-else-not-is_end}
+use Rattle.lpt_stream.proofs.front.piece_unless.Goals as goal
+use Rattle.lpt_stream.proofs.front.piece_unless.Goals.{else-not-is_end-via-then-not-is_end+else-waits, else-not-is_end-via-else-not-is_end}
+
+pub packet_unless-requires : goal.packet_unless-requires
+packet_unless-requires c = λ judged.
+    subst (λ (near : List ℕ). begins c.args.in_step near ≡ false)
+    (sym (near_held c.args.octets.now c.args.octets.now c.min.result refl c.min.ensures))
+    (c.requires judged)
 
 pub returns-in-Some-clause-piece : goal.returns-in-Some-clause-piece
 returns-in-Some-clause-piece c =
