@@ -15,7 +15,8 @@ use lpt_text::{StreamFault, write_out};
 use std::alloc::{AllocError, Global};
 
 /// Writes a line for each area of the check reports: whether its checksum is that of the file's
-/// octets there. What is no packet is told, and the status says so.
+/// octets there. What is no packet, check reports that can't be read, and parts of messages are
+/// told, and the status says so.
 ///
 /// Errors: `Read` where the file or the packets can't be opened or read, or their capture is wrong;
 /// `Write`, `Memory`.
@@ -78,6 +79,8 @@ fn told(
         areas,
         damaged,
         stray,
+        unread,
+        parts,
     } = checks;
     let image = Image {
         from: words.address,
@@ -88,18 +91,38 @@ fn told(
     finish(rt, out)?;
     let agree = written?;
     tell_no_packets(rt, "", damaged, stray);
+    tell_passed(rt, unread, parts);
     let open = image.first_open(areas);
     if let Some(text) = lacking(rt.alloc(), words, octets, open) {
         if let Ok(text) = text {
             tell_place(rt, text.as_str());
         }
     }
-    let sound = damaged == 0 && stray == 0;
+    let sound = damaged == 0 && stray == 0 && unread == 0 && parts == 0;
     Ok(if agree && sound && open.is_none() && !octets.is_empty() {
         Status::Done
     } else {
         Status::Refused
     })
+}
+
+// Tells how many check reports can't be read, and how many parts of messages there are.
+fn tell_passed(rt: &HostRuntime, unread: u64, parts: u64) {
+    if unread != 0 {
+        let reports = if unread == 1 { "report" } else { "reports" };
+        if let Ok(text) = format!(in rt.alloc(); "{unread} check {reports} can't be read") {
+            tell_place(rt, text.as_str());
+        }
+    }
+    if parts != 0 {
+        let word = if parts == 1 { "part" } else { "parts" };
+        let text = format!(in rt.alloc();
+            "{parts} {word} of messages: check reports may be among them, so join them first"
+        );
+        if let Ok(text) = text {
+            tell_place(rt, text.as_str());
+        }
+    }
 }
 
 // What is lacking of a comparison, where no report agrees at this address: that, or that the file

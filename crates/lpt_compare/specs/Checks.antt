@@ -1,5 +1,5 @@
 -- The check reports of the memory service, read.
-use Rattle.std.specs.Prelude.{ℕ, ◌==◌, ◌&&◌, if◌then◌else◌, List, [], Option, Some, None, Result, Ok, Err}
+use Rattle.std.specs.Prelude.{ℕ, ◌==◌, ◌&&◌, nat_le, Bool, if◌then◌else◌, List, [], Option, Some, None, Result, Ok, Err}
 use Rattle.std.specs.List.{flat_map}
 use Rattle.lpt_packet.specs.declared.fault.PacketFault.{PacketFault}
 use Rattle.lpt_packet.specs.Packets.{Sight, IdlePacket, APacket, verdict}
@@ -28,53 +28,73 @@ one_area octets = do
     checksum.1,
   )
 
--- the areas, where they are of this memory
-abbrev pub areas_of : (memory : ℕ) → Option (Request Checked) → List Checked
-areas_of m None = []
-areas_of m (Some r) = if r.memory == m then r.areas else []
+-- What a packet is to who looks for check reports of a memory: one that says this of its areas, if
+-- of the memory's; one that isn't read; a part of a message, which may be one; or none of these.
+pub data Saying : Type 0 where
+  Areas : List Checked → Saying
+  Unread : Saying
+  APart : Saying
+  Other : Saying
 
--- what a body says of a memory
-unfoldable pub in_body : (memory : ℕ) → List ℕ → List Checked
+-- the areas, where they are of this memory
+abbrev pub areas_of : (memory : ℕ) → Option (Request Checked) → Saying
+areas_of m None = Unread
+areas_of m (Some r) = Areas (if r.memory == m then r.areas else [])
+
+-- what the body of a check report says of a memory
+unfoldable pub in_body : (memory : ℕ) → List ℕ → Saying
 in_body m body = areas_of m (request_in one_area body)
 
 -- ---- a packet
 
--- the body of a check report of this APID, where telemetry is one
-abbrev pub body_of : (apid : ℕ) → Telemetry → Option (List ℕ)
-body_of apid t =
-    if (t.service == 6) && (t.subtype == 10) && (t.apid == apid) then Some t.body else None
+-- whether telemetry is a check report
+abbrev pub is_report : Telemetry → Bool
+is_report t = (t.service == 6) && (t.subtype == 10)
+
+-- whether it carries a part of a message
+abbrev pub is_part : Telemetry → Bool
+is_part t = (t.service == 13) && (nat_le 1 t.subtype && nat_le t.subtype 3)
+
+-- telemetry of this APID; that of others is none of these
+abbrev pub said_of : (apid memory : ℕ) → Telemetry → Saying
+said_of apid m t =
+    if t.apid == apid
+    then (if is_report t then in_body m t.body else if is_part t then APart else Other)
+    else Other
 
 -- a packet that is read as telemetry, or isn't
-abbrev pub body_by : (apid : ℕ) → Result Telemetry PusFault → Option (List ℕ)
-body_by apid (Ok t) = body_of apid t
-body_by apid (Err e) = None
+abbrev pub said_by : (apid memory : ℕ) → Result Telemetry PusFault → Saying
+said_by apid m (Ok t) = said_of apid m t
+said_by apid m (Err e) = Other
 
 -- octets of this verdict
-abbrev pub body_as : (apid : ℕ) → Result Sight PacketFault → Option (List ℕ)
-body_as apid (Ok IdlePacket) = None
-body_as apid (Ok (APacket f)) = body_by apid (tm_verdict f)
-body_as apid (Err e) = None
+abbrev pub said_as : (apid memory : ℕ) → Result Sight PacketFault → Saying
+said_as apid m (Ok IdlePacket) = Other
+said_as apid m (Ok (APacket f)) = said_by apid m (tm_verdict f)
+said_as apid m (Err e) = Other
 
--- the body of the check report that octets are
-unfoldable pub body_in : (apid : ℕ) → List ℕ → Option (List ℕ)
-body_in apid b = body_as apid (verdict b)
+-- what octets are that are a packet
+unfoldable pub said_in : (apid memory : ℕ) → List ℕ → Saying
+said_in apid m b = said_as apid m (verdict b)
 
--- what a body says of a memory, where there is one
-abbrev pub said_of : (memory : ℕ) → Option (List ℕ) → List Checked
-said_of m None = []
-said_of m (Some body) = in_body m body
+-- the areas that are said
+abbrev pub areas_in : Saying → List Checked
+areas_in (Areas areas) = areas
+areas_in Unread = []
+areas_in APart = []
+areas_in Other = []
 
 -- what octets say
 abbrev pub checks_in : (apid memory : ℕ) → List ℕ → List Checked
-checks_in apid m b = said_of m (body_in apid b)
+checks_in apid m b = areas_in (said_in apid m b)
 
 -- ---- a stream
 
--- what the octets of a piece say
-abbrev pub piece_checks : (apid memory : ℕ) → PieceKind → List ℕ → List Checked
-piece_checks apid m Whole b = checks_in apid m b
-piece_checks apid m Damaged b = []
-piece_checks apid m Stray b = []
+-- what the octets of a piece are
+abbrev pub piece_said : (apid memory : ℕ) → PieceKind → List ℕ → Saying
+piece_said apid m Whole b = said_in apid m b
+piece_said apid m Damaged b = Other
+piece_said apid m Stray b = Other
 
 -- what a stream of these pieces says, in its order
 abbrev pub checks_of : (apid memory : ℕ) → List Piece → List Checked

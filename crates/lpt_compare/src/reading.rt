@@ -5,7 +5,8 @@ ghost use Rattle.lpt_packet.specs.declared.fault.PacketFault.TheVariants.{Checks
 ghost use Rattle.lpt_packet.specs.Packets.{verdict};
 ghost use Rattle.lpt_memory.specs.Fields.{all_areas};
 ghost use Rattle.lpt_stream.specs.Pieces.{IsSealed};
-ghost use Rattle.lpt_compare.specs.Checks.{in_body, body_in, checks_in, one_area, piece_checks};
+ghost use Rattle.lpt_compare.specs.Checks.{in_body, one_area, piece_said, said_in};
+ghost use Rattle.lpt_compare.specs.Sayings.{saying_of};
 
 use crate::Checked;
 use lpt_memory::fields;
@@ -20,75 +21,82 @@ const MEMORY: u8 = 6;
 /// The message subtype of a report that answers a check.
 const CHECK_REPORT: u8 = 10;
 
-// What a piece of this kind says of a memory, as a check report of this APID. The only error is out
-// of memory.
-pub(crate) fn checks_in_piece(
+/// The service type of large packet transfer, and the message subtypes of parts that come down.
+const LARGE_PACKETS: u8 = 13;
+
+const FIRST_PART: u8 = 1;
+
+const LAST_PART: u8 = 3;
+
+// What a packet is to who looks for check reports of a memory.
+#[derive(Drop)]
+pub(crate) enum Said {
+    // One that says this of its areas: none, where it is another memory's.
+    Areas(Vec<Checked>),
+    // One that isn't read.
+    Unread,
+    // A part of a message, which may be one.
+    Part,
+    // None of these.
+    Other,
+}
+
+// What a piece of this kind is, to who looks for check reports of this APID and memory. The only
+// error is out of memory.
+pub(crate) fn said_in_piece(
     alloc: Global,
     apid: u16,
     memory: u8,
     kind: PieceKind,
     octets: &[u8],
-) -> Result<Vec<Checked>, AllocError>
+) -> Result<Said, AllocError>
     requires { IsSealed kind octets.now }
-    ensures { IfOk result (λ r. r.items ≡ piece_checks apid memory kind octets.now) }
+    ensures { IfOk result (λ r. saying_of r ≡ piece_said apid memory kind octets.now) }
 {
     match kind {
-        PieceKind::Whole => checks_in(alloc, apid, memory, octets),
-        PieceKind::Damaged => Ok(Vec::new(alloc)),
-        PieceKind::Stray => Ok(Vec::new(alloc)),
+        PieceKind::Whole => said_in(alloc, apid, memory, octets),
+        PieceKind::Damaged => Ok(Said::Other),
+        PieceKind::Stray => Ok(Said::Other),
     }
 }
 
-// What the octets of a whole piece say. The only error is out of memory.
-fn checks_in(
-    alloc: Global,
-    apid: u16,
-    memory: u8,
-    octets: &[u8],
-) -> Result<Vec<Checked>, AllocError>
+// What the octets of a whole piece are. The only error is out of memory.
+#[tactic(auto, unfolding(crate::specs::Checks::said_in))]
+fn said_in(alloc: Global, apid: u16, memory: u8, octets: &[u8]) -> Result<Said, AllocError>
     requires { verdict octets.now ≢ Err Checksum }
-    ensures { IfOk result (λ r. r.items ≡ checks_in apid memory octets.now) }
-{
-    match body_in(apid, octets) {
-        Some(body) => in_body(alloc, memory, body),
-        None => Ok(Vec::new(alloc)),
-    }
-}
-
-// The body of the check report of this APID that they are.
-#[tactic(auto, unfolding(crate::specs::Checks::body_in))]
-fn body_in<'a>(apid: u16, octets: &'a [u8]) -> Option<&'a [u8]>
-    requires { verdict octets.now ≢ Err Checksum }
-    ensures { option_map (λ x. x.now) result ≡ body_in apid octets.now }
+    ensures { IfOk result (λ r. saying_of r ≡ said_in apid memory octets.now) }
 {
     let Ok(Seen::Packet(packet)) = read_sealed(octets) else {
-        return None;
+        return Ok(Said::Other);
     };
     let Ok((head, body)) = read_tm(&packet) else {
-        return None;
+        return Ok(Said::Other);
     };
-    if head.service == MEMORY && head.subtype == CHECK_REPORT && head.apid == apid {
-        Some(body)
-    } else {
-        None
+    if head.apid != apid {
+        return Ok(Said::Other);
+    }
+    match (head.service, head.subtype) {
+        (MEMORY, CHECK_REPORT) => in_body(alloc, memory, body),
+        (LARGE_PACKETS, FIRST_PART..=LAST_PART) => Ok(Said::Part),
+        _ => Ok(Said::Other),
     }
 }
 
-// What a body says of a memory. The only error is out of memory.
+// What the body of a check report says of a memory. The only error is out of memory.
 #[tactic(auto, unfolding(crate::specs::Checks::in_body, lpt_memory::specs::Requests::request_in))]
-fn in_body(alloc: Global, memory: u8, body: &[u8]) -> Result<Vec<Checked>, AllocError>
-    ensures { IfOk result (λ r. r.items ≡ in_body memory body.now) }
+fn in_body(alloc: Global, memory: u8, body: &[u8]) -> Result<Said, AllocError>
+    ensures { IfOk result (λ r. saying_of r ≡ in_body memory body.now) }
 {
     let Some((of, count, rest)) = fields::head(body) else {
-        return Ok(Vec::new(alloc));
+        return Ok(Said::Unread);
     };
     let Some(areas) = read_areas(alloc, count, rest)? else {
-        return Ok(Vec::new(alloc));
+        return Ok(Said::Unread);
     };
     if of == memory {
-        Ok(areas)
+        Ok(Said::Areas(areas))
     } else {
-        Ok(Vec::new(alloc))
+        Ok(Said::Areas(Vec::new(alloc)))
     }
 }
 

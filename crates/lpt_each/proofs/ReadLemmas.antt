@@ -8,12 +8,14 @@ use Rattle.lpt_stream.specs.Pieces.{Piece, packet_before, packets_of}
 use Rattle.lpt_stream.proofs.CutLemmas.{packets-next}
 use Rattle.lpt_join.specs.Offers.{named_in, piece_in}
 use Rattle.lpt_join.specs.declared.transaction.Transaction.{Transaction}
+use Rattle.lpt_each.specs.declared.each.Teller.{Teller}
 use Rattle.lpt_each.specs.declared.helds.Helds.{Helds}
 use Rattle.lpt_each.specs.Helds.{HoldsEach}
-use Rattle.lpt_each.specs.News.{Event, Hears}
+use Rattle.lpt_each.specs.News.{Event, Hears, HearsPart}
 use Rattle.lpt_each.specs.Streams.{Leaves, Tells, events, events_from, told_by}
+use Rattle.lpt_each.specs.Tellers.{IsTold}
 use Rattle.lpt_each.proofs.HeldsLemmas.{each-none, told-none}
-use Rattle.lpt_each.proofs.TellLemmas.{events-next, hears-more, hears-nothing}
+use Rattle.lpt_each.proofs.TellLemmas.{events-next, hears-more, hears-nothing, part-more}
 
 nothing_named : (q : NamedPart) → ◌≡◌ {A = Option NamedPart} (Some q) None → ⊥
 nothing_named q h = cc
@@ -50,14 +52,14 @@ module _ (t : Transaction) (any : Bool) where
   held-part bs Stray b q g e h = absurd (nothing_named q e)
 
   pub told-part : (bs : List (List ℕ)) (k : PieceKind) (b : List ℕ) (q : NamedPart)
-      (heard hears : Option (List Event))
+      (H : List Event → Type 0)
       → Some q ≡ named_in t k b
-      → (Some q ≡ piece_in t b → Hears heard hears (told_by t any bs b (piece_in t b)))
-      → Hears heard hears (events_from t any bs (packet_before k b []))
-  told-part bs Whole b q heard hears e h =
-      subst (Hears heard hears) (sym (append-nil (told_by t any bs b (piece_in t b)))) (h e)
-  told-part bs Damaged b q heard hears e h = absurd (nothing_named q e)
-  told-part bs Stray b q heard hears e h = absurd (nothing_named q e)
+      → (Some q ≡ piece_in t b → H (told_by t any bs b (piece_in t b)))
+      → H (events_from t any bs (packet_before k b []))
+  told-part bs Whole b q H e h =
+      subst H (sym (append-nil (told_by t any bs b (piece_in t b)))) (h e)
+  told-part bs Damaged b q H e h = absurd (nothing_named q e)
+  told-part bs Stray b q H e h = absurd (nothing_named q e)
 
   -- with one more piece
   pub held-next : (ps : List Piece) (p : Piece) (g : Helds)
@@ -75,6 +77,16 @@ module _ (t : Transaction) (any : Bool) where
       (sym (events-next t any [] (packets_of ps) (packet_before p.kind p.octets [])))
       (hears-more heard hear hears (events t any (packets_of ps)) _ was told))
 
+  pub part-next : (ps : List Piece) (p : Piece) (heard hear hears : Option (List Event))
+      → Hears heard hear (events t any (packets_of ps))
+      → HearsPart hear hears (events_from t any (packets_of ps) (packet_before p.kind p.octets []))
+      → HearsPart heard hears (events t any (packets_of (ps ++ p ∷ [])))
+  part-next ps p heard hear hears was told =
+      subst (λ bs. HearsPart heard hears (events t any bs)) (sym (packets-next ps p))
+      (subst (HearsPart heard hears)
+      (sym (events-next t any [] (packets_of ps) (packet_before p.kind p.octets [])))
+      (part-more heard hear hears (events t any (packets_of ps)) _ was told))
+
   -- and at the end
   pub told-all : (ps : List Piece) (heard hear hears : Option (List Event))
       → Hears heard hear (events t any (packets_of ps))
@@ -85,3 +97,12 @@ module _ (t : Transaction) (any : Bool) where
     left.1,
     hears-more heard hear hears (events t any (packets_of ps)) left.0 was left.2,
   )
+
+-- what was told is of the transaction with which it began
+pub told-first : (first now : Teller) (heard hears : Option (List Event)) (ps : List Piece)
+    → IsTold first now heard hears ps
+    → Hears heard hears (events first.transaction first.any (packets_of ps))
+told-first first now heard hears ps h =
+    subst (λ (t : Transaction). Hears heard hears (events t first.any (packets_of ps))) h.same
+    (subst (λ (any : Bool). Hears heard hears (events now.transaction any (packets_of ps)))
+    h.same_any h.told)

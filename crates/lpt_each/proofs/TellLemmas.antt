@@ -17,7 +17,7 @@ use Rattle.lpt_each.specs.declared.course.Course as code
 use Rattle.lpt_each.specs.declared.helds.Helds as codes
 use Rattle.lpt_each.specs.Eaches.{Course, held, is_empty, left, nothing}
 use Rattle.lpt_each.specs.Helds.{AreCame, Follows, HoldsEach, IsHeld}
-use Rattle.lpt_each.specs.News.{Dropped, Event, Hears, dropped}
+use Rattle.lpt_each.specs.News.{Dropped, Event, Hears, HearsPart, dropped}
 use Rattle.lpt_each.specs.Streams.{Leaves, events_from, left_of, of, told_by}
 use Rattle.lpt_each.proofs.TurnLemmas.{empty-none}
 
@@ -36,6 +36,41 @@ hears-more (Some us) None c xs ys h k = absurd h
 hears-more (Some us) (Some vs) None xs ys h k = absurd k
 hears-more (Some us) (Some vs) (Some ws) xs ys h k =
     k ∙ ap (λ l. l ++ ys) h ∙ append_assoc us xs ys
+
+-- nothing of these was
+pub part-none : (a : Option (List Event)) (es : List Event) → HearsPart a a es
+part-none None es = tt
+part-none (Some xs) es = ([], es, refl, sym (append-nil xs))
+
+-- all of them were
+pub part-all : (a b : Option (List Event)) (es : List Event) → Hears a b es → HearsPart a b es
+part-all None b es h = tt
+part-all (Some xs) None es h = absurd h
+part-all (Some xs) (Some ys) es h = (es, [], sym (append-nil es), h)
+
+-- those before them were, and a front part of these
+pub part-more : (a b c : Option (List Event)) (xs ys : List Event)
+    → Hears a b xs
+    → HearsPart b c ys
+    → HearsPart a c (xs ++ ys)
+part-more None b c xs ys h k = tt
+part-more (Some us) None c xs ys h k = absurd h
+part-more (Some us) (Some vs) None xs ys h k = absurd k
+part-more (Some us) (Some vs) (Some ws) xs ys h k = (
+  xs ++ k.0,
+  k.1,
+  ap (λ l. xs ++ l) k.2 ∙ sym (append_assoc xs k.0 k.1),
+  k.3 ∙ ap (λ l. l ++ k.0) h ∙ append_assoc us xs k.0,
+)
+
+-- with others behind them
+pub part-front : (a b : Option (List Event)) (xs ys : List Event)
+    → HearsPart a b xs
+    → HearsPart a b (xs ++ ys)
+part-front None b xs ys h = tt
+part-front (Some us) None xs ys h = absurd h
+part-front (Some us) (Some vs) xs ys h =
+    (h.0, h.1 ++ ys, ap (λ l. l ++ ys) h.2 ∙ append_assoc h.0 h.1 ys, h.3)
 
 -- ---- a packet more
 
@@ -130,6 +165,29 @@ left-next t any bs first old new n g heard hear hears h pops gets told = record 
   still q k true e = absurd (no_some k e)
   still q k false e = e
 
+-- what is left of the names at which something is kept is what is left of each
+leaves-kept : (t : Transaction) (any : Bool) (bs : List (List ℕ)) (g : codes.Helds)
+    → HoldsEach t any bs g
+    → Leaves t any bs (flat_map (left_of t any bs) (keys g.kept))
+leaves-kept t any bs g each = record {
+  names = keys g.kept;
+  in_order = each.in_order;
+  all = λ n some. among n some (get name_cmp g.kept n) refl;
+  are = refl;
+} where
+  among : (n : Name)
+      → left_of t any bs n ≢ []
+      → (o : Option code.Course)
+      → get name_cmp g.kept n ≡ o
+      → list_any (same_name n) (keys g.kept) ≡ true
+  among n some None is =
+      let nothing_came =
+      subst (λ (o : Option code.Course). IsHeld (of_name t n) o (held (of_name t n) any bs))
+      is
+      (each.each n) in
+      absurd (some (ap (λ (k : Course). of n (left k)) nothing_came ∙ ap (of n) left-nothing))
+  among n some (Some k) is = key-there n g.kept.entries k is
+
 pub left-all : (t : Transaction) (any : Bool) (bs : List (List ℕ)) (g : codes.Helds)
     (now : BTreeMap Name code.Course)
     (heard hears : Option (List Event))
@@ -141,28 +199,32 @@ left-all t any bs g now heard hears each h none =
     let all : keys g.kept ≡ h.names =
     h.keys_are ∙ ap (λ (es : List (Name × code.Course)). h.names ++ keys_of es) none
     ∙ append-nil h.names in (
-      flat_map (left_of t any bs) h.names,
-      record {
-        names = h.names;
-        in_order = subst (IsStrictlySortedBy name_cmp) all each.in_order;
-        all = λ n some. subst (λ (ns : List Name). list_any (same_name n) ns ≡ true) all
-            (among n some (get name_cmp g.kept n) refl);
-        are = refl;
-      },
-      h.told,
-    ) where
-      among : (n : Name)
-          → left_of t any bs n ≢ []
-          → (o : Option code.Course)
-          → get name_cmp g.kept n ≡ o
-          → list_any (same_name n) (keys g.kept) ≡ true
-      among n some None is =
-          let nothing_came =
-          subst (λ (o : Option code.Course). IsHeld (of_name t n) o (held (of_name t n) any bs))
-          is
-          (each.each n) in
-          absurd (some (ap (λ (k : Course). of n (left k)) nothing_came ∙ ap (of n) left-nothing))
-      among n some (Some k) is = key-there n g.kept.entries k is
+      flat_map (left_of t any bs) (keys g.kept),
+      leaves-kept t any bs g each,
+      subst (λ (ns : List Name). Hears heard hears (flat_map (left_of t any bs) ns)) (sym all)
+          h.told,
+    )
+
+-- and where a front part was told of what is left of the next name
+pub left-part : (t : Transaction) (any : Bool) (bs : List (List ℕ)) (g : codes.Helds)
+    (old new : BTreeMap Name code.Course)
+    (n : Name) (x : code.Course) (heard hear hears : Option (List Event))
+    → HoldsEach t any bs g
+    → IsLeft t any bs g.kept old heard hear
+    → old.entries ≡ (n, x) ∷ new.entries
+    → HearsPart hear hears (left_of t any bs n)
+    → (es : List Event) × Leaves t any bs es × HearsPart heard hears es
+left-part t any bs g old new n x heard hear hears each h pops told =
+    let left = left_of t any bs in
+    let all : keys g.kept ≡ h.names ++ n ∷ keys new =
+    h.keys_are ∙ ap (λ (es : List (Name × code.Course)). h.names ++ keys_of es) pops in (
+      flat_map left (keys g.kept),
+      leaves-kept t any bs g each,
+      subst (λ (es : List Event). HearsPart heard hears es)
+          (sym (ap (flat_map left) all ∙ flat_map-append left h.names (n ∷ keys new)))
+          (part-more heard hear hears (flat_map left h.names) _ h.told
+          (part-front hear hears (left n) (flat_map left (keys new)) told)),
+    )
 
 -- what is left of a name is told
 pub left-told : (n : Name) (c : Came) (h : Course)

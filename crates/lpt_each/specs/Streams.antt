@@ -1,5 +1,5 @@
 -- The news of all names, as the packets of a stream come.
-use Rattle.std.specs.Prelude.{◌≡◌, ◌≢◌, ℕ, Bool, true, List, [], ◌∷◌, ◌++◌, map, Option, Some, None}
+use Rattle.std.specs.Prelude.{◌≡◌, ◌≢◌, ◌⊎◌, ℕ, Bool, true, List, [], ◌∷◌, ◌++◌, map, Option, Some, None}
 use Rattle.std.specs.List.{flat_map, list_any}
 use Rattle.std.specs.List.Sorted.{IsStrictlySortedBy}
 use Rattle.std.specs.FinMap as map
@@ -11,7 +11,7 @@ use Rattle.lpt_join.specs.Offers.{offered, piece_in}
 use Rattle.lpt_join.specs.Several.{of_name}
 use Rattle.lpt_each.specs.declared.waiting.Waiting.{Waiting}
 use Rattle.lpt_each.specs.Eaches.{held, left, listed, step_of}
-use Rattle.lpt_each.specs.News.{Event, Hears, News}
+use Rattle.lpt_each.specs.News.{Event, Hears, HearsPart, News}
 
 -- news of one name
 abbrev pub of : Name → List News → List Event
@@ -64,3 +64,10 @@ abbrev pub Tells :
     Transaction → (any : Bool) → List (List ℕ) → (heard hears : Option (List Event)) → Type 0
 Tells t any bs heard hears =
     (es : List Event) × Leaves t any bs es × Hears heard hears (events t any bs ++ es)
+
+-- a front part of what packets tell was told; or all of it, and a front part of what is left
+abbrev pub TellsPart :
+    Transaction → (any : Bool) → List (List ℕ) → (heard hears : Option (List Event)) → Type 0
+TellsPart t any bs heard hears =
+    HearsPart heard hears (events t any bs)
+    ⊎ ((es : List Event) × Leaves t any bs es × HearsPart heard hears (events t any bs ++ es))

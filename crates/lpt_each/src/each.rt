@@ -1,17 +1,19 @@
 //! The messages of a stream, each of every name, as its packets come.
 
-ghost use Rattle.std.specs.Prelude.{◌≡◌, ◌⊎◌, ◌∷◌, ◌++◌, ℕ, List, [], None, Some, IfErr, IfOk, OnOk};
+ghost use Rattle.std.specs.Prelude.{◌≡◌, ◌⊎◌, ◌∷◌, ◌++◌, ℕ, List, [], None, Some, Err, IfErr, IfOk, OnOk};
 ghost use Rattle.lpt_events.specs.NamedParts.{named};
 ghost use Rattle.lpt_part.specs.Parts.{piece};
 ghost use Rattle.lpt_stream.specs.Pieces.{packets_of};
+ghost use Rattle.lpt_stream.specs.declared.cut.Cut.TheVariants.{Sealed};
 ghost use Rattle.lpt_stream.specs.Reads.{IsEndless, ReadsPieces};
+ghost use Rattle.lpt_stream.specs.Takes.{LeavesBy, TakenAll};
 ghost use Rattle.lpt_skips.specs.Tallies.{skips_of};
 ghost use Rattle.lpt_text.specs.Streams.{ReadEnds};
 ghost use Rattle.lpt_join.specs.Several.{reading_of};
 ghost use Rattle.lpt_join.specs.Offers.{piece_in};
 ghost use Rattle.lpt_each.specs.Helds.{HoldsEach};
-ghost use Rattle.lpt_each.specs.News.{Hears};
-ghost use Rattle.lpt_each.specs.Streams.{Tells, told_by};
+ghost use Rattle.lpt_each.specs.News.{Hears, HearsPart};
+ghost use Rattle.lpt_each.specs.Streams.{Tells, TellsPart, events, told_by};
 
 use crate::Taker;
 use crate::helds::Helds;
@@ -32,7 +34,7 @@ use std::alloc::Global;
 /// A message is given out where it is a packet of its direction, or with `any` whatever it is.
 ///
 /// Errors: `Read` where a read failed, or where 2^64 - 1 pieces came; `Memory`; those of the taker.
-/// What was told before stays told.
+/// A front part of what was to be told stays told.
 pub fn each_stream<S: Source, T: Taker>(
     alloc: Global,
     transaction: &Transaction,
@@ -44,6 +46,17 @@ pub fn each_stream<S: Source, T: Taker>(
         (S.remaining source.new) (λ pieces. Tells transaction.now any (packets_of pieces)
         (T.heard taker.old) (T.heard taker.new)
         × (skips ≡ skips_of (reading_of transaction.now None) pieces))) }
+
+    // What a fault leaves: a front part of what the packets before it tell was told.
+    ensures leaves { IfErr result (λ _. LeavesBy Sealed (S.remaining source.old)
+        (S.remaining source.new) (λ pieces. TellsPart transaction.now any (packets_of pieces)
+        (T.heard taker.old) (T.heard taker.new))) }
+
+    // Where a read fails, just what the packets tell that what was read before it shows.
+    ensures settled { result ≡ Err StreamFault.Read → TakenAll Sealed (S.remaining source.old)
+        (S.remaining source.new) (λ pieces. Hears (T.heard taker.old) (T.heard taker.new)
+        (events transaction.now any (packets_of pieces)))
+        ⊎ IsEndless (S.remaining source.old) (S.remaining source.new) }
     ensures reader { ReadEnds (IsEndless (S.remaining source.old) (S.remaining source.new)) result
         (S.failed source.old) (S.failed source.new) }
 {
@@ -79,9 +92,15 @@ struct Teller {
 impl<T: Taker> PieceTaker<T> for Teller {
     ghost use Rattle.std.specs.Prelude.{◌≡◌, ◌⊎◌};
     ghost use Rattle.lpt_text.specs.declared.fault.StreamFault.TheVariants as faults;
+    ghost use Rattle.lpt_stream.specs.Pieces.{packets_of};
+    ghost use Rattle.lpt_each.specs.News.{HearsPart};
+    ghost use Rattle.lpt_each.specs.Streams.{events};
     ghost use Rattle.lpt_each.specs.Tellers.{IsTold};
 
     ghost takes = { λ first now old new pieces. IsTold first now (T.heard old) (T.heard new) pieces };
+
+    ghost leaves = { λ first old new pieces. HearsPart (T.heard old) (T.heard new)
+        (events first.transaction first.any (packets_of pieces)) };
 
     ghost fails = { λ e. (e ≡ faults.Write) ⊎ (e ≡ faults.Memory) };
 
@@ -140,6 +159,10 @@ fn take_part<T: Taker>(
     ensures told { (bs : List (List ℕ)) (octets : List ℕ) → HoldsEach transaction.now any bs helds
         → Some (named name.source (piece part.now)) ≡ piece_in transaction.now octets
         → OnOk result (Hears (T.heard taker.old) (T.heard taker.new)
+        (told_by transaction.now any bs octets (piece_in transaction.now octets))) }
+    ensures left { (bs : List (List ℕ)) (octets : List ℕ) → HoldsEach transaction.now any bs helds
+        → Some (named name.source (piece part.now)) ≡ piece_in transaction.now octets
+        → IfErr result (λ _. HearsPart (T.heard taker.old) (T.heard taker.new)
         (told_by transaction.now any bs octets (piece_in transaction.now octets))) }
     ensures fault { IfErr result (λ e. (e ≡ StreamFault.Write) ⊎ (e ≡ StreamFault.Memory)) }
 {

@@ -144,30 +144,32 @@ module _ (w : Wanted) (t : Transaction) (ps : List Piece) (p : Piece) (areas : L
     pub part-next : (old mid new : Option (List ℕ))
         → Appends old mid (written_first w.at (areas_in w (reads t (packets_of ps))))
         → AppendsPart mid new (written_first w.at areas)
-        → AppendsPart old new (written_first w.at (areas_in w (reads t (packets_of (ps ++ p ∷ [])))))
+        → AppendsPart old new
+        (written_first w.at (areas_in w (reads t (packets_of (ps ++ p ∷ [])))))
     part-next old mid new was part =
         subst (λ xs. AppendsPart old new (written_first w.at xs)) more_areas
         (part-more w.at old mid new _ areas was part)
 
     -- and these notices
-    module _ (place : ℕ) (at : place ≡ up_to_limit (octets_in ps)) (ns : List Notice)
+    module _ (from place : ℕ) (at : place ≡ up_to_limit (from + octets_in ps)) (ns : List Notice)
         (tells : ns ≡ joined_at w t (packets_of ps) place p.kind p.octets) where
-      more_notices : joined_in w t [] 0 ps ++ ns ≡ joined_in w t [] 0 (ps ++ p ∷ [])
+      more_notices : joined_in w t [] from ps ++ ns ≡ joined_in w t [] from (ps ++ p ∷ [])
       more_notices =
-          ap (λ xs. joined_in w t [] 0 ps ++ xs)
-          (tells ∙ ap (λ n. joined_at w t (packets_of ps) n p.kind p.octets) (omega (arith, at)))
-          ∙ sym (joined-next w t [] 0 ps p)
+          ap (λ xs. joined_in w t [] from ps ++ xs)
+          (tells ∙ ap (λ n. joined_at w t (packets_of ps) n p.kind p.octets) at)
+          ∙ sym (joined-next w t [] from ps p)
 
       pub held-next : (h : Holding)
-          → Held w.at (areas_in w (reads t (packets_of ps)) ++ areas) (joined_in w t [] 0 ps ++ ns) h
+          → Held w.at (areas_in w (reads t (packets_of ps)) ++ areas)
+          (joined_in w t [] from ps ++ ns) h
           → Held w.at (areas_in w (reads t (packets_of (ps ++ p ∷ []))))
-          (joined_in w t [] 0 (ps ++ p ∷ [])) h
+          (joined_in w t [] from (ps ++ p ∷ [])) h
       held-next h held = held-as w.at _ _ _ _ h more_areas more_notices held
 
       pub hears-next : (heard hear hears : Option (List Notice))
-          → Hears heard hear (joined_in w t [] 0 ps)
+          → Hears heard hear (joined_in w t [] from ps)
           → Hears hear hears ns
-          → Hears heard hears (joined_in w t [] 0 (ps ++ p ∷ []))
+          → Hears heard hears (joined_in w t [] from (ps ++ p ∷ []))
       hears-next heard hear hears was more =
           subst (Hears heard hears) more_notices (hears-more heard hear hears _ ns was more)
 

@@ -1,9 +1,11 @@
 -- What is taken of the pieces of a stream.
-use Rattle.std.proofs.Common.{◌≡◌, ◌∙◌, ap, sym, subst, ℕ, List, [], ◌∷◌, ◌++◌, Option, Result, Ok, Err, arith, append-nil}
+use Rattle.std.proofs.Common.{◌≡◌, ◌∙◌, ap, sym, subst, ℕ, ◌+◌, List, [], ◌∷◌, ◌++◌, Option, Result, Ok, Err}
 use Rattle.std.specs.Prelude.{IfOk, IfErr}
-use Rattle.std.specs.Io.KnownBytes.{Appends, Consumes}
-use Rattle.lpt_stream.specs.Pieces.{Piece, Cuts, packet_before, packets_of, octets_in, up_to_limit}
+use Rattle.std.specs.Io.KnownBytes.{Appends}
+use Rattle.lpt_stream.specs.Pieces.{Piece, packet_before, packets_of, octets_in, up_to_limit}
 use Rattle.lpt_stream.proofs.CutLemmas.{packets-next}
+use Rattle.lpt_text.specs.declared.fault.StreamFault.{StreamFault}
+use Rattle.lpt_text.specs.declared.fault.StreamFault.TheVariants as faults
 use Rattle.lpt_text.specs.Streams.{AppendsPart}
 use Rattle.lpt_memory.specs.declared.request.Area.{Area}
 use Rattle.lpt_extract.specs.declared.holding.Holding.{Holding}
@@ -11,40 +13,40 @@ use Rattle.lpt_extract.specs.declared.notice.Notice.{Notice}
 use Rattle.lpt_extract.specs.declared.wanted.Wanted.{Wanted}
 use Rattle.lpt_extract.specs.Extracts.{areas_in, notices_at, notices_in, written_first}
 use Rattle.lpt_extract.specs.ExtractsInside.{Held}
-use Rattle.lpt_extract.specs.Leaving.{PiecesLeave}
 use Rattle.lpt_extract.specs.Notices.{Hears}
 use Rattle.lpt_extract.proofs.GiveLemmas.{areas-append, notices-next, held-as, hears-more, part-more, wrote-more}
 
 -- ---- a piece more
 
-module _ (w : Wanted) (ps : List Piece) (p : Piece) where
+module _ (w : Wanted) (from : ℕ) (ps : List Piece) (p : Piece) where
   -- the areas of it too
   areas-next : areas_in w (packets_of (ps ++ p ∷ []))
       ≡ areas_in w (packets_of ps) ++ areas_in w (packet_before p.kind p.octets [])
   areas-next = ap (areas_in w) (packets-next ps p) ∙ areas-append w (packets_of ps) _
 
   told : (place : ℕ)
-      → place ≡ up_to_limit (octets_in ps)
-      → notices_in w 0 ps ++ notices_at w place p.kind p.octets ≡ notices_in w 0 (ps ++ p ∷ [])
+      → place ≡ up_to_limit (from + octets_in ps)
+      → notices_in w from ps ++ notices_at w place p.kind p.octets
+      ≡ notices_in w from (ps ++ p ∷ [])
   told place at =
-      ap (λ n. notices_in w 0 ps ++ notices_at w n p.kind p.octets) (omega (arith, at))
-      ∙ sym (notices-next w 0 ps p)
+      ap (λ n. notices_in w from ps ++ notices_at w n p.kind p.octets) at
+      ∙ sym (notices-next w from ps p)
 
   pub held-next : (h k : Holding) (place : ℕ)
-      → place ≡ up_to_limit (octets_in ps)
-      → Held w.at (areas_in w (packets_of ps)) (notices_in w 0 ps) h
+      → place ≡ up_to_limit (from + octets_in ps)
+      → Held w.at (areas_in w (packets_of ps)) (notices_in w from ps) h
       → ((areas : List Area) (ns : List Notice) → Held w.at areas ns h
       → Held w.at (areas ++ areas_in w (packet_before p.kind p.octets []))
       (ns ++ notices_at w place p.kind p.octets) k)
-      → Held w.at (areas_in w (packets_of (ps ++ p ∷ []))) (notices_in w 0 (ps ++ p ∷ [])) k
+      → Held w.at (areas_in w (packets_of (ps ++ p ∷ []))) (notices_in w from (ps ++ p ∷ [])) k
   held-next h k place at was more =
       held-as w.at _ _ _ _ k (sym areas-next) (told place at) (more _ _ was)
 
   pub hears-next : (heard hear hears : Option (List Notice)) (place : ℕ)
-      → place ≡ up_to_limit (octets_in ps)
-      → Hears heard hear (notices_in w 0 ps)
+      → place ≡ up_to_limit (from + octets_in ps)
+      → Hears heard hear (notices_in w from ps)
       → Hears hear hears (notices_at w place p.kind p.octets)
-      → Hears heard hears (notices_in w 0 (ps ++ p ∷ []))
+      → Hears heard hears (notices_in w from (ps ++ p ∷ []))
   hears-next heard hear hears place at was more =
       subst (Hears heard hears) (told place at) (hears-more heard hear hears _ _ was more)
 
@@ -82,43 +84,11 @@ pub if-err : {A E : Type 0} (P Q R : E → Type 0) (r : Result A E)
 if-err P Q R (Ok x) f h k = h
 if-err P Q R (Err e) f h k = f e h k
 
--- what holds after any fault
-pub any-err : {A E : Type 0} (P : Type 0) (r : Result A E) → P → IfErr r (λ _. P)
-any-err P (Ok x) p = tt
-any-err P (Err e) p = p
-
--- ---- faults
-
--- what follows of the pieces
-pub leave-as : (a b : Option (List ℕ)) (P Q : List Piece → Type 0)
-    → ((ps : List Piece) → P ps → Q ps)
-    → PiecesLeave a b P
-    → PiecesLeave a b Q
-leave-as a b P Q f h = record {
-  stream = h.stream;
-  others = h.others;
-  pieces = h.pieces;
-  in_step = h.in_step;
-  rest = h.rest;
-  consumed = h.consumed;
-  leads = h.leads;
-  front = f h.pieces h.front;
-}
-
--- of all pieces
-pub leave-all : (a b : Option (List ℕ)) (P : List Piece → Type 0) (stream : List ℕ)
-    (ps : List Piece)
-    → Consumes a b stream
-    → Cuts stream ps
-    → P ps
-    → PiecesLeave a b P
-leave-all a b P stream ps consumed cuts front = record {
-  stream = stream;
-  others = [];
-  pieces = ps;
-  in_step = cuts.0;
-  rest = [];
-  consumed = subst (Consumes a b) (sym (append-nil stream)) consumed;
-  leads = cuts.1;
-  front = front;
-}
+-- what only a write ends doesn't end by a read's fault
+pub no-read : {A : Type 0} (r : Result A StreamFault)
+    → IfErr r (λ e. e ≡ faults.Write)
+    → r ≡ Err faults.Read
+    → ⊥
+no-read r h is =
+    let same : faults.Read ≡ faults.Write = subst (λ x. IfErr x (λ e. e ≡ faults.Write)) is h in
+    cc

@@ -5,9 +5,11 @@ use Rattle.std.specs.Io.KnownBytes.{Appends, Consumes, IsAtEnd}
 use Rattle.lpt_text.specs.Streams.{AppendsPart}
 use Rattle.lpt_text.specs.declared.fault.StreamFault.{StreamFault}
 use Rattle.lpt_text.specs.declared.fault.StreamFault.TheVariants as faults
+use Rattle.lpt_stream.specs.declared.cut.Cut.TheVariants.{Sealed}
 use Rattle.lpt_stream.specs.declared.piece_kind.PieceKind.{PieceKind}
 use Rattle.lpt_stream.specs.declared.piece_kind.PieceKind.TheVariants.{Whole, Damaged, Stray}
 use Rattle.lpt_stream.specs.Pieces.{Piece, Cuts, packets_of, up_to_limit}
+use Rattle.lpt_stream.specs.Takes.{LeavesBy}
 use Rattle.lpt_memory.specs.declared.request.Area.{Area}
 use Rattle.lpt_memory.specs.Meanings.{area}
 use Rattle.lpt_memory.specs.Requests.{LoadArea}
@@ -20,7 +22,6 @@ use Rattle.lpt_extract.specs.declared.wanted.Place.{Place}
 use Rattle.lpt_extract.specs.declared.wanted.Wanted.{Wanted}
 use Rattle.lpt_extract.specs.Areas.{all_octets, extent, image, image_limit}
 use Rattle.lpt_extract.specs.Gaps.{gaps_in, is_given, AreGaps, Gap}
-use Rattle.lpt_extract.specs.Leaving.{PiecesLeave}
 use Rattle.lpt_extract.specs.Notices.{is_taken, notice, Hears}
 use Rattle.lpt_extract.specs.Reports.{Saying, Other, Foreign, Unread, Areas, report_in}
 use Rattle.lpt_extract.specs.Tallies.{IsTally}
@@ -165,5 +166,5 @@ LeavesFront faults.Memory at areas old new = AppendsPart old new (written_first 
 -- a front part of what the pieces give that were found before a fault
 abbrev pub ExtractLeaves : Wanted → StreamFault → (before after old new : Option (List ℕ)) → Type 0
 ExtractLeaves w e before after old new =
-    PiecesLeave before after
+    LeavesBy Sealed before after
     (λ pieces. LeavesFront e w.at (areas_in w (packets_of pieces)) old new)

@@ -68,10 +68,10 @@ pub record EndsAs (at : Option Place) (areas : List Area) (ns : List Notice) (x 
   pub missing : AreMissing at areas (gaps_in x.gaps)
   pub counted : IsTally ns x.tally
 
--- what the packets among pieces give is held, and was told
-pub record IsExtracted (first now : Extraction) (heard hears : Option (List Notice))
+-- what the packets among pieces that begin at a place give is held, and was told
+pub record IsExtracted (from : ℕ) (first now : Extraction) (heard hears : Option (List Notice))
     (ps : List Piece) : Type 0 where
   pub same : now.wanted ≡ first.wanted
   pub held : Held now.wanted.at (areas_in now.wanted (packets_of ps))
-      (notices_in now.wanted 0 ps) now.holding
-  pub hears_is : Hears heard hears (notices_in now.wanted 0 ps)
+      (notices_in now.wanted from ps) now.holding
+  pub hears_is : Hears heard hears (notices_in now.wanted from ps)

@@ -3,9 +3,11 @@ use Rattle.std.specs.Prelude.{ℕ, ◌+◌, false, List, [], ◌∷◌, ◌++◌
 use Rattle.std.specs.List.{flat_map}
 use Rattle.lpt_events.specs.NamedParts.{NamedPart}
 use Rattle.lpt_text.specs.declared.fault.StreamFault.{StreamFault}
+use Rattle.lpt_stream.specs.declared.cut.Cut.TheVariants.{Sealed}
 use Rattle.lpt_stream.specs.declared.piece_kind.PieceKind.{PieceKind}
 use Rattle.lpt_stream.specs.declared.piece_kind.PieceKind.TheVariants.{Whole, Damaged, Stray}
 use Rattle.lpt_stream.specs.Pieces.{Piece, packet_before, packets_of, up_to_limit}
+use Rattle.lpt_stream.specs.Takes.{LeavesBy}
 use Rattle.lpt_join.specs.Offers.{piece_in}
 use Rattle.lpt_join.specs.declared.transaction.Transaction.{Transaction}
 use Rattle.lpt_each.specs.News.{Event, News, Given, Dropped, Unfit, Overtaken}
@@ -15,7 +17,6 @@ use Rattle.lpt_extract.specs.declared.notice.Notice.{Notice}
 use Rattle.lpt_extract.specs.declared.notice.Notice.TheVariants as notices
 use Rattle.lpt_extract.specs.declared.wanted.Wanted.{Wanted}
 use Rattle.lpt_extract.specs.Extracts.{areas_in, is_unbroken, notices_of, AreMissing, Ends, LeavesFront}
-use Rattle.lpt_extract.specs.Leaving.{PiecesLeave}
 use Rattle.lpt_extract.specs.Gaps.{gaps_in}
 use Rattle.lpt_extract.specs.Notices.{Hears}
 use Rattle.lpt_extract.specs.Reports.{report_in}
@@ -90,5 +91,5 @@ pub record ExtractsJoined (w : Wanted) (t : Transaction) (x : Extracted) (pieces
 abbrev pub JoinedLeaves :
     Wanted → Transaction → StreamFault → (before after old new : Option (List ℕ)) → Type 0
 JoinedLeaves w t e before after old new =
-    PiecesLeave before after
+    LeavesBy Sealed before after
     (λ pieces. LeavesFront e w.at (areas_in w (reads t (packets_of pieces))) old new)

@@ -6,7 +6,6 @@ pub mod Gaps
 pub mod ImagesInside
 pub mod Joined
 pub mod JoinedInside
-pub mod Leaving
 pub mod Notices
 pub mod Reports
 pub mod ReportsInside

@@ -1,16 +1,20 @@
 //! The octets of dump reports, extracted from a stream as it comes.
 
-ghost use Rattle.std.specs.Prelude.{◌≡◌, IfErr, IfOk, IsOk};
+ghost use Rattle.std.specs.Prelude.{◌≡◌, ◌⊎◌, Err, IfErr, IfOk, IsOk};
+ghost use Rattle.std.specs.Io.KnownBytes.{Appends};
 ghost use Rattle.lpt_text.specs.Streams.{ReadEnds, WriteEnds};
+ghost use Rattle.lpt_stream.specs.declared.cut.Cut.TheVariants.{Sealed};
+ghost use Rattle.lpt_stream.specs.Pieces.{packets_of};
 ghost use Rattle.lpt_stream.specs.Reads.{IsEndless};
-ghost use Rattle.lpt_extract.specs.Extracts.{ExtractLeaves, ExtractsTo};
+ghost use Rattle.lpt_stream.specs.Takes.{TakenAll};
+ghost use Rattle.lpt_extract.specs.Extracts.{areas_in, notices_in, written_first, ExtractLeaves, ExtractsTo};
+ghost use Rattle.lpt_extract.specs.Notices.{Hears};
 
 use crate::ending::end_extract;
 use crate::holding::Holding;
-use crate::passing::{PassingTaker, each_piece_passing};
 use crate::taking::take_piece;
 use crate::{Extracted, Listener, Wanted};
-use lpt_stream::PieceKind;
+use lpt_stream::{Cut, PieceKind, Taker, take_pieces};
 use lpt_text::{Sink, Source, StreamFault};
 use std::alloc::Global;
 
@@ -39,6 +43,15 @@ pub fn extract_stream<S: Source, K: Sink, L: Listener>(
     ensures leaves { IfErr result (λ e. ExtractLeaves wanted.now e
         (S.remaining source.old) (S.remaining source.new)
         (K.contents out.old) (K.contents out.new)) }
+
+    // Where a read fails, just what the packets give was told and written that what was read before
+    // it shows.
+    ensures settled { result ≡ Err StreamFault.Read → TakenAll Sealed (S.remaining source.old)
+        (S.remaining source.new) (λ pieces.
+        Hears (L.heard listener.old) (L.heard listener.new) (notices_in wanted.now 0 pieces)
+        × Appends (K.contents out.old) (K.contents out.new)
+        (written_first wanted.now.at (areas_in wanted.now (packets_of pieces))))
+        ⊎ IsEndless (S.remaining source.old) (S.remaining source.new) }
     ensures reader { ReadEnds (IsEndless (S.remaining source.old) (S.remaining source.new)) result
         (S.failed source.old) (S.failed source.new) }
     ensures writer { WriteEnds result (K.failed out.old) (K.failed out.new) }
@@ -48,7 +61,7 @@ pub fn extract_stream<S: Source, K: Sink, L: Listener>(
         wanted: *wanted,
         holding,
     };
-    let last = each_piece_passing(alloc, source, first, out, listener)?;
+    let last = take_pieces(alloc, 0, source, first, out, listener)?;
     end_extract(wanted, last.holding, out)
 }
 
@@ -59,18 +72,34 @@ struct Extraction {
     holding: Holding,
 }
 
-impl<K: Sink, L: Listener> PassingTaker<K, L> for Extraction {
+impl<K: Sink, L: Listener> Taker<K, L> for Extraction {
+    ghost use Rattle.std.specs.Prelude.{true, ⊤};
+    ghost use Rattle.lpt_stream.specs.declared.cut.Cut.TheVariants as cuts;
     ghost use Rattle.lpt_stream.specs.Pieces.{packets_of};
     ghost use Rattle.lpt_extract.specs.Extracts.{areas_in, written_first};
     ghost use Rattle.lpt_extract.specs.ExtractsInside.{IsExtracted};
 
-    ghost takes = { λ first now old new pieces. IsExtracted first now
+    ghost cut = { λ _. cuts.Sealed };
+
+    ghost is_open = { λ _. true };
+
+    ghost takes = { λ from first now old new pieces. IsExtracted from first now
         (L.heard old) (L.heard new) pieces };
 
-    ghost writes = { λ first pieces.
+    ghost leaves = { λ from first old new pieces. ⊤ };
+
+    ghost writes = { λ from first pieces.
         written_first first.wanted.at (areas_in first.wanted (packets_of pieces)) };
 
     ghost others = { λ _. ⊥ };
+
+    fn cut(&self) -> Cut {
+        Cut::Sealed
+    }
+
+    fn is_open(&self) -> bool {
+        true
+    }
 
     fn take(
         self,

@@ -1,33 +1,34 @@
 //! The octets of dump reports that may come in parts, extracted from a stream as it comes.
 
-ghost use Rattle.std.specs.Prelude.{◌≡◌, ◌≢◌, ◌⊎◌, ◌∷◌, ◌++◌, ℕ, List, [], false, Some, IfErr, IfOk, IsOk, OnOk};
+ghost use Rattle.std.specs.Prelude.{◌≡◌, ◌≢◌, ◌⊎◌, ◌∷◌, ◌++◌, ℕ, List, [], false, Some, Err, IfErr, IfOk, IsOk, OnOk};
 ghost use Rattle.std.specs.Io.KnownBytes.{Appends};
 ghost use Rattle.lpt_text.specs.Streams.{failed_write, AppendsPart, ReadEnds};
+ghost use Rattle.lpt_stream.specs.declared.cut.Cut.TheVariants.{Sealed};
 ghost use Rattle.lpt_stream.specs.Pieces.{packets_of};
 ghost use Rattle.lpt_stream.specs.Reads.{IsEndless, ReadsPieces};
+ghost use Rattle.lpt_stream.specs.Takes.{TakenAll};
 ghost use Rattle.lpt_events.specs.NamedParts.{named};
 ghost use Rattle.lpt_part.specs.Parts.{piece};
 ghost use Rattle.lpt_join.specs.Offers.{piece_in};
 ghost use Rattle.lpt_each.specs.Helds.{HoldsEach, news_of};
 ghost use Rattle.lpt_each.specs.News as teller;
-ghost use Rattle.lpt_each.specs.Streams.{Tells, told_by};
+ghost use Rattle.lpt_each.specs.Streams.{Tells, events, told_by};
 ghost use Rattle.lpt_memory.specs.declared.request.Area.{Area};
 ghost use Rattle.lpt_extract.specs.declared.notice.Notice.{Notice};
 ghost use Rattle.lpt_extract.specs.Extracts.{areas_in, written_first};
 ghost use Rattle.lpt_extract.specs.ExtractsInside.{Held};
-ghost use Rattle.lpt_extract.specs.Joined.{message_of, notices_by, reads_by, ExtractsJoined, JoinedLeaves};
+ghost use Rattle.lpt_extract.specs.Joined.{joined_in, message_of, notices_by, reads, reads_by, ExtractsJoined, JoinedLeaves};
 ghost use Rattle.lpt_extract.specs.Notices.{Hears};
 
 use crate::ending::end_extract;
 use crate::holding::Holding;
-use crate::passing::{PassingTaker, each_piece_passing};
 use crate::taking::{take_message, take_piece};
 use crate::{Extracted, Listener, Wanted};
 use lpt_each::{Helds, News, Taker, leave};
 use lpt_join::{Transaction, named_part_in};
 use lpt_packet::Name;
 use lpt_part::Part;
-use lpt_stream::PieceKind;
+use lpt_stream::{Cut, PieceKind, take_pieces};
 use lpt_text::{Sink, Source, StreamFault};
 use std::alloc::Global;
 
@@ -72,6 +73,17 @@ pub fn extract_joined<S: Source, K: Sink, L: Listener, T: Taker>(
     ensures leaves { IfErr result (λ e. JoinedLeaves wanted.now transaction.now e
         (S.remaining source.old) (S.remaining source.new)
         (K.contents out.old) (K.contents out.new)) }
+
+    // Where a read fails, just what the packets give was told and written that what was read before
+    // it shows.
+    ensures settled { result ≡ Err StreamFault.Read → TakenAll Sealed (S.remaining source.old)
+        (S.remaining source.new) (λ pieces. Hears (L.heard hearers.old.listener)
+        (L.heard hearers.new.listener) (joined_in wanted.now transaction.now [] 0 pieces)
+        × teller.Hears (T.heard hearers.old.taker) (T.heard hearers.new.taker)
+        (events transaction.now false (packets_of pieces))
+        × Appends (K.contents out.old) (K.contents out.new) (written_first wanted.now.at
+        (areas_in wanted.now (reads transaction.now (packets_of pieces)))))
+        ⊎ IsEndless (S.remaining source.old) (S.remaining source.new) }
     ensures reader { ReadEnds (IsEndless (S.remaining source.old) (S.remaining source.new)) result
         (S.failed source.old) (S.failed source.new) }
 
@@ -88,7 +100,7 @@ pub fn extract_joined<S: Source, K: Sink, L: Listener, T: Taker>(
         helds,
         holding,
     };
-    let last = each_piece_passing(alloc, source, first, out, hearers)?;
+    let last = take_pieces(alloc, 0, source, first, out, hearers)?;
     leave(last.helds, &mut hearers.taker)?;
     end_extract(wanted, last.holding, out)
 }
@@ -103,22 +115,37 @@ struct Joiner {
     holding: Holding,
 }
 
-impl<K: Sink, L: Listener, T: Taker> PassingTaker<K, Hearers<L, T>> for Joiner {
-    ghost use Rattle.std.specs.Prelude.{◌≡◌};
+impl<K: Sink, L: Listener, T: Taker> lpt_stream::Taker<K, Hearers<L, T>> for Joiner {
+    ghost use Rattle.std.specs.Prelude.{◌≡◌, true, ⊤};
+    ghost use Rattle.lpt_stream.specs.declared.cut.Cut.TheVariants as cuts;
     ghost use Rattle.lpt_text.specs.declared.fault.StreamFault.TheVariants as faults;
     ghost use Rattle.lpt_stream.specs.Pieces.{packets_of};
     ghost use Rattle.lpt_extract.specs.Extracts.{areas_in, written_first};
     ghost use Rattle.lpt_extract.specs.Joined.{reads};
     ghost use Rattle.lpt_extract.specs.JoinedInside.{IsTaken};
 
-    ghost takes = { λ first now old new pieces. IsTaken first now
+    ghost cut = { λ _. cuts.Sealed };
+
+    ghost is_open = { λ _. true };
+
+    ghost takes = { λ from first now old new pieces. IsTaken from first now
         (L.heard old.listener) (L.heard new.listener)
         (T.heard old.taker) (T.heard new.taker) pieces };
 
-    ghost writes = { λ first pieces. written_first first.wanted.at
+    ghost leaves = { λ from first old new pieces. ⊤ };
+
+    ghost writes = { λ from first pieces. written_first first.wanted.at
         (areas_in first.wanted (reads first.transaction (packets_of pieces))) };
 
     ghost others = { λ e. e ≡ faults.Write };
+
+    fn cut(&self) -> Cut {
+        Cut::Sealed
+    }
+
+    fn is_open(&self) -> bool {
+        true
+    }
 
     fn take(
         self,

@@ -19,7 +19,6 @@ mod holding;
 mod image;
 mod joining;
 mod notice;
-mod passing;
 mod report;
 mod seen_area;
 mod taking;

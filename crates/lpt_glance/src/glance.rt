@@ -59,11 +59,13 @@ pub fn look<S: Source>(alloc: Global, view: View, source: &mut S) -> Result<Glan
 }
 
 impl PieceTaker<()> for Glance {
-    ghost use Rattle.std.specs.Prelude.{◌≡◌};
+    ghost use Rattle.std.specs.Prelude.{◌≡◌, ⊤};
     ghost use Rattle.lpt_text.specs.declared.fault.StreamFault.TheVariants as faults;
     ghost use Rattle.lpt_glance.specs.Shown.{Shows};
 
     ghost takes = { λ first now old new pieces. Shows first now pieces };
+
+    ghost leaves = { λ first old new pieces. ⊤ };
 
     ghost fails = { λ e. e ≡ faults.Memory };
 

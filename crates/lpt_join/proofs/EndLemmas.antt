@@ -3,6 +3,7 @@ use Rattle.std.proofs.Common.{◌≡◌, ◌∙◌, ap, sym, subst, ℕ, List, �
 use Rattle.std.specs.Io.KnownBytes.{Consumes, IsAtEnd}
 use Rattle.lpt_events.specs.declared.config.Config.{Config}
 use Rattle.lpt_stream.specs.Pieces.{Piece, Cuts, Finds, packets_of}
+use Rattle.lpt_stream.specs.declared.cut.Cut.TheVariants.{Sealed}
 use Rattle.lpt_stream.proofs.CutLemmas.{one_cut}
 use Rattle.lpt_join.specs.declared.gathering.Gathering.{Gathering}
 use Rattle.lpt_join.specs.declared.transaction.Transaction.{Transaction}
@@ -36,7 +37,7 @@ pub packets_read : (old new : Option (List ℕ)) (P : List Piece → Type 0)
 packets_read old new P h stream packets is found =
     let same = all_read old new stream h.0 is h.2 h.3 in
     let cut = subst (λ s. Cuts s h.1) same h.4 in
-    ap packets_of (one_cut stream h.1 found.0 cut found.1) ∙ found.2
+    ap packets_of (one_cut Sealed stream h.1 found.0 cut found.1) ∙ found.2
 
 -- the message, where its packets are among those that are found in the stream
 pub message_given : (t : Transaction) (g : Gathering) (old new : Option (List ℕ)) (P : List Piece → Type 0)

@@ -52,11 +52,13 @@ struct Gatherer {
 }
 
 impl PieceTaker<()> for Gatherer {
-    ghost use Rattle.std.specs.Prelude.{◌≡◌};
+    ghost use Rattle.std.specs.Prelude.{◌≡◌, ⊤};
     ghost use Rattle.lpt_text.specs.declared.fault.StreamFault.TheVariants as faults;
     ghost use Rattle.lpt_join.specs.Readers.{Gathers};
 
     ghost takes = { λ first now old new pieces. Gathers first now pieces };
+
+    ghost leaves = { λ first old new pieces. ⊤ };
 
     ghost fails = { λ e. e ≡ faults.Memory };
 

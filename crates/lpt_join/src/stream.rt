@@ -66,11 +66,13 @@ struct Joiner {
 }
 
 impl PieceTaker<()> for Joiner {
-    ghost use Rattle.std.specs.Prelude.{◌≡◌};
+    ghost use Rattle.std.specs.Prelude.{◌≡◌, ⊤};
     ghost use Rattle.lpt_text.specs.declared.fault.StreamFault.TheVariants as faults;
     ghost use Rattle.lpt_join.specs.Readers.{Joins};
 
     ghost takes = { λ first now old new pieces. Joins first now pieces };
+
+    ghost leaves = { λ first old new pieces. ⊤ };
 
     ghost fails = { λ e. e ≡ faults.Memory };
 

@@ -53,7 +53,7 @@ struct ReportTaker {
 }
 
 impl PieceTaker<()> for ReportTaker {
-    ghost use Rattle.std.specs.Prelude.{◌≡◌};
+    ghost use Rattle.std.specs.Prelude.{◌≡◌, ⊤};
     ghost use Rattle.std.specs.BTreeMap.{get};
     ghost use Rattle.lpt_outcomes.specs.Answers.{told_at};
     ghost use Rattle.lpt_outcomes.specs.Keys.{Key, key_cmp};
@@ -63,6 +63,8 @@ impl PieceTaker<()> for ReportTaker {
     ghost takes = { λ first now old new pieces. ((k : Key) → get key_cmp now.outcomes k
         ≡ told_at k (news_of pieces) (get key_cmp first.outcomes k))
         × IsPassed (passed_over news_in pieces) now.passed };
+
+    ghost leaves = { λ first old new pieces. ⊤ };
 
     ghost fails = { λ e. ⊥ };
 

@@ -42,13 +42,15 @@ pub fn read_requests<S: Source>(alloc: Global, source: &mut S) -> Result<Request
 }
 
 impl PieceTaker<()> for Requests {
-    ghost use Rattle.std.specs.Prelude.{◌≡◌};
+    ghost use Rattle.std.specs.Prelude.{◌≡◌, ⊤};
     ghost use Rattle.lpt_text.specs.declared.fault.StreamFault.TheVariants as faults;
     ghost use Rattle.lpt_outcomes.specs.Passing.{passed_over, IsPassed};
     ghost use Rattle.lpt_outcomes.specs.Requests.{request_in, requests_in};
 
     ghost takes = { λ first now old new pieces. (now.asked.items ≡ requests_in pieces)
         × IsPassed (passed_over request_in pieces) now.passed };
+
+    ghost leaves = { λ first old new pieces. ⊤ };
 
     ghost fails = { λ e. e ≡ faults.Memory };
 

@@ -2,7 +2,7 @@
 use Rattle.std.proofs.Common.{◌≡◌, refl, ◌<◌, true, false, List, [], ◌∷◌, length, arith}
 use Rattle.lpt_join.specs.Several.{of_name}
 use Rattle.lpt_each.specs.Eaches.{held}
-use Rattle.lpt_each.proofs.TellLemmas.{left-all, left-first, left-next}
+use Rattle.lpt_each.proofs.TellLemmas.{left-all, left-first, left-next, left-part}
 use Rattle.lpt_each.proofs.leaving.leave.Goals as goal
 
 no_true : false ≡ true → ⊥
@@ -32,3 +32,13 @@ returns-clause-told g c = λ t any bs h.
     left-all t any bs c.args.helds c.loop-name.kept (g.T.Taker.heard c.args.taker.now)
     (g.T.Taker.heard c.loop-name.taker) h (c.loop-name.invariant t any bs h)
     (none_left c.loop-name.kept.entries c.in_default.ensures.variant.1)
+
+pub returns-in-Err-clause-left : goal.returns-in-Err-clause-left
+returns-in-Err-clause-left g c = λ t any bs h.
+    let was = c.loop-name.invariant t any bs h in
+    let name = c.in-Some.name in
+    left-part t any bs c.args.helds c.loop-name.kept c.pop_first.new.self name c.in-Some.held
+    (g.T.Taker.heard c.args.taker.now) (g.T.Taker.heard c.loop-name.taker)
+    (g.T.Taker.heard c.tell_left.new.taker) h was c.in-Some.ensures.removal
+    (c.in-Err.ensures.left (of_name t name) (held (of_name t name) any bs)
+    (was.holds name c.in-Some.held c.in-Some.ensures.value))

@@ -1,26 +1,30 @@
 -- Nothing was taken of nothing; and at the end what was taken is written.
-use Rattle.std.proofs.Common.{◌≡◌, sym, subst, refl, [], false}
+use Rattle.std.proofs.Common.{◌≡◌, ap, sym, subst, refl, inl, inr, [], false, Err}
 use Rattle.std.proofs.lemmas.Result.{err_from_is_err_and}
 use Rattle.lpt_text.specs.declared.fault.StreamFault.{StreamFault}
 use Rattle.lpt_text.specs.declared.fault.StreamFault.TheVariants as faults
+use Rattle.std.specs.Io.KnownBytes.{Appends}
 use Rattle.lpt_text.specs.Streams.{AppendsPart}
 use Rattle.lpt_text.proofs.StreamLemmas.{part_whole}
 use Rattle.lpt_stream.specs.Pieces.{packets_of}
+use Rattle.lpt_stream.specs.declared.cut.Cut.TheVariants.{Sealed}
 use Rattle.lpt_stream.proofs.EndLemmas.{other-fault, reader-all, reader-kept}
+use Rattle.lpt_stream.proofs.TakeLemmas.{all-as, leave-all, leave-as, reads-all}
 use Rattle.lpt_each.proofs.ReadLemmas.{told-all}
 use Rattle.lpt_each.proofs.TellLemmas as each
-use Rattle.lpt_each.specs.Streams.{Tells}
+use Rattle.lpt_each.specs.News as teller
+use Rattle.lpt_each.specs.Streams.{Tells, events}
 use Rattle.lpt_extract.specs.Extracts.{areas_in, written_first, LeavesFront}
 use Rattle.lpt_extract.specs.ExtractsInside.{written_last, Held}
 use Rattle.lpt_extract.specs.Joined.{joined_in, reads, JoinedLeaves}
 use Rattle.lpt_extract.specs.Notices.{Hears}
 use Rattle.lpt_extract.proofs.GiveLemmas.{first-none, hears-nothing, leaves-first, leaves-last}
 use Rattle.lpt_extract.proofs.JoinedLemmas.{as-wanted, ends-failed, ends-ok, joined-ends, taker-failed}
-use Rattle.lpt_extract.proofs.ReadLemmas.{if-ok, if-err, leave-all, leave-as}
+use Rattle.lpt_extract.proofs.ReadLemmas.{if-ok, if-err, no-read}
 use Rattle.lpt_extract.proofs.joining.extract_joined.Goals as goal
 
-pub each_piece_passing-requires : goal.each_piece_passing-requires
-each_piece_passing-requires g c = record {
+pub take_pieces-requires : goal.take_pieces-requires
+take_pieces-requires g c = record {
   taken = record {
     same_wanted = refl;
     same = refl;
@@ -39,13 +43,12 @@ returns-in_err-last-clause-leaves g c =
     let t = c.args.transaction.now in
     let e = c.in_err-last.field-0.0 in
     let old = g.K.Sink.contents c.args.out.now in
-    let new = g.K.Sink.contents c.each_piece_passing.new.out in
+    let new = g.K.Sink.contents c.take_pieces.new.out in
     let p = err_from_is_err_and c.from_residual.result c.from_residual.ensures.1 in
     rw (p.1, p.2)
-    (leave-as _ _
-    (λ ps. AppendsPart old new (written_first w.at (areas_in w (reads t (packets_of ps)))))
+    (leave-as Sealed _ _ _
     (λ ps. LeavesFront e w.at (areas_in w (reads t (packets_of ps))) old new)
-    (λ ps part. leaves-first e w.at (areas_in w (reads t (packets_of ps))) old new part)
+    (λ ps part. leaves-first e w.at (areas_in w (reads t (packets_of ps))) old new part.1)
     c.in_err-last.ensures.leaves)
 
 -- the taker failed at what is left
@@ -54,13 +57,13 @@ returns-in_err-leave-clause-leaves g c =
     let w = c.args.wanted.now in
     let t = c.args.transaction.now in
     let e = c.in_err-leave.field-0.0 in
-    let read = c.in_ok-last.ensures.taken in
+    let read = reads-all _ _ _ c.in_ok-last.ensures.taken in
     let old = g.K.Sink.contents c.args.out.now in
-    let mid = g.K.Sink.contents c.each_piece_passing.new.out in
+    let mid = g.K.Sink.contents c.take_pieces.new.out in
     let p = err_from_is_err_and c.from_residual-in_err-leave.result
     c.from_residual-in_err-leave.ensures.1 in
     rw (p.1, p.2)
-    (leave-all _ _ (λ ps. LeavesFront e w.at (areas_in w (reads t (packets_of ps))) old mid)
+    (leave-all Sealed _ _ (λ ps. LeavesFront e w.at (areas_in w (reads t (packets_of ps))) old mid)
     read.0 read.1 read.2 read.4
     (leaves-first e w.at (areas_in w (reads t (packets_of read.1))) old mid
     (part_whole old mid _ read.5.1)))
@@ -78,15 +81,15 @@ pub returns-clause-ends : goal.returns-clause-ends
 returns-clause-ends g c =
     let w = c.args.wanted.now in
     let t = c.args.transaction.now in
-    let read = c.in_ok-last.ensures.taken in
+    let read = reads-all _ _ _ c.in_ok-last.ensures.taken in
     let last = c.in_ok-last.last in
     let ps = read.1 in
     let bs = packets_of ps in
     let taken = read.5.0 in
     let first = c.args.hearers.now in
-    let lent = c.each_piece_passing.new.lent in
+    let lent = c.take_pieces.new.lent in
     let old = g.K.Sink.contents c.args.out.now in
-    let mid = g.K.Sink.contents c.each_piece_passing.new.out in
+    let mid = g.K.Sink.contents c.take_pieces.new.out in
     let new = g.K.Sink.contents c.end_extract.new.out in
     let heard = g.L.Listener.heard first.listener in
     let hears = g.L.Listener.heard lent.listener in
@@ -115,13 +118,13 @@ pub returns-clause-leaves : goal.returns-clause-leaves
 returns-clause-leaves g c =
     let w = c.args.wanted.now in
     let t = c.args.transaction.now in
-    let read = c.in_ok-last.ensures.taken in
+    let read = reads-all _ _ _ c.in_ok-last.ensures.taken in
     let last = c.in_ok-last.last in
     let ps = read.1 in
     let bs = packets_of ps in
     let taken = read.5.0 in
     let old = g.K.Sink.contents c.args.out.now in
-    let mid = g.K.Sink.contents c.each_piece_passing.new.out in
+    let mid = g.K.Sink.contents c.take_pieces.new.out in
     let new = g.K.Sink.contents c.end_extract.new.out in
     let areas = areas_in w (reads t bs) in
     let held = as-wanted
@@ -129,7 +132,7 @@ returns-clause-leaves g c =
     last.wanted w last.transaction t taken.same_wanted taken.same taken.held in
     if-err (λ e. e ≡ faults.Write) (λ e. AppendsPart mid new (written_last w.at areas))
     (λ e. JoinedLeaves w t e _ _ old new) c.end_extract.result
-    (λ e is part. leave-all _ _
+    (λ e is part. leave-all Sealed _ _
     (λ ps. LeavesFront e w.at (areas_in w (reads t (packets_of ps))) old new)
     read.0 ps read.2 read.4
     (subst (λ (f : StreamFault). LeavesFront f w.at areas old new) (sym is)
@@ -149,7 +152,7 @@ returns-in_err-leave-clause-failed g c =
     c.from_residual-in_err-leave.ensures.1 in
     rw (p.1, p.2)
     (taker-failed c.in_err-leave.field-0.0 (g.K.Sink.failed c.args.out.now)
-    (g.K.Sink.failed c.each_piece_passing.new.out) c.in_err-leave.ensures.fault
+    (g.K.Sink.failed c.take_pieces.new.out) c.in_err-leave.ensures.fault
     c.in_ok-last.ensures.writer)
 
 pub returns-clause-writer : goal.returns-clause-writer
@@ -159,3 +162,46 @@ returns-clause-writer g c =
 pub returns-clause-failed : goal.returns-clause-failed
 returns-clause-failed g c =
     ends-failed c.end_extract.result _ _ _ c.end_extract.ensures.writer c.in_ok-last.ensures.writer
+
+-- ---- a read that failed
+
+pub returns-in_err-last-clause-settled : goal.returns-in_err-last-clause-settled
+returns-in_err-last-clause-settled g c =
+    let w = c.args.wanted.now in
+    let t = c.args.transaction.now in
+    let old = g.K.Sink.contents c.args.out.now in
+    let new = g.K.Sink.contents c.take_pieces.new.out in
+    let first = c.args.hearers.now in
+    let lent = c.take_pieces.new.lent in
+    let heard = g.L.Listener.heard first.listener in
+    let hears = g.L.Listener.heard lent.listener in
+    let told = g.T.Taker.heard first.taker in
+    let tells = g.T.Taker.heard lent.taker in
+    let p = err_from_is_err_and c.from_residual.result c.from_residual.ensures.1 in
+    λ read.
+    let fault : c.in_err-last.field-0.0 ≡ faults.Read = cc in
+    elim (c.in_err-last.ensures.settled (ap Err fault)) [
+      | inl h ↦ inl (all-as Sealed _ _ _ (λ ps. Hears heard hears (joined_in w t [] 0 ps)
+          × teller.Hears told tells (events t false (packets_of ps))
+          × Appends old new (written_first w.at (areas_in w (reads t (packets_of ps)))))
+          (λ ps taken. (
+            as-wanted (λ w t. Hears heard hears (joined_in w t [] 0 ps)) taken.0.0.wanted w
+                taken.0.0.transaction t taken.0.1.same_wanted taken.0.1.same taken.0.1.hears_is,
+            subst (λ t. teller.Hears told tells (events t false (packets_of ps))) taken.0.1.same
+                taken.0.1.tells_is,
+            taken.1,
+          )) h)
+      | inr h ↦ inr h
+    ]
+
+pub returns-in_err-leave-clause-settled : goal.returns-in_err-leave-clause-settled
+returns-in_err-leave-clause-settled g c =
+    let p = err_from_is_err_and c.from_residual-in_err-leave.result
+    c.from_residual-in_err-leave.ensures.1 in
+    λ read.
+    let fault : c.in_err-leave.field-0.0 ≡ faults.Read = cc in
+    absurd (other-fault c.in_err-leave.field-0.0 c.in_err-leave.ensures.fault fault)
+
+pub returns-clause-settled : goal.returns-clause-settled
+returns-clause-settled g c = λ read.
+    absurd (no-read c.end_extract.result c.end_extract.ensures.fault read)

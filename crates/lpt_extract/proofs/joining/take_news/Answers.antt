@@ -5,10 +5,10 @@ use Rattle.std.proofs.lemmas.Result.{err_from_is_err_and}
 use Rattle.lpt_text.specs.Streams.{AppendsPart}
 use Rattle.lpt_text.proofs.StreamLemmas.{part_unchanged}
 use Rattle.lpt_each.specs.Helds.{news_of}
+use Rattle.lpt_stream.proofs.EndLemmas.{any-err}
 use Rattle.lpt_extract.specs.Extracts.{areas_in, written_first}
 use Rattle.lpt_extract.specs.Joined.{message_of}
 use Rattle.lpt_extract.proofs.JoinedLemmas.{ends-failed, ends-ok, taker-failed}
-use Rattle.lpt_extract.proofs.ReadLemmas.{any-err}
 use Rattle.lpt_extract.proofs.joining.take_news.Goals as goal
 
 pub returns-in_err-take-clause-part : goal.returns-in_err-take-clause-part

@@ -5,13 +5,13 @@ use Rattle.lpt_text.specs.Streams.{AppendsPart}
 use Rattle.lpt_text.proofs.StreamLemmas.{part_unchanged}
 use Rattle.lpt_part.specs.Parts.{piece}
 use Rattle.lpt_events.specs.NamedParts.{named}
+use Rattle.lpt_stream.proofs.EndLemmas.{any-err}
 use Rattle.lpt_extract.specs.Extracts.{areas_in, written_first}
 use Rattle.lpt_extract.specs.ExtractsInside.{Held}
 use Rattle.lpt_extract.specs.Joined.{notices_by}
 use Rattle.lpt_extract.specs.Notices.{Hears}
 use Rattle.lpt_extract.proofs.GiveLemmas.{held-as, hears-nothing, wrote-none}
 use Rattle.lpt_extract.proofs.JoinedLemmas.{reads-none, reads-some}
-use Rattle.lpt_extract.proofs.ReadLemmas.{any-err}
 use Rattle.lpt_extract.proofs.joining.take_part.Goals as goal
 
 -- nothing is told

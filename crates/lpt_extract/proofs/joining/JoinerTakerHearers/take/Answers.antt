@@ -5,16 +5,17 @@ use Rattle.lpt_part.specs.Parts.{piece}
 use Rattle.lpt_events.specs.NamedParts.{named}
 use Rattle.lpt_text.specs.Streams.{AppendsPart}
 use Rattle.lpt_stream.specs.Pieces.{Piece, packets_of}
+use Rattle.lpt_stream.proofs.EndLemmas.{any-err}
+use Rattle.lpt_each.specs.News.{Hears}
 use Rattle.lpt_each.proofs.ReadLemmas as each
 use Rattle.lpt_extract.specs.Extracts.{areas_in, written_first}
 use Rattle.lpt_extract.specs.Joined.{reads}
 use Rattle.lpt_extract.proofs.JoinedLemmas.{as-wanted, held-next, hears-next, joined-other, joined-part, part-next, reads-other, reads-part, wrote-next}
-use Rattle.lpt_extract.proofs.ReadLemmas.{any-err}
-use Rattle.lpt_extract.proofs.joining.JoinerPassingTakerHearers.take.Goals as goal
+use Rattle.lpt_extract.proofs.joining.JoinerTakerHearers.take.Goals as goal
 
 -- one that carries no part is read itself
 pub returns-in_default-clause-taken : goal.returns-in_default-clause-taken
-returns-in_default-clause-taken g c = λ first old pieces h at.
+returns-in_default-clause-taken g c = λ from first old pieces h at.
     let was = c.args.self in
     let w = was.wanted in
     let t = was.transaction in
@@ -30,9 +31,9 @@ returns-in_default-clause-taken g c = λ first old pieces h at.
       same = h.same;
       helds_are = each.held-next t false pieces p was.helds
           (each.held-other t false bs p.kind p.octets was.helds none h.helds_are);
-      held = held-next w t pieces p _ gives c.args.place at _ tells c.take_piece.new.holding
+      held = held-next w t pieces p _ gives from c.args.place at _ tells c.take_piece.new.holding
           (c.in_ok-take_piece.ensures.held _ _ h.held);
-      hears_is = hears-next w t pieces p _ gives c.args.place at _ tells
+      hears_is = hears-next w t pieces p _ gives from c.args.place at _ tells
           (g.L.Listener.heard old.listener) (g.L.Listener.heard lent.listener)
           (g.L.Listener.heard c.take_piece.new.listener) h.hears_is
           c.in_ok-take_piece.ensures.heard;
@@ -41,7 +42,7 @@ returns-in_default-clause-taken g c = λ first old pieces h at.
     }
 
 pub returns-in_default-clause-wrote : goal.returns-in_default-clause-wrote
-returns-in_default-clause-wrote g c = λ first old pieces start h before.
+returns-in_default-clause-wrote g c = λ from first old pieces start h at before.
     let w = c.args.self.wanted in
     let t = c.args.self.transaction in
     let p : Piece = record { kind = c.args.kind; octets = c.args.octets.now } in
@@ -58,7 +59,7 @@ returns-in_default-clause-wrote g c = λ first old pieces start h before.
     c.in_ok-take_piece.ensures.wrote)
 
 pub returns-in_err-take_piece-clause-part : goal.returns-in_err-take_piece-clause-part
-returns-in_err-take_piece-clause-part g c = λ first old pieces start h before.
+returns-in_err-take_piece-clause-part g c = λ from first old pieces start h at before.
     let w = c.args.self.wanted in
     let t = c.args.self.transaction in
     let p : Piece = record { kind = c.args.kind; octets = c.args.octets.now } in
@@ -77,7 +78,7 @@ returns-in_err-take_piece-clause-part g c = λ first old pieces start h before.
 
 -- of one that carries a part, what becomes whole with it
 pub returns-clause-taken : goal.returns-clause-taken
-returns-clause-taken g c = λ first old pieces h at.
+returns-clause-taken g c = λ from first old pieces h at.
     let was = c.args.self in
     let w = was.wanted in
     let t = was.transaction in
@@ -97,20 +98,21 @@ returns-clause-taken g c = λ first old pieces h at.
       helds_are = each.held-next t false pieces p c.in_ok-helds.helds
           (each.held-part t false bs p.kind p.octets q c.in_ok-helds.helds some
           (part.kept bs p.octets h.helds_are));
-      held = held-next w t pieces p _ gives c.args.place at _ tells c.take_part.new.holding
+      held = held-next w t pieces p _ gives from c.args.place at _ tells c.take_part.new.holding
           (part.held bs p.octets h.helds_are there.0 _ _ h.held);
-      hears_is = hears-next w t pieces p _ gives c.args.place at _ tells
+      hears_is = hears-next w t pieces p _ gives from c.args.place at _ tells
           (g.L.Listener.heard old.listener) (g.L.Listener.heard lent.listener)
           (g.L.Listener.heard new.listener) h.hears_is
           (part.heard bs p.octets h.helds_are there.0);
       tells_is = each.told-next t false pieces p (g.T.Taker.heard old.taker)
           (g.T.Taker.heard lent.taker) (g.T.Taker.heard new.taker) h.tells_is
-          (each.told-part t false bs p.kind p.octets q (g.T.Taker.heard lent.taker)
-          (g.T.Taker.heard new.taker) some (part.told bs p.octets h.helds_are));
+          (each.told-part t false bs p.kind p.octets q
+          (Hears (g.T.Taker.heard lent.taker) (g.T.Taker.heard new.taker)) some
+          (part.told bs p.octets h.helds_are));
     }
 
 pub returns-clause-wrote : goal.returns-clause-wrote
-returns-clause-wrote g c = λ first old pieces start h before.
+returns-clause-wrote g c = λ from first old pieces start h at before.
     let w = c.args.self.wanted in
     let t = c.args.self.transaction in
     let p : Piece = record { kind = c.args.kind; octets = c.args.octets.now } in
@@ -129,7 +131,7 @@ returns-clause-wrote g c = λ first old pieces start h before.
     (c.in_ok-helds.ensures.wrote bs p.octets h.helds_are there.0))
 
 pub returns-in_err-helds-clause-part : goal.returns-in_err-helds-clause-part
-returns-in_err-helds-clause-part g c = λ first old pieces start h before.
+returns-in_err-helds-clause-part g c = λ from first old pieces start h at before.
     let w = c.args.self.wanted in
     let t = c.args.self.transaction in
     let p : Piece = record { kind = c.args.kind; octets = c.args.octets.now } in
