@@ -8,8 +8,8 @@ use Rattle.lpt_text.specs.declared.fault.StreamFault.TheVariants as faults
 use Rattle.lpt_frames.specs.Frames.{IsCut, IsFrame}
 use Rattle.lpt_frames.proofs.FrameLemmas.{cut-more, cut-next, cut-none}
 use Rattle.lpt_layout_join.specs.declared.hearing.LeftAs.{LeftAs}
-use Rattle.lpt_layout_join.specs.declared.reading.ReadingAs.{ReadingAs}
-use Rattle.lpt_layout_join.specs.Carried.{carried}
+use Rattle.lpt_carried.specs.declared.reading.Reading.{Reading}
+use Rattle.lpt_carried.specs.Carried.{carried}
 use Rattle.lpt_layout_join.specs.Hearing as hearing
 use Rattle.lpt_layout_join.specs.Hearing.{IsEndless, Leaves}
 use Rattle.lpt_layout_each.specs.declared.helds.HeldsAs.{HeldsAs}
@@ -99,13 +99,13 @@ reading-endless a b held count P h is =
 
 -- ---- what is told of them
 
-passed-next : (r : ReadingAs) (p : PassedAs) (bs : List (List ℕ)) (b : List ℕ)
+passed-next : (r : Reading) (p : PassedAs) (bs : List (List ℕ)) (b : List ℕ)
     → passed_from r p (bs ++ b ∷ [])
     ≡ passed_with (carried r b) (length b) (passed_from r p bs)
 passed-next r p [] b = refl
 passed-next r p (c ∷ bs) b = passed-next r (passed_with (carried r c) (length c) p) bs b
 
-module _ (r : ReadingAs) (any : Bool) where
+module _ (r : Reading) (any : Bool) where
   -- of none
   pub told-nothing : (g : HeldsAs) (p : PassedAs) (heard : Option (List Event))
       → HoldsEach r any [] g

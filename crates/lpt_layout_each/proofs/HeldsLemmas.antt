@@ -3,10 +3,10 @@ use Rattle.std.proofs.Common.{◌≡◌, ◌∙◌, ap, sym, subst, refl, ℕ, B
 use Rattle.std.specs.Option.{option_map}
 use Rattle.std.specs.BTreeMap.{BTreeMap, get, IsOrdered}
 use Rattle.lpt_part.specs.Parts.{Piece}
-use Rattle.lpt_layout_join.specs.declared.names.NameAs.{NameAs}
-use Rattle.lpt_layout_join.specs.declared.reading.ReadingAs.{ReadingAs}
-use Rattle.lpt_layout_join.specs.declared.skip.SkipAs.{SkipAs}
-use Rattle.lpt_layout_join.specs.Carried.{Named, carried, name_of, part_of, same_name}
+use Rattle.lpt_carried.specs.declared.name.Name.{Name}
+use Rattle.lpt_carried.specs.declared.reading.Reading.{Reading}
+use Rattle.lpt_carried.specs.declared.skip.Skip.{Skip}
+use Rattle.lpt_carried.specs.Carried.{Named, carried, name_of, part_of, same_name}
 use Rattle.lpt_layout_each.specs.declared.course.CourseAs.{CourseAs}
 use Rattle.lpt_layout_each.specs.declared.helds.HeldsAs.{HeldsAs}
 use Rattle.lpt_layout_each.specs.declared.news.NewsAs.{NewsAs}
@@ -18,18 +18,18 @@ use Rattle.lpt_layout_each.specs.Names.{name_cmp}
 use Rattle.lpt_layout_each.specs.News.{News}
 use Rattle.lpt_layout_each.specs.Streams.{of, told, told_by}
 use Rattle.lpt_layout_each.specs.Told.{news_of}
-use Rattle.lpt_layout_join.proofs.NameLemmas.{same_name-refl, same_name-true}
+use Rattle.lpt_carried.proofs.NameLemmas.{same_name-refl, same_name-true}
 
 -- ---- the counts
 
-pub counted-next : (r : ReadingAs) (k : Counted) (bs : List (List ℕ)) (b : List ℕ)
+pub counted-next : (r : Reading) (k : Counted) (bs : List (List ℕ)) (b : List ℕ)
     → all_counted r k (bs ++ b ∷ []) ≡ counted r (all_counted r k bs) b
 counted-next r k [] b = refl
 counted-next r k (x ∷ bs) b = counted-next r (counted r k x) bs b
 
 -- ---- of one name
 
-module _ (r : ReadingAs) (any : Bool) (n : NameAs) where
+module _ (r : Reading) (any : Bool) (n : Name) where
   pub held_from-next : (k : Counted) (h : Course) (bs : List (List ℕ)) (b : List ℕ)
       → held_from r any n k h (bs ++ b ∷ [])
       ≡ (step_of r any (missing_at r (all_counted r k bs) b) (held_from r any n k h bs)
@@ -58,7 +58,7 @@ module _ (r : ReadingAs) (any : Bool) (n : NameAs) where
 
 -- ---- of each
 
-module _ (r : ReadingAs) (any : Bool) (bs : List (List ℕ)) (b : List ℕ) where
+module _ (r : Reading) (any : Bool) (bs : List (List ℕ)) (b : List ℕ) where
   counts-next : (old new : HeldsAs)
       → shown new.counts ≡ counted r (shown old.counts) b
       → HoldsEach r any bs old
@@ -68,7 +68,7 @@ module _ (r : ReadingAs) (any : Bool) (bs : List (List ℕ)) (b : List ℕ) wher
       ∙ sym (counted-next r nothing_counted bs b)
 
   -- no part of any name
-  pub each-none : (e : SkipAs) (old new : HeldsAs)
+  pub each-none : (e : Skip) (old new : HeldsAs)
       → carried r b ≡ Err e
       → new.kept ≡ old.kept
       → shown new.counts ≡ counted r (shown old.counts) b
@@ -76,34 +76,34 @@ module _ (r : ReadingAs) (any : Bool) (bs : List (List ℕ)) (b : List ℕ) wher
       → HoldsEach r any (bs ++ b ∷ []) new
   each-none e old new is same counts h = record {
     each = λ n.
-        subst (λ (t : BTreeMap NameAs CourseAs).
+        subst (λ (t : BTreeMap Name CourseAs).
         IsHeld (held r any n (bs ++ b ∷ [])) (get name_cmp t n))
         (sym same)
         (subst (λ (k : Course). IsHeld k (get name_cmp old.kept n))
         (sym (held-other r any n bs b (ap (part_of n) is))) (h.each n));
-    in_order = subst (λ (t : BTreeMap NameAs CourseAs). IsOrdered name_cmp t) (sym same) h.in_order;
+    in_order = subst (λ (t : BTreeMap Name CourseAs). IsOrdered name_cmp t) (sym same) h.in_order;
     counts = counts-next old new counts h;
   }
 
-  pub told-none : (e : SkipAs) → carried r b ≡ Err e → [] ≡ told_by r any bs b (carried r b)
+  pub told-none : (e : Skip) → carried r b ≡ Err e → [] ≡ told_by r any bs b (carried r b)
   told-none e is = sym (ap (told_by r any bs b) is)
 
-  module _ (c : Named) (is : carried r b ≡ Ok c) (name : NameAs) (e : name ≡ name_of c) where
+  module _ (c : Named) (is : carried r b ≡ Ok c) (name : Name) (e : name ≡ name_of c) where
     its_part : part_of name (carried r b) ≡ Some c.piece
     its_part =
         ap (part_of name) is
-        ∙ ap (λ (m : NameAs). if same_name (name_of c) m then Some c.piece else None) e
+        ∙ ap (λ (m : Name). if same_name (name_of c) m then Some c.piece else None) e
         ∙ ap (λ (t : Bool). if t then Some c.piece else None) (same_name-refl (name_of c))
 
-    no_part : (n : NameAs) → same_name name n ≡ false → part_of n (carried r b) ≡ None
+    no_part : (n : Name) → same_name name n ≡ false → part_of n (carried r b) ≡ None
     no_part n other =
         ap (part_of n) is
-        ∙ ap (λ (m : NameAs). if same_name m n then Some c.piece else None) (sym e)
+        ∙ ap (λ (m : Name). if same_name m n then Some c.piece else None) (sym e)
         ∙ ap (λ (t : Bool). if t then Some c.piece else None) other
 
     -- a part of this one
     pub each-part : (old new : HeldsAs) (g : CourseAs) (now : ℕ)
-        → ((n : NameAs) → same_name name n ≡ false
+        → ((n : Name) → same_name name n ≡ false
         → get name_cmp new.kept n ≡ get name_cmp old.kept n)
         → get name_cmp new.kept name ≡ Some g
         → IsOrdered name_cmp new.kept
@@ -118,11 +118,11 @@ module _ (r : ReadingAs) (any : Bool) (bs : List (List ℕ)) (b : List ℕ) wher
           in_order = in_order;
           counts = counts-next old new counts h;
         } where
-          at : (n : NameAs) (same : Bool)
+          at : (n : Name) (same : Bool)
               → same_name name n ≡ same
               → IsHeld (held r any n (bs ++ b ∷ [])) (get name_cmp new.kept n)
           at n true same =
-              subst (λ (m : NameAs). IsHeld (held r any m (bs ++ b ∷ [])) (get name_cmp new.kept m))
+              subst (λ (m : Name). IsHeld (held r any m (bs ++ b ∷ [])) (get name_cmp new.kept m))
               (same_name-true name n same)
               (subst (λ (o : Option CourseAs). IsHeld (held r any name (bs ++ b ∷ [])) o) (sym some)
               (subst (λ (k : Course). Follows k g)
@@ -145,5 +145,5 @@ module _ (r : ReadingAs) (any : Bool) (bs : List (List ℕ)) (b : List ℕ) wher
         ∙ ap (λ (p : Option Piece). of name
         (listed (step_of r any (missing_at r (counts_of r bs) b) (held r any name bs) p).1))
         (sym its_part)
-        ∙ ap (λ (m : NameAs). told r any m bs b) e
+        ∙ ap (λ (m : Name). told r any m bs b) e
         ∙ sym (ap (told_by r any bs b) is)

@@ -1,45 +1,118 @@
--- A message whose parts come in their order is given out with the last of them.
-use Rattle.std.proofs.Common.{◌≡◌, ◌∙◌, ap, sym, subst, refl, inl, inr, ℕ, ◌+◌, ◌≤◌, ◌<◌, ◌==◌, nat_le, nat_lt, Bool, true, false, if◌then◌else◌, List, [], ◌∷◌, ◌++◌, Option, Some, None, append-nil, append_assoc, arith}
+-- A message whose parts come in their order is given out with one of them.
+use Rattle.std.proofs.Common.{◌≡◌, ◌∙◌, ap, sym, subst, refl, inl, inr, ◌⊎◌, ℕ, ◌+◌, ◌≤◌, ◌==◌, nat_le, nat_lt, Bool, true, false, ◌||◌, if◌then◌else◌, List, [], ◌∷◌, ◌++◌, Option, Some, None, append-nil, append_assoc, arith}
 use Rattle.std.specs.Prelude.{is_some}
 use Rattle.std.proofs.lemmas.List.Concat.{flat_map-append}
-use Rattle.lpt_packet.proofs.BoolLemmas.{le_true, true_lt}
+use Rattle.lpt_packet.proofs.BoolLemmas.{and_left, and_right, le_true, true_lt}
 use Rattle.lpt_packet.proofs.Readings.{eq_true, eq_false}
+use Rattle.lpt_packet.proofs.SightLemmas.{same_octets-true}
 use Rattle.lpt_part.specs.Parts.{Piece}
-use Rattle.lpt_layout_join.specs.declared.names.NameAs.{NameAs}
-use Rattle.lpt_layout_join.specs.declared.reading.ReadingAs.{ReadingAs}
+use Rattle.lpt_carried.specs.declared.name.Name.{Name}
+use Rattle.lpt_carried.specs.declared.reading.Reading.{Reading}
 use Rattle.lpt_layout_join.specs.Came.{Came, message_of, nothing_came}
-use Rattle.lpt_layout_join.specs.Carried.{carried, part_of}
+use Rattle.lpt_carried.specs.Carried.{carried, part_of}
+use Rattle.lpt_layout_join.specs.declared.ending.MisfitAs.{MisfitAs}
 use Rattle.lpt_layout_join.specs.declared.order.Order.{Order}
 use Rattle.lpt_layout_join.specs.Counts.{Counted, all_counted, counted}
 use Rattle.lpt_layout_join.specs.Orders.{no_order, ordered, with_next}
 use Rattle.lpt_layout_join.specs.Writes.{unfit}
-use Rattle.lpt_layout_each.specs.Eaches.{Course, Ends, Goes, Held, Run, are_own, course_by, end_run, gather, held_from, listed, missing_at, more, news_from, no_run, run_before, run_by, run_joined, run_turn, staleness, step, step_by, step_of, told_in_order}
+use Rattle.lpt_layout_each.specs.Eaches.{Course, Ends, Gives, GivesUp, Goes, Held, Run, Turn, Waits, after, after_all, all_turn, alone, are_own, end_by, end_run, gather, gave_before, go_on, held_from, is_given, is_old, is_same, listed, missing_at, more, new_turn, news_from, no_run, repeats, run_before, run_by, run_joined, run_turn, spells, step, step_by, step_of, told_in_order, turn, turn_fit, turn_joined}
 use Rattle.lpt_layout_each.specs.Laws.{Continues, InOrder, Runs, higher}
-use Rattle.lpt_layout_each.specs.News.{News, Given, Dropped, Unfit, Overtaken, messages_in, messages_of}
+use Rattle.lpt_layout_each.specs.News.{News, dropped, messages_in, messages_of}
 use Rattle.lpt_layout_each.proofs.FitLemmas.{fit-any}
 
-no_front : (xs ys : List (List ℕ)) → xs ++ ys ≡ [] → (xs ≡ []) × (ys ≡ [])
-no_front [] ys h = (refl, h)
-no_front (x ∷ xs) ys h = absurd cc
+no_true : true ≡ false → ⊥
+no_true h = cc
 
 messages-append : (vs ws : List News) → messages_in (vs ++ ws) ≡ messages_in vs ++ messages_in ws
 messages-append vs ws = flat_map-append messages_of vs ws
 
--- where no message is given out the run goes on
-pub goes-by : (run : Run) (stale : Bool) (h : Held) (o : Option News)
-    → messages_in (listed o) ≡ []
-    → (course_by run stale h o).run ≡ run
-goes-by run stale h None none = refl
-goes-by run stale h (Some (Given m)) none = absurd cc
-goes-by run stale h (Some (Dropped parts last)) none = refl
-goes-by run stale h (Some (Unfit e)) none = refl
-goes-by run stale h (Some (Overtaken parts last m)) none = absurd cc
+-- ---- what the others make of a part
+
+-- no message is given out, or this one, and it is the last
+abbrev Told : Option Came → Held × Option News → Type 0
+Told l w =
+    ((is_given w.1 ≡ false) × (messages_in (listed w.1) ≡ []) × (w.0.last ≡ l))
+    ⊎ ((m : List ℕ) × (d : Came) × (messages_in (listed w.1) ≡ m ∷ []) × (w.0.last ≡ Some d)
+    × (message_of d.parts ≡ Some m))
+
+-- what is given up tells of none; parts that are given out are joined to the message
+abbrev IsQuiet : Turn → Type 0
+IsQuiet (Waits c) = Unit {0}
+IsQuiet (GivesUp w c) = (is_given (Some w) ≡ false) × (messages_in (listed (Some w)) ≡ [])
+IsQuiet (Gives c m) = message_of c.parts ≡ Some m
+
+abbrev AreQuiet : Option Turn → Type 0
+AreQuiet None = Unit {0}
+AreQuiet (Some t) = IsQuiet t
+
+all-told : (l : Option Came) (c : Came) (o : Option Turn) → AreQuiet o → Told l (after_all l c o)
+all-told l c None q = inl (refl, refl, refl)
+all-told l c (Some (Waits d)) q = inl (refl, refl, refl)
+all-told l c (Some (GivesUp w d)) q = inl (refl, refl, refl)
+all-told l c (Some (Gives d m)) q = inr (m, d, refl, refl, q)
+
+after-told : (l : Option Came) (now : Turn) (o : Option Turn)
+    → IsQuiet now
+    → AreQuiet o
+    → Told l (after l now o)
+after-told l (Waits c) o q k = all-told l c o k
+after-told l (GivesUp w c) o q k = inl (q.0, q.1, refl)
+after-told l (Gives c m) o q k = inr (m, c, refl, refl, q)
+
+module _ (r : Reading) (any again : Bool) (q : Piece) where
+  fit-quiet : (c : Came) (m : List ℕ) (o : Option MisfitAs)
+      → message_of c.parts ≡ Some m
+      → IsQuiet (turn_fit again q c m o)
+  fit-quiet c m None is = is
+  fit-quiet c m (Some e) is = (refl, refl)
+
+  joined-quiet : (c : Came) (o : Option (List ℕ))
+      → message_of c.parts ≡ o
+      → IsQuiet (turn_joined r any again q c o)
+  joined-quiet c None is = tt
+  joined-quiet c (Some m) is = fit-quiet c m (unfit r any false m) is
+
+  turn-quiet : (c : Came) → IsQuiet (turn r any again c q)
+  unfolding turn
+  turn-quiet c = by (is_some (more c q).against) where
+    by : (b : Bool) → IsQuiet (if b then GivesUp (dropped (more c q)) (alone q)
+        else turn_joined r any again q (more c q) (message_of (more c q).parts))
+    by true = (refl, refl)
+    by false = joined-quiet (more c q) (message_of (more c q).parts) refl
+
+  all-quiet : (o : Option Came) → AreQuiet (all_turn r any again o q)
+  all-quiet None = tt
+  all-quiet (Some c) = turn-quiet c
+
+  gather-told : (h : Held) → Told h.last (gather r any again h q)
+  unfolding gather
+  gather-told h = after-told h.last (new_turn r any again h q) (all_turn r any again h.all q)
+      (quiet (is_old h.last q)) (all-quiet h.all) where
+        quiet : (old : Bool) → IsQuiet (if old then Waits h.new else turn r any again h.new q)
+        quiet true = tt
+        quiet false = turn-quiet h.new
+
+-- where a message was given out since the run began, the last of them is this
+abbrev GaveBy : (gave : Bool) → Option Came → List (List ℕ) → Type 0
+GaveBy gave last ms =
+    (gave ≡ false)
+    ⊎ ((xs : List (List ℕ)) × (l : List ℕ) × (d : Came) × (ms ≡ xs ++ l ∷ []) × (last ≡ Some d)
+    × (message_of d.parts ≡ Some l))
+
+gave-next : (gave : Bool) (last : Option Came) (ms : List (List ℕ)) (w : Held × Option News)
+    → GaveBy gave last ms
+    → Told last w
+    → GaveBy (gave || is_given w.1) w.0.last (ms ++ messages_in (listed w.1))
+gave-next gave last ms w (inl e) (inl v) = inl (λ i. e i || v.0 i)
+gave-next gave last ms w (inr u) (inl v) =
+    inr (u.0, u.1, u.2, ap (λ ns. ms ++ ns) v.1 ∙ append-nil ms ∙ u.3, v.2 ∙ u.4, u.5)
+gave-next gave last ms w g (inr v) = inr (ms, v.0, v.1, ap (λ ns. ms ++ ns) v.2, v.3, v.4)
 
 -- the first part
 abbrev with_first : (now : ℕ) → Order
 with_first now = record { count = 1; missing = now; few = true }
 
-module _ (r : ReadingAs) (any : Bool) (n : NameAs) where
+module _ (r : Reading) (any : Bool) (n : Name) where
   -- what is told of a packet, behind so many counts
   abbrev told_at : Counted → Course → List ℕ → List News
   told_at k c b = listed (step_of r any (missing_at r k b) c (part_of n (carried r b))).1
@@ -87,32 +160,85 @@ module _ (r : ReadingAs) (any : Bool) (n : NameAs) where
 
   -- ---- a step
 
-  step-goes : (now : ℕ) (c : Course) (q : Piece) (run : Run)
-      → run_turn c.run now q ≡ Goes run
-      → messages_in (listed (step r any now c q).1) ≡ []
-      → (step r any now c q).0.run ≡ run
-  unfolding step
-  step-goes now c q run turns none =
-      let by = ap (step_by r any c q) turns in
-      ap (λ (w : Course × Option News). w.0.run) by
-      ∙ goes-by run (staleness c q.number) (gather r any true c.held q).0
-      (gather r any true c.held q).1
-      (sym (ap (λ (w : Course × Option News). messages_in (listed w.1)) by) ∙ none)
-
   told-own : (own : Bool) (c : Came) (m : List ℕ)
       → messages_in (listed (Some (told_in_order own c m))) ≡ m ∷ []
   told-own true c m = refl
   told-own false c m = refl
 
+  -- among these messages it is
+  abbrev Among : List ℕ → List (List ℕ) → Type 0
+  Among m ms = (earlier : List (List ℕ)) × (later : List (List ℕ)) × (ms ≡ earlier ++ m ∷ later)
+
+  same_one : (o : Option (List ℕ)) (l m : List ℕ) → o ≡ Some l → spells o m ≡ true → l ≡ m
+  same_one None l m is same = absurd cc
+  same_one (Some k) l m is same = of_some k l is ∙ same_octets-true k m same where
+    of_some : (k l : List ℕ) → ◌≡◌ {A = Option (List ℕ)} (Some k) (Some l) → l ≡ k
+    of_some k l e = cc
+
+  -- it was given out
+  was_given : (gave : Bool) (last : Option Came) (m : List ℕ) (ms ns : List (List ℕ))
+      → GaveBy gave last ms
+      → gave ≡ true
+      → is_same last m ≡ true
+      → Among m (ms ++ ns)
+  was_given gave last m ms ns (inl e) was same = absurd (no_true (sym was ∙ e))
+  was_given gave last m ms ns (inr w) was same =
+      let its : w.1 ≡ m = same_one (message_of w.2.parts) w.1 m w.5
+      (sym (ap (λ (l : Option Came). is_same l m) w.4) ∙ same) in (
+        w.0,
+        ns,
+        ap (λ (xs : List (List ℕ)). xs ++ ns) w.3 ∙ append_assoc w.0 (w.1 ∷ []) ns
+            ∙ ap (λ (l : List ℕ). w.0 ++ l ∷ ns) its,
+      )
+
+  -- with the last part it is given out, or it was
   step-ends : (now : ℕ) (c : Course) (q : Piece) (d : Came) (m : List ℕ) (sure : Bool)
+      (ms : List (List ℕ))
       → unfit r any false m ≡ None
       → run_turn c.run now q ≡ Ends d m sure
-      → messages_in (listed (step r any now c q).1) ≡ m ∷ []
+      → GaveBy (gave_before c q.number) c.held.last ms
+      → Among m (ms ++ messages_in (listed (step r any now c q).1))
   unfolding step
-  step-ends now c q d m sure fit turns =
-      ap (λ (w : Course × Option News). messages_in (listed w.1))
-      (ap (step_by r any c q) turns ∙ ap (end_run r any c q d m) (fit-any r any sure m fit))
-      ∙ told-own (are_own c q m) (more c.held.new q) m
+  step-ends now c q d m sure ms fit turns gave =
+      let e : Course = record c { run = no_run } in
+      subst (λ (w : Course × Option News). Among m (ms ++ messages_in (listed w.1)))
+      (sym (ap (step_by r any c q) turns ∙ ap (end_run r any e q d m) (fit-any r any sure m fit)))
+      (go (repeats e q.number m) refl) where
+        go : (again : Bool)
+            → repeats (record c { run = no_run }) q.number m ≡ again
+            → Among m (ms ++ messages_in
+            (listed (end_by r any (record c { run = no_run }) q d m again).1))
+        go true e =
+            was_given (gave_before c q.number) c.held.last m ms
+            (messages_in (listed (go_on r any false (record c { run = no_run }) q).1)) gave
+            (and_left (gave_before c q.number) (is_same c.held.last m) e)
+            (and_right (gave_before c q.number) (is_same c.held.last m) e)
+        go false e =
+            (ms, [], ap (λ ns. ms ++ ns) (told-own (are_own c q m) (more c.held.new q) m))
+
+  step-goes : (now : ℕ) (c : Course) (q : Piece) (run : Run) (ms : List (List ℕ))
+      → run_turn c.run now q ≡ Goes run
+      → GaveBy (gave_before c q.number) c.held.last ms
+      → ((step r any now c q).0.run ≡ run)
+      × GaveBy (step r any now c q).0.gave (step r any now c q).0.held.last
+      (ms ++ messages_in (listed (step r any now c q).1))
+  unfolding step
+  step-goes now c q run ms turns gave =
+      subst (λ (w : Course × Option News). (w.0.run ≡ run)
+      × GaveBy w.0.gave w.0.held.last (ms ++ messages_in (listed w.1)))
+      (sym (ap (step_by r any c q) turns)) (
+        refl,
+        gave-next (gave_before c q.number) c.held.last ms (gather r any true c.held q) gave
+            (gather-told r any true q c.held),
+      )
+
+  gave-one : (c : Course) (i : ℕ) → i ≡ 1 → gave_before c i ≡ false
+  gave-one c i h = ap (λ (b : Bool). if b then false else c.gave) (eq_true i 1 h)
+
+  gave-more : (c : Course) (i : ℕ) → 2 ≤ i → c.gave ≡ gave_before c i
+  gave-more c i h =
+      sym (ap (λ (b : Bool). if b then false else c.gave)
+      (eq_false i 1 (λ e. omega (arith, e, h))))
 
   -- ---- the packets
 
@@ -141,105 +267,134 @@ module _ (r : ReadingAs) (any : Bool) (n : NameAs) where
             ap (λ (t : Bool). (if t then with_next o i now else no_order).count)
             (eq_true i (o.count + 1) is)
 
-  step-on : (k : Counted) (c : Course) (q : Piece) (b : List ℕ) (s : Run)
+  -- up to which the run came behind packets, and what was given out since it began
+  abbrev IsOn : Course → ℕ → Came → List (List ℕ) → Type 0
+  IsOn c k d ms = IsUpTo c.run k d × GaveBy c.gave c.held.last ms
+
+  step-on : (k : Counted) (c : Course) (q : Piece) (b : List ℕ) (s : Run) (ms : List (List ℕ))
       → part_of n (carried r b) ≡ Some q
       → run_before c.run q.number ≡ s
       → q.number ≤ s.order.count + 1
       → Continues s.came q
-      → messages_in (told_at k c b) ≡ []
-      → (next_at k c b).run
-      ≡ record { order = ordered s.order q.number (missing_at r k b); came = more s.came q }
-  step-on k c q b s is before next goes none =
+      → GaveBy (gave_before c q.number) c.held.last ms
+      → ((next_at k c b).run
+      ≡ record { order = ordered s.order q.number (missing_at r k b); came = more s.came q })
+      × GaveBy (next_at k c b).gave (next_at k c b).held.last (ms ++ messages_in (told_at k c b))
+  step-on k c q b s ms is before next goes gave =
       let now = missing_at r k b in
-      ap (λ (o : Option Piece). (step_of r any now c o).0.run) is
-      ∙ step-goes now c q (record { order = ordered s.order q.number now; came = more s.came q })
-      (turn-is c.run now q s None before next goes.agrees goes.waits)
-      (sym (ap (λ (o : Option Piece). messages_in (listed (step_of r any now c o).1)) is) ∙ none)
+      let on : Run = record { order = ordered s.order q.number now; came = more s.came q } in
+      subst (λ (o : Option Piece). ((step_of r any now c o).0.run ≡ on)
+      × GaveBy (step_of r any now c o).0.gave (step_of r any now c o).0.held.last
+      (ms ++ messages_in (listed (step_of r any now c o).1)))
+      (sym is)
+      (step-goes now c q on ms (turn-is c.run now q s None before next goes.agrees goes.waits) gave)
 
   up-next : (k : Counted) (c : Course) (b : List ℕ) (q : Piece) (i : ℕ) (d : Came)
-      → IsUpTo c.run i d
+      (ms : List (List ℕ))
+      → IsOn c i d ms
       → part_of n (carried r b) ≡ Some q
       → 2 ≤ q.number
       → q.number ≤ i + 1
       → Continues d q
-      → messages_in (told_at k c b) ≡ []
-      → IsUpTo (next_at k c b).run (higher i q.number) (more d q)
-  up-next k c b q i d at is some next goes none =
-      let within = subst (λ (j : ℕ). q.number ≤ j + 1) (sym at.count_is) next in
-      let on = step-on k c q b c.run is (before-more c.run q.number some) within
-      (subst (λ (e : Came). Continues e q) (sym at.came_is) goes) none in
-      record {
-        count_is = ap (λ (t : Run). t.order.count) on
-            ∙ ordered-count c.run.order q.number (missing_at r k b) some within
-            ∙ ap (λ (j : ℕ). higher j q.number) at.count_is;
-        came_is = ap (λ (t : Run). t.came) on ∙ ap (λ (e : Came). more e q) at.came_is;
-      }
+      → IsOn (next_at k c b) (higher i q.number) (more d q) (ms ++ messages_in (told_at k c b))
+  up-next k c b q i d ms at is some next goes =
+      let up = at.0 in
+      let within = subst (λ (j : ℕ). q.number ≤ j + 1) (sym up.count_is) next in
+      let on = step-on k c q b c.run ms is (before-more c.run q.number some) within
+      (subst (λ (e : Came). Continues e q) (sym up.came_is) goes)
+      (subst (λ (g : Bool). GaveBy g c.held.last ms) (gave-more c q.number some) at.1) in (
+        record {
+          count_is = ap (λ (t : Run). t.order.count) on.0
+              ∙ ordered-count c.run.order q.number (missing_at r k b) some within
+              ∙ ap (λ (j : ℕ). higher j q.number) up.count_is;
+          came_is = ap (λ (t : Run). t.came) on.0 ∙ ap (λ (e : Came). more e q) up.came_is;
+        },
+        on.1,
+      )
+
+  -- one packet, and those behind it
+  on-more : (k : Counted) (c : Course) (b : List ℕ) (bs : List (List ℕ)) (i : ℕ) (d : Came)
+      (ms : List (List ℕ))
+      → IsOn (held_from r any n (counted r k b) (next_at k c b) bs) i d
+      ((ms ++ messages_in (told_at k c b))
+      ++ messages_in (news_from r any n (counted r k b) (next_at k c b) bs))
+      → IsOn (held_from r any n k c (b ∷ bs)) i d
+      (ms ++ messages_in (news_from r any n k c (b ∷ bs)))
+  on-more k c b bs i d ms h =
+      let told = told_at k c b in
+      let behind = news_from r any n (counted r k b) (next_at k c b) bs in
+      subst (λ (ns : List (List ℕ)).
+      IsOn (held_from r any n (counted r k b) (next_at k c b) bs) i d ns)
+      (append_assoc ms (messages_in told) (messages_in behind)
+      ∙ ap (λ ns. ms ++ ns) (sym (messages-append told behind))) h
 
   runs-on : (bs : List (List ℕ)) (k : Counted) (c : Course) (i : ℕ) (d e : Came) (to : ℕ)
-      → IsUpTo c.run i d
+      (ms : List (List ℕ))
+      → IsOn c i d ms
       → Runs r n d i bs e to
-      → messages_in (news_from r any n k c bs) ≡ []
-      → IsUpTo (held_from r any n k c bs).run to e
-  runs-on [] k c i d e to at runs none = record {
-    count_is = at.count_is ∙ runs.1;
-    came_is = at.came_is ∙ runs.0;
-  }
-  runs-on (b ∷ bs) k c i d e to at (inl w) none =
-      let j = counted r k b in
-      let next = next_at k c b in
-      let split = no_front (messages_in (told_at k c b)) (messages_in (news_from r any n j next bs))
-      (sym (messages-append (told_at k c b) (news_from r any n j next bs)) ∙ none) in
-      let same = ap (λ (o : Option Piece). (step_of r any (missing_at r k b) c o).0.run) w.0 in
-      runs-on bs j next i d e to
-      (record {
-        count_is = ap (λ (t : Run). t.order.count) same ∙ at.count_is;
-        came_is = ap (λ (t : Run). t.came) same ∙ at.came_is;
-      }) w.1 split.1
-  runs-on (b ∷ bs) k c i d e to at (inr w) none =
-      let j = counted r k b in
-      let next = next_at k c b in
-      let split = no_front (messages_in (told_at k c b)) (messages_in (news_from r any n j next bs))
-      (sym (messages-append (told_at k c b) (news_from r any n j next bs)) ∙ none) in
-      runs-on bs j next (higher i w.0.number) (more d w.0) e to
-      (up-next k c b w.0 i d at w.1 w.2 w.3 w.4 split.0) w.5 split.1
+      → IsOn (held_from r any n k c bs) to e (ms ++ messages_in (news_from r any n k c bs))
+  runs-on [] k c i d e to ms at runs = (
+    record { count_is = at.0.count_is ∙ runs.1; came_is = at.0.came_is ∙ runs.0 },
+    subst (GaveBy c.gave c.held.last) (sym (append-nil ms)) at.1,
+  )
+  runs-on (b ∷ bs) k c i d e to ms at (inl w) =
+      let same : ◌≡◌ {A = Course × Option News}
+      (step_of r any (missing_at r k b) c (part_of n (carried r b))) (c, None) =
+      ap (step_of r any (missing_at r k b) c) w.0 in
+      on-more k c b bs to e ms
+      (subst (λ (u : Course × Option News).
+      IsOn (held_from r any n (counted r k b) u.0 bs) to e
+      ((ms ++ messages_in (listed u.1))
+      ++ messages_in (news_from r any n (counted r k b) u.0 bs)))
+      (sym same)
+      (runs-on bs (counted r k b) c i d e to (ms ++ [])
+      (subst (IsOn c i d) (sym (append-nil ms)) at) w.1))
+  runs-on (b ∷ bs) k c i d e to ms at (inr w) =
+      on-more k c b bs to e ms
+      (runs-on bs (counted r k b) (next_at k c b) (higher i w.0.number) (more d w.0) e to
+      (ms ++ messages_in (told_at k c b))
+      (up-next k c b w.0 i d ms at w.1 w.2 w.3 w.4) w.5)
 
   pub order_given : (k : Counted) (c : Course) (front : List (List ℕ)) (last m : List ℕ)
       → InOrder r any n m front last
-      → messages_in (news_from r any n k c front) ≡ []
-      → messages_in (news_from r any n k c (front ++ last ∷ [])) ≡ m ∷ []
-  order_given k c front last m h none =
-      let none_here =
-      sym (ap (λ (bs : List (List ℕ)). messages_in (news_from r any n k c bs)) h.are) ∙ none in
-      let j = counted r k h.first in
-      let next = next_at k c h.first in
-      let split = no_front (messages_in (told_at k c h.first)) (messages_in
-      (news_from r any n j next h.middle))
-      (sym (messages-append (told_at k c h.first) (news_from r any n j next h.middle))
-      ∙ none_here) in
+      → (earlier : List (List ℕ)) × (later : List (List ℕ))
+      × (messages_in (news_from r any n k c (front ++ last ∷ [])) ≡ earlier ++ m ∷ later)
+  order_given k c front last m h =
       let low : h.part.number ≤ 0 + 1 = omega (arith, h.one) in
-      let began = step-on k c h.part h.first no_run h.begins
-      (before-one c.run h.part.number h.one) low
-      h.continues split.0 in
-      let up : IsUpTo next.run 1 (more nothing_came h.part) = record {
-        count_is = ap (λ (t : Run). t.order.count) began
-            ∙ ap (λ (i : ℕ). (ordered no_order i (missing_at r k h.first)).count) h.one;
-        came_is = ap (λ (t : Run). t.came) began;
-      } in
-      let on = runs-on h.middle j next 1
-      (more nothing_came h.part) h.came h.number up h.runs split.1 in
+      let began = step-on k c h.part h.first no_run [] h.begins
+      (before-one c.run h.part.number h.one) low h.continues
+      (inl (gave-one c h.part.number h.one)) in
+      let first_on : IsOn (next_at k c h.first) 1 (more nothing_came h.part)
+      ([] ++ messages_in (told_at k c h.first)) = (
+        record {
+          count_is = ap (λ (t : Run). t.order.count) began.0
+              ∙ ap (λ (i : ℕ). (ordered no_order i (missing_at r k h.first)).count) h.one;
+          came_is = ap (λ (t : Run). t.came) began.0;
+        },
+        began.1,
+      ) in
+      let on = on-more k c h.first h.middle h.number h.came []
+      (runs-on h.middle (counted r k h.first) (next_at k c h.first) 1
+      (more nothing_came h.part) h.came h.number
+      (messages_in (told_at k c h.first)) first_on h.runs) in
+      let front_news = news_from r any n k c (h.first ∷ h.middle) in
       let behind = held_from r any n k c (h.first ∷ h.middle) in
       let at = all_counted r k (h.first ∷ h.middle) in
       let q = h.final in
-      let told = step-ends (missing_at r at last) behind q (more behind.run.came q) m _ h.fit
+      let told = step-ends (missing_at r at last) behind q (more behind.run.came q) m _
+      (messages_in front_news) h.fit
       (turn-is behind.run (missing_at r at last) q behind.run (Some m)
       (before-more behind.run q.number h.behind_first)
-      (subst (λ (i : ℕ). q.number ≤ i + 1) (sym on.count_is) h.next)
-      (ap (λ (d : Came). is_some (more d q).against) on.came_is ∙ h.agrees)
-      (ap (λ (d : Came). message_of (more d q).parts) on.came_is ∙ h.joined)) in
+      (subst (λ (i : ℕ). q.number ≤ i + 1) (sym on.0.count_is) h.next)
+      (ap (λ (d : Came). is_some (more d q).against) on.0.came_is ∙ h.agrees)
+      (ap (λ (d : Came). message_of (more d q).parts) on.0.came_is ∙ h.joined))
+      (subst (λ (g : Bool). GaveBy g behind.held.last (messages_in front_news))
+      (gave-more behind q.number h.behind_first) on.1) in
+      subst (Among m)
+      (sym (
       ap (λ (bs : List (List ℕ)). messages_in (news_from r any n k c (bs ++ last ∷ []))) h.are
       ∙ ap messages_in (news-more k c (h.first ∷ h.middle) last)
-      ∙ messages-append (news_from r any n k c (h.first ∷ h.middle)) (told_at at behind last)
-      ∙ ap (λ (ms : List (List ℕ)). ms ++ messages_in (told_at at behind last)) none_here
-      ∙ ap (λ (o : Option Piece). messages_in
-      (listed (step_of r any (missing_at r at last) behind o).1)) h.ends
-      ∙ told
+      ∙ messages-append front_news (told_at at behind last)
+      ∙ ap (λ (o : Option Piece). messages_in front_news ++ messages_in
+      (listed (step_of r any (missing_at r at last) behind o).1)) h.ends))
+      told

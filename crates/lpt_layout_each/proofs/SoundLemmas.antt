@@ -4,25 +4,25 @@ use Rattle.std.specs.List.{AllByRecursion}
 use Rattle.std.specs.Prelude.{is_some}
 use Rattle.lpt_part.specs.Parts.{Piece}
 use Rattle.lpt_layout_join.specs.declared.ending.MisfitAs.{MisfitAs}
-use Rattle.lpt_layout_join.specs.declared.names.NameAs.{NameAs}
-use Rattle.lpt_layout_join.specs.declared.reading.ReadingAs.{ReadingAs}
-use Rattle.lpt_layout_join.specs.declared.skip.SkipAs.{SkipAs}
+use Rattle.lpt_carried.specs.declared.name.Name.{Name}
+use Rattle.lpt_carried.specs.declared.reading.Reading.{Reading}
+use Rattle.lpt_carried.specs.declared.skip.Skip.{Skip}
 use Rattle.lpt_layout_join.specs.Came.{Came, contradicts, message_of, nothing_came}
-use Rattle.lpt_layout_join.specs.Carried.{Named, carried, name_of, part_of}
+use Rattle.lpt_carried.specs.Carried.{Named, carried, name_of, part_of}
 use Rattle.lpt_layout_join.specs.declared.order.Order.{Order}
 use Rattle.lpt_layout_join.specs.Counts.{nothing_counted}
 use Rattle.lpt_layout_join.specs.Orders.{ordered}
 use Rattle.lpt_layout_join.specs.Writes.{unfit}
-use Rattle.lpt_layout_each.specs.Eaches.{Held, Turn, Waits, GivesUp, Gives, after, after_all, all_turn, alone, begun, counts_of, held, is_old, missing_at, listed, more, new_turn, nothing, step, step_of, turn, turn_fit, turn_joined, Course, Ends, Goes, Run, RunTurn, are_own, course_by, end_run, gather, go_on, no_run, run_before, run_by, run_joined, run_turn, seed, staleness, step_by, told_in_order}
+use Rattle.lpt_layout_each.specs.Eaches.{Held, Turn, Waits, GivesUp, Gives, after, after_all, all_turn, alone, begun, counts_of, held, is_old, missing_at, listed, more, new_turn, nothing, step, step_of, turn, turn_fit, turn_joined, Course, Ends, Goes, Run, RunTurn, are_own, end_by, end_run, gather, go_on, no_run, repeats, run_before, run_by, run_joined, run_turn, seed, step_by, told_in_order}
 use Rattle.lpt_layout_each.specs.Laws.{IsGood, IsThere}
 use Rattle.lpt_layout_each.specs.News.{Event, News, Given, Dropped, Unfit, Overtaken, dropped, messages_of}
 use Rattle.lpt_layout_each.specs.Streams.{events_from, of, told_by}
 use Rattle.lpt_layout_each.proofs.FitLemmas.{fit-sure}
 use Rattle.lpt_layout_each.proofs.HeldsLemmas.{held_from-next}
 
-module _ (r : ReadingAs) (any : Bool) (all : List (List ℕ)) where
+module _ (r : Reading) (any : Bool) (all : List (List ℕ)) where
   -- news of a message tells one that is joined of parts that are there
-  abbrev IsSound : NameAs → News → Type 0
+  abbrev IsSound : Name → News → Type 0
   IsSound n (Given m) = IsGood r any all n m
   IsSound n (Dropped came last) = Unit {0}
   IsSound n (Unfit e) = Unit {0}
@@ -30,7 +30,7 @@ module _ (r : ReadingAs) (any : Bool) (all : List (List ℕ)) where
 
   -- ---- of one name
 
-  module _ (n : NameAs) where
+  module _ (n : Name) where
     abbrev IsTold : Option News → Type 0
     IsTold None = Unit {0}
     IsTold (Some w) = IsSound n w
@@ -201,34 +201,27 @@ module _ (r : ReadingAs) (any : Bool) (all : List (List ℕ)) where
               (more-from run.came q h here)
           go run false h = tt
 
-    course-from : (run : Run) (stale : Bool) (h : Held) (o : Option News)
-        → IsFrom run.came
-        → HeldFrom h
-        → CourseFrom (course_by run stale h o)
-    course-from run stale h None from k = (k, from)
-    course-from run stale h (Some (Given m)) from k = (k, tt)
-    course-from run stale h (Some (Dropped parts last)) from k = (k, from)
-    course-from run stale h (Some (Unfit e)) from k = (k, from)
-    course-from run stale h (Some (Overtaken parts last m)) from k = (k, tt)
-
-    go_on-from : (again : Bool) (c : Course) (q : Piece) (run : Run)
+    go_on-from : (again : Bool) (c : Course) (q : Piece)
         → CourseFrom c
-        → IsFrom run.came
         → IsThere r n all q
-        → CourseFrom (go_on r any again c q run).0 × IsTold (go_on r any again c q run).1
-    go_on-from again c q run k from here =
-        let g = gather-from again c.held q k.0 here in (
-          course-from run (staleness c q.number) (gather r any again c.held q).0
-              (gather r any again c.held q).1
-              from g.0,
-          g.1,
-        )
+        → CourseFrom (go_on r any again c q).0 × IsTold (go_on r any again c q).1
+    go_on-from again c q k here =
+        let g = gather-from again c.held q k.0 here in ((g.0, k.1), g.1)
 
     in_order-sound : (own : Bool) (c : Came) (m : List ℕ)
         → IsGood r any all n m
         → IsSound n (told_in_order own c m)
     in_order-sound true c m good = good
     in_order-sound false c m good = good
+
+    end_by-from : (c : Course) (q : Piece) (d : Came) (m : List ℕ) (again : Bool)
+        → CourseFrom c
+        → IsGood r any all n m
+        → IsThere r n all q
+        → CourseFrom (end_by r any c q d m again).0 × IsTold (end_by r any c q d m again).1
+    end_by-from c q d m true k good here = go_on-from false c q k here
+    end_by-from c q d m false k good here =
+        (((tt, tt), tt), in_order-sound (are_own c q m) (more c.held.new q) m good)
 
     end_run-from : (c : Course) (q : Piece) (d : Came) (m : List ℕ) (sure : Bool)
         (o : Option MisfitAs)
@@ -238,21 +231,21 @@ module _ (r : ReadingAs) (any : Bool) (all : List (List ℕ)) where
         → message_of d.parts ≡ Some m
         → IsThere r n all q
         → CourseFrom (end_run r any c q d m o).0 × IsTold (end_run r any c q d m o).1
-    end_run-from c q d m sure None e k from is here = (
-      ((tt, tt), tt),
-      in_order-sound (are_own c q m) (more c.held.new q) m
-          (record { parts = d.parts; there = from; joined = is; fit = fit-sure r any sure m e }),
-    )
-    end_run-from c q d m sure (Some f) e k from is here = go_on-from false c q no_run k tt here
+    end_run-from c q d m sure None e k from is here =
+        end_by-from c q d m (repeats c q.number m) k
+        (record { parts = d.parts; there = from; joined = is; fit = fit-sure r any sure m e }) here
+    end_run-from c q d m sure (Some f) e k from is here = go_on-from false c q k here
 
     step_by-from : (c : Course) (q : Piece) (t : RunTurn)
         → CourseFrom c
         → RunTurnFrom t
         → IsThere r n all q
         → CourseFrom (step_by r any c q t).0 × IsTold (step_by r any c q t).1
-    step_by-from c q (Goes run) k from here = go_on-from true c q run k from here
+    step_by-from c q (Goes run) k from here =
+        go_on-from true (record c { run = run }) q (k.0, from) here
     step_by-from c q (Ends d m sure) k from here =
-        end_run-from c q d m sure (unfit r any sure m) refl k from.0 from.1 here
+        end_run-from (record c { run = no_run }) q d m sure (unfit r any sure m) refl (k.0, tt)
+        from.0 from.1 here
 
     step_of-from : (now : ℕ) (c : Course) (o : Option Piece)
         → ((q : Piece) → o ≡ Some q → IsThere r n all q)
@@ -274,7 +267,7 @@ module _ (r : ReadingAs) (any : Bool) (all : List (List ℕ)) where
   abbrev IsSoundEvent : Event → Type 0
   IsSoundEvent e = IsSound e.0 e.1
 
-  listed-sound : (n : NameAs) (o : Option News)
+  listed-sound : (n : Name) (o : Option News)
       → IsTold n o
       → AllByRecursion IsSoundEvent (of n (listed o))
   listed-sound n None h = tt
@@ -287,9 +280,9 @@ module _ (r : ReadingAs) (any : Bool) (all : List (List ℕ)) where
   append-sound [] es h k = k
   append-sound (d ∷ ds) es h k = (h.0, append-sound ds es h.1 k)
 
-  told-sound : (before : List (List ℕ)) (b : List ℕ) (v : Result Named SkipAs)
-      → ((n : NameAs) → CourseFrom n (held r any n before))
-      → ((n : NameAs) (q : Piece) → part_of n (carried r b) ≡ Some q → IsThere r n all q)
+  told-sound : (before : List (List ℕ)) (b : List ℕ) (v : Result Named Skip)
+      → ((n : Name) → CourseFrom n (held r any n before))
+      → ((n : Name) (q : Piece) → part_of n (carried r b) ≡ Some q → IsThere r n all q)
       → AllByRecursion IsSoundEvent (told_by r any before b v)
   told-sound before b (Ok c) from are =
       let n = name_of c in
@@ -300,8 +293,8 @@ module _ (r : ReadingAs) (any : Bool) (all : List (List ℕ)) where
   told-sound before b (Err e) from are = tt
 
   events-sound : (before bs : List (List ℕ))
-      → ((n : NameAs) → CourseFrom n (held r any n before))
-      → ((n : NameAs) → AreIn n bs)
+      → ((n : Name) → CourseFrom n (held r any n before))
+      → ((n : Name) → AreIn n bs)
       → AllByRecursion IsSoundEvent (events_from r any before bs)
   events-sound before [] from are = tt
   events-sound before (b ∷ bs) from are =
@@ -320,20 +313,20 @@ module _ (r : ReadingAs) (any : Bool) (all : List (List ℕ)) where
   sound-there (d ∷ front) back e h = sound-there front back e h.1
 
 -- each part that packets carry is among them
-in-more : (r : ReadingAs) (n : NameAs) (c : List ℕ) (all bs : List (List ℕ))
+in-more : (r : Reading) (n : Name) (c : List ℕ) (all bs : List (List ℕ))
     → AllByRecursion (λ b. (q : Piece) → part_of n (carried r b) ≡ Some q → IsThere r n all q) bs
     → AllByRecursion
     (λ b. (q : Piece) → part_of n (carried r b) ≡ Some q → IsThere r n (c ∷ all) q) bs
 in-more r n c all [] h = tt
 in-more r n c all (b ∷ bs) h = (λ q is. inr (h.0 q is), in-more r n c all bs h.1)
 
-are_in : (r : ReadingAs) (n : NameAs) (bs : List (List ℕ))
+are_in : (r : Reading) (n : Name) (bs : List (List ℕ))
     → AllByRecursion (λ b. (q : Piece) → part_of n (carried r b) ≡ Some q → IsThere r n bs q) bs
 are_in r n [] = tt
 are_in r n (b ∷ bs) = (λ q is. inl is, in-more r n b bs bs (are_in r n bs))
 
 -- each message that is given out
-told_good : (r : ReadingAs) (any : Bool) (bs : List (List ℕ)) (n : NameAs) (m : List ℕ) (w : News)
+told_good : (r : Reading) (any : Bool) (bs : List (List ℕ)) (n : Name) (m : List ℕ) (w : News)
     → IsSound r any bs n w
     → messages_of w ≡ m ∷ []
     → IsGood r any bs n m
@@ -347,7 +340,7 @@ told_good r any bs n m (Overtaken parts last x) h e =
       first : (x m : List ℕ) → ◌≡◌ {A = List (List ℕ)} (x ∷ []) (m ∷ []) → x ≡ m
       first x m e = cc
 
-pub given_good : (r : ReadingAs) (any : Bool) (bs : List (List ℕ)) (n : NameAs) (m : List ℕ)
+pub given_good : (r : Reading) (any : Bool) (bs : List (List ℕ)) (n : Name) (m : List ℕ)
     (front back : List Event) (w : News)
     → events_from r any [] bs ≡ front ++ (n, w) ∷ back
     → messages_of w ≡ m ∷ []

@@ -3,7 +3,7 @@ use Rattle.std.proofs.Common.{◌≡◌, ◌∙◌, ap, sym, subst, refl, ℕ, �
 use Rattle.std.specs.Option.{option_map}
 use Rattle.lpt_part.specs.Parts.{Piece}
 use Rattle.lpt_layout_join.specs.declared.came.CameAs.{CameAs}
-use Rattle.lpt_layout_join.specs.declared.reading.ReadingAs.{ReadingAs}
+use Rattle.lpt_carried.specs.declared.reading.Reading.{Reading}
 use Rattle.lpt_layout_join.specs.declared.ending.MisfitAs.{MisfitAs}
 use Rattle.lpt_layout_join.specs.Came.{Came, nothing_came}
 use Rattle.lpt_layout_join.specs.Writes.{unfit}
@@ -11,13 +11,13 @@ use Rattle.lpt_layout_join.specs.CameInside.{Shows, last_in, part_at}
 use Rattle.lpt_layout_each.specs.declared.held.HeldAs.{HeldAs}
 use Rattle.lpt_layout_each.specs.declared.news.NewsAs.TheVariants as said
 use Rattle.lpt_layout_each.specs.declared.turn.Turn.TheVariants as code
-use Rattle.lpt_layout_each.specs.Eaches.{Held, Turn, Waits, GivesUp, Gives, after, after_all, all_turn, alone, begun, given, is_old, more, step, turn, Course, Ends, Goes, Run, are_own, end_run, fresh, gather, go_on, no_run, run_turn, seed, step_by, told_in_order}
+use Rattle.lpt_layout_each.specs.Eaches.{Held, Turn, Waits, GivesUp, Gives, after, after_all, all_turn, alone, begun, given, is_old, more, step, turn, Course, Ends, Goes, Run, end_by, end_run, gather, go_on, no_run, repeats, run_turn, seed, step_by}
 use Rattle.lpt_layout_each.specs.Helds.{Holds, IsTurnOfAll, ShowsSome, Takes}
 use Rattle.lpt_layout_each.specs.News.{News, Dropped, Unfit, dropped}
 
 -- ---- a step
 
-module _ (r : ReadingAs) (any again : Bool) (h : Held) (q : Piece) where
+module _ (r : Reading) (any again : Bool) (h : Held) (q : Piece) where
   -- of a part of the last message
   pub step-old : is_old h.last q ≡ true
       → after_all h.last h.new (all_turn r any again h.all q) ≡ gather r any again h q
@@ -173,28 +173,28 @@ after_gives again l a c q s m g (Some now) holds t = go a t where
 
 -- ---- by the run
 
-module _ (r : ReadingAs) (any : Bool) (now : ℕ) (c : Course) (q : Piece) where
+module _ (r : Reading) (any : Bool) (now : ℕ) (c : Course) (q : Piece) where
   -- it goes on
   pub step-goes_on : (run : Run)
       → run_turn c.run now q ≡ Goes run
-      → go_on r any true c q run ≡ step r any now c q
+      → go_on r any true (record c { run = run }) q ≡ step r any now c q
   unfolding step
   step-goes_on run e = sym (ap (step_by r any c q) e)
 
-  -- the message is given out
+  -- the message may be given out
   pub step-ends : (d : Came) (m : List ℕ) (sure : Bool)
       → run_turn c.run now q ≡ Ends d m sure
       → unfit r any sure m ≡ None
-      → ◌≡◌ {A = Course × Option News}
-      (fresh (Some d), Some (told_in_order (are_own c q m) (more c.held.new q) m))
-      (step r any now c q)
+      → end_by r any (record c { run = no_run }) q d m (repeats c q.number m) ≡ step r any now c q
   unfolding step
-  step-ends d m sure e fit = sym (ap (step_by r any c q) e ∙ ap (end_run r any c q d m) fit)
+  step-ends d m sure e fit =
+      sym (ap (step_by r any c q) e ∙ ap (end_run r any (record c { run = no_run }) q d m) fit)
 
   -- it may not be
   pub step-unfit : (d : Came) (m : List ℕ) (sure : Bool) (e : MisfitAs)
       → run_turn c.run now q ≡ Ends d m sure
       → unfit r any sure m ≡ Some e
-      → go_on r any false c q no_run ≡ step r any now c q
+      → go_on r any false (record c { run = no_run }) q ≡ step r any now c q
   unfolding step
-  step-unfit d m sure f e fit = sym (ap (step_by r any c q) e ∙ ap (end_run r any c q d m) fit)
+  step-unfit d m sure f e fit =
+      sym (ap (step_by r any c q) e ∙ ap (end_run r any (record c { run = no_run }) q d m) fit)

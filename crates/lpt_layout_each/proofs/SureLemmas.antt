@@ -7,25 +7,24 @@ use Rattle.lpt_part.specs.Parts.{Piece}
 use Rattle.lpt_layout_join.specs.declared.ending.MisfitAs.{MisfitAs}
 use Rattle.lpt_layout_join.specs.declared.ending.MisfitAs.TheVariants.{Unsure}
 use Rattle.lpt_layout_join.specs.declared.last_part.LastPart.{LastPart}
-use Rattle.lpt_layout_join.specs.declared.names.NameAs.{NameAs}
+use Rattle.lpt_carried.specs.declared.name.Name.{Name}
 use Rattle.lpt_layout_join.specs.declared.order.Order.{Order}
-use Rattle.lpt_layout_join.specs.declared.reading.ReadingAs.{ReadingAs}
-use Rattle.lpt_layout_join.specs.declared.skip.SkipAs.{SkipAs}
-use Rattle.lpt_layout_join.specs.Came.{Came, contradicts, last_of, message_of, nothing_came}
-use Rattle.lpt_layout_join.specs.Carried.{Named, carried, name_of, part_of}
+use Rattle.lpt_carried.specs.declared.reading.Reading.{Reading}
+use Rattle.lpt_carried.specs.declared.skip.Skip.{Skip}
+use Rattle.lpt_layout_join.specs.Came.{Came, contradicts, last_of, message_of}
+use Rattle.lpt_carried.specs.Carried.{Named, carried, name_of, part_of}
 use Rattle.lpt_layout_join.specs.Counts.{Counted, all_counted, nothing_counted}
 use Rattle.lpt_layout_join.specs.InOrder.{IsInOrder}
-use Rattle.lpt_layout_join.specs.Orders.{is_in_order, no_order, ordered}
+use Rattle.lpt_layout_join.specs.Orders.{is_in_order, ordered}
 use Rattle.lpt_layout_join.specs.Writes.{misfit, unfit}
 use Rattle.lpt_layout_join.proofs.InOrderLemmas.{CameSo, came-other, came-part, in_order, none-came, octets-own}
-use Rattle.lpt_layout_each.specs.Eaches.{Course, Ends, Gives, GivesUp, Goes, Held, Run, RunTurn, Turn, Waits, after, after_all, all_turn, alone, are_own, counts_of, course_by, end_run, gather, go_on, held, is_old, listed, missing_at, more, new_turn, no_run, nothing, run_before, run_by, run_joined, run_turn, staleness, step, step_by, step_of, told_in_order, turn, turn_fit, turn_joined}
-use Rattle.lpt_layout_each.specs.News.{Event, News, Given, Dropped, Unfit, Overtaken, dropped, messages_in, messages_of}
+use Rattle.lpt_layout_each.specs.Eaches.{Course, Gives, GivesUp, Goes, Held, Run, Turn, Waits, after, after_all, all_turn, alone, are_own, counts_of, end_by, end_run, gather, go_on, held, is_old, listed, missing_at, more, new_turn, no_run, nothing, repeats, run_before, run_by, run_joined, run_turn, step, step_by, step_of, told_in_order, turn, turn_fit, turn_joined}
+use Rattle.lpt_layout_each.specs.News.{Event, News, dropped, messages_in, messages_of}
 use Rattle.lpt_layout_each.specs.Streams.{events_from, of, told_by}
 use Rattle.lpt_layout_each.proofs.HeldsLemmas.{counted-next, held_from-next}
-use Rattle.lpt_layout_each.proofs.OrderLemmas.{goes-by}
 
 -- with packets behind them they stand so still
-order-behind : (r : ReadingAs) (n : NameAs) (bs cs : List (List ℕ)) (m : List ℕ)
+order-behind : (r : Reading) (n : Name) (bs cs : List (List ℕ)) (m : List ℕ)
     → IsInOrder r n bs m
     → IsInOrder r n (bs ++ cs) m
 order-behind r n bs cs m h = record {
@@ -55,7 +54,7 @@ more-agrees c q h = go (is_some c.against) refl (contradicts c.parts q) refl h w
   go false e true f k = absurd cc
   go false e false f k = (f, refl)
 
-module _ (r : ReadingAs) (bare : r.layout.has_checksum ≡ false) where
+module _ (r : Reading) (bare : r.layout.has_checksum ≡ false) where
   -- only what is sure is given out
   some_unsure : (x : Option MisfitAs) → option_or x (Some Unsure) ≡ None → ⊥
   some_unsure None e = cc
@@ -137,7 +136,7 @@ module _ (r : ReadingAs) (bare : r.layout.has_checksum ≡ false) where
 
   -- ---- by the run, of one name
 
-  module _ (n : NameAs) where
+  module _ (n : Name) where
     abbrev RunSo : List (List ℕ) → Run → Type 0
     RunSo bs run = CameSo r n bs run.order run.came.parts
 
@@ -158,10 +157,9 @@ module _ (r : ReadingAs) (bare : r.layout.has_checksum ≡ false) where
       now-is = sym (ap (λ (k : Counted). k.missing) (counted-next r nothing_counted bs b))
 
       goes-so : (again : Bool) (run : Run) → RunSo bsb run
-          → StepSo bsb (go_on r false again c q run)
+          → StepSo bsb (go_on r false again (record c { run = run }) q)
       goes-so again run h = (
-        subst (RunSo bsb) (sym (goes-by run (staleness c q.number) (gather r false again c.held q).0
-            (gather r false again c.held q).1 (gather-none again c.held q))) h,
+        h,
         λ m e. absurd (no_more m (sym (gather-none again c.held q) ∙ e)),
       ) where
         no_more : (m : List ℕ) → ◌≡◌ {A = List (List ℕ)} [] (m ∷ []) → ⊥
@@ -179,36 +177,44 @@ module _ (r : ReadingAs) (bare : r.layout.has_checksum ≡ false) where
       told-one true d m x e = cc
       told-one false d m x e = cc
 
+      -- it is given out, or was
+      end_by-so : (d : Came) (m : List ℕ) (again : Bool)
+          → IsInOrder r n bsb m
+          → StepSo bsb (end_by r false (record c { run = no_run }) q d m again)
+      end_by-so d m true is = goes-so false no_run (none-came r n bsb [])
+      end_by-so d m false is = (
+        none-came r n bsb [],
+        λ x e. subst (IsInOrder r n bsb) (told-one (are_own c q m) (more c.held.new q) m x e) is,
+      )
+
       -- the message is whole
       end-so : (o : Order) (d : Came) (m : List ℕ) (sure : Bool) (u : Option MisfitAs)
           → unfit r false sure m ≡ u
           → CameSo r n bsb o d.parts
           → message_of d.parts ≡ Some m
           → sure ≡ is_in_order (last_of d.parts) o
-          → StepSo bsb (end_run r false c q d m u)
+          → StepSo bsb (end_run r false (record c { run = no_run }) q d m u)
       end-so o d m sure (Some e) fit h joined is = goes-so false no_run (none-came r n bsb [])
-      end-so o d m sure None fit h joined is = (
-        none-came r n bsb [],
-        λ x e. subst (IsInOrder r n bsb) (told-one (are_own c q m) (more c.held.new q) m x e)
-            (whole (last_of d.parts) refl),
-      ) where
-        all : is_in_order (last_of d.parts) o ≡ true
-        all = sym is ∙ sure-of sure m fit
+      end-so o d m sure None fit h joined is =
+          end_by-so d m (repeats (record c { run = no_run }) q.number m)
+          (whole (last_of d.parts) refl) where
+            all : is_in_order (last_of d.parts) o ≡ true
+            all = sym is ∙ sure-of sure m fit
 
-        whole : (l : Option LastPart) → last_of d.parts ≡ l → IsInOrder r n bsb m
-        whole None e = absurd (cc (ap (λ (x : Option LastPart). is_in_order x o) (sym e) ∙ all))
-        whole (Some l) e =
-            let s = in_order r n bsb o d.parts l h e all in
-            record {
-              parts = d.parts;
-              joined = joined;
-              last = l;
-              last_is = e;
-              front = s.0;
-              behind = s.1;
-              are = s.2;
-              stand = s.3;
-            }
+            whole : (l : Option LastPart) → last_of d.parts ≡ l → IsInOrder r n bsb m
+            whole None e = absurd (cc (ap (λ (x : Option LastPart). is_in_order x o) (sym e) ∙ all))
+            whole (Some l) e =
+                let s = in_order r n bsb o d.parts l h e all in
+                record {
+                  parts = d.parts;
+                  joined = joined;
+                  last = l;
+                  last_is = e;
+                  front = s.0;
+                  behind = s.1;
+                  are = s.2;
+                  stand = s.3;
+                }
 
       joined-so : (o : Order) (d : Came) (w : Option (List ℕ))
           → message_of d.parts ≡ w
@@ -267,7 +273,7 @@ module _ (r : ReadingAs) (bare : r.layout.has_checksum ≡ false) where
     abbrev IsSoundEvent : Event → Type 0
     IsSoundEvent e = (m : List ℕ) → messages_of e.1 ≡ m ∷ [] → IsInOrder r e.0 all m
 
-    listed-sound : (n : NameAs) (o : Option News)
+    listed-sound : (n : Name) (o : Option News)
         → ((m : List ℕ) → messages_in (listed o) ≡ m ∷ [] → IsInOrder r n all m)
         → AllByRecursion IsSoundEvent (of n (listed o))
     listed-sound n None h = tt
@@ -280,9 +286,9 @@ module _ (r : ReadingAs) (bare : r.layout.has_checksum ≡ false) where
     append-sound [] es h k = k
     append-sound (d ∷ ds) es h k = (h.0, append-sound ds es h.1 k)
 
-    told-sound : (before behind : List (List ℕ)) (b : List ℕ) (v : Result Named SkipAs)
+    told-sound : (before behind : List (List ℕ)) (b : List ℕ) (v : Result Named Skip)
         → all ≡ (before ++ b ∷ []) ++ behind
-        → ((n : NameAs) → RunSo n before (held r false n before).run)
+        → ((n : Name) → RunSo n before (held r false n before).run)
         → AllByRecursion IsSoundEvent (told_by r false before b v)
     told-sound before behind b (Ok c) are so =
         let n = name_of c in
@@ -296,7 +302,7 @@ module _ (r : ReadingAs) (bare : r.layout.has_checksum ≡ false) where
 
     events-sound : (before bs : List (List ℕ))
         → all ≡ before ++ bs
-        → ((n : NameAs) → RunSo n before (held r false n before).run)
+        → ((n : Name) → RunSo n before (held r false n before).run)
         → AllByRecursion IsSoundEvent (events_from r false before bs)
     events-sound before [] are so = tt
     events-sound before (b ∷ bs) are so =
@@ -315,7 +321,7 @@ module _ (r : ReadingAs) (bare : r.layout.has_checksum ≡ false) where
     sound-there [] back e h = h.0
     sound-there (d ∷ front) back e h = sound-there front back e h.1
 
-pub given-in-order : (r : ReadingAs) (bs : List (List ℕ)) (n : NameAs) (m : List ℕ)
+pub given-in-order : (r : Reading) (bs : List (List ℕ)) (n : Name) (m : List ℕ)
     (front back : List Event) (w : News)
     → r.layout.has_checksum ≡ false
     → events_from r false [] bs ≡ front ++ (n, w) ∷ back

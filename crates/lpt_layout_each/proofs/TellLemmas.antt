@@ -6,10 +6,10 @@ use Rattle.std.specs.BTreeMap.{BTreeMap, get, is_at, keys}
 use Rattle.std.specs.Map.{keys_of, lookup}
 use Rattle.std.specs.Ordering.{is_eq}
 use Rattle.std.proofs.lemmas.List.Concat.{flat_map-append}
-use Rattle.lpt_layout_join.specs.declared.names.NameAs.{NameAs}
-use Rattle.lpt_layout_join.specs.declared.reading.ReadingAs.{ReadingAs}
+use Rattle.lpt_carried.specs.declared.name.Name.{Name}
+use Rattle.lpt_carried.specs.declared.reading.Reading.{Reading}
 use Rattle.lpt_layout_join.specs.Came.{highest}
-use Rattle.lpt_layout_join.specs.Carried.{carried, same_name}
+use Rattle.lpt_carried.specs.Carried.{carried, same_name}
 use Rattle.lpt_layout_each.specs.declared.course.CourseAs.{CourseAs}
 use Rattle.lpt_layout_each.specs.declared.helds.HeldsAs.{HeldsAs}
 use Rattle.lpt_layout_each.specs.Eaches.{Course, held, left, nothing}
@@ -37,7 +37,7 @@ hears-more (Some us) (Some vs) (Some ws) xs ys h k =
 
 -- ---- a packet more
 
-pub events-next : (r : ReadingAs) (any : Bool) (before bs : List (List ℕ)) (b : List ℕ)
+pub events-next : (r : Reading) (any : Bool) (before bs : List (List ℕ)) (b : List ℕ)
     → events_from r any before (bs ++ b ∷ [])
     ≡ events_from r any before bs ++ told_by r any (before ++ bs) b (carried r b)
 events-next r any before [] b =
@@ -62,7 +62,7 @@ no_some : {A : Type 0} (x : A) → ◌≡◌ {A = Option A} None (Some x) → �
 no_some x h = cc
 
 -- a name at which something is kept is among the keys
-key-there : (n : NameAs) (es : List (NameAs × CourseAs)) (g : CourseAs)
+key-there : (n : Name) (es : List (Name × CourseAs)) (g : CourseAs)
     → lookup (is_at (name_cmp n)) es ≡ Some g
     → list_any (same_name n) (keys_of es) ≡ true
 key-there n [] g h = absurd (no_some g h)
@@ -78,15 +78,15 @@ key-there n (e ∷ es) g h = there (is_eq (name_cmp n e.0)) refl h (key-there n 
       ap (λ b. b || list_any (same_name n) (keys_of es)) (sym (name_tied n e.0) ∙ is) ∙ rest k
 
 -- these names were told of, and those that are kept still weren't
-pub record IsLeft (r : ReadingAs) (any : Bool) (bs : List (List ℕ))
-    (first now : BTreeMap NameAs CourseAs) (heard hears : Option (List Event)) : Type 0 where
-  pub names : List NameAs
+pub record IsLeft (r : Reading) (any : Bool) (bs : List (List ℕ))
+    (first now : BTreeMap Name CourseAs) (heard hears : Option (List Event)) : Type 0 where
+  pub names : List Name
   pub keys_are : keys first ≡ names ++ keys now
-  pub holds : (n : NameAs) (g : CourseAs) → get name_cmp now n ≡ Some g
+  pub holds : (n : Name) (g : CourseAs) → get name_cmp now n ≡ Some g
       → Follows (held r any n bs) g
   pub told : Hears heard hears (flat_map (left_of r any bs) names)
 
-pub left-first : (r : ReadingAs) (any : Bool) (bs : List (List ℕ)) (g : HeldsAs)
+pub left-first : (r : Reading) (any : Bool) (bs : List (List ℕ)) (g : HeldsAs)
     (heard : Option (List Event))
     → HoldsEach r any bs g
     → IsLeft r any bs g.kept g.kept heard heard
@@ -97,57 +97,57 @@ left-first r any bs g heard h = record {
   told = hears-nothing heard;
 }
 
-one_more : (r : ReadingAs) (any : Bool) (bs : List (List ℕ)) (names : List NameAs) (n : NameAs)
+one_more : (r : Reading) (any : Bool) (bs : List (List ℕ)) (names : List Name) (n : Name)
     → flat_map (left_of r any bs) (names ++ n ∷ [])
     ≡ flat_map (left_of r any bs) names ++ left_of r any bs n
 one_more r any bs names n =
     flat_map-append (left_of r any bs) names (n ∷ [])
     ∙ ap (λ es. flat_map (left_of r any bs) names ++ es) (append-nil (left_of r any bs n))
 
-pub left-next : (r : ReadingAs) (any : Bool) (bs : List (List ℕ))
-    (first old new : BTreeMap NameAs CourseAs) (n : NameAs) (g : CourseAs)
+pub left-next : (r : Reading) (any : Bool) (bs : List (List ℕ))
+    (first old new : BTreeMap Name CourseAs) (n : Name) (g : CourseAs)
     (heard hear hears : Option (List Event))
     → IsLeft r any bs first old heard hear
     → old.entries ≡ (n, g) ∷ new.entries
-    → ((q : NameAs) → get name_cmp new q ≡ cond (is_at (name_cmp n) q) None (get name_cmp old q))
+    → ((q : Name) → get name_cmp new q ≡ cond (is_at (name_cmp n) q) None (get name_cmp old q))
     → Hears hear hears (left_of r any bs n)
     → IsLeft r any bs first new heard hears
 left-next r any bs first old new n g heard hear hears h pops gets told = record {
   names = h.names ++ n ∷ [];
   keys_are =
-      h.keys_are ∙ ap (λ (es : List (NameAs × CourseAs)). h.names ++ keys_of es) pops
+      h.keys_are ∙ ap (λ (es : List (Name × CourseAs)). h.names ++ keys_of es) pops
       ∙ sym (append_assoc h.names (n ∷ []) (keys new));
   holds = λ q k is. h.holds q k (still q k (is_at (name_cmp n) q) (sym (gets q) ∙ is));
   told = subst (Hears heard hears) (sym (one_more r any bs h.names n))
       (hears-more heard hear hears _ _ h.told told);
 } where
-  still : (q : NameAs) (k : CourseAs) (b : Bool)
+  still : (q : Name) (k : CourseAs) (b : Bool)
       → cond b None (get name_cmp old q) ≡ Some k
       → get name_cmp old q ≡ Some k
   still q k true e = absurd (no_some k e)
   still q k false e = e
 
-pub left-all : (r : ReadingAs) (any : Bool) (bs : List (List ℕ)) (g : HeldsAs)
-    (now : BTreeMap NameAs CourseAs) (heard hears : Option (List Event))
+pub left-all : (r : Reading) (any : Bool) (bs : List (List ℕ)) (g : HeldsAs)
+    (now : BTreeMap Name CourseAs) (heard hears : Option (List Event))
     → HoldsEach r any bs g
     → IsLeft r any bs g.kept now heard hears
     → now.entries ≡ []
     → (es : List Event) × Leaves r any bs es × Hears heard hears es
 left-all r any bs g now heard hears each h none =
     let all : keys g.kept ≡ h.names =
-    h.keys_are ∙ ap (λ (es : List (NameAs × CourseAs)). h.names ++ keys_of es) none
+    h.keys_are ∙ ap (λ (es : List (Name × CourseAs)). h.names ++ keys_of es) none
     ∙ append-nil h.names in (
       flat_map (left_of r any bs) h.names,
       record {
         names = h.names;
         in_order = subst (IsStrictlySortedBy name_cmp) all each.in_order;
-        all = λ n some. subst (λ (ns : List NameAs). list_any (same_name n) ns ≡ true) all
+        all = λ n some. subst (λ (ns : List Name). list_any (same_name n) ns ≡ true) all
             (among n some (get name_cmp g.kept n) refl);
         are = refl;
       },
       h.told,
     ) where
-      among : (n : NameAs)
+      among : (n : Name)
           → left_of r any bs n ≢ []
           → (o : Option CourseAs)
           → get name_cmp g.kept n ≡ o
@@ -159,7 +159,7 @@ left-all r any bs g now heard hears each h none =
       among n some (Some k) is = key-there n g.kept.entries k is
 
 -- what is left of a name is told
-pub left-told : (n : NameAs) (w : News) (h : Course)
+pub left-told : (n : Name) (w : News) (h : Course)
     → w ≡ dropped h.held.new
     → (highest h.held.new.parts == 0) ≡ false
     → ◌≡◌ {A = List Event} ((n, w) ∷ []) (of n (left h))

@@ -3,13 +3,13 @@ use Rattle.std.proofs.Common.{◌≡◌, ◌∙◌, ap, sym, ℕ, Bool, true, fa
 use Rattle.std.specs.Prelude.{is_some}
 use Rattle.lpt_part.specs.Parts.{Piece}
 use Rattle.lpt_layout_join.specs.declared.ending.MisfitAs.{MisfitAs}
-use Rattle.lpt_layout_join.specs.declared.reading.ReadingAs.{ReadingAs}
+use Rattle.lpt_carried.specs.declared.reading.Reading.{Reading}
 use Rattle.lpt_layout_join.specs.Came.{Came, message_of}
 use Rattle.lpt_layout_join.specs.Writes.{unfit}
 use Rattle.lpt_layout_each.specs.Eaches.{Waits, GivesUp, Gives, alone, more, seed, turn, turn_fit, turn_joined}
 use Rattle.lpt_layout_each.specs.News.{Unfit, dropped}
 
-module _ (r : ReadingAs) (any again : Bool) (c : Came) (q : Piece) where
+module _ (r : Reading) (any again : Bool) (c : Came) (q : Piece) where
   -- it contradicts them
   pub turn-broken : true ≡ is_some (more c q).against
       → turn r any again c q ≡ GivesUp (dropped (more c q)) (alone q)

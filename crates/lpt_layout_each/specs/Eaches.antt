@@ -1,15 +1,14 @@
 -- The messages of one name, in the order in which they become whole, and what never does.
-use Rattle.std.specs.Prelude.{ℕ, ◌+◌, ◌==◌, Bool, true, false, not, ◌||◌, nat_le, if◌then◌else◌, List, [], ◌∷◌, ◌++◌, Option, Some, None, is_some, Result, Ok, Err}
+use Rattle.std.specs.Prelude.{ℕ, ◌+◌, ◌==◌, Bool, true, false, not, ◌&&◌, ◌||◌, nat_le, if◌then◌else◌, List, [], ◌∷◌, ◌++◌, Option, Some, None, is_none, is_some}
 use Rattle.std.specs.Option.{option_map}
 use Rattle.lpt_packet.specs.Numbers.{same_octets}
 use Rattle.lpt_part.specs.Parts.{Piece}
 use Rattle.lpt_layout_join.specs.declared.ending.MisfitAs.{MisfitAs}
-use Rattle.lpt_layout_join.specs.declared.names.NameAs.{NameAs}
+use Rattle.lpt_carried.specs.declared.name.Name.{Name}
 use Rattle.lpt_layout_join.specs.declared.order.Order.{Order}
-use Rattle.lpt_layout_join.specs.declared.reading.ReadingAs.{ReadingAs}
-use Rattle.lpt_layout_join.specs.declared.skip.SkipAs.{SkipAs}
+use Rattle.lpt_carried.specs.declared.reading.Reading.{Reading}
 use Rattle.lpt_layout_join.specs.Came.{Came, nothing_came, has_part, highest, last_of, message_of, step as came_with}
-use Rattle.lpt_layout_join.specs.Carried.{carried, part_of}
+use Rattle.lpt_carried.specs.Carried.{carried, part_of}
 use Rattle.lpt_layout_join.specs.Counts.{Counted, all_counted, counted, nothing_counted}
 use Rattle.lpt_layout_join.specs.Orders.{is_in_order, no_order, ordered}
 use Rattle.lpt_layout_join.specs.Writes.{unfit}
@@ -59,18 +58,18 @@ turn_fit again q c m None = Gives c m
 turn_fit again q c m (Some e) = GivesUp (Unfit e) (seed again q)
 
 -- what parts make that are joined to this
-abbrev pub turn_joined : ReadingAs → (any again : Bool) → Piece → Came → Option (List ℕ) → Turn
+abbrev pub turn_joined : Reading → (any again : Bool) → Piece → Came → Option (List ℕ) → Turn
 turn_joined r any again q c None = Waits c
 turn_joined r any again q c (Some m) = turn_fit again q c m (unfit r any false m)
 
 -- what these make, with a part: one that contradicts the others begins anew
-abbrev pub turn_by : ReadingAs → (any again : Bool) → Piece → Came → Turn
+abbrev pub turn_by : Reading → (any again : Bool) → Piece → Came → Turn
 turn_by r any again q c =
     if is_some c.against then GivesUp (dropped c) (alone q)
     else turn_joined r any again q c (message_of c.parts)
 
 -- what a part makes of others
-unfoldable pub turn : ReadingAs → (any again : Bool) → Came → Piece → Turn
+unfoldable pub turn : Reading → (any again : Bool) → Came → Piece → Turn
 turn r any again c q = turn_by r any again q (more c q)
 
 -- whether it is a part of the last message
@@ -79,11 +78,11 @@ is_old None q = false
 is_old (Some c) q = has_part c.parts q
 
 -- what it makes of the new parts: one of the last message nothing
-abbrev pub new_turn : ReadingAs → (any again : Bool) → Held → Piece → Turn
+abbrev pub new_turn : Reading → (any again : Bool) → Held → Piece → Turn
 new_turn r any again h q = if is_old h.last q then Waits h.new else turn r any again h.new q
 
 -- what it makes of all parts
-abbrev pub all_turn : ReadingAs → (any again : Bool) → Option Came → Piece → Option Turn
+abbrev pub all_turn : Reading → (any again : Bool) → Option Came → Piece → Option Turn
 all_turn r any again all q = option_map (λ c. turn r any again c q) all
 
 -- a message is given out, and its name is begun anew
@@ -105,7 +104,7 @@ after last (GivesUp w c) o = (begun last c, Some w)
 after last (Gives c m) o = given c m
 
 -- what is kept with a part more, and what is told
-unfoldable pub gather : ReadingAs → (any again : Bool) → Held → Piece → Held × Option News
+unfoldable pub gather : Reading → (any again : Bool) → Held → Piece → Held × Option News
 gather r any again h q = after h.last (new_turn r any again h q) (all_turn r any again h.all q)
 
 -- ---- parts that come in their order
@@ -148,15 +147,22 @@ run_turn r now q =
 
 -- ---- both
 
--- What is kept of a name. Whether the new parts have some that came before the run began.
+-- What is kept of a name. Whether the new parts have some that came before the run began, and
+-- whether a message was given out since it began.
 pub record Course : Type 0 where
   pub held : Held
   pub run : Run
   pub stale : Bool
+  pub gave : Bool
 
 -- nothing came behind this message
 abbrev pub fresh : (last : Option Came) → Course
-fresh last = record { held = begun last nothing_came; run = no_run; stale = false }
+fresh last = record {
+  held = begun last nothing_came;
+  run = no_run;
+  stale = false;
+  gave = false;
+}
 
 -- nothing came
 abbrev pub nothing : Course
@@ -189,66 +195,91 @@ are_own c q m = not c.stale || spells (message_of (more (most c.held.all c.held.
 abbrev pub staleness : Course → (number : ℕ) → Bool
 staleness c n = if n == 1 then not (is_empty c.held.new) else c.stale
 
--- by what the others made of the part: a message that is given out ends the run; what is given up
--- leaves no part from before it
-abbrev pub course_by : Run → (stale : Bool) → Held → Option News → Course
-course_by r stale h None = record { held = h; run = r; stale = stale }
-course_by r stale h (Some (Given m)) = record { held = h; run = no_run; stale = false }
-course_by r stale h (Some (Dropped parts last)) = record { held = h; run = r; stale = false }
-course_by r stale h (Some (Unfit e)) = record { held = h; run = r; stale = false }
-course_by r stale h (Some (Overtaken parts last m)) =
-    record { held = h; run = no_run; stale = false }
+-- behind a part 1, no message was given out since the run began
+abbrev pub gave_before : Course → (number : ℕ) → Bool
+gave_before c n = if n == 1 then false else c.gave
 
--- a part with which no message is whole whose parts came in their order
-abbrev pub go_on : ReadingAs → (any again : Bool) → Course → Piece → Run → Course × Option News
-go_on r any again c q run = (
-  course_by run (staleness c q.number) (gather r any again c.held q).0
+-- whether this tells of a message
+abbrev pub is_given : Option News → Bool
+is_given None = false
+is_given (Some (Given m)) = true
+is_given (Some (Dropped parts last)) = false
+is_given (Some (Unfit e)) = false
+is_given (Some (Overtaken parts last m)) = true
+
+-- by what the others made of the part: where something is told, no part is left from before the run
+abbrev pub course_by : Run → (stale gave : Bool) → Held → Option News → Course
+course_by r stale gave h o =
+    record { held = h; run = r; stale = stale && is_none o; gave = gave || is_given o }
+
+-- a part with which no message is given out whose parts came in their order, where this is the run
+-- with it
+abbrev pub go_on : Reading → (any again : Bool) → Course → Piece → Course × Option News
+go_on r any again c q = (
+  course_by c.run (staleness c q.number) (gave_before c q.number)
+      (gather r any again c.held q).0
       (gather r any again c.held q).1,
   (gather r any again c.held q).1,
 )
 
--- one with which one is: it is given out, where it may be
-abbrev pub end_run : ReadingAs → (any : Bool) → Course → Piece → Came → List ℕ → Option MisfitAs
+-- whether the last message is this
+abbrev pub is_same : Option Came → List ℕ → Bool
+is_same None m = false
+is_same (Some c) m = spells (message_of c.parts) m
+
+-- whether it is, and was given out since the run began
+abbrev pub repeats : Course → (number : ℕ) → List ℕ → Bool
+repeats c n m = gave_before c n && is_same c.held.last m
+
+-- where it isn't, it is given out
+abbrev pub end_by : Reading → (any : Bool) → Course → Piece → Came → List ℕ → (again : Bool)
     → Course × Option News
-end_run r any c q d m None =
+end_by r any c q d m true = go_on r any false c q
+end_by r any c q d m false =
     (fresh (Some d), Some (told_in_order (are_own c q m) (more c.held.new q) m))
-end_run r any c q d m (Some e) = go_on r any false c q no_run
+
+-- one with which one is whole: it is given out, where it may be and wasn't yet
+abbrev pub end_run : Reading → (any : Bool) → Course → Piece → Came → List ℕ → Option MisfitAs
+    → Course × Option News
+end_run r any c q d m None = end_by r any c q d m (repeats c q.number m)
+end_run r any c q d m (Some e) = go_on r any false c q
 
 -- by the run first
-abbrev pub step_by : ReadingAs → (any : Bool) → Course → Piece → RunTurn → Course × Option News
-step_by r any c q (Goes run) = go_on r any true c q run
-step_by r any c q (Ends d m sure) = end_run r any c q d m (unfit r any sure m)
+abbrev pub step_by : Reading → (any : Bool) → Course → Piece → RunTurn → Course × Option News
+step_by r any c q (Goes run) = go_on r any true (record c { run = run }) q
+step_by r any c q (Ends d m sure) =
+    end_run r any (record c { run = no_run }) q d m (unfit r any sure m)
 
 -- what is kept with a part more, up to which so many counts are missing, and what is told
-unfoldable pub step : ReadingAs → (any : Bool) → (now : ℕ) → Course → Piece → Course × Option News
+unfoldable pub step : Reading → (any : Bool) → (now : ℕ) → Course → Piece → Course × Option News
 step r any now c q = step_by r any c q (run_turn c.run now q)
 
 -- the same of what a packet carries
 abbrev pub step_of :
-    ReadingAs → (any : Bool) → (now : ℕ) → Course → Option Piece → Course × Option News
+    Reading → (any : Bool) → (now : ℕ) → Course → Option Piece → Course × Option News
 step_of r any now c None = (c, None)
 step_of r any now c (Some q) = step r any now c q
 
 -- ---- packets
 
 -- how many counts are missing up to a packet, behind so many
-abbrev pub missing_at : ReadingAs → Counted → List ℕ → ℕ
+abbrev pub missing_at : Reading → Counted → List ℕ → ℕ
 missing_at r k b = (counted r k b).missing
 
 -- what is kept of a name behind these packets, with the counts before them
 abbrev pub held_from :
-    ReadingAs → (any : Bool) → NameAs → Counted → Course → List (List ℕ) → Course
+    Reading → (any : Bool) → Name → Counted → Course → List (List ℕ) → Course
 held_from r any n k h [] = h
 held_from r any n k h (b ∷ bs) =
     held_from r any n (counted r k b)
     (step_of r any (missing_at r k b) h (part_of n (carried r b))).0 bs
 
 -- what is kept of it behind packets
-abbrev pub held : ReadingAs → (any : Bool) → NameAs → List (List ℕ) → Course
+abbrev pub held : Reading → (any : Bool) → Name → List (List ℕ) → Course
 held r any n bs = held_from r any n nothing_counted nothing bs
 
 -- the counts behind packets
-abbrev pub counts_of : ReadingAs → List (List ℕ) → Counted
+abbrev pub counts_of : Reading → List (List ℕ) → Counted
 counts_of r bs = all_counted r nothing_counted bs
 
 -- the news, as a list
@@ -258,7 +289,7 @@ listed (Some w) = w ∷ []
 
 -- what is told of a name as they come
 abbrev pub news_from :
-    ReadingAs → (any : Bool) → NameAs → Counted → Course → List (List ℕ) → List News
+    Reading → (any : Bool) → Name → Counted → Course → List (List ℕ) → List News
 news_from r any n k c [] = []
 news_from r any n k c (b ∷ bs) =
     listed (step_of r any (missing_at r k b) c (part_of n (carried r b))).1

@@ -4,8 +4,8 @@ use Rattle.std.specs.Option.{option_map}
 use Rattle.std.specs.BTreeMap.{get, IsOrdered}
 use Rattle.lpt_part.specs.Parts.{Piece}
 use Rattle.lpt_layout_join.specs.declared.came.CameAs.{CameAs}
-use Rattle.lpt_layout_join.specs.declared.names.NameAs.{NameAs}
-use Rattle.lpt_layout_join.specs.declared.reading.ReadingAs.{ReadingAs}
+use Rattle.lpt_carried.specs.declared.name.Name.{Name}
+use Rattle.lpt_carried.specs.declared.reading.Reading.{Reading}
 use Rattle.lpt_layout_join.specs.Came.{Came}
 use Rattle.lpt_layout_join.specs.CameInside.{Shows}
 use Rattle.lpt_layout_join.specs.CountsInside.{shown}
@@ -73,6 +73,7 @@ pub record Follows (c : Course) (g : CourseAs) : Type 0 where
   pub held : Holds c.held g.held
   pub run : IsRun c.run g.run
   pub stale : g.stale ≡ c.stale
+  pub gave : g.gave ≡ c.gave
 
 -- and this is told
 pub record Steps (g : CourseAs × Option NewsAs) (c : Course × Option News) : Type 0 where
@@ -85,7 +86,7 @@ IsHeld c None = c ≡ nothing
 IsHeld c (Some g) = Follows c g
 
 -- of each name this is kept behind the packets, and their counts
-pub record HoldsEach (r : ReadingAs) (any : Bool) (bs : List (List ℕ)) (g : HeldsAs) : Type 0 where
-  pub each : (n : NameAs) → IsHeld (held r any n bs) (get name_cmp g.kept n)
+pub record HoldsEach (r : Reading) (any : Bool) (bs : List (List ℕ)) (g : HeldsAs) : Type 0 where
+  pub each : (n : Name) → IsHeld (held r any n bs) (get name_cmp g.kept n)
   pub in_order : IsOrdered name_cmp g.kept
   pub counts : shown g.counts ≡ counts_of r bs

@@ -2,21 +2,21 @@
 use Rattle.std.specs.Prelude.{◌≡◌, ◌⊎◌, ℕ, ◌+◌, ◌≤◌, Bool, true, false, nat_lt, if◌then◌else◌, List, [], ◌∷◌, Some, None, is_some}
 use Rattle.std.specs.List.{AllByRecursion}
 use Rattle.lpt_part.specs.Parts.{Piece}
-use Rattle.lpt_layout_join.specs.declared.names.NameAs.{NameAs}
-use Rattle.lpt_layout_join.specs.declared.reading.ReadingAs.{ReadingAs}
+use Rattle.lpt_carried.specs.declared.name.Name.{Name}
+use Rattle.lpt_carried.specs.declared.reading.Reading.{Reading}
 use Rattle.lpt_layout_join.specs.Came.{Came, message_of, nothing_came}
-use Rattle.lpt_layout_join.specs.Carried.{carried, part_of}
+use Rattle.lpt_carried.specs.Carried.{carried, part_of}
 use Rattle.lpt_layout_join.specs.Writes.{unfit}
 use Rattle.lpt_layout_each.specs.Eaches.{more}
 
 -- one of these packets carries this part of a name
-abbrev pub IsThere : ReadingAs → NameAs → List (List ℕ) → Piece → Type 0
+abbrev pub IsThere : Reading → Name → List (List ℕ) → Piece → Type 0
 IsThere r n [] q = ⊥
 IsThere r n (b ∷ bs) q = (part_of n (carried r b) ≡ Some q) ⊎ IsThere r n bs q
 
 -- a message to which parts of a name are joined, each of which one of these packets carries; it may
 -- be given out
-pub record IsGood (r : ReadingAs) (any : Bool) (bs : List (List ℕ)) (n : NameAs)
+pub record IsGood (r : Reading) (any : Bool) (bs : List (List ℕ)) (n : Name)
     (m : List ℕ) : Type 0 where
   pub parts : List Piece
   pub there : AllByRecursion (IsThere r n bs) parts
@@ -35,7 +35,7 @@ pub record Continues (c : Came) (q : Piece) : Type 0 where
 -- each of these packets carries no part of the name, or the next part behind these up to this
 -- number, or one of them again but the first; it agrees with them, and they aren't whole with it;
 -- at the end these came, up to this number
-abbrev pub Runs : ReadingAs → NameAs → Came → (from : ℕ) → List (List ℕ) → Came → (to : ℕ) → Type 0
+abbrev pub Runs : Reading → Name → Came → (from : ℕ) → List (List ℕ) → Came → (to : ℕ) → Type 0
 Runs r n c from [] d to = (c ≡ d) × (from ≡ to)
 Runs r n c from (b ∷ bs) d to =
     ((part_of n (carried r b) ≡ None) × Runs r n c from bs d to)
@@ -45,7 +45,7 @@ Runs r n c from (b ∷ bs) d to =
 -- the parts of the message stand in these packets in their order: from part 1, in the first packet,
 -- to the part that makes them whole, in the last packet, no other part of their name stands between
 -- them; it may be given out in whichever order they come
-pub record InOrder (r : ReadingAs) (any : Bool) (n : NameAs) (m : List ℕ)
+pub record InOrder (r : Reading) (any : Bool) (n : Name) (m : List ℕ)
     (front : List (List ℕ)) (last : List ℕ) : Type 0 where
   pub fit : unfit r any false m ≡ None
   pub first : List ℕ

@@ -3,7 +3,7 @@ use Rattle.std.specs.Prelude.{◌≡◌, ℕ, ◌+◌, List, [], ◌∷◌, ◌+
 use Rattle.std.specs.List.{flat_map}
 use Rattle.lpt_layout_join.specs.declared.ending.MisfitAs.{MisfitAs}
 use Rattle.lpt_layout_join.specs.declared.last_part.LastPart.{LastPart}
-use Rattle.lpt_layout_join.specs.declared.names.NameAs.{NameAs}
+use Rattle.lpt_carried.specs.declared.name.Name.{Name}
 use Rattle.lpt_layout_join.specs.Came.{Came, last_of, octets_of}
 
 -- A message became whole; parts were given up that weren't: the octets of part n + 1, where it
@@ -36,7 +36,7 @@ messages_in ws = flat_map messages_of ws
 
 -- news of a name
 abbrev pub Event : Type 0
-Event = NameAs × News
+Event = Name × News
 
 -- what is known to have been told grows by these
 abbrev pub Hears : (old new : Option (List Event)) → List Event → Type 0

@@ -2,54 +2,54 @@
 use Rattle.std.specs.Prelude.{◌≡◌, ◌≢◌, ℕ, Bool, true, List, [], ◌∷◌, ◌++◌, map, Option, Result, Ok, Err}
 use Rattle.std.specs.List.{flat_map, list_any}
 use Rattle.std.specs.List.Sorted.{IsStrictlySortedBy}
-use Rattle.lpt_layout_join.specs.declared.names.NameAs.{NameAs}
-use Rattle.lpt_layout_join.specs.declared.reading.ReadingAs.{ReadingAs}
-use Rattle.lpt_layout_join.specs.declared.skip.SkipAs.{SkipAs}
-use Rattle.lpt_layout_join.specs.Carried.{Named, carried, name_of, part_of, same_name}
+use Rattle.lpt_carried.specs.declared.name.Name.{Name}
+use Rattle.lpt_carried.specs.declared.reading.Reading.{Reading}
+use Rattle.lpt_carried.specs.declared.skip.Skip.{Skip}
+use Rattle.lpt_carried.specs.Carried.{Named, carried, name_of, part_of, same_name}
 use Rattle.lpt_layout_each.specs.Eaches.{counts_of, held, left, listed, missing_at, step_of}
 use Rattle.lpt_layout_each.specs.Names.{name_cmp}
 use Rattle.lpt_layout_each.specs.News.{Event, Hears, News}
 
 -- news of one name
-abbrev pub of : NameAs → List News → List Event
+abbrev pub of : Name → List News → List Event
 of n ws = map (λ w. (n, w)) ws
 
 -- what a packet tells of a name, behind others
-abbrev pub told : ReadingAs → (any : Bool) → NameAs → (before : List (List ℕ)) → List ℕ → List Event
+abbrev pub told : Reading → (any : Bool) → Name → (before : List (List ℕ)) → List ℕ → List Event
 told r any n before b =
     of n (listed (step_of r any (missing_at r (counts_of r before) b) (held r any n before)
     (part_of n (carried r b))).1)
 
 -- what it tells of the name of its part, where it carries this
 abbrev pub told_by :
-    ReadingAs → (any : Bool) → (before : List (List ℕ)) → List ℕ → Result Named SkipAs → List Event
+    Reading → (any : Bool) → (before : List (List ℕ)) → List ℕ → Result Named Skip → List Event
 told_by r any before b (Ok c) = told r any (name_of c) before b
 told_by r any before b (Err e) = []
 
 -- what packets tell behind others, in their order
-abbrev pub events_from : ReadingAs → (any : Bool) → (before bs : List (List ℕ)) → List Event
+abbrev pub events_from : Reading → (any : Bool) → (before bs : List (List ℕ)) → List Event
 events_from r any before [] = []
 events_from r any before (b ∷ bs) =
     told_by r any before b (carried r b) ++ events_from r any (before ++ b ∷ []) bs
 
 -- what packets tell
-abbrev pub events : ReadingAs → (any : Bool) → List (List ℕ) → List Event
+abbrev pub events : Reading → (any : Bool) → List (List ℕ) → List Event
 events r any bs = events_from r any [] bs
 
 -- what is left of a name behind packets
-abbrev pub left_of : ReadingAs → (any : Bool) → List (List ℕ) → NameAs → List Event
+abbrev pub left_of : Reading → (any : Bool) → List (List ℕ) → Name → List Event
 left_of r any bs n = of n (left (held r any n bs))
 
 -- this is what is left of each name, in the order of names
-pub record Leaves (r : ReadingAs) (any : Bool) (bs : List (List ℕ))
+pub record Leaves (r : Reading) (any : Bool) (bs : List (List ℕ))
     (es : List Event) : Type 0 where
-  pub names : List NameAs
+  pub names : List Name
   pub in_order : IsStrictlySortedBy name_cmp names
-  pub all : (n : NameAs) → left_of r any bs n ≢ [] → list_any (same_name n) names ≡ true
+  pub all : (n : Name) → left_of r any bs n ≢ [] → list_any (same_name n) names ≡ true
   pub are : es ≡ flat_map (left_of r any bs) names
 
 -- what packets tell up to the end of their stream was told
 abbrev pub Tells :
-    ReadingAs → (any : Bool) → List (List ℕ) → (heard hears : Option (List Event)) → Type 0
+    Reading → (any : Bool) → List (List ℕ) → (heard hears : Option (List Event)) → Type 0
 Tells r any bs heard hears =
     (es : List Event) × Leaves r any bs es × Hears heard hears (events r any bs ++ es)

@@ -1,6 +1,6 @@
 -- What is told, as the code has it.
 use Rattle.std.specs.Prelude.{◌+◌, List, [], ◌∷◌, Option, Some, None}
-use Rattle.lpt_layout_join.specs.declared.names.NameAs.{NameAs}
+use Rattle.lpt_carried.specs.declared.name.Name.{Name}
 use Rattle.lpt_layout_join.specs.CameInside.{last_in, part_at}
 use Rattle.lpt_layout_each.specs.declared.news.NewsAs.{NewsAs}
 use Rattle.lpt_layout_each.specs.declared.news.NewsAs.TheVariants as said
@@ -14,6 +14,6 @@ news_of (said.Unfit e) = Unfit e
 news_of (said.Overtaken s m) = Overtaken (λ n. part_at s (n + 1)) (last_in s) m
 
 -- news of a name, where there are
-abbrev pub events_of : Option (NameAs × NewsAs) → List Event
+abbrev pub events_of : Option (Name × NewsAs) → List Event
 events_of None = []
 events_of (Some e) = (e.0, news_of e.1) ∷ []

@@ -4,7 +4,7 @@ ghost use Rattle.std.specs.Prelude.{◌≡◌, ◌≤◌, ◌==◌, Bool, Option
 ghost use Rattle.std.specs.Option.{option_map};
 ghost use Rattle.lpt_packet.specs.Sizes.{longest_packet};
 ghost use Rattle.lpt_layout.specs.Parts.{piece};
-ghost use Rattle.lpt_layout_join.specs.declared.reading.ReadingAs.{ReadingAs};
+ghost use Rattle.lpt_carried.specs.declared.reading.Reading.{Reading};
 ghost use Rattle.lpt_layout_join.specs.Came.{Came};
 ghost use Rattle.lpt_layout_join.specs.CameInside.{Shows};
 ghost use Rattle.lpt_layout_each.specs.Eaches as each;
@@ -14,8 +14,9 @@ ghost use Rattle.lpt_layout_each.specs.Told.{news_of};
 use crate::NewsAs;
 use crate::held::HeldAs;
 use crate::run::{RunAs, RunTurnAs};
+use lpt_carried::Reading;
 use lpt_layout::{Octets, PartAs};
-use lpt_layout_join::{CameAs, ReadingAs, unfit};
+use lpt_layout_join::{CameAs, unfit};
 use std::alloc::{AllocError, Global};
 
 /// What is kept of one name.
@@ -27,6 +28,8 @@ pub(crate) struct CourseAs {
     pub(crate) run: RunAs,
     // Whether some of what came behind the last message came before that.
     pub(crate) stale: bool,
+    // Whether a message was given out since that began.
+    pub(crate) gave: bool,
 }
 
 impl CourseAs {
@@ -38,6 +41,7 @@ impl CourseAs {
             held: HeldAs::behind(alloc, last),
             run: RunAs::none(alloc),
             stale: false,
+            gave: false,
         }
     }
 
@@ -60,7 +64,7 @@ impl CourseAs {
     pub(crate) fn take(
         self,
         alloc: Global,
-        reading: &ReadingAs,
+        reading: &Reading,
         any: bool,
         missing: u64,
         place: u64,
@@ -71,47 +75,101 @@ impl CourseAs {
         ensures { (c : each.Course) → Follows c self → IfOk result (λ r.
             Steps r (each.step reading.now any missing c (piece part.now))) }
     {
-        let CourseAs { held, run, stale } = self;
-        let turn = run.take(alloc, missing, part)?;
-        match turn {
-            RunTurnAs::Goes(run) => go_on(alloc, reading, any, true, held, stale, run, place, part),
-            RunTurnAs::Ends(came, message, sure) => match unfit(
-                reading,
-                any,
-                sure,
-                message.as_slice(),
-            ) {
-                None => end_run(alloc, held, stale, came, message, place, part),
-                Some(_) => {
-                    let empty = RunAs::none(alloc);
-                    go_on(alloc, reading, any, false, held, stale, empty, place, part)
+        let CourseAs {
+            held,
+            run,
+            stale,
+            gave,
+        } = self;
+        match run.take(alloc, missing, part)? {
+            RunTurnAs::Goes(run) => {
+                let course = CourseAs {
+                    held,
+                    run,
+                    stale,
+                    gave,
+                };
+                course.go_on(alloc, reading, any, true, place, part)
+            }
+            RunTurnAs::Ends(came, message, sure) => {
+                let course = CourseAs {
+                    held,
+                    run: RunAs::none(alloc),
+                    stale,
+                    gave,
+                };
+                match unfit(reading, any, sure, message.as_slice()) {
+                    None => course.end_by(alloc, reading, any, (came, message), place, part),
+                    Some(_) => course.go_on(alloc, reading, any, false, place, part),
                 }
-            },
+            }
         }
     }
-}
 
-// Takes a part with which no message is given out whose parts came in their order. The only error
-// is out of memory.
-fn go_on(
-    alloc: Global,
-    reading: &ReadingAs,
-    any: bool,
-    again: bool,
-    held: HeldAs,
-    stale: bool,
-    run: RunAs,
-    place: u64,
-    part: &PartAs<'_>,
-) -> Result<(CourseAs, Option<NewsAs>), AllocError>
-    requires number { 1 ≤ part.now.number }
-    requires short { length part.now.octets.now ≤ longest_packet }
-    ensures { (c : each.Course) (r : each.Run) → Holds c.held held → stale ≡ c.stale → IsRun r run
-        → IfOk result (λ o. Steps o (each.go_on reading.now any again c (piece part.now) r)) }
-{
-    let stale = staleness(&held, stale, part.number);
-    let (held, news) = held.take(alloc, reading, any, again, place, part)?;
-    Ok((course_by(alloc, held, run, stale, &news), news))
+    // Takes a part with which no message is given out whose parts came in their order. The only
+    // error is out of memory.
+    fn go_on(
+        self,
+        alloc: Global,
+        reading: &Reading,
+        any: bool,
+        again: bool,
+        place: u64,
+        part: &PartAs<'_>,
+    ) -> Result<(CourseAs, Option<NewsAs>), AllocError>
+        requires number { 1 ≤ part.now.number }
+        requires short { length part.now.octets.now ≤ longest_packet }
+        ensures { (c : each.Course) → Follows c self → IfOk result (λ o.
+            Steps o (each.go_on reading.now any again c (piece part.now))) }
+    {
+        let CourseAs {
+            held,
+            run,
+            stale,
+            gave,
+        } = self;
+        let stale = staleness(&held, stale, part.number);
+        let gave = since(gave, part.number);
+        let (held, news) = held.take(alloc, reading, any, again, place, part)?;
+        Ok((course_by(held, run, stale, gave, &news), news))
+    }
+
+    // Takes a part with which parts are joined to this message that came in their order, where it
+    // may be given out: it is, where it wasn't yet. The only error is out of memory.
+    fn end_by(
+        self,
+        alloc: Global,
+        reading: &Reading,
+        any: bool,
+        whole: (CameAs, Octets),
+        place: u64,
+        part: &PartAs<'_>,
+    ) -> Result<(CourseAs, Option<NewsAs>), AllocError>
+        requires number { 1 ≤ part.now.number }
+        requires short { length part.now.octets.now ≤ longest_packet }
+        ensures { (c : each.Course) (d : Came) → Follows c self → Shows d whole.0
+            → IfOk result (λ o. Steps o (each.end_by reading.now any c (piece part.now) d whole.1
+            (each.repeats c part.now.number whole.1))) }
+    {
+        let (came, message) = whole;
+        if self.repeats(alloc, part.number, &message)? {
+            return self.go_on(alloc, reading, any, false, place, part);
+        }
+        let news = overtake(alloc, self.held, self.stale, message, place, part)?;
+        Ok((CourseAs::behind(alloc, Some(came)), Some(news)))
+    }
+
+    // Whether this is the last message, and was given out since its parts began, of which one of
+    // this number came. The only error is out of memory.
+    fn repeats(&self, alloc: Global, number: u32, message: &Octets) -> Result<bool, AllocError>
+        ensures { (c : each.Course) → Follows c self.now → IfOk result (λ b.
+            b ≡ each.repeats c number message.now) }
+    {
+        if !since(self.gave, number) {
+            return Ok(false);
+        }
+        self.held.is_last(alloc, message)
+    }
 }
 
 // Whether some of the new parts came before the run does, with a part of this number.
@@ -125,71 +183,47 @@ fn staleness(held: &HeldAs, stale: bool, number: u32) -> bool
     stale
 }
 
-// What is kept by what was told.
-fn course_by(
-    alloc: Global,
-    held: HeldAs,
-    run: RunAs,
-    stale: bool,
-    news: &Option<NewsAs>,
-) -> CourseAs
+// Whether a message was given out since the run began, with a part of this number.
+fn since(gave: bool, number: u32) -> bool
+    ensures { (c : each.Course) → gave ≡ c.gave → result ≡ each.gave_before c number }
+{
+    if number != 1 {
+        return gave;
+    }
+    false
+}
+
+// What is kept by what was told: of that no new part is left that came before the run.
+fn course_by(held: HeldAs, run: RunAs, stale: bool, gave: bool, news: &Option<NewsAs>) -> CourseAs
     ensures { (h : each.Held) (r : each.Run) → Holds h held → IsRun r run
-        → Follows (each.course_by r stale h (option_map news_of news.now)) result }
+        → Follows (each.course_by r stale gave h (option_map news_of news.now)) result }
 {
     match news {
-        None => CourseAs { held, run, stale },
-        Some(told) => course_after(alloc, held, run, told),
+        None => CourseAs {
+            held,
+            run,
+            stale,
+            gave,
+        },
+        Some(told) => CourseAs {
+            held,
+            run,
+            stale: false,
+            gave: gave || is_given(told),
+        },
     }
 }
 
-// What is kept where this was told.
-fn course_after(alloc: Global, held: HeldAs, run: RunAs, news: &NewsAs) -> CourseAs
-    ensures { (h : each.Held) (r : each.Run) (stale : Bool) → Holds h held → IsRun r run
-        → Follows (each.course_by r stale h (Some (news_of news.now))) result }
+// Whether this tells of a message.
+fn is_given(news: &NewsAs) -> bool
+    ensures { result ≡ each.is_given (Some (news_of news.now)) }
 {
     match news {
-        NewsAs::Dropped(_) => unmixed(held, run),
-        NewsAs::Unfit(_) => unmixed(held, run),
-        NewsAs::Given(_) => unmixed(held, RunAs::none(alloc)),
-        NewsAs::Overtaken(_, _) => unmixed(held, RunAs::none(alloc)),
+        NewsAs::Given(_) => true,
+        NewsAs::Dropped(_) => false,
+        NewsAs::Unfit(_) => false,
+        NewsAs::Overtaken(_, _) => true,
     }
-}
-
-// These are kept, and no new part came before the run.
-fn unmixed(held: HeldAs, run: RunAs) -> CourseAs
-    ensures { (h : each.Held) (r : each.Run) → Holds h held → IsRun r run
-        → Follows (record { held = h; run = r; stale = false }) result }
-{
-    CourseAs {
-        held,
-        run,
-        stale: false,
-    }
-}
-
-// Gives out the message whose parts came in their order, with this one. The only error is out of
-// memory.
-fn end_run(
-    alloc: Global,
-    held: HeldAs,
-    stale: bool,
-    came: CameAs,
-    message: Octets,
-    place: u64,
-    part: &PartAs<'_>,
-) -> Result<(CourseAs, Option<NewsAs>), AllocError>
-    requires number { 1 ≤ part.now.number }
-    requires short { length part.now.octets.now ≤ longest_packet }
-    ensures { (c : each.Course) (d : Came) → Holds c.held held → stale ≡ c.stale → Shows d came
-        → IfOk result (λ o. Steps o (
-          each.fresh (Some d),
-          Some (each.told_in_order
-              (each.are_own c (piece part.now) message)
-              (each.more c.held.new (piece part.now)) message),
-        )) }
-{
-    let news = overtake(alloc, held, stale, message, place, part)?;
-    Ok((CourseAs::behind(alloc, Some(came)), Some(news)))
 }
 
 // What is told of it. The only error is out of memory.

@@ -4,7 +4,7 @@ ghost use Rattle.std.specs.Prelude.{◌≡◌, ◌≤◌, ◌⊎◌, ◌∷◌, 
 ghost use Rattle.std.specs.Io.KnownBytes.{Keeps};
 ghost use Rattle.lpt_text.specs.Streams.{failed_write, ReadEnds};
 ghost use Rattle.lpt_packet.specs.Sizes.{longest_packet};
-ghost use Rattle.lpt_layout_join.specs.Carried.{carried, named};
+ghost use Rattle.lpt_carried.specs.Carried.{carried, named};
 ghost use Rattle.lpt_layout_join.specs.Hearing as hearing;
 ghost use Rattle.lpt_layout_join.specs.Hearing.{IsEndless};
 ghost use Rattle.lpt_layout_each.specs.Helds.{HoldsEach};
@@ -17,8 +17,9 @@ use crate::TakerAs;
 use crate::helds::HeldsAs;
 use crate::leaving::leave_as;
 use crate::passing::PassedAs;
+use lpt_carried::{CarriedPart, Reading, carried};
 use lpt_frames::{FrameBuffer, Front};
-use lpt_layout_join::{CarriedAs, LeftAs, ReadingAs, carried, left_at};
+use lpt_layout_join::{LeftAs, left_at};
 use lpt_text::{Sink, Source, StreamFault};
 use std::alloc::Global;
 
@@ -44,7 +45,7 @@ pub struct EachedAs {
 /// `Memory`; those of the taker. What was told before stays told.
 pub fn each_as<S: Source, K: Sink, T: TakerAs>(
     alloc: Global,
-    reading: &ReadingAs,
+    reading: &Reading,
     any: bool,
     source: &mut S,
     out: &mut K,
@@ -78,7 +79,7 @@ struct Hearing {
 // Takes packet after packet, until none is left.
 fn hear_each<S: Source, K: Sink, T: TakerAs>(
     alloc: Global,
-    reading: &ReadingAs,
+    reading: &Reading,
     any: bool,
     source: &mut S,
     out: &mut K,
@@ -118,7 +119,7 @@ fn hear_each<S: Source, K: Sink, T: TakerAs>(
 // Takes the packet that comes next.
 fn take_packet<T: TakerAs>(
     alloc: Global,
-    reading: &ReadingAs,
+    reading: &Reading,
     any: bool,
     octets: &[u8],
     heard: Hearing,
@@ -160,11 +161,11 @@ fn take_packet<T: TakerAs>(
 // Takes a part that a packet carries.
 fn take_part<T: TakerAs>(
     alloc: Global,
-    reading: &ReadingAs,
+    reading: &Reading,
     any: bool,
     place: u64,
     octets: &[u8],
-    part: &CarriedAs<'_>,
+    part: &CarriedPart<'_>,
     helds: HeldsAs,
     taker: &mut T,
 ) -> Result<HeldsAs, StreamFault>

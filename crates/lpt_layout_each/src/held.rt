@@ -4,7 +4,7 @@ ghost use Rattle.std.specs.Prelude.{◌≡◌, ◌≤◌, ◌==◌, Bool, Option
 ghost use Rattle.lpt_packet.specs.Sizes.{longest_packet};
 ghost use Rattle.lpt_part.specs.Parts.{Piece};
 ghost use Rattle.lpt_layout.specs.Parts.{piece};
-ghost use Rattle.lpt_layout_join.specs.declared.reading.ReadingAs.{ReadingAs};
+ghost use Rattle.lpt_carried.specs.declared.reading.Reading.{Reading};
 ghost use Rattle.lpt_layout_join.specs.Came.{Came, highest, message_of, nothing_came};
 ghost use Rattle.lpt_layout_join.specs.CameInside.{Shows};
 ghost use Rattle.lpt_layout_each.specs.Eaches as each;
@@ -12,8 +12,9 @@ ghost use Rattle.lpt_layout_each.specs.Helds.{Holds, IsTurnOfAll, ShowsSome, Tak
 
 use crate::NewsAs;
 use crate::turn::{Turn, alone, turn_with};
+use lpt_carried::Reading;
 use lpt_layout::{Octets, PartAs};
-use lpt_layout_join::{CameAs, ReadingAs};
+use lpt_layout_join::CameAs;
 use std::alloc::{AllocError, Global};
 
 /// The last message of a name, and what came behind it in any order.
@@ -62,7 +63,7 @@ impl HeldAs {
     pub(crate) fn take(
         self,
         alloc: Global,
-        reading: &ReadingAs,
+        reading: &Reading,
         any: bool,
         again: bool,
         place: u64,
@@ -93,6 +94,17 @@ impl HeldAs {
                 HeldAs::behind(alloc, Some(came)),
                 Some(NewsAs::Given(message)),
             )),
+        }
+    }
+
+    // Whether this is the last message. The only error is out of memory.
+    pub(crate) fn is_last(&self, alloc: Global, message: &Octets) -> Result<bool, AllocError>
+        ensures { (h : each.Held) → Holds h self.now → IfOk result (λ b.
+            b ≡ each.is_same h.last message.now) }
+    {
+        match &self.last {
+            None => Ok(false),
+            Some(came) => spells(alloc, came, message),
         }
     }
 
@@ -162,7 +174,7 @@ fn is_old(last: &Option<CameAs>, part: &PartAs<'_>) -> bool
 // Adds a part to all parts, where they are kept. The only error is out of memory.
 fn turn_of_all(
     alloc: Global,
-    reading: &ReadingAs,
+    reading: &Reading,
     any: bool,
     place: u64,
     all: Option<CameAs>,

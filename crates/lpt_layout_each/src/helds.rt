@@ -3,10 +3,10 @@
 ghost use Rattle.std.specs.Prelude.{◌≡◌, ◌≤◌, ℕ, Bool, List, [], ◌∷◌, ◌++◌, false, length, Some, IfErr, IfOk, Ok, Err, OnOk};
 ghost use Rattle.std.specs.BTreeMap.{get, IsOrdered};
 ghost use Rattle.lpt_packet.specs.Sizes.{longest_packet};
-ghost use Rattle.lpt_layout_join.specs.declared.names.NameAs.{NameAs};
-ghost use Rattle.lpt_layout_join.specs.declared.reading.ReadingAs.{ReadingAs};
-ghost use Rattle.lpt_layout_join.specs.declared.skip.SkipAs.{SkipAs};
-ghost use Rattle.lpt_layout_join.specs.Carried.{carried, named, same_name};
+ghost use Rattle.lpt_carried.specs.declared.name.Name.{Name};
+ghost use Rattle.lpt_carried.specs.declared.reading.Reading.{Reading};
+ghost use Rattle.lpt_carried.specs.declared.skip.Skip.{Skip};
+ghost use Rattle.lpt_carried.specs.Carried.{carried, named, same_name};
 ghost use Rattle.lpt_layout_each.specs.Eaches.{held};
 ghost use Rattle.lpt_layout_each.specs.Helds.{Follows, HoldsEach};
 ghost use Rattle.lpt_layout_each.specs.Names.{name_cmp};
@@ -15,7 +15,8 @@ ghost use Rattle.lpt_layout_each.specs.Told.{events_of};
 
 use crate::NewsAs;
 use crate::course::CourseAs;
-use lpt_layout_join::{CarriedAs, Counts, NameAs, ReadingAs};
+use lpt_carried::{CarriedPart, Name, Reading};
+use lpt_layout_join::Counts;
 use lpt_text::StreamFault;
 use std::alloc::{AllocError, Global};
 use std::collections::BTreeMap;
@@ -24,14 +25,14 @@ use std::collections::BTreeMap;
 /// as four `CameAs`.
 #[derive(Drop)]
 pub struct HeldsAs {
-    pub(crate) kept: BTreeMap<NameAs, CourseAs>,
+    pub(crate) kept: BTreeMap<Name, CourseAs>,
     pub(crate) counts: Counts,
 }
 
 impl HeldsAs {
     /// Nothing came.
     pub fn new(alloc: Global) -> HeldsAs
-        ensures { (r : ReadingAs) (any : Bool) → HoldsEach r any [] result }
+        ensures { (r : Reading) (any : Bool) → HoldsEach r any [] result }
     {
         HeldsAs {
             kept: BTreeMap::new(alloc),
@@ -48,12 +49,12 @@ impl HeldsAs {
     pub fn take(
         self,
         alloc: Global,
-        reading: &ReadingAs,
+        reading: &Reading,
         any: bool,
         place: u64,
         octets: &[u8],
-        part: &CarriedAs<'_>,
-    ) -> Result<(HeldsAs, Option<(NameAs, NewsAs)>), AllocError>
+        part: &CarriedPart<'_>,
+    ) -> Result<(HeldsAs, Option<(Name, NewsAs)>), AllocError>
         requires number { 1 ≤ part.now.part.number }
         requires short { length part.now.part.octets.now ≤ longest_packet }
         ensures held { (bs : List (List ℕ)) → HoldsEach reading.now any bs self
@@ -80,8 +81,8 @@ impl HeldsAs {
     /// Takes the packet that comes next, which carries no part.
     ///
     /// Errors: `Memory`.
-    pub fn pass_over(self, reading: &ReadingAs, octets: &[u8]) -> Result<HeldsAs, StreamFault>
-        ensures held { (any : Bool) (bs : List (List ℕ)) (e : SkipAs)
+    pub fn pass_over(self, reading: &Reading, octets: &[u8]) -> Result<HeldsAs, StreamFault>
+        ensures held { (any : Bool) (bs : List (List ℕ)) (e : Skip)
             → HoldsEach reading.now any bs self → carried reading.now octets.now ≡ Err e
             → IfOk result (HoldsEach reading.now any (bs ++ octets.now ∷ [])) }
         ensures fault { IfErr result (λ e. e ≡ StreamFault.Memory) }
@@ -94,10 +95,10 @@ impl HeldsAs {
     }
 
     // What is kept of a name, taken out.
-    fn take_out(&mut self, alloc: Global, name: NameAs) -> CourseAs
-        ensures given { (r : ReadingAs) (any : Bool) (bs : List (List ℕ))
+    fn take_out(&mut self, alloc: Global, name: Name) -> CourseAs
+        ensures given { (r : Reading) (any : Bool) (bs : List (List ℕ))
             → HoldsEach r any bs self.old → Follows (held r any name bs) result }
-        ensures others { (n : NameAs) → same_name name n ≡ false
+        ensures others { (n : Name) → same_name name n ≡ false
             → get name_cmp self.new.kept n ≡ get name_cmp self.old.kept n }
         ensures counts { self.new.counts ≡ self.old.counts }
     {
@@ -108,9 +109,9 @@ impl HeldsAs {
     }
 
     // Keeps this of a name. The only error is out of memory.
-    fn put(&mut self, name: NameAs, held: CourseAs) -> Result<(), AllocError>
+    fn put(&mut self, name: Name, held: CourseAs) -> Result<(), AllocError>
         ensures kept { OnOk result (get name_cmp self.new.kept name ≡ Some held) }
-        ensures others { OnOk result ((n : NameAs) → same_name name n ≡ false
+        ensures others { OnOk result ((n : Name) → same_name name n ≡ false
             → get name_cmp self.new.kept n ≡ get name_cmp self.old.kept n) }
         ensures in_order { IsOrdered name_cmp self.new.kept }
         ensures counts { self.new.counts ≡ self.old.counts }

@@ -1,7 +1,7 @@
 //! What is left of each name at the end of a stream.
 
 ghost use Rattle.std.specs.Prelude.{◌≡◌, ◌⊎◌, ℕ, Bool, List, IfErr, OnOk};
-ghost use Rattle.lpt_layout_join.specs.declared.reading.ReadingAs.{ReadingAs};
+ghost use Rattle.lpt_carried.specs.declared.reading.Reading.{Reading};
 ghost use Rattle.lpt_layout_each.specs.Eaches as each;
 ghost use Rattle.lpt_layout_each.specs.Helds.{Follows, HoldsEach};
 ghost use Rattle.lpt_layout_each.specs.News.{Event, Hears};
@@ -10,14 +10,14 @@ ghost use Rattle.lpt_layout_each.specs.Streams.{Leaves, of};
 use crate::course::CourseAs;
 use crate::helds::HeldsAs;
 use crate::{NewsAs, TakerAs};
-use lpt_layout_join::NameAs;
+use lpt_carried::Name;
 use lpt_text::StreamFault;
 
 /// Tells what is left of each name, in the order of names.
 ///
 /// Errors: those of the taker.
 pub fn leave_as<T: TakerAs>(helds: HeldsAs, taker: &mut T) -> Result<(), StreamFault>
-    ensures told { (r : ReadingAs) (any : Bool) (bs : List (List ℕ)) → HoldsEach r any bs helds
+    ensures told { (r : Reading) (any : Bool) (bs : List (List ℕ)) → HoldsEach r any bs helds
         → OnOk result ((es : List Event) × Leaves r any bs es
         × Hears (T.heard taker.old) (T.heard taker.new) es) }
     ensures fault { IfErr result (λ e. (e ≡ StreamFault.Write) ⊎ (e ≡ StreamFault.Memory)) }
@@ -30,7 +30,7 @@ pub fn leave_as<T: TakerAs>(helds: HeldsAs, taker: &mut T) -> Result<(), StreamF
 }
 
 // Tells what is left of a name.
-fn tell_left<T: TakerAs>(name: NameAs, held: CourseAs, taker: &mut T) -> Result<(), StreamFault>
+fn tell_left<T: TakerAs>(name: Name, held: CourseAs, taker: &mut T) -> Result<(), StreamFault>
     ensures told { (c : each.Course) → Follows c held → OnOk result
         (Hears (T.heard taker.old) (T.heard taker.new) (of name (each.left c))) }
     ensures fault { IfErr result (λ e. (e ≡ StreamFault.Write) ⊎ (e ≡ StreamFault.Memory)) }

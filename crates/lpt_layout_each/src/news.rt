@@ -1,7 +1,8 @@
 //! What is told of the parts of a name, and to whom.
 
+use lpt_carried::Name;
 use lpt_layout::Octets;
-use lpt_layout_join::{CameAs, MisfitAs, NameAs};
+use lpt_layout_join::{CameAs, MisfitAs};
 use lpt_text::StreamFault;
 
 /// What became of the parts of a name.
@@ -30,7 +31,7 @@ pub trait TakerAs {
     /// Is told something more.
     ///
     /// Errors: `Write` where it couldn't be written; `Memory`.
-    fn take(&mut self, name: NameAs, news: &NewsAs) -> Result<(), StreamFault>
+    fn take(&mut self, name: Name, news: &NewsAs) -> Result<(), StreamFault>
         ensures heard { OnOk result (Hears (heard self.old) (heard self.new)
             ((name, news_of news.now) ∷ [])) }
         ensures fault { IfErr result (λ e. (e ≡ StreamFault.Write) ⊎ (e ≡ StreamFault.Memory)) };

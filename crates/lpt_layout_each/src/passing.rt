@@ -1,16 +1,16 @@
 //! What is passed over of a stream, since it carries no part.
 
 ghost use Rattle.std.specs.Prelude.{◌≡◌, Ok, Err};
-ghost use Rattle.lpt_layout_join.specs.Carried.{Named};
+ghost use Rattle.lpt_carried.specs.Carried.{Named};
 ghost use Rattle.lpt_layout_each.specs.Passing.{nothing_passed, passed_with};
 
-use lpt_layout_join::SkipAs;
+use lpt_carried::Skip;
 
 /// What was passed over of a stream's packets, and how far it was read.
 #[derive(Clone, Copy)]
 pub struct PassedAs {
     /// Why the first packet that carries no part carries none, and how many octets come before it.
-    pub skipped: Option<(u64, SkipAs)>,
+    pub skipped: Option<(u64, Skip)>,
     /// How many packets carry no part; more than 2^64 - 1 are told as that.
     pub skips: u64,
     /// How many octets all packets have; more than 2^64 - 1 are told as that.
@@ -40,7 +40,7 @@ impl PassedAs {
     }
 
     // With one that carries none for this reason.
-    pub(crate) fn skipping(self, skip: SkipAs, len: usize) -> PassedAs
+    pub(crate) fn skipping(self, skip: Skip, len: usize) -> PassedAs
         ensures { result ≡ passed_with (Err skip) len self }
     {
         PassedAs {

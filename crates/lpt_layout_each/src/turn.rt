@@ -8,8 +8,9 @@ ghost use Rattle.lpt_layout_join.specs.CameInside.{Shows};
 ghost use Rattle.lpt_layout_each.specs.Eaches.{alone, turn};
 ghost use Rattle.lpt_layout_each.specs.Helds.{IsTurn};
 
+use lpt_carried::Reading;
 use lpt_layout::{Octets, PartAs};
-use lpt_layout_join::{CameAs, MisfitAs, ReadingAs, unfit};
+use lpt_layout_join::{CameAs, MisfitAs, unfit};
 use std::alloc::{AllocError, Global};
 
 /// What a further part makes of those that came before it.
@@ -28,7 +29,7 @@ pub(crate) enum Turn {
 // Adds a part, at this place, to others. The only error is out of memory.
 pub(crate) fn turn_with(
     alloc: Global,
-    reading: &ReadingAs,
+    reading: &Reading,
     any: bool,
     place: u64,
     came: CameAs,

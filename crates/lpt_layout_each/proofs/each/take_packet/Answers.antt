@@ -1,6 +1,6 @@
 -- It carries a part, or none.
 use Rattle.std.proofs.Common.{◌∙◌, ap, sym, subst, length}
-use Rattle.lpt_layout_join.specs.Carried.{named}
+use Rattle.lpt_carried.specs.Carried.{named}
 use Rattle.lpt_layout_each.specs.News.{Hears}
 use Rattle.lpt_layout_each.specs.Passing.{passed_with}
 use Rattle.lpt_layout_each.proofs.HeldsLemmas.{told-none}

@@ -3,5 +3,5 @@ use Rattle.lpt_layout_each.proofs.OrderLemmas.{order_given}
 use Rattle.lpt_layout_each.proofs.laws.in_order_is_given.Goals as goal
 
 pub returns : goal.returns
-returns c = λ r any n before front last m h none.
-    order_given r any n (counts_of r before) (held r any n before) front last m h none
+returns c = λ r any n before front last m h.
+    order_given r any n (counts_of r before) (held r any n before) front last m h

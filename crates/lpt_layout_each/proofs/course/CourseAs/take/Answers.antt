@@ -16,22 +16,24 @@ returns-in-Goes c = λ k h.
     let r = c.args.reading.now in
     let q = piece c.args.part.now in
     let w = subst (λ (u : RunTurnAs). IsRunTurn u (run_turn k.run c.args.missing q)) c.in-Goes.is
-    (c.in_ok-turn.ensures k.run h.run) in
+    (c.in_ok-run.ensures k.run h.run) in
     subst (λ (s : Course × Option News). IfOk c.go_on.result (λ o. Steps o s))
     (step-goes_on r c.args.any c.args.missing k q w.0 w.2)
-    (c.go_on.ensures k w.0 h.held h.stale w.1)
+    (c.go_on.ensures (record k { run = w.0 })
+    (record { held = h.held; run = w.1; stale = h.stale; gave = h.gave }))
 
--- a message is whole, and given out
+-- a message is whole, and may be given out
 pub returns-in-None : goal.returns-in-None
 returns-in-None c = λ k h.
     let r = c.args.reading.now in
     let q = piece c.args.part.now in
     let w = subst (λ (u : RunTurnAs). IsRunTurn u (run_turn k.run c.args.missing q)) c.in-Ends.is
-    (c.in_ok-turn.ensures k.run h.run) in
-    subst (λ (s : Course × Option News). IfOk c.end_run.result (λ o. Steps o s))
+    (c.in_ok-run.ensures k.run h.run) in
+    subst (λ (s : Course × Option News). IfOk c.end_by.result (λ o. Steps o s))
     (step-ends r c.args.any c.args.missing k q w.0 c.in-Ends.message c.in-Ends.sure w.2
     (sym (c.in-None.ensures ∙ ap (unfit r c.args.any c.in-Ends.sure) c.as_slice.ensures.same)))
-    (c.end_run.ensures k w.0 h.held h.stale w.1)
+    (c.end_by.ensures (record k { run = no_run }) w.0
+    (record { held = h.held; run = c.none.ensures; stale = h.stale; gave = h.gave }) w.1)
 
 -- or not
 pub returns-in-Some : goal.returns-in-Some
@@ -39,8 +41,9 @@ returns-in-Some c = λ k h.
     let r = c.args.reading.now in
     let q = piece c.args.part.now in
     let w = subst (λ (u : RunTurnAs). IsRunTurn u (run_turn k.run c.args.missing q)) c.in-Ends.is
-    (c.in_ok-turn.ensures k.run h.run) in
+    (c.in_ok-run.ensures k.run h.run) in
     subst (λ (s : Course × Option News). IfOk c.go_on-in-Some.result (λ o. Steps o s))
     (step-unfit r c.args.any c.args.missing k q w.0 c.in-Ends.message c.in-Ends.sure _ w.2
     (sym (c.in-Some.ensures ∙ ap (unfit r c.args.any c.in-Ends.sure) c.as_slice.ensures.same)))
-    (c.go_on-in-Some.ensures k no_run h.held h.stale c.none-empty.ensures)
+    (c.go_on-in-Some.ensures (record k { run = no_run })
+    (record { held = h.held; run = c.none.ensures; stale = h.stale; gave = h.gave }))

@@ -2,7 +2,7 @@
 use Rattle.std.proofs.Common.{◌∙◌, ap, sym, Some, None}
 use Rattle.std.specs.Option.{option_map}
 use Rattle.lpt_layout_join.specs.declared.counts.Counts.{Counts}
-use Rattle.lpt_layout_join.specs.Carried.{named}
+use Rattle.lpt_carried.specs.Carried.{named}
 use Rattle.lpt_layout_join.specs.Counts.{Counted, counted}
 use Rattle.lpt_layout_join.specs.CountsInside.{shown}
 use Rattle.lpt_layout_each.specs.Eaches.{held}
