@@ -10,8 +10,7 @@ use crate::streams::{finish, output};
 use crate::work::status_of;
 use lpt_command_line::DecodeWords;
 use lpt_events::{Config, part_kind};
-use lpt_layout_list::{decode_layouts, hint_of, is_read};
-use lpt_list::{Form, print_refused};
+use lpt_list::{Form, decode_layouts, hint_of, is_read, print_refused};
 use lpt_packet::{Direction, Octets, Packet, PacketFault, PacketKind, Seen, read_packet};
 use lpt_part::{Kind, read_part};
 use lpt_pus::{read_tc, read_tm};
@@ -106,9 +105,7 @@ fn decode_short(rt: &HostRuntime, path: &str, octets: &[u8], p: u32) -> Result<S
 }
 
 // Prints what octets are as a packet of the layouts of the file at this path.
-fn decode_as(rt: &HostRuntime, path: &str, octets: &[u8]) -> Result<Status, Failure>
-    requires { 7 ≤ length octets.now }
-{
+fn decode_as(rt: &HostRuntime, path: &str, octets: &[u8]) -> Result<Status, Failure> {
     let Some(layouts) = layouts::read(rt, path)? else {
         return Ok(Status::Unreadable);
     };

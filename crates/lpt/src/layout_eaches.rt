@@ -9,9 +9,9 @@ use crate::joins::tell;
 use crate::layout_joins::{missing_text, tell_left, tell_skips, unfit_text, who};
 use crate::progress::Voice;
 use crate::streams::{finish, first_failure, output};
+use lpt_carried::{Name, Reading};
 use lpt_command_line::JoinLayoutWords;
 use lpt_layout_each::{EachedAs, NewsAs, TakerAs, each_as};
-use lpt_layout_join::{NameAs, ReadingAs};
 use lpt_text::StreamFault;
 use lpt_tool::ToolFault;
 use std::alloc::AllocError;
@@ -26,12 +26,12 @@ struct Folder<'a> {
     voice: Voice,
     // The source that is configured.
     user: u32,
-    reading: ReadingAs,
+    reading: Reading,
     path: &'a str,
     // From which octet on packets are taken.
     from: u64,
     // How many messages of each name were written.
-    counts: BTreeMap<NameAs, u64>,
+    counts: BTreeMap<Name, u64>,
     // Whether a part came, and whether parts never became whole.
     came: bool,
     lost: bool,
@@ -44,7 +44,7 @@ impl TakerAs for Folder<'_> {
 
     ghost heard = { λ _. None };
 
-    fn take(&mut self, name: NameAs, news: &NewsAs) -> Result<(), StreamFault> {
+    fn take(&mut self, name: Name, news: &NewsAs) -> Result<(), StreamFault> {
         self.came = true;
         match news {
             NewsAs::Given(message) => self.write_given(name, message.as_slice()),
@@ -61,7 +61,7 @@ impl Folder<'_> {
     // Writes a message that became whole.
     //
     // Errors: `Write`.
-    fn write_given(&mut self, name: NameAs, message: &[u8]) -> Result<(), StreamFault>
+    fn write_given(&mut self, name: Name, message: &[u8]) -> Result<(), StreamFault>
         ensures { IfErr result (λ e. e ≡ StreamFault.Write) }
     {
         match self.write(name, message) {
@@ -74,7 +74,7 @@ impl Folder<'_> {
     }
 
     // Says and notes that parts never became whole. The only error is out of memory.
-    fn tell_given_up(&mut self, name: NameAs, news: &NewsAs) -> Result<(), StreamFault>
+    fn tell_given_up(&mut self, name: Name, news: &NewsAs) -> Result<(), StreamFault>
         ensures { IfErr result (λ e. e ≡ StreamFault.Memory) }
     {
         self.lost = true;
@@ -88,7 +88,7 @@ impl Folder<'_> {
     // Writes a message into a new file: all of it, or there is none of that name.
     //
     // Errors: `Write`, also where there is a file of its name; `Memory`.
-    fn write(&mut self, name: NameAs, message: &[u8]) -> Result<(), Failure> {
+    fn write(&mut self, name: Name, message: &[u8]) -> Result<(), Failure> {
         let number = match self.counts.get(&name) {
             Some(count) => *count,
             None => 0,
@@ -112,9 +112,9 @@ impl Folder<'_> {
 pub fn tell_lost(
     rt: &HostRuntime,
     user: u32,
-    reading: &ReadingAs,
+    reading: &Reading,
     from: u64,
-    name: NameAs,
+    name: Name,
     news: &NewsAs,
 ) -> Result<(), AllocError> {
     let who = who(rt.alloc(), user, reading, Some(name))?;
@@ -136,7 +136,7 @@ pub fn join_each<'a>(
     rt: &'a HostRuntime,
     voice: Voice,
     user: u32,
-    reading: &ReadingAs,
+    reading: &Reading,
     words: &JoinLayoutWords<'_>,
     path: &'a str,
     source: &mut Packets,
@@ -187,7 +187,7 @@ pub fn join_each<'a>(
 // was passed over where not all is well. The only error is out of memory.
 fn told(
     rt: &HostRuntime,
-    reading: &ReadingAs,
+    reading: &Reading,
     words: &JoinLayoutWords<'_>,
     came: bool,
     lost: bool,

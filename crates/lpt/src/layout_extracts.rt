@@ -8,13 +8,13 @@ use crate::layout_joins::{reading_of, tell_left};
 use crate::layouts;
 use crate::progress::Voice;
 use crate::streams::{finish, first_failure, output};
+use lpt_carried::{Name, Reading};
 use lpt_command_line::ExtractWords;
 use lpt_events::Config;
 use lpt_extract::{Hearers, Wanted};
 use lpt_layout::Layout;
 use lpt_layout_each::{NewsAs, TakerAs};
 use lpt_layout_extract::{ExtractedAs, extract_as, extract_joined_as};
-use lpt_layout_join::{NameAs, ReadingAs};
 use lpt_packet::Direction;
 use lpt_text::StreamFault;
 use lpt_tool::ToolFault;
@@ -26,7 +26,7 @@ struct Losses<'a> {
     voice: Voice,
     // The source that is configured.
     user: u32,
-    reading: &'a ReadingAs,
+    reading: &'a Reading,
     // Whether there were such parts.
     lost: bool,
 }
@@ -36,7 +36,7 @@ impl TakerAs for Losses<'_> {
 
     ghost heard = { λ _. None };
 
-    fn take(&mut self, name: NameAs, news: &NewsAs) -> Result<(), StreamFault> {
+    fn take(&mut self, name: Name, news: &NewsAs) -> Result<(), StreamFault> {
         if let NewsAs::Given(_) = news {
             return Ok(());
         }
@@ -104,7 +104,7 @@ fn join_packets(
     rt: &HostRuntime,
     voice: Voice,
     user: u32,
-    reading: &ReadingAs,
+    reading: &Reading,
     wanted: &Wanted,
     files: &[&str],
     source: &mut Packets,

@@ -8,14 +8,12 @@ use crate::layout_eaches::join_each;
 use crate::layouts;
 use crate::progress::Voice;
 use crate::streams::{finish, first_failure, output};
+use lpt_carried::{Layouts, Name, Reading, Skip};
 use lpt_command_line::{JoinLayoutWords, WideName};
 use lpt_events::Config;
 use lpt_join::{PartNumbers, missing_list};
 use lpt_layout::Width;
-use lpt_layout_file::Layouts;
-use lpt_layout_join::{
-    CameAs, EndAs, JoinedAs, LeftAs, MisfitAs, NameAs, ReadingAs, SkipAs, join_as,
-};
+use lpt_layout_join::{CameAs, EndAs, JoinedAs, LeftAs, MisfitAs, join_as};
 use lpt_packet::Direction;
 use lpt_part::Kind;
 use lpt_text::StreamFault;
@@ -48,13 +46,13 @@ pub fn join(
 }
 
 /// How the parts of a direction are read.
-pub fn reading_of(layouts: &Layouts, apid: u16, direction: Direction) -> ReadingAs {
+pub fn reading_of(layouts: &Layouts, apid: u16, direction: Direction) -> Reading {
     let tailored = layouts.tailored(direction);
     let part_size = match tailored.part_size {
         Some(size) if 1 <= size && size <= 65_535 => Some(size),
         _ => None,
     };
-    ReadingAs {
+    Reading {
         direction,
         apid,
         layout: tailored.packets,
@@ -68,7 +66,7 @@ fn join_from(
     rt: &HostRuntime,
     voice: Voice,
     source: u32,
-    reading: &ReadingAs,
+    reading: &Reading,
     words: &JoinLayoutWords<'_>,
     packets: &mut Packets,
 ) -> Result<Status, Failure> {
@@ -95,8 +93,8 @@ pub fn user_of(given: WideName, source: u32, width: Width) -> u32 {
 }
 
 // The same with its identifier.
-fn name_of(given: WideName, source: u32, reading: &ReadingAs) -> NameAs {
-    NameAs {
+fn name_of(given: WideName, source: u32, reading: &Reading) -> Name {
+    Name {
         user: user_of(given, source, reading.layout.user),
         id: given.id,
     }
@@ -106,7 +104,7 @@ fn name_of(given: WideName, source: u32, reading: &ReadingAs) -> NameAs {
 fn status_of(
     rt: &HostRuntime,
     source: u32,
-    reading: &ReadingAs,
+    reading: &Reading,
     words: &JoinLayoutWords<'_>,
     finished: Result<(), Failure>,
     joined: &Result<JoinedAs, StreamFault>,
@@ -126,7 +124,7 @@ fn status_of(
 fn told(
     rt: &HostRuntime,
     source: u32,
-    reading: &ReadingAs,
+    reading: &Reading,
     words: &JoinLayoutWords<'_>,
     joined: &JoinedAs,
 ) -> Result<Status, AllocError> {
@@ -155,8 +153,8 @@ fn told(
 pub fn who(
     alloc: Global,
     source: u32,
-    reading: &ReadingAs,
-    name: Option<NameAs>,
+    reading: &Reading,
+    name: Option<Name>,
 ) -> Result<String, AllocError> {
     let direction = reading.direction.word();
     match name {
@@ -169,7 +167,7 @@ pub fn who(
 }
 
 // The word for a name, with its source only where that isn't the one that is meant without.
-fn word_of(alloc: Global, source: u32, width: Width, name: NameAs) -> Result<String, AllocError> {
+fn word_of(alloc: Global, source: u32, width: Width, name: Name) -> Result<String, AllocError> {
     let (user, id) = (name.user, name.id);
     if user == source || matches!(width, Width::Absent) {
         format!(in alloc; "{id}")
@@ -235,7 +233,7 @@ pub fn unfit_text(alloc: Global, who: &str, misfit: MisfitAs) -> Result<String, 
 pub fn missing_text(
     alloc: Global,
     who: &str,
-    name: Option<NameAs>,
+    name: Option<Name>,
     came: &CameAs,
     from: u64,
 ) -> Result<String, AllocError> {
@@ -281,7 +279,7 @@ fn several_text(
     alloc: Global,
     source: u32,
     who: &str,
-    other: Option<NameAs>,
+    other: Option<Name>,
 ) -> Result<String, AllocError> {
     match other {
         Some(name) => {
@@ -298,7 +296,7 @@ pub fn tell_skips(
     rt: &HostRuntime,
     direction: Direction,
     from: u64,
-    skipped: Option<(u64, SkipAs)>,
+    skipped: Option<(u64, Skip)>,
     skips: u64,
 ) -> Result<(), AllocError> {
     let Some((behind, skip)) = skipped else {
@@ -317,16 +315,17 @@ pub fn tell_skips(
 }
 
 // Why a packet carries no part.
-fn skip_text(alloc: Global, skip: SkipAs) -> Result<String, AllocError> {
+fn skip_text(alloc: Global, skip: Skip) -> Result<String, AllocError> {
     let (code, name) = match skip {
-        SkipAs::Idle => return format!(in alloc; "it is idle"),
-        SkipAs::OtherApid(apid) => return format!(in alloc; "its APID is {apid}"),
-        SkipAs::OtherType { service, subtype } => {
+        Skip::Idle => return format!(in alloc; "it is idle"),
+        Skip::OtherApid(apid) => return format!(in alloc; "its APID is {apid}"),
+        Skip::OtherType { service, subtype } => {
             return format!(in alloc; "it has service {service} and subtype {subtype}");
         }
-        SkipAs::NoPacket(fault) => (fault.code(), fault.name()),
-        SkipAs::NoMessage(fault) => (fault.code(), fault.name()),
-        SkipAs::NoPart(fault) => (fault.code(), fault.name()),
+        Skip::Stray(len) => return format!(in alloc; "{len} octets are no packet"),
+        Skip::NoPacket(fault) => (fault.code(), fault.name()),
+        Skip::NoMessage(fault) => (fault.code(), fault.name()),
+        Skip::NoPart(fault) => (fault.code(), fault.name()),
     };
     format!(in alloc; "fault {code} {name}")
 }

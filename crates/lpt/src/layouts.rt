@@ -1,19 +1,17 @@
 //! A mission's layouts, their file, and what is told of them.
 
 ghost use Rattle.std.specs.Prelude.{IfOk, IfSome};
-ghost use Rattle.lpt_layout_file.specs.Layouts.{SizesFit};
+ghost use Rattle.lpt_carried.specs.Layouts.{SizesFit};
 
 use crate::configuration::read_file;
 use crate::end::{Failure, tell_place};
+use lpt_carried::Layouts;
 use lpt_events::part_kind;
-use lpt_layout::{PartLayout, read_part_as};
-use lpt_layout_file::{Layouts, read_layouts, why_refused};
-use lpt_layout_list::{Hint, Told, told_in};
-use lpt_list::Tally;
-use lpt_packet::{Direction, ERROR_CONTROL, PRIMARY_HEADER};
+use lpt_layout_file::{read_layouts, why_refused};
+use lpt_list::{Hint, Told, told_in};
+use lpt_packet::Direction;
 use lpt_part::Kind;
 use lpt_pus::{TC_HEADER, TM_HEADER};
-use lpt_stream::whole_length;
 use std::alloc::{AllocError, Global};
 use std::str;
 
@@ -62,51 +60,19 @@ pub fn tell_hint(rt: &HostRuntime, hint: Option<Hint>) {
     tell_other(rt, "this layout", "", hint);
 }
 
-/// The same of what was found: that parts would be read without a packet error control is said only
-/// where several packets fail a test and no part is read, since a damaged one may look so.
-pub fn tell_found(rt: &HostRuntime, told: Told) {
-    tell_hint(rt, fit_hint(told));
+/// The same of the packets at the front of octets. That parts would be read without a packet error
+/// control is said only where several packets fail a test and no part is read, since a damaged one
+/// may look so.
+pub fn tell_front(rt: &HostRuntime, layouts: &Layouts, octets: &[u8])
+    requires { SizesFit layouts.now }
+{
+    tell_hint(rt, fit_hint(told_in(layouts, octets)));
 }
 
-/// The same of the packets at the front of octets that were read by this project's profile, of
-/// which so much is no packet. Where all are, they are judged only where a part isn't read.
-pub fn tell_front(rt: &HostRuntime, tally: Tally, octets: &[u8]) {
-    if tally.damaged == 0 && tally.stray == 0 && !has_unread(octets) {
-        return;
-    }
-    let told = told_in(&Layouts::own(), octets);
-    tell_other(rt, "the profile", " in a file for --layout", fit_hint(told));
-}
-
-// Whether a part that the profile doesn't read is among the packets at the front of octets, where
-// each has a right checksum.
-fn has_unread(octets: &[u8]) -> bool {
-    let mut rest = octets;
-    for _ in 0..octets.len() {
-        let Some(len) = whole_length(rest) else {
-            return false;
-        };
-        if is_unread(&rest[..len]) {
-            return true;
-        }
-        rest = &rest[len..];
-    }
-    false
-}
-
-// Whether such a packet is one.
-fn is_unread(packet: &[u8]) -> bool {
-    let Some((kind, header)) = kind_of(packet) else {
-        return false;
-    };
-    if packet.len() < PRIMARY_HEADER + ERROR_CONTROL {
-        return false;
-    }
-    is_no_part(
-        kind,
-        &packet[PRIMARY_HEADER..packet.len() - ERROR_CONTROL],
-        header,
-    )
+/// The same by this project's profile.
+pub fn tell_own_front(rt: &HostRuntime, octets: &[u8]) {
+    let hint = fit_hint(told_in(&Layouts::own(), octets));
+    tell_other(rt, "the profile", " in a file for --layout", hint);
 }
 
 /// The kind of part whose message type stands in a packet of the profile, and how long the secondary
@@ -122,17 +88,6 @@ pub fn kind_of(packet: &[u8]) -> Option<(Kind, usize)> {
     };
     let kind = part_kind(direction, packet[7], packet[8])?;
     Some((kind, header))
-}
-
-// Whether what stands in a data field behind so many octets is no part of this kind, whatever its
-// length.
-fn is_no_part(kind: Kind, field: &[u8], header: usize) -> bool {
-    if header > field.len() {
-        return false;
-    }
-    let (parts, body) = (PartLayout::own(), &field[header..]);
-    let size = body.len().saturating_sub(PART_FIELDS).clamp(1, 65_535) as u32;
-    read_part_as(&parts, kind, body, size).is_err()
 }
 
 // The hint that is told of what was found.

@@ -1,14 +1,17 @@
 //! Packets listed, from a file or standard input to standard output.
 
+ghost use Rattle.std.specs.Prelude.{IfOk, IfSome};
+ghost use Rattle.lpt_carried.specs.Layouts.{SizesFit};
 ghost use Rattle.lpt_events.specs.Configs.{IsConfig};
 ghost use Rattle.lpt_part.specs.Splitting.{IsPartSize};
 
 use crate::decoding::part_body;
 use crate::end::{Failure, Status, tell_place};
 use crate::input::{Packets, opened_packets, packets_end};
-use crate::layouts::{PART_FIELDS, kind_of, tell_front};
+use crate::layouts::{self, PART_FIELDS, kind_of, tell_front, tell_own_front};
 use crate::progress::Voice;
 use crate::streams::{finish, first_failure, output};
+use lpt_carried::Layouts;
 use lpt_command_line::ListWords;
 use lpt_events::Config;
 use lpt_list::{Form, ListEnd, Listed, Tally, list_stream};
@@ -22,10 +25,10 @@ use lpt_text::StreamFault;
 /// So many octets in front are looked at for parts of another layout.
 const FRONT: usize = 131_072;
 
-/// Lists the packets of a stream.
+/// Lists the packets of a stream: by the layouts of a file where one is given, else by the profile.
 ///
-/// Errors: `Read` where the packets can't be opened or read, or their capture is wrong; `Write`,
-/// `Memory`.
+/// Errors: `Read` where a file can't be opened or read, or a capture is wrong; `Config` where the
+/// layouts' file is too long; `Write`, `Memory`.
 pub fn list(
     rt: &HostRuntime,
     voice: Voice,
@@ -35,14 +38,29 @@ pub fn list(
     requires { IsConfig config.now }
 {
     let voice = voice.beside_output(rt);
+    let Some(layouts) = layouts_for(rt, config.part_size, words)? else {
+        return Ok(Status::Unreadable);
+    };
     let span = words.span;
     let packets = opened_packets(rt, voice, &words.files, span.from, span.to)?;
     let Ok(mut source) = Keeping::new(rt.alloc(), packets, FRONT) else {
         return Err(Failure::from(StreamFault::Memory));
     };
-    let status = list_packets(rt, voice, config, words, &mut source);
+    let status = list_packets(rt, voice, config, &layouts, words, &mut source);
     drop(source);
     status
+}
+
+// The layouts of the file that is given, or the profile's with parts of `p` octets; none where the
+// file's are refused, after standard error was told so.
+fn layouts_for(rt: &HostRuntime, p: u32, words: &ListWords<'_>) -> Result<Option<Layouts>, Failure>
+    requires { IsPartSize p }
+    ensures { IfOk result (λ l. IfSome l SizesFit) }
+{
+    match words.layout {
+        Some(path) => layouts::read(rt, path),
+        None => Ok(Some(Layouts::own_of(p))),
+    }
 }
 
 // The same of packets that were opened.
@@ -50,24 +68,32 @@ fn list_packets(
     rt: &HostRuntime,
     voice: Voice,
     config: &Config,
+    layouts: &Layouts,
     words: &ListWords<'_>,
     source: &mut Keeping<Packets>,
 ) -> Result<Status, Failure>
-    requires { IsConfig config.now }
+    requires config { IsConfig config.now }
+    requires sizes { SizesFit layouts.now }
 {
     let form = if words.json { Form::Json } else { Form::Text };
-    let (size, strict) = (config.part_size, words.strict);
     let from = words.span.from.unwrap_or(0);
     let mut out = output(rt)?;
-    let listed = list_stream(rt.alloc(), form, size, strict, from, source, &mut out);
+    let listed = list_stream(
+        rt.alloc(),
+        form,
+        layouts,
+        words.strict,
+        from,
+        source,
+        &mut out,
+    );
     let failed = matches!(listed, Err(StreamFault::Read));
     let failure = packets_end(rt, voice, source.source(), &words.files, failed);
     first_failure(finish(rt, out), failure)?;
     match listed {
         Ok(listed) => {
             if voice.tells() {
-                tell_front(rt, listed.tally, source.kept());
-                tell_size(rt, source.kept(), size);
+                tell_others(rt, config.part_size, words, layouts, source.kept());
             }
             let is_short = source.source().before() > 0;
             match list_status(rt, voice, listed) {
@@ -76,6 +102,20 @@ fn list_packets(
             }
         }
         Err(fault) => Err(Failure::from(fault)),
+    }
+}
+
+// Tells by which other layout or part size parts at the front of a stream would be read that
+// aren't.
+fn tell_others(rt: &HostRuntime, p: u32, words: &ListWords<'_>, layouts: &Layouts, front: &[u8])
+    requires size { IsPartSize p }
+    requires sizes { SizesFit layouts.now }
+{
+    if words.layout.is_some() {
+        tell_front(rt, layouts, front);
+    } else {
+        tell_own_front(rt, front);
+        tell_size(rt, front, p);
     }
 }
 

@@ -26,7 +26,6 @@ mod keeping;
 mod layout_eaches;
 mod layout_extracts;
 mod layout_joins;
-mod layout_lists;
 mod layout_splits;
 mod layouts;
 mod links;
@@ -50,7 +49,7 @@ mod work;
 
 use configuration::alone;
 use end::{Failure, Status};
-use lpt_command_line::{Command, CommandLine, JoinWords, ListWords, read_words};
+use lpt_command_line::{Command, CommandLine, JoinWords, read_words};
 use lpt_events::Config;
 use lpt_tool::ToolFault;
 use progress::Voice;
@@ -124,7 +123,7 @@ fn done<T: Threads + Wait + Sync>(
         Command::Chart(words) => charting::chart(rt, settings, words),
         Command::Lint(script) => linting::lint(rt, script),
         Command::Decode(words) => decoding::decode(rt, alone(rt, settings)?, words),
-        Command::List(words) => listed(rt, voice, &alone(rt, settings)?, words),
+        Command::List(words) => lists::list(rt, voice, &alone(rt, settings)?, words),
         Command::Split(words) => files::split(rt, &alone(rt, settings)?, words),
         Command::SplitEach(words) => splits::split_all(rt, &alone(rt, settings)?, words),
         Command::SplitLayout(words) => layout_splits::split(rt, &alone(rt, settings)?, words),
@@ -137,21 +136,6 @@ fn done<T: Threads + Wait + Sync>(
         Command::Verify(words) => verifies::verify(rt, voice, words),
         Command::Compare(words) => compares::compare(rt, voice, &alone(rt, settings)?, words),
         Command::Checksum(words) => checksums::checksum(rt, words),
-    }
-}
-
-// Lists packets by the profile, or by the layouts that are given.
-fn listed(
-    rt: &HostRuntime,
-    voice: Voice,
-    config: &Config,
-    words: &ListWords<'_>,
-) -> Result<Status, Failure>
-    requires { IsConfig config.now }
-{
-    match words.layout {
-        Some(path) => layout_lists::list(rt, voice, path, words),
-        None => lists::list(rt, voice, config, words),
     }
 }
 

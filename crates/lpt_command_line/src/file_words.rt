@@ -225,20 +225,15 @@ pub(crate) fn name_in(word: &str) -> Option<GivenName> {
 
 /// What the words of `list` ask for.
 ///
-/// Errors: `Beside`, `Missing`, `Order`, `Memory`.
+/// Errors: `Missing`, `Order`, `Memory`.
 pub fn list_words<'a>(
     alloc: Global,
     matches: &ArgMatches<'a>,
 ) -> Result<ListWords<'a>, WordFault<'a>> {
-    let strict = matches.get_flag("strict");
-    let layout = layout_in(matches);
-    if strict && layout.is_some() {
-        return Err(WordFault::Beside("--strict", "--layout <FILE>"));
-    }
     Ok(ListWords {
         json: matches.get_flag("json"),
-        strict,
-        layout,
+        strict: matches.get_flag("strict"),
+        layout: layout_in(matches),
         span: span_in(matches)?,
         files: files_in(alloc, matches)?,
     })

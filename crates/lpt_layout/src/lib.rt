@@ -31,7 +31,7 @@ pub use lpt_part::{Kind, PartFault};
 pub use lpt_pus::PusFault;
 pub use message::Message;
 pub use packet::{PacketAs, SeenAs};
-pub use packet_reading::read_packet_as;
+pub use packet_reading::{read_packet_as, read_sealed_as};
 pub use part::PartAs;
 pub use part_reading::read_part_as;
 pub use part_writing::write_part_as;

@@ -1,11 +1,12 @@
 //! Reading a packet of a layout from octets.
 
-ghost use Rattle.std.specs.Prelude.{◌≡◌, ◌+◌, ◌<◌, length, IfOk, true, false};
+ghost use Rattle.std.specs.Prelude.{◌≡◌, ◌≢◌, ◌+◌, ◌<◌, length, Err, IfOk, true, false};
+ghost use Rattle.lpt_packet.specs.Packets.{verdict};
 ghost use Rattle.lpt_packet.specs.Numbers.{word_at};
 ghost use Rattle.lpt_layout.specs.Packets.{sight, IsSightAs, verdict_as, Gives};
 
 use crate::{Layout, PacketAs, SeenAs};
-use lpt_packet::{PRIMARY_HEADER, PacketFault, PacketKind, Seen, read_packet};
+use lpt_packet::{PRIMARY_HEADER, PacketFault, PacketKind, Seen, read_packet, read_sealed};
 
 /// Reads octets as a space packet (CCSDS 133.0-B) of this layout: with a packet error control, or
 /// without one.
@@ -26,6 +27,30 @@ pub fn read_packet_as<'a>(layout: &Layout, bytes: &'a [u8]) -> Result<SeenAs<'a>
         sealed_packet(bytes)
     } else {
         bare_packet(bytes)
+    }
+}
+
+/// Reads octets whose packet error control isn't at fault, if the layout has one: those of a whole
+/// piece of a stream, say. It answers what `read_packet_as` answers, and takes no checksum.
+pub fn read_sealed_as<'a>(layout: &Layout, bytes: &'a [u8]) -> Result<SeenAs<'a>, PacketFault>
+    requires { layout.now.has_checksum ≡ true → verdict bytes.now ≢ Err PacketFault.Checksum }
+    ensures { Gives result (verdict_as layout.now.has_checksum bytes.now) }
+{
+    if !layout.has_checksum {
+        return bare_packet(bytes);
+    }
+    known_packet(bytes)
+}
+
+// A packet whose packet error control isn't at fault.
+#[tactic(auto, unfolding(crate::specs::Packets::verdict_as))]
+fn known_packet(bytes: &[u8]) -> Result<SeenAs<'_>, PacketFault>
+    requires { verdict bytes.now ≢ Err PacketFault.Checksum }
+    ensures { Gives result (verdict_as true bytes.now) }
+{
+    match read_sealed(bytes)? {
+        Seen::Idle => Ok(SeenAs::Idle),
+        Seen::Packet(packet) => Ok(SeenAs::Packet(PacketAs::of(packet))),
     }
 }
 

@@ -22,9 +22,9 @@ use Rattle.lpt_extract.specs.Extracts.{written_first}
 use Rattle.lpt_extract.specs.ExtractsInside.{EndsAs, Held}
 use Rattle.lpt_extract.specs.Notices.{Hears}
 use Rattle.lpt_extract.proofs.GiveLemmas.{ends-by, held-as, hears-more, hears-nothing, part-more, wrote-more, wrote-none}
-use Rattle.lpt_layout_join.specs.declared.names.NameAs.{NameAs}
-use Rattle.lpt_layout_join.specs.declared.reading.ReadingAs.{ReadingAs}
-use Rattle.lpt_layout_join.specs.Carried.{Named, carried}
+use Rattle.lpt_carried.specs.declared.name.Name.{Name}
+use Rattle.lpt_carried.specs.declared.reading.Reading.{Reading}
+use Rattle.lpt_carried.specs.Carried.{Named, carried}
 use Rattle.lpt_layout_each.specs.declared.news.NewsAs.{NewsAs}
 use Rattle.lpt_layout_each.specs.Helds.{HoldsEach}
 use Rattle.lpt_layout_each.specs.News as each
@@ -40,7 +40,7 @@ use Rattle.lpt_layout_extract.proofs.TakeLemmas.{octets-next}
 
 -- ---- a packet more
 
-reads-next : (r : ReadingAs) (before bs : List (List ℕ)) (b : List ℕ)
+reads-next : (r : Reading) (before bs : List (List ℕ)) (b : List ℕ)
     → reads_from r before (bs ++ b ∷ [])
     ≡ reads_from r before bs ++ reads_by r (before ++ bs) b (carried r b)
 reads-next r before [] b =
@@ -54,14 +54,14 @@ reads-next r before (x ∷ bs) b =
     ∙ sym (append_assoc (reads_by r before x (carried r x)) (reads_from r (before ++ x ∷ []) bs)
     (reads_by r (before ++ x ∷ bs) b (carried r b)))
 
-areas-next : (w : Wanted) (r : ReadingAs) (bs : List (List ℕ)) (b : List ℕ)
+areas-next : (w : Wanted) (r : Reading) (bs : List (List ℕ)) (b : List ℕ)
     → areas_read w r bs ++ areas_in w r.layout (reads_by r bs b (carried r b))
     ≡ areas_read w r (bs ++ b ∷ [])
 areas-next w r bs b =
     sym (ap (areas_in w r.layout) (reads-next r [] bs b)
     ∙ flat_map-append (areas_as w r.layout) (reads r bs) (reads_by r bs b (carried r b)))
 
-notices-next : (w : Wanted) (r : ReadingAs) (before : List (List ℕ)) (n : ℕ) (bs : List (List ℕ))
+notices-next : (w : Wanted) (r : Reading) (before : List (List ℕ)) (n : ℕ) (bs : List (List ℕ))
     (b : List ℕ)
     → joined_in w r before n (bs ++ b ∷ [])
     ≡ joined_in w r before n bs
@@ -85,7 +85,7 @@ notices-next w r before n (x ∷ bs) b =
     (append_assoc before (x ∷ []) bs))
     ∙ sym (append_assoc first front _)
 
-module _ (w : Wanted) (r : ReadingAs) where
+module _ (w : Wanted) (r : Reading) where
   -- none came
   pub joined-nothing : (s : Joining) (old : Option (List ℕ)) (heard : Option (List Notice))
       (told : Option (List each.Event))
@@ -178,8 +178,8 @@ module _ (w : Wanted) (r : ReadingAs) where
 -- ---- what a part tells
 
 -- what is told is read
-reads-told : (r : ReadingAs) (bs : List (List ℕ)) (b : List ℕ) (q : Named)
-    (o : Option (NameAs × NewsAs))
+reads-told : (r : Reading) (bs : List (List ℕ)) (b : List ℕ) (q : Named)
+    (o : Option (Name × NewsAs))
     → carried r b ≡ Ok q
     → events_of o ≡ told_by r false bs b (carried r b)
     → messages_in (events_of o) ≡ reads_by r bs b (carried r b)
@@ -188,8 +188,8 @@ reads-told r bs b q o e told =
     ∙ subst (λ v. messages_in (told_by r false bs b v) ≡ reads_by r bs b v) (sym e) refl
 
 -- nothing
-pub reads-none : (r : ReadingAs) (bs : List (List ℕ)) (b : List ℕ) (q : Named)
-    (o : Option (NameAs × NewsAs))
+pub reads-none : (r : Reading) (bs : List (List ℕ)) (b : List ℕ) (q : Named)
+    (o : Option (Name × NewsAs))
     → carried r b ≡ Ok q
     → events_of o ≡ told_by r false bs b (carried r b)
     → o ≡ None
@@ -198,8 +198,8 @@ reads-none r bs b q o e told none =
     ap (λ p. messages_in (events_of p)) (sym none) ∙ reads-told r bs b q o e told
 
 -- or a message, or none
-pub reads-some : (r : ReadingAs) (bs : List (List ℕ)) (b : List ℕ) (q : Named)
-    (o : Option (NameAs × NewsAs)) (n : NameAs) (news : NewsAs)
+pub reads-some : (r : Reading) (bs : List (List ℕ)) (b : List ℕ) (q : Named)
+    (o : Option (Name × NewsAs)) (n : Name) (news : NewsAs)
     → carried r b ≡ Ok q
     → events_of o ≡ told_by r false bs b (carried r b)
     → o ≡ Some (n, news)
@@ -292,7 +292,7 @@ ends-failed (Err e) first had failed h same = failed-wrote e first had failed h 
 -- ---- what is read
 
 -- nothing
-pub read-nothing : (w : Wanted) (r : ReadingAs) (place : ℕ) (h : Holding) (out : Option (List ℕ))
+pub read-nothing : (w : Wanted) (r : Reading) (place : ℕ) (h : Holding) (out : Option (List ℕ))
     (heard : Option (List Notice))
     → IsRead w r place [] h h out out heard heard
 read-nothing w r place h out heard = record {
@@ -302,7 +302,7 @@ read-nothing w r place h out heard = record {
 }
 
 -- a packet
-pub read-taken : (w : Wanted) (r : ReadingAs) (place : ℕ) (m : List ℕ) (h j : Holding)
+pub read-taken : (w : Wanted) (r : Reading) (place : ℕ) (m : List ℕ) (h j : Holding)
     (old new : Option (List ℕ)) (heard hears : Option (List Notice))
     → ((areas : List Area) (ns : List Notice) → Held w.at areas ns h
     → Held w.at (areas ++ areas_as w r.layout m) (ns ++ notices_as w r.layout place m) j)
@@ -320,7 +320,7 @@ read-taken w r place m h j old new heard hears held wrote told =
     }
 
 -- where it was
-pub read-one : {A : Type 0} (w : Wanted) (r : ReadingAs) (place : ℕ) (m : List ℕ) (h j : Holding)
+pub read-one : {A : Type 0} (w : Wanted) (r : Reading) (place : ℕ) (m : List ℕ) (h j : Holding)
     (old new : Option (List ℕ)) (heard hears : Option (List Notice)) (done : Result A StreamFault)
     → ((areas : List Area) (ns : List Notice) → Held w.at areas ns h
     → OnOk done (Held w.at (areas ++ areas_as w r.layout m)
@@ -333,14 +333,14 @@ read-one w r place m h j old new heard hears (Ok x) held wrote told =
 read-one w r place m h j old new heard hears (Err e) held wrote told = tt
 
 -- a front part of what it gives
-pub part-one : (w : Wanted) (r : ReadingAs) (m : List ℕ) (old new : Option (List ℕ))
+pub part-one : (w : Wanted) (r : Reading) (m : List ℕ) (old new : Option (List ℕ))
     → AppendsPart old new (written_first w.at (areas_as w r.layout m))
     → AppendsPart old new (written_first w.at (areas_in w r.layout (m ∷ [])))
 part-one w r m old new h =
     subst (λ xs. AppendsPart old new (written_first w.at xs))
     (sym (append-nil (areas_as w r.layout m))) h
 
-pub part-given : {A : Type 0} (w : Wanted) (r : ReadingAs) (m : List ℕ) (old new : Option (List ℕ))
+pub part-given : {A : Type 0} (w : Wanted) (r : Reading) (m : List ℕ) (old new : Option (List ℕ))
     (done : Result A StreamFault)
     → IfErr done (λ _. AppendsPart old new (written_first w.at (areas_as w r.layout m)))
     → IfErr done (λ _. AppendsPart old new (written_first w.at (areas_in w r.layout (m ∷ []))))

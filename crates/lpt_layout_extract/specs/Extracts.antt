@@ -1,5 +1,5 @@
 -- What is extracted of a stream by a layout.
-use Rattle.std.specs.Prelude.{ℕ, ◌+◌, ◌==◌, ◌&&◌, if◌then◌else◌, List, [], ◌∷◌, ◌++◌, length, Option, Some, None, option_and_then, Result, Ok, Err}
+use Rattle.std.specs.Prelude.{ℕ, ◌+◌, ◌==◌, ◌&&◌, ◌||◌, not, Bool, true, false, if◌then◌else◌, List, [], ◌∷◌, ◌++◌, length, Option, Some, None, option_and_then, Result, Ok, Err}
 use Rattle.std.specs.List.{flat_map}
 use Rattle.std.specs.Result.{result_ok}
 use Rattle.std.specs.Io.KnownBytes.{Consumes}
@@ -7,7 +7,7 @@ use Rattle.lpt_packet.specs.declared.fault.PacketFault.{PacketFault}
 use Rattle.lpt_packet.specs.declared.packet.PacketKind.TheVariants.{Tm}
 use Rattle.lpt_packet.specs.Packets.{Sight, IdlePacket, APacket}
 use Rattle.lpt_text.specs.declared.fault.StreamFault.{StreamFault}
-use Rattle.lpt_stream.specs.Pieces.{up_to_limit}
+use Rattle.lpt_stream.specs.Pieces.{ends_in_checksum, is_of_flags, up_to_limit}
 use Rattle.lpt_frames.specs.Frames.{IsCut}
 use Rattle.lpt_memory.specs.declared.request.Area.{Area}
 use Rattle.lpt_memory.specs.declared.reply_kind.ReplyKind.TheVariants.{Dump}
@@ -53,13 +53,24 @@ areas_as w l b = areas_of w.at (said_by l w.apid (verdict_as l.has_checksum b))
 abbrev pub areas_in : Wanted → Layout → List (List ℕ) → List Area
 areas_in w l packets = flat_map (areas_as w l) packets
 
--- what is told of octets of this verdict at a place: of those that fail a test, that they do
-abbrev pub notices_by : Wanted → Layout → (place : ℕ) → Result Sight PacketFault → List Notice
-notices_by w l n (Ok s) = notices_of w.at n (said_in w.apid (dump_by l s))
-notices_by w l n (Err e) = Damaged ∷ []
+-- whether octets that fail this test are damaged: a segment isn't, nor a packet without a secondary
+-- header, where the checksum is right that the layout has
+abbrev pub is_damage : Layout → List ℕ → PacketFault → Bool
+is_damage l b e = not (is_of_flags e && (not l.has_checksum || ends_in_checksum b))
+
+-- what is told of that
+abbrev pub told_if : (damaged : Bool) → List Notice
+told_if true = Damaged ∷ []
+told_if false = []
+
+-- what is told of octets of this verdict at a place
+abbrev pub notices_by :
+    Wanted → Layout → (place : ℕ) → List ℕ → Result Sight PacketFault → List Notice
+notices_by w l n b (Ok s) = notices_of w.at n (said_in w.apid (dump_by l s))
+notices_by w l n b (Err e) = told_if (is_damage l b e)
 
 abbrev pub notices_as : Wanted → Layout → (place : ℕ) → List ℕ → List Notice
-notices_as w l n b = notices_by w l n (verdict_as l.has_checksum b)
+notices_as w l n b = notices_by w l n b (verdict_as l.has_checksum b)
 
 -- and of packets, one behind the other, with so many octets before them
 abbrev pub notices_in : Wanted → Layout → (before : ℕ) → List (List ℕ) → List Notice

@@ -9,7 +9,7 @@ use Rattle.lpt_extract.specs.declared.wanted.Wanted.{Wanted}
 use Rattle.lpt_extract.specs.Extracts.{written_first}
 use Rattle.lpt_extract.specs.ExtractsInside.{Held}
 use Rattle.lpt_extract.specs.Notices.{Hears}
-use Rattle.lpt_layout_join.specs.declared.reading.ReadingAs.{ReadingAs}
+use Rattle.lpt_carried.specs.declared.reading.Reading.{Reading}
 use Rattle.lpt_layout_each.specs.Helds.{HoldsEach}
 use Rattle.lpt_layout_each.specs.News as each
 use Rattle.lpt_layout_each.specs.Streams.{events}
@@ -18,7 +18,7 @@ use Rattle.lpt_layout_extract.specs.Extracts.{areas_in, octets_in}
 use Rattle.lpt_layout_extract.specs.Joined.{areas_read, joined_in, notices_read}
 
 -- what these give that are read at a place is held, and was written and told
-pub record IsRead (w : Wanted) (r : ReadingAs) (place : ℕ) (ms : List (List ℕ)) (h j : Holding)
+pub record IsRead (w : Wanted) (r : Reading) (place : ℕ) (ms : List (List ℕ)) (h j : Holding)
     (old new : Option (List ℕ)) (heard hears : Option (List Notice)) : Type 0 where
   pub held : (areas : List Area) (ns : List Notice) → Held w.at areas ns h
       → Held w.at (areas ++ areas_in w r.layout ms) (ns ++ notices_read w r place ms) j
@@ -26,7 +26,7 @@ pub record IsRead (w : Wanted) (r : ReadingAs) (place : ℕ) (ms : List (List �
   pub told : Hears heard hears (notices_read w r place ms)
 
 -- what packets give is held, and was written and told, and the place behind them is known
-pub record IsJoined (w : Wanted) (r : ReadingAs) (s : Joining) (old new : Option (List ℕ))
+pub record IsJoined (w : Wanted) (r : Reading) (s : Joining) (old new : Option (List ℕ))
     (heard hears : Option (List Notice)) (told tells : Option (List each.Event))
     (packets : List (List ℕ)) : Type 0 where
   pub helds : HoldsEach r false packets s.helds

@@ -5,7 +5,7 @@ ghost use Rattle.lpt_text.specs.Streams.{failed_write, AppendsPart, ReadEnds};
 ghost use Rattle.lpt_stream.specs.Pieces.{up_to_limit};
 ghost use Rattle.lpt_packet.specs.Sizes.{longest_packet};
 ghost use Rattle.lpt_extract.specs.Extracts.{written_first};
-ghost use Rattle.lpt_layout_join.specs.Carried.{carried, named};
+ghost use Rattle.lpt_carried.specs.Carried.{carried, named};
 ghost use Rattle.lpt_layout_join.specs.Hearing as hearing;
 ghost use Rattle.lpt_layout_join.specs.Hearing.{IsEndless};
 ghost use Rattle.lpt_layout_each.specs.Helds.{HoldsEach};
@@ -18,10 +18,11 @@ ghost use Rattle.lpt_layout_extract.specs.JoinedInside.{IsJoined, IsRead};
 
 use crate::ExtractedAs;
 use crate::taking::take_frame;
+use lpt_carried::{CarriedPart, Name, Reading, carried};
 use lpt_extract::{Hearers, Holding, Listener, Wanted, end_extract};
 use lpt_frames::{FrameBuffer, Front};
 use lpt_layout_each::{HeldsAs, NewsAs, TakerAs, leave_as};
-use lpt_layout_join::{CarriedAs, LeftAs, NameAs, ReadingAs, carried, left_at};
+use lpt_layout_join::{LeftAs, left_at};
 use lpt_text::{Sink, Source, StreamFault};
 use std::alloc::Global;
 
@@ -36,7 +37,7 @@ use std::alloc::Global;
 pub fn extract_joined_as<S: Source, K: Sink, L: Listener, T: TakerAs>(
     alloc: Global,
     wanted: &Wanted,
-    reading: &ReadingAs,
+    reading: &Reading,
     source: &mut S,
     out: &mut K,
     hearers: &mut Hearers<L, T>,
@@ -92,7 +93,7 @@ struct Joining {
 fn take_joined<S: Source, K: Sink, L: Listener, T: TakerAs>(
     alloc: Global,
     wanted: &Wanted,
-    reading: &ReadingAs,
+    reading: &Reading,
     source: &mut S,
     out: &mut K,
     hearers: &mut Hearers<L, T>,
@@ -138,7 +139,7 @@ fn take_joined<S: Source, K: Sink, L: Listener, T: TakerAs>(
 fn take_packet<K: Sink, L: Listener, T: TakerAs>(
     alloc: Global,
     wanted: &Wanted,
-    reading: &ReadingAs,
+    reading: &Reading,
     octets: &[u8],
     joining: Joining,
     out: &mut K,
@@ -201,10 +202,10 @@ fn take_packet<K: Sink, L: Listener, T: TakerAs>(
 fn take_part<K: Sink, L: Listener, T: TakerAs>(
     alloc: Global,
     wanted: &Wanted,
-    reading: &ReadingAs,
+    reading: &Reading,
     place: u64,
     octets: &[u8],
-    part: &CarriedAs<'_>,
+    part: &CarriedPart<'_>,
     helds: HeldsAs,
     holding: &mut Holding,
     out: &mut K,
@@ -252,9 +253,9 @@ fn take_part<K: Sink, L: Listener, T: TakerAs>(
 fn take_news<K: Sink, L: Listener, T: TakerAs>(
     alloc: Global,
     wanted: &Wanted,
-    reading: &ReadingAs,
+    reading: &Reading,
     place: u64,
-    name: NameAs,
+    name: Name,
     news: &NewsAs,
     holding: &mut Holding,
     out: &mut K,

@@ -11,10 +11,13 @@ ghost use Rattle.lpt_extract.specs.Extracts.{written_first};
 ghost use Rattle.lpt_extract.specs.ExtractsInside.{Held};
 ghost use Rattle.lpt_extract.specs.Notices.{Hears};
 ghost use Rattle.lpt_extract.specs.ReportsInside.{found};
-ghost use Rattle.lpt_layout_extract.specs.Extracts.{areas_as, dump_by, notices_as};
+ghost use Rattle.lpt_layout_extract.specs.Extracts.{areas_as, dump_by, is_damage, notices_as};
+ghost use Rattle.lpt_stream.specs.Pieces.{is_of_flags};
 
 use lpt_extract::{Dump, Holding, Listener, Notice, Wanted, take_dump};
 use lpt_layout::{Layout, PacketAs, SeenAs, read_packet_as, read_tm_as};
+use lpt_packet::PacketFault;
+use lpt_stream::ends_in_checksum;
 use lpt_text::{Sink, StreamFault};
 use std::alloc::Global;
 
@@ -51,12 +54,29 @@ pub(crate) fn take_frame<K: Sink, L: Listener>(
 {
     let dump = match read_packet_as(layout, octets) {
         Ok(seen) => dump_in(layout, &seen),
-        Err(_) => {
+        Err(fault) => {
+            if !is_damage(layout, octets, fault) {
+                return Ok(());
+            }
             holding.tell(listener, Notice::Damaged);
             return Ok(());
         }
     };
     take_dump(alloc, wanted, place, dump, holding, out, listener)
+}
+
+// Whether octets that fail this test are damaged.
+fn is_damage(layout: &Layout, octets: &[u8], fault: PacketFault) -> bool
+    ensures { result ≡ is_damage layout.now octets.now fault }
+{
+    !(is_of_flags(fault) && (!layout.has_checksum || ends_in_checksum(octets)))
+}
+
+// Whether it is a test of the header's flags alone.
+fn is_of_flags(fault: PacketFault) -> bool
+    ensures { result ≡ is_of_flags fault }
+{
+    matches!(fault, PacketFault::Segmented | PacketFault::NoSecondary)
 }
 
 // The dump report that octets are which are seen as this.

@@ -1,4 +1,3 @@
-pub mod Layouts
 pub mod Tables
 pub mod Times
 pub mod Values

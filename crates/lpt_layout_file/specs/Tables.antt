@@ -6,9 +6,9 @@ use Rattle.lpt_settings.specs.Keys.{has_only}
 use Rattle.lpt_settings.specs.Numbers.{number_at}
 use Rattle.lpt_layout.specs.declared.layout.PartLayout.{PartLayout}
 use Rattle.lpt_layout.specs.declared.width.Width.TheVariants.{Absent}
-use Rattle.lpt_layout_file.specs.declared.layouts.Layouts.{Layouts}
-use Rattle.lpt_layout_file.specs.declared.layouts.Tailored.{Tailored}
-use Rattle.lpt_layout_file.specs.Layouts.{own_telemetry, own_telecommands}
+use Rattle.lpt_carried.specs.declared.layouts.Layouts.{Layouts}
+use Rattle.lpt_carried.specs.declared.layouts.Tailored.{Tailored}
+use Rattle.lpt_carried.specs.Layouts.{own_telemetry, own_telecommands}
 use Rattle.lpt_layout_file.specs.Times.{time_at}
 use Rattle.lpt_layout_file.specs.Values.{flag_at, version_at, header_bits_at, part_bits_at, size_at}
 

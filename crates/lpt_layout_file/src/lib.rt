@@ -31,14 +31,13 @@
 
 mod complaint;
 mod keys;
-mod layouts;
 mod reading;
 mod tables;
 mod times;
 mod values;
 
 pub use complaint::why_refused;
-pub use layouts::{Layouts, Tailored};
+pub use lpt_carried::{Layouts, Tailored};
 pub use lpt_layout::{Layout, PartLayout};
 pub use lpt_layout_time::TimeCode;
 pub use lpt_packet::Direction;

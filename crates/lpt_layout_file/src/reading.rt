@@ -5,12 +5,12 @@ ghost use Rattle.std.specs.Result.{result_ok};
 ghost use Rattle.toml.specs.Errors.{IsBlank};
 ghost use Rattle.toml.specs.Parse.{parse_document};
 ghost use Rattle.toml.specs.View.{table_view};
-ghost use Rattle.lpt_layout_file.specs.Layouts.{own_layouts, SizesFit};
+ghost use Rattle.lpt_carried.specs.Layouts.{own_layouts, SizesFit};
 ghost use Rattle.lpt_layout_file.specs.Tables.{layouts_of};
 
-use crate::Layouts;
 use crate::keys::TABLES;
 use crate::tables::{telecommands, telemetry};
+use lpt_carried::Layouts;
 use lpt_settings::{Reason, Wrong, has_only, unknown_key};
 use std::alloc::Global;
 use toml::Table;

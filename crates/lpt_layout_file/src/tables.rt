@@ -3,13 +3,13 @@
 ghost use Rattle.std.specs.Prelude.{◌≡◌, IfOk};
 ghost use Rattle.std.specs.Result.{result_ok};
 ghost use Rattle.toml.specs.View.{view, table_view};
-ghost use Rattle.lpt_layout_file.specs.Layouts.{SizeFits};
+ghost use Rattle.lpt_carried.specs.Layouts.{SizeFits};
 ghost use Rattle.lpt_layout_file.specs.Tables.{parts_in, telecommands_at, telecommands_in, telecommands_of, telemetry_at, telemetry_in, telemetry_of};
 
-use crate::Tailored;
 use crate::keys::{TELECOMMAND_KEYS, TELEMETRY_KEYS};
 use crate::times::time_field;
 use crate::values::{flag, header_bits, part_bits, part_size, version};
+use lpt_carried::Tailored;
 use lpt_layout::{Layout, PartLayout, Width};
 use lpt_settings::{Place, Reason, Wrong, has_only, number, unknown_key};
 use toml::{Table, Value};

@@ -3,7 +3,7 @@
 ghost use Rattle.std.specs.Prelude.{◌≡◌, IfOk};
 ghost use Rattle.std.specs.Result.{result_ok};
 ghost use Rattle.toml.specs.View.{view, table_view};
-ghost use Rattle.lpt_layout_file.specs.Layouts.{SizeIsSize};
+ghost use Rattle.lpt_carried.specs.Layouts.{SizeIsSize};
 ghost use Rattle.lpt_layout_file.specs.Values.{flag_at, flag_in, header_bits_at, header_bits_in, part_bits_at, part_bits_in, size_at, size_in, version_at};
 
 use lpt_layout::{Version, Width};

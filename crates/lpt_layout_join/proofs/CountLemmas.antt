@@ -3,11 +3,11 @@ use Rattle.std.proofs.Common.{◌≡◌, ◌∙◌, ap, sym, refl, ℕ, ◌+◌,
 use Rattle.std.specs.Prelude.{Option, Some, None}
 use Rattle.lpt_packet.proofs.BoolLemmas.{true_lt}
 use Rattle.lpt_stream.specs.Pieces.{up_to_limit}
-use Rattle.lpt_layout_join.specs.declared.reading.ReadingAs.{ReadingAs}
+use Rattle.lpt_carried.specs.declared.reading.Reading.{Reading}
 use Rattle.lpt_layout_join.specs.Counts.{Counted, Latest, all_counted, count_of, counted, counted_by, gap_by, latest, latest_by, missing_from, missing_in, no_latest, nothing_counted}
 use Rattle.lpt_layout_join.specs.Orders.{are_few}
 
-pub counted-more : (r : ReadingAs) (k : Counted) (bs : List (List ℕ)) (b : List ℕ)
+pub counted-more : (r : Reading) (k : Counted) (bs : List (List ℕ)) (b : List ℕ)
     → all_counted r k (bs ++ b ∷ []) ≡ counted r (all_counted r k bs) b
 counted-more r k [] b = refl
 counted-more r k (x ∷ bs) b = counted-more r (counted r k x) bs b
@@ -34,7 +34,7 @@ limits m g x now h = omega (arith, h)
 small-limit : (n now : ℕ) → now ≡ up_to_limit n → now ≤ 18446744073709551615
 small-limit n now h = omega (arith, h)
 
-missing-from : (r : ReadingAs) (k : Counted) (bs : List (List ℕ))
+missing-from : (r : Reading) (k : Counted) (bs : List (List ℕ))
     → k.missing ≤ 18446744073709551615
     → (all_counted r k bs).missing ≡ up_to_limit (k.missing + missing_from r k.latest bs)
 missing-from r k [] small = same-limit k.missing small
@@ -48,7 +48,7 @@ missing-from r k (b ∷ bs) small =
     (counted r k b).missing now
 
 -- all that are missing are counted, up to the limit
-pub missing-is : (r : ReadingAs) (bs : List (List ℕ))
+pub missing-is : (r : Reading) (bs : List (List ℕ))
     → (all_counted r nothing_counted bs).missing ≡ up_to_limit (missing_in r bs)
 missing-is r bs =
     let all = missing-from r nothing_counted bs (omega arith) in

@@ -8,11 +8,11 @@ use Rattle.lpt_part.specs.declared.kind.Kind.TheVariants.{First, Middle, Last}
 use Rattle.lpt_part.specs.Parts.{Piece, length_test}
 use Rattle.lpt_part.proofs.BodyLemmas.{length_test-true}
 use Rattle.lpt_layout_join.specs.declared.last_part.LastPart.{LastPart}
-use Rattle.lpt_layout_join.specs.declared.names.NameAs.{NameAs}
-use Rattle.lpt_layout_join.specs.declared.reading.ReadingAs.{ReadingAs}
-use Rattle.lpt_layout_join.specs.declared.skip.SkipAs.{SkipAs}
+use Rattle.lpt_carried.specs.declared.name.Name.{Name}
+use Rattle.lpt_carried.specs.declared.reading.Reading.{Reading}
+use Rattle.lpt_carried.specs.declared.skip.Skip.{Skip}
 use Rattle.lpt_layout_join.specs.Came.{Came, size_by, size_told, last_by, last_told, octets_told, octets_of, size_of, last_of, highest, other_octets, other_size, other_last, other_end, contradicts, step}
-use Rattle.lpt_layout_join.specs.Carried.{Named, carried, name_of}
+use Rattle.lpt_carried.specs.Carried.{Named, carried, name_of}
 use Rattle.lpt_layout_join.specs.Hearing.{Heard, all_heard, heard, is_joined, next, nothing_heard, with_counts, with_packet, with_part}
 use Rattle.lpt_layout_join.specs.Laws.{HasItsLength}
 use Rattle.lpt_layout_join.proofs.CameLemmas.{first_told-more}
@@ -135,7 +135,7 @@ even-step c place q h = by (is_some c.against) (contradicts c.parts q) refl wher
   by false true e = h
   by false false e = even-more c.parts q h e
 
-even-packet : (h : Heard) (v : Result Named SkipAs)
+even-packet : (h : Heard) (v : Result Named Skip)
     → AreEven h.came.parts
     → AreEven (with_packet h v).came.parts
 even-packet h (Err s) even = even
@@ -144,7 +144,7 @@ even-packet h (Ok c) even = by (is_joined h.name (name_of c)) where
   by true = even-step h.came h.place c.piece even
   by false = even
 
-even-all : (r : ReadingAs) (h : Heard) (bs : List (List ℕ))
+even-all : (r : Reading) (h : Heard) (bs : List (List ℕ))
     → AreEven h.came.parts
     → AreEven (all_heard r h bs).came.parts
 even-all r h [] even = even
@@ -152,7 +152,7 @@ even-all r h (b ∷ bs) even =
     even-all r (next r h b) bs (even-packet (with_counts r h b) (carried r b) even)
 
 -- whatever packets came
-pub even-heard : (r : ReadingAs) (asked : Option NameAs) (bs : List (List ℕ)) (k : ℕ) (x : List ℕ)
+pub even-heard : (r : Reading) (asked : Option Name) (bs : List (List ℕ)) (k : ℕ) (x : List ℕ)
     → octets_of (heard r asked bs).came.parts k ≡ Some x
     → HasItsLength (heard r asked bs).came.parts k x
 unfolding heard

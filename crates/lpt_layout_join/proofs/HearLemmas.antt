@@ -13,25 +13,25 @@ use Rattle.lpt_stream.specs.Streams.{IsUnfinished}
 use Rattle.lpt_layout_join.specs.declared.came.CameAs.{CameAs}
 use Rattle.lpt_layout_join.specs.declared.hearing.HeardAs.{HeardAs}
 use Rattle.lpt_layout_join.specs.declared.hearing.LeftAs.{LeftAs}
-use Rattle.lpt_layout_join.specs.declared.names.NameAs.{NameAs}
-use Rattle.lpt_layout_join.specs.declared.reading.ReadingAs.{ReadingAs}
+use Rattle.lpt_carried.specs.declared.name.Name.{Name}
+use Rattle.lpt_carried.specs.declared.reading.Reading.{Reading}
 use Rattle.lpt_layout_join.specs.Came.{Came}
 use Rattle.lpt_layout_join.specs.CameInside.{Shows}
 use Rattle.lpt_layout_join.specs.Hearing.{Heard, Hears, IsEndless, Leaves, ShowsHeard, all_heard, heard, left_at, next, nothing_heard}
 
 -- with one packet more behind them
-pub all_heard-more : (r : ReadingAs) (h : Heard) (bs : List (List ℕ)) (b : List ℕ)
+pub all_heard-more : (r : Reading) (h : Heard) (bs : List (List ℕ)) (b : List ℕ)
     → all_heard r h (bs ++ b ∷ []) ≡ next r (all_heard r h bs) b
 all_heard-more r h [] b = refl
 all_heard-more r h (c ∷ bs) b = all_heard-more r (next r h c) bs b
 
-pub heard-more : (r : ReadingAs) (name : Option NameAs) (bs : List (List ℕ)) (b : List ℕ)
+pub heard-more : (r : Reading) (name : Option Name) (bs : List (List ℕ)) (b : List ℕ)
     → heard r name (bs ++ b ∷ []) ≡ next r (heard r name bs) b
 unfolding heard
 heard-more r name bs b = all_heard-more r (nothing_heard name) bs b
 
 -- so many packets were heard, and these octets are held behind them
-pub record IsHearing (r : ReadingAs) (name : Option NameAs) (a b : Option (List ℕ))
+pub record IsHearing (r : Reading) (name : Option Name) (a b : Option (List ℕ))
     (held : List ℕ) (s : HeardAs) (count : ℕ) : Type 0 where
   pub stream : List ℕ
   pub packets : List (List ℕ)
@@ -40,7 +40,7 @@ pub record IsHearing (r : ReadingAs) (name : Option NameAs) (a b : Option (List 
   pub shows : ShowsHeard (heard r name packets) s
   pub count_is : length packets ≡ count
 
-module _ (r : ReadingAs) (name : Option NameAs) where
+module _ (r : Reading) (name : Option Name) where
   -- none came
   pub hearing-none : (a : Option (List ℕ)) (held : List ℕ) (s : HeardAs)
       → held ≡ []
@@ -127,7 +127,7 @@ find-reader Over faults.Write x y a b had failed h = h.2
 find-reader Over faults.Memory x y a b had failed h = h.2
 
 -- a part came of the transaction that is joined
-pub own-shown : (h : Heard) (s : HeardAs) (n : NameAs) (c : Came) (t : CameAs)
+pub own-shown : (h : Heard) (s : HeardAs) (n : Name) (c : Came) (t : CameAs)
     → ShowsHeard h s
     → Shows c t
     → ShowsHeard (record h { name = Some n; came = c }) (record s { name = Some n; came = t })

@@ -9,11 +9,11 @@ use Rattle.std.proofs.lemmas.Slice.Eq.{bytes_eq-Decides}
 use Rattle.lpt_packet.proofs.BoolLemmas.{not_false, or_false_left, true_lt}
 use Rattle.lpt_part.specs.Parts.{Piece}
 use Rattle.lpt_layout_join.specs.declared.last_part.LastPart.{LastPart}
-use Rattle.lpt_layout_join.specs.declared.names.NameAs.{NameAs}
+use Rattle.lpt_carried.specs.declared.name.Name.{Name}
 use Rattle.lpt_layout_join.specs.declared.order.Order.{Order}
-use Rattle.lpt_layout_join.specs.declared.reading.ReadingAs.{ReadingAs}
+use Rattle.lpt_carried.specs.declared.reading.Reading.{Reading}
 use Rattle.lpt_layout_join.specs.Came.{contradicts, highest, last_of, octets_of, octets_told, other_end, other_octets, other_size, size_of}
-use Rattle.lpt_layout_join.specs.Carried.{carried, part_of}
+use Rattle.lpt_carried.specs.Carried.{carried, part_of}
 use Rattle.lpt_layout_join.specs.Counts.{all_counted, missing_in, nothing_counted}
 use Rattle.lpt_layout_join.specs.InOrder.{Carries, IsBetween, Stands}
 use Rattle.lpt_layout_join.specs.Orders.{are_few, is_in_order, no_order, ordered, with_next}
@@ -64,7 +64,7 @@ octets-own qs q agree =
           (not_false (bytes_eq x q.octets)
           (ap (λ (o : Option (List ℕ)). other_octets o q.octets) (sym is) ∙ others)))
 
-module _ (r : ReadingAs) (n : NameAs) where
+module _ (r : Reading) (n : Name) where
   -- with a part more they stand there still
   pub stands-kept : (ps : List Piece) (q : Piece) (k : ℕ) (bs : List (List ℕ))
       → Stands r n ps k bs
@@ -234,7 +234,7 @@ module _ (r : ReadingAs) (n : NameAs) where
       one false e = past e (nat_lt o.count q.number) refl
 
 -- all parts came in their order
-pub in_order : (r : ReadingAs) (n : NameAs) (bs : List (List ℕ)) (o : Order) (ps : List Piece)
+pub in_order : (r : Reading) (n : Name) (bs : List (List ℕ)) (o : Order) (ps : List Piece)
     (l : LastPart)
     → CameSo r n bs o ps
     → last_of ps ≡ Some l

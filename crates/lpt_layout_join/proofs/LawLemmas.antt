@@ -4,16 +4,16 @@ use Rattle.std.specs.Prelude.{Option, Some, None, is_some}
 use Rattle.lpt_part.specs.Parts.{Piece, nth_part}
 use Rattle.lpt_part.specs.Splitting.{part_count, part_of}
 use Rattle.lpt_packet.proofs.BoolLemmas.{not_true}
-use Rattle.lpt_layout_join.specs.declared.names.NameAs.{NameAs}
-use Rattle.lpt_layout_join.specs.declared.reading.ReadingAs.{ReadingAs}
-use Rattle.lpt_layout_join.specs.declared.skip.SkipAs.{SkipAs}
+use Rattle.lpt_carried.specs.declared.name.Name.{Name}
+use Rattle.lpt_carried.specs.declared.reading.Reading.{Reading}
+use Rattle.lpt_carried.specs.declared.skip.Skip.{Skip}
 use Rattle.lpt_layout_join.specs.declared.ending.EndAs.TheVariants.{Several}
 use Rattle.lpt_layout_join.specs.Came.{Came, contradicts, message_of, octets_of, step}
-use Rattle.lpt_layout_join.specs.Carried.{Named, carried, name_of, same_name}
+use Rattle.lpt_carried.specs.Carried.{Named, carried, name_of, same_name}
 use Rattle.lpt_layout_join.specs.Hearing.{Heard, all_heard, heard, is_joined, next, nothing_heard, with_counts, with_own, with_packet, with_part}
 use Rattle.lpt_layout_join.specs.Laws.{IsSplit, OneOrOther, AreOneOrOther, EachIsAmong, IsAmong, IsAsked, is_other, part_named}
 use Rattle.lpt_layout_join.specs.Writes.{end_by, end_of, end_whole, unfit}
-use Rattle.lpt_layout_join.proofs.NameLemmas.{same_name-refl}
+use Rattle.lpt_carried.proofs.NameLemmas.{same_name-refl}
 use Rattle.lpt_layout_join.proofs.PartsLemmas.{AreNth, agrees, joined-all, nth-more, octets-come, octets-kept}
 
 -- ---- what stays
@@ -29,7 +29,7 @@ step-kept c place q k x e = by (is_some c.against) (contradicts c.parts q) where
   by false true = e
   by false false = octets-kept c.parts q k x e
 
-packet-kept : (h : Heard) (v : Result Named SkipAs) (k : ℕ) (x : List ℕ)
+packet-kept : (h : Heard) (v : Result Named Skip) (k : ℕ) (x : List ℕ)
     → octets_of h.came.parts k ≡ Some x
     → octets_of (with_packet h v).came.parts k ≡ Some x
 packet-kept h (Err s) k x e = e
@@ -39,14 +39,14 @@ packet-kept h (Ok c) k x e = by (is_joined h.name (name_of c)) where
   by false = e
 
 -- a part that came stays
-all-kept : (r : ReadingAs) (h : Heard) (bs : List (List ℕ)) (k : ℕ) (x : List ℕ)
+all-kept : (r : Reading) (h : Heard) (bs : List (List ℕ)) (k : ℕ) (x : List ℕ)
     → octets_of h.came.parts k ≡ Some x
     → octets_of (all_heard r h bs).came.parts k ≡ Some x
 all-kept r h [] k x e = e
 all-kept r h (b ∷ bs) k x e =
     all-kept r (next r h b) bs k x (packet-kept (with_counts r h b) (carried r b) k x e)
 
-module _ (r : ReadingAs) (asked : Option NameAs) (n : NameAs) (p : ℕ) (m : List ℕ)
+module _ (r : Reading) (asked : Option Name) (n : Name) (p : ℕ) (m : List ℕ)
     (split : IsSplit p m) (is_asked : IsAsked asked n) where
   -- parts of the message came, and nothing that matters besides
   record Goes (h : Heard) : Type 0 where
@@ -55,13 +55,13 @@ module _ (r : ReadingAs) (asked : Option NameAs) (n : NameAs) (p : ℕ) (m : Lis
     against_is : h.came.against ≡ None
     other_is : is_some asked ≡ false → h.other ≡ None
 
-  is_joined-asked : (o : Option NameAs) → IsAsked o n → is_joined o n ≡ true
+  is_joined-asked : (o : Option Name) → IsAsked o n → is_joined o n ≡ true
   is_joined-asked None h = refl
-  is_joined-asked (Some k) h = ap (λ (x : NameAs). same_name x n) h ∙ same_name-refl n
+  is_joined-asked (Some k) h = ap (λ (x : Name). same_name x n) h ∙ same_name-refl n
 
-  joins : (o : Option NameAs) → (o ≡ asked) ⊎ (o ≡ Some n) → is_joined o n ≡ true
-  joins o (inl e) = ap (λ (x : Option NameAs). is_joined x n) e ∙ is_joined-asked asked is_asked
-  joins o (inr e) = ap (λ (x : Option NameAs). is_joined x n) e ∙ same_name-refl n
+  joins : (o : Option Name) → (o ≡ asked) ⊎ (o ≡ Some n) → is_joined o n ≡ true
+  joins o (inl e) = ap (λ (x : Option Name). is_joined x n) e ∙ is_joined-asked asked is_asked
+  joins o (inr e) = ap (λ (x : Option Name). is_joined x n) e ∙ same_name-refl n
 
   -- ---- a part of the message
 
@@ -101,7 +101,7 @@ module _ (r : ReadingAs) (asked : Option NameAs) (n : NameAs) (p : ℕ) (m : Lis
 
   -- ---- another packet
 
-  name_of_asked : (o : Option NameAs) (k : NameAs)
+  name_of_asked : (o : Option Name) (k : Name)
       → asked ≡ Some k
       → k ≡ n
       → (o ≡ asked) ⊎ (o ≡ Some n)
@@ -109,7 +109,7 @@ module _ (r : ReadingAs) (asked : Option NameAs) (n : NameAs) (p : ℕ) (m : Lis
   name_of_asked o k is same (inl h) = h ∙ is
   name_of_asked o k is same (inr h) = h ∙ ap Some (sym same)
 
-  goes-other : (h : Heard) (v : Result Named SkipAs)
+  goes-other : (h : Heard) (v : Result Named Skip)
       → Goes h
       → is_other asked v ≡ true
       → Goes (with_packet h v)
@@ -120,17 +120,17 @@ module _ (r : ReadingAs) (asked : Option NameAs) (n : NameAs) (p : ℕ) (m : Lis
     other_is = g.other_is;
   }
   goes-other h (Ok c) g e = by asked refl where
-    by : (o : Option NameAs) → asked ≡ o → Goes (with_packet h (Ok c))
+    by : (o : Option Name) → asked ≡ o → Goes (with_packet h (Ok c))
     by None is =
-        absurd (cc (ap (λ (x : Option NameAs). is_other x (Ok c)) (sym is) ∙ e))
+        absurd (cc (ap (λ (x : Option Name). is_other x (Ok c)) (sym is) ∙ e))
     by (Some k) is =
         let apart : same_name k (name_of c) ≡ false =
         not_true (same_name k (name_of c))
-        (ap (λ (x : Option NameAs). is_other x (Ok c)) (sym is) ∙ e) in
-        let here : k ≡ n = subst (λ (x : Option NameAs). IsAsked x n) is is_asked in
+        (ap (λ (x : Option Name). is_other x (Ok c)) (sym is) ∙ e) in
+        let here : k ≡ n = subst (λ (x : Option Name). IsAsked x n) is is_asked in
         let named : h.name ≡ Some k = name_of_asked h.name k is here g.name_is in
         let none : is_joined h.name (name_of c) ≡ false =
-        ap (λ (x : Option NameAs). is_joined x (name_of c)) named ∙ apart in
+        ap (λ (x : Option Name). is_joined x (name_of c)) named ∙ apart in
         let some : is_some asked ≡ true = ap is_some is in
         subst Goes (sym (ap (with_part h c) none)) (record {
           name_is = g.name_is;
@@ -230,7 +230,7 @@ module _ (r : ReadingAs) (asked : Option NameAs) (n : NameAs) (p : ℕ) (m : Lis
       let few : (not (is_some asked) && is_some h.other) ≡ false =
       alone (is_some asked) h.other g.other_is in
       (λ i. if few i then Several else end_by r any h.sure h.came.against (whole i)) where
-        alone : (t : Bool) (o : Option NameAs)
+        alone : (t : Bool) (o : Option Name)
             → (t ≡ false → o ≡ None)
             → (not t && is_some o) ≡ false
         alone true o h' = refl

@@ -5,8 +5,6 @@ pub mod HearLemmas
 pub mod InOrderLemmas
 pub mod LawLemmas
 pub mod MadeLemmas
-pub mod NameLemmas
-pub mod OwnLemmas
 pub mod PartsLemmas
 pub mod SlotLemmas
 pub mod SureLemmas

@@ -19,12 +19,12 @@ use Rattle.lpt_part.specs.declared.kind.Kind.TheVariants.{First, Middle, Last}
 use Rattle.lpt_part.specs.PartRanges.{LengthFits}
 use Rattle.lpt_part.specs.Parts.{Piece, nth_part}
 use Rattle.lpt_part.specs.Splitting.{kind_at, part_count, part_of}
-use Rattle.lpt_layout_join.specs.declared.names.NameAs.{NameAs}
-use Rattle.lpt_layout_join.specs.declared.reading.ReadingAs.{ReadingAs}
-use Rattle.lpt_layout_join.specs.declared.skip.SkipAs.TheVariants.{OtherApid}
-use Rattle.lpt_layout_join.specs.Carried.{carried, kind_to, of_kind, of_message, of_part, of_sight}
+use Rattle.lpt_carried.specs.declared.name.Name.{Name}
+use Rattle.lpt_carried.specs.declared.reading.Reading.{Reading}
+use Rattle.lpt_carried.specs.declared.skip.Skip.TheVariants.{OtherApid}
+use Rattle.lpt_carried.specs.Carried.{carried, kind_to, of_kind, of_message, of_part, of_sight}
 use Rattle.lpt_layout_join.specs.Laws.{IsSplit, part_named}
-use Rattle.lpt_layout_join.specs.Sizes.{size_for}
+use Rattle.lpt_carried.specs.Sizes.{size_for}
 
 kind_carried : (d : Direction) (kind : Kind) → carried_kind d 13 (part_subtype d kind) ≡ Some kind
 kind_carried Up First = refl
@@ -64,7 +64,7 @@ fits_for size kind k len p is (inl none) h =
 fits_for size kind k len p is (inr some) h =
     subst (LengthFits kind k len) (sym (ap (λ (o : Option ℕ). size_for o len) some)) h
 
-module _ (r : ReadingAs) (n : NameAs) (p k : ℕ) (m : List ℕ) (s : Said)
+module _ (r : Reading) (n : Name) (p k : ℕ) (m : List ℕ) (s : Said)
     (split : IsSplit p m) (some : 1 ≤ k) (within : k ≤ part_count (length m) p) where
   abbrev kind : Kind
   kind = kind_at k (part_count (length m) p)

@@ -9,12 +9,12 @@ use Rattle.lpt_layout_join.specs.declared.ending.EndAs.TheVariants.{Several, Wri
 use Rattle.lpt_layout_join.specs.declared.ending.MisfitAs.{MisfitAs}
 use Rattle.lpt_layout_join.specs.declared.ending.MisfitAs.TheVariants.{Unsure}
 use Rattle.lpt_layout_join.specs.declared.last_part.LastPart.{LastPart}
-use Rattle.lpt_layout_join.specs.declared.names.NameAs.{NameAs}
+use Rattle.lpt_carried.specs.declared.name.Name.{Name}
 use Rattle.lpt_layout_join.specs.declared.order.Order.{Order}
-use Rattle.lpt_layout_join.specs.declared.reading.ReadingAs.{ReadingAs}
-use Rattle.lpt_layout_join.specs.declared.skip.SkipAs.{SkipAs}
+use Rattle.lpt_carried.specs.declared.reading.Reading.{Reading}
+use Rattle.lpt_carried.specs.declared.skip.Skip.{Skip}
 use Rattle.lpt_layout_join.specs.Came.{Came, contradicts, last_of, last_told, message_of, step}
-use Rattle.lpt_layout_join.specs.Carried.{Named, carried, name_of, part_of, same_name}
+use Rattle.lpt_carried.specs.Carried.{Named, carried, name_of, part_of, same_name}
 use Rattle.lpt_layout_join.specs.Counts.{Counted, all_counted, counted, nothing_counted}
 use Rattle.lpt_layout_join.specs.Hearing.{Heard, all_heard, heard, is_joined, next, nothing_heard, with_came, with_counts, with_own, with_packet, with_part}
 use Rattle.lpt_layout_join.specs.InOrder.{IsInOrder, Stands}
@@ -23,16 +23,16 @@ use Rattle.lpt_layout_join.specs.Writes.{end_by, end_of, end_whole, misfit}
 use Rattle.lpt_layout_join.proofs.CameLemmas.{first_told-more}
 use Rattle.lpt_layout_join.proofs.CountLemmas.{counted-more}
 use Rattle.lpt_layout_join.proofs.InOrderLemmas.{CameSo, came-other, came-part, in_order, none-came, octets-own, stands-kept}
-use Rattle.lpt_layout_join.proofs.NameLemmas.{same_name-refl, same_name-true}
+use Rattle.lpt_carried.proofs.NameLemmas.{same_name-refl, same_name-true}
 
-module _ (r : ReadingAs) where
+module _ (r : Reading) where
   -- the transaction that is joined, or any where none is told
-  abbrev IsOf : Heard → NameAs → Type 0
+  abbrev IsOf : Heard → Name → Type 0
   IsOf h n = (h.name ≡ None) ⊎ (h.name ≡ Some n)
 
   -- all parts of the message stand in front of these packets, in their order
   record IsSure (bs : List (List ℕ)) (h : Heard) : Type 0 where
-    name : NameAs
+    name : Name
     name_is : h.name ≡ Some name
     last : LastPart
     last_is : last_of h.came.parts ≡ Some last
@@ -43,10 +43,10 @@ module _ (r : ReadingAs) where
 
   record IsHeard (bs : List (List ℕ)) (h : Heard) : Type 0 where
     counts_are : h.counts ≡ all_counted r nothing_counted bs
-    order_is : (n : NameAs) → IsOf h n → CameSo r n bs h.order h.came.parts
+    order_is : (n : Name) → IsOf h n → CameSo r n bs h.order h.came.parts
     sure_is : h.sure ≡ true → IsSure bs h
 
-  heard-none : (asked : Option NameAs) → IsHeard [] (nothing_heard asked)
+  heard-none : (asked : Option Name) → IsHeard [] (nothing_heard asked)
   heard-none asked = record {
     counts_are = refl;
     order_is = λ n is. none-came r n [] [];
@@ -95,7 +95,7 @@ module _ (r : ReadingAs) where
     order_is = λ n is.
         subst (λ (o : Order). CameSo r n bs o g.came.parts) (sym order)
         (subst (λ (c : Came). CameSo r n bs h.order c.parts) (sym came)
-        (w.order_is n (subst (λ (o : Option NameAs). (o ≡ None) ⊎ (o ≡ Some n)) name is)));
+        (w.order_is n (subst (λ (o : Option Name). (o ≡ None) ⊎ (o ≡ Some n)) name is)));
     sure_is = λ e. sure-like bs g h name came (w.sure_is (sym sure ∙ e));
   }
 
@@ -113,7 +113,7 @@ module _ (r : ReadingAs) where
         ∙ sym (counted-more r nothing_counted bs b)
 
     -- no part of the name
-    other : ((n : NameAs) → IsOf h n → part_of n (carried r b) ≡ None) → IsHeard bsb now
+    other : ((n : Name) → IsOf h n → part_of n (carried r b) ≡ None) → IsHeard bsb now
     other none = record {
       counts_are = counts-now;
       order_is = λ n of. came-other r n bs b h.order h.came.parts (none n of) (was.order_is n of);
@@ -123,7 +123,7 @@ module _ (r : ReadingAs) where
     -- a part of it
     module _ (c : Named) (is : carried r b ≡ Ok c) (joins : is_joined h.name (name_of c)
         ≡ true) where
-      abbrev n : NameAs
+      abbrev n : Name
       n = name_of c
 
       abbrev q : Piece
@@ -133,15 +133,15 @@ module _ (r : ReadingAs) where
       its_part = ap (part_of n) is
           ∙ ap (λ (t : Bool). if t then Some c.piece else None) (same_name-refl n)
 
-      named : (o : Option NameAs) → h.name ≡ o → is_joined o n ≡ true → IsOf h n
+      named : (o : Option Name) → h.name ≡ o → is_joined o n ≡ true → IsOf h n
       named None e j = inl e
       named (Some m) e j = inr (e ∙ ap Some (same_name-true m n j))
 
       is_of : IsOf h n
       is_of = named h.name refl joins
 
-      some_name : (m : NameAs) → h.name ≡ Some m → m ≡ n
-      some_name m e = same_name-true m n (ap (λ (o : Option NameAs). is_joined o n) (sym e) ∙ joins)
+      some_name : (m : Name) → h.name ≡ Some m → m ≡ n
+      some_name m e = same_name-true m n (ap (λ (o : Option Name). is_joined o n) (sym e) ∙ joins)
 
       -- these came with it, in this order
       own : (came : Came) (o : Order)
@@ -155,12 +155,12 @@ module _ (r : ReadingAs) where
         order_is = λ m of. at m of;
         sure_is = λ e. sure h.sure refl e;
       } where
-        at : (m : NameAs) → (◌≡◌ {A = Option NameAs} (Some n) None)
-            ⊎ (◌≡◌ {A = Option NameAs} (Some n) (Some m))
+        at : (m : Name) → (◌≡◌ {A = Option Name} (Some n) None)
+            ⊎ (◌≡◌ {A = Option Name} (Some n) (Some m))
             → CameSo r m bsb o came.parts
         at m (inl e) = absurd cc
-        at m (inr e) = subst (λ (x : NameAs). CameSo r x bsb o came.parts) (first n m e) so where
-          first : (x y : NameAs) → ◌≡◌ {A = Option NameAs} (Some x) (Some y) → x ≡ y
+        at m (inr e) = subst (λ (x : Name). CameSo r x bsb o came.parts) (first n m e) so where
+          first : (x y : Name) → ◌≡◌ {A = Option Name} (Some x) (Some y) → x ≡ y
           first x y e = cc
 
         whole : (l : Option LastPart)
@@ -197,7 +197,7 @@ module _ (r : ReadingAs) where
               behind = s.behind;
               are = s.are;
               stand = stands s.last.number s.front
-                  (subst (λ (x : NameAs). Stands r x h.came.parts s.last.number s.front)
+                  (subst (λ (x : Name). Stands r x h.came.parts s.last.number s.front)
                   (some_name s.name s.name_is) s.stand);
             }
         sure false e w = whole (last_of came.parts) refl w
@@ -230,15 +230,15 @@ module _ (r : ReadingAs) where
             ∙ ap (λ (o : Option LastPart). option_or o (last_told q)) is)
             (λ k front s. stands-kept r n h.came.parts q k front s))
 
-    packet-heard : (v : Result Named SkipAs) → carried r b ≡ v → IsHeard bsb (with_packet now v)
+    packet-heard : (v : Result Named Skip) → carried r b ≡ v → IsHeard bsb (with_packet now v)
     packet-heard (Err e) is =
         heard-like bsb (with_packet now (Err e)) now refl refl refl refl refl
         (other (λ n of. ap (part_of n) is))
     packet-heard (Ok c) is = go (is_joined h.name (name_of c)) refl where
-      not_none : is_joined h.name (name_of c) ≡ false → (n : NameAs) → IsOf h n
+      not_none : is_joined h.name (name_of c) ≡ false → (n : Name) → IsOf h n
           → part_of n (carried r b) ≡ None
       not_none j n (inl e) =
-          absurd (cc (ap (λ (o : Option NameAs). is_joined o (name_of c)) (sym e) ∙ j))
+          absurd (cc (ap (λ (o : Option Name). is_joined o (name_of c)) (sym e) ∙ j))
       not_none j n (inr e) = ap (part_of n) is ∙ by (same_name (name_of c) n) refl where
         by : (t : Bool) → same_name (name_of c) n ≡ t → (if t then Some c.piece else None) ≡ None
         by false f = refl
@@ -246,7 +246,7 @@ module _ (r : ReadingAs) where
             let same = same_name-true (name_of c) n f in
             absurd (cc (sym (same_name-refl n)
             ∙ ap (same_name n) (sym same)
-            ∙ ap (λ (o : Option NameAs). is_joined o (name_of c)) (sym e) ∙ j))
+            ∙ ap (λ (o : Option Name). is_joined o (name_of c)) (sym e) ∙ j))
 
       go : (t : Bool) → is_joined h.name (name_of c) ≡ t → IsHeard bsb (with_part now c t)
       go true j = ending c is j
@@ -275,7 +275,7 @@ unsure_end : (m : List ℕ) (len : ℕ) (x : Option MisfitAs)
 unsure_end m len None e = cc
 unsure_end m len (Some f) e = cc
 
-written-sure : (r : ReadingAs) (several sure : Bool) (against : Option ℕ) (m : List ℕ) (len : ℕ)
+written-sure : (r : Reading) (several sure : Bool) (against : Option ℕ) (m : List ℕ) (len : ℕ)
     → r.layout.has_checksum ≡ false
     → (if several then Several else end_by r false sure against (Some m)) ≡ Written len
     → sure ≡ true
@@ -287,12 +287,12 @@ written-sure r false false against m len bare e =
     end_whole m (option_or (misfit r m) (if t || false then None else Some Unsure)))
     (sym bare) ∙ e))
 
-pub written-in-order : (r : ReadingAs) (asked : Option NameAs) (bs : List (List ℕ)) (len : ℕ)
+pub written-in-order : (r : Reading) (asked : Option Name) (bs : List (List ℕ)) (len : ℕ)
     (m : List ℕ)
     → r.layout.has_checksum ≡ false
     → end_of r false (is_some asked) (heard r asked bs) ≡ Written len
     → message_of (heard r asked bs).came.parts ≡ Some m
-    → (n : NameAs) × ((heard r asked bs).name ≡ Some n) × IsInOrder r n bs m
+    → (n : Name) × ((heard r asked bs).name ≡ Some n) × IsInOrder r n bs m
 unfolding heard
 written-in-order r asked bs len m bare ends is =
     let h : Heard = all_heard r (nothing_heard asked) bs in

@@ -4,7 +4,7 @@ use Rattle.std.specs.Io.KnownBytes.{Appends, Keeps}
 use Rattle.lpt_text.specs.declared.fault.StreamFault.{StreamFault}
 use Rattle.lpt_layout_join.specs.declared.ending.EndAs.{EndAs}
 use Rattle.lpt_layout_join.specs.declared.ending.EndAs.TheVariants.{Several}
-use Rattle.lpt_layout_join.specs.declared.reading.ReadingAs.{ReadingAs}
+use Rattle.lpt_carried.specs.declared.reading.Reading.{Reading}
 use Rattle.lpt_layout_join.specs.Came.{message_of}
 use Rattle.lpt_layout_join.specs.Hearing.{Heard}
 use Rattle.lpt_layout_join.specs.Writes.{LeavesEnd, end_by, end_of, end_whole, unfit}
@@ -27,7 +27,7 @@ pub kept-leaves : (end : EndAs) (m : Option (List ℕ)) (a b c : Option (List �
 kept-leaves end m a b c k h = (h.0, kept-appends a b c _ k h.1)
 
 -- a front part of a whole message
-pub whole-leaves : (r : ReadingAs) (any asked : Bool) (h : Heard) (m : List ℕ)
+pub whole-leaves : (r : Reading) (any asked : Bool) (h : Heard) (m : List ℕ)
     (a b : Option (List ℕ)) (result : Result EndAs StreamFault) (sure : Bool)
     → sure ≡ h.sure
     → (not asked && is_some h.other) ≡ false

@@ -4,16 +4,16 @@ use Rattle.lpt_stream.specs.Pieces.{up_to_limit}
 use Rattle.lpt_layout.specs.Packets.{verdict_as}
 use Rattle.lpt_packet.specs.declared.fault.PacketFault.{PacketFault}
 use Rattle.lpt_packet.specs.Packets.{Sight, IdlePacket, APacket}
-use Rattle.lpt_layout_join.specs.declared.reading.ReadingAs.{ReadingAs}
+use Rattle.lpt_carried.specs.declared.reading.Reading.{Reading}
 
 -- the sequence count of a packet of the APID
-abbrev pub count_seen : ReadingAs → Result Sight PacketFault → Option ℕ
+abbrev pub count_seen : Reading → Result Sight PacketFault → Option ℕ
 count_seen r (Err e) = None
 count_seen r (Ok IdlePacket) = None
 count_seen r (Ok (APacket f)) = if f.apid == r.apid then Some f.count else None
 
 -- the same of octets, where packets have no checksum; by another layout none is looked at
-unfoldable pub count_of : ReadingAs → List ℕ → Option ℕ
+unfoldable pub count_of : Reading → List ℕ → Option ℕ
 count_of r b =
     if r.layout.has_checksum then None
     else count_seen r (verdict_as r.layout.has_checksum b)
@@ -36,7 +36,7 @@ abbrev pub gap_by : Latest → Option ℕ → List ℕ → ℕ
 gap_by l None b = 0
 gap_by l (Some n) b = gap_to l n b
 
-abbrev pub gap : ReadingAs → Latest → List ℕ → ℕ
+abbrev pub gap : Reading → Latest → List ℕ → ℕ
 gap r l b = gap_by l (count_of r b) b
 
 -- the last one, with a packet more
@@ -44,16 +44,16 @@ abbrev pub latest_by : Latest → Option ℕ → List ℕ → Latest
 latest_by l None b = l
 latest_by l (Some n) b = record { count = n; octets = b }
 
-abbrev pub latest : ReadingAs → Latest → List ℕ → Latest
+abbrev pub latest : Reading → Latest → List ℕ → Latest
 latest r l b = latest_by l (count_of r b) b
 
 -- how many are missing in packets behind the last one
-abbrev pub missing_from : ReadingAs → Latest → List (List ℕ) → ℕ
+abbrev pub missing_from : Reading → Latest → List (List ℕ) → ℕ
 missing_from r l [] = 0
 missing_from r l (b ∷ bs) = gap r l b + missing_from r (latest r l b) bs
 
 -- how many are missing from the first of these packets to the last
-abbrev pub missing_in : ReadingAs → List (List ℕ) → ℕ
+abbrev pub missing_in : Reading → List (List ℕ) → ℕ
 missing_in r bs = missing_from r no_latest bs
 
 -- ---- as they come
@@ -75,10 +75,10 @@ counted_by c (Some n) b = record {
   missing = up_to_limit (c.missing + gap_to c.latest n b);
 }
 
-abbrev pub counted : ReadingAs → Counted → List ℕ → Counted
+abbrev pub counted : Reading → Counted → List ℕ → Counted
 counted r c b = counted_by c (count_of r b) b
 
 -- packets came, one behind the other
-abbrev pub all_counted : ReadingAs → Counted → List (List ℕ) → Counted
+abbrev pub all_counted : Reading → Counted → List (List ℕ) → Counted
 all_counted r c [] = c
 all_counted r c (b ∷ bs) = all_counted r (counted r c b) bs

@@ -8,13 +8,13 @@ use Rattle.lpt_stream.specs.Streams.{IsUnfinished}
 use Rattle.lpt_layout_join.specs.declared.hearing.HeardAs.{HeardAs}
 use Rattle.lpt_layout_join.specs.declared.hearing.LeftAs.{LeftAs}
 use Rattle.lpt_layout_join.specs.declared.hearing.LeftAs.TheVariants.{Nothing, Unfinished, Stray}
-use Rattle.lpt_layout_join.specs.declared.names.NameAs.{NameAs}
+use Rattle.lpt_carried.specs.declared.name.Name.{Name}
 use Rattle.lpt_layout_join.specs.declared.order.Order.{Order}
-use Rattle.lpt_layout_join.specs.declared.reading.ReadingAs.{ReadingAs}
-use Rattle.lpt_layout_join.specs.declared.skip.SkipAs.{SkipAs}
+use Rattle.lpt_carried.specs.declared.reading.Reading.{Reading}
+use Rattle.lpt_carried.specs.declared.skip.Skip.{Skip}
 use Rattle.lpt_layout_join.specs.Came.{Came, last_of, nothing_came, step}
 use Rattle.lpt_layout_join.specs.CameInside.{Shows}
-use Rattle.lpt_layout_join.specs.Carried.{Named, carried, name_of, same_name}
+use Rattle.lpt_carried.specs.Carried.{Named, carried, name_of, same_name}
 use Rattle.lpt_layout_join.specs.Counts.{Counted, counted, nothing_counted}
 use Rattle.lpt_layout_join.specs.CountsInside.{shown}
 use Rattle.lpt_layout_join.specs.Orders.{is_in_order, no_order, ordered}
@@ -24,18 +24,18 @@ use Rattle.lpt_layout_join.specs.Orders.{is_in_order, no_order, ordered}
 -- counts that are missing; the first name of another; why the first carried no part, and its place;
 -- how many carried none; and how many octets they had
 pub record Heard : Type 0 where
-  pub name : Option NameAs
+  pub name : Option Name
   pub came : Came
   pub order : Order
   pub sure : Bool
   pub counts : Counted
-  pub other : Option NameAs
-  pub skipped : Option (ℕ × SkipAs)
+  pub other : Option Name
+  pub skipped : Option (ℕ × Skip)
   pub skips : ℕ
   pub place : ℕ
 
 -- nothing yet, where a transaction of this name was asked for, or any
-abbrev pub nothing_heard : Option NameAs → Heard
+abbrev pub nothing_heard : Option Name → Heard
 nothing_heard name = record {
   name = name;
   came = nothing_came;
@@ -49,7 +49,7 @@ nothing_heard name = record {
 }
 
 -- whether a part of this name is joined: where none was asked for, the first that comes tells it
-abbrev pub is_joined : Option NameAs → NameAs → Bool
+abbrev pub is_joined : Option Name → Name → Bool
 is_joined None n = true
 is_joined (Some m) n = same_name m n
 
@@ -77,7 +77,7 @@ with_part h c true = with_own h c (step h.came h.place c.piece)
 with_part h c false = record h { other = option_or h.other (Some (name_of c)) }
 
 -- a packet came that carries this
-abbrev pub with_packet : Heard → Result Named SkipAs → Heard
+abbrev pub with_packet : Heard → Result Named Skip → Heard
 with_packet h (Ok c) = with_part h c (is_joined h.name (name_of c))
 with_packet h (Err e) =
     record h {
@@ -90,20 +90,20 @@ abbrev pub moved : ℕ → Heard → Heard
 moved len h = record h { place = up_to_limit (h.place + len) }
 
 -- the counts that are missing before a packet are counted
-abbrev pub with_counts : ReadingAs → Heard → List ℕ → Heard
+abbrev pub with_counts : Reading → Heard → List ℕ → Heard
 with_counts r h b = record h { counts = counted r h.counts b }
 
 -- a packet more came
-abbrev pub next : ReadingAs → Heard → List ℕ → Heard
+abbrev pub next : Reading → Heard → List ℕ → Heard
 next r h b = moved (length b) (with_packet (with_counts r h b) (carried r b))
 
 -- packets came, one behind the other
-abbrev pub all_heard : ReadingAs → Heard → List (List ℕ) → Heard
+abbrev pub all_heard : Reading → Heard → List (List ℕ) → Heard
 all_heard r h [] = h
 all_heard r h (b ∷ bs) = all_heard r (next r h b) bs
 
 -- what packets give
-unfoldable pub heard : ReadingAs → Option NameAs → List (List ℕ) → Heard
+unfoldable pub heard : Reading → Option Name → List (List ℕ) → Heard
 heard r name bs = all_heard r (nothing_heard name) bs
 
 -- what is held is that

@@ -4,14 +4,14 @@ use Rattle.std.specs.Prelude.{◌≡◌, ◌≢◌, ◌⊎◌, ◌<◌, ◌≤�
 use Rattle.std.specs.List.{AllByRecursion}
 use Rattle.lpt_part.specs.Parts.{Piece}
 use Rattle.lpt_layout_join.specs.declared.last_part.LastPart.{LastPart}
-use Rattle.lpt_layout_join.specs.declared.names.NameAs.{NameAs}
-use Rattle.lpt_layout_join.specs.declared.reading.ReadingAs.{ReadingAs}
+use Rattle.lpt_carried.specs.declared.name.Name.{Name}
+use Rattle.lpt_carried.specs.declared.reading.Reading.{Reading}
 use Rattle.lpt_layout_join.specs.Came.{last_of, message_of, octets_of}
-use Rattle.lpt_layout_join.specs.Carried.{carried, part_of}
+use Rattle.lpt_carried.specs.Carried.{carried, part_of}
 use Rattle.lpt_layout_join.specs.Counts.{missing_in}
 
 -- a packet carries the part of the name with this number, and its octets are joined
-pub record Carries (r : ReadingAs) (n : NameAs) (parts : List Piece) (k : ℕ)
+pub record Carries (r : Reading) (n : Name) (parts : List Piece) (k : ℕ)
     (b : List ℕ) : Type 0 where
   pub part : Piece
   pub carries : part_of n (carried r b) ≡ Some part
@@ -19,7 +19,7 @@ pub record Carries (r : ReadingAs) (n : NameAs) (parts : List Piece) (k : ℕ)
   pub octets_are : octets_of parts k ≡ Some part.octets
 
 -- a packet carries no part of the name, or one of those up to k again but the first
-abbrev pub IsBetween : ReadingAs → NameAs → (k : ℕ) → List ℕ → Type 0
+abbrev pub IsBetween : Reading → Name → (k : ℕ) → List ℕ → Type 0
 IsBetween r n k b =
     (part_of n (carried r b) ≡ None)
     ⊎ ((q : Piece) × (part_of n (carried r b) ≡ Some q) × (q.number ≢ 1) × (q.number ≤ k))
@@ -27,7 +27,7 @@ IsBetween r n k b =
 -- Parts 1 to k stand in these packets in their order, the last packet carries part k: between each
 -- of them and the next stands no part of the name but one of those before again; and up to part
 -- i + 1 fewer than i counts more are missing than up to part i.
-abbrev pub Stands : ReadingAs → NameAs → List Piece → (k : ℕ) → List (List ℕ) → Type 0
+abbrev pub Stands : Reading → Name → List Piece → (k : ℕ) → List (List ℕ) → Type 0
 Stands r n parts zero bs = Unit {0}
 Stands r n parts (suc k) bs =
     (front : List (List ℕ)) × (between : List (List ℕ)) × (b : List ℕ)
@@ -36,7 +36,7 @@ Stands r n parts (suc k) bs =
     × (1 ≤ k → missing_in r bs < missing_in r front + k)
 
 -- all parts of which a message is joined stand so in a front part of these packets
-pub record IsInOrder (r : ReadingAs) (n : NameAs) (bs : List (List ℕ)) (m : List ℕ) : Type 0 where
+pub record IsInOrder (r : Reading) (n : Name) (bs : List (List ℕ)) (m : List ℕ) : Type 0 where
   pub parts : List Piece
   pub joined : message_of parts ≡ Some m
   pub last : LastPart

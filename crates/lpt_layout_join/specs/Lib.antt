@@ -1,5 +1,4 @@
 pub mod Came
-pub mod Carried
 pub mod CameInside
 pub mod Counts
 pub mod CountsInside
@@ -7,6 +6,4 @@ pub mod Hearing
 pub mod InOrder
 pub mod Laws
 pub mod Orders
-pub mod Own
-pub mod Sizes
 pub mod Writes

@@ -3,7 +3,7 @@
 ghost use Rattle.std.specs.Prelude.{◌≡◌, ◌≤◌, IfSome};
 ghost use Rattle.lpt_layout_join.specs.Counts.{count_of, gap_to, Latest};
 
-use crate::ReadingAs;
+use lpt_carried::Reading;
 use lpt_layout::{SeenAs, read_packet_as};
 use std::alloc::{AllocError, Global};
 
@@ -36,7 +36,7 @@ impl Counts {
     }
 
     /// Counts what is missing before the packet that comes next. The only error is out of memory.
-    pub fn take(&mut self, reading: &ReadingAs, octets: &[u8]) -> Result<(), AllocError>
+    pub fn take(&mut self, reading: &Reading, octets: &[u8]) -> Result<(), AllocError>
         ensures { OnOk result (shown self.new ≡ counted reading.now (shown self.old) octets.now) }
     {
         match count_of(reading, octets) {
@@ -62,7 +62,7 @@ impl Counts {
 
 // The sequence count of a packet of the APID, where packets have no checksum.
 #[tactic(auto, unfolding(crate::specs::Counts::count_of))]
-fn count_of(reading: &ReadingAs, octets: &[u8]) -> Option<u16>
+fn count_of(reading: &Reading, octets: &[u8]) -> Option<u16>
     ensures exact { result ≡ count_of reading.now octets.now }
     ensures small { IfSome result (λ n. n ≤ 16383) }
 {

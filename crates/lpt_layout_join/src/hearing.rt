@@ -3,7 +3,8 @@
 ghost use Rattle.std.specs.Prelude.{◌≡◌};
 ghost use Rattle.lpt_layout_join.specs.Hearing.{is_joined};
 
-use crate::{CameAs, CarriedAs, Counts, NameAs, Order, ReadingAs, SkipAs, carried};
+use crate::{CameAs, Counts, Order};
+use lpt_carried::{CarriedPart, Name, Reading, Skip, carried};
 use std::alloc::{AllocError, Global};
 
 /// What a stream's packets gave: of the transaction that is joined, and what else came. A place is
@@ -11,7 +12,7 @@ use std::alloc::{AllocError, Global};
 #[derive(Drop)]
 pub struct HeardAs {
     /// The transaction that is joined: the one that was asked for, or that of the first part.
-    pub name: Option<NameAs>,
+    pub name: Option<Name>,
     /// What came of it.
     pub came: CameAs,
     /// Which of its parts came in their order.
@@ -21,9 +22,9 @@ pub struct HeardAs {
     /// How many counts are missing.
     pub counts: Counts,
     /// The first other transaction of which a part came.
-    pub other: Option<NameAs>,
+    pub other: Option<Name>,
     /// Why the first packet that carries no part carries none, and its place.
-    pub skipped: Option<(u64, SkipAs)>,
+    pub skipped: Option<(u64, Skip)>,
     /// How many packets carry no part; more than 2^64 - 1 are told as that.
     pub skips: u64,
     /// How many octets all packets have.
@@ -44,11 +45,11 @@ pub enum LeftAs {
 impl HeardAs {
     ghost use Rattle.std.specs.Prelude.{◌≤◌, length, OnOk, is_some};
     ghost use Rattle.lpt_packet.specs.Sizes.{longest_packet};
-    ghost use Rattle.lpt_layout_join.specs.Carried.{carried, name_of, named};
+    ghost use Rattle.lpt_carried.specs.Carried.{carried, name_of, named};
     ghost use Rattle.lpt_layout_join.specs.Hearing.{Heard, ShowsHeard, in_order, next, nothing_heard, with_came, with_packet, with_part};
 
     /// Nothing came yet, where a transaction of this name was asked for, or any.
-    pub fn new(alloc: Global, name: Option<NameAs>) -> HeardAs
+    pub fn new(alloc: Global, name: Option<Name>) -> HeardAs
         ensures { ShowsHeard (nothing_heard name) result }
     {
         HeardAs {
@@ -68,7 +69,7 @@ impl HeardAs {
     pub fn take(
         &mut self,
         alloc: Global,
-        reading: &ReadingAs,
+        reading: &Reading,
         octets: &[u8],
     ) -> Result<(), AllocError>
         ensures { (h : Heard) → ShowsHeard h self.old
@@ -84,7 +85,7 @@ impl HeardAs {
     fn take_carried(
         &mut self,
         alloc: Global,
-        reading: &ReadingAs,
+        reading: &Reading,
         octets: &[u8],
     ) -> Result<(), AllocError>
         ensures { (h : Heard) → ShowsHeard h self.old → OnOk result (ShowsHeard
@@ -101,7 +102,7 @@ impl HeardAs {
     }
 
     // Takes a part. The only error is out of memory.
-    fn take_part(&mut self, alloc: Global, carried: &CarriedAs<'_>) -> Result<(), AllocError>
+    fn take_part(&mut self, alloc: Global, carried: &CarriedPart<'_>) -> Result<(), AllocError>
         requires number { 1 ≤ carried.now.part.number }
         requires short { length carried.now.part.octets.now ≤ longest_packet }
         ensures { (h : Heard) → ShowsHeard h self.old → OnOk result (ShowsHeard
@@ -133,7 +134,7 @@ impl HeardAs {
 }
 
 // Whether a part of this name is joined, where this transaction is, or whichever comes first.
-fn is_joined(joined: Option<NameAs>, name: NameAs) -> bool
+fn is_joined(joined: Option<Name>, name: Name) -> bool
     ensures { result ≡ is_joined joined name }
 {
     match joined {

@@ -8,7 +8,8 @@ ghost use Rattle.lpt_layout_join.specs.Hearing.{Heard, Hears, IsEndless, ShowsHe
 ghost use Rattle.lpt_layout_join.specs.Writes.{Ends, LeavesEnd, WritesEnd, end_missing, end_of, end_whole, kind_misfit, misfit, unfit, unsure};
 ghost use Rattle.lpt_layout_join.specs.declared.hearing.LeftAs.{LeftAs};
 
-use crate::{EndAs, HeardAs, JoinedAs, MisfitAs, NameAs, ReadingAs, hear};
+use crate::{EndAs, HeardAs, JoinedAs, MisfitAs, hear};
+use lpt_carried::{Name, Reading};
 use lpt_layout::{SeenAs, read_packet_as};
 use lpt_packet::{Direction, PacketKind};
 use lpt_text::{Sink, Source, StreamFault, write_out};
@@ -25,8 +26,8 @@ use std::alloc::Global;
 /// failed, behind a front part of the message; `Memory`.
 pub fn join_as<S: Source, K: Sink>(
     alloc: Global,
-    reading: &ReadingAs,
-    name: Option<NameAs>,
+    reading: &Reading,
+    name: Option<Name>,
     any: bool,
     source: &mut S,
     out: &mut K,
@@ -63,7 +64,7 @@ pub fn join_as<S: Source, K: Sink>(
 // Writes the message of what was heard.
 fn write_heard<K: Sink>(
     alloc: Global,
-    reading: &ReadingAs,
+    reading: &Reading,
     any: bool,
     asked: bool,
     heard: &HeardAs,
@@ -99,7 +100,7 @@ fn end_missing(against: Option<u64>) -> EndAs
 
 // Writes a message that is fit to be written.
 fn write_message<K: Sink>(
-    reading: &ReadingAs,
+    reading: &Reading,
     any: bool,
     sure: bool,
     message: &[u8],
@@ -124,7 +125,7 @@ fn write_message<K: Sink>(
 
 /// Why octets are no packet of the layout and the direction, where they aren't, and not any are
 /// taken; or that this isn't sure, where packets have no checksum.
-pub fn unfit(reading: &ReadingAs, any: bool, sure: bool, octets: &[u8]) -> Option<MisfitAs>
+pub fn unfit(reading: &Reading, any: bool, sure: bool, octets: &[u8]) -> Option<MisfitAs>
     ensures { result ≡ unfit reading.now any sure octets.now }
 {
     if any {
@@ -134,7 +135,7 @@ pub fn unfit(reading: &ReadingAs, any: bool, sure: bool, octets: &[u8]) -> Optio
 }
 
 // Why octets are no packet of the layout and the direction, where they aren't.
-fn misfit(reading: &ReadingAs, octets: &[u8]) -> Option<MisfitAs>
+fn misfit(reading: &Reading, octets: &[u8]) -> Option<MisfitAs>
     ensures { result ≡ misfit reading.now octets.now }
 {
     match read_packet_as(&reading.layout, octets) {
@@ -145,7 +146,7 @@ fn misfit(reading: &ReadingAs, octets: &[u8]) -> Option<MisfitAs>
 }
 
 // That octets may be joined of parts of several messages, where nothing tells.
-fn unsure(reading: &ReadingAs, sure: bool) -> Option<MisfitAs>
+fn unsure(reading: &Reading, sure: bool) -> Option<MisfitAs>
     ensures { result ≡ unsure reading.now sure }
 {
     if reading.layout.has_checksum || sure {

@@ -1,40 +1,33 @@
 //! What the definitions say of the parts of one message: functions with empty bodies.
 
 ghost use Rattle.std.specs.Prelude.{◌≡◌, ◌⊎◌, ◌≤◌, ℕ, Bool, false, List, Option, Some, None, Ok, length, is_some};
-ghost use Rattle.std.specs.Option.{option_map};
-ghost use Rattle.std.specs.Result.{result_ok};
-ghost use Rattle.lpt_events.specs.Arrivals.{arrival, part_subtype};
-ghost use Rattle.lpt_events.specs.Sides.{receiver_side};
+ghost use Rattle.lpt_events.specs.Arrivals.{part_subtype};
 ghost use Rattle.lpt_layout.specs.Messages.{Said, HeadFits};
 ghost use Rattle.lpt_layout.specs.Parts.{PieceFits, body_as};
 ghost use Rattle.lpt_layout.specs.Writes.{octets_as};
-ghost use Rattle.lpt_packet.specs.Numbers.{IsOctets};
 ghost use Rattle.lpt_packet.specs.Sizes.{longest_packet};
 ghost use Rattle.lpt_part.specs.Parts.{nth_part};
 ghost use Rattle.lpt_part.specs.Splitting.{kind_at, part_count};
-ghost use Rattle.lpt_layout_join.specs.declared.names.NameAs.{NameAs};
-ghost use Rattle.lpt_layout_join.specs.declared.reading.ReadingAs.{ReadingAs};
+ghost use Rattle.lpt_carried.specs.declared.name.Name.{Name};
+ghost use Rattle.lpt_carried.specs.declared.reading.Reading.{Reading};
 ghost use Rattle.lpt_layout_join.specs.Came.{message_of, octets_of};
-ghost use Rattle.lpt_layout_join.specs.Carried.{carried, kind_to};
+ghost use Rattle.lpt_carried.specs.Carried.{carried, kind_to};
 ghost use Rattle.lpt_layout_join.specs.Hearing.{heard};
 ghost use Rattle.lpt_layout_join.specs.declared.ending.EndAs.TheVariants.{Written};
 ghost use Rattle.lpt_layout_join.specs.InOrder.{IsInOrder};
 ghost use Rattle.lpt_layout_join.specs.Laws.{AreOneOrOther, EachIsAmong, HasItsLength, IsAsked, IsSplit, part_named};
-ghost use Rattle.lpt_layout_join.specs.Own.{IsOwn, in_own, part_arrived};
 ghost use Rattle.lpt_layout_join.specs.Writes.{end_of, end_whole, unfit};
 
-use lpt_layout::laws::{the_own_layouts, written_is_read};
-use lpt_packet::laws::seen_is_read;
-use lpt_pus::laws::bodies_stand_last;
+use lpt_layout::laws::written_is_read;
 
 /// The packets of a message's parts, in any order and with repeats, and others in between, are
 /// joined to that message once each part is among them, byte for byte. They are the only ones where
 /// no transaction was asked for.
 pub fn split_is_joined()
-    ensures message { (r : ReadingAs) (asked : Option NameAs) (n : NameAs) (p : ℕ) (m : List ℕ)
+    ensures message { (r : Reading) (asked : Option Name) (n : Name) (p : ℕ) (m : List ℕ)
         (bs : List (List ℕ)) → IsSplit p m → IsAsked asked n → AreOneOrOther r asked n p m bs
         → EachIsAmong r n p m bs → message_of (heard r asked bs).came.parts ≡ Some m }
-    ensures end { (r : ReadingAs) (asked : Option NameAs) (n : NameAs) (p : ℕ) (m : List ℕ)
+    ensures end { (r : Reading) (asked : Option Name) (n : Name) (p : ℕ) (m : List ℕ)
         (bs : List (List ℕ)) (any : Bool) → IsSplit p m → IsAsked asked n
         → AreOneOrOther r asked n p m bs → EachIsAmong r n p m bs
         → end_of r any (is_some asked) (heard r asked bs)
@@ -45,24 +38,24 @@ pub fn split_is_joined()
 /// of parts that stand in the order of their numbers, and between each of them and the next fewer
 /// sequence counts of the APID are missing than its number.
 pub fn written_is_in_order()
-    ensures { (r : ReadingAs) (asked : Option NameAs) (bs : List (List ℕ)) (len : ℕ) (m : List ℕ)
+    ensures { (r : Reading) (asked : Option Name) (bs : List (List ℕ)) (len : ℕ) (m : List ℕ)
         → r.layout.has_checksum ≡ false
         → end_of r false (is_some asked) (heard r asked bs) ≡ Written len
         → message_of (heard r asked bs).came.parts ≡ Some m
-        → (n : NameAs) × ((heard r asked bs).name ≡ Some n) × IsInOrder r n bs m }
+        → (n : Name) × ((heard r asked bs).name ≡ Some n) × IsInOrder r n bs m }
 {}
 
 /// Of whatever packets: the octets that are joined of each part have the one length that is told,
 /// but for the last part's.
 pub fn parts_are_even()
-    ensures { (r : ReadingAs) (asked : Option NameAs) (bs : List (List ℕ)) (k : ℕ) (x : List ℕ)
+    ensures { (r : Reading) (asked : Option Name) (bs : List (List ℕ)) (k : ℕ) (x : List ℕ)
         → octets_of (heard r asked bs).came.parts k ≡ Some x
         → HasItsLength (heard r asked bs).came.parts k x }
 {}
 
 /// The packet that is written of a part carries that part, whether the part size is known or not.
 pub fn made_is_carried()
-    ensures { (r : ReadingAs) (n : NameAs) (p k : ℕ) (m : List ℕ) (s : Said) → IsSplit p m
+    ensures { (r : Reading) (n : Name) (p k : ℕ) (m : List ℕ) (s : Said) → IsSplit p m
         → 1 ≤ k → k ≤ part_count (length m) p → (r.part_size ≡ None) ⊎ (r.part_size ≡ Some p)
         → PieceFits r.parts (nth_part p n.id m k) → HeadFits r.layout s
         → length (octets_as r.layout (kind_to r.direction) s) ≤ longest_packet
@@ -72,16 +65,4 @@ pub fn made_is_carried()
         → carried r (octets_as r.layout (kind_to r.direction) s) ≡ Ok (part_named n p m k) }
 {
     written_is_read();
-}
-
-/// At the profile's own layouts octets carry the part that arrives with them at the end that
-/// receives in that direction, or none.
-pub fn the_own_parts()
-    ensures { (r : ReadingAs) (p : ℕ) (b : List ℕ) → IsOwn r p → IsOctets b
-        → option_map in_own (result_ok (carried r b))
-        ≡ part_arrived (arrival (receiver_side r.direction) r.apid p b) }
-{
-    the_own_layouts();
-    seen_is_read();
-    bodies_stand_last();
 }

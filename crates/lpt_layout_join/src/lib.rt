@@ -5,40 +5,34 @@
 //! The stream is cut by the lengths that its packets' headers say, and by nothing else, since
 //! packets of a layout may have no checksum.
 //!
-//! The main types are `ReadingAs`, how parts are read, `CameAs`, what came of a transaction, and
-//! `JoinedAs`, what became of a join. The first call is `join_as`, from a source to a sink.
+//! The main types are lpt_carried's `Reading`, how parts are read, `CameAs`, what came of a
+//! transaction, and `JoinedAs`, what became of a join. The first call is `join_as`, from a source
+//! to a sink.
 #![tactic(auto)]
 
 mod against;
 mod came;
-mod carrying;
 mod counts;
 mod ending;
 mod hearing;
 mod joining;
 mod last_part;
 pub mod laws;
-mod names;
 mod order;
-mod reading;
-mod skip;
 mod slots;
 mod streaming;
 
 pub use came::CameAs;
-pub use carrying::{CarriedAs, carried};
 pub use counts::Counts;
 pub use ending::{EndAs, JoinedAs, MisfitAs};
 pub use hearing::{HeardAs, LeftAs};
 pub use joining::{join_as, unfit};
 pub use last_part::LastPart;
+pub use lpt_carried::{CarriedPart, Name, Reading, Skip};
 pub use lpt_layout::{Layout, Octets, PartAs, PartLayout};
 pub use lpt_packet::{Direction, PacketFault};
 pub use lpt_part::PartFault;
 pub use lpt_pus::PusFault;
 pub use lpt_text::{Sink, Source, StreamFault};
-pub use names::NameAs;
 pub use order::Order;
-pub use reading::ReadingAs;
-pub use skip::SkipAs;
 pub use streaming::{hear, left_at};

@@ -5,7 +5,8 @@ ghost use Rattle.std.specs.Io.KnownBytes.{Keeps};
 ghost use Rattle.lpt_text.specs.Streams.{ReadEnds, WriteEnds};
 ghost use Rattle.lpt_layout_join.specs.Hearing.{Hears, IsEndless, ShowsHeard, heard, left_at};
 
-use crate::{HeardAs, LeftAs, NameAs, ReadingAs};
+use crate::{HeardAs, LeftAs};
+use lpt_carried::{Name, Reading};
 use lpt_frames::{FrameBuffer, Front};
 use lpt_text::{Sink, Source, StreamFault};
 use std::alloc::Global;
@@ -18,8 +19,8 @@ use std::alloc::Global;
 /// `Memory`.
 pub fn hear<S: Source, K: Sink>(
     alloc: Global,
-    reading: &ReadingAs,
-    name: Option<NameAs>,
+    reading: &Reading,
+    name: Option<Name>,
     source: &mut S,
     out: &mut K,
 ) -> Result<(HeardAs, LeftAs), StreamFault>

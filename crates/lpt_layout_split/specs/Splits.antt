@@ -7,7 +7,7 @@ use Rattle.lpt_layout.specs.declared.fault.LayoutFault.TheVariants as layout_fau
 use Rattle.lpt_layout.specs.Messages.{Said, HeadFits}
 use Rattle.lpt_layout.specs.Parts.{PieceFits, body_as}
 use Rattle.lpt_layout.specs.Writes.{octets_as}
-use Rattle.lpt_layout_join.specs.Carried.{kind_to}
+use Rattle.lpt_carried.specs.Carried.{kind_to}
 use Rattle.lpt_packet.specs.Sizes.{longest_packet}
 use Rattle.lpt_part.specs.declared.kind.Kind.{Kind}
 use Rattle.lpt_part.specs.Parts.{Piece, nth_part}

@@ -1,7 +1,7 @@
 -- The text of items.
 use Rattle.std.proofs.Common.{◌≡◌, ◌∙◌, ap, sym, refl, ℕ, List, [], ◌∷◌, ◌++◌, append-nil, append_assoc}
 use Rattle.lpt_list.specs.declared.form.Form.{Form}
-use Rattle.lpt_list.specs.Items.{Item, item_text, items_text}
+use Rattle.lpt_list.specs.Items.{Item, item_text, items_text, named}
 use Rattle.lpt_list.specs.Lists.{closing, line_of, opening}
 
 -- items behind others are written behind them
@@ -28,3 +28,8 @@ pub line_parts : (form : Form) (place : ℕ) (xs ys : List Item)
 line_parts form place xs ys =
     ap (λ l. l ++ closing form) (behind form (opening form place) xs ys)
     ∙ append_assoc (opening form place) (items_text form (xs ++ ys)) (closing form)
+
+-- a name in JSON stands before what is named
+pub name_before : (name more : List ℕ)
+    → 44 ∷ 34 ∷ (name ++ (34 ∷ 58 ∷ more)) ≡ named name ++ more
+name_before name more = ap (λ l. 44 ∷ 34 ∷ l) (sym (append_assoc name (34 ∷ 58 ∷ []) more))

@@ -1,3 +1,5 @@
+mod FrontLemmas
 mod ListLemmas
 pub mod ItemLemmas
+mod OwnLemmas
 pub mod SegmentLemmas

@@ -1,27 +1,22 @@
 -- What a line of a list says of octets.
-use Rattle.std.specs.Prelude.{ℕ, ◌/◌, ◌%◌, ◌==◌, ◌&&◌, if◌then◌else◌, List, [], ◌∷◌, ◌++◌, length, codes, Option, Some, None, Result, Ok, Err}
+use Rattle.std.specs.Prelude.{ℕ, ◌/◌, ◌%◌, ◌==◌, ◌&&◌, if◌then◌else◌, List, [], ◌∷◌, ◌++◌, length, codes, Option, Some, None}
 use Rattle.std.specs.Option.{option_map_or}
 use Rattle.std.specs.Fmt.{decimal}
 use Rattle.hex.specs.Hex.{encode_lower}
-use Rattle.lpt_packet.specs.declared.direction.Direction.TheVariants.{Up, Down}
+use Rattle.lpt_packet.specs.declared.direction.Direction.TheVariants.{Down}
 use Rattle.lpt_packet.specs.declared.fault.PacketFault.{PacketFault}
 use Rattle.lpt_packet.specs.declared.fault.PacketFault.TheVariants.{Short, Version, Length, Segmented, NoSecondary, Checksum}
 use Rattle.lpt_packet.specs.declared.packet.PacketKind.{PacketKind}
 use Rattle.lpt_packet.specs.declared.packet.PacketKind.TheVariants.{Tm, Tc}
 use Rattle.lpt_packet.specs.FaultNames as of_packet
 use Rattle.lpt_packet.specs.Numbers.{be, word_at}
-use Rattle.lpt_packet.specs.Packets.{Fields, fields_of, kind_of, Sight, IdlePacket, APacket, verdict}
-use Rattle.lpt_pus.specs.declared.fault.PusFault.{PusFault}
-use Rattle.lpt_pus.specs.FaultNames as of_header
-use Rattle.lpt_pus.specs.Commands.{Command, tc_verdict}
-use Rattle.lpt_pus.specs.Telemetry.{Telemetry, tm_verdict}
+use Rattle.lpt_packet.specs.Packets.{Fields, fields_of, kind_of}
 use Rattle.lpt_verify.specs.declared.report.Report.{Report}
 use Rattle.lpt_verify.specs.Reading.{report_in}
 use Rattle.lpt_part.specs.declared.kind.Kind.{Kind}
 use Rattle.lpt_part.specs.declared.reason.Reason.{Reason}
 use Rattle.lpt_part.specs.Aborts.{abort_in, reason_code}
-use Rattle.lpt_part.specs.Parts.{Piece, part_in}
-use Rattle.lpt_events.specs.Arrivals.{carried_kind}
+use Rattle.lpt_part.specs.Parts.{Piece}
 use Rattle.lpt_areas.specs.declared.areas.Areas.{Areas}
 use Rattle.lpt_areas.specs.Areas.{areas_in}
 use Rattle.lpt_list.specs.declared.form.Form.{Form}
@@ -74,31 +69,6 @@ primary_items f =
     ∷ Number (codes "apid") (codes "application_process_id") f.apid
     ∷ Number (codes "count") (codes "packet_sequence_count") f.count ∷ []
 
--- the secondary header of a telecommand
-abbrev pub tc_items : Command → List Item
-tc_items c =
-    Number (codes "flags") (codes "acknowledgement_flags") c.flags
-    ∷ Number (codes "service") (codes "service_type") c.service
-    ∷ Number (codes "subtype") (codes "message_subtype") c.subtype
-    ∷ Number (codes "source") (codes "source_id") c.source ∷ []
-
--- the first items of a telemetry packet's secondary header, and the others
-abbrev pub tm_front : Telemetry → List Item
-tm_front t =
-    Number (codes "status") (codes "spacecraft_time_reference_status") t.status
-    ∷ Number (codes "service") (codes "service_type") t.service
-    ∷ Number (codes "subtype") (codes "message_subtype") t.subtype ∷ []
-
-abbrev pub tm_rest : Telemetry → List Item
-tm_rest t =
-    Number (codes "counter") (codes "message_type_counter") t.counter
-    ∷ Number (codes "destination") (codes "destination_id") t.destination
-    ∷ Number (codes "time") (codes "time") t.time ∷ []
-
--- the secondary header of a telemetry packet
-abbrev pub tm_items : Telemetry → List Item
-tm_items t = tm_front t ++ tm_rest t
-
 -- a part of a large message, of so many octets
 abbrev pub part_fields : Kind → (id number octets : ℕ) → List Item
 part_fields kind id number octets =
@@ -149,10 +119,6 @@ fault_items code name = Number (codes "fault") (codes "fault_code") code ∷ Alo
 
 -- ---- what they carry
 
--- a body that should be a part of this kind
-abbrev pub part_said : ℕ → List ℕ → Kind → List Item
-part_said p body kind = option_map_or part_items (part_in p kind body) unread_items
-
 -- a body that should be an abortion report's
 abbrev pub abort_said : List ℕ → List Item
 abort_said body = option_map_or abort_items (abort_in body) []
@@ -161,12 +127,6 @@ abort_said body = option_map_or abort_items (abort_in body) []
 abbrev pub report_said : ℕ → List ℕ → List Item
 report_said subtype body = option_map_or report_items (report_in subtype body) []
 
--- what a telecommand carries, where that is a part or a request that names areas
-abbrev pub tc_carried : ℕ → Command → List Item
-tc_carried p c =
-    option_map_or (part_said p c.body) (carried_kind Up c.service c.subtype)
-    (areas_said (areas_in Up c.service c.subtype c.body))
-
 -- what telemetry carries that is no part, where that is a report
 abbrev pub reported : (service subtype : ℕ) → List ℕ → List Item
 reported service subtype body =
@@ -174,33 +134,7 @@ reported service subtype body =
     else if (service == 13) && (subtype == 16) then abort_said body
     else areas_said (areas_in Down service subtype body)
 
--- what telemetry carries, where that is a part or a report
-abbrev pub tm_carried : ℕ → Telemetry → List Item
-tm_carried p t =
-    option_map_or (part_said p t.body) (carried_kind Down t.service t.subtype)
-    (reported t.service t.subtype t.body)
-
 -- ---- octets
-
--- what is behind the primary header, where it is read as a telecommand's; or the first test that it
--- fails
-abbrev pub tc_said : ℕ → Result Command PusFault → List Item
-tc_said p (Ok c) = tc_items c ++ tc_carried p c
-tc_said p (Err e) = fault_items (of_header.code_of e) (of_header.name_of e)
-
--- what is behind it, where it is read as telemetry's; or the first test that it fails
-abbrev pub tm_said : ℕ → Result Telemetry PusFault → List Item
-tm_said p (Ok t) = tm_items t ++ tm_carried p t
-tm_said p (Err e) = fault_items (of_header.code_of e) (of_header.name_of e)
-
--- what is behind it in a packet of this type
-abbrev pub field_said : ℕ → PacketKind → Fields → List Item
-field_said p Tc f = tc_said p (tc_verdict f)
-field_said p Tm f = tm_said p (tm_verdict f)
-
--- a packet: its primary header, whatever stands behind it, and then that
-abbrev pub packet_said : ℕ → Fields → List Item
-packet_said p f = primary_items f ++ field_said p f.kind f
 
 -- the sequence flags of a segment of a message in several packets
 abbrev pub segment_text : ℕ → List ℕ
@@ -241,13 +175,3 @@ refused_items b e = refused_front b e ++ fault_items (of_packet.code_of e) (of_p
 -- an idle packet
 abbrev pub idle_items : List Item
 idle_items = Alone (codes "packet_type") (codes "idle") ∷ []
-
--- octets of this verdict
-abbrev pub verdict_said : ℕ → List ℕ → Result Sight PacketFault → List Item
-verdict_said p b (Ok IdlePacket) = idle_items
-verdict_said p b (Ok (APacket f)) = packet_said p f
-verdict_said p b (Err e) = refused_items b e
-
--- octets, for parts of p octets
-abbrev pub said : (p : ℕ) → List ℕ → List Item
-said p b = verdict_said p b (verdict b)

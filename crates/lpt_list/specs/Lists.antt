@@ -1,17 +1,26 @@
 -- The list of a stream.
-use Rattle.std.specs.Prelude.{◌≡◌, ◌≢◌, ℕ, ◌+◌, ◌≤◌, Bool, true, if◌then◌else◌, List, [], ◌∷◌, ◌++◌, length, codes, Option}
+use Rattle.std.specs.Prelude.{◌≡◌, ℕ, ◌+◌, Bool, true, false, if◌then◌else◌, List, [], ◌∷◌, ◌++◌, length, codes, Option, Some, None, Result, Ok, Err}
 use Rattle.std.specs.Fmt.{decimal}
-use Rattle.std.specs.Io.KnownBytes.{Appends, Consumes, IsAtEnd}
+use Rattle.std.specs.Io.KnownBytes.{Appends}
 use Rattle.lpt_stream.specs.declared.piece_kind.PieceKind.{PieceKind}
 use Rattle.lpt_stream.specs.declared.piece_kind.PieceKind.TheVariants.{Whole as APacket, Damaged, Stray}
 use Rattle.lpt_text.specs.Streams.{AppendsPart}
-use Rattle.lpt_stream.specs.Pieces.{Piece, Cuts, Leads, keeps_step}
+use Rattle.lpt_stream.specs.Takes.{LeavesBy, ReadsBy, TakenAll}
+use Rattle.lpt_stream.specs.Pieces.{Piece, keeps_step, up_to_limit}
+use Rattle.lpt_packet.specs.declared.fault.PacketFault.{PacketFault}
+use Rattle.lpt_packet.specs.declared.fault.PacketFault.TheVariants.{Short, Version, Length, Segmented, NoSecondary, Checksum}
+use Rattle.lpt_packet.specs.Packets.{Sight}
+use Rattle.lpt_layout.specs.Packets.{verdict_as}
+use Rattle.lpt_carried.specs.declared.layouts.Layouts.{Layouts}
+use Rattle.lpt_stream.specs.declared.cut.Cut.{Cut}
+use Rattle.lpt_stream.specs.declared.cut.Cut.TheVariants.{Sealed, Framed}
 use Rattle.lpt_list.specs.declared.form.Form.{Form}
 use Rattle.lpt_list.specs.declared.form.Form.TheVariants.{Text, Json}
 use Rattle.lpt_list.specs.declared.list_end.ListEnd.{ListEnd}
 use Rattle.lpt_list.specs.declared.list_end.ListEnd.TheVariants.{Whole, Stopped}
 use Rattle.lpt_list.specs.declared.list_end.Tally.{Tally}
-use Rattle.lpt_list.specs.Items.{Item, Alone, Number, items_text, said}
+use Rattle.lpt_list.specs.Said.{layout_in, said_as}
+use Rattle.lpt_list.specs.Items.{Item, Alone, Number, items_text}
 
 -- ---- a line
 
@@ -34,9 +43,13 @@ abbrev pub length_items : ℕ → List Item
 length_items n = Number (codes "length") (codes "length") n ∷ []
 
 -- the line of a packet, or of octets as long as their header says
-abbrev pub piece_line : Form → (p place : ℕ) → List ℕ → List ℕ
-piece_line form p place b =
-    line_of form place (length_items (length b) ++ said p b)
+abbrev pub piece_line : Form → Layouts → (place : ℕ) → List ℕ → List ℕ
+piece_line form l place b =
+    line_of form place (length_items (length b) ++ said_as l b)
+
+-- what octets are alone, in words
+abbrev pub decoding_as : Layouts → List ℕ → List ℕ
+decoding_as l b = (codes "packet" ++ items_text Text (said_as l b)) ++ (10 ∷ [])
 
 -- the line that no packet is at a place
 abbrev pub none_line : Form → (place : ℕ) → List ℕ
@@ -45,22 +58,17 @@ none_line form place = line_of form place (Alone (codes "packet_type") (codes "n
 -- ---- the list
 
 -- what is listed of a piece: octets that are nothing where they begin
-abbrev pub line_for : Form → (p place : ℕ) → (in_step : Bool) → PieceKind → List ℕ → List ℕ
-line_for form p place s APacket b = piece_line form p place b
-line_for form p place s Damaged b = piece_line form p place b
-line_for form p place s Stray b = if s then none_line form place else []
+abbrev pub line_for : Form → Layouts → (place : ℕ) → (in_step : Bool) → PieceKind → List ℕ → List ℕ
+line_for form l place s APacket b = piece_line form l place b
+line_for form l place s Damaged b = piece_line form l place b
+line_for form l place s Stray b = if s then none_line form place else []
 
--- what is listed of pieces
-abbrev pub listing : Form → (p place : ℕ) → (in_step : Bool) → List Piece → List ℕ
-listing form p place s [] = []
-listing form p place s (x ∷ xs) =
-    line_for form p place s x.kind x.octets
-    ++ listing form p (place + length x.octets) (keeps_step x.kind) xs
-
--- the place behind pieces
-abbrev pub place_behind : ℕ → List Piece → ℕ
-place_behind place [] = place
-place_behind place (x ∷ xs) = place_behind (place + length x.octets) xs
+-- what is listed of pieces; a place beyond 2^64 - 1 is told as that
+abbrev pub listing : Form → Layouts → (place : ℕ) → (in_step : Bool) → List Piece → List ℕ
+listing form l place s [] = []
+listing form l place s (x ∷ xs) =
+    line_for form l (up_to_limit place) s x.kind x.octets
+    ++ listing form l (place + length x.octets) (keeps_step x.kind) xs
 
 -- ---- what is no packet
 
@@ -71,67 +79,96 @@ no_tally = record { damaged = 0; stray = 0 }
 -- with a piece more: one that is as long as its header says, or an octet
 abbrev pub tally_with : PieceKind → Tally → Tally
 tally_with APacket t = t
-tally_with Damaged t = record t { damaged = t.damaged + 1 }
-tally_with Stray t = record t { stray = t.stray + 1 }
+tally_with Damaged t = record t { damaged = up_to_limit (t.damaged + 1) }
+tally_with Stray t = record t { stray = up_to_limit (t.stray + 1) }
+
+-- what octets of this verdict are that are as many as a header says: a packet, but where a checksum
+-- is wrong
+abbrev pub judged : Result Sight PacketFault → PieceKind
+judged (Ok s) = APacket
+judged (Err Short) = APacket
+judged (Err Version) = APacket
+judged (Err Length) = APacket
+judged (Err Segmented) = APacket
+judged (Err NoSecondary) = APacket
+judged (Err Checksum) = Damaged
+
+-- what a piece of this kind is, where its octets are of this verdict
+abbrev pub kind_judged : PieceKind → Result Sight PacketFault → PieceKind
+kind_judged APacket v = judged v
+kind_judged Damaged v = Damaged
+kind_judged Stray v = Stray
+
+-- what a piece is by the layout of its packet type
+abbrev pub kind_as : Layouts → PieceKind → List ℕ → PieceKind
+kind_as l k b = kind_judged k (verdict_as (layout_in l b).packets.has_checksum b)
 
 -- with pieces more
-abbrev pub tally_behind : Tally → List Piece → Tally
-tally_behind t [] = t
-tally_behind t (x ∷ xs) = tally_behind (tally_with x.kind t) xs
+abbrev pub tally_behind : Layouts → Tally → List Piece → Tally
+tally_behind l t [] = t
+tally_behind l t (x ∷ xs) = tally_behind l (tally_with (kind_as l x.kind x.octets) t) xs
 
 -- ---- a stream
 
--- each of the pieces is a packet, or an idle one
-abbrev pub ArePackets : List Piece → Type 0
-ArePackets [] = Unit {0}
-ArePackets (x ∷ xs) = (x.kind ≡ APacket) × ArePackets xs
+-- how a stream of these layouts is cut: by checksums, where all packets have one
+abbrev pub cut_of : (down up : Bool) → Cut
+cut_of true true = Sealed
+cut_of true false = Framed
+cut_of false up = Framed
 
--- the stream, which begins at a place, was read to its end, and its list written; where it is a
--- strict one, all of it is packets
-pub record ListsAll (form : Form) (p from : ℕ) (strict : Bool) (tally : Tally)
-    (before after old new : Option (List ℕ)) : Type 0 where
-  pub stream : List ℕ
-  pub pieces : List Piece
-  pub consumed : Consumes before after stream
-  pub at_end : IsAtEnd after
-  pub cut : Cuts stream pieces
-  pub only : strict ≡ true → ArePackets pieces
-  pub counted : tally ≡ tally_behind no_tally pieces
-  pub written : Appends old new (listing form p from true pieces)
+abbrev pub cut_for : Layouts → Cut
+cut_for l = cut_of l.telemetry.packets.has_checksum l.telecommands.packets.has_checksum
 
--- the stream was read up to its first piece that is no packet, and the list up to that written
-pub record ListsFront (form : Form) (p from : ℕ) (strict : Bool) (place : ℕ) (tally : Tally)
-    (before after old new : Option (List ℕ)) : Type 0 where
-  pub asked : strict ≡ true
-  pub stream : List ℕ
-  pub pieces : List Piece
-  pub last : Piece
-  pub step : Bool
-  pub rest : List ℕ
-  pub consumed : Consumes before after stream
-  pub cut : Leads true stream (pieces ++ last ∷ []) step rest
-  pub only : ArePackets pieces
-  pub none : last.kind ≢ APacket
-  pub at : place ≡ place_behind from pieces
-  pub counted : tally ≡ tally_behind no_tally (pieces ++ last ∷ [])
-  pub written : Appends old new (listing form p from true (pieces ++ last ∷ []))
+-- the place of the first piece that is no packet, where a list ends there, with a piece more
+abbrev pub stopped_with : (strict : Bool) → ℕ → PieceKind → Option ℕ → Option ℕ
+stopped_with strict place kind (Some n) = Some n
+stopped_with true place APacket None = None
+stopped_with true place Damaged None = Some place
+stopped_with true place Stray None = Some place
+stopped_with false place kind None = None
 
--- what a list that ended so, with so much that is no packet, has read and written
-abbrev pub ListsTo : Form → (p from : ℕ) → (strict : Bool) → ListEnd → Tally
+-- with pieces more
+abbrev pub stopped_behind : Layouts → (strict : Bool) → ℕ → Option ℕ → List Piece → Option ℕ
+stopped_behind l strict place at [] = at
+stopped_behind l strict place at (x ∷ xs) =
+    stopped_behind l strict (place + length x.octets)
+    (stopped_with strict (up_to_limit place) (kind_as l x.kind x.octets) at) xs
+
+-- how a list ends that ends there
+abbrev pub end_of : Option ℕ → ListEnd
+end_of None = Whole
+end_of (Some place) = Stopped place
+
+abbrev pub is_whole : ListEnd → Bool
+is_whole Whole = true
+is_whole (Stopped place) = false
+
+-- how the list of pieces ends of a stream that begins at a place, and how much of them is no packet
+pub record IsCounted (l : Layouts) (strict : Bool) (from : ℕ) (end : ListEnd) (tally : Tally)
+    (pieces : List Piece) : Type 0 where
+  pub ends : end ≡ end_of (stopped_behind l strict from None pieces)
+  pub counted : tally ≡ tally_behind l no_tally pieces
+
+-- what a list has read, counted and written: all of the stream, or where it is a strict one up to
+-- the first piece that is no packet
+abbrev pub ListsTo : Form → Layouts → (from : ℕ) → (strict : Bool) → ListEnd → Tally
     → (before after old new : Option (List ℕ)) → Type 0
-ListsTo form p from s Whole t before after old new = ListsAll form p from s t before after old new
-ListsTo form p from s (Stopped place) t before after old new =
-    ListsFront form p from s place t before after old new
-
--- more octets came than are listed
-abbrev pub IsTooLong : (from : ℕ) → (before after : Option (List ℕ)) → Type 0
-IsTooLong from before after =
-    (stream : List ℕ) × Consumes before after stream × (18446744073709420531 ≤ from + length stream)
+ListsTo form l from strict end tally before after old new =
+    ReadsBy (cut_for l) before after (is_whole end) (λ pieces.
+    IsCounted l strict from end tally pieces
+    × Appends old new (listing form l from true pieces))
 
 -- the stream was read up to a fault, and a front part of the list of what was read before is
 -- written
-abbrev pub ListLeaves : Form → (p from : ℕ) → (before after old new : Option (List ℕ)) → Type 0
-ListLeaves form p from before after old new =
-    (stream : List ℕ) × (lost : List ℕ) × (pieces : List Piece) × (t : Bool) × (rest : List ℕ)
-    × Consumes before after (stream ++ lost) × Leads true stream pieces t rest
-    × AppendsPart old new (listing form p from true pieces)
+abbrev pub ListLeaves : Form → Layouts → (from : ℕ) → (before after old new : Option (List ℕ))
+    → Type 0
+ListLeaves form l from before after old new =
+    LeavesBy (cut_for l) before after (λ pieces.
+    AppendsPart old new (listing form l from true pieces))
+
+-- a read failed: the list of all pieces that what was read before shows is written
+abbrev pub ListsAll : Form → Layouts → (from : ℕ) → (before after old new : Option (List ℕ))
+    → Type 0
+ListsAll form l from before after old new =
+    TakenAll (cut_for l) before after (λ pieces.
+    Appends old new (listing form l from true pieces))

@@ -1,55 +1,51 @@
 //! What octets say, as items that are added to a line.
 
-ghost use Rattle.std.specs.Prelude.{◌≡◌, ◌++◌, IfOk, OnOk};
+ghost use Rattle.std.specs.Prelude.{◌≡◌, ◌++◌, Err, IfOk, OnOk};
 ghost use Rattle.std.specs.String.{string_bytes};
-ghost use Rattle.lpt_packet.specs.Packets.{fields, verdict, Gives};
-ghost use Rattle.lpt_pus.specs.Commands.{command, tc_verdict};
-ghost use Rattle.lpt_pus.specs.Telemetry.{telemetry, tm_verdict};
-ghost use Rattle.lpt_part.specs.Splitting.{IsPartSize};
-ghost use Rattle.lpt_stream.specs.Pieces.{IsSealed};
-ghost use Rattle.lpt_list.specs.Items.{fault_items, field_said, idle_items, items_text, packet_said, part_fields, part_said, said, tc_carried, tc_said, tm_carried, tm_said, unread_items};
+ghost use Rattle.lpt_layout.specs.Messages.{message_verdict, said};
+ghost use Rattle.lpt_layout.specs.Packets.{Gives, fields, verdict_as};
+ghost use Rattle.lpt_carried.specs.Layouts.{SizeFits, SizesFit};
+ghost use Rattle.lpt_list.specs.Items.{fault_items, idle_items, items_text, part_fields, unread_items};
+ghost use Rattle.lpt_list.specs.Said.{carried_as, field_as, layout_in, message_as, other_as, packet_as, part_as, said_as};
 
 use crate::Form;
 use crate::areas::add_areas;
-use crate::headers::{add_primary, add_tc_head, add_tm_head};
+use crate::choice::{direction_of, kind_in};
+use crate::headers::{add_message, add_primary};
+use crate::parts::part_at;
 use crate::reports::add_reported;
 use crate::segments::print_refused;
 use lpt_areas::read_areas;
+use lpt_carried::{Layouts, Tailored};
 use lpt_events::part_kind;
-use lpt_packet::{Direction, Packet, PacketFault, PacketKind, Seen, read_packet, read_sealed};
-use lpt_part::{Kind, read_part};
-use lpt_pus::{TcHead, TmHead, read_tc, read_tm};
-use lpt_stream::PieceKind;
+use lpt_layout::{Message, PacketAs, SeenAs, read_tc_as, read_tm_as};
+use lpt_packet::{Direction, PacketFault, PacketKind};
+use lpt_part::Kind;
 use std::alloc::{AllocError, Global};
 
-// Adds what the octets of a piece of this kind say, for parts of `p` octets.
+// Adds what octets say by the layout of their packet type, which are read as this.
 pub(crate) fn add_said(
     alloc: Global,
     text: &mut String,
     form: Form,
-    kind: PieceKind,
+    layouts: &Layouts,
     octets: &[u8],
-    p: u32,
+    seen: &Result<SeenAs<'_>, PacketFault>,
 ) -> Result<(), AllocError>
-    requires size { IsPartSize p }
-    requires sealed { IsSealed kind octets.now }
+    requires sizes { SizesFit layouts.now }
+    requires seen { Gives seen.now
+        (verdict_as (layout_in layouts.now octets.now).packets.has_checksum octets.now) }
     ensures { OnOk result (string_bytes text.new
-        ≡ string_bytes text.old ++ items_text form (said p octets.now)) }
+        ≡ string_bytes text.old ++ items_text form (said_as layouts.now octets.now)) }
 {
-    match read_piece(kind, octets) {
-        Ok(Seen::Idle) => add_idle(text, form),
-        Ok(Seen::Packet(packet)) => add_packet(alloc, text, form, &packet, p),
-        Err(fault) => text.push_str(print_refused(alloc, form, octets, fault)?.as_str()),
+    match seen {
+        Ok(SeenAs::Idle) => add_idle(text, form),
+        Ok(SeenAs::Packet(packet)) => {
+            let tailored = layouts.tailored(direction_of(kind_in(octets)));
+            add_packet(alloc, text, form, tailored, packet)
+        }
+        Err(fault) => text.push_str(print_refused(alloc, form, octets, *fault)?.as_str()),
     }
-}
-
-/// That a packet is idle. The only error is out of memory.
-pub fn print_idle(alloc: Global, form: Form) -> Result<String, AllocError>
-    ensures { IfOk result (λ t. string_bytes t ≡ items_text form idle_items) }
-{
-    let mut text = String::new(alloc);
-    add_idle(&mut text, form)?;
-    Ok(text)
 }
 
 // Adds that a packet is idle.
@@ -63,87 +59,124 @@ fn add_idle(text: &mut String, form: Form) -> Result<(), AllocError>
     }
 }
 
-// The octets of a piece of this kind, read: a whole one's checksum was taken before.
-fn read_piece(kind: PieceKind, octets: &[u8]) -> Result<Seen<'_>, PacketFault>
-    requires { IsSealed kind octets.now }
-    ensures { Gives result (verdict octets.now) }
-{
-    match kind {
-        PieceKind::Whole => read_sealed(octets),
-        PieceKind::Damaged | PieceKind::Stray => read_packet(octets),
-    }
-}
-
 // Adds what a packet says: its primary header, and what is behind it.
 #[tactic(auto, using(crate::proofs::ItemLemmas::behind))]
 fn add_packet(
     alloc: Global,
     text: &mut String,
     form: Form,
-    packet: &Packet<'_>,
-    p: u32,
+    tailored: &Tailored,
+    packet: &PacketAs<'_>,
 ) -> Result<(), AllocError>
-    requires { IsPartSize p }
+    requires { SizeFits tailored.now }
     ensures { OnOk result (string_bytes text.new
-        ≡ string_bytes text.old ++ items_text form (packet_said p (fields packet.now))) }
+        ≡ string_bytes text.old ++ items_text form (packet_as tailored.now (fields packet.now))) }
 {
     add_primary(text, form, packet.kind, packet.apid, packet.count)?;
-    add_field(alloc, text, form, packet, p)
+    add_field(alloc, text, form, tailored, packet)
 }
 
-// Adds what is behind it.
+// Adds what is behind it, by its type.
 fn add_field(
     alloc: Global,
     text: &mut String,
     form: Form,
-    packet: &Packet<'_>,
-    p: u32,
+    tailored: &Tailored,
+    packet: &PacketAs<'_>,
 ) -> Result<(), AllocError>
-    requires { IsPartSize p }
+    requires { SizeFits tailored.now }
     ensures { OnOk result (string_bytes text.new ≡ string_bytes text.old
-        ++ items_text form (field_said p packet.now.kind (fields packet.now))) }
+        ++ items_text form (field_as tailored.now packet.now.kind
+        (message_verdict tailored.now.packets packet.now.kind (fields packet.now)))) }
 {
-    match packet.kind {
-        PacketKind::Tc => add_tc(text, form, packet, p),
-        PacketKind::Tm => add_tm(alloc, text, form, packet, p),
-    }
-}
-
-// Adds what is behind it in a telecommand.
-#[tactic(auto, using(crate::proofs::ItemLemmas::behind))]
-fn add_tc(text: &mut String, form: Form, packet: &Packet<'_>, p: u32) -> Result<(), AllocError>
-    requires { IsPartSize p }
-    ensures { OnOk result (string_bytes text.new ≡ string_bytes text.old
-        ++ items_text form (tc_said p (tc_verdict (fields packet.now)))) }
-{
-    match read_tc(packet) {
-        Ok((head, body)) => {
-            add_tc_head(text, form, &head)?;
-            add_tc_carried(text, form, &head, body, p)
-        }
+    let kind = packet.kind;
+    let read = match kind {
+        PacketKind::Tc => read_tc_as(&tailored.packets, packet),
+        PacketKind::Tm => read_tm_as(&tailored.packets, packet),
+    };
+    match read {
+        Ok(message) => add_read(alloc, text, form, tailored, kind, &message),
         Err(fault) => add_fault(text, form, fault.code(), fault.name()),
     }
 }
 
-// Adds what is behind it in telemetry.
+// Adds what a message says: its secondary header, and what it carries.
 #[tactic(auto, using(crate::proofs::ItemLemmas::behind))]
-fn add_tm(
+fn add_read(
     alloc: Global,
     text: &mut String,
     form: Form,
-    packet: &Packet<'_>,
-    p: u32,
+    tailored: &Tailored,
+    kind: PacketKind,
+    message: &Message<'_>,
 ) -> Result<(), AllocError>
-    requires { IsPartSize p }
+    requires { SizeFits tailored.now }
     ensures { OnOk result (string_bytes text.new ≡ string_bytes text.old
-        ++ items_text form (tm_said p (tm_verdict (fields packet.now)))) }
+        ++ items_text form (message_as tailored.now kind (said message.now))) }
 {
-    match read_tm(packet) {
-        Ok((head, body)) => {
-            add_tm_head(text, form, &head)?;
-            add_tm_carried(alloc, text, form, &head, body, p)
+    add_message(alloc, text, form, tailored, kind, message)?;
+    add_carried(alloc, text, form, tailored, kind, message)
+}
+
+// Adds the part, the request or the report that it carries, where it carries one.
+fn add_carried(
+    alloc: Global,
+    text: &mut String,
+    form: Form,
+    tailored: &Tailored,
+    kind: PacketKind,
+    message: &Message<'_>,
+) -> Result<(), AllocError>
+    requires { SizeFits tailored.now }
+    ensures { OnOk result (string_bytes text.new ≡ string_bytes text.old
+        ++ items_text form (carried_as tailored.now kind (said message.now))) }
+{
+    match part_kind(direction_of(kind), message.service, message.subtype) {
+        Some(part) => add_part(text, form, tailored, part, message.body),
+        None => add_other(alloc, text, form, kind, message),
+    }
+}
+
+// Adds the part of this kind that a body is, or that it isn't read as one.
+fn add_part(
+    text: &mut String,
+    form: Form,
+    tailored: &Tailored,
+    kind: Kind,
+    body: &[u8],
+) -> Result<(), AllocError>
+    requires { SizeFits tailored.now }
+    ensures { OnOk result (string_bytes text.new ≡ string_bytes text.old
+        ++ items_text form (part_as tailored.now body.now kind)) }
+{
+    match part_at(tailored, kind, body) {
+        Some(part) => {
+            let len = part.octets.len();
+            add_part_fields(text, form, part.kind, part.id, part.number, len)
         }
-        Err(fault) => add_fault(text, form, fault.code(), fault.name()),
+        None => add_unread(text, form),
+    }
+}
+
+// Adds the request or the report that a message is which carries no part, where it is one.
+fn add_other(
+    alloc: Global,
+    text: &mut String,
+    form: Form,
+    kind: PacketKind,
+    message: &Message<'_>,
+) -> Result<(), AllocError>
+    ensures { OnOk result (string_bytes text.new ≡ string_bytes text.old
+        ++ items_text form (other_as kind (said message.now))) }
+{
+    let (service, subtype) = (message.service, message.subtype);
+    match kind {
+        PacketKind::Tc => add_areas(
+            text,
+            form,
+            read_areas(Direction::Up, service, subtype, message.body),
+        ),
+        PacketKind::Tm => add_reported(alloc, text, form, service, subtype, message.body),
     }
 }
 
@@ -167,89 +200,7 @@ fn add_fault(text: &mut String, form: Form, code: u16, name: &str) -> Result<(),
     }
 }
 
-// Adds the part or the request that a telecommand carries, where it carries one.
-fn add_tc_carried(
-    text: &mut String,
-    form: Form,
-    head: &TcHead,
-    body: &[u8],
-    p: u32,
-) -> Result<(), AllocError>
-    requires { IsPartSize p }
-    ensures { OnOk result (string_bytes text.new ≡ string_bytes text.old
-        ++ items_text form (tc_carried p (command head.now body.now))) }
-{
-    let (service, subtype) = (head.service, head.subtype);
-    match part_kind(Direction::Up, service, subtype) {
-        Some(kind) => add_part(text, form, kind, body, p),
-        None => add_areas(
-            text,
-            form,
-            read_areas(Direction::Up, service, subtype, body),
-        ),
-    }
-}
-
-// Adds the part or the report that telemetry carries, where it carries one.
-fn add_tm_carried(
-    alloc: Global,
-    text: &mut String,
-    form: Form,
-    head: &TmHead,
-    body: &[u8],
-    p: u32,
-) -> Result<(), AllocError>
-    requires { IsPartSize p }
-    ensures { OnOk result (string_bytes text.new ≡ string_bytes text.old
-        ++ items_text form (tm_carried p (telemetry head.now body.now))) }
-{
-    let (service, subtype) = (head.service, head.subtype);
-    match part_kind(Direction::Down, service, subtype) {
-        Some(kind) => add_part(text, form, kind, body, p),
-        None => add_reported(alloc, text, form, service, subtype, body),
-    }
-}
-
-// Adds the part of this kind that a body is, or that it isn't read as one.
-fn add_part(
-    text: &mut String,
-    form: Form,
-    kind: Kind,
-    body: &[u8],
-    p: u32,
-) -> Result<(), AllocError>
-    requires { IsPartSize p }
-    ensures { OnOk result (string_bytes text.new
-        ≡ string_bytes text.old ++ items_text form (part_said p body.now kind)) }
-{
-    match read_part(kind, body, p) {
-        Ok(part) => {
-            let (id, number) = (u32::from(part.id), u32::from(part.number));
-            add_part_fields(text, form, part.kind, id, number, part.octets.len())
-        }
-        Err(_) => add_unread(text, form),
-    }
-}
-
-/// A part of this kind, identifier and number, and how many octets it has. The only error is out of
-/// memory.
-pub fn print_part(
-    alloc: Global,
-    form: Form,
-    kind: Kind,
-    id: u32,
-    number: u32,
-    octets: usize,
-) -> Result<String, AllocError>
-    ensures { IfOk result (λ t. string_bytes t
-        ≡ items_text form (part_fields kind id number octets)) }
-{
-    let mut text = String::new(alloc);
-    add_part_fields(&mut text, form, kind, id, number, octets)?;
-    Ok(text)
-}
-
-// Adds it.
+// Adds a part of this kind, identifier and number, and how many octets it has.
 fn add_part_fields(
     text: &mut String,
     form: Form,
@@ -270,15 +221,6 @@ fn add_part_fields(
             \"part_sequence_number\":{number},\"part_octets\":{octets}"
         ),
     }
-}
-
-/// That a part isn't read. The only error is out of memory.
-pub fn print_unread(alloc: Global, form: Form) -> Result<String, AllocError>
-    ensures { IfOk result (λ t. string_bytes t ≡ items_text form unread_items) }
-{
-    let mut text = String::new(alloc);
-    add_unread(&mut text, form)?;
-    Ok(text)
 }
 
 // Adds that a part isn't read.

@@ -1,32 +1,42 @@
-//! A list of the packets of a stream: a line for each, with its place, its length, and what its
-//! headers and its part or report say, as words or as an object of JSON. Where octets are no
-//! packet, a line says from which place on.
+//! A list of the packets of a stream by layouts, of which the profile's are the default: a line for
+//! each, with its place, its length, and what its headers and its part or report say, as words or
+//! as an object of JSON. Where octets are no packet, a line says from which place on.
 //!
-//! The main types are `Form`, words or JSON, and `Listed`, how a list ends. The first call is
-//! `list_stream`, with a source and a sink. `print_said` and what it is given print a line of
-//! another list.
+//! The main types are `Form`, words or JSON, and `Listed`, how a list ends and how much is no
+//! packet. The first call is `list_stream`, with a source and a sink; `decode_layouts` writes what
+//! octets are alone, and `told_in` finds by which other layout parts would be read. At the profile's
+//! layouts a list says what the profile's own readers read, which `laws::the_own_lists` says.
 #![tactic(auto)]
 
 mod areas;
+mod choice;
+mod decoding;
 mod form;
+mod fronts;
 mod headers;
 mod heads;
+mod hints;
+pub mod laws;
 mod lines;
 mod list_end;
+mod lister;
 mod listing;
+mod parts;
 mod reports;
 mod segments;
+mod told;
 
 pub use areas::print_areas;
+pub use decoding::decode_layouts;
 pub use form::Form;
-pub use headers::{joined, print_primary};
-pub use heads::{print_fault, print_idle, print_part, print_unread};
-pub use lines::{print_none, print_said};
+pub use fronts::told_in;
+pub use hints::{Hint, hint_of};
 pub use list_end::{ListEnd, Listed, Tally};
 pub use listing::list_stream;
 pub use lpt_areas::Areas;
+pub use lpt_carried::Layouts;
 pub use lpt_packet::{PacketFault, PacketKind};
-pub use lpt_part::Kind;
+pub use lpt_stream::Peer;
 pub use lpt_text::{Sink, Source, StreamFault};
-pub use reports::print_reported;
 pub use segments::print_refused;
+pub use told::{Told, is_read};

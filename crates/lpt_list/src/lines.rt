@@ -2,52 +2,38 @@
 
 ghost use Rattle.std.specs.Prelude.{◌≡◌, ◌++◌, IfOk};
 ghost use Rattle.std.specs.String.{string_bytes};
-ghost use Rattle.lpt_part.specs.Splitting.{IsPartSize};
-ghost use Rattle.lpt_stream.specs.Pieces.{IsSealed};
+ghost use Rattle.lpt_layout.specs.Packets.{Gives, verdict_as};
+ghost use Rattle.lpt_carried.specs.Layouts.{SizesFit};
+ghost use Rattle.lpt_list.specs.Said.{layout_in};
 ghost use Rattle.lpt_list.specs.declared.form.Form.TheVariants.{Json, Text};
 ghost use Rattle.lpt_list.specs.Items.{items_text};
 ghost use Rattle.lpt_list.specs.Lists.{closing, length_items, none_line, opening, piece_line};
 
 use crate::Form;
 use crate::heads::add_said;
-use lpt_stream::PieceKind;
+use lpt_carried::Layouts;
+use lpt_layout::SeenAs;
+use lpt_packet::PacketFault;
 use std::alloc::{AllocError, Global};
 
-// The line of a piece at a place of a stream, for parts of `p` octets (4 to 1024): its length, and
-// what it says, or the first test that it fails. The only error is out of memory.
+// The line of octets at a place of a stream, which are read as this: how many they are, and what
+// they say, or the first test that they fail. The only error is out of memory.
 #[tactic(auto, using(crate::proofs::ItemLemmas::line_parts))]
 pub(crate) fn print_piece(
     alloc: Global,
     form: Form,
-    p: u32,
+    layouts: &Layouts,
     place: u64,
-    kind: PieceKind,
     octets: &[u8],
+    seen: &Result<SeenAs<'_>, PacketFault>,
 ) -> Result<String, AllocError>
-    requires size { IsPartSize p }
-    requires sealed { IsSealed kind octets.now }
-    ensures { IfOk result (λ t. string_bytes t ≡ piece_line form p place octets.now) }
+    requires sizes { SizesFit layouts.now }
+    requires seen { Gives seen.now
+        (verdict_as (layout_in layouts.now octets.now).packets.has_checksum octets.now) }
+    ensures { IfOk result (λ t. string_bytes t ≡ piece_line form layouts.now place octets.now) }
 {
     let mut text = line_front(alloc, form, place, octets.len() as u64)?;
-    add_said(alloc, &mut text, form, kind, octets, p)?;
-    text.push_str(line_end(form))?;
-    Ok(text)
-}
-
-/// The line of so many octets at a place, which say this. The only error is out of memory.
-pub fn print_said(
-    alloc: Global,
-    form: Form,
-    place: u64,
-    len: u64,
-    said: &str,
-) -> Result<String, AllocError>
-    ensures { IfOk result (λ t. string_bytes t
-        ≡ ((opening form place ++ items_text form (length_items len)) ++ said.now)
-        ++ closing form) }
-{
-    let mut text = line_front(alloc, form, place, len)?;
-    text.push_str(said)?;
+    add_said(alloc, &mut text, form, layouts, octets, seen)?;
     text.push_str(line_end(form))?;
     Ok(text)
 }
@@ -68,8 +54,8 @@ fn line_front(alloc: Global, form: Form, place: u64, len: u64) -> Result<String,
     Ok(text)
 }
 
-/// The line that no packet is at a place. The only error is out of memory.
-pub fn print_none(alloc: Global, form: Form, place: u64) -> Result<String, AllocError>
+// The line that no packet is at a place. The only error is out of memory.
+pub(crate) fn print_none(alloc: Global, form: Form, place: u64) -> Result<String, AllocError>
     ensures { IfOk result (λ t. string_bytes t ≡ none_line form place) }
 {
     match form {

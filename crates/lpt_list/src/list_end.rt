@@ -1,6 +1,6 @@
 //! How a list ends.
 
-ghost use Rattle.std.specs.Prelude.{◌≡◌, ◌<◌, ◌+◌};
+ghost use Rattle.std.specs.Prelude.{◌≡◌};
 ghost use Rattle.lpt_list.specs.Lists.{tally_with};
 
 use lpt_stream::PieceKind;
@@ -14,7 +14,7 @@ pub enum ListEnd {
     Stopped(u64),
 }
 
-/// How much of a stream is no packet.
+/// How much of a stream is no packet. A count ends at 2^64 - 1.
 #[derive(Clone, Copy)]
 pub struct Tally {
     /// So many pieces, each as long as its header says.
@@ -34,19 +34,18 @@ pub struct Listed {
 
 // With a piece more.
 pub(crate) fn counted(tally: Tally, kind: PieceKind) -> Tally
-    requires { tally.damaged + tally.stray < 18446744073709420531 }
     ensures { result ≡ tally_with kind tally }
 {
     let Tally { damaged, stray } = tally;
     match kind {
         PieceKind::Whole => tally,
         PieceKind::Damaged => Tally {
-            damaged: damaged + 1,
+            damaged: damaged.saturating_add(1),
             stray,
         },
         PieceKind::Stray => Tally {
             damaged,
-            stray: stray + 1,
+            stray: stray.saturating_add(1),
         },
     }
 }

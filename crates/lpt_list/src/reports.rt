@@ -1,6 +1,6 @@
 //! What reports say, as items that are added to a line.
 
-ghost use Rattle.std.specs.Prelude.{◌≡◌, ◌++◌, IfOk, OnOk};
+ghost use Rattle.std.specs.Prelude.{◌≡◌, ◌++◌, OnOk};
 ghost use Rattle.std.specs.String.{string_bytes};
 ghost use Rattle.lpt_list.specs.Items.{abort_items, abort_said, code_items, items_text, report_items, report_said, reported, request_items};
 
@@ -15,24 +15,7 @@ use std::alloc::{AllocError, Global};
 /// The service type of request verification (ECSS-E-ST-70-41C).
 const VERIFICATION: u8 = 1;
 
-/// What telemetry of this message type carries that is no part, where that is a report. The only
-/// error is out of memory.
-pub fn print_reported(
-    alloc: Global,
-    form: Form,
-    service: u8,
-    subtype: u8,
-    body: &[u8],
-) -> Result<String, AllocError>
-    ensures { IfOk result (λ t. string_bytes t
-        ≡ items_text form (reported service subtype body.now)) }
-{
-    let mut text = String::new(alloc);
-    add_reported(alloc, &mut text, form, service, subtype, body)?;
-    Ok(text)
-}
-
-// Adds it.
+// Adds what telemetry of this message type carries that is no part, where that is a report.
 pub(crate) fn add_reported(
     alloc: Global,
     text: &mut String,

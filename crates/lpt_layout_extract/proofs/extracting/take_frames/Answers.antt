@@ -2,13 +2,12 @@
 use Rattle.std.proofs.Common.{◌≡◌, ◌∙◌, ap, sym, subst, refl, inr, take, [], Ok, arith}
 use Rattle.std.proofs.KnownBytes.{Consumes-nil, Keeps-refl}
 use Rattle.std.proofs.lemmas.Result.{err_from_is_err_and}
-use Rattle.lpt_stream.proofs.EndLemmas.{other-fault, reader-after, reader-kept, writer-after}
+use Rattle.lpt_stream.proofs.EndLemmas.{any-err, other-fault, reader-after, reader-kept, writer-after}
 use Rattle.lpt_frames.specs.declared.front.Front.{Front}
 use Rattle.lpt_frames.specs.Buffers.{held, FindsFrame}
 use Rattle.lpt_layout_join.specs.declared.hearing.LeftAs.TheVariants.{Stray}
 use Rattle.lpt_layout_join.specs.Hearing.{Leaves, left_at}
 use Rattle.lpt_layout_join.proofs.HearLemmas.{find-reader, leaves-at}
-use Rattle.lpt_extract.proofs.ReadLemmas.{any-err}
 use Rattle.lpt_layout_extract.proofs.TakeLemmas.{taking-endless, taking-fault, taking-lost, taking-more, taking-next, taking-none, taking-part, taking-stop}
 use Rattle.lpt_layout_extract.proofs.extracting.take_frames.Goals as goal
 

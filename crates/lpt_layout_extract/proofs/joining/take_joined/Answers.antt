@@ -4,7 +4,7 @@ use Rattle.std.proofs.KnownBytes.{Appends-kept, Consumes-nil}
 use Rattle.std.proofs.lemmas.Result.{err_from_is_err_and}
 use Rattle.lpt_text.specs.Streams.{AppendsPart}
 use Rattle.lpt_text.proofs.StreamLemmas.{part_whole}
-use Rattle.lpt_stream.proofs.EndLemmas.{other-fault, reader-after, reader-kept, writer-after}
+use Rattle.lpt_stream.proofs.EndLemmas.{any-err, other-fault, reader-after, reader-kept, writer-after}
 use Rattle.lpt_frames.specs.declared.front.Front.{Front}
 use Rattle.lpt_frames.specs.Buffers.{held, FindsFrame}
 use Rattle.lpt_layout_join.specs.declared.hearing.LeftAs.TheVariants.{Stray}
@@ -12,7 +12,6 @@ use Rattle.lpt_layout_join.specs.Hearing.{Leaves, left_at}
 use Rattle.lpt_layout_join.proofs.HearLemmas.{find-reader, leaves-at}
 use Rattle.lpt_layout_each.proofs.EachLemmas.{reading-endless, reading-more, reading-next, reading-none, reading-stop}
 use Rattle.lpt_extract.specs.Extracts.{written_first}
-use Rattle.lpt_extract.proofs.ReadLemmas.{any-err}
 use Rattle.lpt_layout_extract.specs.Joined.{areas_read}
 use Rattle.lpt_layout_extract.specs.JoinedInside.{IsJoined}
 use Rattle.lpt_layout_extract.proofs.JoinedLemmas.{joined-kept, joined-next, joined-nothing, leave-fault, leave-lost, leave-part, part-next, failed-before}

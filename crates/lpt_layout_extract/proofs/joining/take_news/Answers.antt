@@ -4,8 +4,8 @@ use Rattle.std.specs.Prelude.{IfErr, OnOk}
 use Rattle.std.proofs.lemmas.Result.{err_from_is_err_and}
 use Rattle.lpt_text.specs.Streams.{AppendsPart}
 use Rattle.lpt_text.proofs.StreamLemmas.{part_unchanged}
+use Rattle.lpt_stream.proofs.EndLemmas.{any-err}
 use Rattle.lpt_extract.specs.Extracts.{written_first}
-use Rattle.lpt_extract.proofs.ReadLemmas.{any-err}
 use Rattle.lpt_layout_each.specs.Told.{news_of}
 use Rattle.lpt_layout_each.proofs.EachLemmas.{taker-failed}
 use Rattle.lpt_layout_extract.specs.Extracts.{areas_in}

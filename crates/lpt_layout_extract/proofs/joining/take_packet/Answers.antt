@@ -2,10 +2,10 @@
 use Rattle.std.proofs.Common.{sym, subst, refl, false, Result}
 use Rattle.std.proofs.lemmas.Result.{err_from_is_err_and}
 use Rattle.lpt_text.specs.Streams.{AppendsPart}
+use Rattle.lpt_stream.proofs.EndLemmas.{any-err}
 use Rattle.lpt_extract.specs.Extracts.{written_first}
-use Rattle.lpt_extract.proofs.ReadLemmas.{any-err}
-use Rattle.lpt_layout_join.specs.declared.skip.SkipAs.{SkipAs}
-use Rattle.lpt_layout_join.specs.Carried.{Named}
+use Rattle.lpt_carried.specs.declared.skip.Skip.{Skip}
+use Rattle.lpt_carried.specs.Carried.{Named}
 use Rattle.lpt_layout_each.specs.News.{Hears}
 use Rattle.lpt_layout_each.proofs.HeldsLemmas.{told-none}
 use Rattle.lpt_layout_each.proofs.TellLemmas.{hears-nothing}
@@ -32,7 +32,7 @@ returns-in_ok-take_frame-in-Err-clause-read g c = λ bs h.
     let r = c.args.reading.now in
     let b = c.args.octets.now in
     let s = c.args.joining in
-    subst (λ (v : Result Named SkipAs). IsRead w r s.place (reads_by r bs b v) s.holding
+    subst (λ (v : Result Named Skip). IsRead w r s.place (reads_by r bs b v) s.holding
     c.take_frame.new.holding (g.K.Sink.contents c.args.out.now)
     (g.K.Sink.contents c.take_frame.new.out) (g.L.Listener.heard c.args.hearers.now.listener)
     (g.L.Listener.heard c.take_frame.new.listener)) (sym c.in-Err.ensures.exact)
@@ -55,7 +55,7 @@ returns-in_err-take_frame-in-Err-clause-part g c = λ bs h.
     let old = g.K.Sink.contents c.args.out.now in
     let new = g.K.Sink.contents c.take_frame.new.out in
     any-err _ c.from_residual-in_err-take_frame-in-Err.result
-    (subst (λ (v : Result Named SkipAs). AppendsPart old new
+    (subst (λ (v : Result Named Skip). AppendsPart old new
     (written_first w.at (areas_in w r.layout (reads_by r bs b v)))) (sym c.in-Err.ensures.exact)
     (part-one w r b old new c.in_err-take_frame-in-Err.ensures.part))
 

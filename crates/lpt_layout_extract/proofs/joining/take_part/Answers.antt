@@ -2,9 +2,9 @@
 use Rattle.std.proofs.Common.{◌≡◌, rules, subst, Some}
 use Rattle.lpt_text.specs.Streams.{AppendsPart}
 use Rattle.lpt_text.proofs.StreamLemmas.{part_unchanged}
+use Rattle.lpt_stream.proofs.EndLemmas.{any-err}
 use Rattle.lpt_extract.specs.Extracts.{written_first}
-use Rattle.lpt_extract.proofs.ReadLemmas.{any-err}
-use Rattle.lpt_layout_join.specs.Carried.{named}
+use Rattle.lpt_carried.specs.Carried.{named}
 use Rattle.lpt_layout_extract.specs.Extracts.{areas_in}
 use Rattle.lpt_layout_extract.specs.JoinedInside.{IsRead}
 use Rattle.lpt_layout_extract.proofs.JoinedLemmas.{read-nothing, reads-none, reads-some}

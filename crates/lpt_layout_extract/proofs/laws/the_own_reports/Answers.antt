@@ -1,5 +1,5 @@
 -- At the profile's own layout dump reports are the profile's own.
-use Rattle.lpt_layout_join.proofs.OwnLemmas.{field-octets}
+use Rattle.lpt_carried.proofs.OwnLemmas.{field-octets}
 use Rattle.lpt_layout_extract.proofs.OwnLemmas.{own-reports}
 use Rattle.lpt_layout_extract.proofs.laws.the_own_reports.Goals as goal
 

@@ -1,5 +1,5 @@
 -- The packet, the message in it and the body are read.
-use Rattle.lpt_layout_join.specs.Carried.{kind_to}
+use Rattle.lpt_carried.specs.Carried.{kind_to}
 use Rattle.lpt_layout_join.proofs.MadeLemmas.{made-is}
 use Rattle.lpt_layout_join.proofs.laws.made_is_carried.Goals as goal
 

@@ -1,0 +1,4 @@
+pub mod Carried
+pub mod Layouts
+pub mod Own
+pub mod Sizes

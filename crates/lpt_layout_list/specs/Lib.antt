@@ -1,3 +1,0 @@
-pub mod Hints
-pub mod Items
-pub mod Lists

@@ -1,0 +1,43 @@
+//! Parts that are read by a layout.
+
+ghost use Rattle.std.specs.Prelude.{◌≡◌, IfSome};
+ghost use Rattle.std.specs.Option.{option_map};
+ghost use Rattle.lpt_layout.specs.Parts.{IsPartSizeAs, a_size, piece};
+ghost use Rattle.lpt_carried.specs.Layouts.{SizeFits};
+ghost use Rattle.lpt_list.specs.Said.{part_at, size_for};
+
+use lpt_carried::Tailored;
+use lpt_layout::{Kind, PartAs, read_part_as};
+
+// The part of this kind that a body is, of the part size that is given, or else of any.
+pub(crate) fn part_at<'a>(tailored: &Tailored, kind: Kind, body: &'a [u8]) -> Option<PartAs<'a>>
+    requires { SizeFits tailored.now }
+    ensures { option_map piece result ≡ part_at tailored.now kind body.now }
+{
+    let size = size_for(tailored, body)?;
+    read_part_as(&tailored.parts, kind, body, size).ok()
+}
+
+// The part size by which a body is read: the one that is given, or as many octets as it has.
+fn size_for(tailored: &Tailored, body: &[u8]) -> Option<u32>
+    requires { SizeFits tailored.now }
+    ensures value { result ≡ size_for tailored.now body.now }
+    ensures size { IfSome result IsPartSizeAs }
+{
+    match tailored.part_size {
+        Some(size) => Some(size),
+        None => own_size(body.len().checked_sub(tailored.parts.header())?),
+    }
+}
+
+// So many octets, where they are a part size.
+fn own_size(len: usize) -> Option<u32>
+    ensures value { result ≡ a_size len }
+    ensures size { IfSome result IsPartSizeAs }
+{
+    if 1 <= len && len <= 65_535 {
+        Some(len as u32)
+    } else {
+        None
+    }
+}
