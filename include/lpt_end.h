@@ -355,7 +355,8 @@ uint32_t lpt_end_execute_given(LptEnd *end, const uint8_t *octets, size_t octets
 
 /*
  * Drops the oldest request, which has to be read, in place of executing it: it is never executed,
- * and nothing is reported of it. So one is dropped whose memory can't be read or written.
+ * and nothing is reported of it. So one is dropped whose memory can't be read or written; what was
+ * written of it is put back before.
  * LPT_DONE; LPT_E_NO_JOB, as always on ground; LPT_E_NOT_READ.
  */
 LPT_MUST_USE

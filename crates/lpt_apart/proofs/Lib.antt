@@ -1,7 +1,9 @@
 pub mod Aborts
 pub mod Accepting
+pub mod Alike
 pub mod Asking
 pub mod Awaiting
+pub mod Beside
 pub mod Bringing
 pub mod Clocks
 pub mod Closing
@@ -11,11 +13,13 @@ pub mod Fewer
 pub mod Freed
 pub mod Freeing
 pub mod Freely
+pub mod Handed
 pub mod Leaving
 pub mod Lessening
 pub mod Links
 pub mod Logs
 pub mod Losing
+pub mod Mirroring
 pub mod Moving
 pub mod Offers
 pub mod Played
@@ -24,9 +28,11 @@ pub mod Playing
 pub mod Promise
 pub mod Queues
 pub mod Retiring
+pub mod Serving
 pub mod Silence
 pub mod Staleness
 pub mod Stepping
 pub mod Telling
 pub mod Ties
+pub mod Upward
 pub mod Withheld

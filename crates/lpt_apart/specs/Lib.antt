@@ -1,4 +1,5 @@
 pub mod Clocks
+pub mod Drops
 pub mod Ends
 pub mod Facts
 pub mod Moves

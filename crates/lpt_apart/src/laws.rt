@@ -1,6 +1,7 @@
 //! What is proved of two ends apart: functions with empty bodies.
 
 ghost use Rattle.lpt_apart.specs.Clocks.{EndsWithClocksKeepThePromise};
+ghost use Rattle.lpt_apart.specs.Drops.{EndsThatDropServe};
 ghost use Rattle.lpt_apart.specs.Moves.{EndsApartAreAWorld, EndsApartKeepThePromise};
 ghost use Rattle.lpt_apart.specs.Plays.{WorldsAreEnds, StepsAreMoves};
 ghost use Rattle.lpt_apart.specs.Whole.{EndsApartWithholdNothing, EndsWithClocksWithholdNothing, EndsWithholdNothing, MovesBringTheSame, WorldsBringTheSame};
@@ -78,4 +79,13 @@ pub fn worlds_bring_the_same()
 /// The parts that came by steps come by the moves that these are.
 pub fn moves_bring_the_same()
     ensures { MovesBringTheSame }
+{}
+
+/// Take two ends apart that read a request at once, and drop some of them: before they are read,
+/// where a message of no octets is read in their place, or once they stand at the front and were
+/// read. Each request that was released is one that ground asked, or the message last opened under
+/// its name. The memories are their first content, changed by the executed requests in order of
+/// release, and what was dropped isn't among these.
+pub fn ends_that_drop_serve()
+    ensures { EndsThatDropServe }
 {}

@@ -3,8 +3,9 @@ use Rattle.std.proofs.Common.{◌≡◌, ◌∙◌, ap, sym, subst, refl, ℕ, �
 use Rattle.lpt_apart.specs.Clocks.{CanAll, after_all, no_pair_later}
 use Rattle.lpt_apart.specs.Ends.{node_at}
 use Rattle.lpt_apart.specs.Moves.{CanMove, Move, Pair, moved}
+use Rattle.lpt_apart.specs.Whole.{came_since, WithholdsNothing}
 use Rattle.lpt_apart.specs.Worlds.{IsPromised}
-use Rattle.lpt_apart.proofs.Clocks.{begun_later, joined, reached_keep}
+use Rattle.lpt_apart.proofs.Clocks.{begun_later, ends_with_clocks_withhold_nothing, joined, reached_keep}
 use Rattle.lpt_apart_kept.specs.Deeds.{with_memories, with_read}
 use Rattle.lpt_apart_kept.specs.Resets.{CanLive, CanLiveAll, Deed, Lived, Make, MakeForgotten, Reset, ResetEndsKeepThePromise, SendingsAreForgotten, Write, just_written, left_without, lived, lived_all, made, made_forgotten, side_of}
 use Rattle.lpt_apart_kept.proofs.Local.{Aboard, aboard, is_of_craft, is_of_ground, next_aboard, next_ground}
@@ -365,6 +366,9 @@ reset_ends_keep_the_promise c first g t k xs good_g good_t new ground craft can 
           subst (λ (p : Pair). IsPromised c first (after_all c p ms).ends) (sym new)
           (reached_keep c first g (after_all c q ms) good_g
           (joined c first q ms (begun_later c first g t good_g good_t) may));
+      whole =
+          subst (λ (p : Pair). WithholdsNothing c (after_all c p ms).ends.log (came_since c p ms))
+          (sym new) (ends_with_clocks_withhold_nothing c first g t ms good_g good_t may);
     }
 
 -- ---- what is sent

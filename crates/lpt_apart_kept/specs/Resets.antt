@@ -8,6 +8,7 @@ use Rattle.lpt_apart.specs.Clocks.{CanAll, after_all, later, no_pair_later}
 use Rattle.lpt_apart.specs.Ends.{node_at}
 use Rattle.lpt_apart.specs.Moves.{CanMove, Do, Free, Move, Pair, moved}
 use Rattle.lpt_apart.specs.Steps.{Accept, Apply, Claim, Commit, Expire, Finish, Open, Plain, Restart, Retire, Send, Tick}
+use Rattle.lpt_apart.specs.Whole.{came_since, WithholdsNothing}
 use Rattle.lpt_apart.specs.Worlds.{IsPromised}
 use Rattle.lpt_apart_kept.specs.Deeds.{Kept, end_at, read_back, written}
 use Rattle.lpt_events.specs.Configs.{IsConfig}
@@ -180,7 +181,8 @@ just_written c k = record {
 }
 
 -- What is left of what was done can be done, and comes to the nodes, jobs and memories that the
--- machines have. Two ends apart that did it keep the promise.
+-- machines have. Two ends apart that did it keep the promise, and what came whole with it was
+-- released.
 pub record IsLeft (c : Config) (first : Contents) (start : Pair) (l : Lived) : Type 0 where
   pub can : CanAll c start l.moves
   pub ground : l.kept.pair.ends.on_ground ≡ (after_all c start l.moves).ends.on_ground
@@ -188,6 +190,8 @@ pub record IsLeft (c : Config) (first : Contents) (start : Pair) (l : Lived) : T
   pub tickets : l.kept.pair.ends.tickets ≡ (after_all c start l.moves).ends.tickets
   pub memories : l.kept.pair.ends.memories ≡ (after_all c start l.moves).ends.memories
   pub promised : IsPromised c first (after_all c start l.moves).ends
+  pub whole : WithholdsNothing c (after_all c start l.moves).ends.log
+      (came_since c start l.moves)
 
 -- whatever was done with two new ends that were written, also where they were reset in between,
 -- once or again and again

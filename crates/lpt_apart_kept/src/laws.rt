@@ -26,7 +26,8 @@ pub fn kept_ends_keep_the_promise()
 /// Take two new ends that were written, and any list of moves, writings and resets of either
 /// machine, also such as come one behind the other, and such as come behind moves that weren't
 /// written. Then what was done, but for what resets deleted, is a history of two ends apart that
-/// comes to the nodes, jobs and memories that the machines have; so they keep the promise.
+/// comes to the nodes, jobs and memories that the machines have; so they keep the promise, and
+/// withhold nothing that came whole.
 ///
 /// A machine may be reset where the other end has done nothing that it couldn't do without what is
 /// deleted: where it was handed no packet that was put out since the last writing, and freed no

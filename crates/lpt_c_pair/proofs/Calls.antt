@@ -17,13 +17,13 @@ use Rattle.lpt_c_end.specs.declared.kept.Kept.{Kept}
 use Rattle.lpt_c_end.specs.declared.kept.Kept.TheVariants.{Nowhere, Here, Elsewhere}
 use Rattle.lpt_c_end.proofs.ReadyLemmas.{front_ready}
 use Rattle.lpt_c_pair.specs.Outboxes.{AllOnTheWay, NoneWaits}
-use Rattle.lpt_c_pair.specs.Pairs.{AreEndsOf, IsEndOf, Place, InEnd, WithProgram, kept_in, Call, Open, Part, Plain, Finish, LetGo, Packet, Expire, Tick, Read, Execute, ExecuteGiven, Retire, Restart, Resume, ResumeSized, freeing, moves, IsMoveOfGround, IsMoveOfCraft, CallsAreMoves}
+use Rattle.lpt_c_pair.specs.Pairs.{AreEndsOf, IsEndOf, Place, InEnd, WithProgram, kept_in, Call, Open, Part, Plain, Finish, LetGo, Packet, Expire, Tick, Read, Execute, ExecuteGiven, Retire, RetireFree, Restart, Resume, ResumeSized, freeing, moves, IsMoveOfGround, IsMoveOfCraft, CallsAreMoves}
 use Rattle.lpt_c_pair.proofs.Clockless.{refuses_open, refuses_send, sends, refuses_plain, asks, takes, refuses_expire, expires, reads, executes, executes_over}
 use Rattle.lpt_c_pair.proofs.GivenLemmas.{executed_sizes, not_short}
 use Rattle.lpt_c_pair.proofs.Resuming.{resumed_node}
 use Rattle.lpt_c_pair.proofs.GroundReports.{none_of_delivery, none_of_expiry}
 use Rattle.lpt_c_pair.proofs.Waiting.{stays, beside, adds, replaces, lets_go, freed_other, freed_this, as_listed, none_more}
-use Rattle.lpt_c_pair.proofs.Lemmas.{no_fault, not_refused, not_unsent, sizes_kept, refusal_kept, ground_becomes, craft_becomes, craft_fixed}
+use Rattle.lpt_c_pair.proofs.Lemmas.{free_stays, no_fault, not_refused, not_unsent, sizes_kept, refusal_kept, ground_becomes, craft_becomes, craft_fixed}
 use Rattle.lpt_packet.specs.declared.direction.Direction.{Direction}
 use Rattle.lpt_packet.specs.declared.direction.Direction.TheVariants.{Up, Down}
 use Rattle.lpt_packet.specs.Names.{Name}
@@ -264,6 +264,13 @@ module _ (c : Config) (p : Pair) (g k : End) (are : AreEndsOf c p g k) where
       ∙ done.0 in cc)
   on_ground (Retire direction name) new done vow =
       free_ground (direction_by direction) name new vow.0 vow.1 done.fixed done.node done.outbox
+  on_ground (RetireFree direction name) new done vow = (
+    tt,
+    ground_becomes c p p g new k are done.fixed
+        (done.node ∙ free_stays g.side g.node.at (direction_by direction) name vow
+        ∙ are.ground.node) refl refl refl
+        (quiet_ground p.ends new.outbox.items refl done.outbox).0 are.downwards,
+  )
   on_ground Restart new done vow = (
     (tt, tt),
     ground_becomes c p (after_all c p (moves Ground (Restart))) g new k are done.fixed
@@ -562,6 +569,13 @@ module _ (c : Config) (p : Pair) (g k : End) (are : AreEndsOf c p g k) where
   on_craft (ExecuteGiven octets) new done vow = craft_given octets are.place refl new done vow
   on_craft (Retire direction name) new done vow =
       free_craft (direction_by direction) name new vow.0 vow.1 done.fixed done.node done.outbox
+  on_craft (RetireFree direction name) new done vow = (
+    tt,
+    craft_fixed c p p g k new are done.fixed
+        (done.node ∙ free_stays k.side k.node.at (direction_by direction) name vow
+        ∙ are.craft.node) refl refl refl are.upwards
+        (quiet_craft p.ends new.outbox.items refl done.outbox).1,
+  )
   on_craft Restart new done vow = (
     (tt, tt),
     craft_fixed c p (after_all c p (moves Craft (Restart))) g k new are done.fixed

@@ -5,6 +5,7 @@ use Rattle.lpt_c_pair.specs.Pairs.{Call}
 use Rattle.lpt_c_pair.specs.Programs.{Act, Calls, Gives, Program, Puts, Settles, Told, Writes, acted, came_by, put_told, started, CanActAll}
 use Rattle.lpt_c_pair.specs.Resets.{Deed, Does, Keeps, Lived, Machines, ResetProgramsKeepTheirMemories, ResetsCraft, ResetsGround, Stays, CanLive, CanLiveAll, actor, did, just_begun, lived, lived_all, machines_of, stayed}
 use Rattle.lpt_c_pair.proofs.Programs.{programs_keep_their_memories}
+use Rattle.lpt_c_pair.proofs.Withholding.{programs_withhold_nothing}
 use Rattle.lpt_events.specs.declared.config.Config.{Config}
 use Rattle.lpt_events.specs.declared.side.Side.{Side}
 use Rattle.lpt_events.specs.declared.side.Side.TheVariants.{Ground, Craft}
@@ -296,4 +297,7 @@ reset_programs_keep_their_memories c a b none nothing sizes first g k xs good_g 
       kept =
           programs_keep_their_memories c a b none nothing sizes first g k l.acts good_g good_k
           same new_g new_k r.can;
+      whole =
+          programs_withhold_nothing c a b none nothing sizes first g k l.acts good_g good_k same
+          new_g new_k r.can;
     }

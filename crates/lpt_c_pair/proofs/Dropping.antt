@@ -9,6 +9,7 @@ use Rattle.lpt_c_end.specs.Kept.{memories_refusal, sizes_in}
 use Rattle.lpt_c_end.specs.declared.kept.Kept.{Kept}
 use Rattle.lpt_c_end.specs.declared.kept.Kept.TheVariants.{Here}
 use Rattle.lpt_c_pair.specs.Drops.{nothing_for, DroppedIsPassedOver, DropsOldest, GivenIsPassedOver}
+use Rattle.lpt_apart.proofs.Handed.{means_nothing, no_command, put_in_place, waits}
 use Rattle.lpt_c_pair.proofs.Lemmas.{no_fault, refusal_kept, sizes_kept}
 use Rattle.lpt_events.specs.declared.applied.Applied.TheVariants.{Silent}
 use Rattle.lpt_events.specs.declared.config.Config.{Config}
@@ -37,33 +38,6 @@ use Rattle.lpt_pus.specs.Numbers.{long_at}
 
 -- ---- a drop
 
--- a claim and a commit of a reading put it in the place of the oldest that waits
-pub put_in_place : (q : Jobs) (r : Source)
-    → after_commit (after_claim q) (next_claim q) r
-    ≡ record { first = q.first; jobs = set q.jobs (claimed_in q.jobs) (Committed r) }
-put_in_place q r =
-    let k : ℕ = claimed_in q.jobs in
-    let at : next_claim q - q.first ≡ k = omega arith in
-    ap (λ (n : ℕ). record { first = q.first; jobs = set (set q.jobs k Claimed) n (Committed r) }) at
-    ∙ ap (λ (js : List Job). record { first = q.first; jobs = js })
-    (set-set q.jobs k Claimed (Committed r))
-
--- what a reading of this message makes of an end in which that job waits longest
-abbrev pub handed_in : NodeData → Source → Option (ℕ × List ℕ) → NodeData
-handed_in d r o = (committed (claimed_of d o).0 (claimed_of d o).1.boot (claimed_of d o).1.job r).0
-
-pub waits : (d : NodeData) (r : Source) (o : Option (List ℕ))
-    → refusal_claim_of (option_map (λ m. (next_claim d.jobs, m)) o) ≡ None
-    → handed_in d r (option_map (λ m. (next_claim d.jobs, m)) o)
-    ≡ record d { jobs = after_commit (after_claim d.jobs) (next_claim d.jobs) r }
-waits d r None none = absurd cc
-waits d r (Some m) none =
-    let counts : NodeData × Bool =
-    (record d { jobs = after_commit (after_claim d.jobs) (next_claim d.jobs) r }, true) in
-    let stale : NodeData × Bool = (record d { jobs = after_claim d.jobs }, false) in
-    let chosen : Bool → NodeData × Bool = λ b. if b then counts else stale in
-    ap (λ (b : Bool). (chosen b).0) (eq_true d.boot d.boot refl)
-
 pub drops_oldest : DropsOldest
 drops_oldest e new w ms some allowed done =
     let d : NodeData = e.node.at in
@@ -79,16 +53,6 @@ drops_oldest e new w ms some allowed done =
     ∙ ap (λ (q : Jobs). record d { jobs = q }) (put_in_place d.jobs r)
 
 -- ---- its execution
-
--- no octets are a telecommand
-no_command : (apid : ℕ) → command_in apid [] ≡ None
-unfolding command_in seen spelling
-no_command apid = refl
-
-means_nothing : (apid : ℕ) (ms : Contents) → meant (nothing_for apid ms) ≡ Says
-unfolding meaning
-means_nothing apid ms =
-    ap (λ (o : Option Command). command_meaning (sizes_of ms) o) (no_command apid)
 
 opens_nothing : (o : Option Name) → opened_of o [] ≡ None
 opens_nothing None = refl
@@ -127,7 +91,7 @@ pub dropped_is_passed_over : DroppedIsPassedOver
 dropped_is_passed_over e new apid ms now some front done =
     let d : NodeData = e.node.at in
     let r : Source = nothing_for apid ms in
-    let says : meant r ≡ Says = means_nothing apid ms in
+    let says : meant r ≡ Says = means_nothing apid (sizes_of ms) in
     let left : NodeData × Execution = (record d { jobs = without_front d.jobs }, quiet) in
     let ends : ending_at e.config d now r ≡ Ends =
     ends_so e.config d apid ms (answer (meant r) now) (ap (λ (m : Meaning). answer m now) says) in
@@ -153,7 +117,7 @@ given_is_passed_over e new apid ms octets front done =
     let left : NodeData × Execution = (record d { jobs = without_front d.jobs }, quiet) in
     let ends : ending_given e.config d octets r ≡ Ends =
     ends_so e.config d apid ms (answer_of (meant r) octets)
-    (ap (λ (m : Meaning). answer_of m octets) (means_nothing apid ms)) in
+    (ap (λ (m : Meaning). answer_of m octets) (means_nothing apid (sizes_of ms))) in
     let all : executed_given e.config d octets ≡ left =
     ap (executed_so e.config d (ending_given e.config d octets)) front
     ∙ passes e.config d apid ms (ending_given e.config d octets r) ends in

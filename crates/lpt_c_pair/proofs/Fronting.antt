@@ -12,9 +12,9 @@ use Rattle.lpt_c_end.specs.Words.{direction_from as direction_by}
 use Rattle.lpt_c_end.specs.declared.end.End.{End}
 use Rattle.lpt_c_end.specs.declared.kept.Kept.{Kept}
 use Rattle.lpt_c_end.specs.declared.kept.Kept.TheVariants.{Nowhere, Here, Elsewhere}
-use Rattle.lpt_c_pair.specs.Pairs.{Call, Open, Part, Plain, Finish, LetGo, Packet, Expire, Tick, Read, Execute, ExecuteGiven, Retire, Restart, Resume, ResumeSized, IsDone}
+use Rattle.lpt_c_pair.specs.Pairs.{Call, Open, Part, Plain, Finish, LetGo, Packet, Expire, Tick, Read, Execute, ExecuteGiven, Retire, RetireFree, Restart, Resume, ResumeSized, IsDone}
 use Rattle.lpt_c_pair.specs.Programs.{Told, IsTold}
-use Rattle.lpt_c_pair.proofs.Dropping.{put_in_place, waits}
+use Rattle.lpt_apart.proofs.Handed.{put_in_place, waits}
 use Rattle.lpt_c_pair.proofs.Lemmas.{no_fault}
 use Rattle.lpt_c_pair.proofs.Telling.{copies, tells}
 use Rattle.lpt_events.specs.Arrivals.{arrival}
@@ -160,6 +160,9 @@ front_stays e new Read r done on front =
 front_stays e new Execute r done on front = absurd on
 front_stays e new (ExecuteGiven octets) r done on front = absurd on
 front_stays e new (Retire direction name) r done on front =
+    leaves r e.node.at (retired e.side e.node.at (direction_by direction) name) new.node.at
+    done.node (retired_leaves e.side e.node.at (direction_by direction) name) front
+front_stays e new (RetireFree direction name) r done on front =
     leaves r e.node.at (retired e.side e.node.at (direction_by direction) name) new.node.at
     done.node (retired_leaves e.side e.node.at (direction_by direction) name) front
 front_stays e new Restart r done on front = absurd on

@@ -7,6 +7,7 @@ use Rattle.lpt_c_pair.specs.Histories.{CarefulProgramsMayBeReset, Deed, History,
 use Rattle.lpt_c_pair.specs.Pairs.{Call, Resume, IsDone, IsKept, end_of}
 use Rattle.lpt_c_pair.specs.Runs.{Turn, Standing, begun, stood, CanStand, CanTurnBy}
 use Rattle.lpt_c_pair.proofs.Running.{ends_of_c_keep_the_promise}
+use Rattle.lpt_c_pair.proofs.Withholding.{ends_of_c_withhold_nothing}
 use Rattle.lpt_events.specs.declared.config.Config.{Config}
 use Rattle.lpt_events.specs.declared.side.Side.{Side}
 use Rattle.lpt_events.specs.declared.side.Side.TheVariants.{Ground, Craft}
@@ -152,6 +153,9 @@ reset_ends_of_c_keep_the_promise c a b none nothing ms content g k xs good_g goo
       on_craft = r.craft;
       kept =
           ends_of_c_keep_the_promise c a b none nothing ms content g k h.calls good_g good_k new_g
+          new_k r.can;
+      whole =
+          ends_of_c_withhold_nothing c a b none nothing ms content g k h.calls good_g good_k new_g
           new_k r.can;
     }
 

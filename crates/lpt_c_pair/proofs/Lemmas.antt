@@ -1,5 +1,6 @@
 -- Refusals that don't refuse, and ends that became others.
-use Rattle.std.proofs.Common.{◌≡◌, ◌∙◌, ap, sym, refl, ℕ, Bool, true, false, if◌then◌else◌, List, Option, Some, None}
+use Rattle.std.proofs.Common.{◌≡◌, ◌∙◌, ap, sym, refl, ℕ, Bool, true, false, if◌then◌else◌, List, Option, Some, None, is_some}
+use Rattle.std.specs.FinMap as maps
 use Rattle.lpt_apart.specs.Moves.{Pair}
 use Rattle.lpt_c_end.specs.Changes.{IsFixed}
 use Rattle.lpt_c_end.specs.Codes.{node_code}
@@ -8,13 +9,23 @@ use Rattle.lpt_c_end.specs.declared.end.End.{End}
 use Rattle.lpt_c_end.specs.Kept.{memories_refusal, sizes_in}
 use Rattle.lpt_c_pair.specs.Outboxes.{AllOnTheWay}
 use Rattle.lpt_c_pair.specs.Pairs.{AreEndsOf, Place, InEnd, WithProgram, kept_in}
+use Rattle.lpt_packet.specs.declared.direction.Direction.{Direction}
 use Rattle.lpt_packet.specs.declared.direction.Direction.TheVariants.{Up, Down}
+use Rattle.lpt_packet.specs.Names.{Name}
+use Rattle.lpt_events.specs.Lanes.{same_direction}
 use Rattle.lpt_events.specs.declared.config.Config.{Config}
+use Rattle.lpt_events.specs.declared.side.Side.{Side}
 use Rattle.lpt_jobs.specs.Jobs.{Head, NoJob, NotReady, Ready}
+use Rattle.lpt_ledger.specs.States.{state_at}
+use Rattle.lpt_ledger.specs.declared.state.State.{State}
+use Rattle.lpt_ledger.specs.declared.state.State.TheVariants as known
 use Rattle.lpt_memory.specs.Memories.{Contents, sizes_of}
 use Rattle.lpt_memory.specs.Readings.{Source}
 use Rattle.lpt_node.specs.Jobs.{refusal_apply_of}
+use Rattle.lpt_node.specs.Nodes.{NodeData, direction_from}
+use Rattle.lpt_node.specs.Restarts.{name_state, received_state, retired}
 use Rattle.lpt_node.specs.declared.fault.NodeFault.{NodeFault}
+use Rattle.lpt_node.proofs.RestartLemmas.{retired-free}
 use Rattle.lpt_model.specs.Tickets.{no_tickets}
 
 -- ---- refusals
@@ -46,6 +57,43 @@ pub was_read : (h : Head) → refusal_apply_of h ≡ None → IsRead h
 was_read NoJob none = absurd cc
 was_read NotReady none = absurd cc
 was_read (Ready r) none = record { read = r; is = refl }
+
+-- ---- names
+
+-- a name that is free where it is received has no mark
+free_mark : (t : Bool) (s : State)
+    → (if t then known.Open else s) ≡ known.Free
+    → s ≡ known.Free
+free_mark true s is = absurd cc
+free_mark false s is = is
+
+-- to free a name that is free changes nothing
+pub free_stays : (s : Side) (d : NodeData) (way : Direction) (name : Name)
+    → name_state s d way name ≡ known.Free
+    → retired s d way name ≡ d
+free_stays s d way name is = go (same_direction way (direction_from s)) is where
+  go : (t : Bool)
+      → (if t then state_at d.sending.ledger name else received_state d.receiving name)
+      ≡ known.Free
+      → (if t
+      then record d {
+        sending = record d.sending { ledger = maps.remove d.sending.ledger name };
+      }
+      else record d {
+        receiving = record d.receiving { ledger = maps.remove d.receiving.ledger name };
+      }) ≡ d
+  go true is = λ i. record d {
+    sending = record d.sending { ledger = sym (retired-free d.sending.ledger name is) i };
+  }
+  go false is =
+      let free : state_at d.receiving.ledger name ≡ known.Free =
+      free_mark (is_some (maps.get d.receiving.entries name))
+      (state_at d.receiving.ledger name) is in
+      λ i. record d {
+        receiving = record d.receiving {
+          ledger = sym (retired-free d.receiving.ledger name free) i;
+        };
+      }
 
 -- ---- memories
 

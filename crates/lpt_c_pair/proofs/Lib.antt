@@ -9,12 +9,15 @@ pub mod GivenLemmas
 mod GroundReports
 pub mod Handing
 pub mod Histories
+pub mod Keeping
+pub mod Leaving
 pub mod Lemmas
 pub mod Loading
 pub mod Programs
 pub mod Redoing
 pub mod Resuming
 pub mod Running
+pub mod Servicing
 pub mod Telling
 pub mod Waiting
 pub mod Withholding

@@ -122,7 +122,7 @@ module _ (c : Config) (first : Contents) (p : Program) (begun : IsKeeping c firs
       let r : AreTurned c p xs = turned xs can.0 in record { can = r.can; is = r.is }
   turned (Gives octets owed new ∷ xs) can =
       let r : AreTurned c p xs = turned xs can.0 in
-      let w = vow_of c first (came_by c p xs) octets owed new (all_acts c first p xs begun can.0)
+      let w = vow_of c (came_by c p xs) octets owed new (all_acts c first p xs begun can.0).own
       can.1 in
       record {
         can = (

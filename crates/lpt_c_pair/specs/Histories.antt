@@ -5,12 +5,14 @@
 -- run of calls.
 use Rattle.std.specs.Prelude.{◌≡◌, ◌⊎◌, ℕ, List, [], ◌∷◌, ⊤}
 use Rattle.lpt_apart.specs.Clocks.{later}
+use Rattle.lpt_apart.specs.Whole.{came_since, WithholdsNothing}
 use Rattle.lpt_c_end.specs.Changes.{IsNew}
 use Rattle.lpt_c_end.specs.Contents.{memories_told}
 use Rattle.lpt_c_end.specs.declared.end.End.{End}
 use Rattle.lpt_c_end.specs.declared.memories.LptMemory.{LptMemory}
 use Rattle.lpt_c_pair.specs.Pairs.{LetGo, Part, Plain, Resume, IsDone}
 use Rattle.lpt_c_pair.specs.Runs.{Turn, Standing, begun, stood, CanStand, CanTurnBy, KeepsThePromise}
+use Rattle.lpt_c_pair.specs.Withheld.{moves_of}
 use Rattle.lpt_events.specs.Configs.{IsConfig}
 use Rattle.lpt_events.specs.declared.config.Config.{Config}
 use Rattle.lpt_events.specs.declared.side.Side.{Side}
@@ -136,12 +138,15 @@ just_begun s = record {
   but_both = [];
 }
 
--- what is left can be done, comes to the ends that the programs have, and keeps the promise
+-- What is left can be done, comes to the ends that the programs have, and keeps the promise. What
+-- came whole with what is left was released.
 pub record IsLeft (c : Config) (first : Contents) (start : Standing) (h : History) : Type 0 where
   pub can : CanStand c start h.calls
   pub on_ground : h.on_ground ≡ (stood c start h.calls).on_ground
   pub on_craft : h.on_craft ≡ (stood c start h.calls).on_craft
   pub kept : KeepsThePromise c first (stood c start h.calls)
+  pub whole : WithholdsNothing c (stood c start h.calls).pair.ends.log
+      (came_since c start.pair (moves_of h.calls))
 
 -- whatever calls were made of two ends that were new, whenever machines were reset
 abbrev pub ResetEndsOfCKeepThePromise : Type 0

@@ -2,6 +2,7 @@ pub mod Answers
 pub mod Drops
 pub mod Handed
 pub mod Histories
+pub mod Keepers
 pub mod Loads
 pub mod Outboxes
 pub mod Pairs
@@ -9,4 +10,5 @@ pub mod Programs
 pub mod Redo
 pub mod Resets
 pub mod Runs
+pub mod Services
 pub mod Withheld

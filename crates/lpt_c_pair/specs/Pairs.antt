@@ -28,9 +28,11 @@ use Rattle.lpt_events.specs.declared.side.Side.{Side}
 use Rattle.lpt_events.specs.declared.side.Side.TheVariants.{Ground, Craft}
 use Rattle.lpt_events.specs.declared.worker.Worker.TheVariants.{W1}
 use Rattle.lpt_jobs.specs.Jobs.{head_of}
+use Rattle.lpt_ledger.specs.declared.state.State.TheVariants as known
 use Rattle.lpt_memory.specs.Memories.{Contents, sizes_of}
 use Rattle.lpt_node.specs.Jobs.{FrontHolds}
 use Rattle.lpt_node.specs.Nodes.{NodeData, direction_from}
+use Rattle.lpt_node.specs.Restarts.{name_state}
 use Rattle.lpt_model.specs.Tickets.{no_tickets}
 use Rattle.lpt_state.specs.Spellings.{spelled}
 
@@ -69,8 +71,9 @@ pub record AreEndsOf (c : Config) (p : Pair) (on_ground on_craft : End) : Type 0
 
 -- ---- calls
 
--- A call of an end, as `include/lpt_end.h` has them; a name is freed in a direction, by its number.
--- An end is made again of its state, in place of the one that its program had.
+-- A call of an end, as `include/lpt_end.h` has them; a name is freed in a direction, by its number,
+-- also one that is free. An end is made again of its state, in place of the one that its program
+-- had.
 --
 -- Assumed: A C program drops no request.
 pub data Call : Type 0 where
@@ -86,6 +89,7 @@ pub data Call : Type 0 where
   Execute : Call
   ExecuteGiven : (octets : List ℕ) → Call
   Retire : (direction : ℕ) → Name → Call
+  RetireFree : (direction : ℕ) → Name → Call
   Restart : Call
   Resume : Config → (state : List ℕ) → List LptMemory → (content : List ℕ) → Call
   ResumeSized : Config → (state : List ℕ) → List LptSize → Call
@@ -107,6 +111,7 @@ IsDone Execute e new = (execute_refusal e ≡ None) × IsExecuted e new
 IsDone (ExecuteGiven octets) e new =
     (given_refusal octets e ≡ None) × IsExecutedGiven octets e new
 IsDone (Retire direction name) e new = IsRetired direction name e new
+IsDone (RetireFree direction name) e new = IsRetired direction name e new
 IsDone Restart e new = IsRestarted e new
 IsDone (Resume config state ms content) e new = IsResumed e.side config state ms content new
 IsDone (ResumeSized config state sizes) e new = IsResumedSized config state sizes new
@@ -135,6 +140,7 @@ moves side Read = Do (step.Commit W1) ∷ Do (step.Claim W1) ∷ []
 moves side Execute = Do step.Apply ∷ []
 moves side (ExecuteGiven octets) = Do step.Apply ∷ []
 moves side (Retire direction name) = freeing side (direction_by direction) name ∷ []
+moves side (RetireFree direction name) = []
 moves side Restart = Do (step.Restart side) ∷ []
 moves side (Resume config state ms content) = Do (step.Restart side) ∷ []
 moves side (ResumeSized config state sizes) = Do (step.Restart side) ∷ []
@@ -162,9 +168,10 @@ end_of Craft g k = k
 -- A name's numbers and octets are of their types. Octets that are handed over were put out by the
 -- other end and may come still, or are no part and no request. Octets that a request is given are
 -- those that the program's memories have where it reads. A name is freed at its receiver
--- where it is over, and at its sender after that, and none of its parts waits at its sender. An end
--- is made again of what was kept of it, in a configuration that is the same but for the clock. What
--- an end did and wasn't kept is no call: nothing of it was acted on or sent.
+-- where it is over, and at its sender after that, and none of its parts waits at its sender; or it
+-- is free there as `lpt_end_name` tells it. An end is made again of what was kept of it, in a
+-- configuration that is the same but for the clock. What an end did and wasn't kept is no call:
+-- nothing of it was acted on or sent.
 abbrev pub Promises : Config → Pair → (on_ground on_craft : End) → Side → Call → Type 0
 Promises c p g k side (Open name m) = IsEvent (event.Open (direction_from side) name m)
 Promises c p g k side (Part name n) = IsEvent (event.Send (direction_from side) name n)
@@ -182,6 +189,9 @@ Promises c p g k side (ExecuteGiven octets) =
 Promises c p g k side (Retire direction name) =
     CanMove c p (freeing side (direction_by direction) name)
     × NoneWaits p.ends (direction_by direction) name g k
+Promises c p g k side (RetireFree direction name) =
+    name_state (end_of side g k).side (end_of side g k).node.at (direction_by direction) name
+    ≡ known.Free
 Promises c p g k side Restart = ⊤
 Promises c p g k side (Resume config state ms content) =
     IsKept c (end_of side g k) config state (memories_of (end_of side g k).side ms content)

@@ -5,6 +5,7 @@
 -- memories: those stay as they are.
 use Rattle.std.specs.Prelude.{◌≡◌, ℕ, List, [], ◌∷◌, ◌++◌, map, ⊤}
 use Rattle.lpt_apart.specs.Clocks.{later}
+use Rattle.lpt_apart.specs.Whole.{came_since, WithholdsNothing}
 use Rattle.lpt_c_end.specs.Changes.{IsNew}
 use Rattle.lpt_c_end.specs.Sizes.{size_said, IsNewSized}
 use Rattle.lpt_c_end.specs.declared.end.End.{End}
@@ -12,6 +13,7 @@ use Rattle.lpt_c_end.specs.declared.memories.LptMemory.{LptMemory}
 use Rattle.lpt_c_end.specs.declared.sizing.LptSize.{LptSize}
 use Rattle.lpt_c_pair.specs.Pairs.{Resume, ResumeSized}
 use Rattle.lpt_c_pair.specs.Programs.{Act, Calls, Gives, KeepsItsMemories, Program, Puts, Settles, Told, Writes, came_by, put_told, started, CanAct, CanActAll}
+use Rattle.lpt_c_pair.specs.Withheld.{moves_of, turns_of}
 use Rattle.lpt_events.specs.Configs.{IsConfig}
 use Rattle.lpt_events.specs.declared.config.Config.{Config}
 use Rattle.lpt_events.specs.declared.side.Side.{Side}
@@ -180,11 +182,14 @@ just_begun start = record {
 }
 
 -- What is left of all that was done can be done, and comes to the ends, the memories and what is
--- owed that the machines have. So they keep the promise, and the memories are as it says.
+-- owed that the machines have. So they keep the promise, and the memories are as it says. What came
+-- whole with what is left was released.
 pub record IsLeft (c : Config) (first : Contents) (start : Program) (l : Lived) : Type 0 where
   pub can : CanActAll c start l.acts
   pub machines : l.machines ≡ machines_of (came_by c start l.acts)
   pub kept : KeepsItsMemories c first (came_by c start l.acts)
+  pub whole : WithholdsNothing c (came_by c start l.acts).ends.pair.ends.log
+      (came_since c start.ends.pair (moves_of (turns_of l.acts)))
 
 -- whatever was done with two new ends and with memories that begin so, whenever machines were reset
 abbrev pub ResetProgramsKeepTheirMemories : Type 0

@@ -4,12 +4,14 @@ ghost use Rattle.lpt_c_pair.specs.Answers.{ZeroIsAlwaysDone};
 ghost use Rattle.lpt_c_pair.specs.Drops.{DroppedIsPassedOver, DropsOldest, GivenIsPassedOver};
 ghost use Rattle.lpt_c_pair.specs.Handed.{ExecutionsAreTold, GivenExecutionsAreTold, MessagesAreHanded, MessagesStay};
 ghost use Rattle.lpt_c_pair.specs.Histories.{CarefulProgramsMayBeReset, ResetEndsOfCKeepThePromise, SendingsLeaveTheState};
+ghost use Rattle.lpt_c_pair.specs.Keepers.{ProgramsThatDropServe};
 ghost use Rattle.lpt_c_pair.specs.Loads.{LoadsGoWhereTheySay};
 ghost use Rattle.lpt_c_pair.specs.Pairs.{CallsAreMoves};
 ghost use Rattle.lpt_c_pair.specs.Programs.{ProgramsKeepTheirMemories};
 ghost use Rattle.lpt_c_pair.specs.Redo.{WritesCanBeMadeAgain, WritesCanBeTakenBack};
 ghost use Rattle.lpt_c_pair.specs.Resets.{CarefulMachinesMayBeReset, ResetProgramsKeepTheirMemories};
 ghost use Rattle.lpt_c_pair.specs.Runs.{EndsOfCKeepThePromise};
+ghost use Rattle.lpt_c_pair.specs.Services.{EndsOfCThatDropServe};
 ghost use Rattle.lpt_c_pair.specs.Withheld.{EndsOfCWithholdNothing, ProgramsWithholdNothing};
 
 /// Where two ends behind handles are those of two ends apart, and one of them is called, answers 0,
@@ -44,8 +46,9 @@ pub fn ends_of_c_withhold_nothing()
 {}
 
 /// So it is whenever a machine is reset, once or again and again, also where its program had made
-/// calls that it hadn't kept: what is left of all calls comes to the ends that the programs have.
-/// Nothing of what is deleted was handed to the other end.
+/// calls that it hadn't kept: what is left of all calls comes to the ends that the programs have,
+/// and what came whole with it was released. Nothing of what is deleted was handed to the other
+/// end.
 ///
 /// Where the spacecraft's program has the memories, what is left comes to these and to what it owes
 /// too; since it last kept its end, they were changed only by what it owed then, or put back.
@@ -99,6 +102,20 @@ pub fn dropped_is_never_executed()
     ensures drop { DropsOldest }
     ensures execute { DroppedIsPassedOver }
     ensures given { GivenIsPassedOver }
+{}
+
+/// A program that serves other services drops their requests, and keeps this. Take two new ends, of
+/// which the spacecraft's has its memories, and any list of calls of them that answered 0,
+/// `lpt_end_drop` and `lpt_end_drop_read` among them, the programs keeping what they promise. Then
+/// the ends are two ends apart. Each request that was released is one that ground asked, or the
+/// message last opened under its name. The spacecraft's memories are their first content, changed
+/// by the executed requests in order of release, and none that was dropped is among these.
+///
+/// So it is too where its program has the memories. It may put back what it wrote ahead of a
+/// request that it then drops.
+pub fn ends_of_c_that_drop_serve()
+    ensures in_end { EndsOfCThatDropServe }
+    ensures with_program { ProgramsThatDropServe }
 {}
 
 /// A load that is executed, once it is the oldest request of all, is carried out or refused. Where

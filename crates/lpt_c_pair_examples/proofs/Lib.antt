@@ -1,3 +1,4 @@
 pub mod Computed
 pub mod Making
+pub mod Serving
 pub mod Working

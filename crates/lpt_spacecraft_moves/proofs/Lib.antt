@@ -1,6 +1,8 @@
 pub mod AcceptRuns
 pub mod ClearRuns
 pub mod InputRuns
+pub mod Living
+pub mod OctetLogs
 pub mod OpenedLemmas
 pub mod PartRuns
 pub mod RequestRuns

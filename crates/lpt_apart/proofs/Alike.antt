@@ -1,0 +1,274 @@
+-- What of a node of the spacecraft is the same whatever it sends; what ground takes of a part.
+use Rattle.std.proofs.Common.{◌≡◌, ◌∙◌, sym, refl, ℕ, Bool, true, false, ◌==◌, if◌then◌else◌, List, ◌∷◌, Option, Some, None}
+use Rattle.lpt_packet.specs.declared.direction.Direction.TheVariants.{Down}
+use Rattle.lpt_packet.specs.Names.{Name}
+use Rattle.lpt_pus.specs.Telemetry.{Telemetry}
+use Rattle.lpt_memory.specs.Memories.{Contents}
+use Rattle.lpt_memory.specs.Readings.{Source}
+use Rattle.lpt_events.specs.Arrivals.{Arrival, NotRead, AnIdle, Foreign, ARequest, AReport, NoPart, APart, AnAbort}
+use Rattle.lpt_events.specs.NamedParts.{NamedPart}
+use Rattle.lpt_events.specs.declared.config.Config.{Config}
+use Rattle.lpt_events.specs.declared.side.Side.TheVariants.{Ground, Craft}
+use Rattle.lpt_execution.specs.declared.ending.Ending.{Ending}
+use Rattle.lpt_jobs.specs.Jobs.{Head, Jobs, NoJob, NotReady, Ready, after_claim, after_commit}
+use Rattle.lpt_ledger.specs.States.{state_at}
+use Rattle.lpt_ledger.specs.declared.state.State.{State}
+use Rattle.lpt_ledger.specs.declared.state.State.TheVariants.{Free as AFree, Open as AnOpen, Closed}
+use Rattle.lpt_model.specs.State.{released_of}
+use Rattle.lpt_node.specs.Accepting.{accepted}
+use Rattle.lpt_node.specs.Jobs.{claimed_of, committed, ending_at, executed_ending, executed_of, with_opened}
+use Rattle.lpt_node.specs.Nodes.{NodeData, Sending}
+use Rattle.lpt_node.specs.Receivers.{ReceiverState, abort_report, after_offer, ended, if_free, kept_of, parts_with, received, received_from, table_in}
+use Rattle.lpt_node.specs.Receiving.{abort_head, after_received, parted, receiver_of, with_receiver, with_report}
+use Rattle.lpt_node.specs.Sending.{sent_of}
+use Rattle.lpt_node.specs.declared.accepted.Accepted.{Accepted}
+use Rattle.lpt_part.specs.declared.reason.Reason.TheVariants as reason
+use Rattle.lpt_reception.specs.Received.{Parts}
+use Rattle.lpt_table.specs.Offering as offering
+use Rattle.lpt_table.specs.Offering.{OfferKind, offered}
+use Rattle.lpt_table.specs.Tables.{Entries, TableState}
+use Rattle.lpt_apart.specs.Facts.{Aborted, Log, Released, with_abortion}
+use Rattle.lpt_apart.specs.Steps.{with_release}
+use Rattle.lpt_apart.proofs.Upward.{IsLike, adds_one}
+
+-- ---- nodes
+
+-- what of a node of the spacecraft is in the core
+pub record IsSame (d new : NodeData) : Type 0 where
+  pub receiving : new.receiving ≡ d.receiving
+  pub clock : new.clock ≡ d.clock
+  pub boot : new.boot ≡ d.boot
+
+pub same_sent : (c : Config) (d : NodeData) (name : Name) (k : ℕ) (o : Option (List ℕ))
+    → IsSame d (sent_of Craft c d name k o).0
+same_sent c d name k None = record { receiving = refl; clock = refl; boot = refl }
+same_sent c d name k (Some m) = record { receiving = refl; clock = refl; boot = refl }
+
+same_opened : (d : NodeData) (o : Option (Name × List ℕ)) → IsSame d (with_opened d o)
+same_opened d None = record { receiving = refl; clock = refl; boot = refl }
+same_opened d (Some x) = record { receiving = refl; clock = refl; boot = refl }
+
+pub same_executed : (c : Config) (d : NodeData) (ms : Contents) (h : Head)
+    → IsSame d (executed_of c d ms h).0.0
+same_executed c d ms NoJob = record { receiving = refl; clock = refl; boot = refl }
+same_executed c d ms NotReady = record { receiving = refl; clock = refl; boot = refl }
+same_executed c d ms (Ready r) =
+    let end : Ending = ending_at c d ms r in
+    let s = same_opened _ (executed_ending c d r end).1.opened in
+    record { receiving = s.receiving; clock = s.clock; boot = s.boot }
+
+one_of : (d : NodeData) (t : Bool) (x y : NodeData × Bool)
+    → IsSame d x.0
+    → IsSame d y.0
+    → IsSame d (if t then x else y).0
+one_of d true x y of_x of_y = of_x
+one_of d false x y of_x of_y = of_y
+
+pub same_read : (d : NodeData) (o : Option (ℕ × List ℕ)) (r : Source)
+    → IsSame d (committed (claimed_of d o).0 (claimed_of d o).1.boot (claimed_of d o).1.job r).0
+same_read d None r =
+    one_of d (d.boot == d.boot) (record d { jobs = after_commit d.jobs 0 r }, true) (d, false)
+    (record { receiving = refl; clock = refl; boot = refl })
+    (record { receiving = refl; clock = refl; boot = refl })
+same_read d (Some x) r =
+    let e : NodeData = record d { jobs = after_claim d.jobs } in
+    one_of d (d.boot == d.boot) (record e { jobs = after_commit e.jobs x.0 r }, true) (e, false)
+    (record { receiving = refl; clock = refl; boot = refl })
+    (record { receiving = refl; clock = refl; boot = refl })
+
+-- ---- what the spacecraft takes
+
+-- two nodes of the spacecraft that have the same receiver take the same
+pub record AreAlike (x y : NodeData × Accepted) : Type 0 where
+  pub receiving : y.0.receiving ≡ x.0.receiving
+  pub clock : y.0.clock ≡ x.0.clock
+  pub boot : y.0.boot ≡ x.0.boot
+  pub outcome : y.1.outcome ≡ x.1.outcome
+  pub released : y.1.released ≡ x.1.released
+
+same_report : (d : NodeData) (o : Option (List ℕ)) → IsSame d (with_report d o)
+same_report d None = record { receiving = refl; clock = refl; boot = refl }
+same_report d (Some b) = record { receiving = refl; clock = refl; boot = refl }
+
+-- both broke a reception off
+both_broke : (d e : NodeData) (o p : Option (List ℕ)) (x y : Accepted)
+    → e.receiving ≡ d.receiving
+    → e.clock ≡ d.clock
+    → e.boot ≡ d.boot
+    → y.outcome ≡ x.outcome
+    → y.released ≡ x.released
+    → AreAlike (with_report d o, x) (with_report e p, y)
+both_broke d e o p x y receiving clock boot outcome released =
+    let s = same_report d o in
+    let t = same_report e p in
+    record {
+      receiving = t.receiving ∙ receiving ∙ sym s.receiving;
+      clock = t.clock ∙ clock ∙ sym s.clock;
+      boot = t.boot ∙ boot ∙ sym s.boot;
+      outcome = outcome;
+      released = released;
+    }
+
+module _ (c : Config) (d : NodeData) (sending : Sending) (jobs : Jobs) where
+  -- a node that sends otherwise, and has other requests
+  abbrev other : NodeData
+  other = record d { sending = sending; jobs = jobs }
+
+  alike_offer : (q : NamedPart) (g h : Option Telemetry) (r : ReceiverState) (parts : Parts)
+      (o : OfferKind) (es : Entries)
+      → AreAlike (after_received Craft d q (after_offer g r q.name parts o es))
+      (after_received Craft other q (after_offer h r q.name parts o es))
+  alike_offer q g h r parts offering.Kept es =
+      record { receiving = refl; clock = refl; boot = refl; outcome = refl; released = refl }
+  alike_offer q g h r parts offering.Again es =
+      record { receiving = refl; clock = refl; boot = refl; outcome = refl; released = refl }
+  alike_offer q g h r parts offering.Gap es =
+      both_broke (with_receiver d (ended r q.name)) (with_receiver other (ended r q.name))
+      (abort_report g q.name reason.Discontinuity) (abort_report h q.name reason.Discontinuity)
+      _ _ refl refl refl refl refl
+  alike_offer q g h r parts offering.NoRoom es =
+      record { receiving = refl; clock = refl; boot = refl; outcome = refl; released = refl }
+  alike_offer q g h r parts offering.Whole es =
+      record { receiving = refl; clock = refl; boot = refl; outcome = refl; released = refl }
+  alike_offer q g h r parts (offering.Conflict why) es =
+      both_broke (with_receiver d (ended r q.name)) (with_receiver other (ended r q.name))
+      (abort_report g q.name why) (abort_report h q.name why) _ _ refl refl refl refl refl
+
+  alike_free : (s : State) (q : NamedPart) (g h : Option Telemetry) (r : ReceiverState)
+      (parts : Parts) (o : OfferKind × TableState)
+      → AreAlike (after_received Craft d q (if_free s r (received_from g r q.name parts o)))
+      (after_received Craft other q (if_free s r (received_from h r q.name parts o)))
+  alike_free AFree q g h r parts o = alike_offer q g h r parts o.0 o.1.entries
+  alike_free AnOpen q g h r parts o =
+      record { receiving = refl; clock = refl; boot = refl; outcome = refl; released = refl }
+  alike_free Closed q g h r parts o =
+      record { receiving = refl; clock = refl; boot = refl; outcome = refl; released = refl }
+
+  alike_part : (q : NamedPart) → AreAlike (parted Craft c d q) (parted Craft c other q)
+  unfolding received
+  alike_part q =
+      let r : ReceiverState = receiver_of c d.receiving in
+      alike_free (state_at r.ledger q.name) q (abort_head Craft c d q.name.source)
+      (abort_head Craft c other q.name.source) r (parts_with (table_in r) q)
+      (offered (table_in r) q.name q.number (kept_of q) d.clock)
+
+  pub alike : (a : Arrival) → AreAlike (accepted Craft c d a) (accepted Craft c other a)
+  alike NotRead =
+      record { receiving = refl; clock = refl; boot = refl; outcome = refl; released = refl }
+  alike AnIdle =
+      record { receiving = refl; clock = refl; boot = refl; outcome = refl; released = refl }
+  alike Foreign =
+      record { receiving = refl; clock = refl; boot = refl; outcome = refl; released = refl }
+  alike (ARequest b) =
+      record { receiving = refl; clock = refl; boot = refl; outcome = refl; released = refl }
+  alike (AReport service subtype) =
+      record { receiving = refl; clock = refl; boot = refl; outcome = refl; released = refl }
+  alike NoPart =
+      record { receiving = refl; clock = refl; boot = refl; outcome = refl; released = refl }
+  alike (AnAbort name reason) =
+      record { receiving = refl; clock = refl; boot = refl; outcome = refl; released = refl }
+  alike (APart q) = alike_part q
+
+-- ---- what ground takes of a part
+
+-- its receiver alone changes, and of requests nothing is said
+pub record IsBeside (d : NodeData) (x : NodeData × Accepted) : Type 0 where
+  pub sending : x.0.sending ≡ d.sending
+  pub clock : x.0.clock ≡ d.clock
+  pub boot : x.0.boot ≡ d.boot
+  pub jobs : x.0.jobs ≡ d.jobs
+  pub packet : x.1.packet ≡ None
+  pub like : (l r : Log)
+      → IsLike l r
+      → IsLike (with_abortion Down x.1.outcome
+      (with_release l (released_of Down x.1.outcome) x.1.released)) r
+
+-- a fact of what goes down
+released_down : (name : Name) (m : List ℕ) (l r : Log)
+    → IsLike l r
+    → IsLike (Released (Some (Down, name)) m ∷ l) r
+released_down name m l r like =
+    adds_one (Released (Some (Down, name)) m) l r (λ n o. refl) tt like
+
+pub aborted_down : (name : Name) (l r : Log) → IsLike l r → IsLike (Aborted Down name ∷ l) r
+aborted_down name l r like = adds_one (Aborted Down name) l r (λ n o. refl) tt like
+
+beside_offer : (d : NodeData) (q : NamedPart) (r : ReceiverState) (parts : Parts) (o : OfferKind)
+    (es : Entries)
+    → IsBeside d (after_received Ground d q (after_offer None r q.name parts o es))
+beside_offer d q r parts offering.Kept es = record {
+  sending = refl;
+  clock = refl;
+  boot = refl;
+  jobs = refl;
+  packet = refl;
+  like = λ l r like. like;
+}
+beside_offer d q r parts offering.Again es = record {
+  sending = refl;
+  clock = refl;
+  boot = refl;
+  jobs = refl;
+  packet = refl;
+  like = λ l r like. like;
+}
+beside_offer d q r parts offering.Gap es = record {
+  sending = refl;
+  clock = refl;
+  boot = refl;
+  jobs = refl;
+  packet = refl;
+  like = λ l r like. aborted_down q.name l r like;
+}
+beside_offer d q r parts offering.NoRoom es = record {
+  sending = refl;
+  clock = refl;
+  boot = refl;
+  jobs = refl;
+  packet = refl;
+  like = λ l r like. like;
+}
+beside_offer d q r parts offering.Whole es = record {
+  sending = refl;
+  clock = refl;
+  boot = refl;
+  jobs = refl;
+  packet = refl;
+  like = λ l r like. released_down q.name _ l r like;
+}
+beside_offer d q r parts (offering.Conflict reason) es = record {
+  sending = refl;
+  clock = refl;
+  boot = refl;
+  jobs = refl;
+  packet = refl;
+  like = λ l r like. aborted_down q.name l r like;
+}
+
+beside_free : (s : State) (d : NodeData) (q : NamedPart) (r : ReceiverState) (parts : Parts)
+    (o : OfferKind × TableState)
+    → IsBeside d (after_received Ground d q (if_free s r (received_from None r q.name parts o)))
+beside_free AFree d q r parts o = beside_offer d q r parts o.0 o.1.entries
+beside_free AnOpen d q r parts o = record {
+  sending = refl;
+  clock = refl;
+  boot = refl;
+  jobs = refl;
+  packet = refl;
+  like = λ l r like. like;
+}
+beside_free Closed d q r parts o = record {
+  sending = refl;
+  clock = refl;
+  boot = refl;
+  jobs = refl;
+  packet = refl;
+  like = λ l r like. like;
+}
+
+pub beside_part : (c : Config) (d : NodeData) (q : NamedPart) → IsBeside d (parted Ground c d q)
+unfolding received
+beside_part c d q =
+    let r : ReceiverState = receiver_of c d.receiving in
+    beside_free (state_at r.ledger q.name) d q r (parts_with (table_in r) q)
+    (offered (table_in r) q.name q.number (kept_of q) d.clock)

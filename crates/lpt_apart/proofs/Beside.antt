@@ -1,0 +1,336 @@
+-- Two ends beside others, which do what goes up alone: they have the same sender on ground and the
+-- same receiver at the spacecraft, whatever else differs.
+use Rattle.std.proofs.Common.{◌≡◌, ◌∙◌, ap, sym, subst, refl, inl, inr, ℕ, Bool, List, [], ◌∷◌, Option, Some, None, is_some}
+use Rattle.lpt_packet.specs.declared.direction.Direction.{Direction}
+use Rattle.lpt_packet.specs.declared.direction.Direction.TheVariants.{Up, Down}
+use Rattle.lpt_packet.specs.Names.{Name}
+use Rattle.lpt_memory.specs.Memories.{Contents}
+use Rattle.lpt_events.specs.Arrivals.{Arrival, NotRead, AnIdle, Foreign, ARequest, AReport, NoPart, APart, AnAbort, arrival_in}
+use Rattle.lpt_events.specs.Configs.{IsConfig}
+use Rattle.lpt_events.specs.declared.config.Config.{Config}
+use Rattle.lpt_events.specs.declared.side.Side.TheVariants.{Ground, Craft}
+use Rattle.lpt_jobs.specs.Jobs.{Jobs}
+use Rattle.lpt_model.specs.State.{as_list, released_of}
+use Rattle.lpt_model.specs.Tickets.{no_tickets}
+use Rattle.lpt_node.specs.Accepting.{accepted}
+use Rattle.lpt_node.specs.Nodes.{NodeData, Receiving, Sending}
+use Rattle.lpt_node.specs.Sending.{sent_of}
+use Rattle.lpt_node.specs.Times.{due, expired_of, refusal_expire_of}
+use Rattle.lpt_node.specs.declared.accepted.Accepted.{Accepted}
+use Rattle.lpt_apart.specs.Clocks.{later as at_later}
+use Rattle.lpt_apart.specs.Ends.{Ends, PutOut, put_out}
+use Rattle.lpt_apart.specs.Facts.{Opened, Aborted, Executed, Log, with_abortion}
+use Rattle.lpt_apart.specs.Moves.{CanMove, Do, Move, Pair, moved}
+use Rattle.lpt_apart.specs.Steps.{Accept, Expire, MayCome, accepted_on, expired_on, is_harmless, sent_on, with_release, with_report as reporting}
+use Rattle.lpt_apart.proofs.Clocks.{IsReached, joined, reached_keep}
+use Rattle.lpt_apart.proofs.Upward.{AllUp, IsLike, adds, adds_one, adds_taken, no_request, up_beside, up_down, up_there}
+use Rattle.lpt_apart.proofs.Alike.{AreAlike, IsBeside, IsSame, aborted_down, alike, beside_part}
+
+-- ---- two ends beside others
+
+-- what both have
+pub record Core : Type 0 where
+  pub sending : Sending
+  pub ground_clock : ℕ
+  pub ground_boot : ℕ
+  pub ground_jobs : Jobs
+  pub receiving : Receiving
+  pub craft_clock : ℕ
+  pub craft_boot : ℕ
+
+abbrev pub core_of : Ends → Core
+core_of e = record {
+  sending = e.on_ground.sending;
+  ground_clock = e.on_ground.clock;
+  ground_boot = e.on_ground.boot;
+  ground_jobs = e.on_ground.jobs;
+  receiving = e.on_craft.receiving;
+  craft_clock = e.on_craft.clock;
+  craft_boot = e.on_craft.boot;
+}
+
+-- what those beside them have of their own
+pub record Rest : Type 0 where
+  pub receiving : Receiving
+  pub sending : Sending
+  pub jobs : Jobs
+  pub ways : List PutOut
+  pub log : Log
+  pub freed : Direction → Name → Bool
+
+-- those beside them
+abbrev pub mirror : Contents → Core → Rest → Pair
+mirror first k r = record {
+  ends = record {
+    on_ground = record {
+      sending = k.sending;
+      receiving = r.receiving;
+      clock = k.ground_clock;
+      boot = k.ground_boot;
+      jobs = k.ground_jobs;
+    };
+    on_craft = record {
+      sending = r.sending;
+      receiving = k.receiving;
+      clock = k.craft_clock;
+      boot = k.craft_boot;
+      jobs = r.jobs;
+    };
+    tickets = no_tickets;
+    memories = first;
+    on_the_way = r.ways;
+    log = r.log;
+  };
+  freed = r.freed;
+}
+
+pub record IsMirrored (c : Config) (first : Contents) (p : Pair) : Type 0 where
+  pub rest : Rest
+  pub reached : IsReached c first (mirror first (core_of p.ends) rest)
+  pub ways : AllUp rest.ways p.ends.on_the_way
+  pub freed : (name : Name) → p.freed Up name ≡ rest.freed Up name
+  pub like : IsLike p.ends.log rest.log
+
+-- ---- moves
+
+module _ (c : Config) (first : Contents) (g : ℕ) (good : IsConfig (at_later g c)) where
+  -- those beside make a move
+  pub goes : (k l : Core) (r s : Rest) (x : Move)
+      → IsReached c first (mirror first k r)
+      → CanMove c (mirror first k r) x
+      → moved c (mirror first k r) x ≡ mirror first l s
+      → IsReached c first (mirror first l s)
+  goes k l r s x reached can is =
+      subst (λ (p : Pair). IsReached c first p) is
+      (joined c first (mirror first k r) (x ∷ []) reached (tt, can))
+
+  -- or they stay
+  stays : (k l : Core) (r : Rest)
+      → k ≡ l
+      → IsReached c first (mirror first k r)
+      → IsReached c first (mirror first l r)
+  stays k l r same reached =
+      subst (λ (x : Core). IsReached c first (mirror first x r)) same reached
+
+  module _ (p : Pair) (m : IsMirrored c first p) where
+    abbrev e : Ends
+    e = p.ends
+
+    abbrev k : Core
+    k = core_of p.ends
+
+    abbrev r : Rest
+    r = m.rest
+
+    -- a node of the spacecraft that is the same there
+    core_craft : (d : NodeData)
+        → IsSame e.on_craft d
+        → k ≡ core_of (record e { on_craft = d })
+    core_craft d s = λ i. record k {
+      receiving = sym s.receiving i;
+      craft_clock = sym s.clock i;
+      craft_boot = sym s.boot i;
+    }
+
+    -- nothing is done beside: the spacecraft's node is the same there
+    pub beside_craft : (d : NodeData) (ways : List PutOut) (log : Log) (ms : Contents)
+        → IsSame e.on_craft d
+        → AllUp r.ways ways
+        → IsLike log r.log
+        → IsMirrored c first
+        (record p {
+          ends = record e { on_craft = d; memories = ms; on_the_way = ways; log = log };
+        })
+    beside_craft d ways log ms s all like = record {
+      rest = r;
+      reached = stays k (core_of (record e { on_craft = d })) r (core_craft d s) m.reached;
+      ways = all;
+      freed = m.freed;
+      like = like;
+    }
+
+    -- a packet of a request goes up, and in both
+    abbrev pub up_packet : Option Name → List ℕ → PutOut
+    up_packet tag b = record { direction = Up; part_of = tag; octets = b }
+
+    pub send_up : (name : Name) (n : ℕ) (o : Option (List ℕ))
+        → let x = sent_of Ground c e.on_ground name n o in
+        record (mirror first k r) {
+          ends = sent_on (mirror first k r).ends Up name
+              (sent_of Ground c (mirror first k r).ends.on_ground name n o);
+        }
+        ≡ mirror first (core_of (sent_on e Up name x))
+        (record r { ways = up_packet (Some name) x.1 ∷ r.ways })
+    send_up name n None = refl
+    send_up name n (Some message) = refl
+
+    -- ---- what comes up
+
+    comes_up : (b : List ℕ)
+        → MayCome c e Up b
+        → MayCome c (mirror first k r).ends Up b
+    comes_up b (inl on) =
+        let there = up_there r.ways e.on_the_way on.place on.packet m.ways on.there on.goes in
+        inl (record {
+          place = there.0;
+          packet = on.packet;
+          there = there.1;
+          goes = on.goes;
+          octets = on.octets;
+        })
+    comes_up b (inr harmless) = inr harmless
+
+    pub takes_up : (b : List ℕ)
+        → MayCome c e Up b
+        → IsMirrored c first (moved c p (Do (Accept Up b)))
+    takes_up b may =
+        let a : Arrival = arrival_in c Up b in
+        let x : NodeData × Accepted = accepted Craft c e.on_craft a in
+        let y : NodeData × Accepted = accepted Craft c (mirror first k r).ends.on_craft a in
+        let both : AreAlike x y = alike c e.on_craft r.sending r.jobs a in
+        let s : Rest = record {
+          receiving = r.receiving;
+          sending = y.0.sending;
+          jobs = y.0.jobs;
+          ways = put_out r.ways Down None (as_list y.1.packet);
+          log =
+              with_abortion Up y.1.outcome
+              (with_release r.log (released_of Up y.1.outcome) y.1.released);
+          freed = r.freed;
+        } in
+        let reached : IsReached c first (mirror first (core_of (accepted_on e Up x)) s) =
+        goes k (core_of (accepted_on e Up x)) r s (Do (Accept Up b)) m.reached (comes_up b may)
+        (λ i. mirror first (record (core_of (accepted_on e Up x)) {
+          receiving = both.receiving i;
+          craft_clock = both.clock i;
+          craft_boot = both.boot i;
+        }) s) in
+        let due = (reached_keep c first g (mirror first (core_of (accepted_on e Up x)) s) good
+        reached).due in
+        let like : IsLike
+        (with_abortion Up y.1.outcome
+        (with_release e.log (released_of Up y.1.outcome) y.1.released)) s.log =
+        adds_taken y.1.outcome y.1.released e.log r.log due m.like in
+        record {
+          rest = s;
+          reached = reached;
+          ways =
+              up_down s.ways e.on_the_way None (as_list x.1.packet)
+              (up_beside r.ways e.on_the_way None (as_list y.1.packet) m.ways);
+          freed = m.freed;
+          like =
+              subst (λ (l : Log). IsLike l s.log)
+              (λ i. with_abortion Up (both.outcome i)
+              (with_release e.log (released_of Up (both.outcome i)) (both.released i))) like;
+        }
+
+    -- ---- what comes down
+
+    -- ground takes something harmless, and so do those beside
+    abbrev down_to : Pair → Arrival → Pair
+    down_to q a = record q { ends = accepted_on q.ends Down (accepted Ground c q.ends.on_ground a) }
+
+    pub takes_down : (b : List ℕ) (a : Arrival)
+        → arrival_in c Down b ≡ a
+        → IsMirrored c first (down_to p a)
+    takes_down b NotRead is = m
+    takes_down b AnIdle is = m
+    takes_down b Foreign is = m
+    takes_down b (ARequest x) is = absurd (no_request c b x is)
+    takes_down b (AReport service subtype) is = m
+    takes_down b NoPart is = m
+    takes_down b (AnAbort name why) is =
+        let l : Core = core_of (down_to p (AnAbort name why)).ends in
+        record {
+          rest = r;
+          reached =
+              goes k l r r (Do (Accept Down b)) m.reached (inr (ap is_harmless is))
+              (ap (down_to (mirror first k r)) is);
+          ways = m.ways;
+          freed = m.freed;
+          like = m.like;
+        }
+    takes_down b (APart q) is =
+        let x : NodeData × Accepted = accepted Ground c e.on_ground (APart q) in
+        let s : IsBeside e.on_ground x = beside_part c e.on_ground q in
+        let l : Core = core_of (down_to p (APart q)).ends in
+        record {
+          rest = r;
+          reached = stays k l r (λ i. record k {
+            sending = sym s.sending i;
+            ground_clock = sym s.clock i;
+            ground_boot = sym s.boot i;
+            ground_jobs = sym s.jobs i;
+          }) m.reached;
+          ways =
+              subst (λ (o : Option (List ℕ)). AllUp r.ways (put_out e.on_the_way Down None
+              (as_list o))) (sym s.packet) m.ways;
+          freed = m.freed;
+          like = s.like e.log r.log m.like;
+        }
+
+    -- ---- receptions that expire
+
+    pub expires_ground : (o : Option Name)
+        → IsMirrored c first
+        (record p { ends = expired_on e Ground (expired_of Ground c e.on_ground o) })
+    expires_ground None = record {
+      rest = r;
+      reached = m.reached;
+      ways = m.ways;
+      freed = m.freed;
+      like = aborted_down _ e.log r.log m.like;
+    }
+    expires_ground (Some name) = record {
+      rest = r;
+      reached = m.reached;
+      ways = m.ways;
+      freed = m.freed;
+      like = aborted_down name e.log r.log m.like;
+    }
+
+    pub expires_craft : (o : Option Name)
+        → due c e.on_craft ≡ o
+        → refusal_expire_of o ≡ None
+        → IsMirrored c first
+        (record p { ends = expired_on e Craft (expired_of Craft c e.on_craft o) })
+    expires_craft None is none = absurd cc
+    expires_craft (Some name) is none =
+        let d : NodeData = (mirror first k r).ends.on_craft in
+        let x = expired_of Craft c d (Some name) in
+        let l : Core = core_of (expired_on e Craft (expired_of Craft c e.on_craft (Some name))) in
+        let s : Rest = record {
+          receiving = r.receiving;
+          sending = x.0.sending;
+          jobs = r.jobs;
+          ways = put_out r.ways Down None (as_list x.1.packet);
+          log = Aborted Up name ∷ r.log;
+          freed = r.freed;
+        } in
+        let reached : IsReached c first (mirror first l s) =
+        goes k l r s (Do (Expire Craft)) m.reached (ap refusal_expire_of is ∙ none)
+        (λ i. record (mirror first k r) {
+          ends = expired_on (mirror first k r).ends Craft (expired_of Craft c d (is i));
+        }) in
+        let due = (reached_keep c first g (mirror first l s) good reached).due in
+        record {
+          rest = s;
+          reached = reached;
+          ways =
+              up_down s.ways e.on_the_way None
+              (as_list (expired_of Craft c e.on_craft (Some name)).1.packet)
+              (up_beside r.ways e.on_the_way None (as_list x.1.packet) m.ways);
+          freed = m.freed;
+          like =
+              adds (Aborted Up name) e.log r.log
+              (ap is_some (m.like.awaits name) ∙ due.1) m.like;
+        }
+
+    -- ---- an execution
+
+    pub executes : (o : Option (Name × List ℕ)) → IsLike (Executed ∷ reporting e.log o) r.log
+    executes None = adds_one Executed e.log r.log (λ n o. refl) tt m.like
+    executes (Some x) =
+        let opened : Log = Opened Down x.0 x.1 ∷ e.log in
+        adds_one Executed opened r.log (λ n o. refl) tt
+        (adds_one (Opened Down x.0 x.1) e.log r.log (λ n o. refl) tt m.like)

@@ -1,0 +1,313 @@
+-- Ends that drop requests are, for requests, two ends that execute none.
+use Rattle.std.proofs.Common.{◌≡◌, ◌∙◌, ap, sym, refl, ℕ, false, not, ◌&&◌, ◌||◌, List, [], ◌∷◌, Option, Some, None}
+use Rattle.std.specs.List.{slice_get}
+use Rattle.lpt_packet.specs.declared.direction.Direction.TheVariants.{Up, Down}
+use Rattle.lpt_memory.specs.Meanings.{Sizes}
+use Rattle.lpt_memory.specs.Memories.{Contents, sizes_of}
+use Rattle.lpt_memory.specs.Readings.{Source}
+use Rattle.lpt_events.specs.Arrivals.{arrival_in}
+use Rattle.lpt_events.specs.Configs.{IsConfig}
+use Rattle.lpt_events.specs.declared.config.Config.{Config}
+use Rattle.lpt_events.specs.declared.side.Side.TheVariants.{Ground, Craft}
+use Rattle.lpt_jobs.specs.Jobs.{Ready, head_of, unclaimed}
+use Rattle.lpt_jobs.specs.declared.job.Job.{Job}
+use Rattle.lpt_jobs.specs.declared.job.Job.TheVariants.{Claimed, Committed, Waiting}
+use Rattle.lpt_node.specs.Jobs.{claimed, executed_of}
+use Rattle.lpt_node.specs.Nodes.{NodeData, message_at}
+use Rattle.lpt_node.specs.Requests.{plain_made}
+use Rattle.lpt_node.specs.Restarts.{restarted}
+use Rattle.lpt_node.specs.Sending.{sent_of}
+use Rattle.lpt_node.specs.Times.{due}
+use Rattle.lpt_apart.specs.Clocks.{later as at_later, no_pair_later}
+use Rattle.lpt_apart.specs.Drops.{Drops, EndsThatDropServe, LetsGo, Makes, Reads, Service, Turn, CanTurn, CanTurnAll, IsNoWork, no_service, read_as, turned, turned_all, with_craft}
+use Rattle.lpt_apart.specs.Ends.{Ends, PutOut, is_part, put_out, without}
+use Rattle.lpt_apart.specs.Facts.{Opened, Asked, Executed, Retired, Restarted, is_same}
+use Rattle.lpt_apart.specs.Moves.{CanMove, Do, Free, Move, Pair, moved}
+use Rattle.lpt_apart.specs.Steps.{Accept, Apply, Claim, Commit, Expire, Finish, Open, Plain, Restart, Retire, Send, Tick, with_report as reporting}
+use Rattle.lpt_apart.proofs.Clocks.{IsReached, begun_later}
+use Rattle.lpt_apart.proofs.Serving.{AreOf, IsQueued, queued, text_of}
+use Rattle.lpt_apart.proofs.Upward.{adds, adds_one, up_both, up_down, up_left, up_less}
+use Rattle.lpt_apart.proofs.Alike.{same_executed, same_read, same_sent}
+use Rattle.lpt_apart.proofs.Beside.{Core, IsMirrored, Rest, beside_craft, core_of, executes, expires_craft, expires_ground, goes, mirror, send_up, takes_down, takes_up, up_packet}
+
+module _ (c : Config) (first : Contents) (g : ℕ) (good : IsConfig (at_later g c)) where
+  module _ (p : Pair) (m : IsMirrored c first p) where
+    abbrev e : Ends
+    e = p.ends
+
+    abbrev k : Core
+    k = core_of p.ends
+
+    abbrev r : Rest
+    r = m.rest
+
+    -- those beside make the same move
+    move : (s : Rest) (x : Move)
+        → CanMove c (mirror first k r) x
+        → moved c (mirror first k r) x ≡ mirror first (core_of (moved c p x).ends) s
+        → IsReached c first (mirror first (core_of (moved c p x).ends) s)
+    move s x can is = goes c first g good k (core_of (moved c p x).ends) r s x m.reached can is
+
+    mirrors : (x : Move)
+        → IsNoWork x
+        → CanMove c p x
+        → IsMirrored c first (moved c p x)
+    mirrors (Do (Open Up name message)) own can =
+        let s : Rest = record r { log = Opened Up name message ∷ r.log } in
+        record {
+          rest = s;
+          reached =
+              move s (Do (Open Up name message)) can refl;
+          ways = m.ways;
+          freed = m.freed;
+          like = adds (Opened Up name message) e.log r.log tt m.like;
+        }
+    mirrors (Do (Open Down name message)) own can = record {
+      rest = r;
+      reached = m.reached;
+      ways = m.ways;
+      freed = m.freed;
+      like = adds_one (Opened Down name message) e.log r.log (λ n o. refl) tt m.like;
+    }
+    mirrors (Do (Send Up name n)) own can =
+        let x = sent_of Ground c e.on_ground name n (message_at e.on_ground name) in
+        let y : PutOut = up_packet c first g good p m (Some name) x.1 in
+        let s : Rest = record r { ways = y ∷ r.ways } in
+        record {
+          rest = s;
+          reached =
+              move s (Do (Send Up name n)) can
+              (send_up c first g good p m name n (message_at e.on_ground name));
+          ways = up_both y r.ways e.on_the_way m.ways;
+          freed = m.freed;
+          like = m.like;
+        }
+    mirrors (Do (Send Down name n)) own can =
+        let x = sent_of Craft c e.on_craft name n (message_at e.on_craft name) in
+        beside_craft c first g good p m x.0
+        (put_out e.on_the_way Down (Some name) (x.1 ∷ [])) e.log e.memories
+        (same_sent c e.on_craft name n (message_at e.on_craft name))
+        (up_down r.ways e.on_the_way (Some name) (x.1 ∷ []) m.ways) m.like
+    mirrors (Do (Plain source flags service subtype body)) own can =
+        let b : List ℕ = (plain_made c e.on_ground source flags service subtype body).1 in
+        let y : PutOut = up_packet c first g good p m None b in
+        let s : Rest = record r { ways = y ∷ r.ways; log = Asked b ∷ r.log } in
+        record {
+          rest = s;
+          reached =
+              move s (Do (Plain source flags service subtype body)) can refl;
+          ways = up_both y r.ways e.on_the_way m.ways;
+          freed = m.freed;
+          like = adds (Asked b) e.log r.log tt m.like;
+        }
+    mirrors (Do (Finish Up name)) own can = record {
+      rest = r;
+      reached =
+          move r (Do (Finish Up name)) can refl;
+      ways = m.ways;
+      freed = m.freed;
+      like = m.like;
+    }
+    mirrors (Do (Finish Down name)) own can = record {
+      rest = r;
+      reached = m.reached;
+      ways = m.ways;
+      freed = m.freed;
+      like = m.like;
+    }
+    mirrors (Do (Accept Up b)) own can = takes_up c first g good p m b can
+    mirrors (Do (Accept Down b)) own can =
+        takes_down c first g good p m b (arrival_in c Down b) refl
+    mirrors (Do (Tick Ground)) own can = record {
+      rest = r;
+      reached =
+          move r (Do (Tick Ground)) can
+          refl;
+      ways = m.ways;
+      freed = m.freed;
+      like = m.like;
+    }
+    mirrors (Do (Tick Craft)) own can = record {
+      rest = r;
+      reached =
+          move r (Do (Tick Craft)) can
+          refl;
+      ways = m.ways;
+      freed = m.freed;
+      like = m.like;
+    }
+    mirrors (Do (Expire Ground)) own can = expires_ground c first g good p m (due c e.on_ground)
+    mirrors (Do (Expire Craft)) own can =
+        expires_craft c first g good p m (due c e.on_craft) refl can
+    mirrors (Do (Claim w)) own can = absurd own
+    mirrors (Do (Commit w)) own can = absurd own
+    mirrors (Do Apply) own can =
+        let x = executed_of c e.on_craft e.memories (head_of e.on_craft.jobs.jobs) in
+        beside_craft c first g good p m x.0.0 (put_out e.on_the_way Down None x.0.1.packets)
+        (Executed ∷ reporting e.log x.0.1.opened) x.1
+        (same_executed c e.on_craft e.memories (head_of e.on_craft.jobs.jobs))
+        (up_down r.ways e.on_the_way None x.0.1.packets m.ways)
+        (executes c first g good p m x.0.1.opened)
+    mirrors (Do (Retire Up name)) own can =
+        let s : Rest = record r {
+          ways = without Up name r.ways;
+          log = Retired Up name ∷ r.log;
+          freed = λ d i. not (is_same Up name d i) && r.freed d i;
+        } in
+        record {
+          rest = s;
+          reached =
+              move s (Do (Retire Up name)) (can.0, sym (m.freed name) ∙ can.1) refl;
+          ways = up_left (λ o. not (is_part Up name o)) r.ways e.on_the_way m.ways;
+          freed = λ n i. not (is_same Up name Up n) && m.freed n i;
+          like = adds (Retired Up name) e.log r.log tt m.like;
+        }
+    mirrors (Do (Retire Down name)) own can = record {
+      rest = r;
+      reached = m.reached;
+      ways = up_less (λ o. not (is_part Down name o)) r.ways e.on_the_way m.ways;
+      freed = m.freed;
+      like = adds_one (Retired Down name) e.log r.log (λ n o. refl) tt m.like;
+    }
+    mirrors (Do (Restart Ground)) own can =
+        let s : Rest = record r {
+          receiving = (restarted (mirror first k r).ends.on_ground).receiving;
+          log = Restarted Ground ∷ r.log;
+        } in
+        record {
+          rest = s;
+          reached =
+              move s (Do (Restart Ground)) tt refl;
+          ways = m.ways;
+          freed = m.freed;
+          like = adds (Restarted Ground) e.log r.log tt m.like;
+        }
+    mirrors (Do (Restart Craft)) own can =
+        let d : NodeData = restarted (mirror first k r).ends.on_craft in
+        let s : Rest = record r {
+          sending = d.sending;
+          jobs = d.jobs;
+          log = Restarted Craft ∷ r.log;
+        } in
+        record {
+          rest = s;
+          reached =
+              move s (Do (Restart Craft)) tt refl;
+          ways = m.ways;
+          freed = m.freed;
+          like = adds (Restarted Craft) e.log r.log tt m.like;
+        }
+    mirrors (Free Up name) own can =
+        let s : Rest = record r {
+          ways = without Up name r.ways;
+          freed = λ d i. is_same Up name d i || r.freed d i;
+        } in
+        record {
+          rest = s;
+          reached =
+              move s (Free Up name)
+              (can.0, record { closed = can.1.closed; unheard = can.1.unheard }) refl;
+          ways = up_left (λ o. not (is_part Up name o)) r.ways e.on_the_way m.ways;
+          freed = λ n i. is_same Up name Up n || m.freed n i;
+          like = m.like;
+        }
+    mirrors (Free Down name) own can = record {
+      rest = r;
+      reached = m.reached;
+      ways = up_less (λ o. not (is_part Down name o)) r.ways e.on_the_way m.ways;
+      freed = m.freed;
+      like = m.like;
+    }
+
+  -- a reading changes the spacecraft's requests alone
+  reads_beside : (p : Pair) (message : List ℕ)
+      → IsMirrored c first p
+      → IsMirrored c first (with_craft p (read_as c p.ends message))
+  reads_beside p message m =
+      beside_craft c first g good p m (read_as c p.ends message) p.ends.on_the_way p.ends.log
+      p.ends.memories
+      (same_read p.ends.on_craft (unclaimed p.ends.on_craft.jobs)
+      (record { apid = c.apid; sizes = sizes_of p.ends.memories; message = message }))
+      m.ways m.like
+
+  turns : (s : Service) (x : Turn)
+      → CanTurn c s x
+      → IsMirrored c first s.pair
+      → IsMirrored c first (turned c s x).pair
+  turns s (Makes x) can m = mirrors s.pair m x can.0 can.1
+  turns s Reads can m = reads_beside s.pair (claimed s.pair.ends.on_craft).1.message m
+  turns s Drops can m = reads_beside s.pair [] m
+  turns s LetsGo can m = record {
+    rest = m.rest;
+    reached = m.reached;
+    ways = m.ways;
+    freed = m.freed;
+    like = m.like;
+  }
+
+  mirrored : (s : Service) (xs : List Turn)
+      → IsMirrored c first s.pair
+      → CanTurnAll c s xs
+      → IsMirrored c first (turned_all c s xs).pair
+  mirrored s [] m can = m
+  mirrored s (x ∷ xs) m can = turns (turned_all c s xs) x can.1 (mirrored s xs m can.0)
+
+-- two new ends are beside themselves
+begins_so : (c : Config) (first : Contents) (g k : ℕ)
+    → IsConfig (at_later g c)
+    → IsConfig (at_later k c)
+    → IsMirrored c first (no_pair_later c first g k)
+begins_so c first g k good_g good_k =
+    let e : Ends = (no_pair_later c first g k).ends in
+    record {
+      rest = record {
+        receiving = e.on_ground.receiving;
+        sending = e.on_craft.sending;
+        jobs = e.on_craft.jobs;
+        ways = [];
+        log = [];
+        freed = λ d name. false;
+      };
+      reached = begun_later c first g k good_g good_k;
+      ways = tt;
+      freed = λ name. refl;
+      like = record { awaits = λ name. refl; asked = λ b has. has; sent = tt };
+    }
+
+-- what was read at the front is what waits first, where that wasn't dropped
+first_waits : (apid : ℕ) (sizes : Sizes) (js : List Job) (ws : List (Option (List ℕ)))
+    (r : Source) (m : List ℕ)
+    → AreOf apid sizes js ws
+    → head_of js ≡ Ready r
+    → slice_get ws 0 ≡ Some (Some m)
+    → r.message ≡ m
+first_waits apid sizes [] ws r m are is first = absurd cc
+first_waits apid sizes (Waiting n ∷ js) ws r m are is first = absurd cc
+first_waits apid sizes (Claimed ∷ js) ws r m are is first = absurd cc
+first_waits apid sizes (Committed s ∷ js) [] r m are is first = absurd are
+first_waits apid sizes (Committed s ∷ js) (w ∷ ws) r m are is first =
+    let same : s ≡ r = cc in
+    let there : w ≡ Some m = cc in
+    ap (λ (x : Source). x.message) (sym same ∙ are.0) ∙ ap text_of there
+
+next_waits : (c : Config) (first : Contents) (s : Service) (r : Source) (m : List ℕ)
+    → IsQueued c first s
+    → head_of s.pair.ends.on_craft.jobs.jobs ≡ Ready r
+    → slice_get s.waits 0 ≡ Some (Some m)
+    → r.message ≡ m
+next_waits c first s r m q is there =
+    first_waits c.apid (sizes_of s.pair.ends.memories) s.pair.ends.on_craft.jobs.jobs s.waits r m
+    q.jobs is there
+
+pub ends_that_drop_serve : EndsThatDropServe
+ends_that_drop_serve c first g k xs good_g good_k can =
+    let q : IsQueued c first (turned_all c (no_service c first g k) xs) =
+    queued c first (no_service c first g k) xs (record { jobs = tt; memories = refl }) can in
+    record {
+      sent =
+          (mirrored c first g good_g (no_service c first g k) xs
+          (begins_so c first g k good_g good_k) can).like.sent;
+      memories = q.memories;
+      next = λ r m is there.
+          next_waits c first (turned_all c (no_service c first g k) xs) r m q is there;
+    }

@@ -1,0 +1,166 @@
+-- Two ends apart whose spacecraft reads a request at once, and drops some.
+--
+-- A world has no such event. So what is said of these ends is a promise of its own: of requests,
+-- and of the memories.
+use Rattle.std.specs.Prelude.{◌≡◌, ℕ, true, List, [], ◌∷◌, ◌++◌, drop, set, Option, Some, None, is_some, Contains, ⊤}
+use Rattle.std.specs.List.{slice_get}
+use Rattle.std.specs.Option.{option_map}
+use Rattle.lpt_packet.specs.declared.direction.Direction.{Direction}
+use Rattle.lpt_packet.specs.declared.direction.Direction.TheVariants.{Up, Down}
+use Rattle.lpt_memory.specs.Memories.{Contents, sizes_of}
+use Rattle.lpt_memory.specs.Readings.{Source}
+use Rattle.lpt_events.specs.Arrivals.{arrival_in}
+use Rattle.lpt_events.specs.Configs.{IsConfig}
+use Rattle.lpt_events.specs.declared.config.Config.{Config}
+use Rattle.lpt_events.specs.declared.side.Side.TheVariants.{Craft}
+use Rattle.lpt_jobs.specs.Jobs.{Ready, claimed_in, head_of, without_front}
+use Rattle.lpt_journal.specs.Jobs.{left_by}
+use Rattle.lpt_model.specs.State.{as_list}
+use Rattle.lpt_node.specs.Accepting.{accepted}
+use Rattle.lpt_node.specs.Jobs.{claimed, committed, refusal_apply, refusal_claim}
+use Rattle.lpt_node.specs.Nodes.{NodeData}
+use Rattle.lpt_apart.specs.Clocks.{later, no_pair_later}
+use Rattle.lpt_apart.specs.Ends.{Ends}
+use Rattle.lpt_apart.specs.Facts.{Fact, Aborted, Asked, Log, Released, awaited}
+use Rattle.lpt_apart.specs.Moves.{CanMove, Do, Move, Pair, moved}
+use Rattle.lpt_apart.specs.Steps.{Accept, Apply, Claim, Commit, Restart}
+
+-- ---- what is done
+
+-- The ends make a move. The spacecraft reads the oldest request that wasn't read; it drops that
+-- one; or it lets the oldest of all go, which was read.
+pub data Turn : Type 0 where
+  Makes : Move → Turn
+  Reads : Turn
+  Drops : Turn
+  LetsGo : Turn
+
+-- Two ends apart. The requests that the spacecraft released and neither executed nor let go since
+-- it was last restarted, the oldest first; in the place of one that was dropped there is none. And
+-- those that it executed, in their order.
+pub record Service : Type 0 where
+  pub pair : Pair
+  pub waits : List (Option (List ℕ))
+  pub done : List (List ℕ)
+
+-- no worker claims a request or hands a reading in by itself
+abbrev pub IsNoWork : Move → Type 0
+IsNoWork (Do (Claim w)) = ⊥
+IsNoWork (Do (Commit w)) = ⊥
+IsNoWork _ = ⊤
+
+-- a turn can be taken: a move as before, by whoever reads at once; the node doesn't refuse it
+abbrev pub CanTurn : Config → Service → Turn → Type 0
+CanTurn c s (Makes x) = IsNoWork x × CanMove c s.pair x
+CanTurn c s Reads = refusal_claim s.pair.ends.on_craft ≡ None
+CanTurn c s Drops = refusal_claim s.pair.ends.on_craft ≡ None
+CanTurn c s LetsGo = refusal_apply s.pair.ends.on_craft ≡ None
+
+-- ---- what it makes of them
+
+-- the requests that wait after a move of these ends
+abbrev pub waits_after : Config → Ends → Move
+    → List (Option (List ℕ))
+    → List (Option (List ℕ))
+waits_after c e (Do (Accept Up b)) ws =
+    ws ++ as_list (option_map (λ m. Some m)
+    (accepted Craft c e.on_craft (arrival_in c Up b)).1.released)
+waits_after c e (Do Apply) ws = drop 1 ws
+waits_after c e (Do (Restart Craft)) ws = []
+waits_after c e _ ws = ws
+
+-- the oldest of these, where it wasn't dropped
+abbrev pub oldest_of : List (Option (List ℕ)) → List (List ℕ)
+oldest_of [] = []
+oldest_of (w ∷ ws) = as_list w
+
+-- the requests that were executed after a move, where these wait
+abbrev pub done_after : Move → List (Option (List ℕ)) → List (List ℕ) → List (List ℕ)
+done_after (Do Apply) ws ds = ds ++ oldest_of ws
+done_after _ ws ds = ds
+
+-- the spacecraft's node once the oldest request that wasn't read is read as this message
+abbrev pub read_as : Config → Ends → List ℕ → NodeData
+read_as c e message =
+    (committed (claimed e.on_craft).0 (claimed e.on_craft).1.boot (claimed e.on_craft).1.job
+    (record { apid = c.apid; sizes = sizes_of e.memories; message = message })).0
+
+-- the ends with this node of the spacecraft
+abbrev pub with_craft : Pair → NodeData → Pair
+with_craft p d = record p { ends = record p.ends { on_craft = d } }
+
+-- what a turn makes of two ends: one that is dropped is read as a message of no octets
+abbrev pub turned : Config → Service → Turn → Service
+turned c s (Makes x) = record {
+  pair = moved c s.pair x;
+  waits = waits_after c s.pair.ends x s.waits;
+  done = done_after x s.waits s.done;
+}
+turned c s Reads = record s {
+  pair = with_craft s.pair
+      (read_as c s.pair.ends (claimed s.pair.ends.on_craft).1.message);
+}
+turned c s Drops = record s {
+  pair = with_craft s.pair (read_as c s.pair.ends []);
+  waits = set s.waits (claimed_in s.pair.ends.on_craft.jobs.jobs) None;
+}
+turned c s LetsGo = record s {
+  pair = with_craft s.pair
+      (record s.pair.ends.on_craft { jobs = without_front s.pair.ends.on_craft.jobs });
+  waits = drop 1 s.waits;
+}
+
+-- after these turns, the newest of which stands first
+abbrev pub turned_all : Config → Service → List Turn → Service
+turned_all c s [] = s
+turned_all c s (x ∷ xs) = turned c (turned_all c s xs) x
+
+-- each of them can be taken after those before it
+abbrev pub CanTurnAll : Config → Service → List Turn → Type 0
+CanTurnAll c s [] = ⊤
+CanTurnAll c s (x ∷ xs) = CanTurnAll c s xs × CanTurn c (turned_all c s xs) x
+
+-- ---- the promise
+
+-- of a request, but not of what goes down
+abbrev pub IfUp : Direction → Type 0 → Type 0
+IfUp Up A = A
+IfUp Down A = ⊤
+
+-- A plain request that is released is one that ground asked. What is released of a request that
+-- came in parts is its awaited message, and its reception expires or is broken off only where one
+-- is.
+abbrev pub IsSent : Fact → Log → Type 0
+IsSent (Released None m) log = Contains log (Asked m)
+IsSent (Released (Some t) m) log = IfUp t.0 (awaited log t.0 t.1 ≡ Some m)
+IsSent (Aborted d name) log = IfUp d (is_some (awaited log d name) ≡ true)
+IsSent _ log = ⊤
+
+-- each fact of requests is so after those before it
+abbrev pub AllSent : Log → Type 0
+AllSent [] = ⊤
+AllSent (x ∷ log) = AllSent log × IsSent x log
+
+-- Each request that was released was sent by ground. The memories are their first content, changed
+-- by the executed requests; these were released in their order, and none of them was dropped. What
+-- the spacecraft executes next, once it was read, is the oldest request, where that wasn't dropped.
+pub record IsServed (c : Config) (first : Contents) (s : Service) : Type 0 where
+  pub sent : AllSent s.pair.ends.log
+  pub memories : s.pair.ends.memories ≡ left_by c.apid s.done first
+  pub next : (r : Source) (m : List ℕ)
+      → head_of s.pair.ends.on_craft.jobs.jobs ≡ Ready r
+      → slice_get s.waits 0 ≡ Some (Some m)
+      → r.message ≡ m
+
+-- two new ends, whose clocks begin so many ticks later
+abbrev pub no_service : Config → Contents → (on_ground on_craft : ℕ) → Service
+no_service c first g k = record { pair = no_pair_later c first g k; waits = []; done = [] }
+
+-- whatever two ends did that read a request at once, and dropped some
+abbrev pub EndsThatDropServe : Type 0
+EndsThatDropServe =
+    (c : Config) (first : Contents) (g k : ℕ) (xs : List Turn)
+    → IsConfig (later g c)
+    → IsConfig (later k c)
+    → CanTurnAll c (no_service c first g k) xs
+    → IsServed c first (turned_all c (no_service c first g k) xs)

@@ -1,0 +1,135 @@
+-- Two ends behind handles, where the spacecraft's program has the memories, and drops requests that
+-- it doesn't execute.
+use Rattle.std.specs.Prelude.{◌≡◌, ℕ, List, [], ◌∷◌, ◌++◌, map, ⊤}
+use Rattle.lpt_apart.specs.Clocks.{later}
+use Rattle.lpt_c_end.specs.Changes.{IsNew}
+use Rattle.lpt_c_end.specs.Sizes.{size_said, IsNewSized}
+use Rattle.lpt_c_end.specs.declared.end.End.{End}
+use Rattle.lpt_c_end.specs.declared.memories.LptMemory.{LptMemory}
+use Rattle.lpt_c_end.specs.declared.sizing.LptSize.{LptSize}
+use Rattle.lpt_c_pair.specs.Pairs.{ExecuteGiven}
+use Rattle.lpt_c_pair.specs.Programs as program
+use Rattle.lpt_c_pair.specs.Programs.{Program, Told, CanAct, MayCall, put_told}
+use Rattle.lpt_c_pair.specs.Services.{Calls, Deed, Drops, DropsRead, Serving, CanServe, KeepsItsService, no_serving, served, standing}
+use Rattle.lpt_events.specs.Configs.{IsConfig}
+use Rattle.lpt_events.specs.declared.config.Config.{Config}
+use Rattle.lpt_events.specs.declared.side.Side.TheVariants.{Ground, Craft}
+use Rattle.lpt_journal.specs.Jobs.{left_by}
+use Rattle.lpt_memory.specs.Memories.{Contents, sizes_of}
+
+-- Two ends behind handles, and the memories that the spacecraft's program has; what it has written
+-- ahead of an execution, and what it owes behind one; and the memories as they stood before the
+-- first write ahead.
+pub record Keeper : Type 0 where
+  pub serving : Serving
+  pub memories : Contents
+  pub ahead : List Told
+  pub owed : List Told
+  pub stood : Contents
+
+-- A call or a drop answered 0; a write is made ahead; a request was executed, after which these
+-- writes are owed; memories became these, as some of what is owed was written; all that is owed was
+-- written; or what stood there is put back.
+pub data Act : Type 0 where
+  Does : Deed → Act
+  Writes : Told → Act
+  Gives : (octets : List ℕ) → (owed : List Told) → (new : End) → Act
+  Puts : (memories : Contents) → Act
+  Settles : Act
+  TakesBack : Act
+
+-- the program, but for its drops
+abbrev pub program_of : Keeper → Program
+program_of k = record {
+  ends = standing k.serving;
+  memories = k.memories;
+  ahead = k.ahead;
+  owed = k.owed;
+}
+
+-- the call that executes a request by the octets that it reads
+abbrev pub giving : (octets : List ℕ) → End → Deed
+giving octets new = Calls (record { side = Craft; call = ExecuteGiven octets; new = new })
+
+-- a request is dropped where nothing was written ahead, or that was put back
+abbrev pub MayDo : Keeper → Deed → Type 0
+MayDo k (Calls t) = MayCall (program_of k) t.side t.call
+MayDo k (Drops new) = k.ahead ≡ []
+MayDo k (DropsRead new) = k.ahead ≡ []
+
+-- an act can be done: as of a program that drops nothing
+abbrev pub CanKeep : Config → Keeper → Act → Type 0
+CanKeep c k (Does x) = CanServe c k.serving x × MayDo k x
+CanKeep c k (Writes t) = CanAct c (program_of k) (program.Writes t)
+CanKeep c k (Gives octets owed new) = CanAct c (program_of k) (program.Gives octets owed new)
+CanKeep c k (Puts ms) = CanAct c (program_of k) (program.Puts ms)
+CanKeep c k Settles = ⊤
+CanKeep c k TakesBack = ⊤
+
+-- what stood there, where this was written ahead over it, or these memories where nothing was
+abbrev pub stood_by : List Told → (memories stood : Contents) → Contents
+stood_by [] ms stood = ms
+stood_by (t ∷ ts) ms stood = stood
+
+-- what an act makes of them
+abbrev pub kept : Config → Keeper → Act → Keeper
+kept c k (Does x) = record k { serving = served c k.serving x }
+kept c k (Writes t) = record k {
+  memories = put_told (t ∷ []) k.memories;
+  ahead = k.ahead ++ t ∷ [];
+  stood = stood_by k.ahead k.memories k.stood;
+}
+kept c k (Gives octets owed new) = record k {
+  serving = served c k.serving (giving octets new);
+  ahead = [];
+  owed = owed;
+}
+kept c k (Puts ms) = record k { memories = ms }
+kept c k Settles = record k { memories = put_told k.owed k.memories; owed = [] }
+kept c k TakesBack = record k {
+  memories = stood_by k.ahead k.memories k.stood;
+  ahead = [];
+}
+
+-- after these acts, the newest of which stands first
+abbrev pub kept_all : Config → Keeper → List Act → Keeper
+kept_all c k [] = k
+kept_all c k (x ∷ xs) = kept c (kept_all c k xs) x
+
+-- each of them can be done after those before it
+abbrev pub CanKeepAll : Config → Keeper → List Act → Type 0
+CanKeepAll c k [] = ⊤
+CanKeepAll c k (x ∷ xs) = CanKeepAll c k xs × CanKeep c (kept_all c k xs) x
+
+-- two new ends, and memories that nothing was written over
+abbrev pub new_keeper : Config → Contents → (ticks_ground ticks_craft : ℕ)
+    → (on_ground on_craft : End)
+    → Keeper
+new_keeper c first a b g k = record {
+  serving = no_serving c first a b g k;
+  memories = first;
+  ahead = [];
+  owed = [];
+  stood = first;
+}
+
+-- What is promised of the ends, and of the program's own memories: once what is owed is written,
+-- they are their first content, changed by the executed requests and by what was written ahead.
+pub record KeepsItsOwn (c : Config) (first : Contents) (k : Keeper) : Type 0 where
+  pub service : KeepsItsService c first k.serving
+  pub memories : put_told k.owed k.memories
+      ≡ put_told k.ahead (left_by c.apid k.serving.service.done first)
+
+-- whatever was done with two new ends, and with memories that begin so
+abbrev pub ProgramsThatDropServe : Type 0
+ProgramsThatDropServe =
+    (c : Config) (a b : ℕ)
+    (none : List LptMemory) (nothing : List ℕ) (sizes : List LptSize) (first : Contents)
+    (g k : End) (xs : List Act)
+    → IsConfig (later a c)
+    → IsConfig (later b c)
+    → map size_said sizes ≡ sizes_of first
+    → IsNew Ground (later a c) none nothing g
+    → IsNewSized (later b c) sizes k
+    → CanKeepAll c (new_keeper c first a b g k) xs
+    → KeepsItsOwn c first (kept_all c (new_keeper c first a b g k) xs)

@@ -1,0 +1,104 @@
+-- Two ends behind handles, whose spacecraft's program drops requests that it doesn't execute.
+use Rattle.std.specs.Prelude.{◌≡◌, ℕ, List, [], ◌∷◌, None, ⊤}
+use Rattle.lpt_apart.specs.Clocks.{later}
+use Rattle.lpt_apart.specs.Drops as apart
+use Rattle.lpt_apart.specs.Drops.{Service, CanTurnAll, IsServed, no_service, turned, turned_all}
+use Rattle.lpt_apart.specs.Moves.{Move}
+use Rattle.lpt_c_end.specs.Accesses.{unready}
+use Rattle.lpt_c_end.specs.Changes.{IsDropped, IsNew, IsReadDropped}
+use Rattle.lpt_c_end.specs.Contents.{memories_told}
+use Rattle.lpt_c_end.specs.Refusals.{read_refusal}
+use Rattle.lpt_c_end.specs.declared.end.End.{End}
+use Rattle.lpt_c_end.specs.declared.memories.LptMemory.{LptMemory}
+use Rattle.lpt_c_pair.specs.Pairs.{AreEndsOf, Call, Read, moves}
+use Rattle.lpt_c_pair.specs.Runs.{CanTurnBy, Standing, Turn}
+use Rattle.lpt_events.specs.Configs.{IsConfig}
+use Rattle.lpt_events.specs.declared.config.Config.{Config}
+use Rattle.lpt_events.specs.declared.side.Side.{Side}
+use Rattle.lpt_events.specs.declared.side.Side.TheVariants.{Ground, Craft}
+use Rattle.lpt_memory.specs.Memories.{Contents}
+
+-- two ends behind handles, and the ends apart that they are, with the requests that wait
+pub record Serving : Type 0 where
+  pub service : Service
+  pub on_ground : End
+  pub on_craft : End
+
+-- a call that answered 0; or `lpt_end_drop` did, or `lpt_end_drop_read`, and the spacecraft's end
+-- became this
+pub data Deed : Type 0 where
+  Calls : Turn → Deed
+  Drops : (new : End) → Deed
+  DropsRead : (new : End) → Deed
+
+-- the ends alone
+abbrev pub standing : Serving → Standing
+standing s =
+    record { pair = s.service.pair; on_ground = s.on_ground; on_craft = s.on_craft }
+
+-- a call is made as before; a drop isn't refused
+abbrev pub CanServe : Config → Serving → Deed → Type 0
+CanServe c s (Calls t) = CanTurnBy c (standing s) t.side t.call t.new
+CanServe c s (Drops new) = (read_refusal s.on_craft ≡ None) × IsDropped s.on_craft new
+CanServe c s (DropsRead new) = (unready s.on_craft ≡ None) × IsReadDropped s.on_craft new
+
+-- moves as turns
+abbrev pub made : List Move → List apart.Turn
+made [] = []
+made (x ∷ xs) = apart.Makes x ∷ made xs
+
+-- the turns of a call of the end of a side, the newest first: a request is read at once
+abbrev pub turns : Side → Call → List apart.Turn
+turns side Read = apart.Reads ∷ []
+turns side call = made (moves side call)
+
+-- the ends with this one of a side, and this service
+abbrev pub with_end : Serving → Service → Side → End → Serving
+with_end s service Ground new =
+    record { service = service; on_ground = new; on_craft = s.on_craft }
+with_end s service Craft new =
+    record { service = service; on_ground = s.on_ground; on_craft = new }
+
+-- what a deed makes of them
+abbrev pub served : Config → Serving → Deed → Serving
+served c s (Calls t) = with_end s (turned_all c s.service (turns t.side t.call)) t.side t.new
+served c s (Drops new) = with_end s (turned c s.service apart.Drops) Craft new
+served c s (DropsRead new) = with_end s (turned c s.service apart.LetsGo) Craft new
+
+-- after these deeds, the newest of which stands first
+abbrev pub served_all : Config → Serving → List Deed → Serving
+served_all c s [] = s
+served_all c s (x ∷ xs) = served c (served_all c s xs) x
+
+-- each of them can be done after those before it
+abbrev pub CanServeAll : Config → Serving → List Deed → Type 0
+CanServeAll c s [] = ⊤
+CanServeAll c s (x ∷ xs) = CanServeAll c s xs × CanServe c (served_all c s xs) x
+
+-- two new ends
+abbrev pub no_serving : Config → Contents → (ticks_ground ticks_craft : ℕ)
+    → (on_ground on_craft : End)
+    → Serving
+no_serving c first a b g k =
+    record { service = no_service c first a b; on_ground = g; on_craft = k }
+
+-- The ends are two ends apart. Each request that was released was sent by ground. The spacecraft's
+-- memories are their first content, changed by the executed requests in order of release; none that
+-- was dropped is among these.
+pub record KeepsItsService (c : Config) (first : Contents) (s : Serving) : Type 0 where
+  pub ends : AreEndsOf c s.service.pair s.on_ground s.on_craft
+  pub served : IsServed c first s.service
+
+-- whatever calls were made of two ends that were new, drops among them
+abbrev pub EndsOfCThatDropServe : Type 0
+EndsOfCThatDropServe =
+    (c : Config) (a b : ℕ)
+    (none : List LptMemory) (nothing : List ℕ) (ms : List LptMemory) (content : List ℕ)
+    (g k : End) (xs : List Deed)
+    → IsConfig (later a c)
+    → IsConfig (later b c)
+    → IsNew Ground (later a c) none nothing g
+    → IsNew Craft (later b c) ms content k
+    → CanServeAll c (no_serving c (memories_told content ms) a b g k) xs
+    → KeepsItsService c (memories_told content ms)
+    (served_all c (no_serving c (memories_told content ms) a b g k) xs)
