@@ -1,0 +1,2 @@
+pub mod CarryLemmas
+mod ToldLemmas

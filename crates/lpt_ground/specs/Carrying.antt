@@ -1,0 +1,149 @@
+-- What a pass puts by what it hears, and what has settled its requests.
+use Rattle.std.specs.Prelude.{◌≡◌, ℕ, List, [], ◌∷◌, ◌++◌, slice_get, Option, Some, None, ⊤}
+use Rattle.std.specs.Io.KnownBytes.{Appends}
+use Rattle.lpt_pus.specs.Telemetry.{Telemetry}
+use Rattle.lpt_ground.specs.declared.asked.Asked.{Asked}
+use Rattle.lpt_ground.specs.declared.asked.Fate.TheVariants.{Waiting}
+use Rattle.lpt_ground.specs.declared.asked.Terms.{Terms}
+use Rattle.lpt_ground.specs.declared.carrying.Waited.{Waited}
+use Rattle.lpt_ground.specs.declared.carrying.Waited.TheVariants as waits
+use Rattle.lpt_ground.specs.declared.pass.End.TheVariants as ends
+use Rattle.lpt_ground.specs.declared.pass.Step.{Step}
+use Rattle.lpt_ground.specs.declared.pass.Step.TheVariants.{Put, Listen, Stop}
+use Rattle.lpt_ground.specs.declared.telling.Said.TheVariants as said
+use Rattle.lpt_ground.specs.Passes.{State, closed, heard, next_step, put, waited}
+use Rattle.lpt_ground.specs.Telling.{report_of, said_of}
+
+-- ---- what an ear answers
+
+-- that nothing has come, asked without waiting; a packet that came; that none did for the wait; or
+-- that none will come any more
+pub data Answer : Type 0 where
+  Nothing : Answer
+  Came : (octets : List ℕ) → Answer
+  Quiet : Answer
+  Over : Answer
+
+-- what it is that a packet has come, or none has
+abbrev pub ready_answer : Option (List ℕ) → Answer
+ready_answer None = Nothing
+ready_answer (Some o) = Came o
+
+-- what it is that came while a pass listened
+abbrev pub wait_answer : Waited → Answer
+wait_answer waits.Quiet = Quiet
+wait_answer waits.End = Over
+wait_answer (waits.Packet o) = Came o
+
+-- the packets among answers
+abbrev pub packets_of : List Answer → List (List ℕ)
+packets_of [] = []
+packets_of (Nothing ∷ rest) = packets_of rest
+packets_of (Came o ∷ rest) = o ∷ packets_of rest
+packets_of (Quiet ∷ rest) = packets_of rest
+packets_of (Over ∷ rest) = packets_of rest
+
+-- these were answered, where that is known
+abbrev pub Hears : (had has : Option (List Answer)) → List Answer → Type 0
+Hears None has answers = ⊤
+Hears (Some old) None answers = ⊥
+Hears (Some old) (Some new) answers = new ≡ old ++ answers
+
+-- ---- what a pass puts
+
+-- once a pass that was to put a request, or to listen, got nothing
+abbrev pub moved : State → Step → State
+moved s (Put k) = put s k
+moved s Listen = s
+moved s (Stop e) = s
+
+-- once it was answered so
+abbrev pub answered : Terms → State → Answer → State
+answered terms s Nothing = moved s (next_step s)
+answered terms s (Came o) = heard terms s o
+answered terms s Quiet = waited terms s
+answered terms s Over = closed s
+
+-- once it was answered so, one answer after the other
+abbrev pub come_to : Terms → State → List Answer → State
+come_to terms s [] = s
+come_to terms s (a ∷ rest) = come_to terms (answered terms s a) rest
+
+-- the octets of a request, if there is one
+abbrev pub octets_of : Option Asked → List ℕ
+octets_of None = []
+octets_of (Some a) = a.octets
+
+-- what is written by a step, where nothing has come
+abbrev pub written_by : State → Step → List ℕ
+written_by s (Put k) = octets_of (slice_get s.asked k)
+written_by s Listen = []
+written_by s (Stop e) = []
+
+-- what is written where it is answered so
+abbrev pub written_at : State → Answer → List ℕ
+written_at s Nothing = written_by s (next_step s)
+written_at s (Came o) = []
+written_at s Quiet = []
+written_at s Over = []
+
+-- what is written by these answers, one after the other
+abbrev pub paced : Terms → State → List Answer → List ℕ
+paced terms s [] = []
+paced terms s (a ∷ rest) = written_at s a ++ paced terms (answered terms s a) rest
+
+-- one answer was given, the pass came to that by it, and what it wrote was written
+pub record Stepped (terms : Terms) (s t : State) (had has : Option (List Answer))
+    (old new : Option (List ℕ)) : Type 0 where
+  pub answer : Answer
+  pub told : Hears had has (answer ∷ [])
+  pub came : t ≡ answered terms s answer
+  pub written : Appends old new (written_at s answer)
+
+-- the same of answers, one after the other
+pub record Went (terms : Terms) (s t : State) (had has : Option (List Answer))
+    (old new : Option (List ℕ)) : Type 0 where
+  pub answers : List Answer
+  pub told : Hears had has answers
+  pub came : t ≡ come_to terms s answers
+  pub written : Appends old new (paced terms s answers)
+
+-- ---- what has settled its requests
+
+-- octets are a report of the pass that says that a request was carried out, and answers it where
+-- something was asked
+pub record Tells (terms : Terms) (a : Asked) (o : List ℕ) : Type 0 where
+  pub report : Telemetry
+  pub is_report : report_of terms o ≡ Some report
+  pub says : said_of terms.starts report a ≡ Some said.Done
+
+-- one of these packets does
+pub record WasTold (terms : Terms) (a : Asked) (packets : List (List ℕ)) : Type 0 where
+  pub number : ℕ
+  pub packet : List ℕ
+  pub is_there : slice_get packets number ≡ Some packet
+  pub tells : Tells terms a packet
+
+-- of each request that waited, one of these packets says that it was carried out
+abbrev pub AllTold : Terms → List Asked → List (List ℕ) → Type 0
+AllTold terms asked packets =
+    (k : ℕ) (a : Asked)
+    → slice_get asked k ≡ Some a
+    → a.fate ≡ Waiting
+    → WasTold terms a packets
+
+-- of each that waited, one of the packets that were heard since says so
+pub record AreTold (terms : Terms) (asked : List Asked)
+    (had has : Option (List Answer)) : Type 0 where
+  pub answers : List Answer
+  pub told : Hears had has answers
+  pub all : AllTold terms asked (packets_of answers)
+
+-- ---- the law
+
+-- a pass that ends as done, whatever was heard
+abbrev pub DoneIsTold : Type 0
+DoneIsTold =
+    (terms : Terms) (s : State) (answers : List Answer)
+    → next_step (come_to terms s answers) ≡ Stop ends.Done
+    → AllTold terms s.asked (packets_of answers)

@@ -1,0 +1,5 @@
+pub mod Answers
+pub mod Carrying
+pub mod Passes
+pub mod Plans
+pub mod Telling

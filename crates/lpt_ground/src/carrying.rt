@@ -1,0 +1,134 @@
+//! A pass carried to its end, over what is heard and what is written.
+
+ghost use Rattle.std.specs.Prelude.{◌≡◌, ◌<◌, ◌∷◌, ℕ, [], List, Option, length, IfOk, OnOk};
+ghost use Rattle.lpt_ground.specs.Carrying.{ready_answer, wait_answer, Answer, AreTold, Hears, Stepped, Went};
+ghost use Rattle.lpt_ground.specs.Passes.{next_step, state_of};
+
+use crate::{Asked, End, Pass, Step};
+use lpt_packet::Octets;
+use lpt_text::{Sink, StreamFault, flush_out, write_out};
+
+/// What came while a pass listened.
+#[derive(Drop)]
+pub enum Waited {
+    /// This packet.
+    Packet(Octets),
+    /// None, for as long as a pass waits.
+    Quiet,
+    /// None, and none will come any more.
+    End,
+}
+
+/// Where a pass hears packets, and where what became of its requests is kept.
+pub trait Ear {
+    // What it answered so far, where that is known.
+    ghost told: { Self → Option (List Answer) };
+
+    /// A packet that has come, if one has. It doesn't wait.
+    fn ready(&mut self) -> Option<Octets>
+        ensures { Hears (told self.old) (told self.new) (ready_answer result ∷ []) };
+
+    /// Waits for a packet, for as long as a pass waits.
+    fn wait(&mut self) -> Waited
+        ensures { Hears (told self.old) (told self.new) (wait_answer result ∷ []) };
+
+    /// Is told of the requests before each round, so that it may keep those that are settled, and
+    /// answers whether the round may begin.
+    fn keep(&mut self, asked: &[Asked]) -> bool
+        ensures { told self.new ≡ told self.old };
+}
+
+/// Carries a pass to its end: puts its requests to the sink, and hears what comes. Before each
+/// round, and at the end, the ear is told of the requests. Before each wait the sink passes on what
+/// it has kept back.
+///
+/// Errors: `Write` where a write failed, or where the ear couldn't keep the requests; `Read` where
+/// it took 2^64 - 1 steps. What became of the requests stays.
+pub fn carry<E: Ear, K: Sink>(pass: &mut Pass, ear: &mut E, out: &mut K) -> Result<End, StreamFault>
+    // It is at its end, and each request that waited was told done by what was heard.
+    ensures stop { IfOk result (λ e. next_step (state_of pass.new) ≡ Step.Stop e) }
+    ensures done { IfOk result (λ e. e ≡ End.Done
+        → AreTold pass.old.terms pass.old.asked.items (E.told ear.old) (E.told ear.new)) }
+
+    // What it wrote, and what became of it, follows from what it heard.
+    ensures paced { OnOk result (Went pass.old.terms (state_of pass.old) (state_of pass.new)
+        (E.told ear.old) (E.told ear.new) (K.contents out.old) (K.contents out.new)) }
+    ensures terms { pass.new.terms ≡ pass.old.terms }
+{
+    if !ear.keep(pass.asked()) {
+        return Err(StreamFault::Write);
+    }
+    for _ in 0..u64::MAX {
+        let step = pass.next();
+        if let Step::Stop(end) = step {
+            return Ok(end);
+        }
+        turn(pass, step, ear, out)?;
+    }
+    Err(StreamFault::Read)
+}
+
+// Does what comes next.
+fn turn<E: Ear, K: Sink>(
+    pass: &mut Pass,
+    step: Step,
+    ear: &mut E,
+    out: &mut K,
+) -> Result<(), StreamFault>
+    requires next { next_step (state_of pass.old) ≡ step }
+    requires within { (k : ℕ) → step ≡ Step.Put k → k < length pass.old.asked.items }
+    ensures ok { OnOk result (Stepped pass.old.terms (state_of pass.old) (state_of pass.new)
+        (E.told ear.old) (E.told ear.new) (K.contents out.old) (K.contents out.new)) }
+    ensures terms { pass.new.terms ≡ pass.old.terms }
+{
+    match step {
+        Step::Put(k) => put_one(pass, k, ear, out),
+        _ => listen(pass, ear, out),
+    }
+}
+
+// Puts the request at this place, unless a packet has come.
+fn put_one<E: Ear, K: Sink>(
+    pass: &mut Pass,
+    k: usize,
+    ear: &mut E,
+    out: &mut K,
+) -> Result<(), StreamFault>
+    requires next { next_step (state_of pass.old) ≡ Step.Put k }
+    requires within { k < length pass.old.asked.items }
+    ensures ok { OnOk result (Stepped pass.old.terms (state_of pass.old) (state_of pass.new)
+        (E.told ear.old) (E.told ear.new) (K.contents out.old) (K.contents out.new)) }
+    ensures terms { pass.new.terms ≡ pass.old.terms }
+{
+    match ear.ready() {
+        Some(octets) => {
+            pass.hear(octets);
+            Ok(())
+        }
+        None => {
+            write_out(out, pass.octets(k))?;
+            pass.sent(k);
+            Ok(())
+        }
+    }
+}
+
+// Listens for a packet, for as long as a pass waits. Where none comes a round begins.
+fn listen<E: Ear, K: Sink>(pass: &mut Pass, ear: &mut E, out: &mut K) -> Result<(), StreamFault>
+    ensures ok { OnOk result (Stepped pass.old.terms (state_of pass.old) (state_of pass.new)
+        (E.told ear.old) (E.told ear.new) (K.contents out.old) (K.contents out.new)) }
+    ensures terms { pass.new.terms ≡ pass.old.terms }
+{
+    flush_out(out)?;
+    match ear.wait() {
+        Waited::Packet(octets) => pass.hear(octets),
+        Waited::End => pass.close(),
+        Waited::Quiet => {
+            pass.quiet();
+            if !ear.keep(pass.asked()) {
+                return Err(StreamFault::Write);
+            }
+        }
+    }
+    Ok(())
+}

@@ -1,0 +1,29 @@
+//! Ground's end of a pass that carries its requests to their end: each of them is sent again, by
+//! rounds, until a report has settled it, or until nothing more is heard. It has no handle: what it
+//! sends and when follows from what it heard.
+//!
+//! The main types are `Asked`, a request with what became of it, and `Pass`. The first call is
+//! `plan_requests`, then `Pass::new`, and then `carry` with an `Ear` and a sink; or, one step after
+//! the other, `Pass::next`, `sent`, `hear`, `quiet` and `end`.
+#![tactic(auto)]
+
+mod answers;
+mod asked;
+mod carrying;
+mod finding;
+pub mod laws;
+mod pass;
+mod planning;
+mod telling;
+
+pub use answers::{checks_agree, dumped_octets};
+pub use asked::{Asked, Awaits, Fate, Place, Terms};
+pub use carrying::{Ear, Waited, carry};
+pub use lpt_memory::MemoryFault;
+pub use lpt_packet::Octets;
+pub use lpt_pus::AckFlags;
+pub use lpt_requests::Request;
+pub use lpt_text::{Sink, StreamFault};
+pub use pass::{End, Pass, Step};
+pub use planning::{MOST, plan_requests};
+pub use telling::Said;

@@ -1,0 +1,201 @@
+//! A pass: what it does next, by what it heard.
+
+ghost use Rattle.std.specs.Prelude.{◌≤◌, length};
+
+use crate::finding::{are_done, first_settled, first_waiting, set_fate};
+use crate::telling::Said;
+use crate::{Asked, Terms};
+use lpt_packet::Octets;
+
+/// So many requests are put at least in each round but the first: packets that a link delays stand
+/// in it until others push them.
+const LEAST: u32 = 8;
+
+/// How a pass ends.
+#[derive(Clone, Copy, Debug, PartialEq, Eq)]
+pub enum End {
+    /// A packet was heard that settles each request.
+    Done,
+    /// Each request is settled, and some failed.
+    Failed,
+    /// Some still wait, and too many waits in a row settled nothing.
+    Given,
+    /// Some still wait, and nothing more will be heard.
+    Ended,
+}
+
+/// What a pass does next.
+#[derive(Clone, Copy, Debug, PartialEq, Eq)]
+pub enum Step {
+    /// It puts the request at this place.
+    Put(usize),
+    /// It listens, until a packet comes, or none does for the wait.
+    Listen,
+    /// It is at its end.
+    Stop(End),
+}
+
+/// Requests that are sent by rounds until each is settled.
+///
+/// In a round each request that waits is put once; in all but the first at least 8 packets, where
+/// one waits. Behind a round the pass listens, and once nothing was heard for the wait the next
+/// round begins.
+#[derive(Drop)]
+pub struct Pass {
+    terms: Terms,
+    asked: Vec<Asked>,
+    // The place behind the request that was put last in this round.
+    at: usize,
+    // How many are still to be put in this round at least.
+    owed: u32,
+    // How many more waits in a row may settle nothing.
+    left: u32,
+    // Whether something was settled since the last wait.
+    news: bool,
+    // Whether nothing more will be heard.
+    ended: bool,
+    ghost within: { at ≤ length asked.items },
+}
+
+impl Pass {
+    ghost use Rattle.std.specs.Prelude.{◌≡◌, ◌<◌, ℕ, drop, position, slice_get};
+    ghost use Rattle.lpt_packet.specs.Numbers.{IsOctets};
+    ghost use Rattle.lpt_ground.specs.Carrying.{octets_of};
+    ghost use Rattle.lpt_ground.specs.Passes.{begun, closed, end_of, heard, next_step, put, put_from, state_of, waited};
+    ghost use Rattle.lpt_ground.specs.Telling.{is_waiting, said_in};
+
+    /// A pass of these requests that begins.
+    pub fn new(terms: Terms, asked: Vec<Asked>) -> Pass
+        ensures state { state_of result ≡ begun terms asked.items }
+        ensures terms { result.terms ≡ terms }
+    {
+        Pass {
+            terms,
+            asked,
+            at: 0,
+            owed: 0,
+            left: terms.tries,
+            news: false,
+            ended: false,
+        }
+    }
+
+    /// The requests, with what became of them.
+    pub fn asked(&self) -> &[Asked]
+        ensures { result.now ≡ self.now.asked.items }
+    {
+        &self.asked
+    }
+
+    /// The packet of the request at this place.
+    pub fn octets(&self, k: usize) -> &[u8]
+        requires { k < length self.now.asked.items }
+        ensures { result.now ≡ octets_of (slice_get self.now.asked.items k) }
+    {
+        self.asked[k].octets.as_slice()
+    }
+
+    /// What the pass does next. Where no request waits any more it stops; else also where nothing
+    /// more will be heard, or too many waits settled nothing. Else it puts the next that waits in
+    /// this round, or listens where there is none.
+    #[tactic(auto, unfolding(crate::specs::Passes::next_step))]
+    pub fn next(&self) -> Step
+        ensures step { result ≡ next_step (state_of self.now) }
+        ensures within { (k : ℕ) → result ≡ Step.Put k → k < length self.now.asked.items }
+    {
+        let Some(first) = first_waiting(&self.asked) else {
+            return Step::Stop(self.end());
+        };
+        if self.ended {
+            return Step::Stop(End::Ended);
+        }
+        if self.left == 0 {
+            return Step::Stop(End::Given);
+        }
+        self.put_from(first)
+    }
+
+    // How a pass ends of which none waits.
+    fn end(&self) -> End
+        ensures { result ≡ end_of self.now.asked.items }
+    {
+        if are_done(&self.asked) {
+            End::Done
+        } else {
+            End::Failed
+        }
+    }
+
+    // What a pass does next where this is the first that waits.
+    fn put_from(&self, first: usize) -> Step
+        requires { first < length self.now.asked.items }
+        ensures step { result ≡ put_from (state_of self.now) first
+            (position is_waiting (drop self.now.at self.now.asked.items)) }
+        ensures within { (k : ℕ) → result ≡ Step.Put k → k < length self.now.asked.items }
+    {
+        match first_waiting(&self.asked[self.at..]) {
+            Some(k) => Step::Put(self.at + k),
+            None if self.owed == 0 => Step::Listen,
+            None => Step::Put(first),
+        }
+    }
+
+    /// The request at this place was put.
+    pub fn sent(&mut self, k: usize)
+        requires { k < length self.old.asked.items }
+        ensures state { state_of self.new ≡ put (state_of self.old) k }
+        ensures terms { self.new.terms ≡ self.old.terms }
+    {
+        self.at = k + 1;
+        self.owed = self.owed.saturating_sub(1);
+    }
+
+    /// A packet was heard. The first request that it settles has its fate then.
+    #[tactic(auto, unfolding(crate::specs::Passes::heard))]
+    pub fn hear(&mut self, octets: Octets)
+        ensures state { state_of self.new ≡ heard self.old.terms (state_of self.old) octets }
+        ensures terms { self.new.terms ≡ self.old.terms }
+    {
+        let Some((k, said)) = self.said_in(octets.as_slice()) else {
+            return;
+        };
+        set_fate(&mut self.asked, k, said.fate(octets));
+        self.news = true;
+    }
+
+    // The first request that octets settle, and what they say of it.
+    #[tactic(auto, unfolding(crate::specs::Telling::said_in))]
+    fn said_in(&self, octets: &[u8]) -> Option<(usize, Said)>
+        requires { IsOctets octets.now }
+        ensures { result ≡ said_in self.now.terms self.now.asked.items octets.now }
+    {
+        let (head, body) = self.terms.report_of(octets)?;
+        let starts = self.terms.starts;
+        let k = first_settled(&self.asked, starts, &head, body)?;
+        let said = self.asked.get(k)?.said(starts, &head, body)?;
+        Some((k, said))
+    }
+
+    /// Nothing was heard for the wait: a new round begins.
+    pub fn quiet(&mut self)
+        ensures state { state_of self.new ≡ waited self.old.terms (state_of self.old) }
+        ensures terms { self.new.terms ≡ self.old.terms }
+    {
+        self.at = 0;
+        self.owed = LEAST;
+        self.left = if self.news {
+            self.terms.tries
+        } else {
+            self.left.saturating_sub(1)
+        };
+        self.news = false;
+    }
+
+    /// Nothing more will be heard.
+    pub fn close(&mut self)
+        ensures state { state_of self.new ≡ closed (state_of self.old) }
+        ensures terms { self.new.terms ≡ self.old.terms }
+    {
+        self.ended = true;
+    }
+}
