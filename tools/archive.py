@@ -159,7 +159,7 @@ def package(top: pathlib.Path, library: Library, processor: Processor, folder: p
     """Writes a library's files for pkg-config: of its archive, and of the shared one."""
     place = pathlib.PurePosixPath("build") / processor.folder
     version = (top / "docs/help/version").read_text(encoding="utf-8").strip()
-    for suffix, file in (("", f"-l{library.name}"), ("_shared", f"-l:lib{library.name}.so.0")):
+    for suffix, file in (("", f"-l:lib{library.name}.a"), ("_shared", f"-l:lib{library.name}.so.0")):
         lines = [
             f"prefix={top}", "", f"Name: {library.name}{suffix}", f"Description: {library.description}",
             f"Version: {version}", f"Requires: {library.requires and library.requires + suffix}",

@@ -83,6 +83,7 @@ _OF_CODECS: dict[str, tuple[Any, ...]] = {
     "lpt_crc16": _READ,
     "lpt_packet_length": (*_READ, POINTER),
     "lpt_find_piece": (*_READ, U32, U32, POINTER, POINTER),
+    "lpt_count_strays": (*_READ, U32, POINTER, SIZE),
     "lpt_read_packet": (*_READ, POINTER),
     "lpt_write_packet": (U32, U16, U16, *_READ, *_WRITE),
     "lpt_build_packet": (U32, U16, U16, SIZE, *_WRITE),

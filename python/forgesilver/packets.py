@@ -12,7 +12,7 @@ from typing import Any, BinaryIO, Callable, Iterator, Optional, Union, overload
 
 from . import _library
 from ._library import (
-    SIZE, U32, Given, Held, Octets, Room, has_octets, number, of_kind, piece_of, view_of,
+    SIZE, U16, U32, Given, Held, Octets, Room, has_octets, number, of_kind, piece_of, view_of,
 )
 from .faults import More, raise_fault
 from .kinds import Acknowledge, PacketKind, PieceKind
@@ -20,6 +20,8 @@ from .kinds import Acknowledge, PacketKind, PieceKind
 LONGEST_PACKET = _library.LONGEST_PACKET
 # So many octets of a stream always show which piece is in front.
 _LOOKAHEAD = 2 * LONGEST_PACKET
+# With so many numbers of room stray octets are counted quickly.
+_STRAY_ROOM = 2049
 #: The greatest application process identifier; 2047 marks an idle packet.
 GREATEST_APID = 2046
 
@@ -190,6 +192,8 @@ def sound_packets_of(stream: Union[Octets, BinaryIO]) -> Iterator[memoryview]:
             kind, size = piece
             if kind is PieceKind.WHOLE:
                 yield front[:size]
+            elif kind is PieceKind.STRAY:
+                size += _count_strays(front[size:], is_end)
             at, in_step = at + size, kind is not PieceKind.STRAY
         elif read is None:
             return
@@ -216,6 +220,12 @@ def find_piece(
         given.at, given.len, int(bool(in_step)), int(bool(is_end)), byref(kind), byref(size)
     )
     return None if fault else (PieceKind(kind.value), size.value)
+
+
+def _count_strays(octets: Octets, is_end: bool) -> int:
+    """So many stray octets `find_piece` would find here, one after the other, out of step."""
+    given, room = Given(octets), (U16 * _STRAY_ROOM)()
+    return int(_codecs.lpt_count_strays(given.at, given.len, int(is_end), room, _STRAY_ROOM))
 
 
 # ---- telecommands and telemetry ----

@@ -1,0 +1,13 @@
+# Versions before 1.0 fit where the second number is the same.
+set(PACKAGE_VERSION "@VERSION@")
+set(PACKAGE_VERSION_COMPATIBLE FALSE)
+if(PACKAGE_FIND_VERSION VERSION_EQUAL PACKAGE_VERSION)
+    set(PACKAGE_VERSION_COMPATIBLE TRUE)
+    set(PACKAGE_VERSION_EXACT TRUE)
+elseif(PACKAGE_FIND_VERSION VERSION_LESS PACKAGE_VERSION)
+    string(REGEX MATCH "^[0-9]+\\.[0-9]+" forgesilver_HAS "${PACKAGE_VERSION}")
+    string(REGEX MATCH "^[0-9]+\\.[0-9]+" forgesilver_WANTED "${PACKAGE_FIND_VERSION}.0")
+    if(forgesilver_HAS STREQUAL forgesilver_WANTED)
+        set(PACKAGE_VERSION_COMPATIBLE TRUE)
+    endif()
+endif()
