@@ -1,7 +1,9 @@
 -- Space packets with PUS headers, large packet transfer, raw memory management and request
--- verification, for Wireshark and tshark. The layouts are those of docs/FORMATS.md.
+-- verification, for Wireshark and tshark. The layouts are those of docs/FORMATS.md: the profile's, or a
+-- mission's own, of a file that a preference names.
 --
 --   tshark -X lua_script:tools/wireshark/forgesilver.lua -r packets.pcap -Y 'lpt.id == 7'
+--   tshark -X lua_script:tools/wireshark/forgesilver.lua -o pus.layout:mission.toml -r packets.pcap
 --
 -- It reads the records of link type 147, and the datagrams of the UDP ports that a preference names:
 -- packets one behind the other. docs/FILES.md says how it is used.
@@ -63,6 +65,8 @@ local p = {
     counter = u16("pus.message_type_counter", "Message type counter"),
     destination = u16("pus.destination_id", "Destination ID"),
     time = ProtoField.uint32("pus.time", "Time"),
+    time_octets = ProtoField.bytes("pus.time_octets", "Time"),
+    spare = ProtoField.bytes("pus.spare", "Spare octets"),
     body = ProtoField.bytes("pus.body", "Body"),
     checksum = ProtoField.uint16("pus.packet_error_control", "Packet error control", base.HEX),
     fault = u8("pus.fault_code", "Fault", FAULTS),
@@ -80,8 +84,8 @@ local p = {
 pus.fields = p
 
 local m = {
-    id = u16("lpt.id", "Large message transaction identifier"),
-    part = u16("lpt.part", "Part sequence number"),
+    id = ProtoField.uint32("lpt.id", "Large message transaction identifier"),
+    part = ProtoField.uint32("lpt.part", "Part sequence number"),
     kind = u8("lpt.kind", "Kind of part", KINDS),
     octets = u16("lpt.part_octets", "Octets of the part"),
     data = ProtoField.bytes("lpt.part_data", "Part"),
@@ -102,6 +106,7 @@ local e = {
     area = ProtoExpert.new("pus.wrong_area_checksum", "Wrong checksum of an area", expert.group.CHECKSUM, ERROR),
     fault = ProtoExpert.new("pus.fault", "No packet", MALFORMED, ERROR),
     unread = ProtoExpert.new("pus.unread", "Unread body", MALFORMED, ERROR),
+    layout = ProtoExpert.new("pus.layout_refused", "Refused layout", MALFORMED, ERROR),
     failed = ProtoExpert.new("pus.failed", "Failed request", expert.group.RESPONSE_CODE, WARN),
 }
 pus.experts = e
@@ -113,12 +118,190 @@ local x = {
     missing = ProtoExpert.new("lpt.part_missing", "Missing part", SEQUENCE, WARN),
     again = ProtoExpert.new("lpt.again", "Repeated part", SEQUENCE, NOTE),
     unfit = ProtoExpert.new("lpt.unfit", "No packet was joined", SEQUENCE, WARN),
+    alone = ProtoExpert.new("lpt.not_joined", "Parts that aren't joined", SEQUENCE, NOTE),
     given_up = ProtoExpert.new("lpt.given_up", "Parts given up", SEQUENCE, WARN),
 }
 lpt.experts = x
 
 pus.prefs.udp_ports = Pref.range("UDP ports", "", "Ports whose datagrams are space packets", 65535)
+pus.prefs.layout = Pref.string("Layout", "", "A file as of lpt --layout; empty for the profile")
 lpt.prefs.part_size = Pref.uint("Part size", 0, "In octets, as both ends have it; 0 takes any")
+
+-- A mission's layouts, of telemetry and of telecommands.
+
+local function own_layouts()
+    return {
+        [0] = {checksum = true, version = 2, counter = 16, user = 16, time = 4, spare = 0, id = 16, number = 16},
+        {checksum = true, version = 2, counter = 0, user = 16, time = 0, spare = 0, id = 16, number = 16},
+    }
+end
+
+local layouts, refusal = own_layouts(), nil
+
+-- The octets of a secondary header in front of its body, and those of a packet behind its body.
+local function head_size(layout)
+    return 3 + layout.counter / 8 + layout.user / 8 + layout.time + layout.spare
+end
+
+local function behind(layout)
+    return layout.checksum and 2 or 0
+end
+
+local DAYS = {31, 29, 31, 30, 31, 30, 31, 31, 30, 31, 30, 31}
+
+local function is_day(value)
+    local year, month, day = tostring(value):match("^(%d%d%d%d)%-(%d%d)%-(%d%d)$")
+    year, month, day = tonumber(year), tonumber(month), tonumber(day)
+    if not year or year < 1900 or not DAYS[month] or day < 1 or day > DAYS[month] then return false end
+    local is_leap = year % 4 == 0 and (year % 100 ~= 0 or year % 400 == 0)
+    return is_leap or month ~= 2 or day < 29
+end
+
+-- The octets of a time, and whether a code is named.
+local function time_size(value)
+    if type(value) == "number" and value >= 0 and value <= 16 then return value, false end
+    if type(value) ~= "string" then return end
+    local code, preamble = value:match("^(.-)( ?p?)$")
+    if preamble ~= " p" then code, preamble = value, "" end
+    local front = preamble == "" and 0 or 1
+    local coarse, fine = code:match("^cuc ([1-4]) ([0-3])$")
+    if coarse then return front + coarse + fine, true end
+    local bits, unit = code:match("^cds (%d%d)( ?%l*)$")
+    local octets = ({[""] = 0, [" us"] = 2, [" ps"] = 4})[unit]
+    if not octets or bits ~= "16" and bits ~= "24" then return end
+    return front + bits / 8 + 4 + octets, true
+end
+
+local function one_of(...)
+    local known = {...}
+    return function(value)
+        for _, it in ipairs(known) do
+            if it == value then return value end
+        end
+    end
+end
+
+local function from_to(least, most)
+    return function(value)
+        return type(value) == "number" and value >= least and value <= most and value or nil
+    end
+end
+
+-- What a key may be, what its values are, where it isn't one of them, and which field of a layout it is.
+local HEADER_BITS, PART_BITS = {one_of(0, 8, 16), "not 0, 8 or 16"}, {one_of(16, 32), "neither 16 nor 32"}
+local KEYS = {
+    {"checksum", one_of(true, false), "neither true nor false", "checksum"},
+    {"version", from_to(1, 2), "not from 1 to 2", "version"},
+    {"counter", HEADER_BITS[1], HEADER_BITS[2], "counter", 0}, {"destination", HEADER_BITS[1], HEADER_BITS[2], "user", 0},
+    {"source", HEADER_BITS[1], HEADER_BITS[2], "user", 1},
+    {"time", time_size, 'neither 0 to 16 octets nor a code such as "cuc 4 3"', "time", 0},
+    {"epoch", function(value) return is_day(value) and value or nil end, "not a day from 1900-01-01 to 9999-12-31", "epoch", 0},
+    {"spare", from_to(0, 255), "not from 0 to 255", "spare"},
+    {"transaction_id", PART_BITS[1], PART_BITS[2], "id"}, {"part_number", PART_BITS[1], PART_BITS[2], "number"},
+    {"part_size", from_to(1, 65535), "not from 1 to 65535", "part_size"},
+}
+
+-- The value that a text is, and what stands behind it. A day stays a text.
+local function value_in(text)
+    local found, rest = text:match('^"([^"\\%c]*)"(.*)$')
+    if not found then found, rest = text:match("^'([^'%c]*)'(.*)$") end
+    if found then return found, rest end
+    found, rest = text:match("^([^%s#]+)(.*)$")
+    if not found then return end
+    if found == "true" or found == "false" then return found == "true", rest end
+    if found:match("^%d%d%d%d%-%d%d%-%d%d$") then return found, rest end
+    local digits = found:gsub("(%x)_(%x)", "%1%2"):gsub("(%x)_(%x)", "%1%2")
+    local sign, whole = digits:match("^([+-]?)(%d+)$")
+    if whole and (whole == "0" or not whole:match("^0")) then return tonumber(sign:gsub("+", "") .. whole), rest end
+    local radix, others = digits:match("^0([xob])(%x+)$")
+    if radix then return tonumber(others, ({x = 16, o = 8, b = 2})[radix]), rest end
+    -- Another number, or a date with a time: of no key's type.
+    if found:match("^[+-]?%d[%d:.eETZ+-]*$") then return {}, rest end
+end
+
+-- A line of a layout file: the parts of the key's name, and its value. Nothing of a line that isn't read here.
+local function pair_in(line)
+    local key, text = line:match("^%s*([%w_.%-\"' ]-)%s*=%s*(.-)%s*$")
+    if not key then return end
+    local names = {}
+    for name in (key .. "."):gmatch("%s*(.-)%s*%.") do
+        names[#names + 1] = name:match('^"([%w_-]+)"$') or name:match("^'([%w_-]+)'$") or name:match("^[%w_-]+$")
+    end
+    local value, rest = value_in(text)
+    if value == nil or not rest:match("^%s*$") and not rest:match("^%s*#") then return end
+    return names, value
+end
+
+local TABLES = {telemetry = 0, telecommands = 1}
+
+-- The values of a layout file's tables, each with its line; or why they aren't read.
+local function tables_in(text)
+    local found, lines, table_now, number = {}, {}, nil, 0
+    for line in (text .. "\n"):gmatch("(.-)\r?\n") do
+        number = number + 1
+        local name = line:match("^%s*%[%s*([%w_-]+)%s*%]%s*$") or line:match("^%s*%[%s*([%w_-]+)%s*%]%s*#")
+        local names, value
+        if name then
+            if found[name] then return nil, number .. ": " .. name .. " is there already" end
+            if not TABLES[name] then return nil, number .. ": " .. name .. ": no such key" end
+            found[name], lines[name], table_now = {}, {}, name
+        elseif not line:match("^%s*$") and not line:match("^%s*#") then
+            names, value = pair_in(line)
+            if not names then return nil, number .. ": not a key with a value, as this reader takes them" end
+            if table_now then table.insert(names, 1, table_now) end
+            local place, key = names[1], names[2]
+            if not TABLES[place] then return nil, number .. ": " .. tostring(place) .. ": no such key" end
+            if #names ~= 2 then return nil, number .. ": " .. place .. ": not a table" end
+            found[place], lines[place] = found[place] or {}, lines[place] or {}
+            if found[place][key] ~= nil then return nil, number .. ": " .. key .. " is there already" end
+            found[place][key], lines[place][key] = value, number
+        end
+    end
+    return found, lines
+end
+
+-- The layouts that a text says, or why it is refused, with the line.
+local function layouts_in(text)
+    local found, lines = tables_in(text)
+    if not found then return nil, lines end
+    local made = own_layouts()
+    for name, values in pairs(found) do
+        local way, left = TABLES[name], {}
+        for key in pairs(values) do left[key] = true end
+        for _, it in ipairs(KEYS) do
+            local key, read, why, field, only = it[1], it[2], it[3], it[4], it[5]
+            if values[key] ~= nil and (only == nil or only == way) then
+                local value, is_code = read(values[key])
+                if value == nil then return nil, lines[name][key] .. ": " .. name .. ": " .. key .. ": " .. why end
+                made[way][field], left[key] = value, nil
+                if key == "time" then made[way].is_code = is_code end
+            end
+        end
+        local key = next(left)
+        if key then return nil, lines[name][key] .. ": " .. name .. ": " .. key .. ": no such key" end
+        if made[way].epoch and not made[way].is_code then
+            return nil, lines[name].epoch .. ": " .. name .. ": epoch: means something only where time names a code"
+        end
+    end
+    made.is_tailored = true
+    return made
+end
+
+-- Reads the file that the preference names.
+local function read_layouts()
+    local path = pus.prefs.layout
+    layouts, refusal = own_layouts(), nil
+    if path == "" then return end
+    local file, why = io.open(path, "rb")
+    local text = file and file:read("*a")
+    if file then file:close() end
+    if not text then
+        refusal = path .. ": " .. (why or "not read")
+        return
+    end
+    local made, fault = layouts_in(text)
+    if made then layouts = made else refusal = path .. ":" .. fault end
+end
 
 -- The checksum: a register of 16 ones, into which octets are shifted by x^16 + x^12 + x^5 + 1.
 
@@ -151,6 +334,7 @@ local function fault_of(octets)
     if one % 8 * 256 + two == IDLE_APID then return end
     if three < 0xC0 then return SEGMENTED end
     if one % 16 < 8 then return NO_SECONDARY end
+    if not layouts[math.floor(one / 16) % 2].checksum then return end
     local high, low = octets:byte(-2, -1)
     if #octets < 8 or checksum_of(octets:sub(1, -3)) ~= high * 256 + low then return CHECKSUM end
 end
@@ -231,6 +415,7 @@ local courses, places = {}, {}
 
 function lpt.init()
     courses, places = {}, {}
+    read_layouts()
 end
 
 -- Begins anew behind a message of these parts, with nothing or with a part. The new ones are known to be of a
@@ -404,10 +589,17 @@ local function show_place(place, part, at, node)
     return ", whole: " .. packet(whole, nil, {pinfo = at.pinfo, root = at.root, is_joined = true})
 end
 
+-- Where a part's number stands in a body, how wide it is, and where its octets begin.
+local function places_of(layout)
+    return layout.id / 8, layout.number / 8, (layout.id + layout.number) / 8
+end
+
 -- The first test that the body of a part fails.
-local function part_fault(kind, body)
-    if body:len() < 4 then return SHORT_PART end
-    local number, length, size = body(2, 2):uint(), body:len() - 4, lpt.prefs.part_size
+local function part_fault(kind, body, layout)
+    local at, width, start = places_of(layout)
+    if body:len() < start then return SHORT_PART end
+    local number, length = body(at, width):uint(), body:len() - start
+    local size = layouts.is_tailored and (layout.part_size or 0) or lpt.prefs.part_size
     if number == 0 then return ZERO end
     if (kind == 1) ~= (number == 1) then return KIND_NUMBER end
     local is_size = size == 0 or length == size or kind == LAST and length < size
@@ -420,13 +612,15 @@ end
 local function part_body(kind)
     return function(body, head, node, at)
         local tree = node:add(lpt, body)
+        local layout = layouts[head.kind]
+        local after, width, start = places_of(layout)
         at.pinfo.cols.protocol = "LPT"
-        if body:len() >= 4 then
-            tree:add(m.id, body(0, 2))
-            tree:add(m.part, body(2, 2))
+        if body:len() >= start then
+            tree:add(m.id, body(0, after))
+            tree:add(m.part, body(after, width))
         end
-        tree:add(m.source, head.peer):set_generated()
-        local fault = part_fault(kind, body)
+        if layout.user > 0 then tree:add(m.source, head.peer):set_generated() end
+        local fault = part_fault(kind, body, layout)
         if fault then
             if not head.fault then
                 tree:add(m.fault, fault):set_generated()
@@ -434,15 +628,19 @@ local function part_body(kind)
             end
             return "part unread"
         end
-        local part = {kind = kind, number = body(2, 2):uint(), octets = body:raw(4)}
+        local part = {kind = kind, number = body(after, width):uint(), octets = body:raw(start)}
         tree:add(m.kind, kind):set_generated()
         tree:add(m.octets, #part.octets):set_generated()
-        tree:add(m.data, body(4))
+        tree:add(m.data, body(start))
         part.is_up = head.kind == TELECOMMAND
-        local name = string.format("%s %d/%d", part.is_up and "up" or "down", head.peer, body(0, 2):uint())
+        local name = string.format("%s %d/%d", part.is_up and "up" or "down", head.peer, body(0, after):uint())
         tree:append_text(string.format(", %s, part %d", name, part.number))
         local said = string.format("%s part %d of %s", KINDS[kind], part.number, name)
         if at.is_joined or head.fault then return said end
+        if not layout.checksum then
+            tree:add_proto_expert_info(x.alone, "Parts without a checksum are joined by lpt alone")
+            return said
+        end
         return said .. show_place(place_of(head.apid .. " " .. name, part, at), part, at, tree)
     end
 end
@@ -450,7 +648,7 @@ end
 local function abort_body(body, head, node, at)
     local tree = node:add(lpt, body)
     at.pinfo.cols.protocol = "LPT"
-    tree:add(m.source, head.peer):set_generated()
+    if layouts[head.kind].user > 0 then tree:add(m.source, head.peer):set_generated() end
     if body:len() ~= 3 or not REASONS[body(2, 1):uint()] then
         if not head.fault then
             tree:add(m.fault, ABORT_BODY):set_generated()
@@ -549,24 +747,28 @@ local function primary_header(octets, tree)
     }
 end
 
--- The rest of a telecommand's secondary header, and of telemetry's; what names the other end.
-local function command_header(field, node)
-    local flags = node:add(p.flags, field(0, 1))
+-- The rest of a telecommand's secondary header, and of telemetry's; what names the other end, 0 where nothing does.
+local function command_header(field, node, layout)
+    local flags, user = node:add(p.flags, field(0, 1)), layout.user / 8
     for _, flag in ipairs({p.acceptance, p.start, p.progress, p.completion}) do flags:add(flag, field(0, 1)) end
     node:add(p.service, field(1, 1))
     node:add(p.subtype, field(2, 1))
-    node:add(p.source, field(3, 2))
-    return field(3, 2):uint()
+    if user > 0 then node:add(p.source, field(3, user)) end
+    if layout.spare > 0 then node:add(p.spare, field(3 + user, layout.spare)) end
+    return user > 0 and field(3, user):uint() or 0
 end
 
-local function report_header(field, node)
+local function report_header(field, node, layout)
+    local counter, user, size = layout.counter / 8, layout.user / 8, layout.time
+    local at = 3 + counter + user
     node:add(p.status, field(0, 1))
     node:add(p.service, field(1, 1))
     node:add(p.subtype, field(2, 1))
-    node:add(p.counter, field(3, 2))
-    node:add(p.destination, field(5, 2))
-    node:add(p.time, field(7, 4))
-    return field(5, 2):uint()
+    if counter > 0 then node:add(p.counter, field(3, counter)) end
+    if user > 0 then node:add(p.destination, field(3 + counter, user)) end
+    if size > 0 then node:add((size > 4 or layout.is_code) and p.time_octets or p.time, field(at, size)) end
+    if layout.spare > 0 then node:add(p.spare, field(at + size, layout.spare)) end
+    return user > 0 and field(3 + counter, user):uint() or 0
 end
 
 local function show_fault(fault, tree)
@@ -577,14 +779,14 @@ end
 
 -- The secondary header and the body. Where the checksum is wrong that is the packet's fault, and no other.
 local function data_field(field, head, tree, at)
-    local is_command = head.kind == TELECOMMAND
-    local size = is_command and 5 or 11
+    local is_command, layout = head.kind == TELECOMMAND, layouts[head.kind]
+    local size = head_size(layout)
     local fault = (not field or field:len() < size) and SHORT_HEADER
-        or field(0, 1):bitfield(0, 4) ~= 2 and PUS_VERSION
+        or field(0, 1):bitfield(0, 4) ~= layout.version and PUS_VERSION
     if fault then return head.fault and "" or show_fault(fault, tree) end
     local node = tree:add(field(0, size), "PUS header")
     node:add(p.pus, field(0, 1))
-    head.peer = (is_command and command_header or report_header)(field, node)
+    head.peer = (is_command and command_header or report_header)(field, node, layout)
     local title = string.format("%s[%d,%d]", is_command and "TC" or "TM", field(1, 1):uint(), field(2, 1):uint())
     tree:append_text(", " .. title)
     local read = BODIES[title]
@@ -609,12 +811,13 @@ function packet(octets, fault, at)
         tree:add(p.idle, true):set_generated()
         return "idle packet"
     end
-    local size = octets:len()
-    if size < 8 then return show_fault(fault, tree) end
+    local size, after = octets:len(), behind(layouts[head.kind])
+    if size < 6 + after then return show_fault(fault, tree) end
     head.fault = fault
-    local said = data_field(size > 8 and octets(6, size - 8) or nil, head, tree, at)
-    local node = tree:add(p.checksum, octets(size - 2, 2))
+    local said = data_field(size > 6 + after and octets(6, size - 6 - after) or nil, head, tree, at)
     said = string.format("APID %d count %d %s", head.apid, head.count, said)
+    if after == 0 then return said end
+    local node = tree:add(p.checksum, octets(size - 2, 2))
     if fault then
         tree:add(p.fault, fault):set_generated()
         local right = checksum_of(octets:raw(0, size - 2))
@@ -628,6 +831,11 @@ end
 function pus.dissector(tvb, pinfo, root)
     pinfo.cols.protocol = "PUS"
     local rest, said = tvb:len() > 0 and tvb() or nil, {}
+    if refusal then
+        root:add(pus, tvb()):add_proto_expert_info(e.layout, "The layout isn't read: " .. refusal)
+        pinfo.cols.info = "layout refused: " .. refusal
+        return tvb:len()
+    end
     while rest do
         local octets, fault = front(rest)
         said[#said + 1] = packet(octets, fault, {pinfo = pinfo, root = root, number = #said})
@@ -645,6 +853,7 @@ local datagrams, ports = DissectorTable.get("udp.port"), ""
 datagrams:add_for_decode_as(pus)
 
 function pus.prefs_changed()
+    read_layouts()
     if ports ~= "" then datagrams:remove(ports, pus) end
     ports = pus.prefs.udp_ports
     if ports ~= "" then datagrams:add(ports, pus) end
