@@ -6,9 +6,11 @@ edits [--anew | --beside LOG] ROOM [CRATE..]
                                 read here, those of all crates if none is named. --anew goes by no line
                                 'goal:' of an edit, and writes it. With --beside `rt ci` is still at work there
                                 and writes to LOG: a crate's edits begin once LOG says that it is proved, or
-                                once the file LOG.ended is there.
+                                once the file LOG.ended is there. What an earlier run on this machine refused
+                                isn't tried again (kept.py), but with --anew.
 
-A line for each edit, and last 'edits: N passed, M failed'. How they are tried is told in __init__.py.
+A line for each edit, how many were tried and how many are kept, and last 'edits: N passed, M failed'. How they
+are tried is told in __init__.py.
 """
 
 from __future__ import annotations
@@ -27,6 +29,7 @@ sys.path[0] = str(TOOLS)
 
 from crates import libraries  # noqa: E402: it stands beside this package
 from edits.crate import Crate  # noqa: E402
+from edits.kept import shrink, store  # noqa: E402
 from edits.report import Verdict  # noqa: E402
 from edits.trial import verdicts  # noqa: E402
 from lanes import GIB_AN_EDIT, free_gib, lanes  # noqa: E402
@@ -82,14 +85,21 @@ def tried(order: list[str], ready: Ready, trial: Callable[[str], Verdicts]) -> I
 
 def main(room: pathlib.Path, names: list[str], is_anew: bool, log: Optional[pathlib.Path]) -> int:
     """Tries the edits of these crates, or of all, those with most edits first."""
-    known = libraries(room)
+    known, place = libraries(room), store()
     folders = {it: TOOLS.parent / "crates" / it / "must-fail" for it in names or known}
     folders = {name: folder for name, folder in folders.items() if folder.is_dir()}
     order = sorted(folders, key=lambda it: -len(os.listdir(folders[it])))
-    passed = failed = 0
-    for name, verdict in tried(order, Ready(log), lambda it: verdicts(Crate(room, it, known), folders[it], is_anew)):
-        print(f"must-fail {name}: {verdict.reason}", flush=True)
+    passed = failed = kept = 0
+
+    def trial(name: str) -> Verdicts:
+        return verdicts(Crate(room, name, known), folders[name], is_anew, place)
+
+    for name, verdict in tried(order, Ready(log), trial):
+        print(f"must-fail {name}: {verdict.reason}{' (kept)' if verdict.is_kept else ''}", flush=True)
         passed, failed = passed + verdict.is_refused, failed + (not verdict.is_refused)
+        kept += verdict.is_kept
+    shrink(place)
+    print(f"edits: {passed + failed - kept} were tried, and {kept} were refused by an earlier run on this machine")
     print(f"edits: {passed} passed, {failed} failed")
     return 1 if failed or not passed else 0
 

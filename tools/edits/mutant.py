@@ -142,6 +142,11 @@ class Mutant:
         """How it is called where it is told of."""
         return f"{self.crate.name}/{self.file.name}"
 
+    @property
+    def text(self) -> tuple[str, str]:
+        """Its file's name, and what stands there."""
+        return self.file.name, self.file.read_text(encoding="utf-8")
+
     def mark(self) -> str:
         """The mark of what it changes, of its functions and of what is written of their proofs, and of all
         that the crate defines and promises."""

@@ -34,10 +34,11 @@ Places = Mapping[str, "tuple[str, range]"]
 
 @dataclass(frozen=True)
 class Verdict:
-    """Whether a mutant is refused, and what to say of it."""
+    """Whether a mutant is refused, what to say of it, and whether an earlier run on this machine has found that."""
 
     is_refused: bool
     reason: str
+    is_kept: bool = False
 
 
 @dataclass(frozen=True)

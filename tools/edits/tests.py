@@ -1,7 +1,8 @@
 """What is said of edits: one that changes nothing is not refused, alone or beside one that breaks what it
 calls or one of the same function, nor where a line says so, of this text or another, nor where it only takes
-a name from a proof. One that can't be tried costs the others of its run nothing. The edits are its own, of one
-small crate, whose libraries are built in the room. (tests/edits runs this.)
+a name from a proof. One that can't be tried costs the others of its run nothing. What was refused is kept, and
+nothing else, for just this text of the edit and of all below it. The edits are its own, of one small crate, whose
+libraries are built in the room. (tests/edits runs this.)
 """
 
 from __future__ import annotations
@@ -14,6 +15,7 @@ from typing import Iterable, Optional
 from crates import libraries, rlib
 
 from .crate import Crate
+from .kept import Kept
 from .mutant import Mutant
 from .report import Report
 from .trial import verdicts
@@ -172,6 +174,28 @@ def write(crate: Crate, row: Row, folder: pathlib.Path) -> None:
         file.write_text(text.replace("MARK", Mutant.of(crate, file).mark()), encoding="utf-8")
 
 
+def wrongly_kept(crate: Crate, folder: pathlib.Path, store: pathlib.Path) -> list[str]:
+    """What is kept of the edits of a folder after they were tried, and shouldn't be, and the other way round."""
+    kept, other = Kept(crate, store), Kept(Crate(crate.room, CRATE, {CRATE: ["hex"]}), store)
+    wrong = []
+    for row in ROWS:
+        said = f"{row.name}.edit", (folder / f"{row.name}.edit").read_text(encoding="utf-8")
+        if bool(kept.reason(said)) != (row.reason == REFUSED) or other.reason(said):
+            wrong.append(row.name)
+    one = folder.with_name("one")
+    one.mkdir()
+    edit = one / f"{ROWS[2].name}.edit"
+    said = edit.name, (folder / edit.name).read_text(encoding="utf-8")
+    edit.write_text(said[1], encoding="utf-8")
+    kept.entry(said).write_text("{}", encoding="utf-8")
+    if kept.reason(said):
+        wrong.append("a damaged entry")
+    kept.keep(said, "as is kept")
+    if [it.reason for _, it in verdicts(crate, one, store=store)] != ["as is kept"]:
+        wrong.append("what is kept isn't taken")
+    return wrong
+
+
 def main(room: pathlib.Path) -> int:
     """Tries the edits, and takes what is told."""
     failed = 0
@@ -180,15 +204,21 @@ def main(room: pathlib.Path) -> int:
         print(f"edits: no library of {CRATE} is built here (rt lib)\nedits: 0 passed, 1 failed")
         return 1
     with tempfile.TemporaryDirectory() as name:
-        folder = pathlib.Path(name)
+        folder, store = pathlib.Path(name, "edits"), pathlib.Path(name, "store")
+        folder.mkdir()
+        store.mkdir()
         for row in ROWS:
             write(crate, row, folder)
-        said = dict(verdicts(crate, folder))
+        said = dict(verdicts(crate, folder, store=store))
+        wrong = wrongly_kept(crate, folder, store)
     for row in ROWS:
         verdict = said[f"{CRATE}/{row.name}.edit"]
         if not verdict.reason.startswith(row.reason) or verdict.is_refused != (row.reason == REFUSED):
             failed += 1
             print(f"edits: {row.name}: not '{row.reason}', but: {verdict.reason}")
+    if wrong:
+        failed += 1
+        print(f"edits: not kept as they must be: {', '.join(wrong)}")
     for told in TOLD:
         report = Report(told.split("\n"), {"a::b::f": ("src/b.rt", range(1, 10))})
         if report.verdict(Told(), False).is_refused:
@@ -203,5 +233,5 @@ def main(room: pathlib.Path) -> int:
         if shown(clause, goals) != wanted:
             failed += 1
             print(f"edits: of {goals} not {wanted} shows the fault, but {shown(clause, goals)}")
-    print(f"edits: {len(ROWS) + len(TOLD) + 1 + len(SHOWN) - failed} passed, {failed} failed")
+    print(f"edits: {len(ROWS) + len(TOLD) + 2 + len(SHOWN) - failed} passed, {failed} failed")
     return 1 if failed else 0

@@ -4,42 +4,57 @@ from __future__ import annotations
 
 import pathlib
 import tempfile
+from typing import Optional
 
 from .copies import add_copy, can_be_copied, copy_name
 from .crate import Crate
+from .kept import Kept
 from .mutant import BadEdit, Mutant
 from .prover import Prover
 from .report import Verdict
 
 
-def verdicts(crate: Crate, folder: pathlib.Path, is_anew: bool = False) -> list[tuple[str, Verdict]]:
-    """Tries the edits of a crate that stand in a folder: the name of each, and the verdict on it."""
-    left, told = mutants_of(crate, folder)
+def verdicts(
+    crate: Crate, folder: pathlib.Path, is_anew: bool = False, store: Optional[pathlib.Path] = None
+) -> list[tuple[str, Verdict]]:
+    """Tries the edits of a crate that stand in a folder: the name of each, and the verdict on it. Which were
+    refused is kept in a store, if there is one, and what is kept there isn't tried again, unless it is anew."""
+    kept = Kept(crate, store)
+    left, told = mutants_of(crate, folder, None if is_anew else kept)
     for mutant in left if is_anew else []:
         mutant.noted = None
     prover = Prover(crate)
-    with tempfile.TemporaryDirectory(prefix="lpt-edits-") as kept:
+    with tempfile.TemporaryDirectory(prefix="lpt-edits-") as work:
         while left:
             mutants, texts = at_once(left)
-            report = prover.run(mutants, texts, kept)
+            report = prover.run(mutants, texts, work)
             for mutant in mutants:
                 verdict = report.verdict(mutant, len(mutants) > 1)
                 if verdict:
                     if is_anew and verdict.is_refused:
                         mutant.note()
+                    if verdict.is_refused:
+                        kept.keep(mutant.text, verdict.reason)
                     told.append((mutant.name, verdict))
                     left.remove(mutant)
     return told
 
 
-def mutants_of(crate: Crate, folder: pathlib.Path) -> tuple[list[Mutant], list[tuple[str, Verdict]]]:
-    """The mutants that the edits of a folder make, and the verdicts on those that can't be tried."""
+def mutants_of(
+    crate: Crate, folder: pathlib.Path, kept: Optional[Kept]
+) -> tuple[list[Mutant], list[tuple[str, Verdict]]]:
+    """The mutants that the edits of a folder make, and the verdicts on those that are kept or can't be tried."""
     mutants, told = [], []
     for file in sorted(folder.iterdir()):
+        name = f"{crate.name}/{file.name}"
         try:
-            mutants.append(Mutant.of(crate, file))
+            reason = kept and kept.reason((file.name, file.read_text(encoding="utf-8")))
+            if reason:
+                told.append((name, Verdict(True, reason, True)))
+            else:
+                mutants.append(Mutant.of(crate, file))
         except (BadEdit, OSError, ValueError) as error:
-            told.append((f"{crate.name}/{file.name}", Verdict(False, f"BAD EDIT: {error}")))
+            told.append((name, Verdict(False, f"BAD EDIT: {error}")))
     return mutants, told
 
 
