@@ -28,9 +28,17 @@ HANDLES = "Handles allowed: Threads, Wait.\n"
 # A file of a crate, or a folder, as the documents name it.
 NAMED = re.compile(r"\blpt_\w+/(?:src|specs|proofs)/\w+(?:/\w+)*")
 
-LONGEST_LINE, LONGEST_FUNCTION, LONGEST_FILE = 100, 40, 400
+LONGEST_LINE, LONGEST_FUNCTION, LONGEST_FILE, MOST_PARAMETERS = 100, 40, 400, 7
 IMPORT = re.compile(r" *(?:ghost |pub(?:\(crate\))? )?use ")
 PASSED_ON = re.compile(r"\bErr\((\w+)\) => (?:return )?Err\(\1\)")
+# What a function, and a definition, is named; and the participles that don't end in -ed.
+FUNCTION = re.compile(r" *(?:pub(?:\([a-z]+\))? )?(?:const |unsafe |extern \"C\" )*fn ([a-z0-9]+)(?=[(<])")
+DEFINITION = re.compile(r"(?:pub |abbrev )*([a-z0-9]+)(?= .*:| :|$)")
+PARTICIPLES = set(
+    """begun brought broken built caught chosen done drawn found gone given heard held hidden kept known left lost
+    made meant met said seen sent shown spent taken told written""".split()
+)
+NO_PARTICIPLES = {"bed", "exceed", "feed", "need", "red", "seed", "speed"}
 
 
 @dataclass(frozen=True, order=True)
@@ -87,11 +95,53 @@ def errors_passed_on(source: Source) -> Iterator[Breach]:
         yield Breach(1, f"{source.path}:{source.text.count(chr(10), 0, it.start()) + 1}")
 
 
+def bare_participles(source: Source) -> Iterator[Breach]:
+    """Functions, and definitions of specs/, whose whole name is a participle, which doesn't say of what."""
+    if not source.is_code and "/specs/" not in source.path:
+        return
+    named = FUNCTION if source.is_code else DEFINITION
+    for number, line in enumerate(source.lines, 1):
+        name = named.match(line)
+        if name and (name[1] in PARTICIPLES or name[1].endswith("ed") and name[1] not in NO_PARTICIPLES):
+            yield Breach(1, f"{source.path}:{number}")
+
+
+def long_lists_of_parameters(source: Source) -> Iterator[Breach]:
+    """Functions with too many parameters."""
+    for it in functions_of(source.path, source.text) if source.is_code else ():
+        count = parameters("\n".join(source.lines[it.head : it.opening + 1]))
+        if count > MOST_PARAMETERS:
+            yield Breach(count, f"{source.path}:{it.head + 1}")
+
+
+def parameters(head: str) -> int:
+    """How many parameters a function with this head has."""
+    text, depth, listed = head[head.index("fn ") :].replace("->", ""), 0, ""
+    for letter in text[text.index("(") :] if "<" not in text.partition("(")[0] else behind_generics(text):
+        depth += (letter in "([{<") - (letter in ")]}>")
+        if not depth:
+            break
+        listed += "," if letter == "," and depth == 1 else letter.replace(",", ";")
+    return sum(bool(it.strip("( \n")) for it in listed.split(","))
+
+
+def behind_generics(text: str) -> str:
+    """What stands behind the parameters of a function's type."""
+    depth = 0
+    for at, letter in enumerate(text):
+        depth += (letter == "<") - (letter == ">")
+        if letter == ">" and not depth:
+            return text[at + 1 :]
+    return ""
+
+
 RULES = {
     f"lines above {LONGEST_LINE} columns": long_lines,
     f"functions above {LONGEST_FUNCTION} lines": long_functions,
     f"files above {LONGEST_FILE} lines": long_files,
     "errors passed on without ?": errors_passed_on,
+    "names that are a bare participle": bare_participles,
+    f"functions with more than {MOST_PARAMETERS} parameters": long_lists_of_parameters,
 }
 
 
