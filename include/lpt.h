@@ -3,13 +3,13 @@
  * memory management (ECSS-E-ST-70-41C, services 13, 1 and 6), read from and written to the caller's
  * buffers.
  *
- * No call takes memory. Each answers LPT_DONE, or the number of what is wrong; then nothing has
+ * No call allocates memory. Each returns LPT_DONE, or the number of what is wrong; then nothing has
  * been written through a pointer but what the call's comment says. docs/FORMATS.md has the layouts
  * and the faults, docs/C.md what the caller promises:
  *
  *   - a length is the true number of octets behind its pointer, and what is read there is
  *     initialised. What a call only writes through, as `out` and `needed`, may have no value yet;
- *   - a pointer is null only where its length is 0, and is aligned for its type;
+ *   - a pointer is null only if its length is 0, and is aligned for its type;
  *   - what a call writes to (a pointer without const) overlaps nothing else that it is passed, and
  *     nothing else writes there, or to what it reads, while it runs. What stands in the buffer
  *     already, where it is to be, is for the calls lpt_build_..
@@ -59,10 +59,10 @@ extern "C" {
 /* The archive's version, as LPT_VERSION_NUMBER is the header's. */
 uint32_t lpt_version(void);
 
-/* ---- what calls answer ---- */
+/* ---- what calls return ---- */
 
 /* Done, the faults of docs/FORMATS.md, and numbers of the libraries alone, from 101 on. A call
-   answers one as a uint32_t. */
+   returns one as a uint32_t. */
 enum LptFault {
     LPT_DONE = 0,
 
@@ -332,19 +332,19 @@ uint16_t lpt_crc16(const uint8_t *octets, size_t octets_len);
 /*
  * Says how many octets the packet has that begins a stream, by the first six of them. LPT_DONE of
  * a packet, LPT_E_IDLE of an idle one, which may be skipped: *length is written then, 7 to 65,542.
- * LPT_E_MORE where there are too few octets yet to know, LPT_E_VERSION where no packet begins so.
+ * LPT_E_MORE if there are too few octets yet to know, LPT_E_VERSION if no packet begins so.
  */
 LPT_MUST_USE
 uint32_t lpt_packet_length(const uint8_t *octets, size_t octets_len, size_t *length);
 
 /*
- * Finds the piece in front of octets of a stream that may be damaged. `in_step` is 1 where the
+ * Finds the piece in front of octets of a stream that may be damaged. `in_step` is 1 if the
  * octets begin the stream, or come right after a packet or a damaged one, and 0 after an octet
- * that is none; `is_end` is 1 where nothing comes after them, and 0 where that isn't known. Any
+ * that is none; `is_end` is 1 if nothing comes after them, and 0 if that isn't known. Any
  * number but 0 is taken as 1.
  *
  * LPT_DONE, and *kind (LPT_PIECE_WHOLE, LPT_PIECE_DAMAGED or LPT_PIECE_STRAY) and *size, its
- * octets, at least one, are written: whatever comes after won't change them. LPT_E_MORE where
+ * octets, at least one, are written: whatever comes after won't change them. LPT_E_MORE if
  * there are no octets, or what is in front depends on those that may still come: never of
  * LPT_LOOKAHEAD octets or more, nor of some with `is_end`.
  */
@@ -355,7 +355,7 @@ uint32_t lpt_find_piece(const uint8_t *octets, size_t octets_len, uint32_t in_st
 /*
  * Counts the octets in front of a stream that are part of no packet, right after an octet that is
  * none: so many times, one after the other, lpt_find_piece with `in_step` 0 would tell
- * LPT_PIECE_STRAY. At most LPT_LONGEST_PACKET at a call, and 0 where it would tell something else.
+ * LPT_PIECE_STRAY. At most LPT_LONGEST_PACKET at a call, and 0 if it would report something else.
  * If headers among them announce long packets, this is much quicker: what it works out is kept in
  * `room` during the call. With LPT_STRAY_ROOM numbers there each octet takes a bounded time; with
  * fewer, or with none, the answer is the same. `room` needn't be set before, nor kept.
@@ -390,7 +390,7 @@ uint32_t lpt_write_packet(uint32_t kind, uint16_t apid, uint16_t count, const ui
 
 /*
  * Builds a packet in place, around a field of so many octets that stands in the buffer already, from
- * out[6] on. It stays where it is. Answers as lpt_write_packet does of those octets, and at anything
+ * out[6] on. It stays where it is. Returns what lpt_write_packet does for those octets, and at anything
  * but LPT_DONE the buffer is as it was.
  */
 LPT_MUST_USE
@@ -432,7 +432,7 @@ uint32_t lpt_write_tc(const LptTcHead *head, const uint8_t *body, size_t body_le
                       size_t out_len, size_t *needed);
 
 /* Builds a telecommand's packet in place, around a body of so many octets that stands in the buffer
-   already, from out[11] on: as lpt_build_packet. Answers as lpt_write_tc. */
+   already, from out[11] on: as lpt_build_packet. Returns what lpt_write_tc does. */
 LPT_MUST_USE
 uint32_t lpt_build_tc(const LptTcHead *head, size_t body_len, uint8_t *out, size_t out_len,
                       size_t *needed);
@@ -476,7 +476,7 @@ uint32_t lpt_write_tm(const LptTmHead *head, const uint8_t *body, size_t body_le
                       size_t out_len, size_t *needed);
 
 /* Builds telemetry's packet in place, around a body of so many octets that stands in the buffer
-   already, from out[17] on: as lpt_build_packet. Answers as lpt_write_tm. */
+   already, from out[17] on: as lpt_build_packet. Returns what lpt_write_tm does. */
 LPT_MUST_USE
 uint32_t lpt_build_tm(const LptTmHead *head, size_t body_len, uint8_t *out, size_t out_len,
                       size_t *needed);
@@ -484,12 +484,12 @@ uint32_t lpt_build_tm(const LptTmHead *head, size_t body_len, uint8_t *out, size
 /* ---- parts of large messages ---- */
 
 /* What a message of this service and subtype is, in a packet of this kind (LPT_PACKET_TM or
-   LPT_PACKET_TC): LPT_PART_FIRST, LPT_PART_INTERMEDIATE or LPT_PART_LAST; LPT_PART_NONE where it
+   LPT_PACKET_TC): LPT_PART_FIRST, LPT_PART_INTERMEDIATE or LPT_PART_LAST; LPT_PART_NONE if it
    carries no part, or there is no such kind of packets. */
 LPT_MUST_USE
 uint32_t lpt_part_kind(uint32_t packet_kind, uint8_t service, uint8_t subtype);
 
-/* How many parts of this size a message has; 0 where the size isn't 4 to 1,024 octets, or the
+/* How many parts of this size a message has; 0 if the size isn't 4 to 1,024 octets, or the
    message has more than 65,542. */
 LPT_MUST_USE
 uint32_t lpt_part_count(size_t message_len, uint32_t part_size);
@@ -525,7 +525,7 @@ uint32_t lpt_read_part(uint32_t kind, const uint8_t *body, size_t body_len, uint
 /*
  * Writes the body of a message that carries a part to the front of a buffer, and leaves the rest of
  * it as it was. LPT_DONE; LPT_E_RANGE for another kind or part size; LPT_E_ZERO_NUMBER,
- * LPT_E_KIND_NUMBER or LPT_E_PART_LENGTH, where there is no such part; LPT_E_ROOM. At LPT_DONE and
+ * LPT_E_KIND_NUMBER or LPT_E_PART_LENGTH, if there is no such part; LPT_E_ROOM. At LPT_DONE and
  * LPT_E_ROOM *needed is the body's length.
  */
 LPT_MUST_USE
@@ -534,7 +534,7 @@ uint32_t lpt_write_part(uint32_t kind, uint16_t id, uint16_t number, const uint8
                         size_t *needed);
 
 /* Builds the body of a part in place, around so many octets that stand in the buffer already, from
-   out[4] on: as lpt_build_packet. Answers as lpt_write_part. So a part that stands at packet[15]
+   out[4] on: as lpt_build_packet. Returns what lpt_write_part does. So a part that stands at packet[15]
    becomes a body by packet + 11, and then a telecommand's packet by lpt_build_tc. */
 LPT_MUST_USE
 uint32_t lpt_build_part(uint32_t kind, uint16_t id, uint16_t number, size_t octets_len,
@@ -628,8 +628,8 @@ typedef struct LptDumped {
 } LptDumped;
 
 /* Reads one area of a message's body as the report of a dump, subtype 6, by its number from 0:
-   LPT_DONE, and *out is written; LPT_E_NO_REPORT; LPT_E_RANGE where it has no such area;
-   LPT_E_CHECKSUM where the area's checksum isn't that of its octets. */
+   LPT_DONE, and *out is written; LPT_E_NO_REPORT; LPT_E_RANGE if it has no such area;
+   LPT_E_CHECKSUM if the area's checksum isn't that of its octets. */
 LPT_MUST_USE
 uint32_t lpt_read_dump(const uint8_t *body, size_t body_len, size_t number, LptDumped *out);
 
@@ -643,7 +643,7 @@ typedef struct LptChecked {
 } LptChecked;
 
 /* Reads one area of a message's body as the report of a check, subtype 10, by its number from 0:
-   LPT_DONE, and *out is written; LPT_E_NO_REPORT; LPT_E_RANGE where it has no such area. */
+   LPT_DONE, and *out is written; LPT_E_NO_REPORT; LPT_E_RANGE if it has no such area. */
 LPT_MUST_USE
 uint32_t lpt_read_check(const uint8_t *body, size_t body_len, size_t number, LptChecked *out);
 
