@@ -1,166 +1,255 @@
-//! The packets of a file or of standard input, each split as a message of its own.
+//! Messages split into packets, from a file or standard input to standard output.
 
+ghost use Rattle.std.specs.Prelude.{IfOk};
 ghost use Rattle.lpt_events.specs.Configs.{IsConfig};
+ghost use Rattle.lpt_layout.specs.Parts.{IsPartSizeAs};
 
-use crate::end::{Failure, Status, tell_place};
+use crate::counts::octets_word;
+use crate::end::{Failure, Status, tell_place, word_refused};
 use crate::input::{Incoming, opened, read_failure};
+use crate::layout_joins::{reading_of, user_of};
+use crate::layouts::own_or_read;
 use crate::streams::{finish, first_failure, output};
-use lpt_command_line::SplitEachWords;
+use lpt_carried::{Layouts, Tailored};
+use lpt_command_line::{SplitOneWords, SplitWords, WideName, WordFault, name_within};
 use lpt_events::Config;
-use lpt_packet::Direction;
-use lpt_split_each::{EachEnd, EachSplit, EachWanted, Pick, split_each};
+use lpt_layout::Width;
+use lpt_layout_join::{MisfitAs, unfit};
+use lpt_packet::LONGEST_PACKET;
+use lpt_sources::Keeping;
+use lpt_split::{Form, SplitEnd, Wanted, Writing, greatest, split_message};
+use lpt_stream::whole_length;
 use lpt_text::StreamFault;
-use lpt_tool::ToolFault;
 use std::alloc::{AllocError, Global};
 
-/// Writes the packets of the parts of each message of a stream.
+/// The most octets of time or spare octets.
+const MOST: usize = 255;
+
+/// The octets of time and spare octets that packets of layouts have.
+#[derive(Clone, Copy)]
+pub struct Fill {
+    clock: [u8; 4],
+    zeros: [u8; MOST],
+}
+
+impl Fill {
+    /// By this configuration.
+    pub fn new(config: &Config) -> Fill {
+        Fill {
+            clock: config.clock.to_be_bytes(),
+            zeros: [0; MOST],
+        }
+    }
+
+    // So much time: the clock where it has four octets, else zeros.
+    fn time(&self, octets: u8) -> &[u8] {
+        if octets == 4 {
+            &self.clock
+        } else {
+            self.zeros(octets)
+        }
+    }
+
+    fn zeros(&self, octets: u8) -> &[u8] {
+        &self.zeros[..usize::from(octets)]
+    }
+}
+
+/// Writes the packets of a message's parts: by the layouts of a file where one is given, else by
+/// the profile.
 ///
-/// Errors: `Read` where the packets can't be opened or read; `Write`, `Memory`.
-pub fn split_all(
+/// Errors: `Read` where a file can't be opened or read; `Config` where the layouts' file is too
+/// long; `Write`, `Memory`.
+pub fn split(
     rt: &HostRuntime,
     config: &Config,
-    words: &SplitEachWords<'_>,
+    words: &SplitOneWords<'_>,
 ) -> Result<Status, Failure>
     requires { IsConfig config.now }
 {
-    let mut source = opened(rt, words.file)?;
-    let status = match picks_of(rt.alloc(), words) {
-        Ok(picks) => split_from(rt, config, words, &picks, &mut source),
-        Err(_) => Err(Failure::from(ToolFault::Memory)),
+    let Some(layouts) = own_or_read(rt, config.part_size, words.split.layout)? else {
+        return Ok(Status::Unreadable);
     };
+    let tailored = layouts.tailored(words.split.direction);
+    let name = match name_in(&words.split, tailored) {
+        Ok(name) => name,
+        Err(fault) => return Ok(word_refused(rt, rt.alloc(), &fault)),
+    };
+    let fill = Fill::new(config);
+    let wanted = wanted_of(config, tailored, &*words, name, &fill);
+    let message = opened(rt, words.split.file)?;
+    let Ok(mut source) = Keeping::new(rt.alloc(), message, LONGEST_PACKET) else {
+        return Err(Failure::from(StreamFault::Memory));
+    };
+    let status = split_from(rt, config, &layouts, words, &wanted, &mut source);
     drop(source);
     status
 }
 
-// The parts that are chosen. The only error is out of memory.
-fn picks_of<'a>(alloc: Global, words: &SplitEachWords<'a>) -> Result<Vec<Pick<'a>>, AllocError> {
-    let mut picks = Vec::new(alloc);
-    for pick in &words.picks {
-        picks.push(Pick {
-            id: pick.id,
-            parts: pick.parts.as_bytes(),
-        })?;
+// What is wanted of the message.
+fn wanted_of<'a>(
+    config: &Config,
+    tailored: &Tailored,
+    words: &SplitOneWords<'a>,
+    name: WideName,
+    fill: &'a Fill,
+) -> Wanted<'a>
+    requires { IsConfig config.now }
+{
+    let writing = writing_of(config, tailored, &words.split, name, fill);
+    Wanted {
+        writing,
+        id: name.id,
+        parts: words.parts.as_bytes(),
+        first: words.split.first,
+        whole: words.split.whole,
     }
-    Ok(picks)
 }
 
-// The same of packets that were opened.
+/// The name that the words give, where the layout has room for it.
+///
+/// Errors: `Id`.
+pub fn name_in<'a>(words: &SplitWords<'a>, tailored: &Tailored) -> Result<WideName, WordFault<'a>> {
+    let source = match tailored.packets.user {
+        Width::Absent => u32::MAX,
+        width => greatest(width),
+    };
+    name_within(words.name, source, greatest(tailored.parts.id))
+}
+
+/// How packets of this layout are written that go under this name.
+pub fn writing_of<'a>(
+    config: &Config,
+    tailored: &Tailored,
+    words: &SplitWords<'_>,
+    name: WideName,
+    fill: &'a Fill,
+) -> Writing<'a>
+    requires { IsConfig config.now }
+{
+    let packets = tailored.packets;
+    Writing {
+        direction: words.direction,
+        apid: config.apid,
+        layout: packets,
+        parts: tailored.parts,
+        part_size: part_size(tailored, config),
+        user: user_of(name, u32::from(config.source), packets.user),
+        time: fill.time(packets.time),
+        spare: fill.zeros(packets.spare),
+        form: if words.pcap {
+            Form::Capture
+        } else {
+            Form::Plain
+        },
+        clock: config.clock,
+    }
+}
+
+// The part size of the layout, or else of the configuration.
+fn part_size(tailored: &Tailored, config: &Config) -> u32
+    ensures { IsPartSizeAs result }
+{
+    let size = tailored.part_size.unwrap_or(config.part_size);
+    size.clamp(1, 65_535)
+}
+
+// The same of a message that was opened.
 fn split_from(
     rt: &HostRuntime,
     config: &Config,
-    words: &SplitEachWords<'_>,
-    picks: &[Pick<'_>],
-    source: &mut Incoming,
-) -> Result<Status, Failure>
-    requires { IsConfig config.now }
-{
-    let wanted = EachWanted {
-        direction: words.direction,
-        name: words.name.under(config.source),
-        picks,
-        first: words.first,
-    };
+    layouts: &Layouts,
+    words: &SplitOneWords<'_>,
+    wanted: &Wanted<'_>,
+    source: &mut Keeping<Incoming>,
+) -> Result<Status, Failure> {
     let mut out = output(rt)?;
-    let split = split_each(rt.alloc(), config, &wanted, source, &mut out);
+    let split = split_message(rt.alloc(), wanted, source, &mut out);
     let failure = match split {
-        Err(StreamFault::Read) => Some(read_failure(rt, source, words.file)),
+        Err(StreamFault::Read) => Some(read_failure(rt, source.source(), words.split.file)),
         _ => None,
     };
     first_failure(finish(rt, out), failure)?;
     match split {
-        Ok(split) => match told(rt, words, split) {
-            Ok(status) => Ok(status),
-            Err(_) => Err(Failure::from(ToolFault::Memory)),
-        },
+        Ok(SplitEnd::Written(_)) => {
+            tell_misfit(rt, config, layouts, &words.split, source.kept());
+            Ok(Status::Done)
+        }
+        Ok(end) => Ok(unsplit(rt, wanted, words, end)),
         Err(fault) => Err(Failure::from(fault)),
     }
 }
 
-// The status of a split that ended so, after it was told what wasn't split. The only error is out
-// of memory.
-fn told(
+// Says where what was split is no message, so that whoever joins it gets none, and by which word
+// several packets are split.
+fn tell_misfit(
     rt: &HostRuntime,
-    words: &SplitEachWords<'_>,
-    split: EachSplit,
-) -> Result<Status, AllocError> {
-    let alloc = rt.alloc();
-    match split.end {
-        EachEnd::End if split.next == u32::from(words.name.id) => {
-            tell(rt, format!(in alloc; "no packet came"), Status::Refused)
+    config: &Config,
+    layouts: &Layouts,
+    words: &SplitWords<'_>,
+    octets: &[u8],
+) {
+    let reading = reading_of(layouts, config.apid, words.direction);
+    let text = match unfit(&reading, false, true, octets) {
+        // It is whole, so that it is unsure doesn't come.
+        None | Some(MisfitAs::Unsure) => return,
+        Some(MisfitAs::OtherKind) => {
+            format!(in rt.alloc(); "what was split is no packet of its direction")
         }
-        EachEnd::End => tell_unknown(rt, words, split.next),
-        EachEnd::Cut(place) | EachEnd::Stray(place) => {
-            tell(
-                rt,
-                format!(in alloc; "octet {place}: no packet"),
-                Status::Refused,
-            )
+        Some(MisfitAs::NoPacket(fault)) => {
+            let (code, name) = (fault.code(), fault.name());
+            let each = match whole_length(octets) {
+                Some(len) if len < octets.len() => "; --each splits each packet of a file",
+                _ => "",
+            };
+            format!(in rt.alloc(); "what was split is no packet: fault {code} {name}{each}")
         }
-        EachEnd::NoMessage(place) => {
-            let kind = kind_of(words.direction);
-            let text = format!(in alloc; "octet {place}: this packet is damaged, or no {kind}");
-            tell(rt, text, Status::Refused)
-        }
-        EachEnd::NoSuchPart(last) => {
-            let next = split.next;
-            let parts = list_of(words, next);
-            let text = format!(in alloc; "--parts {next}:{parts}: no list of parts of 1 to {last}");
-            tell(rt, text, Status::Unreadable)
-        }
-        EachEnd::NoIdentifier(place) => {
-            let text = format!(in alloc; "octet {place}: no identifier is left after 65535");
-            tell(rt, text, Status::Refused)
-        }
+    };
+    if let Ok(text) = text {
+        tell_place(rt, text.as_str());
     }
 }
 
-// What packets of a direction are.
-fn kind_of(direction: Direction) -> &'static str {
-    match direction {
-        Direction::Up => "telecommand",
-        Direction::Down => "telemetry",
-    }
-}
-
-// Says of each message that is chosen and didn't come that it didn't, where the identifiers end
-// before this one, and gives the status of that. The only error is out of memory.
-fn tell_unknown(
+// The status of a split that ended so, after it was told what wasn't split.
+fn unsplit(
     rt: &HostRuntime,
-    words: &SplitEachWords<'_>,
-    next: u32,
-) -> Result<Status, AllocError> {
-    let mut status = Status::Done;
-    let first = words.name.id;
-    for pick in &words.picks {
-        let id = pick.id;
-        if id < first || u32::from(id) >= next {
-            let parts = pick.parts;
-            let text = format!(in rt.alloc();
-                "--parts {id}:{parts}: no packet has this identifier"
-            );
-            status = tell(rt, text, Status::Unreadable)?;
-        }
+    wanted: &Wanted<'_>,
+    words: &SplitOneWords<'_>,
+    end: SplitEnd,
+) -> Status {
+    if let Ok(text) = reason(rt.alloc(), wanted.writing.part_size, words.parts, end) {
+        tell_place(rt, text.as_str());
     }
-    Ok(status)
+    status_of(end)
 }
 
-// The list of the parts that are chosen of the message of this identifier.
-fn list_of<'a>(words: &SplitEachWords<'a>, id: u32) -> &'a str {
-    for pick in &words.picks {
-        if u32::from(pick.id) == id {
-            return pick.parts;
-        }
+/// The status where a message isn't split, so.
+pub fn status_of(end: SplitEnd) -> Status {
+    match end {
+        SplitEnd::Written(_) => Status::Done,
+        SplitEnd::NoSuchPart(_) => Status::Unreadable,
+        _ => Status::Refused,
     }
-    "1-"
 }
 
-// Says this on standard error, where there was memory for it, and gives the status of that.
-fn tell(
-    rt: &HostRuntime,
-    text: Result<String, AllocError>,
-    status: Status,
-) -> Result<Status, AllocError> {
-    let text = text?;
-    tell_place(rt, text.as_str());
-    Ok(status)
+/// Why a message isn't split into parts of so many octets, of which this word names some.
+pub fn reason(alloc: Global, size: u32, parts: &str, end: SplitEnd) -> Result<String, AllocError> {
+    match end {
+        SplitEnd::Written(_) => Ok(String::new(alloc)),
+        SplitEnd::Short(len) => {
+            let octets = octets_word(len);
+            format!(in alloc; "a message of {len} {octets} isn't split: a part has {size}")
+        }
+        SplitEnd::Long => format!(in alloc; "a message of more than 65542 octets isn't split"),
+        SplitEnd::Many(last) => {
+            format!(in alloc; "a message of {last} parts isn't split: the most are 65535")
+        }
+        SplitEnd::NoSuchPart(last) => {
+            format!(in alloc; "--parts {parts}: no list of parts of 1 to {last}")
+        }
+        SplitEnd::Unfit => {
+            format!(in alloc; "the identifier, the source or a number doesn't fit the layout")
+        }
+        SplitEnd::TooLong => format!(in alloc; "a part of {size} octets has no room in a packet"),
+    }
 }

@@ -64,7 +64,18 @@ const VERIFY: Row = Row {
         },
         REPORTS,
     ],
-    named: &[JSON, QUIET],
+    named: &[
+        JSON,
+        Named {
+            name: "open",
+            value: ValueParser::Bool,
+            behind: &[],
+            action: ArgAction::SetTrue,
+            other: &[],
+            help: "Write the packets of the requests whose end no report tells, and no list",
+        },
+        QUIET,
+    ],
     configured: Configured::No,
 };
 

@@ -3,18 +3,14 @@
 use crate::building::program;
 use crate::compare_words::{ChecksumWords, CompareWords, checksum_words, compare_words};
 use crate::extract_words::{ExtractWords, extract_words};
-use crate::file_words::{
-    JoinWords, ListWords, SplitWords, check_order, join_words, list_words, split_words,
-};
+use crate::file_words::{JoinWords, ListWords, check_order, join_words, list_words};
 use crate::layout_words::{DecodeWords, decode_words};
 use crate::link_words::{LinkWords, link_words};
 use crate::request_words::{RequestWords, request_words};
 use crate::setting_words::{SettingWords, setting_words};
 use crate::spacecraft_words::{SpacecraftWords, spacecraft_words};
-use crate::split_words::{SplitEachWords, split_each_words};
-use crate::tailored_words::{
-    JoinLayoutWords, SplitLayoutWords, join_layout_words, split_layout_words,
-};
+use crate::split_words::{SplitEachWords, SplitOneWords, split_each_words, split_words};
+use crate::tailored_words::{JoinLayoutWords, join_layout_words};
 use crate::verify_words::{VerifyWords, verify_words};
 use crate::word_fault::WordFault;
 use clap::{ArgMatches, Error};
@@ -49,11 +45,9 @@ pub enum Command<'a> {
     /// `list [FILE]..`.
     List(ListWords<'a>),
     /// `split up|down ID [FILE]`.
-    Split(SplitWords<'a>),
+    Split(SplitOneWords<'a>),
     /// `split up|down ID [FILE] --each`.
     SplitEach(SplitEachWords<'a>),
-    /// `split up|down ID [FILE] --layout FILE`.
-    SplitLayout(SplitLayoutWords<'a>),
     /// `join up|down [FILE]..`.
     Join(JoinWords<'a>),
     /// `join up|down [FILE].. --layout FILE`.
@@ -160,9 +154,6 @@ fn command_of<'a>(
         "lint" => words.get_str("SCRIPT").map(Command::Lint),
         "chart" => Some(Command::Chart(chart_words(words)?)),
         "list" => Some(Command::List(list_words(alloc, words)?)),
-        "split" if words.get_str("layout").is_some() => {
-            Some(Command::SplitLayout(split_layout_words(words)?))
-        }
         "join" if words.get_str("layout").is_some() => {
             Some(Command::JoinLayout(join_layout_words(alloc, words)?))
         }

@@ -1,4 +1,4 @@
-//! The words of the commands that list packets in files, split messages into them and join them.
+//! The words of the commands that list packets in files and join them.
 
 ghost use Rattle.std.specs.Prelude.{◌≤◌, IfSome};
 
@@ -10,26 +10,6 @@ use std::alloc::Global;
 
 /// The word for standard input.
 pub(crate) const STANDARD: &str = "-";
-
-/// What `split` asks for.
-#[derive(Clone, Copy)]
-pub struct SplitWords<'a> {
-    /// The direction in which the message goes.
-    pub direction: Direction,
-    /// What names it.
-    pub name: GivenName,
-    /// The path of the message, or `-` for standard input.
-    pub file: &'a str,
-    /// The list of the parts.
-    pub parts: &'a str,
-    /// The first sequence count, 0 to 16,383.
-    pub first: u16,
-    /// Whether a message that isn't split goes as it is.
-    pub whole: bool,
-    /// Whether the packets are written as a capture.
-    pub pcap: bool,
-    ghost counts: { first ≤ 16383 },
-}
 
 /// What words name a transaction by: its identifier, behind its source where that is given.
 #[derive(Clone, Copy)]
@@ -93,25 +73,6 @@ pub struct ListWords<'a> {
     pub span: Span,
 }
 
-/// What the words of `split` ask for.
-///
-/// Errors: `Missing`; `Id` where what should name the message doesn't; `Beside`.
-pub fn split_words<'a>(matches: &ArgMatches<'a>) -> Result<SplitWords<'a>, WordFault<'a>> {
-    let word = matches.get_str("ID").ok_or(WordFault::Missing)?;
-    Ok(SplitWords {
-        direction: direction_in(matches).ok_or(WordFault::Missing)?,
-        name: name_in(word).ok_or(WordFault::Id {
-            place: "<ID>",
-            word,
-        })?,
-        file: matches.get_str("FILE").ok_or(WordFault::Missing)?,
-        parts: list_in(matches)?,
-        first: count_in(matches).ok_or(WordFault::Missing)?,
-        whole: matches.get_flag("whole"),
-        pcap: matches.get_flag("pcap"),
-    })
-}
-
 // The list of parts, of which there is one.
 pub(crate) fn list_in<'a>(matches: &ArgMatches<'a>) -> Result<&'a str, WordFault<'a>> {
     match matches.get_strs("parts") {
@@ -151,6 +112,8 @@ pub fn join_words<'a>(
         Some(word) => Some(name_in(word).ok_or(WordFault::Id {
             place: "--id <ID>",
             word,
+            most: 65_535,
+            source: 65_535,
         })?),
         None => None,
     };

@@ -1,8 +1,10 @@
-//! The words by which each packet of a stream is split as a message of its own.
+//! The words of the command that splits messages into packets.
 
 ghost use Rattle.std.specs.Prelude.{◌≤◌};
 
-use crate::file_words::{GivenName, count_in, direction_in, name_in};
+use crate::file_words::{count_in, direction_in, list_in};
+use crate::layout_words::layout_in;
+use crate::tailored_words::{WideName, wide_name_in};
 use crate::word_fault::WordFault;
 use clap::ArgMatches;
 use lpt_packet::Direction;
@@ -11,35 +13,87 @@ use std::alloc::Global;
 /// The list of all parts, which stands for no choice.
 const ALL: &str = "1-";
 
+/// The greatest source and identifier of the profile.
+const MOST: u32 = 65_535;
+
+/// What `split` asks for of a message, or of each.
+#[derive(Clone, Copy)]
+pub struct SplitWords<'a> {
+    /// The path of the layouts, where one is given.
+    pub layout: Option<&'a str>,
+    /// The direction in which it goes.
+    pub direction: Direction,
+    /// The word that names it, or the first. `name_within` reads it.
+    pub name: &'a str,
+    /// The path of the message or the packets, or `-` for standard input.
+    pub file: &'a str,
+    /// The first sequence count, 0 to 16,383.
+    pub first: u16,
+    /// Whether a message that isn't split goes as it is.
+    pub whole: bool,
+    /// Whether the packets are written as a capture.
+    pub pcap: bool,
+    ghost counts: { first ≤ 16383 },
+}
+
+/// What `split` asks for of one message.
+#[derive(Clone, Copy)]
+pub struct SplitOneWords<'a> {
+    /// What it asks for.
+    pub split: SplitWords<'a>,
+    /// The list of the parts.
+    pub parts: &'a str,
+}
+
 /// What `split --each` asks for.
 #[derive(Drop)]
 pub struct SplitEachWords<'a> {
-    /// The direction in which the messages go.
-    pub direction: Direction,
-    /// What names the first of them.
-    pub name: GivenName,
-    /// The path of the packets, or `-` for standard input.
-    pub file: &'a str,
+    /// What it asks for of each.
+    pub split: SplitWords<'a>,
     /// The parts that are chosen; without any, all parts of all messages are written.
     pub picks: Vec<GivenPick<'a>>,
-    /// The first sequence count, 0 to 16,383.
-    pub first: u16,
-    ghost counts: { first ≤ 16383 },
 }
 
 /// Parts of one message, as `ID:LIST` names them.
 #[derive(Clone, Copy)]
 pub struct GivenPick<'a> {
+    /// The word.
+    pub word: &'a str,
     /// The message's identifier.
-    pub id: u16,
+    pub id: u32,
     /// The list of its parts.
     pub parts: &'a str,
 }
 
+impl<'a> GivenPick<'a> {
+    /// Whether its identifier is one up to this one.
+    ///
+    /// Errors: `Pick`.
+    pub fn check(&self, most: u32) -> Result<(), WordFault<'a>> {
+        if self.id <= most {
+            return Ok(());
+        }
+        Err(WordFault::Pick {
+            word: self.word,
+            most,
+        })
+    }
+}
+
+/// What the words of `split` ask for, and the list of the parts.
+///
+/// Errors: `Missing`; `Id` where what should name the message doesn't; `Beside`.
+pub fn split_words<'a>(matches: &ArgMatches<'a>) -> Result<SplitOneWords<'a>, WordFault<'a>> {
+    Ok(SplitOneWords {
+        split: common_words(matches)?,
+        parts: list_in(matches)?,
+    })
+}
+
 /// What the words of `split --each` ask for.
 ///
-/// Errors: `Missing`; `Id` where what should name the first message doesn't; `Beside`, `Pick`,
-/// `PickedTwice`, `Memory`.
+/// Errors: `Missing`; `Id` where what should name the first message doesn't; `Beside`,
+/// `Pick`, `PickedTwice`, `Memory`.
 pub fn split_each_words<'a>(
     alloc: Global,
     matches: &ArgMatches<'a>,
@@ -47,28 +101,70 @@ pub fn split_each_words<'a>(
     if matches.get_flag("pcap") {
         return Err(WordFault::Beside("--each", "--pcap"));
     }
-    let word = matches.get_str("ID").ok_or(WordFault::Missing)?;
     let lists = matches.get_strs("parts").ok_or(WordFault::Missing)?;
+    let split = common_words(matches)?;
+    let most = if split.layout.is_some() {
+        u32::MAX
+    } else {
+        MOST
+    };
     Ok(SplitEachWords {
-        direction: direction_in(matches).ok_or(WordFault::Missing)?,
-        name: name_in(word).ok_or(WordFault::Id {
-            place: "<ID>",
-            word,
-        })?,
-        file: matches.get_str("FILE").ok_or(WordFault::Missing)?,
-        first: count_in(matches).ok_or(WordFault::Missing)?,
-        picks: picks_in(alloc, lists)?,
+        split,
+        picks: picks_in(alloc, lists, most)?,
     })
 }
 
-// The parts that words choose: `1-` alone chooses none, and so all.
-fn picks_in<'a>(alloc: Global, lists: &[&'a str]) -> Result<Vec<GivenPick<'a>>, WordFault<'a>> {
+// What both ask for.
+fn common_words<'a>(matches: &ArgMatches<'a>) -> Result<SplitWords<'a>, WordFault<'a>> {
+    let name = matches.get_str("ID").ok_or(WordFault::Missing)?;
+    let layout = layout_in(matches);
+    if layout.is_none() {
+        name_within(name, MOST, MOST)?;
+    }
+    Ok(SplitWords {
+        layout,
+        direction: direction_in(matches).ok_or(WordFault::Missing)?,
+        name,
+        file: matches.get_str("FILE").ok_or(WordFault::Missing)?,
+        first: count_in(matches).ok_or(WordFault::Missing)?,
+        whole: matches.get_flag("whole"),
+        pcap: matches.get_flag("pcap"),
+    })
+}
+
+/// What the word of `split` names, by sources and identifiers up to these.
+///
+/// Errors: `Id`.
+pub fn name_within<'a>(
+    word: &'a str,
+    most_source: u32,
+    most: u32,
+) -> Result<WideName, WordFault<'a>> {
+    let refused = WordFault::Id {
+        place: "<ID>",
+        word,
+        most,
+        source: most_source,
+    };
+    match wide_name_in(word) {
+        Some(name) if name.id <= most && name.source.unwrap_or(0) <= most_source => Ok(name),
+        _ => Err(refused),
+    }
+}
+
+// The parts that words choose, by identifiers up to this one: `1-` alone chooses none, and so all.
+fn picks_in<'a>(
+    alloc: Global,
+    lists: &[&'a str],
+    most: u32,
+) -> Result<Vec<GivenPick<'a>>, WordFault<'a>> {
     let mut picks = Vec::new(alloc);
     if lists == [ALL].as_slice() {
         return Ok(picks);
     }
     for word in lists {
-        let pick = pick_in(word).ok_or(WordFault::Pick(word))?;
+        let pick = pick_in(word).ok_or(WordFault::Pick { word, most })?;
+        pick.check(most)?;
         if is_picked(&picks, pick.id) {
             return Err(WordFault::PickedTwice(word));
         }
@@ -80,7 +176,7 @@ fn picks_in<'a>(alloc: Global, lists: &[&'a str]) -> Result<Vec<GivenPick<'a>>, 
 }
 
 // Whether parts of the message of this identifier are chosen.
-fn is_picked(picks: &[GivenPick<'_>], id: u16) -> bool {
+fn is_picked(picks: &[GivenPick<'_>], id: u32) -> bool {
     picks.iter().any(|pick| pick.id == id)
 }
 
@@ -88,6 +184,7 @@ fn is_picked(picks: &[GivenPick<'_>], id: u16) -> bool {
 fn pick_in(word: &str) -> Option<GivenPick<'_>> {
     let (id, parts) = word.split_once(':')?;
     Some(GivenPick {
+        word,
         id: id.parse().ok()?,
         parts,
     })

@@ -1,8 +1,6 @@
-//! The words of the commands that split a message into packets of a mission's layout, and join it.
+//! The words of the command that joins a message from packets of a mission's layout.
 
-ghost use Rattle.std.specs.Prelude.{◌≤◌};
-
-use crate::file_words::{Span, count_in, direction_in, each_in, files_in, list_in, span_in};
+use crate::file_words::{Span, direction_in, each_in, files_in, span_in};
 use crate::layout_words::layout_in;
 use crate::word_fault::WordFault;
 use clap::ArgMatches;
@@ -17,26 +15,6 @@ pub struct WideName {
     pub source: Option<u32>,
     /// Its identifier.
     pub id: u32,
-}
-
-/// What `split --layout` asks for.
-#[derive(Clone, Copy)]
-pub struct SplitLayoutWords<'a> {
-    /// The path of the layouts.
-    pub layout: &'a str,
-    /// The direction in which the message goes.
-    pub direction: Direction,
-    /// What names it.
-    pub name: WideName,
-    /// The path of the message, or `-` for standard input.
-    pub file: &'a str,
-    /// The list of the parts.
-    pub parts: &'a str,
-    /// The first sequence count, 0 to 16,383.
-    pub first: u16,
-    /// Whether a message that has no more octets than a part is written as it is.
-    pub whole: bool,
-    ghost counts: { first ≤ 16383 },
 }
 
 /// What `join --layout` asks for.
@@ -60,44 +38,20 @@ pub struct JoinLayoutWords<'a> {
     pub span: Span,
 }
 
-/// What the words of `split --layout` ask for.
-///
-/// Errors: `Missing`; `WideId` where what should name the message doesn't; `Beside`.
-pub fn split_layout_words<'a>(
-    matches: &ArgMatches<'a>,
-) -> Result<SplitLayoutWords<'a>, WordFault<'a>> {
-    for (flag, word) in [("each", "--each"), ("pcap", "--pcap")] {
-        if matches.get_flag(flag) {
-            return Err(WordFault::Beside(word, "--layout <FILE>"));
-        }
-    }
-    let word = matches.get_str("ID").ok_or(WordFault::Missing)?;
-    Ok(SplitLayoutWords {
-        layout: layout_in(matches).ok_or(WordFault::Missing)?,
-        direction: direction_in(matches).ok_or(WordFault::Missing)?,
-        name: wide_name_in(word).ok_or(WordFault::WideId {
-            place: "<ID>",
-            word,
-        })?,
-        file: matches.get_str("FILE").ok_or(WordFault::Missing)?,
-        parts: list_in(matches)?,
-        first: count_in(matches).ok_or(WordFault::Missing)?,
-        whole: matches.get_flag("whole"),
-    })
-}
-
 /// What the words of `join --layout` ask for.
 ///
-/// Errors: `Missing`; `WideId` where what should name the message doesn't; `Beside`, `Order`,
+/// Errors: `Missing`; `Id` where what should name the message doesn't; `Beside`, `Order`,
 /// `Memory`.
 pub fn join_layout_words<'a>(
     alloc: Global,
     matches: &ArgMatches<'a>,
 ) -> Result<JoinLayoutWords<'a>, WordFault<'a>> {
     let name = match matches.get_str("id") {
-        Some(word) => Some(wide_name_in(word).ok_or(WordFault::WideId {
+        Some(word) => Some(wide_name_in(word).ok_or(WordFault::Id {
             place: "--id <ID>",
             word,
+            most: u32::MAX,
+            source: u32::MAX,
         })?),
         None => None,
     };
@@ -116,7 +70,7 @@ pub fn join_layout_words<'a>(
 }
 
 // What a word names, as `ID` or as `SOURCE/ID`.
-fn wide_name_in(word: &str) -> Option<WideName> {
+pub(crate) fn wide_name_in(word: &str) -> Option<WideName> {
     let (source, id) = match word.split_once('/') {
         Some((source, id)) => (Some(source.parse().ok()?), id),
         None => (None, word),

@@ -14,23 +14,33 @@ pub struct VerifyWords<'a> {
     pub reports: Vec<&'a str>,
     /// Whether each line is an object of JSON.
     pub json: bool,
+    /// Whether the packets of what is open are written, and no line.
+    pub open: bool,
 }
 
 /// What the words of `verify` ask for.
 ///
-/// Errors: `Missing`, `Twice`, `Memory`.
+/// Errors: `Missing`, `Twice`, `Beside`, `Memory`.
 pub fn verify_words<'a>(
     alloc: Global,
     matches: &ArgMatches<'a>,
 ) -> Result<VerifyWords<'a>, WordFault<'a>> {
     let requests = matches.get_str("REQUESTS").ok_or(WordFault::Missing)?;
     let reports = paths_in(alloc, matches, "REPORTS")?;
+    let (json, open) = (matches.get_flag("json"), matches.get_flag("open"));
     if requests == STANDARD && reports.contains(&STANDARD) {
         return Err(WordFault::Twice);
+    }
+    if requests == STANDARD && open {
+        return Err(WordFault::Beside(STANDARD, "--open"));
+    }
+    if json && open {
+        return Err(WordFault::Beside("--json", "--open"));
     }
     Ok(VerifyWords {
         requests,
         reports,
-        json: matches.get_flag("json"),
+        json,
+        open,
     })
 }

@@ -9,26 +9,38 @@ pub enum WordFault<'a> {
     Missing,
     /// This one is no address.
     Address(&'a str),
-    /// Where this place is, this word names no message.
-    Id { place: &'static str, word: &'a str },
-    /// Where this place is, this word names no message of a layout.
-    WideId { place: &'static str, word: &'a str },
+    /// Where this place is, this word names no message by an identifier and a source up to these.
+    Id {
+        place: &'static str,
+        word: &'a str,
+        most: u32,
+        source: u32,
+    },
     /// This one is no number of octets.
     Length(&'a str),
     /// Behind this address no number of octets stands.
     NoLength(&'a str),
     /// So many octets are wanted of each request: none, or more than the limit that one holds.
-    Each { each: u16, limit: u16 },
+    Each {
+        each: u16,
+        limit: u16,
+    },
     /// This one is no percentage.
     Odds(&'a str),
     /// These two don't stand beside each other.
     Beside(&'static str, &'static str),
     /// What is read would begin at a place behind that where it ends.
-    Order { from: u64, to: u64 },
+    Order {
+        from: u64,
+        to: u64,
+    },
     /// This one is no memory's identifier with a file.
     NoMemory(&'a str),
-    /// This one is no identifier with a list of parts.
-    Pick(&'a str),
+    /// This one is no identifier up to this one with a list of parts.
+    Pick {
+        word: &'a str,
+        most: u32,
+    },
     /// This one's identifier has a list already.
     PickedTwice(&'a str),
     /// Standard input is to be read twice.
@@ -49,8 +61,12 @@ impl WordFault<'_> {
         match self {
             WordFault::Missing => format!(in alloc; "a word is missing"),
             WordFault::Address(word) => invalid(alloc, word, "<ADDRESS>", 0),
-            WordFault::Id { place, word } => no_name(alloc, word, place, 65_535),
-            WordFault::WideId { place, word } => no_name(alloc, word, place, u32::MAX),
+            WordFault::Id {
+                place,
+                word,
+                most,
+                source,
+            } => no_name(alloc, word, place, *most, *source),
             WordFault::Length(word) => invalid(alloc, word, "<LENGTH>", 1),
             WordFault::NoLength(word) => {
                 format!(in alloc; "no '<LENGTH>' stands after the '<ADDRESS>' {word}")
@@ -70,9 +86,9 @@ impl WordFault<'_> {
                     "invalid value '{word}' for '--memory': no ID=FILE, an ID of 0 to 255"
                 )
             }
-            WordFault::Pick(word) => {
+            WordFault::Pick { word, most } => {
                 format!(in alloc;
-                    "invalid value '{word}' for '--parts <LIST>': no ID:LIST, an ID of 0 to 65535"
+                    "invalid value '{word}' for '--parts <LIST>': no ID:LIST, an ID of 0 to {most}"
                 )
             }
             WordFault::PickedTwice(word) => {
@@ -84,9 +100,22 @@ impl WordFault<'_> {
     }
 }
 
-// What is reported of a word that names no message, by numbers up to the greatest.
-fn no_name(alloc: Global, word: &str, place: &str, most: u32) -> Result<String, AllocError> {
-    format!(in alloc; "invalid value '{word}' for '{place}': no ID or SOURCE/ID of 0 to {most}")
+// What is reported of a word that names no message, by an identifier and a source up to these.
+fn no_name(
+    alloc: Global,
+    word: &str,
+    place: &str,
+    most: u32,
+    source: u32,
+) -> Result<String, AllocError> {
+    if source == most {
+        return format!(in alloc;
+            "invalid value '{word}' for '{place}': no ID or SOURCE/ID of 0 to {most}"
+        );
+    }
+    format!(in alloc;
+        "invalid value '{word}' for '{place}': no ID of 0 to {most}, or no SOURCE of 0 to {source}"
+    )
 }
 
 // What is reported of a number of octets that is more than a request holds.

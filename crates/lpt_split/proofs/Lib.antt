@@ -1,2 +1,3 @@
 mod ListLemmas
-mod WriteLemmas
+mod OwnLemmas
+mod PacketLemmas

@@ -1,4 +1,6 @@
-pub mod FormsInside
+pub mod Forms
 pub mod Lists
 pub mod Messages
+pub mod Own
+pub mod Packets
 pub mod Splits

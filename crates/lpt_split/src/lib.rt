@@ -1,31 +1,35 @@
-//! A message split into the packets of its parts (ECSS-E-ST-70-41C, large packet transfer), as a
-//! stream has them: part by part, in the order in which they are asked for, and as often. A packet is
-//! the one that the sending node puts on the link for that part, of a sequence count of the caller's.
+//! A message split into the packets of its parts (ECSS-E-ST-70-41C, large packet transfer), by a
+//! layout, of which the profile's is one: part by part, in the order in which they are asked for,
+//! and as often. At the profile's own layouts a packet is the one that the sending node puts on the
+//! link for that part, which `laws::the_own_splits` says.
 //!
 //! A part list names parts of a message, as `3,7-9,12-`.
 //!
-//! The main types are `Config`, with the APID and the part size, `Form`: packets alone, or a capture,
-//! and `Wanted`, what a split is to write. The first calls are `split_message`, from a source to a
-//! sink, and `split`, for a message that is there; `part_packet` makes one packet, and `read_parts`
-//! reads a part list.
+//! The main types are `Writing`, how packets are laid out and in which `Form` they stand: packets
+//! alone, or a capture; and `Wanted`, what a split is to write. The first calls are
+//! `split_message`, from a source to a sink, and `put_split`, for a message that is there; nothing is
+//! written unless each packet that is wanted can be made.
 #![tactic(auto)]
 
 mod form;
+pub mod laws;
 mod lists;
 mod message;
 mod packet;
+mod packets;
+mod putting;
 mod split_end;
-mod splitting;
 mod wanted;
+mod writing;
 
 pub use form::Form;
 pub use lists::read_parts;
-pub use lpt_events::Config;
-pub use lpt_packet::{Direction, Name};
-pub use lpt_part::count;
+pub use lpt_layout::{Layout, PartLayout, Width};
+pub use lpt_packet::Direction;
 pub use lpt_text::{Sink, Source, StreamFault};
 pub use message::split_message;
-pub use packet::part_packet;
+pub use packets::front;
+pub use putting::put_split;
 pub use split_end::SplitEnd;
-pub use splitting::{split, write_alone};
 pub use wanted::Wanted;
+pub use writing::{Writing, greatest};

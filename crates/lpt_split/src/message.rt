@@ -1,16 +1,15 @@
 //! A message split from one stream to another.
 
-ghost use Rattle.std.specs.Prelude.{◌≡◌, ◌⊎◌, IfErr, IfOk};
-ghost use Rattle.lpt_events.specs.Configs.{IsConfig};
+ghost use Rattle.std.specs.Prelude.{◌≡◌, ◌⊎◌, ◌++◌, IfErr, IfOk};
 ghost use Rattle.lpt_text.specs.Streams.{ReadEnds, WriteEnds};
-ghost use Rattle.lpt_split.specs.Messages.{LeavesParts, SplitLeaves, SplitsTo, WritesParts};
+ghost use Rattle.lpt_split.specs.Forms.{front_in};
+ghost use Rattle.lpt_split.specs.Messages.{LeavesSplit, PutsSplit, SplitLeaves, SplitsTo, WritesSplit, choice};
 
-use crate::{SplitEnd, Wanted, read_parts, split, write_alone};
-use lpt_events::Config;
-use lpt_packet::LONGEST_PACKET;
-use lpt_part::count;
-use lpt_text::{End, Sink, Source, StreamFault, read_text};
-use std::alloc::Global;
+use crate::packets::front;
+use crate::putting::put_split;
+use crate::{SplitEnd, Wanted};
+use lpt_text::{End, Sink, Source, StreamFault, read_text, write_out};
+use std::alloc::{AllocError, Global};
 
 /// Reads a message to its end, and writes the packets of the parts that are wanted of it, in the form
 /// that is wanted.
@@ -21,18 +20,16 @@ use std::alloc::Global;
 /// packets stays written.
 pub fn split_message<S: Source, K: Sink>(
     alloc: Global,
-    config: &Config,
     wanted: &Wanted<'_>,
     source: &mut S,
     out: &mut K,
 ) -> Result<SplitEnd, StreamFault>
-    requires { IsConfig config.now }
-    ensures ends { IfOk result (λ end. SplitsTo config.now wanted.now end
+    ensures ends { IfOk result (λ end. SplitsTo wanted.now end
         (S.remaining source.old) (S.remaining source.new)
         (K.contents out.old) (K.contents out.new)) }
 
     // What a fault leaves.
-    ensures leaves { IfErr result (λ _. SplitLeaves config.now wanted.now
+    ensures leaves { IfErr result (λ _. SplitLeaves wanted.now
         (S.remaining source.old) (S.remaining source.new)
         (K.contents out.old) (K.contents out.new)) }
     ensures reader { ReadEnds ⊥ result (S.failed source.old) (S.failed source.new) }
@@ -47,59 +44,49 @@ pub fn split_message<S: Source, K: Sink>(
         End::TooLong => return Ok(SplitEnd::Long),
         End::Whole => {}
     }
-    match write_parts(alloc, config, wanted, message.as_slice(), out) {
+    match write_split(alloc, wanted, message.as_slice(), out) {
         Ok(end) => Ok(end),
         Err(fault) => Err(fault),
     }
 }
 
-// Writes the packets of the parts that are wanted of a message.
-fn write_parts<K: Sink>(
+// Writes the packets of the parts that are wanted of a message, where each can be made.
+fn write_split<K: Sink>(
     alloc: Global,
-    config: &Config,
     wanted: &Wanted<'_>,
     message: &[u8],
     out: &mut K,
 ) -> Result<SplitEnd, StreamFault>
-    requires { IsConfig config.now }
-    ensures ends { IfOk result (λ end. WritesParts config.now wanted.now message.now end
-        (K.contents out.old) (K.contents out.new)) }
+    ensures ends { IfOk result (λ end. WritesSplit wanted.now.writing (choice wanted.now)
+        message.now end (K.contents out.old) (K.contents out.new)) }
     ensures fault { IfErr result (λ e. (e ≡ StreamFault.Write) ⊎ (e ≡ StreamFault.Memory)) }
-    ensures leaves { IfErr result (λ _. LeavesParts config.now wanted.now message.now
-        (K.contents out.old) (K.contents out.new)) }
+    ensures leaves { IfErr result (λ _. LeavesSplit wanted.now.writing (choice wanted.now)
+        message.now (K.contents out.old) (K.contents out.new)) }
     ensures writer { WriteEnds result (K.failed out.old) (K.failed out.new) }
 {
-    if message.len() <= config.part_size as usize {
-        if !wanted.whole || message.is_empty() {
-            return Ok(SplitEnd::Short(message.len()));
-        }
-        return match write_alone(config, wanted.form, message, out) {
-            Ok(()) => Ok(SplitEnd::Written),
-            Err(fault) => Err(fault),
-        };
-    }
-    if message.len() > LONGEST_PACKET {
-        return Ok(SplitEnd::Long);
-    }
-    let last = count(message.len() as u32, config.part_size);
-    let numbers = match read_parts(alloc, wanted.parts, last) {
-        Ok(Some(numbers)) => numbers,
-        Ok(None) => return Ok(SplitEnd::NoSuchPart(last)),
-        Err(_) => return Err(StreamFault::Memory),
+    let Ok((end, octets)) = split_octets(alloc, wanted, message) else {
+        return Err(StreamFault::Memory);
     };
-    let numbers = numbers.as_slice();
-    match split(
-        alloc,
-        config,
-        wanted.direction,
-        wanted.name,
-        message,
-        numbers,
-        wanted.first,
-        wanted.form,
-        out,
-    ) {
-        Ok(()) => Ok(SplitEnd::Written),
-        Err(fault) => Err(fault),
+    match end {
+        SplitEnd::Written(_) => {
+            write_out(out, &octets)?;
+            Ok(end)
+        }
+        _ => Ok(end),
     }
+}
+
+// How the split of a message ends, and what is written of it where all that is wanted is made. The
+// only error is out of memory.
+fn split_octets(
+    alloc: Global,
+    wanted: &Wanted<'_>,
+    message: &[u8],
+) -> Result<(SplitEnd, Vec<u8>), AllocError>
+    ensures { IfOk result (λ r. PutsSplit wanted.now.writing (choice wanted.now) message.now r.0
+        (front_in wanted.now.writing.form) r.1.items) }
+{
+    let mut octets = front(alloc, wanted.writing.form)?;
+    let end = put_split(alloc, wanted, message, &mut octets)?;
+    Ok((end, octets))
 }

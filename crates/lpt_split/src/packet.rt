@@ -1,88 +1,64 @@
 //! The packet that carries a part of a message.
 
-ghost use Rattle.std.specs.Prelude.{◌≡◌, ◌≤◌, IfOk};
-ghost use Rattle.lpt_packet.specs.declared.direction.Direction.TheVariants.{Up, Down};
-ghost use Rattle.lpt_part.specs.Parts.{piece};
+ghost use Rattle.std.specs.Prelude.{◌≡◌};
 ghost use Rattle.lpt_events.specs.Arrivals.{part_subtype};
-ghost use Rattle.lpt_events.specs.Configs.{IsConfig};
-ghost use Rattle.lpt_events.specs.MadePackets.{part_made};
+ghost use Rattle.lpt_layout.specs.Parts.{piece};
+ghost use Rattle.lpt_layout.specs.Messages.{HeadFits};
+ghost use Rattle.lpt_layout.specs.Writes.{Writes};
+ghost use Rattle.lpt_split.specs.Packets.{MakesPart, made_of, said_of};
 
-use lpt_events::Config;
+use crate::Writing;
+use lpt_layout::{LayoutFault, Message, PartAs, write_part_as, write_tc_as, write_tm_as};
 use lpt_packet::{Direction, Octets};
-use lpt_part::{Kind, Part, TRANSFER};
-use lpt_pus::{TcHead, TmHead, tc_pieces, tm_pieces};
-use std::alloc::{AllocError, Global};
+use lpt_part::{Kind, TRANSFER};
+use std::alloc::Global;
 
-/// The packet that carries a part, of this sequence count (0 to 16,383), up as a telecommand of this
-/// source, and down as telemetry to it. Telemetry has message type counter 0 and the configuration's clock as its
-/// time. The only error is out of memory.
-pub fn part_packet(
+// The packet that carries a part, of this sequence count. Telemetry has message type counter 0.
+//
+// Errors, the first that applies: `Unfit` where the identifier, the number, the source or another
+// field doesn't fit the layout; `TooLong` where the packet would have more than 65,542 octets;
+// `Memory` where memory runs out.
+pub(crate) fn part_packet(
     alloc: Global,
-    config: &Config,
-    direction: Direction,
-    source: u16,
+    writing: &Writing<'_>,
     count: u16,
-    part: &Part<'_>,
-) -> Result<Octets, AllocError>
-    requires config { IsConfig config.now }
-    requires count { count ≤ 16383 }
-    ensures { IfOk result (λ o. o
-        ≡ part_made config.now direction source count 0 config.now.clock (piece part.now)) }
+    part: &PartAs<'_>,
+) -> Result<Octets, LayoutFault>
+    ensures { MakesPart writing.now count (piece part.now) result }
 {
-    match direction {
-        Direction::Up => uplink_packet(alloc, config, source, count, part),
-        Direction::Down => downlink_packet(alloc, config, source, count, part),
-    }
+    let body = write_part_as(alloc, &writing.parts, part)?;
+    let packet = body_packet(alloc, writing, count, part.kind, body.as_slice());
+    drop(body);
+    packet
 }
 
-// The telecommand that carries a part.
-fn uplink_packet(
+// The packet of this body, which is a part of this kind.
+fn body_packet(
     alloc: Global,
-    config: &Config,
-    source: u16,
+    writing: &Writing<'_>,
     count: u16,
-    part: &Part<'_>,
-) -> Result<Octets, AllocError>
-    requires config { IsConfig config.now }
-    requires count { count ≤ 16383 }
-    ensures { IfOk result (λ o. o
-        ≡ part_made config.now Up source count 0 config.now.clock (piece part.now)) }
+    kind: Kind,
+    body: &[u8],
+) -> Result<Octets, LayoutFault>
+    ensures { Writes (HeadFits writing.now.layout (said_of writing.now count kind body.now))
+        (made_of writing.now count kind body.now) result }
 {
-    let head = TcHead {
-        apid: config.apid,
+    let message = Message {
+        apid: writing.apid,
         count,
         flags: 0,
         service: TRANSFER,
-        subtype: subtype_of(Direction::Up, part.kind),
-        source,
-    };
-    tc_pieces(alloc, &head, &part.header(), part.octets)
-}
-
-// The telemetry that carries a part.
-fn downlink_packet(
-    alloc: Global,
-    config: &Config,
-    source: u16,
-    count: u16,
-    part: &Part<'_>,
-) -> Result<Octets, AllocError>
-    requires config { IsConfig config.now }
-    requires count { count ≤ 16383 }
-    ensures { IfOk result (λ o. o
-        ≡ part_made config.now Down source count 0 config.now.clock (piece part.now)) }
-{
-    let head = TmHead {
-        apid: config.apid,
-        count,
-        status: 0,
-        service: TRANSFER,
-        subtype: subtype_of(Direction::Down, part.kind),
+        subtype: subtype_of(writing.direction, kind),
         counter: 0,
-        destination: source,
-        time: config.clock,
+        user: writing.user,
+        time: writing.time,
+        spare: writing.spare,
+        body,
     };
-    tm_pieces(alloc, &head, &part.header(), part.octets)
+    match writing.direction {
+        Direction::Up => write_tc_as(alloc, &writing.layout, &message),
+        Direction::Down => write_tm_as(alloc, &writing.layout, &message),
+    }
 }
 
 // The message subtype of a part of this kind (ECSS-E-ST-70-41C, service 13).

@@ -1,2 +1,3 @@
+mod OwnLemmas
 pub mod ShareLemmas
 pub mod StreamLemmas

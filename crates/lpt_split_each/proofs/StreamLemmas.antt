@@ -3,13 +3,14 @@ use Rattle.std.proofs.Common.{◌≡◌, ◌∙◌, ap, sym, subst, refl, inl, �
 use Rattle.std.specs.Io.KnownBytes.{Appends, Consumes, IsAtEnd, Keeps}
 use Rattle.std.proofs.KnownBytes.{Appends-kept, Appends-nil, Appends-trans, Consumes-nil, Consumes-trans}
 use Rattle.std.proofs.lemmas.List.{length-take-le}
-use Rattle.lpt_events.specs.declared.config.Config.{Config}
-use Rattle.lpt_join.specs.Messages.{IsFit}
-use Rattle.lpt_packet.specs.declared.direction.Direction.{Direction}
 use Rattle.lpt_text.specs.Streams.{ReadFails}
 use Rattle.lpt_text.specs.declared.fault.StreamFault.{StreamFault}
 use Rattle.lpt_text.specs.declared.fault.StreamFault.TheVariants as faults
-use Rattle.lpt_split.specs.Splits.{octets_of}
+use Rattle.lpt_split.specs.declared.form.Form.{Form}
+use Rattle.lpt_split.specs.declared.form.Form.TheVariants.{Plain, Capture}
+use Rattle.lpt_split.specs.declared.split_end.SplitEnd.{SplitEnd}
+use Rattle.lpt_split.specs.declared.writing.Writing.{Writing}
+use Rattle.lpt_split.specs.Forms.{packets_in}
 use Rattle.lpt_stream.specs.Pieces.{up_to_limit}
 use Rattle.lpt_stream.specs.Streams.{all_octets, IsUnfinished}
 use Rattle.lpt_frames.specs.Buffers.{held, FindsFrame}
@@ -22,80 +23,78 @@ use Rattle.lpt_split_each.specs.declared.ending.EachSplit.{EachSplit}
 use Rattle.lpt_split_each.specs.declared.ending.EachEnd.TheVariants as ends
 use Rattle.lpt_split_each.specs.declared.one.One.{One}
 use Rattle.lpt_split_each.specs.declared.one.One.TheVariants as ones
-use Rattle.lpt_split_each.specs.Shares.{WritesOne, all_packets, count_after, count_behind, packets_of}
-use Rattle.lpt_split_each.specs.Streams.{end_at, AreMessages, EndsAt, IsNext, Writes}
+use Rattle.lpt_split_each.specs.Messages.{AreMessages, IsMessage}
+use Rattle.lpt_split_each.specs.Shares.{AreAll, ArePackets, WritesOne}
+use Rattle.lpt_split_each.specs.Streams.{end_at, identifiers, EndsAt, IsNext}
 use Rattle.lpt_split_each.specs.StreamsInside.{MakesPackets}
-use Rattle.lpt_split_each.proofs.ShareLemmas.{count-more, octets-more}
+use Rattle.lpt_split_each.proofs.ShareLemmas.{all-more, packets-append}
 
 -- what is wanted of the messages that came was written, and these octets are held behind them
-pub record IsSplit (c : Config) (w : EachWanted) (a b old new : Option (List ℕ)) (held : List ℕ)
+pub record IsSplit (w : EachWanted) (a b old new : Option (List ℕ)) (held : List ℕ)
     (next count place : ℕ) : Type 0 where
   pub stream : List ℕ
   pub messages : List (List ℕ)
   pub consumed : Consumes a b stream
   pub cut : IsCut stream messages held
-  pub fit : AreMessages w.direction messages
-  pub writes : Writes c w old new messages
-  pub next_is : next ≡ w.name.id + length messages
-  pub count_is : count ≡ count_after c w w.name.id w.first messages
+  pub fit : AreMessages w.writing messages
+  pub packets : List (List ℕ)
+  pub all : AreAll w w.id w.first messages count packets
+  pub writes : Appends old new (packets_in w.writing.form w.writing.clock packets)
+  pub next_is : next ≡ w.id + length messages
   pub place_is : place ≡ up_to_limit (length (all_octets messages))
 
--- one message more
-fit-more : (d : Direction) (ms : List (List ℕ)) (m : List ℕ)
-    → AreMessages d ms
-    → IsFit d m
-    → AreMessages d (ms ++ m ∷ [])
-fit-more d [] m all one = (one, tt)
-fit-more d (x ∷ xs) m all one = (all.0, fit-more d xs m all.1 one)
+-- no packets
+none-in : (form : Form) (time : ℕ) → packets_in form time [] ≡ []
+none-in Plain time = refl
+none-in Capture time = refl
 
-module _ (c : Config) (w : EachWanted) where
+-- one message more
+fit-more : (w : Writing) (ms : List (List ℕ)) (m : List ℕ)
+    → AreMessages w ms
+    → IsMessage w m
+    → AreMessages w (ms ++ m ∷ [])
+fit-more w [] m all one = (one, tt)
+fit-more w (x ∷ xs) m all one = (all.0, fit-more w xs m all.1 one)
+
+module _ (w : EachWanted) where
   -- none came
   pub split-none : (a old : Option (List ℕ)) (held : List ℕ)
       → held ≡ []
-      → IsSplit c w a a old old held w.name.id w.first 0
+      → IsSplit w a a old old held w.id w.first 0
   split-none a old held none = record {
     stream = [];
     messages = [];
     consumed = Consumes-nil a;
     cut = cut-none held none;
     fit = tt;
-    writes = Appends-nil old;
+    packets = [];
+    all = (refl, refl);
+    writes = subst (Appends old old) (sym (none-in w.writing.form w.writing.clock))
+        (Appends-nil old);
     next_is = omega arith;
-    count_is = refl;
     place_is = refl;
   }
 
   -- with more read behind, after all that was written was passed on
   pub split-more : (a b d old new passed : Option (List ℕ)) (held now read : List ℕ)
       (next count place : ℕ)
-      → IsSplit c w a b old new held next count place
+      → IsSplit w a b old new held next count place
       → Consumes b d read
       → now ≡ held ++ read
       → Keeps new passed
-      → IsSplit c w a d old passed now next count place
+      → IsSplit w a d old passed now next count place
   split-more a b d old new passed held now read next count place h more is kept = record {
     stream = h.stream ++ read;
     messages = h.messages;
     consumed = Consumes-trans a b d h.stream read h.consumed more;
     cut = cut-more h.stream h.messages held read now h.cut is;
     fit = h.fit;
-    writes = Appends-kept old new passed (octets_of (all_packets c w h.messages)) h.writes kept;
+    packets = h.packets;
+    all = h.all;
+    writes = Appends-kept old new passed _ h.writes kept;
     next_is = h.next_is;
-    count_is = h.count_is;
     place_is = h.place_is;
   }
-
-  -- what is wanted of one message more, as the next
-  one-more : (ms : List (List ℕ)) (m : List ℕ) (next count : ℕ)
-      → next ≡ w.name.id + length ms
-      → count ≡ count_after c w w.name.id w.first ms
-      → octets_of (all_packets c w ms) ++ octets_of (packets_of c w next count m)
-      ≡ octets_of (all_packets c w (ms ++ m ∷ []))
-  one-more ms m next count ids counts =
-      ap (λ (n : ℕ). octets_of (all_packets c w ms) ++ octets_of (packets_of c w n count m)) ids
-      ∙ ap (λ (k : ℕ). octets_of (all_packets c w ms)
-      ++ octets_of (packets_of c w (w.name.id + length ms) k m)) counts
-      ∙ sym (octets-more c w w.name.id w.first ms m)
 
   place-next : (ms : List (List ℕ)) (m : List ℕ) (at then len : ℕ)
       → at ≡ up_to_limit (length (all_octets ms))
@@ -112,28 +111,28 @@ module _ (c : Config) (w : EachWanted) where
       → id ≡ next
       → octets ≡ m
       → one ≡ other
-      → WritesOne c w id count octets one old new
-      → WritesOne c w next count m other old new
+      → WritesOne w id count octets one old new
+      → WritesOne w next count m other old new
   at-next id next count octets m one other old new same is was h =
-      subst (λ (o : One). WritesOne c w next count m o old new) was
-      (subst (λ (n : ℕ). WritesOne c w n count m one old new) same
-      (subst (λ (b : List ℕ). WritesOne c w id count b one old new) is h))
+      subst (λ (o : One). WritesOne w next count m o old new) was
+      (subst (λ (n : ℕ). WritesOne w n count m one old new) same
+      (subst (λ (b : List ℕ). WritesOne w id count b one old new) is h))
 
   -- and with the message in front written
   pub split-next : (a b old between new : Option (List ℕ)) (held now octets : List ℕ)
       (id next count place len behind then later : ℕ) (one : One)
-      → IsSplit c w a b old between held next count place
+      → IsSplit w a b old between held next count place
       → IsFrame (take len held)
-      → IsFit w.direction octets
+      → IsMessage w.writing octets
       → len ≤ length held
       → octets ≡ take len held
       → id ≡ next
       → one ≡ ones.Written behind
-      → WritesOne c w id count octets one between new
+      → WritesOne w id count octets one between new
       → then ≡ min (place + len) (2 ^ 64 - 1)
       → later ≡ next + 1
       → now ≡ drop len held
-      → IsSplit c w a b old new now later behind then
+      → IsSplit w a b old new now later behind then
   split-next a b old between new held now octets id next count place len behind then later one h
       front fits within is same was wrote placed onward left =
       let m = take len held in
@@ -145,14 +144,14 @@ module _ (c : Config) (w : EachWanted) where
         messages = ms ++ m ∷ [];
         consumed = h.consumed;
         cut = cut-next h.stream ms held now len h.cut front left;
-        fit = fit-more w.direction ms m h.fit (subst (IsFit w.direction) is fits);
-        writes = subst (Appends old new) (one-more ms m next count h.next_is h.count_is)
-            (Appends-trans old between new _ _ h.writes at.0);
+        fit = fit-more w.writing ms m h.fit (subst (IsMessage w.writing) is fits);
+        packets = h.packets ++ at.0;
+        all = all-more w w.id w.first ms m count behind h.packets at.0 h.all
+            (subst (λ (n : ℕ). ArePackets w n count m behind at.0) h.next_is at.1);
+        writes = subst (Appends old new)
+            (sym (packets-append w.writing.form w.writing.clock h.packets at.0))
+            (Appends-trans old between new _ _ h.writes at.3);
         next_is = omega (arith, onward, h.next_is, length-append ms (m ∷ []));
-        count_is = at.1
-            ∙ ap (λ (n : ℕ). count_behind c w n count m) h.next_is
-            ∙ ap (λ (k : ℕ). count_behind c w (w.name.id + length ms) k m) h.count_is
-            ∙ sym (count-more c w w.name.id w.first ms m);
         place_is = place-next ms m place then len h.place_is (length-take-le len held within) placed;
       }
 
@@ -167,42 +166,42 @@ module _ (c : Config) (w : EachWanted) where
   }
 
   -- where it stops at the end of the stream
-  pub ends-at : (next place len : ℕ) (held : List ℕ) (after : Option (List ℕ))
+  pub ends-at : (next count place len : ℕ) (held : List ℕ) (after : Option (List ℕ))
       → place ≡ up_to_limit len
       → IsUnfinished held
       → IsAtEnd after
-      → EndsAt c w next len (end_at place held) held after
-  ends-at next place len [] after is few at_end = (refl, at_end)
-  ends-at next place len (x ∷ xs) after is few at_end = (is, few, omega arith, at_end)
+      → EndsAt w next count len (end_at place held) held after
+  ends-at next count place len [] after is few at_end = (refl, at_end)
+  ends-at next count place len (x ∷ xs) after is few at_end = (is, few, omega arith, at_end)
 
   -- it stopped there
   pub split-stop : (s : EachSplit) (end : EachEnd) (a b old new : Option (List ℕ)) (held : List ℕ)
       (next count place : ℕ)
       → s ≡ record { next = next; end = end }
-      → (h : IsSplit c w a b old new held next count place)
-      → EndsAt c w next (length (all_octets h.messages)) end held b
-      → MakesPackets c w (Ok s) a b old new
+      → (h : IsSplit w a b old new held next count place)
+      → EndsAt w next count (length (all_octets h.messages)) end held b
+      → MakesPackets w (Ok s) a b old new
   split-stop s end a b old new held next count place is h at =
-      subst (λ (t : EachSplit). MakesPackets c w (Ok t) a b old new) (sym is) (
+      subst (λ (t : EachSplit). MakesPackets w (Ok t) a b old new) (sym is) (
         h.stream,
         h.messages,
         held,
         h.consumed,
         h.cut,
         h.fit,
-        (h.next_is, at, h.writes),
+        (h.next_is, (count, h.packets, h.all, at, h.writes)),
       )
 
   -- the packet in front is no message
   pub split-no-message : (s : EachSplit) (a b old new : Option (List ℕ)) (held octets : List ℕ)
       (next count place len : ℕ)
       → s ≡ record { next = next; end = ends.NoMessage place }
-      → IsSplit c w a b old new held next count place
-      → next < 65536
+      → IsSplit w a b old new held next count place
+      → next < identifiers w
       → IsFrame (take len held)
       → octets ≡ take len held
-      → (IsFit w.direction octets → ⊥)
-      → MakesPackets c w (Ok s) a b old new
+      → (IsMessage w.writing octets → ⊥)
+      → MakesPackets w (Ok s) a b old new
   split-no-message s a b old new held octets next count place len told h few front is unfit =
       split-stop s (ends.NoMessage place) a b old new held next count place told h (
         h.place_is,
@@ -210,38 +209,38 @@ module _ (c : Config) (w : EachWanted) where
         (
           take len held,
           front-next held len front,
-          λ fit. unfit (subst (IsFit w.direction) (sym is) fit),
+          λ fit. unfit (subst (IsMessage w.writing) (sym is) fit),
         ),
       )
 
-  -- the list isn't one of the parts of the message in front
-  pub split-no-part : (s : EachSplit) (last : ℕ) (one : One)
+  -- the message in front isn't split
+  pub split-refused : (s : EachSplit) (end : SplitEnd) (one : One)
       (a b old between new : Option (List ℕ)) (held octets : List ℕ)
       (id next count place len : ℕ)
-      → s ≡ record { next = next; end = ends.NoSuchPart last }
-      → IsSplit c w a b old between held next count place
+      → s ≡ record { next = next; end = ends.Unsplit end }
+      → IsSplit w a b old between held next count place
       → IsFrame (take len held)
-      → IsFit w.direction octets
+      → IsMessage w.writing octets
       → octets ≡ take len held
       → id ≡ next
-      → one ≡ ones.NoSuchPart last
-      → WritesOne c w id count octets one between new
-      → MakesPackets c w (Ok s) a b old new
-  split-no-part s last one a b old between new held octets id next count place len told h front fits
+      → one ≡ ones.Unsplit end
+      → WritesOne w id count octets one between new
+      → MakesPackets w (Ok s) a b old new
+  split-refused s end one a b old between new held octets id next count place len told h front fits
       is same was wrote =
       let m = take len held in
-      let at = at-next id next count octets m one (ones.NoSuchPart last) between new same is was
+      let at = at-next id next count octets m one (ones.Unsplit end) between new same is was
       wrote in
-      subst (λ (x : Option (List ℕ)). MakesPackets c w (Ok s) a b old x) (sym at.2)
-      (split-stop s (ends.NoSuchPart last) a b old between held next count place told h
-      (m, front-next held len front, subst (IsFit w.direction) is fits, at.0, at.1))
+      subst (λ (x : Option (List ℕ)). MakesPackets w (Ok s) a b old x) (sym at.1)
+      (split-stop s (ends.Unsplit end) a b old between held next count place told h
+      (m, front-next held len front, subst (IsMessage w.writing) is fits, at.0))
 
   -- a read or a write failed before the next packet
   pub split-fault : (fault : StreamFault) (x y : FrameBuffer)
       (a b d old new : Option (List ℕ)) (had failed : Bool) (next count place : ℕ)
       → FindsFrame (Err fault) x y b d had failed
-      → IsSplit c w a b old new (held x) next count place
-      → MakesPackets c w (Err fault) a d old new
+      → IsSplit w a b old new (held x) next count place
+      → MakesPackets w (Err fault) a d old new
   split-fault faults.Read x y a b d old new had failed next count place found h =
       (h.stream ++ found.0, Consumes-trans a b d h.stream found.0 h.consumed found.1.consumed)
   split-fault faults.Write x y a b d old new had failed next count place found h =

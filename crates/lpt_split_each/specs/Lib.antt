@@ -1,3 +1,4 @@
+pub mod Messages
 pub mod Shares
 pub mod Streams
 pub mod StreamsInside

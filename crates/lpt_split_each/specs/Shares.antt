@@ -1,14 +1,13 @@
 -- What is wanted of the messages of a stream, one behind the other.
-use Rattle.std.specs.Prelude.{◌≡◌, ◌<◌, ℕ, ◌+◌, ◌%◌, ◌==◌, nat_le, if◌then◌else◌, List, [], ◌∷◌, ◌++◌, length, Option, Some, None}
+use Rattle.std.specs.Prelude.{◌≡◌, ◌<◌, ℕ, ◌+◌, ◌==◌, if◌then◌else◌, true, List, [], ◌∷◌, ◌++◌, Option, Some, None}
 use Rattle.std.specs.Io.KnownBytes.{Appends}
 use Rattle.lpt_events.specs.Counts.{sequence_counts}
-use Rattle.lpt_events.specs.declared.config.Config.{Config}
-use Rattle.lpt_part.specs.Splitting.{part_count}
-use Rattle.lpt_split.specs.Lists.{numbers_of}
-use Rattle.lpt_split.specs.Splits.{octets_of, split_of}
+use Rattle.lpt_split.specs.declared.split_end.SplitEnd.{SplitEnd}
+use Rattle.lpt_split.specs.Forms.{packets_in}
+use Rattle.lpt_split.specs.Messages.{Choice, AreWanted, IsUnsplit}
 use Rattle.lpt_split_each.specs.declared.each_wanted.EachWanted.{EachWanted}
 use Rattle.lpt_split_each.specs.declared.one.One.{One}
-use Rattle.lpt_split_each.specs.declared.one.One.TheVariants.{Written, NoSuchPart}
+use Rattle.lpt_split_each.specs.declared.one.One.TheVariants.{Written, Unsplit}
 use Rattle.lpt_split_each.specs.declared.pick.Pick.{Pick}
 
 -- ---- what is picked
@@ -29,77 +28,48 @@ picked (p ∷ ps) id = list_of (p ∷ ps) id
 
 -- ---- a message
 
--- what is wanted of a message: nothing; the message itself, since it isn't split; these parts; or
--- what a list names that is none of its parts
-pub data Share : Type 0 where
-  Nothing : Share
-  Itself : Share
-  Parts : (numbers : List ℕ) → Share
-  NoParts : Share
+-- the parts that this list names, under this identifier and of sequence counts from this one on; a
+-- message that has no more octets than a part goes as it is
+abbrev pub share : (id count : ℕ) → List ℕ → Choice
+share id count list = record { id = id; list = list; first = count; whole = true }
 
--- the parts that a list names, where it is one
-abbrev pub parts_or_none : Option (List ℕ) → Share
-parts_or_none (Some numbers) = Parts numbers
-parts_or_none None = NoParts
+-- these are the packets that are wanted of a message, by its list if there is one, and the sequence
+-- count behind them
+abbrev pub AreShare : EachWanted → (id count : ℕ) → (m : List ℕ) → Option (List ℕ)
+    → (behind : ℕ) → List (List ℕ) → Type 0
+AreShare w id count m None behind packets = (behind ≡ count) × (packets ≡ [])
+AreShare w id count m (Some list) behind packets =
+    AreWanted w.writing (share id count list) m behind packets
 
--- what a list, if there is one, means for a message
-abbrev pub share_by : Config → (m : List ℕ) → Option (List ℕ) → Share
-share_by c m None = Nothing
-share_by c m (Some list) =
-    if nat_le (length m) c.part_size then Itself
-    else parts_or_none (numbers_of (part_count (length m) c.part_size) list)
+-- the same of the message under this identifier
+abbrev pub ArePackets : EachWanted → (id count : ℕ) → (m : List ℕ) → (behind : ℕ)
+    → List (List ℕ) → Type 0
+ArePackets w id count m behind packets =
+    AreShare w id count m (picked w.picks.now id) behind packets
 
--- what is wanted of the message under this identifier
-unfoldable pub share : Config → EachWanted → (id : ℕ) → (m : List ℕ) → Share
-share c w id m = share_by c m (picked w.picks.now id)
+-- something is wanted of it, and it isn't split, so
+abbrev pub IsRefused : EachWanted → (id count : ℕ) → (m : List ℕ) → SplitEnd → Type 0
+IsRefused w id count m end =
+    (list : List ℕ) × (picked w.picks.now id ≡ Some list)
+    × IsUnsplit w.writing (share id count list) m end
 
--- the packets of that, of sequence counts from this one on
-abbrev pub packets_in : Config → EachWanted → (id count : ℕ) → (m : List ℕ) → Share
-    → List (List ℕ)
-packets_in c w id count m Nothing = []
-packets_in c w id count m Itself = m ∷ []
-packets_in c w id count m (Parts numbers) =
-    split_of c w.direction (record { source = w.name.source; id = id }) m count numbers
-packets_in c w id count m NoParts = []
-
--- the packets that are wanted of a message
-abbrev pub packets_of : Config → EachWanted → (id count : ℕ) → (m : List ℕ) → List (List ℕ)
-packets_of c w id count m = packets_in c w id count m (share c w id m)
-
--- the sequence count behind them
-abbrev pub count_in : (count : ℕ) → Share → ℕ
-count_in count Nothing = count
-count_in count Itself = count
-count_in count (Parts numbers) = (count + length numbers) % sequence_counts
-count_in count NoParts = count
-
-abbrev pub count_behind : Config → EachWanted → (id count : ℕ) → (m : List ℕ) → ℕ
-count_behind c w id count m = count_in count (share c w id m)
-
--- they were written; or nothing was, since its list is none of its parts
-abbrev pub WritesOne : Config → EachWanted → (id count : ℕ) → (m : List ℕ) → One
+-- they were written; or nothing was
+abbrev pub WritesOne : EachWanted → (id count : ℕ) → (m : List ℕ) → One
     → (old new : Option (List ℕ)) → Type 0
-WritesOne c w id count m (Written behind) old new =
-    Appends old new (octets_of (packets_of c w id count m))
-    × (behind ≡ count_behind c w id count m) × (behind < sequence_counts)
-WritesOne c w id count m (NoSuchPart last) old new =
-    (share c w id m ≡ NoParts) × (last ≡ part_count (length m) c.part_size) × (new ≡ old)
+WritesOne w id count m (Written behind) old new =
+    (packets : List (List ℕ)) × ArePackets w id count m behind packets
+    × (behind < sequence_counts)
+    × Appends old new (packets_in w.writing.form w.writing.clock packets)
+WritesOne w id count m (Unsplit end) old new = IsRefused w id count m end × (new ≡ old)
 
 -- ---- messages, one behind the other
 
--- the packets that are wanted of them, under identifiers and of sequence counts from these on
-abbrev pub packets_from : Config → EachWanted → (id count : ℕ) → List (List ℕ) → List (List ℕ)
-packets_from c w id count [] = []
-packets_from c w id count (m ∷ ms) =
-    packets_of c w id count m
-    ++ packets_from c w (id + 1) (count_behind c w id count m) ms
-
--- the sequence count behind all of them
-abbrev pub count_after : Config → EachWanted → (id count : ℕ) → List (List ℕ) → ℕ
-count_after c w id count [] = count
-count_after c w id count (m ∷ ms) =
-    count_after c w (id + 1) (count_behind c w id count m) ms
-
--- the packets that are wanted of a stream's messages
-abbrev pub all_packets : Config → EachWanted → List (List ℕ) → List (List ℕ)
-all_packets c w ms = packets_from c w w.name.id w.first ms
+-- these are the packets that are wanted of them, under identifiers and of sequence counts from these
+-- on, and the sequence count behind them
+abbrev pub AreAll : EachWanted → (id count : ℕ) → List (List ℕ) → (behind : ℕ)
+    → List (List ℕ) → Type 0
+AreAll w id count [] behind packets = (behind ≡ count) × (packets ≡ [])
+AreAll w id count (m ∷ ms) behind packets =
+    (next : ℕ) × (mine : List (List ℕ)) × (others : List (List ℕ))
+    × ArePackets w id count m next mine × AreAll w (id + 1) next ms behind others
+    × (packets ≡ mine ++ others)

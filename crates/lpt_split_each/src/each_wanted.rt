@@ -3,15 +3,15 @@
 ghost use Rattle.std.specs.Prelude.{◌≤◌};
 
 use crate::Pick;
-use lpt_packet::{Direction, Name};
+use lpt_split::Writing;
 
-/// Which packets of the messages of a stream are wanted.
+/// Which packets of the messages of a stream are wanted, and how they are written.
 #[derive(Clone, Copy)]
 pub struct EachWanted<'a> {
-    /// The direction in which the messages go.
-    pub direction: Direction,
-    /// The name of the first; the others have its source, and the identifiers behind its own.
-    pub name: Name,
+    /// How they are written.
+    pub writing: Writing<'a>,
+    /// The identifier of the first; the others have those behind it.
+    pub id: u32,
     /// The parts that are wanted; without any, all parts of all messages are.
     pub picks: &'a [Pick<'a>],
     /// The sequence count of the first packet, 0 to 16,383.

@@ -1,5 +1,7 @@
 //! How the split of a stream ends.
 
+use lpt_split::SplitEnd;
+
 /// How the split of a stream's packets ends. A place is how many octets of the stream come before
 /// it; one beyond 2^64 - 1 is told as that.
 #[derive(Clone, Copy)]
@@ -13,8 +15,8 @@ pub enum EachEnd {
     /// Before a packet that is no message of its direction, at this place: it is damaged, idle, or
     /// of the other packet type.
     NoMessage(u64),
-    /// Before a message for which a pick is no list of its parts, of which it has so many.
-    NoSuchPart(u32),
+    /// Before a message that isn't split, so.
+    Unsplit(SplitEnd),
     /// Before a packet for which no identifier is left, at this place.
     NoIdentifier(u64),
 }
@@ -23,8 +25,8 @@ pub enum EachEnd {
 /// the stream's end, and else nothing.
 #[derive(Clone, Copy)]
 pub struct EachSplit {
-    /// The identifier behind that of the last message that was taken, up to 65,536.
-    pub next: u32,
+    /// The identifier behind that of the last message that was taken, up to 4,294,967,296.
+    pub next: u64,
     /// How it ended.
     pub end: EachEnd,
 }

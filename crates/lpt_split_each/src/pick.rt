@@ -8,14 +8,14 @@ ghost use Rattle.lpt_split_each.specs.Shares.{list_of, picked};
 #[derive(Clone, Copy)]
 pub struct Pick<'a> {
     /// The identifier.
-    pub id: u16,
+    pub id: u32,
     /// A list of parts, as `3,7-9,12-`.
     pub parts: &'a [u8],
 }
 
 // The list of the parts that are wanted under this identifier: all, where nothing is picked; else
 // those that the first pick of it names, or none.
-pub(crate) fn picked<'a>(picks: &[Pick<'a>], id: u16) -> Option<&'a [u8]>
+pub(crate) fn picked<'a>(picks: &[Pick<'a>], id: u32) -> Option<&'a [u8]>
     ensures { option_map (λ list. list.now) result ≡ picked picks.now id }
 {
     if picks.is_empty() {
@@ -25,7 +25,7 @@ pub(crate) fn picked<'a>(picks: &[Pick<'a>], id: u16) -> Option<&'a [u8]>
 }
 
 // The list of the first pick of this identifier.
-fn list_of<'a>(picks: &[Pick<'a>], id: u16) -> Option<&'a [u8]>
+fn list_of<'a>(picks: &[Pick<'a>], id: u32) -> Option<&'a [u8]>
     ensures { option_map (λ list. list.now) result ≡ list_of picks.now id }
 {
     for pick in picks {

@@ -1,18 +1,18 @@
 //! The packets of a stream, each split as a message of its own.
 
-ghost use Rattle.std.specs.Prelude.{◌≡◌, false, true};
-ghost use Rattle.lpt_events.specs.Configs.{IsConfig};
-ghost use Rattle.lpt_join.specs.Messages.{IsFit};
+ghost use Rattle.std.specs.Prelude.{◌≡◌, false, true, Result};
+ghost use Rattle.lpt_carried.specs.Carried.{kind_to};
 ghost use Rattle.lpt_text.specs.Streams.{ReadEnds, WriteEnds};
+ghost use Rattle.lpt_split_each.specs.Messages.{IsMessage};
 ghost use Rattle.lpt_split_each.specs.Streams.{SplitsEach, end_at, is_end};
 ghost use Rattle.lpt_split_each.specs.StreamsInside.{MakesPackets};
 
 use crate::one::{One, split_one};
 use crate::{EachEnd, EachSplit, EachWanted};
-use lpt_events::Config;
 use lpt_frames::{FrameBuffer, Front};
-use lpt_join::check_message;
-use lpt_packet::Direction;
+use lpt_layout::{SeenAs, read_packet_as};
+use lpt_packet::{Direction, PacketKind};
+use lpt_split::{Writing, front, greatest};
 use lpt_text::{FromStd, Sink, Source, StreamFault, write_out};
 use std::alloc::Global;
 
@@ -27,19 +27,20 @@ use std::alloc::Global;
 /// failed: a front part of what is wanted stays written.
 pub fn split_each<S: Source, K: Sink>(
     alloc: Global,
-    config: &Config,
     wanted: &EachWanted<'_>,
     source: &mut S,
     out: &mut K,
 ) -> Result<EachSplit, StreamFault>
-    requires { IsConfig config.now }
-    ensures ends { SplitsEach config.now wanted.now result (S.remaining source.old)
+    ensures ends { SplitsEach wanted.now result (S.remaining source.old)
         (S.remaining source.new) (K.contents out.old) (K.contents out.new) }
     ensures reader { ReadEnds ⊥ result (S.failed source.old) (S.failed source.new) }
     ensures writer { WriteEnds result (K.failed out.old) (K.failed out.new) }
 {
-    let mut made = FromStd::new(Vec::new(alloc));
-    let split = match make_packets(alloc, config, wanted, source, &mut made) {
+    let Ok(front) = front(alloc, wanted.writing.form) else {
+        return Err(StreamFault::Memory);
+    };
+    let mut made = FromStd::new(front);
+    let split = match make_packets(alloc, wanted, source, &mut made) {
         Ok(split) => split,
         Err(StreamFault::Read) => return Err(StreamFault::Read),
         Err(_) => return Err(StreamFault::Memory),
@@ -57,18 +58,17 @@ pub fn split_each<S: Source, K: Sink>(
 // Reads a stream of packets, and writes what is wanted of each up to where it ends.
 fn make_packets<S: Source, K: Sink>(
     alloc: Global,
-    config: &Config,
     wanted: &EachWanted<'_>,
     source: &mut S,
     out: &mut K,
 ) -> Result<EachSplit, StreamFault>
-    requires { IsConfig config.now }
-    ensures makes { MakesPackets config.now wanted.now result (S.remaining source.old)
+    ensures makes { MakesPackets wanted.now result (S.remaining source.old)
         (S.remaining source.new) (K.contents out.old) (K.contents out.new) }
     ensures reader { ReadEnds ⊥ result (S.failed source.old) (S.failed source.new) }
 {
     let mut buffer = FrameBuffer::new(alloc);
-    let mut next = u32::from(wanted.name.id);
+    let most = u64::from(greatest(wanted.writing.parts.id));
+    let mut next = u64::from(wanted.id);
     let mut count = wanted.first;
     let mut place: u64 = 0;
     loop {
@@ -78,16 +78,16 @@ fn make_packets<S: Source, K: Sink>(
             Ok(Front::End) => return Ok(ended(next, end_at(place, buffer.held()))),
             Err(fault) => return Err(fault),
         };
-        let Ok(id) = u16::try_from(next) else {
+        if next > most {
             return Ok(ended(next, EachEnd::NoIdentifier(place)));
-        };
+        }
         let message = &buffer.held()[..len];
-        if !is_message(wanted.direction, message) {
+        if !is_message(&wanted.writing, message) {
             return Ok(ended(next, EachEnd::NoMessage(place)));
         }
-        match split_one(alloc, config, wanted, id, count, message, out) {
+        match split_one(alloc, wanted, next as u32, count, message, out) {
             Ok(One::Written(behind)) => count = behind,
-            Ok(One::NoSuchPart(last)) => return Ok(ended(next, EachEnd::NoSuchPart(last))),
+            Ok(One::Unsplit(end)) => return Ok(ended(next, EachEnd::Unsplit(end))),
             Err(fault) => return Err(fault),
         }
         place = place.saturating_add(len as u64);
@@ -96,16 +96,30 @@ fn make_packets<S: Source, K: Sink>(
     }
 }
 
-// Whether octets are a packet of this direction.
-fn is_message(direction: Direction, octets: &[u8]) -> bool
-    ensures fit { result ≡ true → IsFit direction octets.now }
-    ensures unfit { result ≡ false → IsFit direction octets.now → ⊥ }
+// Whether octets are a packet of the layout and the direction.
+fn is_message(writing: &Writing<'_>, octets: &[u8]) -> bool
+    ensures fit { result ≡ true → IsMessage writing.now octets.now }
+    ensures unfit { result ≡ false → IsMessage writing.now octets.now → ⊥ }
 {
-    check_message(direction, octets).is_ok()
+    match read_packet_as(&writing.layout, octets) {
+        Ok(SeenAs::Packet(packet)) => goes(writing.direction, packet.kind),
+        Ok(SeenAs::Idle) | Err(_) => false,
+    }
+}
+
+// Whether packets of this type go in this direction.
+fn goes(direction: Direction, kind: PacketKind) -> bool
+    ensures fit { result ≡ true → kind ≡ kind_to direction }
+    ensures unfit { result ≡ false → kind ≡ kind_to direction → ⊥ }
+{
+    match (direction, kind) {
+        (Direction::Up, PacketKind::Tc) | (Direction::Down, PacketKind::Tm) => true,
+        (Direction::Up, PacketKind::Tm) | (Direction::Down, PacketKind::Tc) => false,
+    }
 }
 
 // An end before the message of this identifier.
-fn ended(next: u32, end: EachEnd) -> EachSplit
+fn ended(next: u64, end: EachEnd) -> EachSplit
     ensures { result ≡ record { next = next; end = end } }
 {
     EachSplit { next, end }
