@@ -2,80 +2,30 @@
 
 ghost use Rattle.lpt_events.specs.Configs.{IsConfig};
 
-use crate::counts::{octets_word, tell_no_packets};
-use crate::eaches::tell_lost;
+use crate::counts::tell_no_packets;
 use crate::end::{Failure, Status, tell_place, tell_text};
+use crate::extract_joins::extract_parts;
+use crate::extract_notices::Telling;
 use crate::input::{Packets, opened_packets, packets_end};
-use crate::layout_extracts;
+use crate::layouts;
 use crate::progress::Voice;
 use crate::streams::{finish, first_failure, output};
+use lpt_carried::Layouts;
 use lpt_command_line::ExtractWords;
 use lpt_events::Config;
-use lpt_extract::{
-    ExtractEnd, Extracted, Hearers, Listener, News, Notice, Others, Place, Span, Taker, Tally,
-    Transaction, Wanted, extract_joined, extract_stream,
-};
-use lpt_packet::{Direction, Name};
+use lpt_extract::{ExtractEnd, Extracted, Others, Place, Tally, Wanted, extract_stream};
+use lpt_packet::Direction;
 use lpt_text::StreamFault;
 use lpt_tool::ToolFault;
 use std::alloc::{AllocError, Global};
 use std::collections::BTreeMap;
 
-/// Standard error, which is told of each area, and of each report that isn't read.
-#[derive(Drop)]
-pub struct Telling<'a> {
-    pub rt: &'a HostRuntime,
-    pub voice: Voice,
-}
-
-impl Listener for Telling<'_> {
-    ghost use Rattle.std.specs.Prelude.{None};
-
-    ghost heard = { λ _. None };
-
-    fn tell(&mut self, notice: Notice) {
-        if matches!(notice, Notice::Taken(_)) && !self.voice.tells() {
-            return;
-        }
-        if let Ok(Some(text)) = notice_text(self.rt.alloc(), notice) {
-            self.voice.clear(self.rt);
-            tell_place(self.rt, text.as_str());
-        }
-    }
-}
-
-/// Standard error, which is told of parts that never became whole.
-#[derive(Drop)]
-struct Losses<'a> {
-    rt: &'a HostRuntime,
-    voice: Voice,
-    config: &'a Config,
-    // Whether there were such parts.
-    lost: bool,
-}
-
-impl Taker for Losses<'_> {
-    ghost use Rattle.std.specs.Prelude.{None};
-
-    ghost heard = { λ _. None };
-
-    fn take(&mut self, name: Name, news: &News) -> Result<(), StreamFault> {
-        if let News::Given(_) = news {
-            return Ok(());
-        }
-        self.lost = true;
-        self.voice.clear(self.rt);
-        match tell_lost(self.rt, self.config, Direction::Down, 0, name, news) {
-            Ok(()) => Ok(()),
-            Err(_) => Err(StreamFault::Memory),
-        }
-    }
-}
-
-/// Writes the octets that dump reports hold.
+/// Writes the octets that dump reports hold: by the layouts of a file where one is given, else by
+/// the profile.
 ///
-/// Errors: `Read` where the packets can't be opened or read, or their capture is wrong; `Write`;
-/// `Memory`, also for an image that would be too large.
+/// Errors: `Read` where the packets can't be opened or read, or their capture is wrong; `Config`
+/// where the layouts' file is too long; `Write`; `Memory`, also for an image that would be too
+/// large.
 pub fn extract(
     rt: &HostRuntime,
     voice: Voice,
@@ -88,20 +38,21 @@ pub fn extract(
         tell_place(rt, "--from, --fill and --whole stand beside --at");
         return Ok(Status::Unreadable);
     };
+    let voice = voice.beside_output(rt);
+    let layouts = match words.layout {
+        Some(path) => layouts::read(rt, path)?,
+        None => Some(Layouts::own()),
+    };
+    let Some(layouts) = layouts else {
+        return Ok(Status::Unreadable);
+    };
     let wanted = Wanted {
         apid: config.apid,
+        layout: layouts.tailored(Direction::Down).packets,
         at,
     };
-    let voice = voice.beside_output(rt);
-    if let Some(path) = words.layout {
-        return layout_extracts::extract(rt, voice, config, path, &wanted, words);
-    }
     let mut source = opened_packets(rt, voice, &words.files, None, None)?;
-    let status = if words.join {
-        join_packets(rt, voice, config, &wanted, words, &mut source)
-    } else {
-        extract_packets(rt, voice, &wanted, words, &mut source)
-    };
+    let status = extract_packets(rt, voice, config, &layouts, &wanted, words, &mut source);
     drop(source);
     status
 }
@@ -110,53 +61,24 @@ pub fn extract(
 fn extract_packets(
     rt: &HostRuntime,
     voice: Voice,
-    wanted: &Wanted,
-    words: &ExtractWords<'_>,
-    source: &mut Packets,
-) -> Result<Status, Failure> {
-    let mut out = output(rt)?;
-    let mut telling = Telling { rt, voice };
-    let extracted = extract_stream(rt.alloc(), wanted, source, &mut out, &mut telling);
-    let failed = matches!(extracted, Err(StreamFault::Read));
-    let failure = packets_end(rt, voice, source, &words.files, failed);
-    let finished = first_failure(finish(rt, out), failure);
-    let status = status_of(rt, wanted, finished, &extracted);
-    drop(extracted);
-    status
-}
-
-// The same where reports may come in parts.
-fn join_packets(
-    rt: &HostRuntime,
-    voice: Voice,
     config: &Config,
+    layouts: &Layouts,
     wanted: &Wanted,
     words: &ExtractWords<'_>,
     source: &mut Packets,
 ) -> Result<Status, Failure>
     requires { IsConfig config.now }
 {
-    let transaction = Transaction {
-        direction: Direction::Down,
-        name: Name { source: 0, id: 0 },
-        apid: config.apid,
-        part_size: config.part_size,
-    };
     let mut out = output(rt)?;
-    let mut hearers = Hearers {
-        listener: Telling { rt, voice },
-        taker: Losses {
-            rt,
-            voice,
-            config,
-            lost: false,
-        },
+    let (extracted, lost) = if words.join {
+        extract_parts(rt, voice, config, layouts, wanted, words, source, &mut out)
+    } else {
+        let mut telling = Telling { rt, voice };
+        let extracted = extract_stream(rt.alloc(), wanted, source, &mut out, &mut telling);
+        (extracted, false)
     };
-    let alloc = rt.alloc();
-    let extracted = extract_joined(alloc, wanted, &transaction, source, &mut out, &mut hearers);
     let failed = matches!(extracted, Err(StreamFault::Read));
     let failure = packets_end(rt, voice, source, &words.files, failed);
-    let lost = hearers.taker.lost;
     let finished = first_failure(finish(rt, out), failure);
     let status = status_of(rt, wanted, finished, &extracted);
     drop(extracted);
@@ -196,9 +118,9 @@ fn place(words: &ExtractWords<'_>) -> Result<Option<Place>, ()> {
     }
 }
 
-/// The status of an extraction that ended so, after it was told why nothing was written, what is
-/// missing, and what was no packet.
-pub fn extract_status(
+// The status of an extraction that ended so, after it was told why nothing was written, what is
+// missing, and what was no packet.
+fn extract_status(
     rt: &HostRuntime,
     wanted: &Wanted,
     extracted: &Extracted,
@@ -267,44 +189,4 @@ fn nothing_text(alloc: Global, wanted: &Wanted) -> Result<String, AllocError> {
             format!(in alloc; "memory {memory}: no octet came of address {from} or after it")
         }
     }
-}
-
-// What is reported of an area or a report, where something is. The only error is out of memory.
-fn notice_text(alloc: Global, notice: Notice) -> Result<Option<String>, AllocError> {
-    let text = match notice {
-        Notice::Taken(span) => area_text(alloc, span)?,
-        Notice::PastEnd(span, place) => {
-            passed_text(alloc, span, place, "the area ends past address 4294967295")?
-        }
-        Notice::WrongChecksum(span, place) => {
-            passed_text(alloc, span, place, "the checksum is wrong")?
-        }
-        Notice::Unread(len, place) => {
-            let octets = octets_word(len);
-            format!(in alloc;
-                "a dump report passed over at octet {place}: its body of {len} {octets} isn't read"
-            )?
-        }
-        Notice::OtherMemory(_) | Notice::OtherApid(_) | Notice::Damaged | Notice::Stray => {
-            return Ok(None);
-        }
-    };
-    Ok(Some(text))
-}
-
-// Where the octets of an area stand, and how many they are.
-fn area_text(alloc: Global, span: Span) -> Result<String, AllocError> {
-    let Span {
-        memory,
-        address,
-        len,
-    } = span;
-    let octets = octets_word(len);
-    format!(in alloc; "memory {memory}, address {address}: {len} {octets}")
-}
-
-// That an area was passed over, at which place, and why.
-fn passed_text(alloc: Global, span: Span, place: u64, why: &str) -> Result<String, AllocError> {
-    let area = area_text(alloc, span)?;
-    format!(in alloc; "{area} passed over at octet {place}: {why}")
 }

@@ -2,6 +2,7 @@
 
 ghost use Rattle.std.specs.Prelude.{IfOk, IfSome};
 ghost use Rattle.lpt_carried.specs.Layouts.{SizesFit};
+ghost use Rattle.lpt_part.specs.Splitting.{IsPartSize};
 
 use crate::configuration::read_file;
 use crate::end::{Failure, tell_place};
@@ -52,6 +53,20 @@ fn complaint(alloc: Global, path: &str, text: &str) -> Result<String, AllocError
             None => format!(in alloc; "{path}: {complaint}"),
         },
         None => format!(in alloc; "{path}: refused"),
+    }
+}
+
+/// The layouts of the file at this path; or, where none is given, the profile's with parts of `p`
+/// octets; none where the file's are refused, after standard error was told so.
+///
+/// Errors: as `read`.
+pub fn own_or_read(rt: &HostRuntime, p: u32, path: Option<&str>) -> Result<Option<Layouts>, Failure>
+    requires { IsPartSize p }
+    ensures { IfOk result (λ l. IfSome l SizesFit) }
+{
+    match path {
+        Some(path) => read(rt, path),
+        None => Ok(Some(Layouts::own_of(p))),
     }
 }
 

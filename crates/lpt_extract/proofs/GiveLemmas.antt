@@ -1,5 +1,6 @@
 -- What areas give, one behind the other.
-use Rattle.std.proofs.Common.{◌≡◌, ◌∙◌, ap, sym, subst, refl, ℕ, ◌≤◌, max, Bool, true, false, List, [], ◌∷◌, ◌++◌, ◌+◌, ◌<◌, length, take, drop, get_or, map, Option, Some, None, arith, append-nil, append_assoc}
+use Rattle.std.proofs.Common.{◌≡◌, ◌∙◌, ap, sym, subst, refl, ℕ, ◌≤◌, max, Bool, true, false, List, [], ◌∷◌, ◌++◌, ◌+◌, ◌<◌, length, take, drop, get_or, map, Option, Some, None, Result, Ok, Err, arith, append-nil, append_assoc}
+use Rattle.std.specs.Prelude.{OnOk}
 use Rattle.std.proofs.lemmas.Grind.{common_steps, flat_map-append}
 use Rattle.std.proofs.lemmas.List.{map-append, nil_from_length, take_more, take-append-drop}
 use Rattle.std.proofs.lemmas.List.Elements.{filter-append}
@@ -91,7 +92,7 @@ given-split n xs = sym (given-append (take n xs) (drop n xs)) ∙ ap given (take
 
 pub areas-append : (w : Wanted) (xs ys : List (List ℕ)) → areas_in w (xs ++ ys)
     ≡ areas_in w xs ++ areas_in w ys
-areas-append w xs ys = flat_map-append (λ b. areas_of w.at (report_in w.apid b)) xs ys
+areas-append w xs ys = flat_map-append (λ b. areas_of w.at (report_in w b)) xs ys
 
 -- what is told of a piece more
 pub notices-next : (w : Wanted) (n : ℕ) (ps : List Piece) (p : Piece)
@@ -156,6 +157,17 @@ pub held-as : (at : Option Place) (xs ys : List Area) (ns ms : List Notice) (h :
     → Held at ys ms h
 held-as at xs ys ns ms h e f k =
     subst (λ zs. Held at zs ms h) e (subst (λ ks. Held at xs ks h) f k)
+
+-- the same, where work went well
+pub on-held : {A E : Type 0} (r : Result A E) (at : Option Place) (before xs ys : List Area)
+    (told ns ms : List Notice) (h : Holding)
+    → xs ≡ ys
+    → ns ≡ ms
+    → OnOk r (Held at (before ++ xs) (told ++ ns) h)
+    → OnOk r (Held at (before ++ ys) (told ++ ms) h)
+on-held (Ok x) at before xs ys told ns ms h e f k =
+    held-as at _ _ _ _ h (ap (λ zs. before ++ zs) e) (ap (λ ks. told ++ ks) f) k
+on-held (Err x) at before xs ys told ns ms h e f k = tt
 
 -- with no area more
 pub held-same : (at : Option Place) (xs : List Area) (ns : List Notice) (h : Holding)

@@ -1,9 +1,12 @@
 mod CoverLemmas
 mod EntryLemmas
 mod GapLemmas
-pub mod GiveLemmas
+mod GiveLemmas
 mod ImageLemmas
 mod JoinedLemmas
+mod LayoutJoinLemmas
+mod OwnJoinLemmas
+mod OwnLemmas
 mod PartLemmas
-pub mod ReadLemmas
+mod ReadLemmas
 mod SeenLemmas

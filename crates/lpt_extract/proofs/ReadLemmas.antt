@@ -1,8 +1,14 @@
 -- What is taken of the pieces of a stream.
-use Rattle.std.proofs.Common.{◌≡◌, ◌∙◌, ap, sym, subst, ℕ, ◌+◌, List, [], ◌∷◌, ◌++◌, Option, Result, Ok, Err}
-use Rattle.std.specs.Prelude.{IfOk, IfErr}
-use Rattle.std.specs.Io.KnownBytes.{Appends}
-use Rattle.lpt_stream.specs.Pieces.{Piece, packet_before, packets_of, octets_in, up_to_limit}
+use Rattle.std.proofs.Common.{◌≡◌, ◌≢◌, ◌∙◌, ap, inl, inr, sym, subst, refl, ℕ, ◌+◌, true, false, List, [], ◌∷◌, ◌++◌, Option, Result, Ok, Err}
+use Rattle.std.specs.Prelude.{IfOk, IfErr, OnOk}
+use Rattle.std.specs.Io.KnownBytes.{Appends, Consumes, IsAtEnd}
+use Rattle.lpt_packet.specs.declared.fault.PacketFault.TheVariants.{Checksum}
+use Rattle.lpt_packet.specs.Packets.{verdict}
+use Rattle.lpt_stream.specs.declared.cut.Cut.{Cut}
+use Rattle.lpt_stream.specs.declared.cut.Cut.TheVariants.{Sealed, Framed, Resumed}
+use Rattle.lpt_stream.specs.declared.piece_kind.PieceKind.TheVariants.{Whole}
+use Rattle.lpt_stream.specs.Pieces.{CutsBy, IsSealedBy, LeadsBy, Piece, packet_before, packets_of, octets_in, up_to_limit}
+use Rattle.lpt_stream.specs.Takes.{ReadsBy}
 use Rattle.lpt_stream.proofs.CutLemmas.{packets-next}
 use Rattle.lpt_text.specs.declared.fault.StreamFault.{StreamFault}
 use Rattle.lpt_text.specs.declared.fault.StreamFault.TheVariants as faults
@@ -12,7 +18,7 @@ use Rattle.lpt_extract.specs.declared.holding.Holding.{Holding}
 use Rattle.lpt_extract.specs.declared.notice.Notice.{Notice}
 use Rattle.lpt_extract.specs.declared.wanted.Wanted.{Wanted}
 use Rattle.lpt_extract.specs.Extracts.{areas_in, notices_at, notices_in, written_first}
-use Rattle.lpt_extract.specs.ExtractsInside.{Held}
+use Rattle.lpt_extract.specs.ExtractsInside.{is_sealed, Held}
 use Rattle.lpt_extract.specs.Notices.{Hears}
 use Rattle.lpt_extract.proofs.GiveLemmas.{areas-append, notices-next, held-as, hears-more, part-more, wrote-more}
 
@@ -76,6 +82,25 @@ pub if-ok : {A E : Type 0} (P Q : A → Type 0) (r : Result A E)
 if-ok P Q (Ok x) f h = f x h
 if-ok P Q (Err e) f h = h
 
+-- what holds anyway holds where work went well
+pub any-ok : {A E : Type 0} (P : Type 0) (r : Result A E) → P → OnOk r P
+any-ok P (Ok x) p = p
+any-ok P (Err e) p = tt
+
+pub if-on : {A E : Type 0} (P Q : Type 0) (r : Result A E)
+    → (P → Q)
+    → OnOk r P
+    → IfOk r (λ _. Q)
+if-on P Q (Ok x) f h = f h
+if-on P Q (Err e) f h = tt
+
+pub on-ok : {A E : Type 0} (P Q : Type 0) (r : Result A E)
+    → (P → Q)
+    → OnOk r P
+    → OnOk r Q
+on-ok P Q (Ok x) f h = f h
+on-ok P Q (Err e) f h = h
+
 pub if-err : {A E : Type 0} (P Q R : E → Type 0) (r : Result A E)
     → ((e : E) → P e → Q e → R e)
     → IfErr r P
@@ -92,3 +117,34 @@ pub no-read : {A : Type 0} (r : Result A StreamFault)
 no-read r h is =
     let same : faults.Read ≡ faults.Write = subst (λ x. IfErr x (λ e. e ≡ faults.Write)) is h in
     cc
+
+-- ---- the stream
+
+open_still : ◌≡◌ true false → ⊥
+open_still h = cc
+
+-- a taker that always takes more has taken all
+pub reads-whole : (cut : Cut) (a b : Option (List ℕ)) (P : List Piece → Type 0)
+    → ReadsBy cut a b true P
+    → (stream : List ℕ) × (ps : List Piece)
+    × Consumes a b stream × IsAtEnd b × CutsBy cut stream ps × P ps
+reads-whole cut a b P h = elim h.ends [
+  | inl e ↦ (
+    h.stream,
+    h.pieces,
+    h.consumed,
+    e.1,
+    (h.in_step, subst (LeadsBy cut true h.stream h.pieces h.in_step) e.0 h.leads),
+    h.gives,
+  )
+  | inr e ↦ absurd (open_still e)
+]
+
+-- where a cut looks at checksums, that of a whole piece isn't at fault
+pub whole-sealed : (cut : Cut) (b : List ℕ)
+    → IsSealedBy cut Whole b
+    → is_sealed cut ≡ true
+    → verdict b ≢ Err Checksum
+whole-sealed Sealed b h e = h refl
+whole-sealed Framed b h e = absurd cc
+whole-sealed Resumed b h e = absurd cc

@@ -1,36 +1,20 @@
--- What octets are seen as, and the dump report in them.
-use Rattle.std.proofs.Common.{◌≡◌, ap, refl, ℕ, List, Option, Some, None, Err}
-use Rattle.std.specs.Result.{result_ok}
-use Rattle.lpt_packet.specs.declared.fault.PacketFault.{PacketFault}
-use Rattle.lpt_packet.specs.Packets.{Fields, IdlePacket, APacket, seen, verdict}
-use Rattle.lpt_stream.proofs.StreamLemmas.{seen-unread}
-use Rattle.lpt_extract.specs.Reports.{Other, dump_in, dump_in_packet, report_in, said_in}
+-- What octets give of memories, by the dump report that is found in them.
+use Rattle.std.proofs.Common.{◌≡◌, ◌∙◌, ap, sym, ℕ, List, [], ◌∷◌, Option, append-nil}
+use Rattle.lpt_extract.specs.declared.wanted.Wanted.{Wanted}
+use Rattle.lpt_extract.specs.Extracts.{areas_in, areas_of, notices_of}
+use Rattle.lpt_extract.specs.Joined.{notices_by}
+use Rattle.lpt_extract.specs.Reports.{dump_in, report_in, said_in}
 
--- no packet is no dump report
-pub dump-none : (b : List ℕ) → seen b ≡ None → None ≡ dump_in b
-unfolding dump_in
-dump-none b e = rw e refl
+module _ (w : Wanted) (b : List ℕ) (d : Option (ℕ × List ℕ)) (e : d ≡ dump_in w.layout b) where
+  report-said : said_in w.apid d ≡ report_in w b
+  unfolding report_in
+  report-said = ap (said_in w.apid) e
 
-pub dump-idle : (b : List ℕ) → seen b ≡ Some IdlePacket → None ≡ dump_in b
-unfolding dump_in
-dump-idle b e = rw e refl
+  pub areas-seen : areas_of w.at (said_in w.apid d) ≡ areas_in w (b ∷ [])
+  areas-seen =
+      ap (areas_of w.at) report-said ∙ sym (append-nil (areas_of w.at (report_in w b)))
 
--- that which a packet is
-pub dump-packet : (b : List ℕ) (f : Fields) → seen b ≡ Some (APacket f) → dump_in_packet f ≡ dump_in b
-unfolding dump_in
-dump-packet b f e = rw e refl
-
--- octets that aren't read are no report
-pub report-none : (apid : ℕ) (b : List ℕ) (e : PacketFault)
-    → seen b ≡ result_ok (verdict b)
-    → verdict b ≡ Err e
-    → Other ≡ report_in apid b
-unfolding report_in
-report-none apid b e law h = ap (said_in apid) (dump-none b (seen-unread b e law h))
-
--- what the dump report says that octets are is what they say
-pub report-said : (apid : ℕ) (b : List ℕ) (d : Option (ℕ × List ℕ))
-    → d ≡ dump_in b
-    → said_in apid d ≡ report_in apid b
-unfolding report_in
-report-said apid b d e = ap (said_in apid) e
+  pub notices-seen : (n : ℕ)
+      → notices_of w.at n (said_in w.apid d) ≡ notices_by w n (b ∷ [])
+  notices-seen n =
+      ap (notices_of w.at n) report-said ∙ sym (append-nil (notices_of w.at n (report_in w b)))

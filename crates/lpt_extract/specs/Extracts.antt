@@ -5,11 +5,12 @@ use Rattle.std.specs.Io.KnownBytes.{Appends, Consumes, IsAtEnd}
 use Rattle.lpt_text.specs.Streams.{AppendsPart}
 use Rattle.lpt_text.specs.declared.fault.StreamFault.{StreamFault}
 use Rattle.lpt_text.specs.declared.fault.StreamFault.TheVariants as faults
-use Rattle.lpt_stream.specs.declared.cut.Cut.TheVariants.{Sealed}
 use Rattle.lpt_stream.specs.declared.piece_kind.PieceKind.{PieceKind}
 use Rattle.lpt_stream.specs.declared.piece_kind.PieceKind.TheVariants.{Whole, Damaged, Stray}
-use Rattle.lpt_stream.specs.Pieces.{Piece, Cuts, packets_of, up_to_limit}
+use Rattle.lpt_stream.specs.declared.cut.Cut.{Cut}
+use Rattle.lpt_stream.specs.Pieces.{Piece, CutsBy, packets_of, up_to_limit}
 use Rattle.lpt_stream.specs.Takes.{LeavesBy}
+use Rattle.lpt_carried.specs.Carried.{cut_for}
 use Rattle.lpt_memory.specs.declared.request.Area.{Area}
 use Rattle.lpt_memory.specs.Meanings.{area}
 use Rattle.lpt_memory.specs.Requests.{LoadArea}
@@ -46,7 +47,7 @@ areas_of at (Areas r) = if is_of at r.memory then whole_areas r.areas else []
 
 -- the areas that packets give, in the order in which they stand
 abbrev pub areas_in : Wanted → List (List ℕ) → List Area
-areas_in w packets = flat_map (λ b. areas_of w.at (report_in w.apid b)) packets
+areas_in w packets = flat_map (λ b. areas_of w.at (report_in w b)) packets
 
 -- ---- what is told
 
@@ -60,7 +61,7 @@ notices_of at n (Areas r) =
 
 -- of a piece of a stream at a place
 abbrev pub notices_at : Wanted → (place : ℕ) → PieceKind → List ℕ → List Notice
-notices_at w n Whole b = notices_of w.at n (report_in w.apid b)
+notices_at w n Whole b = notices_of w.at n (report_in w b)
 notices_at w n Damaged b = notices.Damaged ∷ []
 notices_at w n Stray b = notices.Stray ∷ []
 
@@ -125,6 +126,10 @@ abbrev pub AreMissing : Option Place → List Area → List Gap → Type 0
 AreMissing None areas gaps = gaps ≡ []
 AreMissing (Some p) areas gaps = AreGaps (is_given areas) p.from (extent areas) gaps
 
+-- how a stream of these packets is cut: by checksums, where they have one
+abbrev pub cut_of : Wanted → Cut
+cut_of w = cut_for w.layout.has_checksum
+
 -- a stream was read to its end, and what its packets give was written; what is missing and what
 -- wasn't taken was told
 pub record ExtractsTo (w : Wanted) (x : Extracted) (before after old new : Option (List ℕ))
@@ -133,7 +138,7 @@ pub record ExtractsTo (w : Wanted) (x : Extracted) (before after old new : Optio
   pub pieces : List Piece
   pub consumed : Consumes before after stream
   pub at_end : IsAtEnd after
-  pub cut : Cuts stream pieces
+  pub cut : CutsBy (cut_of w) stream pieces
   pub ends : Ends w.at (areas_in w (packets_of pieces))
       (is_unbroken (gaps_in x.gaps) x.tally.passed) x.end old new
   pub missing : AreMissing w.at (areas_in w (packets_of pieces)) (gaps_in x.gaps)
@@ -166,5 +171,5 @@ LeavesFront faults.Memory at areas old new = AppendsPart old new (written_first 
 -- a front part of what the pieces give that were found before a fault
 abbrev pub ExtractLeaves : Wanted → StreamFault → (before after old new : Option (List ℕ)) → Type 0
 ExtractLeaves w e before after old new =
-    LeavesBy Sealed before after
+    LeavesBy (cut_of w) before after
     (λ pieces. LeavesFront e w.at (areas_in w (packets_of pieces)) old new)

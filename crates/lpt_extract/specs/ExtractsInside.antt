@@ -1,6 +1,8 @@
 -- What is held and told as areas are taken.
 use Rattle.std.specs.Prelude.{◌≡◌, ◌<◌, ◌≤◌, ℕ, Bool, true, false, List, [], map, Option, Some, None}
 use Rattle.std.specs.Io.KnownBytes.{Appends}
+use Rattle.lpt_stream.specs.declared.cut.Cut.{Cut}
+use Rattle.lpt_stream.specs.declared.cut.Cut.TheVariants.{Sealed, Framed, Resumed}
 use Rattle.lpt_stream.specs.Pieces.{Piece, packets_of}
 use Rattle.lpt_memory.specs.declared.request.Area.{Area}
 use Rattle.lpt_extract.specs.declared.extracted.ExtractEnd.{ExtractEnd}
@@ -75,3 +77,9 @@ pub record IsExtracted (from : ℕ) (first now : Extraction) (heard hears : Opti
   pub held : Held now.wanted.at (areas_in now.wanted (packets_of ps))
       (notices_in now.wanted from ps) now.holding
   pub hears_is : Hears heard hears (notices_in now.wanted from ps)
+
+-- whether a cut looks at checksums
+abbrev pub is_sealed : Cut → Bool
+is_sealed Sealed = true
+is_sealed Framed = false
+is_sealed Resumed = false

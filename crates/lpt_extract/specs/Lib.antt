@@ -6,7 +6,10 @@ pub mod Gaps
 pub mod ImagesInside
 pub mod Joined
 pub mod JoinedInside
+pub mod LayoutJoined
 pub mod Notices
+pub mod Own
+pub mod OwnJoined
 pub mod Reports
 pub mod ReportsInside
 pub mod Tallies

@@ -1,12 +1,15 @@
--- The dump reports of the memory service, read.
+-- The dump reports of the memory service, read by a layout of telemetry.
 use Rattle.std.specs.Result.{result_ok}
 use Rattle.std.specs.Prelude.{ℕ, ◌==◌, ◌&&◌, if◌then◌else◌, List, length, Option, Some, None, option_and_then}
-use Rattle.lpt_packet.specs.Packets.{Fields, seen}
-use Rattle.lpt_pus.specs.Messages.{in_packet}
-use Rattle.lpt_pus.specs.Telemetry.{Telemetry, tm_verdict}
+use Rattle.lpt_packet.specs.declared.packet.PacketKind.TheVariants.{Tm}
+use Rattle.lpt_packet.specs.Packets.{Sight, IdlePacket, APacket}
+use Rattle.lpt_layout.specs.declared.layout.Layout.{Layout}
+use Rattle.lpt_layout.specs.Messages.{Said, message_verdict}
+use Rattle.lpt_layout.specs.Packets.{verdict_as}
 use Rattle.lpt_memory.specs.declared.reply_kind.ReplyKind.TheVariants.{Dump}
 use Rattle.lpt_memory.specs.ReplyKinds.{subtype_of}
 use Rattle.lpt_memory.specs.Requests.{LoadArea, Request, front_load_area, request_in}
+use Rattle.lpt_extract.specs.declared.wanted.Wanted.{Wanted}
 
 -- No dump report; one of another APID; one whose body, of so many octets, isn't read; a memory and
 -- its areas.
@@ -16,18 +19,19 @@ pub data Saying : Type 0 where
   Unread : (octets : ℕ) → Saying
   Areas : (report : Request LoadArea) → Saying
 
--- the APID and the body of a dump report
-abbrev pub dump_of : Telemetry → Option (ℕ × List ℕ)
-dump_of t =
-    if (t.service == 6) && (t.subtype == subtype_of Dump) then Some (t.apid, t.body) else None
+-- the APID and the body of the dump report that a message is
+abbrev pub dump_of : Said → Option (ℕ × List ℕ)
+dump_of s =
+    if (s.service == 6) && (s.subtype == subtype_of Dump) then Some (s.apid, s.body) else None
 
--- of the dump report that a packet is
-abbrev pub dump_in_packet : Fields → Option (ℕ × List ℕ)
-dump_in_packet f = option_and_then dump_of (result_ok (tm_verdict f))
+-- of that which octets are that are seen as this
+abbrev pub dump_by : Layout → Sight → Option (ℕ × List ℕ)
+dump_by l IdlePacket = None
+dump_by l (APacket f) = option_and_then dump_of (result_ok (message_verdict l Tm f))
 
--- and that octets are
-unfoldable pub dump_in : List ℕ → Option (ℕ × List ℕ)
-dump_in b = in_packet dump_in_packet (seen b)
+-- and of that which octets are; those that fail a test are none
+unfoldable pub dump_in : Layout → List ℕ → Option (ℕ × List ℕ)
+dump_in l b = option_and_then (dump_by l) (result_ok (verdict_as l.has_checksum b))
 
 -- what was read of a body of so many octets
 abbrev pub read_as : ℕ → Option (Request LoadArea) → Saying
@@ -44,5 +48,5 @@ said_in apid (Some d) = if d.0 == apid then body_report d.1 else Foreign d.0
 said_in apid None = Other
 
 -- what octets say
-unfoldable pub report_in : ℕ → List ℕ → Saying
-report_in apid b = said_in apid (dump_in b)
+unfoldable pub report_in : Wanted → List ℕ → Saying
+report_in w b = said_in w.apid (dump_in w.layout b)

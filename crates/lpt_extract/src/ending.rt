@@ -29,10 +29,7 @@ pub fn end_extract<K: Sink>(
         (written_last wanted.now.at areas)) }
     ensures writer { WriteEnds result (K.failed out.old) (K.failed out.new) }
 {
-    let end = match write_image(wanted, &holding, out) {
-        Ok(end) => end,
-        Err(fault) => return Err(fault),
-    };
+    let end = write_image(wanted, &holding, out)?;
     match flush_out(out) {
         Ok(()) => Ok(holding.into_extracted(end)),
         Err(fault) => Err(fault),

@@ -3,11 +3,10 @@
 ghost use Rattle.std.specs.Prelude.{◌≡◌, ◌⊎◌, Err, IfErr, IfOk, IsOk};
 ghost use Rattle.std.specs.Io.KnownBytes.{Appends};
 ghost use Rattle.lpt_text.specs.Streams.{ReadEnds, WriteEnds};
-ghost use Rattle.lpt_stream.specs.declared.cut.Cut.TheVariants.{Sealed};
 ghost use Rattle.lpt_stream.specs.Pieces.{packets_of};
-ghost use Rattle.lpt_stream.specs.Reads.{IsEndless};
+ghost use Rattle.lpt_stream.specs.Reads.{IsEndlessBy};
 ghost use Rattle.lpt_stream.specs.Takes.{TakenAll};
-ghost use Rattle.lpt_extract.specs.Extracts.{areas_in, notices_in, written_first, ExtractLeaves, ExtractsTo};
+ghost use Rattle.lpt_extract.specs.Extracts.{areas_in, cut_of, notices_in, written_first, ExtractLeaves, ExtractsTo};
 ghost use Rattle.lpt_extract.specs.Notices.{Hears};
 
 use crate::ending::end_extract;
@@ -22,6 +21,9 @@ use std::alloc::Global;
 /// the octets of each area, as it comes; or at the end an image, in which of two areas that overlap
 /// the later one wins. The listener is told of each area, of each dump report that isn't taken, and
 /// of what is no packet. Before each read, and at the end, `out` passes on what was written.
+///
+/// Where packets have a checksum, the next one is found behind octets that are none; else the
+/// stream is cut by lengths alone.
 ///
 /// Errors: `Read` where a read failed, or where 2^64 - 1 pieces came; `Write` where a write failed;
 /// `Memory`. A front part of the octets stays written; of an image, only where a write failed.
@@ -46,13 +48,14 @@ pub fn extract_stream<S: Source, K: Sink, L: Listener>(
 
     // Where a read fails, just what the packets give was told and written that what was read before
     // it shows.
-    ensures settled { result ≡ Err StreamFault.Read → TakenAll Sealed (S.remaining source.old)
-        (S.remaining source.new) (λ pieces.
+    ensures settled { result ≡ Err StreamFault.Read → TakenAll (cut_of wanted.now)
+        (S.remaining source.old) (S.remaining source.new) (λ pieces.
         Hears (L.heard listener.old) (L.heard listener.new) (notices_in wanted.now 0 pieces)
         × Appends (K.contents out.old) (K.contents out.new)
         (written_first wanted.now.at (areas_in wanted.now (packets_of pieces))))
-        ⊎ IsEndless (S.remaining source.old) (S.remaining source.new) }
-    ensures reader { ReadEnds (IsEndless (S.remaining source.old) (S.remaining source.new)) result
+        ⊎ IsEndlessBy (cut_of wanted.now) (S.remaining source.old) (S.remaining source.new) }
+    ensures reader { ReadEnds
+        (IsEndlessBy (cut_of wanted.now) (S.remaining source.old) (S.remaining source.new)) result
         (S.failed source.old) (S.failed source.new) }
     ensures writer { WriteEnds result (K.failed out.old) (K.failed out.new) }
 {
@@ -61,7 +64,10 @@ pub fn extract_stream<S: Source, K: Sink, L: Listener>(
         wanted: *wanted,
         holding,
     };
-    let last = take_pieces(alloc, 0, source, first, out, listener)?;
+    let last = match take_pieces(alloc, 0, source, first, out, listener) {
+        Ok(last) => last,
+        Err(fault) => return Err(fault),
+    };
     end_extract(wanted, last.holding, out)
 }
 
@@ -74,12 +80,11 @@ struct Extraction {
 
 impl<K: Sink, L: Listener> Taker<K, L> for Extraction {
     ghost use Rattle.std.specs.Prelude.{true, ⊤};
-    ghost use Rattle.lpt_stream.specs.declared.cut.Cut.TheVariants as cuts;
     ghost use Rattle.lpt_stream.specs.Pieces.{packets_of};
-    ghost use Rattle.lpt_extract.specs.Extracts.{areas_in, written_first};
+    ghost use Rattle.lpt_extract.specs.Extracts.{areas_in, cut_of, written_first};
     ghost use Rattle.lpt_extract.specs.ExtractsInside.{IsExtracted};
 
-    ghost cut = { λ _. cuts.Sealed };
+    ghost cut = { λ e. cut_of e.wanted };
 
     ghost is_open = { λ _. true };
 
@@ -94,7 +99,7 @@ impl<K: Sink, L: Listener> Taker<K, L> for Extraction {
     ghost others = { λ _. ⊥ };
 
     fn cut(&self) -> Cut {
-        Cut::Sealed
+        self.wanted.cut()
     }
 
     fn is_open(&self) -> bool {
@@ -114,7 +119,8 @@ impl<K: Sink, L: Listener> Taker<K, L> for Extraction {
             wanted,
             mut holding,
         } = self;
-        take_piece(alloc, &wanted, place, kind, octets, &mut holding, out, lent)?;
+        let (cut, held) = (wanted.cut(), &mut holding);
+        take_piece(alloc, &wanted, cut, place, kind, octets, held, out, lent)?;
         Ok(Extraction { wanted, holding })
     }
 }

@@ -1,14 +1,14 @@
 //! The octets of memories that a stream's packets hold (ECSS-E-ST-70-41C, service 6): those of the
 //! areas in dump reports, in the order in which they stand, or at their places in an image.
 //!
-//! A dump report is telemetry; its body is encoded as a load's. Where an area's checksum is wrong,
-//! or the body isn't read, it is passed over, and told with its place. The addresses of an image that
-//! no area gave are known as its gaps. A `Tally` counts what was passed over, skipped, or no packet.
+//! A dump report is telemetry, of the profile or of a mission's layout; its body is encoded as a
+//! load's. Where an area's checksum is wrong, or the body isn't read, it is passed over, and told
+//! with its place. The addresses of an image that no area gave are known as its gaps. A `Tally`
+//! counts what was passed over, skipped, or no packet.
 //!
 //! The main type is `Wanted`. The first call is `extract_stream`, with a stream of packets, a sink
 //! for the octets, and a `Listener`, who is told of each area; or `extract_joined`, where reports
-//! may come in parts. Who reads packets otherwise keeps a `Holding`, gives each `Dump` that is found
-//! to `take_dump`, and ends with `end_extract`.
+//! may come in parts, and `extract_joined_as` where these are a mission's.
 #![tactic(auto)]
 
 mod cover;
@@ -18,22 +18,27 @@ mod extracting;
 mod holding;
 mod image;
 mod joining;
+mod joins;
+pub mod laws;
+mod layout_joins;
 mod notice;
+mod own_joins;
 mod report;
 mod seen_area;
 mod taking;
 mod tally;
 mod wanted;
 
-pub use ending::end_extract;
 pub use extracted::{ExtractEnd, Extracted};
 pub use extracting::extract_stream;
-pub use holding::Holding;
-pub use joining::{Hearers, extract_joined};
+pub use joining::Hearers;
+pub use layout_joins::extract_joined_as;
+pub use lpt_carried::Reading;
 pub use lpt_each::{Name, News, Taker, Transaction};
+pub use lpt_layout::Layout;
+pub use lpt_layout_each::TakerAs;
 pub use lpt_text::{Sink, Source, StreamFault};
 pub use notice::{Listener, Notice, Span};
-pub use report::Dump;
-pub use taking::take_dump;
+pub use own_joins::extract_joined;
 pub use tally::{Others, Tally};
 pub use wanted::{Place, Wanted};

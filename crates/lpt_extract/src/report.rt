@@ -1,18 +1,20 @@
 //! Dump reports, read.
 
-ghost use Rattle.std.specs.Prelude.{◌≡◌, ◌≢◌, map, option_map, Err, IfOk};
+ghost use Rattle.std.specs.Prelude.{◌≡◌, ◌≢◌, map, option_and_then, option_map, true, Result, Err, IfOk};
+ghost use Rattle.std.specs.Result.{result_ok};
 ghost use Rattle.lpt_memory.specs.Fields.{all_areas};
-ghost use Rattle.lpt_packet.specs.Packets.{fields, verdict};
+ghost use Rattle.lpt_packet.specs.Packets.{APacket, Sight, verdict};
+ghost use Rattle.lpt_packet.specs.declared.fault.PacketFault.{PacketFault};
 ghost use Rattle.lpt_packet.specs.declared.fault.PacketFault.TheVariants.{Checksum};
+ghost use Rattle.lpt_layout.specs.Packets.{fields, Gives};
 ghost use Rattle.lpt_memory.specs.Requests.{front_load_area};
-ghost use Rattle.lpt_extract.specs.Reports.{body_report, dump_in, dump_in_packet, said_in};
+ghost use Rattle.lpt_extract.specs.Reports.{body_report, dump_by, dump_in, said_in};
 ghost use Rattle.lpt_extract.specs.ReportsInside.{found, load_area, said};
 
 use crate::seen_area::SeenArea;
+use lpt_layout::{Layout, PacketAs, SeenAs, read_packet_as, read_sealed_as, read_tm_as};
 use lpt_memory::fields;
-use lpt_packet::laws::seen_is_read;
-use lpt_packet::{Packet, Seen, read_sealed};
-use lpt_pus::read_tm;
+use lpt_packet::PacketFault;
 use std::alloc::{AllocError, Global};
 
 /// The service type of memory management.
@@ -21,13 +23,13 @@ const MEMORY: u8 = 6;
 /// The message subtype of a report that answers a dump.
 const DUMP_REPORT: u8 = 6;
 
-/// A dump report, as it was found.
+// A dump report, as it was found.
 #[derive(Clone, Copy)]
-pub struct Dump<'a> {
-    /// Its application process identifier.
-    pub apid: u16,
-    /// Its body.
-    pub body: &'a [u8],
+pub(crate) struct Dump<'a> {
+    // Its application process identifier.
+    pub(crate) apid: u16,
+    // Its body.
+    pub(crate) body: &'a [u8],
 }
 
 /// What octets say of a memory.
@@ -60,32 +62,45 @@ pub(crate) fn read_report<'a>(
     read_body(alloc, dump.body)
 }
 
-// The dump report that the octets of a whole piece are, whose checksum was taken before.
-pub(crate) fn dump_in<'a>(octets: &'a [u8]) -> Option<Dump<'a>>
-    requires { verdict octets.now ≢ Err Checksum }
-    ensures { found result ≡ dump_in octets.now }
+// The dump report that octets are by this layout. The checksum of sealed ones was taken before, and
+// is right; it isn't taken again.
+#[tactic(auto, unfolding(crate::specs::Reports::dump_in))]
+pub(crate) fn dump_in<'a>(layout: &Layout, octets: &'a [u8], is_sealed: bool) -> Option<Dump<'a>>
+    requires { is_sealed ≡ true → verdict octets.now ≢ Err Checksum }
+    ensures { found result ≡ dump_in layout.now octets.now }
 {
-    seen_is_read();
-    match read_sealed(octets) {
-        Ok(Seen::Packet(packet)) => dump_in_packet(&packet),
-        Ok(Seen::Idle) => None,
+    if is_sealed {
+        dump_seen(layout, read_sealed_as(layout, octets))
+    } else {
+        dump_seen(layout, read_packet_as(layout, octets))
+    }
+}
+
+// That which octets are that are read as this.
+fn dump_seen<'a>(layout: &Layout, read: Result<SeenAs<'a>, PacketFault>) -> Option<Dump<'a>>
+    ensures { (v : Result Sight PacketFault) → Gives read.entry v
+        → found result ≡ option_and_then (dump_by layout.now) (result_ok v) }
+{
+    match read {
+        Ok(SeenAs::Packet(packet)) => dump_in_packet(layout, &packet),
+        Ok(SeenAs::Idle) => None,
         Err(_) => None,
     }
 }
 
 // That which a packet is.
-fn dump_in_packet<'a>(packet: &Packet<'a>) -> Option<Dump<'a>>
-    ensures { found result ≡ dump_in_packet (fields packet.now) }
+fn dump_in_packet<'a>(layout: &Layout, packet: &PacketAs<'a>) -> Option<Dump<'a>>
+    ensures { found result ≡ dump_by layout.now (APacket (fields packet.now)) }
 {
-    let Ok((head, body)) = read_tm(packet) else {
+    let Ok(message) = read_tm_as(layout, packet) else {
         return None;
     };
-    if head.service != MEMORY || head.subtype != DUMP_REPORT {
+    if message.service != MEMORY || message.subtype != DUMP_REPORT {
         return None;
     }
     Some(Dump {
-        apid: head.apid,
-        body,
+        apid: message.apid,
+        body: message.body,
     })
 }
 

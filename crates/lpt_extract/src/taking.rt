@@ -1,40 +1,40 @@
 //! What a piece of a stream gives.
 
-ghost use Rattle.std.specs.Prelude.{◌≡◌, ◌≢◌, ◌⊎◌, ◌∷◌, ◌++◌, if◌then◌else◌, List, [], Err, IfErr, OnOk};
+ghost use Rattle.std.specs.Prelude.{◌≡◌, ◌≢◌, ◌⊎◌, ◌∷◌, ◌++◌, if◌then◌else◌, true, List, [], Err, IfErr, OnOk};
 ghost use Rattle.std.specs.Io.KnownBytes.{Appends};
 ghost use Rattle.lpt_text.specs.Streams.{AppendsPart, WriteEnds};
-ghost use Rattle.lpt_stream.specs.Pieces.{packet_before, IsSealed};
+ghost use Rattle.lpt_stream.specs.Pieces.{packet_before, IsSealedBy};
 ghost use Rattle.lpt_packet.specs.declared.fault.PacketFault.TheVariants.{Checksum};
 ghost use Rattle.lpt_packet.specs.Packets.{verdict};
 ghost use Rattle.lpt_memory.specs.declared.request.Area.{Area};
 ghost use Rattle.lpt_memory.specs.Meanings.{area};
 ghost use Rattle.lpt_extract.specs.declared.notice.Notice.{Notice};
 ghost use Rattle.lpt_extract.specs.Extracts.{areas_in, areas_of, notices_at, notices_of, written_first};
-ghost use Rattle.lpt_extract.specs.ExtractsInside.{given, told_of, Held};
+ghost use Rattle.lpt_extract.specs.ExtractsInside.{given, is_sealed, told_of, Held};
 ghost use Rattle.lpt_extract.specs.Joined.{notices_by};
 ghost use Rattle.lpt_extract.specs.Notices.{is_in_reach, is_taken, Hears};
-ghost use Rattle.lpt_extract.specs.Reports.{report_in, said_in};
+ghost use Rattle.lpt_extract.specs.Reports.{said_in};
 ghost use Rattle.lpt_extract.specs.ReportsInside.{found, load_area};
 
 use crate::holding::Holding;
 use crate::report::{Dump, Report, dump_in, read_report};
 use crate::seen_area::SeenArea;
 use crate::{Listener, Notice, Span, Wanted};
-use lpt_packet::laws::seen_is_read;
-use lpt_packet::{crc16, read_packet};
-use lpt_stream::PieceKind;
+use lpt_packet::crc16;
+use lpt_stream::{Cut, PieceKind};
 use lpt_text::{Sink, StreamFault, write_out};
 use std::alloc::Global;
 
 /// How many addresses a memory has at most.
 const ADDRESSES: u64 = 4_294_967_296;
 
-// Takes what a piece gives: a packet, or what is none and gives nothing.
+// Takes what a piece of a stream gives that is cut so: a packet, or what is none and gives nothing.
 //
 // Errors: `Write` where a write failed; `Memory`.
 pub(crate) fn take_piece<K: Sink, L: Listener>(
     alloc: Global,
     wanted: &Wanted,
+    cut: Cut,
     place: u64,
     kind: PieceKind,
     octets: &[u8],
@@ -42,7 +42,7 @@ pub(crate) fn take_piece<K: Sink, L: Listener>(
     out: &mut K,
     listener: &mut L,
 ) -> Result<(), StreamFault>
-    requires { IsSealed kind octets.now }
+    requires { IsSealedBy cut kind octets.now }
     ensures held { (areas : List Area) (ns : List Notice) → Held wanted.now.at areas ns holding.old
         → OnOk result (Held wanted.now.at
         (areas ++ areas_in wanted.now (packet_before kind octets.now []))
@@ -57,7 +57,12 @@ pub(crate) fn take_piece<K: Sink, L: Listener>(
     ensures writer { WriteEnds result (K.failed out.old) (K.failed out.new) }
 {
     match kind {
-        PieceKind::Whole => take_packet(alloc, wanted, place, octets, holding, out, listener),
+        PieceKind::Whole => {
+            let is_sealed = is_sealed(cut);
+            take_packet(
+                alloc, wanted, place, octets, is_sealed, holding, out, listener,
+            )
+        }
         PieceKind::Damaged => {
             holding.tell(listener, Notice::Damaged);
             Ok(())
@@ -69,18 +74,28 @@ pub(crate) fn take_piece<K: Sink, L: Listener>(
     }
 }
 
-// Takes what the octets of a message give, where they are a packet.
-pub(crate) fn take_message<K: Sink, L: Listener>(
+// Whether a stream that is cut so has whole pieces whose checksum was taken.
+fn is_sealed(cut: Cut) -> bool
+    ensures { result ≡ is_sealed cut }
+{
+    matches!(cut, Cut::Sealed)
+}
+
+// Takes what octets give that are read as a packet. The checksum of sealed ones was taken before.
+pub(crate) fn take_packet<K: Sink, L: Listener>(
     alloc: Global,
     wanted: &Wanted,
     place: u64,
     octets: &[u8],
+    is_sealed: bool,
     holding: &mut Holding,
     out: &mut K,
     listener: &mut L,
 ) -> Result<(), StreamFault>
+    requires { is_sealed ≡ true → verdict octets.now ≢ Err Checksum }
     ensures held { (areas : List Area) (ns : List Notice) → Held wanted.now.at areas ns holding.old
-        → OnOk result (Held wanted.now.at (areas ++ areas_in wanted.now (octets.now ∷ []))
+        → OnOk result (Held wanted.now.at
+        (areas ++ areas_in wanted.now (octets.now ∷ []))
         (ns ++ notices_by wanted.now place (octets.now ∷ [])) holding.new) }
     ensures wrote { OnOk result (Appends (K.contents out.old) (K.contents out.new)
         (written_first wanted.now.at (areas_in wanted.now (octets.now ∷ [])))) }
@@ -91,56 +106,14 @@ pub(crate) fn take_message<K: Sink, L: Listener>(
         (written_first wanted.now.at (areas_in wanted.now (octets.now ∷ [])))) }
     ensures writer { WriteEnds result (K.failed out.old) (K.failed out.new) }
 {
-    seen_is_read();
-    match read_packet(octets) {
-        Ok(_) => take_packet(alloc, wanted, place, octets, holding, out, listener),
-        Err(_) => Ok(()),
-    }
+    let dump = dump_in(&wanted.layout, octets, is_sealed);
+    take_dump(alloc, wanted, place, dump, holding, out, listener)
 }
 
-// Takes what a packet gives.
-fn take_packet<K: Sink, L: Listener>(
-    alloc: Global,
-    wanted: &Wanted,
-    place: u64,
-    octets: &[u8],
-    holding: &mut Holding,
-    out: &mut K,
-    listener: &mut L,
-) -> Result<(), StreamFault>
-    requires { verdict octets.now ≢ Err Checksum }
-    ensures held { (areas : List Area) (ns : List Notice) → Held wanted.now.at areas ns holding.old
-        → OnOk result (Held wanted.now.at
-        (areas ++ areas_of wanted.now.at (report_in wanted.now.apid octets.now))
-        (ns ++ notices_of wanted.now.at place (report_in wanted.now.apid octets.now)) holding.new) }
-    ensures wrote { OnOk result (Appends (K.contents out.old) (K.contents out.new)
-        (written_first wanted.now.at
-        (areas_of wanted.now.at (report_in wanted.now.apid octets.now)))) }
-    ensures heard { OnOk result (Hears (L.heard listener.old) (L.heard listener.new)
-        (notices_of wanted.now.at place (report_in wanted.now.apid octets.now))) }
-    ensures fault { IfErr result (λ e. (e ≡ StreamFault.Write) ⊎ (e ≡ StreamFault.Memory)) }
-    ensures part { IfErr result (λ _. AppendsPart (K.contents out.old) (K.contents out.new)
-        (written_first wanted.now.at
-        (areas_of wanted.now.at (report_in wanted.now.apid octets.now)))) }
-    ensures writer { WriteEnds result (K.failed out.old) (K.failed out.new) }
-{
-    take_dump(
-        alloc,
-        wanted,
-        place,
-        dump_in(octets),
-        holding,
-        out,
-        listener,
-    )
-}
-
-/// Takes what a dump report gives that was found in the packet at this place of a stream, or
-/// nothing, where none was: the areas that are wanted of it are written or put into the image, and
-/// the listener is told.
-///
-/// Errors: `Write` where a write failed, behind a front part of what is written; `Memory`.
-pub fn take_dump<K: Sink, L: Listener>(
+// Takes what a dump report gives that was found in the packet at this place of a stream, or
+// nothing, where none was: the areas that are wanted of it are written or put into the image, and
+// the listener is told.
+fn take_dump<K: Sink, L: Listener>(
     alloc: Global,
     wanted: &Wanted,
     place: u64,
@@ -304,10 +277,7 @@ fn keep_area<K: Sink>(
     match wanted.at {
         None => {
             holding.image.reach(seen.address, seen.octets.len());
-            match write_out(out, seen.octets) {
-                Ok(()) => Ok(()),
-                Err(fault) => Err(fault),
-            }
+            write_out(out, seen.octets)
         }
         Some(place) => match holding.image.put(&place, seen.address, seen.octets) {
             Ok(()) => Ok(()),

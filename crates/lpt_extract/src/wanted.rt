@@ -1,10 +1,15 @@
 //! What is wanted of dump reports.
 
+use lpt_layout::Layout;
+use lpt_stream::Cut;
+
 /// Which octets are wanted, and as what.
 #[derive(Clone, Copy)]
 pub struct Wanted {
     /// The application process identifier of the reports.
     pub apid: u16,
+    /// The layout of their packets.
+    pub layout: Layout,
     /// The image that is wanted; without one, the octets of all areas, in the order in which they
     /// stand.
     pub at: Option<Place>,
@@ -25,7 +30,18 @@ pub struct Place {
 
 impl Wanted {
     ghost use Rattle.std.specs.Prelude.{◌≡◌};
-    ghost use Rattle.lpt_extract.specs.Extracts.{is_of, start, suits};
+    ghost use Rattle.lpt_extract.specs.Extracts.{cut_of, is_of, start, suits};
+
+    // How a stream of these packets is cut: by checksums, where they have one.
+    pub(crate) fn cut(&self) -> Cut
+        ensures { result ≡ cut_of self.now }
+    {
+        if self.layout.has_checksum {
+            Cut::Sealed
+        } else {
+            Cut::Framed
+        }
+    }
 
     // Whether the areas of this memory are wanted.
     pub(crate) fn is_of(&self, memory: u8) -> bool

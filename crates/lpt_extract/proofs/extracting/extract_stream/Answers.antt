@@ -1,20 +1,18 @@
 -- Nothing was taken of nothing; and at the end what was taken is written.
 use Rattle.std.proofs.Common.{◌≡◌, ap, sym, subst, refl, inl, inr, Err}
-use Rattle.std.proofs.lemmas.Result.{err_from_is_err_and}
 use Rattle.lpt_stream.specs.Pieces.{packets_of}
-use Rattle.lpt_stream.specs.declared.cut.Cut.TheVariants.{Sealed}
 use Rattle.lpt_stream.proofs.EndLemmas.{reader-all, writer-all}
-use Rattle.lpt_stream.proofs.TakeLemmas.{all-as, leave-all, leave-as, reads-all}
+use Rattle.lpt_stream.proofs.TakeLemmas.{all-as, leave-all, leave-as}
 use Rattle.lpt_text.specs.declared.fault.StreamFault.{StreamFault}
 use Rattle.lpt_text.specs.declared.fault.StreamFault.TheVariants as faults
 use Rattle.std.specs.Io.KnownBytes.{Appends}
 use Rattle.lpt_text.specs.Streams.{AppendsPart}
-use Rattle.lpt_extract.specs.Extracts.{areas_in, notices_in, written_first, ExtractLeaves, ExtractsTo, LeavesFront}
+use Rattle.lpt_extract.specs.Extracts.{areas_in, cut_of, notices_in, written_first, ExtractLeaves, ExtractsTo, LeavesFront}
 use Rattle.lpt_extract.specs.ExtractsInside.{written_last, EndsAs, Held}
 use Rattle.lpt_extract.specs.Notices.{Hears}
 use Rattle.lpt_extract.specs.declared.wanted.Wanted.{Wanted}
 use Rattle.lpt_extract.proofs.GiveLemmas.{ends-by, first-none, hears-nothing, leaves-first, leaves-last}
-use Rattle.lpt_extract.proofs.ReadLemmas.{if-ok, if-err, no-read}
+use Rattle.lpt_extract.proofs.ReadLemmas.{if-ok, if-err, no-read, reads-whole}
 use Rattle.lpt_extract.proofs.extracting.extract_stream.Goals as goal
 
 pub take_pieces-requires : goal.take_pieces-requires
@@ -37,8 +35,8 @@ returns-clause-ends g c =
     let hears = g.L.Listener.heard c.take_pieces.new.lent in
     let a = g.S.Source.remaining c.args.source.now in
     let d = g.S.Source.remaining c.take_pieces.new.source in
-    let last = c.in_ok-last.last in
-    let read = reads-all a d _ c.in_ok-last.ensures.taken in
+    let last = c.in-Ok.last in
+    let read = reads-whole (cut_of w) a d _ c.in-Ok.ensures.taken in
     let ps = read.1 in
     let taken = read.5.0 in
     let areas = areas_in w (packets_of ps) in
@@ -69,8 +67,8 @@ returns-clause-leaves g c =
     let new = g.K.Sink.contents c.end_extract.new.out in
     let a = g.S.Source.remaining c.args.source.now in
     let d = g.S.Source.remaining c.take_pieces.new.source in
-    let last = c.in_ok-last.last in
-    let read = reads-all a d _ c.in_ok-last.ensures.taken in
+    let last = c.in-Ok.last in
+    let read = reads-whole (cut_of w) a d _ c.in-Ok.ensures.taken in
     let ps = read.1 in
     let taken = read.5.0 in
     let areas = areas_in w (packets_of ps) in
@@ -79,7 +77,7 @@ returns-clause-leaves g c =
     if-err (λ e. e ≡ faults.Write) (λ e. AppendsPart mid new (written_last w.at areas))
     (λ e. ExtractLeaves w e a d old new) c.end_extract.result
     (λ e is part.
-    leave-all Sealed a d (λ ps. LeavesFront e w.at (areas_in w (packets_of ps)) old new)
+    leave-all (cut_of w) a d (λ ps. LeavesFront e w.at (areas_in w (packets_of ps)) old new)
     read.0 ps read.2 read.4
     (subst (λ (f : StreamFault). LeavesFront f w.at areas old new) (sym is)
     (leaves-last w.at areas old mid new read.5.1 part)))
@@ -88,43 +86,38 @@ returns-clause-leaves g c =
 
 pub returns-clause-reader : goal.returns-clause-reader
 returns-clause-reader g c =
-    reader-all _ c.end_extract.result _ _ c.end_extract.ensures.fault c.in_ok-last.ensures.reader
+    reader-all _ c.end_extract.result _ _ c.end_extract.ensures.fault c.in-Ok.ensures.reader
 
 pub returns-clause-writer : goal.returns-clause-writer
 returns-clause-writer g c =
-    writer-all c.end_extract.result _ _ _ c.end_extract.ensures.writer c.in_ok-last.ensures.writer
+    writer-all c.end_extract.result _ _ _ c.end_extract.ensures.writer c.in-Ok.ensures.writer
 
 -- it wasn't read to its end
-pub returns-in_err-last-clause-leaves : goal.returns-in_err-last-clause-leaves
-returns-in_err-last-clause-leaves g c =
+pub returns-in-Err-clause-leaves : goal.returns-in-Err-clause-leaves
+returns-in-Err-clause-leaves g c =
     let w = c.args.wanted.now in
-    let e = c.in_err-last.field-0.0 in
+    let e = c.in-Err.fault in
     let old = g.K.Sink.contents c.args.out.now in
     let new = g.K.Sink.contents c.take_pieces.new.out in
-    let p = err_from_is_err_and c.from_residual.result c.from_residual.ensures.1 in
-    rw (p.1, p.2)
-    (leave-as Sealed _ _ _ (λ ps. LeavesFront e w.at (areas_in w (packets_of ps)) old new)
+    (leave-as (cut_of w) _ _ _ (λ ps. LeavesFront e w.at (areas_in w (packets_of ps)) old new)
     (λ ps part. leaves-first e w.at (areas_in w (packets_of ps)) old new part.1)
-    c.in_err-last.ensures.leaves)
+    c.in-Err.ensures.leaves)
 
-pub returns-in_err-last-clause-writer : goal.returns-in_err-last-clause-writer
-returns-in_err-last-clause-writer g c =
-    let p = err_from_is_err_and c.from_residual.result c.from_residual.ensures.1 in
-    rw (p.1, p.2)
-    (elim c.in_err-last.ensures.failed [ inl h ↦ absurd h | inr h ↦ h ])
+pub returns-in-Err-clause-writer : goal.returns-in-Err-clause-writer
+returns-in-Err-clause-writer g c =
+    (elim c.in-Err.ensures.failed [ inl h ↦ absurd h | inr h ↦ h ])
 
-pub returns-in_err-last-clause-settled : goal.returns-in_err-last-clause-settled
-returns-in_err-last-clause-settled g c =
+pub returns-in-Err-clause-settled : goal.returns-in-Err-clause-settled
+returns-in-Err-clause-settled g c =
     let w = c.args.wanted.now in
     let old = g.K.Sink.contents c.args.out.now in
     let new = g.K.Sink.contents c.take_pieces.new.out in
     let heard = g.L.Listener.heard c.args.listener.now in
     let hears = g.L.Listener.heard c.take_pieces.new.lent in
-    let p = err_from_is_err_and c.from_residual.result c.from_residual.ensures.1 in
     λ read.
-    let fault : c.in_err-last.field-0.0 ≡ faults.Read = cc in
-    elim (c.in_err-last.ensures.settled (ap Err fault)) [
-      | inl h ↦ inl (all-as Sealed _ _ _ (λ ps. Hears heard hears (notices_in w 0 ps)
+    let fault : c.in-Err.fault ≡ faults.Read = cc in
+    elim (c.in-Err.ensures.settled (ap Err fault)) [
+      | inl h ↦ inl (all-as (cut_of w) _ _ _ (λ ps. Hears heard hears (notices_in w 0 ps)
           × Appends old new (written_first w.at (areas_in w (packets_of ps))))
           (λ ps taken. (
             subst (λ (v : Wanted). Hears heard hears (notices_in v 0 ps)) taken.0.1.same

@@ -1,3 +1,0 @@
-mod JoinedLemmas
-pub mod OwnLemmas
-pub mod TakeLemmas

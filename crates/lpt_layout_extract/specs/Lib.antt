@@ -1,4 +1,0 @@
-pub mod Extracts
-pub mod Inside
-pub mod Joined
-pub mod JoinedInside
