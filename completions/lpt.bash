@@ -25,7 +25,7 @@ _lpt() {
     join:*) options+=' --id --first --any --each --from --to --layout --quiet' ;;
     extract:*) options+=' --at --from --fill --whole --join --layout --quiet' ;;
     link:*) options='--lose --repeat --damage --delay --seed --quiet --help --version' ;;
-    verify:*) options='--json --quiet --help --version' ;;
+    verify:*) options='--json --open --quiet --help --version' ;;
     spacecraft:*) options+=' --mode --memory --save --tick-every --tick --reuse --resync --log --state' ;;
     compare:*) options+=' --quiet' ;;
     checksum:*) options='--from --length --help --version' ;;

@@ -66,6 +66,7 @@ complete -c lpt -n '__lpt_at chart' -l from -x -d 'The first place of the journa
 complete -c lpt -n '__lpt_at chart' -l to -x -d 'The last place of the journal that is drawn, or the end of the octets'
 complete -c lpt -n '__lpt_at chart' -l refused -d 'Draw the lines that were refused, too'
 complete -c lpt -n '__lpt_at list; or __lpt_at verify' -l json -d 'Print each line as an object of JSON'
+complete -c lpt -n '__lpt_at verify' -l open -d 'Write the packets of the requests whose end no report tells, and no list'
 complete -c lpt -n '__lpt_at decode' -l more -d 'Say which areas a request or a report names, and which segment a packet is'
 complete -c lpt -n '__lpt_at decode; or __lpt_at list; or __lpt_at split; or __lpt_at join; or __lpt_at extract' -l layout -r -F -d "The mission's layouts of headers and parts, a TOML file"
 complete -c lpt -n '__lpt_at list' -l strict -d 'End at the first place where no packet is'

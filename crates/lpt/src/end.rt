@@ -136,16 +136,23 @@ fn named(rt: &impl Eprint, fault: ToolFault) -> Status {
 pub fn explained<R: Print + Eprint>(rt: &R, alloc: Global, unasked: &NoCommand<'_>) -> Status {
     match unasked {
         NoCommand::Said(error) => said(rt, alloc, error),
-        NoCommand::Fault(WordFault::Memory) => named(rt, ToolFault::Memory),
-        NoCommand::Fault(fault) => match fault.text(alloc) {
-            Ok(text) => {
-                let _ = rt.eprint("error: ");
-                let _ = rt.eprintln(text.as_str());
-                let _ = rt.eprintln("\nFor more information, try '--help'.");
-                Status::Unreadable
-            }
-            Err(_) => named(rt, ToolFault::Memory),
-        },
+        NoCommand::Fault(fault) => word_refused(rt, alloc, fault),
+    }
+}
+
+/// The status by which the program ends where a word is refused, after it was told why.
+pub fn word_refused(rt: &impl Eprint, alloc: Global, fault: &WordFault<'_>) -> Status {
+    if matches!(fault, WordFault::Memory) {
+        return named(rt, ToolFault::Memory);
+    }
+    match fault.text(alloc) {
+        Ok(text) => {
+            let _ = rt.eprint("error: ");
+            let _ = rt.eprintln(text.as_str());
+            let _ = rt.eprintln("\nFor more information, try '--help'.");
+            Status::Unreadable
+        }
+        Err(_) => named(rt, ToolFault::Memory),
     }
 }
 

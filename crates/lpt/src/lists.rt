@@ -1,6 +1,5 @@
 //! Packets listed, from a file or standard input to standard output.
 
-ghost use Rattle.std.specs.Prelude.{IfOk, IfSome};
 ghost use Rattle.lpt_carried.specs.Layouts.{SizesFit};
 ghost use Rattle.lpt_events.specs.Configs.{IsConfig};
 ghost use Rattle.lpt_part.specs.Splitting.{IsPartSize};
@@ -8,7 +7,7 @@ ghost use Rattle.lpt_part.specs.Splitting.{IsPartSize};
 use crate::decoding::part_body;
 use crate::end::{Failure, Status, tell_place};
 use crate::input::{Packets, opened_packets, packets_end};
-use crate::layouts::{self, PART_FIELDS, kind_of, tell_front, tell_own_front};
+use crate::layouts::{PART_FIELDS, kind_of, own_or_read, tell_front, tell_own_front};
 use crate::progress::Voice;
 use crate::streams::{finish, first_failure, output};
 use lpt_carried::Layouts;
@@ -38,7 +37,7 @@ pub fn list(
     requires { IsConfig config.now }
 {
     let voice = voice.beside_output(rt);
-    let Some(layouts) = layouts_for(rt, config.part_size, words)? else {
+    let Some(layouts) = own_or_read(rt, config.part_size, words.layout)? else {
         return Ok(Status::Unreadable);
     };
     let span = words.span;
@@ -49,18 +48,6 @@ pub fn list(
     let status = list_packets(rt, voice, config, &layouts, words, &mut source);
     drop(source);
     status
-}
-
-// The layouts of the file that is given, or the profile's with parts of `p` octets; none where the
-// file's are refused, after standard error was told so.
-fn layouts_for(rt: &HostRuntime, p: u32, words: &ListWords<'_>) -> Result<Option<Layouts>, Failure>
-    requires { IsPartSize p }
-    ensures { IfOk result (λ l. IfSome l SizesFit) }
-{
-    match words.layout {
-        Some(path) => layouts::read(rt, path),
-        None => Ok(Some(Layouts::own_of(p))),
-    }
 }
 
 // The same of packets that were opened.

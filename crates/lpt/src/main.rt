@@ -16,17 +16,16 @@ mod counts;
 mod decoding;
 mod eaches;
 mod end;
+mod extract_joins;
+mod extract_notices;
 mod extracts;
-mod files;
 mod filling;
 mod glancing;
 mod input;
 mod joins;
 mod keeping;
 mod layout_eaches;
-mod layout_extracts;
 mod layout_joins;
-mod layout_splits;
 mod layouts;
 mod links;
 mod linting;
@@ -40,6 +39,7 @@ mod requests;
 mod saving;
 mod shelling;
 mod spacecraft;
+mod split_eaches;
 mod splits;
 mod streams;
 mod ticker;
@@ -124,9 +124,8 @@ fn done<T: Threads + Wait + Sync>(
         Command::Lint(script) => linting::lint(rt, script),
         Command::Decode(words) => decoding::decode(rt, alone(rt, settings)?, words),
         Command::List(words) => lists::list(rt, voice, &alone(rt, settings)?, words),
-        Command::Split(words) => files::split(rt, &alone(rt, settings)?, words),
-        Command::SplitEach(words) => splits::split_all(rt, &alone(rt, settings)?, words),
-        Command::SplitLayout(words) => layout_splits::split(rt, &alone(rt, settings)?, words),
+        Command::Split(words) => splits::split(rt, &alone(rt, settings)?, words),
+        Command::SplitEach(words) => split_eaches::split_all(rt, &alone(rt, settings)?, words),
         Command::JoinLayout(words) => layout_joins::join(rt, voice, &alone(rt, settings)?, words),
         Command::Join(words) => joined(rt, voice, &alone(rt, settings)?, words),
         Command::Link(words) => links::link(rt, voice, words),

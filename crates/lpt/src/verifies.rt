@@ -4,23 +4,28 @@ use crate::counts::tell_no_packets;
 use crate::end::{Failure, Status, tell_text};
 use crate::input::{name_of, opened_packets, packets_end};
 use crate::progress::Voice;
-use crate::streams::{finish, output};
+use crate::streams::{finish, first_failure, output};
 use lpt_command_line::VerifyWords;
 use lpt_list::Form;
 use lpt_outcomes::{
-    Asked, Passed, Requests, are_settled, read_reports, read_requests, write_outcomes,
+    Asked, Passed, Requests, are_settled, read_reports, read_requests, write_open, write_outcomes,
 };
 use lpt_text::StreamFault;
+use lpt_tool::ToolFault;
 use std::alloc::{AllocError, Global};
 
-/// Says what became of each request, by the reports on it, and then what of requests and reports
-/// was passed over.
+/// Says what became of each request, by the reports on it, or writes the packets of those that are
+/// open, and then says what of requests and reports was passed over.
 ///
 /// Errors: `Read` where requests or reports can't be opened or read, or their capture is wrong;
 /// `Write`, `Memory`.
 pub fn verify(rt: &HostRuntime, voice: Voice, words: &VerifyWords<'_>) -> Result<Status, Failure> {
     let mut requests = requests_at(rt, voice, words.requests)?;
     let of_reports = reported(rt, voice, &mut requests.asked, &words.reports)?;
+    if words.open {
+        put_open(rt, voice, words.requests, &requests.asked)?;
+        return Ok(told_beside(rt, words, &requests, &of_reports));
+    }
     told(rt, words, &requests, &of_reports)
 }
 
@@ -74,12 +79,44 @@ fn told(
     let written = write_outcomes(rt.alloc(), form, &requests.asked, &mut out);
     finish(rt, out)?;
     written?;
+    Ok(told_beside(rt, words, requests, of_reports))
+}
+
+// Writes the packets of those requests at this path that are open.
+fn put_open(rt: &HostRuntime, voice: Voice, path: &str, asked: &[Asked]) -> Result<(), Failure> {
+    let paths = [path];
+    let mut source = opened_packets(rt, voice, &paths, None, None)?;
+    let mut out = output(rt)?;
+    let written = write_open(rt.alloc(), asked, &mut source, &mut out);
+    let failure = match written {
+        Ok(0) => None,
+        Ok(_) => Some(read_once(rt, path)),
+        Err(StreamFault::Read) => packets_end(rt, voice, &source, &paths, true),
+        Err(fault) => Some(Failure::from(fault)),
+    };
+    drop(source);
+    first_failure(finish(rt, out), failure)
+}
+
+// Why a file that can be read once alone isn't enough.
+fn read_once(rt: &HostRuntime, path: &str) -> Failure {
+    let place = format!(in rt.alloc(); "{path}: --open reads it twice, and it had less then");
+    Failure::at(ToolFault::Read, place)
+}
+
+// Tells what was passed over, and gives whether nothing is open.
+fn told_beside(
+    rt: &HostRuntime,
+    words: &VerifyWords<'_>,
+    requests: &Requests,
+    of_reports: &Passed,
+) -> Status {
     tell_among_requests(rt, words.requests, requests);
     tell_among_reports(rt, of_reports);
     if are_settled(&requests.asked, &requests.passed, of_reports) {
-        Ok(Status::Done)
+        Status::Done
     } else {
-        Ok(Status::Refused)
+        Status::Refused
     }
 }
 

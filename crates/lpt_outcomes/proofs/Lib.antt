@@ -1,4 +1,5 @@
 pub mod AnswerLemmas
 pub mod KeyLemmas
+pub mod OpenLemmas
 pub mod SettleLemmas
 pub mod TakeLemmas

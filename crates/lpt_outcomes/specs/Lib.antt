@@ -1,6 +1,7 @@
 pub mod Answers
 pub mod Keys
 pub mod Lines
+pub mod Opened
 pub mod Passing
 pub mod Reports
 pub mod Requests

@@ -37,6 +37,7 @@ impl Asked {
     ghost use Rattle.std.specs.Prelude.{◌≡◌};
     ghost use Rattle.lpt_outcomes.specs.Answers.{answered_by};
     ghost use Rattle.lpt_outcomes.specs.Keys.{key_of};
+    ghost use Rattle.lpt_outcomes.specs.Opened.{is_open};
     ghost use Rattle.lpt_outcomes.specs.Settled.{is_acknowledged, is_settled};
 
     // What names it.
@@ -70,6 +71,13 @@ impl Asked {
         ensures { result ≡ is_settled self.now }
     {
         self.outcome.failure.is_none() && self.outcome.has_last(self.flags)
+    }
+
+    // Whether nothing tells its end: neither that it failed, nor the last success that it asks for.
+    pub(crate) fn is_open(&self) -> bool
+        ensures { result ≡ is_open self.now }
+    {
+        self.outcome.failure.is_none() && !self.outcome.has_last(self.flags)
     }
 }
 
