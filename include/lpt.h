@@ -307,6 +307,20 @@ enum LptPieceKind { LPT_PIECE_WHOLE = 1, LPT_PIECE_DAMAGED = 2, LPT_PIECE_STRAY 
    that isn't the next; a part contradicts another. */
 enum LptReason { LPT_REASON_EXPIRED = 1, LPT_REASON_DISCONTINUITY = 2, LPT_REASON_CONFLICT = 3 };
 
+/* The name of a reason, as docs/C.md has it; "unknown" of another number. */
+static inline const char *lpt_reason_name(uint32_t reason) {
+    switch (reason) {
+    case LPT_REASON_EXPIRED:
+        return "expired";
+    case LPT_REASON_DISCONTINUITY:
+        return "discontinuity";
+    case LPT_REASON_CONFLICT:
+        return "conflict";
+    default:
+        return "unknown";
+    }
+}
+
 /* Why a request wasn't accepted, the first two; why its execution didn't start, the others. */
 enum LptFailure {
     LPT_FAILURE_UNKNOWN_TYPE = 1,
@@ -318,6 +332,30 @@ enum LptFailure {
     LPT_FAILURE_NO_IDENTIFIER = 7,
     LPT_FAILURE_TOO_MANY_OPEN = 8
 };
+
+/* The name of a failure code; "unknown" of a code of another's, which a report may bear. */
+static inline const char *lpt_failure_name(uint32_t failure) {
+    switch (failure) {
+    case LPT_FAILURE_UNKNOWN_TYPE:
+        return "unknown type";
+    case LPT_FAILURE_BODY:
+        return "body";
+    case LPT_FAILURE_UNKNOWN_MEMORY:
+        return "unknown memory";
+    case LPT_FAILURE_OUT_OF_RANGE:
+        return "out of range";
+    case LPT_FAILURE_CHECKSUM:
+        return "checksum";
+    case LPT_FAILURE_REPLY_TOO_LONG:
+        return "reply too long";
+    case LPT_FAILURE_NO_IDENTIFIER:
+        return "no identifier";
+    case LPT_FAILURE_TOO_MANY_OPEN:
+        return "too many open";
+    default:
+        return "unknown";
+    }
+}
 
 /* The longest packet, and the longest message that is sent in parts, in octets; so many of a stream
    as always show which piece is in front; and the room that lpt_count_strays is quick with. */
@@ -565,7 +603,7 @@ uint32_t lpt_write_abort(uint16_t id, uint16_t reason, uint8_t *out, size_t out_
 typedef struct LptReport {
     uint32_t request; /* the request ID */
     uint16_t failed;  /* 1 of a failure, else 0 */
-    uint16_t code;    /* the failure code; 0 of a success */
+    uint16_t code;    /* the failure code as it stands there, any 16 bits; 0 of a success */
 } LptReport;
 
 /* Reads a message's body as the report of this subtype: 1, 3, 7 of success, 2, 4 of failure.

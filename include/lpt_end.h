@@ -49,7 +49,8 @@ enum LptMode { LPT_MODE_ANY = 0, LPT_MODE_STRICT = 1 };
 /* An end. */
 typedef struct LptEnd LptEnd;
 
-/* What is fixed of an end. Both ends of a link have the same, in every value but the clock. */
+/* What is fixed of an end. Both ends of a link have the same, in every value but the clock; and so
+   has an end that is made again of a state, else lpt_end_resume answers LPT_E_STATE_CONFIG. */
 typedef struct LptConfig {
     uint16_t apid;       /* of all packets, 0 to 2046 */
     uint32_t part_size;  /* in octets, 4 to 1024 */
@@ -107,6 +108,30 @@ enum LptOutcomeKind {
     LPT_OUTCOME_IGNORED = 8         /* nothing was made of the packet: why, as follows */
 };
 
+/* The name of an outcome's kind, as docs/C.md has it; "unknown" of another number. */
+static inline const char *lpt_outcome_name(uint32_t outcome) {
+    switch (outcome) {
+    case LPT_OUTCOME_KEPT:
+        return "kept";
+    case LPT_OUTCOME_AGAIN:
+        return "again";
+    case LPT_OUTCOME_RELEASED:
+        return "released";
+    case LPT_OUTCOME_PLAIN_RELEASED:
+        return "plain released";
+    case LPT_OUTCOME_REPORT_NOTED:
+        return "report noted";
+    case LPT_OUTCOME_ABORT_NOTED:
+        return "abort noted";
+    case LPT_OUTCOME_BROKEN:
+        return "broken";
+    case LPT_OUTCOME_IGNORED:
+        return "ignored";
+    default:
+        return "unknown";
+    }
+}
+
 /* Why nothing was made of a packet: it isn't read, or not as a telecommand at the spacecraft or
    telemetry on ground; it is idle; it has another APID; it should be a part or a report of an
    abortion, and its body isn't read; its transaction has ended; as many receptions are open as the
@@ -119,6 +144,26 @@ enum LptWhy {
     LPT_WHY_CLOSED = 5,
     LPT_WHY_NO_ROOM = 6
 };
+
+/* The name of a why; "unknown" of another number. */
+static inline const char *lpt_why_name(uint32_t why) {
+    switch (why) {
+    case LPT_WHY_UNREADABLE:
+        return "unreadable";
+    case LPT_WHY_IDLE:
+        return "idle";
+    case LPT_WHY_FOREIGN_APID:
+        return "foreign apid";
+    case LPT_WHY_BAD_PART:
+        return "bad part";
+    case LPT_WHY_CLOSED:
+        return "closed";
+    case LPT_WHY_NO_ROOM:
+        return "no room";
+    default:
+        return "unknown";
+    }
+}
 
 /* What became of a packet. What its kind doesn't say is 0. */
 typedef struct LptOutcome {
@@ -210,6 +255,22 @@ enum LptAppliedKind {
     LPT_APPLIED_REFUSED = 4 /* `value` is the LptFailure */
 };
 
+/* The name of its kind, as docs/C.md has it; "unknown" of another number. */
+static inline const char *lpt_applied_name(uint32_t applied) {
+    switch (applied) {
+    case LPT_APPLIED_CARRIED_OUT:
+        return "carried out";
+    case LPT_APPLIED_OPENED:
+        return "opened";
+    case LPT_APPLIED_SILENT:
+        return "silent";
+    case LPT_APPLIED_REFUSED:
+        return "refused";
+    default:
+        return "unknown";
+    }
+}
+
 /* What its kind doesn't say is 0. */
 typedef struct LptApplied {
     uint32_t kind;
@@ -252,6 +313,7 @@ uint32_t lpt_end_asked_area(LptEnd *end, size_t number, LptArea *area);
  * Drops the oldest request that was released and not read yet, in place of lpt_end_read: it is
  * never executed. What stands in its place asks nothing: lpt_end_execute lets it go in its turn,
  * says LPT_APPLIED_SILENT of it, and makes no report. lpt_end_drop_read drops one that was read.
+ * Of ends that drop requests less is proved: docs/C.md says what.
  * LPT_DONE; LPT_E_NO_JOB, as always on ground; LPT_E_ALLOCATION.
  */
 LPT_MUST_USE
@@ -396,6 +458,16 @@ enum LptNameState { LPT_NAME_FREE = 0, LPT_NAME_OPEN = 1, LPT_NAME_CLOSED = 2 };
 LPT_MUST_USE
 uint32_t lpt_end_name(LptEnd *end, uint32_t direction, const LptName *name, uint32_t *state);
 
+/*
+ * Tells the first closed name of a direction from this one on, in the order of sources, and of one
+ * source in that of identifiers, and changes nothing: to list all, begin with {0, 0}, and go on with
+ * the name after the one that was told. LPT_DONE, and *name is it; LPT_E_RANGE for another
+ * direction; LPT_E_NOTHING where no name is closed from there on. It goes through the names in
+ * use: of 65,536 it takes about half a millisecond.
+ */
+LPT_MUST_USE
+uint32_t lpt_end_closed(LptEnd *end, uint32_t direction, const LptName *from, LptName *name);
+
 /* What an end has to do, in numbers. */
 typedef struct LptView {
     uint32_t clock;    /* in ticks */
@@ -471,8 +543,7 @@ uint32_t lpt_end_state(LptEnd *end, uint8_t *out, size_t out_len, size_t *needed
 /*
  * Makes an end of a state, in place of lpt_end_new: what lpt_end_restart would have left of the end
  * whose state it is, with these memories, nothing released and nothing to be sent. They are those
- * of that end, in the same order. The clock is the state's; that of the configuration isn't looked
- * at.
+ * of that end, in any order. The clock is the state's; that of the configuration isn't looked at.
  * LPT_DONE, and *end is its address; LPT_E_RANGE for another side or mode; LPT_E_CONFIG_APID to
  * LPT_E_CONFIG_OUTGOING; LPT_E_MEMORIES as of lpt_end_new; LPT_E_STATE_SHORT to
  * LPT_E_STATE_CHECKSUM, in that order; LPT_E_NO_NUMBER where no start follows the state's;

@@ -129,6 +129,7 @@ _OF_END: dict[str, tuple[Any, ...]] = {
     "lpt_end_tick": (POINTER,),
     "lpt_end_retire": (POINTER, U32, POINTER),
     "lpt_end_name": (POINTER, U32, POINTER, POINTER),
+    "lpt_end_closed": (POINTER, U32, POINTER, POINTER),
     "lpt_end_view": (POINTER, POINTER),
     "lpt_end_reception": (POINTER, SIZE, POINTER),
     "lpt_end_missing": (POINTER, POINTER, U16, POINTER),

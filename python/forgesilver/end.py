@@ -481,6 +481,19 @@ class End:
         self._done(_end.lpt_end_name, int(Direction(direction)), byref(named), byref(state))
         return NameState(state.value)
 
+    def closed_names(self, direction: Direction, start: Named = (0, 0)) -> Iterator[Name]:
+        """The names of a direction from this one on that are closed at this end, in their order."""
+        way, at, found = int(Direction(direction)), _c_name(start), _library.LptName()
+        while True:
+            call = self._call(_end.lpt_end_closed, way, byref(at), byref(found))
+            if self._unless(_NOTHING, call):
+                return
+            yield Name(found.source, found.id)
+            after = found.source * 0x10000 + found.id + 1
+            if after > 0xFFFFFFFF:
+                return
+            at.source, at.id = divmod(after, 0x10000)
+
     def view(self) -> View:
         """What the end has to do, in numbers; nothing changes."""
         told = _library.LptView()

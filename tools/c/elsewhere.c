@@ -253,6 +253,27 @@ static void makings(LptEnd *here, LptEnd *there) {
     lpt_end_free(end);
 }
 
+/* An end is made again with the same memories, told in the other order: each has what it had. */
+static void other_order(LptEnd *here) {
+    static const LptMemory told[] = {{9, SIZE, OTHER}, {1, 0, SIZE}};
+    static const LptMemory twice[] = {{9, 0, 1}, {9, 0, 1}};
+    uint8_t state[512];
+    LptEnd *end = NULL;
+    size_t at, len = 0, state_len = 0;
+    EXPECT(lpt_end_state(here, state, sizeof state, &state_len) == LPT_DONE);
+    EXPECT(lpt_end_memory(here, 1, content, SIZE, &len) == LPT_DONE && len == SIZE);
+    EXPECT(lpt_end_memory(here, 9, content + SIZE, OTHER, &len) == LPT_DONE && len == OTHER);
+    EXPECT(lpt_end_resume(&end, LPT_SIDE_SPACECRAFT, &config, state, state_len, twice, 2, content,
+                          sizeof content) == LPT_E_MEMORIES);
+    EXPECT(lpt_end_resume(&end, LPT_SIDE_SPACECRAFT, &config, state, state_len, told, 2, content,
+                          sizeof content) == LPT_DONE);
+    for (at = 0; at < 2; at++) {
+        EXPECT(lpt_end_memory(end, told[at].id, copy, sizeof copy, &len) == LPT_DONE);
+        EXPECT(len == told[at].len && memcmp(copy, content + told[at].at, len) == 0);
+    }
+    lpt_end_free(end);
+}
+
 int main(void) {
     LptEnd *ground = NULL, *here = NULL, *there = NULL;
     size_t at;
@@ -267,6 +288,7 @@ int main(void) {
     same_packets(ground, here, there);
     makings(here, there);
     faults(ground, here, there);
+    other_order(here);
     lpt_end_free(ground);
     lpt_end_free(here);
     lpt_end_free(there);

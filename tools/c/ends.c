@@ -623,6 +623,46 @@ static void kept(void) {
     lpt_end_free(ground);
 }
 
+/* Whether the first closed name from one on is this. */
+static int closed_is(LptEnd *end, LptName from, uint16_t source, uint16_t id) {
+    LptName name = {99, 99};
+    return lpt_end_closed(end, LPT_DIRECTION_UP, &from, &name) == LPT_DONE &&
+           name.source == source && name.id == id;
+}
+
+/* Closed names are told one after the other, also by an end that was made again of its state. */
+static void closed_names(void) {
+    static const LptName USED[] = {{2, 1}, {1, 65535}, {1, 9}, {1, 3}, {1, 2}};
+    LptEnd *ground = NULL, *again = NULL;
+    LptName from = {0, 0}, name = {98, 99};
+    size_t at, len = 0;
+    make(&ground, LPT_SIDE_GROUND, &CONFIG);
+    EXPECT(lpt_end_closed(ground, LPT_DIRECTION_UP, &from, &name) == LPT_E_NOTHING);
+    for (at = 0; at < 5; at++) {
+        DONE(lpt_end_open(ground, &USED[at], message, 20));
+        DONE(lpt_end_finish(ground, &USED[at]));
+    }
+    DONE(lpt_end_open(ground, named(1), message, 20));
+    DONE(lpt_end_retire(ground, LPT_DIRECTION_UP, named(3)));
+    EXPECT(closed_is(ground, from, 1, 2));
+    EXPECT(closed_is(ground, *named(2), 1, 2));
+    EXPECT(closed_is(ground, *named(3), 1, 9));
+    EXPECT(closed_is(ground, *named(10), 1, 65535));
+    from.source = 2;
+    EXPECT(closed_is(ground, from, 2, 1));
+    from.id = 2;
+    EXPECT(lpt_end_closed(ground, LPT_DIRECTION_UP, &from, &name) == LPT_E_NOTHING);
+    EXPECT(lpt_end_closed(ground, LPT_DIRECTION_DOWN, named(0), &name) == LPT_E_NOTHING);
+    EXPECT(lpt_end_closed(ground, 2, named(0), &name) == LPT_E_RANGE);
+    EXPECT(name.source == 98 && name.id == 99);
+    DONE(lpt_end_state(ground, got, sizeof got, &len));
+    DONE(resumed(&again, got, len));
+    EXPECT(closed_is(again, *named(0), 1, 1));
+    EXPECT(closed_is(again, *named(3), 1, 9));
+    lpt_end_free(again);
+    lpt_end_free(ground);
+}
+
 /* Octets that are no state: each octet another one, and each length. */
 static void refused_states(void) {
     LptEnd *end = NULL;
@@ -776,6 +816,7 @@ int main(void) {
     copied();
     new_start();
     kept();
+    closed_names();
     refused_states();
     dropped();
     open_ones();

@@ -27,6 +27,7 @@ pub mod Players
 pub mod Playing
 pub mod Promise
 pub mod Queues
+pub mod Reporting
 pub mod Retiring
 pub mod Serving
 pub mod Silence

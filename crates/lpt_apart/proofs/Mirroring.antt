@@ -2,7 +2,6 @@
 use Rattle.std.proofs.Common.{◌≡◌, ◌∙◌, ap, sym, refl, ℕ, false, not, ◌&&◌, ◌||◌, List, [], ◌∷◌, Option, Some, None}
 use Rattle.std.specs.List.{slice_get}
 use Rattle.lpt_packet.specs.declared.direction.Direction.TheVariants.{Up, Down}
-use Rattle.lpt_memory.specs.Meanings.{Sizes}
 use Rattle.lpt_memory.specs.Memories.{Contents, sizes_of}
 use Rattle.lpt_memory.specs.Readings.{Source}
 use Rattle.lpt_events.specs.Arrivals.{arrival_in}
@@ -19,13 +18,13 @@ use Rattle.lpt_node.specs.Restarts.{restarted}
 use Rattle.lpt_node.specs.Sending.{sent_of}
 use Rattle.lpt_node.specs.Times.{due}
 use Rattle.lpt_apart.specs.Clocks.{later as at_later, no_pair_later}
-use Rattle.lpt_apart.specs.Drops.{Drops, EndsThatDropServe, LetsGo, Makes, Reads, Service, Turn, CanTurn, CanTurnAll, IsNoWork, no_service, read_as, turned, turned_all, with_craft}
+use Rattle.lpt_apart.specs.Drops.{Drops, EndsThatDropServe, LetsGo, Makes, Reads, Service, Turn, CanTurn, CanTurnAll, IsNoWork, no_service, read_as, reading_for, text_of, turned, turned_all, with_craft}
 use Rattle.lpt_apart.specs.Ends.{Ends, PutOut, is_part, put_out, without}
 use Rattle.lpt_apart.specs.Facts.{Opened, Asked, Executed, Retired, Restarted, is_same}
 use Rattle.lpt_apart.specs.Moves.{CanMove, Do, Free, Move, Pair, moved}
 use Rattle.lpt_apart.specs.Steps.{Accept, Apply, Claim, Commit, Expire, Finish, Open, Plain, Restart, Retire, Send, Tick, with_report as reporting}
 use Rattle.lpt_apart.proofs.Clocks.{IsReached, begun_later}
-use Rattle.lpt_apart.proofs.Serving.{AreOf, IsQueued, queued, text_of}
+use Rattle.lpt_apart.proofs.Serving.{AreOf, IsQueued, queued}
 use Rattle.lpt_apart.proofs.Upward.{adds, adds_one, up_both, up_down, up_left, up_less}
 use Rattle.lpt_apart.proofs.Alike.{same_executed, same_read, same_sent}
 use Rattle.lpt_apart.proofs.Beside.{Core, IsMirrored, Rest, beside_craft, core_of, executes, expires_craft, expires_ground, goes, mirror, send_up, takes_down, takes_up, up_packet}
@@ -274,40 +273,33 @@ begins_so c first g k good_g good_k =
       like = record { awaits = λ name. refl; asked = λ b has. has; sent = tt };
     }
 
--- what was read at the front is what waits first, where that wasn't dropped
-first_waits : (apid : ℕ) (sizes : Sizes) (js : List Job) (ws : List (Option (List ℕ)))
-    (r : Source) (m : List ℕ)
-    → AreOf apid sizes js ws
+-- what was read at the front is what waits first
+first_waits : (apid : ℕ) (ms : Contents) (js : List Job) (ws : List (Option (List ℕ)))
+    (r : Source) (w : Option (List ℕ))
+    → AreOf apid (sizes_of ms) js ws
     → head_of js ≡ Ready r
-    → slice_get ws 0 ≡ Some (Some m)
-    → r.message ≡ m
-first_waits apid sizes [] ws r m are is first = absurd cc
-first_waits apid sizes (Waiting n ∷ js) ws r m are is first = absurd cc
-first_waits apid sizes (Claimed ∷ js) ws r m are is first = absurd cc
-first_waits apid sizes (Committed s ∷ js) [] r m are is first = absurd are
-first_waits apid sizes (Committed s ∷ js) (w ∷ ws) r m are is first =
+    → slice_get ws 0 ≡ Some w
+    → r ≡ reading_for apid ms (text_of w)
+first_waits apid ms [] ws r v are is first = absurd cc
+first_waits apid ms (Waiting n ∷ js) ws r v are is first = absurd cc
+first_waits apid ms (Claimed ∷ js) ws r v are is first = absurd cc
+first_waits apid ms (Committed s ∷ js) [] r v are is first = absurd are
+first_waits apid ms (Committed s ∷ js) (w ∷ ws) r v are is first =
     let same : s ≡ r = cc in
-    let there : w ≡ Some m = cc in
-    ap (λ (x : Source). x.message) (sym same ∙ are.0) ∙ ap text_of there
-
-next_waits : (c : Config) (first : Contents) (s : Service) (r : Source) (m : List ℕ)
-    → IsQueued c first s
-    → head_of s.pair.ends.on_craft.jobs.jobs ≡ Ready r
-    → slice_get s.waits 0 ≡ Some (Some m)
-    → r.message ≡ m
-next_waits c first s r m q is there =
-    first_waits c.apid (sizes_of s.pair.ends.memories) s.pair.ends.on_craft.jobs.jobs s.waits r m
-    q.jobs is there
+    let there : w ≡ v = cc in
+    sym same ∙ are.0 ∙ ap (λ (o : Option (List ℕ)). reading_for apid ms (text_of o)) there
 
 pub ends_that_drop_serve : EndsThatDropServe
 ends_that_drop_serve c first g k xs good_g good_k can =
-    let q : IsQueued c first (turned_all c (no_service c first g k) xs) =
+    let s : Service = turned_all c (no_service c first g k) xs in
+    let q : IsQueued c first s =
     queued c first (no_service c first g k) xs (record { jobs = tt; memories = refl }) can in
     record {
       sent =
           (mirrored c first g good_g (no_service c first g k) xs
           (begins_so c first g k good_g good_k) can).like.sent;
       memories = q.memories;
-      next = λ r m is there.
-          next_waits c first (turned_all c (no_service c first g k) xs) r m q is there;
+      next = λ r w is there.
+          first_waits c.apid s.pair.ends.memories s.pair.ends.on_craft.jobs.jobs s.waits r w q.jobs
+          is there;
     }

@@ -1,12 +1,12 @@
 -- The requests that wait stand as the spacecraft's node has them, and the memories are what the
 -- executed ones left.
-use Rattle.std.proofs.Common.{◌≡◌, ◌∙◌, ap, sym, subst, refl, ℕ, suc, ◌+◌, Bool, true, false, ◌==◌, if◌then◌else◌, List, [], ◌∷◌, ◌++◌, drop, set, Option, Some, None, append-nil, arith}
+use Rattle.std.proofs.Common.{◌≡◌, ◌∙◌, ap, sym, subst, refl, ℕ, suc, List, [], ◌∷◌, ◌++◌, drop, set, Option, Some, None, append-nil, arith}
 use Rattle.std.specs.Prelude.{⊤}
 use Rattle.std.specs.List.{slice_get}
 use Rattle.std.specs.Option.{option_and_then, option_map}
 use Rattle.lpt_packet.specs.declared.direction.Direction.TheVariants.{Up, Down}
 use Rattle.lpt_packet.specs.Names.{Name}
-use Rattle.lpt_memory.specs.Meanings.{command_meaning, meaning, Meaning, Silent, Sizes}
+use Rattle.lpt_memory.specs.Meanings.{meaning, Meaning, Sizes}
 use Rattle.lpt_memory.specs.Memories.{Contents, effect, sizes_of}
 use Rattle.lpt_memory.specs.Ranges.{MeaningFits}
 use Rattle.lpt_memory.specs.Readings.{Source, meant}
@@ -17,7 +17,7 @@ use Rattle.lpt_events.specs.NamedParts.{NamedPart}
 use Rattle.lpt_events.specs.declared.config.Config.{Config}
 use Rattle.lpt_events.specs.declared.side.Side.TheVariants.{Ground, Craft}
 use Rattle.lpt_execution.specs.declared.ending.Ending.{Ending}
-use Rattle.lpt_jobs.specs.Jobs.{Head, Jobs, NoJob, NotReady, Ready, after_claim, after_commit, claimed_in, head_by, head_of, message_in, next_claim, oldest, without_front}
+use Rattle.lpt_jobs.specs.Jobs.{Head, Jobs, NoJob, NotReady, Ready, claimed_in, head_of, message_in, next_claim, oldest, without_front}
 use Rattle.lpt_jobs.specs.declared.job.Job.{Job}
 use Rattle.lpt_jobs.specs.declared.job.Job.TheVariants.{Claimed, Committed, Waiting}
 use Rattle.lpt_journal.specs.Jobs.{left_by}
@@ -26,29 +26,23 @@ use Rattle.lpt_ledger.specs.declared.state.State.{State}
 use Rattle.lpt_ledger.specs.declared.state.State.TheVariants.{Free as AFree, Open as AnOpen, Closed}
 use Rattle.lpt_model.specs.State.{as_list}
 use Rattle.lpt_node.specs.Accepting.{accepted}
-use Rattle.lpt_node.specs.Jobs.{claimed_of, committed, ending_at, executed_ending, executed_of, refusal_apply_of, refusal_claim_of, with_opened}
+use Rattle.lpt_node.specs.Jobs.{claimed_of, ending_at, executed_ending, executed_of, refusal_apply_of, refusal_claim_of, with_opened}
 use Rattle.lpt_node.specs.Nodes.{NodeData, message_at}
 use Rattle.lpt_node.specs.Receivers.{ReceiverState, after_offer, if_free, kept_of, parts_with, received, received_from, table_in}
 use Rattle.lpt_node.specs.Receiving.{abort_head, after_received, parted, receiver_of, with_report}
 use Rattle.lpt_node.specs.Sending.{sent_of}
 use Rattle.lpt_node.specs.Times.{due, expired_of}
-use Rattle.lpt_node.specs.declared.accepted.Accepted.{Accepted}
 use Rattle.lpt_pus.specs.Telemetry.{Telemetry}
 use Rattle.lpt_reception.specs.Received.{Parts}
 use Rattle.lpt_table.specs.Offering as offering
 use Rattle.lpt_table.specs.Offering.{OfferKind, offered}
 use Rattle.lpt_table.specs.Tables.{Entries, TableState}
-use Rattle.lpt_apart.specs.Drops.{Drops, LetsGo, Makes, Reads, Service, Turn, CanTurn, CanTurnAll, IsNoWork, oldest_of, read_as, turned, turned_all}
-use Rattle.lpt_apart.specs.Moves.{CanMove, Do, Free, Move, moved}
+use Rattle.lpt_apart.specs.Drops.{Drops, LetsGo, Makes, Reads, Service, Turn, CanTurn, CanTurnAll, IsNoWork, oldest_of, read_as, text_of, turned, turned_all}
+use Rattle.lpt_apart.specs.Moves.{CanMove, Do, Free, Move}
 use Rattle.lpt_apart.proofs.Handed.{means_nothing, put_in_place, waits}
 use Rattle.lpt_apart.specs.Steps.{Accept, Apply, Claim, Commit, Expire, Finish, Open, Plain, Restart, Retire, Send, Tick}
 
 -- ---- what a place holds
-
--- the message that is read in a place: of a dropped request there are no octets
-abbrev pub text_of : Option (List ℕ) → List ℕ
-text_of None = []
-text_of (Some m) = m
 
 -- a job is of this request, or of a dropped one
 abbrev IsOf : ℕ → Sizes → Job → Option (List ℕ) → Type 0

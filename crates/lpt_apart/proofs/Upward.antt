@@ -1,17 +1,16 @@
 -- Two logs and two lists of packets that are alike for requests, which go up.
-use Rattle.std.proofs.Common.{◌≡◌, ◌∙◌, ap, sym, subst, refl, ℕ, zero, suc, ◌<◌, Bool, true, false, not, ◌&&◌, ◌==◌, if◌then◌else◌, List, [], ◌∷◌, length, Option, Some, None, is_some, arith}
+use Rattle.std.proofs.Common.{◌≡◌, ◌∙◌, ap, sym, subst, refl, ℕ, zero, suc, Bool, true, false, ◌&&◌, ◌==◌, if◌then◌else◌, List, [], ◌∷◌, Option, Some, None, is_some, arith}
 use Rattle.std.specs.List.{filter}
 use Rattle.std.specs.Option.{option_map_or}
-use Rattle.std.specs.Prelude.{Contains, cond, slice_get, slice_index_or, ⊤}
+use Rattle.std.specs.Prelude.{Contains, cond, slice_get, ⊤}
 use Rattle.std.specs.Result.{result_ok}
-use Rattle.lpt_packet.specs.declared.direction.Direction.{Direction}
 use Rattle.lpt_packet.specs.declared.direction.Direction.TheVariants.{Up, Down}
 use Rattle.lpt_packet.specs.Names.{Name}
-use Rattle.lpt_packet.specs.Packets.{Fields, IdlePacket, APacket, Sight, seen}
+use Rattle.lpt_packet.specs.Packets.{IdlePacket, APacket, Sight, seen}
 use Rattle.lpt_part.specs.Aborts.{abort_in}
 use Rattle.lpt_part.specs.Parts.{part_in}
 use Rattle.lpt_pus.specs.Telemetry.{Telemetry, tm_verdict}
-use Rattle.lpt_events.specs.Arrivals.{Arrival, NotRead, AnIdle, Foreign, ARequest, AReport, NoPart, APart, AnAbort, abort_arrival, arrival, arrival_in, carried_kind, packet_arrival, part_arrival, report_arrival, sight_arrival, telemetry_arrival}
+use Rattle.lpt_events.specs.Arrivals.{Arrival, NotRead, Foreign, ARequest, AReport, NoPart, abort_arrival, arrival, arrival_in, carried_kind, packet_arrival, part_arrival, report_arrival, sight_arrival, telemetry_arrival}
 use Rattle.lpt_events.specs.declared.config.Config.{Config}
 use Rattle.lpt_events.specs.declared.outcome.Outcome.{Outcome}
 use Rattle.lpt_events.specs.declared.outcome.Outcome.TheVariants as outcome
@@ -19,8 +18,8 @@ use Rattle.lpt_events.specs.declared.side.Side.TheVariants.{Ground}
 use Rattle.lpt_journal.proofs.TestLemmas.{no_place}
 use Rattle.lpt_model.specs.State.{released_of}
 use Rattle.lpt_apart.specs.Drops.{AllSent, IsSent}
-use Rattle.lpt_apart.specs.Ends.{PutOut, is_part, put_out, without}
-use Rattle.lpt_apart.specs.Facts.{Fact, Opened, Asked, Released, Aborted, Executed, Retired, Restarted, Log, awaited, awaited_after, is_same, with_abortion, AllDue, IsDue}
+use Rattle.lpt_apart.specs.Ends.{PutOut, put_out}
+use Rattle.lpt_apart.specs.Facts.{Fact, Asked, Released, Aborted, Log, awaited, awaited_after, with_abortion, AllDue}
 use Rattle.lpt_apart.specs.Steps.{with_release}
 use Rattle.lpt_apart.proofs.Asking.{later}
 

@@ -69,6 +69,11 @@ waits_after c e (Do Apply) ws = drop 1 ws
 waits_after c e (Do (Restart Craft)) ws = []
 waits_after c e _ ws = ws
 
+-- the message that is read in a place: in that of a dropped request it has no octets
+abbrev pub text_of : Option (List ℕ) → List ℕ
+text_of None = []
+text_of (Some m) = m
+
 -- the oldest of these, where it wasn't dropped
 abbrev pub oldest_of : List (Option (List ℕ)) → List (List ℕ)
 oldest_of [] = []
@@ -79,11 +84,16 @@ abbrev pub done_after : Move → List (Option (List ℕ)) → List (List ℕ) �
 done_after (Do Apply) ws ds = ds ++ oldest_of ws
 done_after _ ws ds = ds
 
+-- a message, read for these memories
+abbrev pub reading_for : (apid : ℕ) → Contents → (message : List ℕ) → Source
+reading_for apid ms message =
+    record { apid = apid; sizes = sizes_of ms; message = message }
+
 -- the spacecraft's node once the oldest request that wasn't read is read as this message
 abbrev pub read_as : Config → Ends → List ℕ → NodeData
 read_as c e message =
     (committed (claimed e.on_craft).0 (claimed e.on_craft).1.boot (claimed e.on_craft).1.job
-    (record { apid = c.apid; sizes = sizes_of e.memories; message = message })).0
+    (reading_for c.apid e.memories message)).0
 
 -- the ends with this node of the spacecraft
 abbrev pub with_craft : Pair → NodeData → Pair
@@ -143,14 +153,15 @@ AllSent (x ∷ log) = AllSent log × IsSent x log
 
 -- Each request that was released was sent by ground. The memories are their first content, changed
 -- by the executed requests; these were released in their order, and none of them was dropped. What
--- the spacecraft executes next, once it was read, is the oldest request, where that wasn't dropped.
+-- the spacecraft executes next, once it was read, is the oldest request, or a message of no octets
+-- where that was dropped.
 pub record IsServed (c : Config) (first : Contents) (s : Service) : Type 0 where
   pub sent : AllSent s.pair.ends.log
   pub memories : s.pair.ends.memories ≡ left_by c.apid s.done first
-  pub next : (r : Source) (m : List ℕ)
+  pub next : (r : Source) (w : Option (List ℕ))
       → head_of s.pair.ends.on_craft.jobs.jobs ≡ Ready r
-      → slice_get s.waits 0 ≡ Some (Some m)
-      → r.message ≡ m
+      → slice_get s.waits 0 ≡ Some w
+      → r ≡ reading_for c.apid s.pair.ends.memories (text_of w)
 
 -- two new ends, whose clocks begin so many ticks later
 abbrev pub no_service : Config → Contents → (on_ground on_craft : ℕ) → Service

@@ -4,6 +4,7 @@ pub mod Ends
 pub mod Facts
 pub mod Moves
 pub mod Plays
+pub mod Reports
 pub mod Steps
 pub mod Told
 pub mod Whole

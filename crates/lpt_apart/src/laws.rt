@@ -4,6 +4,7 @@ ghost use Rattle.lpt_apart.specs.Clocks.{EndsWithClocksKeepThePromise};
 ghost use Rattle.lpt_apart.specs.Drops.{EndsThatDropServe};
 ghost use Rattle.lpt_apart.specs.Moves.{EndsApartAreAWorld, EndsApartKeepThePromise};
 ghost use Rattle.lpt_apart.specs.Plays.{WorldsAreEnds, StepsAreMoves};
+ghost use Rattle.lpt_apart.specs.Reports.{DroppedIsNotReported};
 ghost use Rattle.lpt_apart.specs.Whole.{EndsApartWithholdNothing, EndsWithClocksWithholdNothing, EndsWithholdNothing, MovesBringTheSame, WorldsBringTheSame};
 ghost use Rattle.lpt_apart.specs.Worlds.{EndsAreAWorld, EndsKeepThePromise};
 
@@ -88,4 +89,12 @@ pub fn moves_bring_the_same()
 /// release, and what was dropped isn't among these.
 pub fn ends_that_drop_serve()
     ensures { EndsThatDropServe }
+{}
+
+/// Whatever such ends did before, nothing is put out and nothing is opened of a request that was
+/// dropped: neither when it is dropped nor when its place is passed over. What is put out where a
+/// request is executed are the reports of this request, as it was read, and it is the newest of
+/// those that were executed.
+pub fn dropped_is_not_reported()
+    ensures { DroppedIsNotReported }
 {}

@@ -1,5 +1,8 @@
+mod AnyOrder
 pub mod AsAddress
 pub mod AsBox
+pub mod ClosedLemmas
+pub mod InOrder
 pub mod MemoryLemmas
 mod NextLemmas
 pub mod ReadyLemmas

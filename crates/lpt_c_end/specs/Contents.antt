@@ -4,6 +4,7 @@ use Rattle.lpt_events.specs.declared.side.Side.{Side}
 use Rattle.lpt_events.specs.declared.side.Side.TheVariants.{Ground, Craft}
 use Rattle.lpt_memory.specs.Meanings.{Sizes}
 use Rattle.lpt_memory.specs.Memories.{Contents, are_distinct}
+use Rattle.lpt_c_end.specs.InOrder.{by_id}
 use Rattle.lpt_c_end.specs.declared.kept.Kept.{Kept}
 use Rattle.lpt_c_end.specs.declared.kept.Kept.TheVariants.{Nowhere, Here}
 use Rattle.lpt_c_end.specs.declared.memories.LptMemory.{LptMemory}
@@ -17,9 +18,9 @@ size_told m = (m.id, m.len)
 abbrev pub memory_told : List ℕ → LptMemory → ℕ × List ℕ
 memory_told content m = (m.id, take m.len (drop m.at content))
 
--- those of all
+-- those of all, in the order of identifiers
 abbrev pub memories_told : List ℕ → List LptMemory → Contents
-memories_told content ms = map (memory_told content) ms
+memories_told content ms = by_id (map (memory_told content) ms)
 
 -- the same, of an end of this side; ground has none
 abbrev pub memories_of : Side → List LptMemory → List ℕ → Kept

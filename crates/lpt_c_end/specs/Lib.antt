@@ -1,14 +1,17 @@
 pub mod Accesses
 pub mod AddressCodes
 pub mod Addresses
+pub mod AnyOrder
 pub mod Areas
 pub mod Calls
 pub mod Changes
+pub mod Closed
 pub mod Codes
 pub mod Contents
 pub mod Copies
 pub mod HandleCodes
 pub mod Held
+pub mod InOrder
 pub mod Keeping
 pub mod Kept
 pub mod Ready

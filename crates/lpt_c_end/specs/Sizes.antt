@@ -8,6 +8,7 @@ use Rattle.lpt_memory.specs.Meanings.{Sizes, size_of}
 use Rattle.lpt_state.specs.Verdicts.{reading}
 use Rattle.lpt_c_end.specs.Changes.{IsNewWith}
 use Rattle.lpt_c_end.specs.Codes.{bad_memories, range}
+use Rattle.lpt_c_end.specs.InOrder.{by_id}
 use Rattle.lpt_c_end.specs.Keeping.{then_read, IsResumedWith}
 use Rattle.lpt_c_end.specs.Refusals.{config_refusal}
 use Rattle.lpt_c_end.specs.Words.{config_from}
@@ -39,9 +40,13 @@ are_sized ss = nat_le 1 (length ss) && nat_le (length ss) memory_limit && are_ap
 abbrev pub sizes_refusal : List LptSize → Option ℕ
 sizes_refusal sizes = if are_sized (map size_said sizes) then None else Some bad_memories
 
+-- those of all, in the order of identifiers
+abbrev pub sizes_said : List LptSize → Sizes
+sizes_said sizes = by_id (map size_said sizes)
+
 -- the memories are with the caller
 abbrev pub kept_as : List LptSize → Kept
-kept_as sizes = Elsewhere (map size_said sizes)
+kept_as sizes = Elsewhere (sizes_said sizes)
 
 -- why no end is made of this configuration and these sizes
 abbrev pub sized_refusal : LptConfig → List LptSize → Option ℕ

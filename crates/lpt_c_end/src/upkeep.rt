@@ -12,7 +12,6 @@ use crate::codes::{DONE, EMPTY, NO_NUMBER, RANGE, STILL_OPEN};
 use crate::end::End;
 use crate::handle::{LptEnd, put, take};
 use crate::words::{LptName, direction_of, name_of};
-use lpt_events::Side;
 use lpt_ledger::State;
 use lpt_packet::{Direction, Name};
 use std::alloc::Global;
@@ -148,11 +147,7 @@ impl End {
     fn may_retire(&self, direction: Direction, name: Name) -> bool
         ensures { result ≡ may_retire self.now.side self.now.node.at direction name }
     {
-        let is_sender = match self.side {
-            Side::Ground => direction == Direction::Up,
-            Side::Craft => direction == Direction::Down,
-        };
-        if is_sender {
+        if self.is_sender(direction) {
             self.node.sender(name) != State::Open
         } else {
             !self.node.is_open_reception(name)

@@ -1,13 +1,12 @@
 -- The memories of a program that drops requests.
-use Rattle.std.proofs.Common.{◌≡◌, ◌∙◌, ap, sym, subst, refl, ℕ, List, [], ◌∷◌, ◌++◌}
+use Rattle.std.proofs.Common.{◌≡◌, ◌∙◌, ap, sym, subst, refl, List, [], ◌∷◌, ◌++◌}
 use Rattle.std.specs.Prelude.{⊤}
 use Rattle.lpt_apart.specs.Clocks.{after_all}
-use Rattle.lpt_apart.specs.Drops as apart
 use Rattle.lpt_apart.specs.Drops.{Service, IsServed, no_service, turned_all}
 use Rattle.lpt_apart.specs.Moves.{Pair}
 use Rattle.lpt_apart.proofs.Mirroring.{ends_that_drop_serve}
 use Rattle.lpt_c_end.specs.declared.end.End.{End}
-use Rattle.lpt_c_pair.specs.Keepers.{Act, Does, Gives, Keeper, Puts, Settles, TakesBack, Writes, CanKeep, CanKeepAll, KeepsItsOwn, ProgramsThatDropServe, giving, kept, kept_all, new_keeper, program_of, stood_by}
+use Rattle.lpt_c_pair.specs.Keepers.{Act, Does, Gives, Keeper, Puts, Settles, TakesBack, Writes, CanKeep, CanKeepAll, ProgramsThatDropServe, giving, kept, kept_all, new_keeper, program_of, stood_by}
 use Rattle.lpt_c_pair.specs.Pairs.{Call, Open, Part, Plain, Finish, LetGo, Packet, Expire, Tick, Read, Execute, ExecuteGiven, Retire, RetireFree, Restart, Resume, ResumeSized, moves}
 use Rattle.lpt_c_pair.specs.Programs as program
 use Rattle.lpt_c_pair.specs.Programs.{Program, Told, acted, put_told}

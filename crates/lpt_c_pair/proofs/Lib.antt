@@ -13,6 +13,8 @@ pub mod Keeping
 pub mod Leaving
 pub mod Lemmas
 pub mod Loading
+pub mod Passing
+pub mod Pasts
 pub mod Programs
 pub mod Redoing
 pub mod Resuming

@@ -1,5 +1,5 @@
 -- The memories of the spacecraft's program, whatever it and the two ends do.
-use Rattle.std.proofs.Common.{◌≡◌, ◌∙◌, ap, sym, subst, refl, ℕ, ◌+◌, List, [], ◌∷◌, ◌++◌, length, map, Option, Some, None, arith}
+use Rattle.std.proofs.Common.{◌≡◌, ◌∙◌, ap, sym, subst, refl, ℕ, ◌+◌, List, [], ◌∷◌, ◌++◌, length, Option, Some, None, arith}
 use Rattle.lpt_apart.specs.Clocks.{later}
 use Rattle.lpt_apart.proofs.Clocks.{reached_keep}
 use Rattle.lpt_c_end.specs.Accesses.{first_read, length_refusal, unready}
@@ -7,13 +7,13 @@ use Rattle.lpt_c_end.specs.Changes.{IsNew}
 use Rattle.lpt_c_end.specs.Codes.{elsewhere, node_code}
 use Rattle.lpt_c_end.specs.Kept.{elsewhere_refusal, here_refusal}
 use Rattle.lpt_c_end.specs.Refusals.{sending_refusal}
-use Rattle.lpt_c_end.specs.Sizes.{size_said, IsNewSized}
+use Rattle.lpt_c_end.specs.Sizes.{sizes_said, IsNewSized}
 use Rattle.lpt_c_end.specs.declared.end.End.{End}
 use Rattle.lpt_c_end.specs.declared.kept.Kept.{Kept}
 use Rattle.lpt_c_end.specs.declared.kept.Kept.TheVariants.{Nowhere, Elsewhere}
 use Rattle.lpt_c_end.specs.declared.memories.LptMemory.{LptMemory}
 use Rattle.lpt_c_end.specs.declared.sizing.LptSize.{LptSize}
-use Rattle.lpt_c_pair.specs.Pairs.{WithProgram, Call, Open, Part, Plain, Finish, LetGo, Packet, Expire, Tick, Read, Execute, ExecuteGiven, Retire, RetireFree, Restart, Resume, ResumeSized, IsDone, moves}
+use Rattle.lpt_c_pair.specs.Pairs.{WithProgram, Call, Open, Part, Plain, Finish, LetGo, Packet, Expire, Tick, Read, Execute, ExecuteGiven, Retire, RetireFree, Restart, Resume, ResumeSized, IsDone}
 use Rattle.lpt_c_pair.specs.Programs.{Told, IsTold, AreTold, put_told, Program, Act, Calls, Writes, Gives, Puts, Settles, acted, came_by, CanAct, CanActAll, MayCall, ProgramsKeepTheirMemories, started}
 use Rattle.lpt_c_pair.proofs.GivenLemmas.{not_short}
 use Rattle.lpt_c_pair.proofs.Lemmas.{IsRead, no_fault, not_unsent, was_read}
@@ -279,7 +279,7 @@ pub starts : (c : Config) (a b : ℕ) (none : List LptMemory) (nothing : List �
     (g k : End)
     → IsConfig (later a c)
     → IsConfig (later b c)
-    → map size_said sizes ≡ sizes_of first
+    → sizes_said sizes ≡ sizes_of first
     → IsNew Ground (later a c) none nothing g
     → IsNewSized (later b c) sizes k
     → IsKeeping c first (started c first a b g k)

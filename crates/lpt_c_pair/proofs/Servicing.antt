@@ -1,5 +1,5 @@
 -- Two ends behind handles that drop requests are two ends apart that do.
-use Rattle.std.proofs.Common.{◌≡◌, ◌∙◌, ap, sym, subst, refl, ℕ, List, [], ◌∷◌, Option, Some, None}
+use Rattle.std.proofs.Common.{◌≡◌, ◌∙◌, ap, sym, subst, refl, List, [], ◌∷◌, Option, Some, None}
 use Rattle.lpt_apart.specs.Clocks.{CanAll, after_all, later}
 use Rattle.lpt_apart.specs.Drops as apart
 use Rattle.lpt_apart.specs.Drops.{Service, CanTurn, CanTurnAll, IsNoWork, no_service, turned, turned_all}
@@ -7,7 +7,7 @@ use Rattle.lpt_apart.specs.Ends.{Ends}
 use Rattle.lpt_apart.specs.Moves.{Pair}
 use Rattle.lpt_apart.proofs.Mirroring.{ends_that_drop_serve}
 use Rattle.lpt_c_end.specs.Accesses.{unready}
-use Rattle.lpt_c_end.specs.Changes.{IsDropped, IsFixed, IsNew, IsReadDropped, read_as_by}
+use Rattle.lpt_c_end.specs.Changes.{IsDropped, IsFixed, IsReadDropped, read_as_by}
 use Rattle.lpt_c_end.specs.Codes.{no_job, node_code}
 use Rattle.lpt_c_end.specs.Contents.{memories_told}
 use Rattle.lpt_c_end.specs.Kept.{memories_refusal, sizes_in}
@@ -15,24 +15,22 @@ use Rattle.lpt_c_end.specs.Refusals.{read_refusal}
 use Rattle.lpt_c_end.specs.Words.{direction_from as direction_by}
 use Rattle.lpt_c_end.specs.declared.end.End.{End}
 use Rattle.lpt_c_end.specs.declared.kept.Kept.{Kept}
-use Rattle.lpt_c_end.specs.declared.memories.LptMemory.{LptMemory}
 use Rattle.lpt_c_pair.specs.Pairs.{AreEndsOf, Call, Open, Part, Plain, Finish, InEnd, LetGo, Packet, Expire, Tick, Read, Execute, ExecuteGiven, Retire, RetireFree, Restart, Resume, ResumeSized, IsDone, freeing, moves}
-use Rattle.lpt_c_pair.specs.Services.{Calls, Deed, Drops, DropsRead, EndsOfCThatDropServe, KeepsItsService, Serving, CanServe, CanServeAll, made, no_serving, served, served_all, standing, turns}
+use Rattle.lpt_c_pair.specs.Services.{Calls, Deed, Drops, DropsRead, EndsOfCThatDropServe, Serving, CanServe, CanServeAll, no_serving, served, served_all, standing, turns}
 use Rattle.lpt_c_pair.specs.Runs.{CanTurnBy}
 use Rattle.lpt_c_pair.proofs.Calls.{calls_are_moves}
 use Rattle.lpt_c_pair.proofs.Lemmas.{craft_fixed, no_fault, refusal_kept, sizes_kept}
 use Rattle.lpt_c_pair.proofs.Running.{begins}
 use Rattle.lpt_c_pair.proofs.Waiting.{stays}
-use Rattle.lpt_events.specs.Configs.{IsConfig}
 use Rattle.lpt_events.specs.declared.config.Config.{Config}
 use Rattle.lpt_events.specs.declared.side.Side.{Side}
 use Rattle.lpt_events.specs.declared.side.Side.TheVariants.{Ground, Craft}
 use Rattle.lpt_events.specs.declared.worker.Worker.TheVariants.{W1}
 use Rattle.lpt_jobs.specs.Jobs.{without_front}
 use Rattle.lpt_memory.specs.Meanings.{Sizes}
-use Rattle.lpt_memory.specs.Memories.{Contents, sizes_of}
+use Rattle.lpt_memory.specs.Memories.{Contents}
 use Rattle.lpt_memory.specs.Readings.{Job}
-use Rattle.lpt_model.specs.Tickets.{Tickets, no_tickets, with_ticket}
+use Rattle.lpt_model.specs.Tickets.{Tickets, with_ticket}
 use Rattle.lpt_node.specs.Jobs.{claimed, refusal_apply, refusal_claim}
 use Rattle.lpt_node.specs.Nodes.{NodeData}
 use Rattle.lpt_packet.specs.Names.{Name}

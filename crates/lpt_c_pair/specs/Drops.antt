@@ -1,5 +1,6 @@
 -- What becomes of a request that was dropped.
 use Rattle.std.specs.Prelude.{◌≡◌, ℕ, List, [], None, set}
+use Rattle.lpt_apart.specs.Drops.{reading_for}
 use Rattle.lpt_c_end.specs.Accesses.{IsExecutedGiven}
 use Rattle.lpt_c_end.specs.Changes.{execution_of, IsDropped, IsExecuted}
 use Rattle.lpt_c_end.specs.Refusals.{read_refusal}
@@ -10,19 +11,15 @@ use Rattle.lpt_events.specs.declared.applied.Applied.{Applied}
 use Rattle.lpt_events.specs.declared.applied.Applied.TheVariants.{Silent}
 use Rattle.lpt_jobs.specs.Jobs.{claimed_in, head_of, without_front, Jobs, Ready}
 use Rattle.lpt_jobs.specs.declared.job.Job.TheVariants.{Committed}
-use Rattle.lpt_memory.specs.Memories.{sizes_of, Contents}
-use Rattle.lpt_memory.specs.Readings.{Source}
+use Rattle.lpt_memory.specs.Memories.{Contents}
 use Rattle.lpt_node.specs.Jobs.{executed_given}
 
--- a message of no octets, read for these memories
-abbrev pub nothing_for : (apid : ℕ) → Contents → Source
-nothing_for apid ms = record { apid = apid; sizes = sizes_of ms; message = [] }
-
--- in the place of the oldest request that waited it stands, and all others are as they were
+-- in the place of the oldest request that waited stands a message of no octets, read for these
+-- memories, and all others are as they were
 abbrev pub emptied : (apid : ℕ) → Contents → Jobs → Jobs
 emptied apid ms q = record {
   first = q.first;
-  jobs = set q.jobs (claimed_in q.jobs) (Committed (nothing_for apid ms));
+  jobs = set q.jobs (claimed_in q.jobs) (Committed (reading_for apid ms []));
 }
 
 -- a drop changes this alone, wherever the memories are
@@ -47,7 +44,7 @@ abbrev pub DroppedIsPassedOver : Type 0
 DroppedIsPassedOver =
     (e new : End) (apid : ℕ) (ms now : Contents)
     → e.memories ≡ Here now
-    → head_of e.node.at.jobs.jobs ≡ Ready (nothing_for apid ms)
+    → head_of e.node.at.jobs.jobs ≡ Ready (reading_for apid ms [])
     → IsExecuted e new
     → PassesOver (execution_of e).0.1.applied e new
 
@@ -55,6 +52,6 @@ DroppedIsPassedOver =
 abbrev pub GivenIsPassedOver : Type 0
 GivenIsPassedOver =
     (e new : End) (apid : ℕ) (ms : Contents) (octets : List ℕ)
-    → head_of e.node.at.jobs.jobs ≡ Ready (nothing_for apid ms)
+    → head_of e.node.at.jobs.jobs ≡ Ready (reading_for apid ms [])
     → IsExecutedGiven octets e new
     → PassesOver (executed_given e.config e.node.at octets).1.applied e new

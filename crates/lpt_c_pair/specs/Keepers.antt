@@ -1,9 +1,9 @@
 -- Two ends behind handles, where the spacecraft's program has the memories, and drops requests that
 -- it doesn't execute.
-use Rattle.std.specs.Prelude.{◌≡◌, ℕ, List, [], ◌∷◌, ◌++◌, map, ⊤}
+use Rattle.std.specs.Prelude.{◌≡◌, ℕ, List, [], ◌∷◌, ◌++◌, ⊤}
 use Rattle.lpt_apart.specs.Clocks.{later}
 use Rattle.lpt_c_end.specs.Changes.{IsNew}
-use Rattle.lpt_c_end.specs.Sizes.{size_said, IsNewSized}
+use Rattle.lpt_c_end.specs.Sizes.{sizes_said, IsNewSized}
 use Rattle.lpt_c_end.specs.declared.end.End.{End}
 use Rattle.lpt_c_end.specs.declared.memories.LptMemory.{LptMemory}
 use Rattle.lpt_c_end.specs.declared.sizing.LptSize.{LptSize}
@@ -128,7 +128,7 @@ ProgramsThatDropServe =
     (g k : End) (xs : List Act)
     → IsConfig (later a c)
     → IsConfig (later b c)
-    → map size_said sizes ≡ sizes_of first
+    → sizes_said sizes ≡ sizes_of first
     → IsNew Ground (later a c) none nothing g
     → IsNewSized (later b c) sizes k
     → CanKeepAll c (new_keeper c first a b g k) xs

@@ -6,6 +6,7 @@ pub mod Keepers
 pub mod Loads
 pub mod Outboxes
 pub mod Pairs
+pub mod Pasts
 pub mod Programs
 pub mod Redo
 pub mod Resets

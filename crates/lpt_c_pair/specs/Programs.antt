@@ -1,12 +1,12 @@
 -- Two ends behind handles, where the spacecraft's program has the memories: what it writes, and
 -- what they are.
-use Rattle.std.specs.Prelude.{◌≡◌, ℕ, ◌+◌, List, [], ◌∷◌, ◌++◌, length, map, Ok, Err, Some, ⊤}
+use Rattle.std.specs.Prelude.{◌≡◌, ℕ, ◌+◌, List, [], ◌∷◌, ◌++◌, length, Ok, Err, Some, ⊤}
 use Rattle.lpt_apart.specs.Clocks.{later}
 use Rattle.lpt_apart.specs.Facts.{executed}
 use Rattle.lpt_c_end.specs.Accesses.{IsAccess, written_by}
 use Rattle.lpt_c_end.specs.Changes.{IsNew}
 use Rattle.lpt_c_end.specs.Codes.{nothing}
-use Rattle.lpt_c_end.specs.Sizes.{size_said, IsNewSized}
+use Rattle.lpt_c_end.specs.Sizes.{sizes_said, IsNewSized}
 use Rattle.lpt_c_end.specs.declared.accessing.LptAccess.{LptAccess}
 use Rattle.lpt_c_end.specs.declared.end.End.{End}
 use Rattle.lpt_c_end.specs.declared.memories.LptMemory.{LptMemory}
@@ -145,7 +145,7 @@ ProgramsKeepTheirMemories =
     (g k : End) (xs : List Act)
     → IsConfig (later a c)
     → IsConfig (later b c)
-    → map size_said sizes ≡ sizes_of first
+    → sizes_said sizes ≡ sizes_of first
     → IsNew Ground (later a c) none nothing g
     → IsNewSized (later b c) sizes k
     → CanActAll c (started c first a b g k) xs

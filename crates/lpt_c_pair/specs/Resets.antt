@@ -3,11 +3,11 @@
 --
 -- A reset deletes what its program did since it last kept its end, but for what was written over
 -- memories: those stay as they are.
-use Rattle.std.specs.Prelude.{◌≡◌, ℕ, List, [], ◌∷◌, ◌++◌, map, ⊤}
+use Rattle.std.specs.Prelude.{◌≡◌, ℕ, List, [], ◌∷◌, ◌++◌, ⊤}
 use Rattle.lpt_apart.specs.Clocks.{later}
 use Rattle.lpt_apart.specs.Whole.{came_since, WithholdsNothing}
 use Rattle.lpt_c_end.specs.Changes.{IsNew}
-use Rattle.lpt_c_end.specs.Sizes.{size_said, IsNewSized}
+use Rattle.lpt_c_end.specs.Sizes.{sizes_said, IsNewSized}
 use Rattle.lpt_c_end.specs.declared.end.End.{End}
 use Rattle.lpt_c_end.specs.declared.memories.LptMemory.{LptMemory}
 use Rattle.lpt_c_end.specs.declared.sizing.LptSize.{LptSize}
@@ -199,7 +199,7 @@ ResetProgramsKeepTheirMemories =
     (g k : End) (xs : List Deed)
     → IsConfig (later a c)
     → IsConfig (later b c)
-    → map size_said sizes ≡ sizes_of first
+    → sizes_said sizes ≡ sizes_of first
     → IsNew Ground (later a c) none nothing g
     → IsNewSized (later b c) sizes k
     → CanLiveAll c (started c first a b g k) (just_begun (started c first a b g k)) xs

@@ -1,22 +1,25 @@
 -- Two ends behind handles, whose spacecraft's program drops requests that it doesn't execute.
-use Rattle.std.specs.Prelude.{◌≡◌, ℕ, List, [], ◌∷◌, None, ⊤}
+use Rattle.std.specs.Prelude.{◌≡◌, ℕ, List, [], ◌∷◌, None, ⊤, Some}
+use Rattle.std.specs.List.{slice_get}
 use Rattle.lpt_apart.specs.Clocks.{later}
 use Rattle.lpt_apart.specs.Drops as apart
 use Rattle.lpt_apart.specs.Drops.{Service, CanTurnAll, IsServed, no_service, turned, turned_all}
 use Rattle.lpt_apart.specs.Moves.{Move}
 use Rattle.lpt_c_end.specs.Accesses.{unready}
-use Rattle.lpt_c_end.specs.Changes.{IsDropped, IsNew, IsReadDropped}
+use Rattle.lpt_c_end.specs.Changes.{execution_of, IsDropped, IsNew, IsReadDropped}
 use Rattle.lpt_c_end.specs.Contents.{memories_told}
 use Rattle.lpt_c_end.specs.Refusals.{read_refusal}
 use Rattle.lpt_c_end.specs.declared.end.End.{End}
 use Rattle.lpt_c_end.specs.declared.memories.LptMemory.{LptMemory}
-use Rattle.lpt_c_pair.specs.Pairs.{AreEndsOf, Call, Read, moves}
+use Rattle.lpt_c_pair.specs.Drops.{PassesOver}
+use Rattle.lpt_c_pair.specs.Pairs.{AreEndsOf, Call, Execute, ExecuteGiven, IsDone, Read, moves}
 use Rattle.lpt_c_pair.specs.Runs.{CanTurnBy, Standing, Turn}
 use Rattle.lpt_events.specs.Configs.{IsConfig}
 use Rattle.lpt_events.specs.declared.config.Config.{Config}
 use Rattle.lpt_events.specs.declared.side.Side.{Side}
 use Rattle.lpt_events.specs.declared.side.Side.TheVariants.{Ground, Craft}
 use Rattle.lpt_memory.specs.Memories.{Contents}
+use Rattle.lpt_node.specs.Jobs.{executed_given}
 
 -- two ends behind handles, and the ends apart that they are, with the requests that wait
 pub record Serving : Type 0 where
@@ -102,3 +105,25 @@ EndsOfCThatDropServe =
     → CanServeAll c (no_serving c (memories_told content ms) a b g k) xs
     → KeepsItsService c (memories_told content ms)
     (served_all c (no_serving c (memories_told content ms) a b g k) xs)
+
+-- ---- what was dropped
+
+-- the place of a request that was dropped stands at the front, and is executed by a call that
+-- answers 0: it is let go, no memory changes, and no packet is made
+abbrev pub DroppedStaysDropped : Type 0
+DroppedStaysDropped =
+    (c : Config) (first : Contents) (s : Serving) (new : End)
+    → KeepsItsService c first s
+    → slice_get s.service.waits 0 ≡ Some None
+    → IsDone Execute s.on_craft new
+    → PassesOver (execution_of s.on_craft).0.1.applied s.on_craft new
+
+-- the same where the program has the memories
+abbrev pub GivenStaysDropped : Type 0
+GivenStaysDropped =
+    (c : Config) (first : Contents) (s : Serving) (octets : List ℕ) (new : End)
+    → KeepsItsService c first s
+    → slice_get s.service.waits 0 ≡ Some None
+    → IsDone (ExecuteGiven octets) s.on_craft new
+    → PassesOver (executed_given s.on_craft.config s.on_craft.node.at octets).1.applied
+    s.on_craft new

@@ -1,11 +1,11 @@
 -- Two ends behind handles withhold nothing that came whole.
-use Rattle.std.specs.Prelude.{◌≡◌, ℕ, List, [], ◌∷◌, ◌++◌, map}
+use Rattle.std.specs.Prelude.{◌≡◌, ℕ, List, [], ◌∷◌, ◌++◌}
 use Rattle.lpt_apart.specs.Clocks.{later, no_pair_later}
 use Rattle.lpt_apart.specs.Moves.{Move}
 use Rattle.lpt_apart.specs.Whole.{came_since, WithholdsNothing}
 use Rattle.lpt_c_end.specs.Changes.{IsNew}
 use Rattle.lpt_c_end.specs.Contents.{memories_told}
-use Rattle.lpt_c_end.specs.Sizes.{size_said, IsNewSized}
+use Rattle.lpt_c_end.specs.Sizes.{sizes_said, IsNewSized}
 use Rattle.lpt_c_end.specs.declared.end.End.{End}
 use Rattle.lpt_c_end.specs.declared.memories.LptMemory.{LptMemory}
 use Rattle.lpt_c_end.specs.declared.sizing.LptSize.{LptSize}
@@ -58,7 +58,7 @@ ProgramsWithholdNothing =
     (g k : End) (xs : List Act)
     → IsConfig (later a c)
     → IsConfig (later b c)
-    → map size_said sizes ≡ sizes_of first
+    → sizes_said sizes ≡ sizes_of first
     → IsNew Ground (later a c) none nothing g
     → IsNewSized (later b c) sizes k
     → CanActAll c (started c first a b g k) xs

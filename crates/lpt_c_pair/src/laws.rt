@@ -7,11 +7,12 @@ ghost use Rattle.lpt_c_pair.specs.Histories.{CarefulProgramsMayBeReset, ResetEnd
 ghost use Rattle.lpt_c_pair.specs.Keepers.{ProgramsThatDropServe};
 ghost use Rattle.lpt_c_pair.specs.Loads.{LoadsGoWhereTheySay};
 ghost use Rattle.lpt_c_pair.specs.Pairs.{CallsAreMoves};
+ghost use Rattle.lpt_c_pair.specs.Pasts.{ResetEndsThatDropServe};
 ghost use Rattle.lpt_c_pair.specs.Programs.{ProgramsKeepTheirMemories};
 ghost use Rattle.lpt_c_pair.specs.Redo.{WritesCanBeMadeAgain, WritesCanBeTakenBack};
 ghost use Rattle.lpt_c_pair.specs.Resets.{CarefulMachinesMayBeReset, ResetProgramsKeepTheirMemories};
 ghost use Rattle.lpt_c_pair.specs.Runs.{EndsOfCKeepThePromise};
-ghost use Rattle.lpt_c_pair.specs.Services.{EndsOfCThatDropServe};
+ghost use Rattle.lpt_c_pair.specs.Services.{DroppedStaysDropped, EndsOfCThatDropServe, GivenStaysDropped};
 ghost use Rattle.lpt_c_pair.specs.Withheld.{EndsOfCWithholdNothing, ProgramsWithholdNothing};
 
 /// Where two ends behind handles are those of two ends apart, and one of them is called, answers 0,
@@ -97,11 +98,14 @@ pub fn zero_is_done()
 
 /// A request that is dropped is never executed. Its drop puts a message of no octets in the place
 /// of the oldest request that waited, and changes nothing else. Where that is the oldest of all,
-/// executing it lets it go: no memory changes, and no packet is made.
+/// executing it lets it go: no memory changes, and no packet is made. So it is after whatever calls
+/// of ends that drop requests, once its place comes to the front.
 pub fn dropped_is_never_executed()
     ensures drop { DropsOldest }
     ensures execute { DroppedIsPassedOver }
     ensures given { GivenIsPassedOver }
+    ensures at_last { DroppedStaysDropped }
+    ensures given_at_last { GivenStaysDropped }
 {}
 
 /// A program that serves other services drops their requests, and keeps this. Take two new ends, of
@@ -112,10 +116,12 @@ pub fn dropped_is_never_executed()
 /// by the executed requests in order of release, and none that was dropped is among these.
 ///
 /// So it is too where its program has the memories. It may put back what it wrote ahead of a
-/// request that it then drops.
+/// request that it then drops. And so it is of what is left where either machine is reset, as
+/// `resets_keep_the_promise` says it of ends that drop nothing.
 pub fn ends_of_c_that_drop_serve()
     ensures in_end { EndsOfCThatDropServe }
     ensures with_program { ProgramsThatDropServe }
+    ensures reset { ResetEndsThatDropServe }
 {}
 
 /// A load that is executed, once it is the oldest request of all, is carried out or refused. Where

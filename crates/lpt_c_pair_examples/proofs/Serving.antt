@@ -26,7 +26,7 @@ use Rattle.lpt_node.specs.Jobs.{Execution, executed, refusal_apply, refusal_clai
 use Rattle.lpt_node.specs.Nodes.{NodeData, NodeView, no_data}
 use Rattle.lpt_node.specs.Receiving.{plain_released}
 use Rattle.lpt_node.specs.Requests.{plain_made, refusal_plain}
-use Rattle.lpt_c_end.specs.Changes.{IsDropped, IsExecuted, IsNew, delivery, execution_by, read_as_by, read_by}
+use Rattle.lpt_c_end.specs.Changes.{IsDropped, IsNew, delivery, execution_by, read_as_by, read_by}
 use Rattle.lpt_c_end.specs.Codes.{node_code}
 use Rattle.lpt_c_end.specs.Contents.{memories_told}
 use Rattle.lpt_c_end.specs.Kept.{here_refusal, memories_refusal, sizes_in}
