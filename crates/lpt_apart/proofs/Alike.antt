@@ -1,5 +1,5 @@
 -- What of a node of the spacecraft is the same whatever it sends; what ground takes of a part.
-use Rattle.std.proofs.Common.{◌≡◌, ◌∙◌, sym, refl, ℕ, Bool, true, false, ◌==◌, if◌then◌else◌, List, ◌∷◌, Option, Some, None}
+use Rattle.std.proofs.Common.{◌≡◌, ◌∙◌, sym, refl, ℕ, Bool, true, false, ◌==◌, if◌then◌else◌, List, Option, Some, None}
 use Rattle.lpt_packet.specs.declared.direction.Direction.TheVariants.{Down}
 use Rattle.lpt_packet.specs.Names.{Name}
 use Rattle.lpt_pus.specs.Telemetry.{Telemetry}
@@ -27,9 +27,9 @@ use Rattle.lpt_reception.specs.Received.{Parts}
 use Rattle.lpt_table.specs.Offering as offering
 use Rattle.lpt_table.specs.Offering.{OfferKind, offered}
 use Rattle.lpt_table.specs.Tables.{Entries, TableState}
-use Rattle.lpt_apart.specs.Facts.{Aborted, Log, Released, with_abortion}
+use Rattle.lpt_apart.specs.Facts.{Aborted, Log, with_abortion}
 use Rattle.lpt_apart.specs.Steps.{with_release}
-use Rattle.lpt_apart.proofs.Upward.{IsLike, adds_one}
+use Rattle.lpt_apart.proofs.Upward.{IsLike, aborted_down, adds_one, released_down}
 
 -- ---- nodes
 
@@ -183,16 +183,6 @@ pub record IsBeside (d : NodeData) (x : NodeData × Accepted) : Type 0 where
       → IsLike (with_abortion Down x.1.outcome
       (with_release l (released_of Down x.1.outcome) x.1.released)) r
 
--- a fact of what goes down
-released_down : (name : Name) (m : List ℕ) (l r : Log)
-    → IsLike l r
-    → IsLike (Released (Some (Down, name)) m ∷ l) r
-released_down name m l r like =
-    adds_one (Released (Some (Down, name)) m) l r (λ n o. refl) tt like
-
-pub aborted_down : (name : Name) (l r : Log) → IsLike l r → IsLike (Aborted Down name ∷ l) r
-aborted_down name l r like = adds_one (Aborted Down name) l r (λ n o. refl) tt like
-
 beside_offer : (d : NodeData) (q : NamedPart) (r : ReceiverState) (parts : Parts) (o : OfferKind)
     (es : Entries)
     → IsBeside d (after_received Ground d q (after_offer None r q.name parts o es))
@@ -218,7 +208,7 @@ beside_offer d q r parts offering.Gap es = record {
   boot = refl;
   jobs = refl;
   packet = refl;
-  like = λ l r like. aborted_down q.name l r like;
+  like = λ l r like. adds_one (Aborted Down q.name) l r (aborted_down q.name) tt like;
 }
 beside_offer d q r parts offering.NoRoom es = record {
   sending = refl;
@@ -234,7 +224,7 @@ beside_offer d q r parts offering.Whole es = record {
   boot = refl;
   jobs = refl;
   packet = refl;
-  like = λ l r like. released_down q.name _ l r like;
+  like = λ l r like. adds_one _ l r (released_down q.name _) tt like;
 }
 beside_offer d q r parts (offering.Conflict reason) es = record {
   sending = refl;
@@ -242,7 +232,7 @@ beside_offer d q r parts (offering.Conflict reason) es = record {
   boot = refl;
   jobs = refl;
   packet = refl;
-  like = λ l r like. aborted_down q.name l r like;
+  like = λ l r like. adds_one (Aborted Down q.name) l r (aborted_down q.name) tt like;
 }
 
 beside_free : (s : State) (d : NodeData) (q : NamedPart) (r : ReceiverState) (parts : Parts)

@@ -1,6 +1,6 @@
 -- Two ends beside others, which do what goes up alone: they have the same sender on ground and the
 -- same receiver at the spacecraft, whatever else differs.
-use Rattle.std.proofs.Common.{◌≡◌, ◌∙◌, ap, sym, subst, refl, inl, inr, ℕ, Bool, List, [], ◌∷◌, Option, Some, None, is_some}
+use Rattle.std.proofs.Common.{◌≡◌, ◌∙◌, ap, sym, subst, refl, inl, inr, ℕ, Bool, List, ◌∷◌, Option, Some, None, is_some}
 use Rattle.lpt_packet.specs.declared.direction.Direction.{Direction}
 use Rattle.lpt_packet.specs.declared.direction.Direction.TheVariants.{Up, Down}
 use Rattle.lpt_packet.specs.Names.{Name}
@@ -22,9 +22,10 @@ use Rattle.lpt_apart.specs.Ends.{Ends, PutOut, put_out}
 use Rattle.lpt_apart.specs.Facts.{Opened, Aborted, Executed, Log, with_abortion}
 use Rattle.lpt_apart.specs.Moves.{CanMove, Do, Move, Pair, moved}
 use Rattle.lpt_apart.specs.Steps.{Accept, Expire, MayCome, accepted_on, expired_on, is_harmless, sent_on, with_release, with_report as reporting}
-use Rattle.lpt_apart.proofs.Clocks.{IsReached, joined, reached_keep}
-use Rattle.lpt_apart.proofs.Upward.{AllUp, IsLike, adds, adds_one, adds_taken, no_request, up_beside, up_down, up_there}
-use Rattle.lpt_apart.proofs.Alike.{AreAlike, IsBeside, IsSame, aborted_down, alike, beside_part}
+use Rattle.lpt_apart.specs.Whole.{came_by, came_in, came_moved}
+use Rattle.lpt_apart.proofs.Clocks.{IsReached, reached_keep}
+use Rattle.lpt_apart.proofs.Upward.{AllUp, IsLike, aborted_down, adds, adds_one, adds_taken, an_execution, no_request, opened_down, up_beside, up_down, up_there}
+use Rattle.lpt_apart.proofs.Alike.{AreAlike, IsBeside, IsSame, alike, beside_part}
 
 -- ---- two ends beside others
 
@@ -84,9 +85,16 @@ mirror first k r = record {
   freed = r.freed;
 }
 
-pub record IsMirrored (c : Config) (first : Contents) (p : Pair) : Type 0 where
+-- moves lead from two new ends to these, and these parts went up with them
+pub record IsBroughtUp (c : Config) (first : Contents) (p : Pair) (parts : Name → ℕ → Bool)
+    : Type 0 where
+  pub reached : IsReached c first p
+  pub came : (name : Name) (n : ℕ) → came_in c first reached.all Up name n ≡ parts name n
+
+pub record IsMirrored (c : Config) (first : Contents) (p : Pair) (parts : Name → ℕ → Bool)
+    : Type 0 where
   pub rest : Rest
-  pub reached : IsReached c first (mirror first (core_of p.ends) rest)
+  pub reached : IsBroughtUp c first (mirror first (core_of p.ends) rest) parts
   pub ways : AllUp rest.ways p.ends.on_the_way
   pub freed : (name : Name) → p.freed Up name ≡ rest.freed Up name
   pub like : IsLike p.ends.log rest.log
@@ -94,25 +102,36 @@ pub record IsMirrored (c : Config) (first : Contents) (p : Pair) : Type 0 where
 -- ---- moves
 
 module _ (c : Config) (first : Contents) (g : ℕ) (good : IsConfig (at_later g c)) where
-  -- those beside make a move
-  pub goes : (k l : Core) (r s : Rest) (x : Move)
-      → IsReached c first (mirror first k r)
+  -- those beside make a move, with which these parts come
+  pub goes : (k l : Core) (r s : Rest) (x : Move) (before after : Name → ℕ → Bool)
+      → IsBroughtUp c first (mirror first k r) before
       → CanMove c (mirror first k r) x
       → moved c (mirror first k r) x ≡ mirror first l s
-      → IsReached c first (mirror first l s)
-  goes k l r s x reached can is =
-      subst (λ (p : Pair). IsReached c first p) is
-      (joined c first (mirror first k r) (x ∷ []) reached (tt, can))
+      → ((name : Name) (n : ℕ)
+      → came_moved c (mirror first k r) x Up name n (before name n) ≡ after name n)
+      → IsBroughtUp c first (mirror first l s) after
+  goes k l r s x before after b can is comes = record {
+    reached = record {
+      all = x ∷ b.reached.all;
+      can = (
+        b.reached.can,
+        subst (λ (p : Pair). CanMove c p x) (sym b.reached.is) can,
+      );
+      is = ap (λ (p : Pair). moved c p x) b.reached.is ∙ is;
+    };
+    came = λ name n.
+        (λ i. came_moved c (b.reached.is i) x Up name n (b.came name n i)) ∙ comes name n;
+  }
 
   -- or they stay
-  stays : (k l : Core) (r : Rest)
+  stays : (k l : Core) (r : Rest) (parts : Name → ℕ → Bool)
       → k ≡ l
-      → IsReached c first (mirror first k r)
-      → IsReached c first (mirror first l r)
-  stays k l r same reached =
-      subst (λ (x : Core). IsReached c first (mirror first x r)) same reached
+      → IsBroughtUp c first (mirror first k r) parts
+      → IsBroughtUp c first (mirror first l r) parts
+  stays k l r parts same b =
+      subst (λ (x : Core). IsBroughtUp c first (mirror first x r) parts) same b
 
-  module _ (p : Pair) (m : IsMirrored c first p) where
+  module _ (p : Pair) (parts : Name → ℕ → Bool) (m : IsMirrored c first p parts) where
     abbrev e : Ends
     e = p.ends
 
@@ -140,10 +159,11 @@ module _ (c : Config) (first : Contents) (g : ℕ) (good : IsConfig (at_later g 
         → IsMirrored c first
         (record p {
           ends = record e { on_craft = d; memories = ms; on_the_way = ways; log = log };
-        })
+        }) parts
     beside_craft d ways log ms s all like = record {
       rest = r;
-      reached = stays k (core_of (record e { on_craft = d })) r (core_craft d s) m.reached;
+      reached =
+          stays k (core_of (record e { on_craft = d })) r parts (core_craft d s) m.reached;
       ways = all;
       freed = m.freed;
       like = like;
@@ -183,6 +203,7 @@ module _ (c : Config) (first : Contents) (g : ℕ) (good : IsConfig (at_later g 
     pub takes_up : (b : List ℕ)
         → MayCome c e Up b
         → IsMirrored c first (moved c p (Do (Accept Up b)))
+        (λ name n. came_moved c p (Do (Accept Up b)) Up name n (parts name n))
     takes_up b may =
         let a : Arrival = arrival_in c Up b in
         let x : NodeData × Accepted = accepted Craft c e.on_craft a in
@@ -198,22 +219,24 @@ module _ (c : Config) (first : Contents) (g : ℕ) (good : IsConfig (at_later g 
               (with_release r.log (released_of Up y.1.outcome) y.1.released);
           freed = r.freed;
         } in
-        let reached : IsReached c first (mirror first (core_of (accepted_on e Up x)) s) =
-        goes k (core_of (accepted_on e Up x)) r s (Do (Accept Up b)) m.reached (comes_up b may)
+        let brought : IsBroughtUp c first (mirror first (core_of (accepted_on e Up x)) s)
+        (λ name n. came_by Up a x.1.outcome Up name n (parts name n)) =
+        goes k (core_of (accepted_on e Up x)) r s (Do (Accept Up b)) parts
+        (λ name n. came_by Up a x.1.outcome Up name n (parts name n)) m.reached (comes_up b may)
         (λ i. mirror first (record (core_of (accepted_on e Up x)) {
           receiving = both.receiving i;
           craft_clock = both.clock i;
           craft_boot = both.boot i;
-        }) s) in
+        }) s) (λ name n i. came_by Up a (both.outcome i) Up name n (parts name n)) in
         let due = (reached_keep c first g (mirror first (core_of (accepted_on e Up x)) s) good
-        reached).due in
+        brought.reached).due in
         let like : IsLike
         (with_abortion Up y.1.outcome
         (with_release e.log (released_of Up y.1.outcome) y.1.released)) s.log =
         adds_taken y.1.outcome y.1.released e.log r.log due m.like in
         record {
           rest = s;
-          reached = reached;
+          reached = brought;
           ways =
               up_down s.ways e.on_the_way None (as_list x.1.packet)
               (up_beside r.ways e.on_the_way None (as_list y.1.packet) m.ways);
@@ -232,7 +255,7 @@ module _ (c : Config) (first : Contents) (g : ℕ) (good : IsConfig (at_later g 
 
     pub takes_down : (b : List ℕ) (a : Arrival)
         → arrival_in c Down b ≡ a
-        → IsMirrored c first (down_to p a)
+        → IsMirrored c first (down_to p a) parts
     takes_down b NotRead is = m
     takes_down b AnIdle is = m
     takes_down b Foreign is = m
@@ -244,8 +267,8 @@ module _ (c : Config) (first : Contents) (g : ℕ) (good : IsConfig (at_later g 
         record {
           rest = r;
           reached =
-              goes k l r r (Do (Accept Down b)) m.reached (inr (ap is_harmless is))
-              (ap (down_to (mirror first k r)) is);
+              goes k l r r (Do (Accept Down b)) parts parts m.reached (inr (ap is_harmless is))
+              (ap (down_to (mirror first k r)) is) (λ n k. refl);
           ways = m.ways;
           freed = m.freed;
           like = m.like;
@@ -256,7 +279,7 @@ module _ (c : Config) (first : Contents) (g : ℕ) (good : IsConfig (at_later g 
         let l : Core = core_of (down_to p (APart q)).ends in
         record {
           rest = r;
-          reached = stays k l r (λ i. record k {
+          reached = stays k l r parts (λ i. record k {
             sending = sym s.sending i;
             ground_clock = sym s.clock i;
             ground_boot = sym s.boot i;
@@ -273,27 +296,27 @@ module _ (c : Config) (first : Contents) (g : ℕ) (good : IsConfig (at_later g 
 
     pub expires_ground : (o : Option Name)
         → IsMirrored c first
-        (record p { ends = expired_on e Ground (expired_of Ground c e.on_ground o) })
+        (record p { ends = expired_on e Ground (expired_of Ground c e.on_ground o) }) parts
     expires_ground None = record {
       rest = r;
       reached = m.reached;
       ways = m.ways;
       freed = m.freed;
-      like = aborted_down _ e.log r.log m.like;
+      like = adds_one (Aborted Down _) e.log r.log (aborted_down _) tt m.like;
     }
     expires_ground (Some name) = record {
       rest = r;
       reached = m.reached;
       ways = m.ways;
       freed = m.freed;
-      like = aborted_down name e.log r.log m.like;
+      like = adds_one (Aborted Down name) e.log r.log (aborted_down name) tt m.like;
     }
 
     pub expires_craft : (o : Option Name)
         → due c e.on_craft ≡ o
         → refusal_expire_of o ≡ None
         → IsMirrored c first
-        (record p { ends = expired_on e Craft (expired_of Craft c e.on_craft o) })
+        (record p { ends = expired_on e Craft (expired_of Craft c e.on_craft o) }) parts
     expires_craft None is none = absurd cc
     expires_craft (Some name) is none =
         let d : NodeData = (mirror first k r).ends.on_craft in
@@ -307,15 +330,15 @@ module _ (c : Config) (first : Contents) (g : ℕ) (good : IsConfig (at_later g 
           log = Aborted Up name ∷ r.log;
           freed = r.freed;
         } in
-        let reached : IsReached c first (mirror first l s) =
-        goes k l r s (Do (Expire Craft)) m.reached (ap refusal_expire_of is ∙ none)
+        let brought : IsBroughtUp c first (mirror first l s) parts =
+        goes k l r s (Do (Expire Craft)) parts parts m.reached (ap refusal_expire_of is ∙ none)
         (λ i. record (mirror first k r) {
           ends = expired_on (mirror first k r).ends Craft (expired_of Craft c d (is i));
-        }) in
-        let due = (reached_keep c first g (mirror first l s) good reached).due in
+        }) (λ n k. refl) in
+        let due = (reached_keep c first g (mirror first l s) good brought.reached).due in
         record {
           rest = s;
-          reached = reached;
+          reached = brought;
           ways =
               up_down s.ways e.on_the_way None
               (as_list (expired_of Craft c e.on_craft (Some name)).1.packet)
@@ -329,8 +352,8 @@ module _ (c : Config) (first : Contents) (g : ℕ) (good : IsConfig (at_later g 
     -- ---- an execution
 
     pub executes : (o : Option (Name × List ℕ)) → IsLike (Executed ∷ reporting e.log o) r.log
-    executes None = adds_one Executed e.log r.log (λ n o. refl) tt m.like
+    executes None = adds_one Executed e.log r.log an_execution tt m.like
     executes (Some x) =
         let opened : Log = Opened Down x.0 x.1 ∷ e.log in
-        adds_one Executed opened r.log (λ n o. refl) tt
-        (adds_one (Opened Down x.0 x.1) e.log r.log (λ n o. refl) tt m.like)
+        adds_one Executed opened r.log an_execution tt
+        (adds_one (Opened Down x.0 x.1) e.log r.log (opened_down x.0 x.1) tt m.like)

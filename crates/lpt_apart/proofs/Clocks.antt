@@ -15,7 +15,7 @@ use Rattle.lpt_apart.specs.Ends.{no_ends}
 use Rattle.lpt_apart.specs.Moves.{Pair, Move, Do, no_pair, moved, CanMove, came_to, CanMoveAll}
 use Rattle.lpt_apart.specs.Steps.{Tick}
 use Rattle.lpt_apart.specs.Worlds.{IsPromised}
-use Rattle.lpt_apart.specs.Whole.{came_moved, came_in, came_since, CameWhole, last_opened, is_aborted, last_released, EndsWithClocksWithholdNothing}
+use Rattle.lpt_apart.specs.Whole.{came_moved, came_in, came_since, CameWhole, last_opened, is_aborted, last_released, EndsWithClocksWithholdNothing, WithholdsNothing}
 use Rattle.lpt_apart.proofs.Moving.{ends_apart_keep_the_promise, ends_apart_withhold_nothing}
 use Rattle.lpt_apart.proofs.Ties.{Came}
 
@@ -179,7 +179,7 @@ earlier c g good = record {
 }
 
 -- two new ends with clocks of their own are reached, and no part came
-begun : (c : Config) (first : Contents) (g k : ℕ)
+pub begun : (c : Config) (first : Contents) (g k : ℕ)
     → IsConfig (later g c)
     → IsConfig (later k c)
     → IsBegun c first (no_pair_later c first g k)
@@ -199,6 +199,15 @@ pub reached_keep : (c : Config) (first : Contents) (g : ℕ) (p : Pair)
 reached_keep c first g p good r =
     subst (λ (q : Pair). IsPromised c first q.ends) r.is
     (ends_apart_keep_the_promise c first r.all (earlier c g good) r.can)
+
+-- and withhold nothing of what came with these moves
+pub reached_withhold : (c : Config) (first : Contents) (g : ℕ) (p : Pair)
+    → IsConfig (later g c)
+    → (r : IsReached c first p)
+    → WithholdsNothing c p.ends.log (came_in c first r.all)
+reached_withhold c first g p good r =
+    subst (λ (q : Pair). WithholdsNothing c q.ends.log (came_in c first r.all)) r.is
+    (ends_apart_withhold_nothing c first r.all (earlier c g good) r.can)
 
 pub ends_with_clocks_keep_the_promise : EndsWithClocksKeepThePromise
 ends_with_clocks_keep_the_promise c first g k xs good_g good_k can =

@@ -1,7 +1,8 @@
 -- Ends that drop requests are, for requests, two ends that execute none.
-use Rattle.std.proofs.Common.{◌≡◌, ◌∙◌, ap, sym, refl, ℕ, false, not, ◌&&◌, ◌||◌, List, [], ◌∷◌, Option, Some, None}
+use Rattle.std.proofs.Common.{◌≡◌, ◌∙◌, ap, sym, subst, refl, ℕ, Bool, false, if◌then◌else◌, not, ◌&&◌, ◌||◌, List, [], ◌∷◌, Option, Some, None}
 use Rattle.std.specs.List.{slice_get}
 use Rattle.lpt_packet.specs.declared.direction.Direction.TheVariants.{Up, Down}
+use Rattle.lpt_packet.specs.Names.{Name}
 use Rattle.lpt_memory.specs.Memories.{Contents, sizes_of}
 use Rattle.lpt_memory.specs.Readings.{Source}
 use Rattle.lpt_events.specs.Arrivals.{arrival_in}
@@ -23,14 +24,21 @@ use Rattle.lpt_apart.specs.Ends.{Ends, PutOut, is_part, put_out, without}
 use Rattle.lpt_apart.specs.Facts.{Opened, Asked, Executed, Retired, Restarted, is_same}
 use Rattle.lpt_apart.specs.Moves.{CanMove, Do, Free, Move, Pair, moved}
 use Rattle.lpt_apart.specs.Steps.{Accept, Apply, Claim, Commit, Expire, Finish, Open, Plain, Restart, Retire, Send, Tick, with_report as reporting}
-use Rattle.lpt_apart.proofs.Clocks.{IsReached, begun_later}
+use Rattle.lpt_apart.specs.Uploads.{EndsThatDropWithholdNoRequest, came_turned, came_with}
+use Rattle.lpt_apart.specs.Whole.{came_moved, is_reported}
+use Rattle.lpt_apart.proofs.Clocks.{begun, reached_withhold}
 use Rattle.lpt_apart.proofs.Serving.{AreOf, IsQueued, queued}
-use Rattle.lpt_apart.proofs.Upward.{adds, adds_one, up_both, up_down, up_left, up_less}
+use Rattle.lpt_apart.proofs.Upward.{adds, adds_one, opened_down, retired_down, up_both, up_down, up_left, up_less}
 use Rattle.lpt_apart.proofs.Alike.{same_executed, same_read, same_sent}
-use Rattle.lpt_apart.proofs.Beside.{Core, IsMirrored, Rest, beside_craft, core_of, executes, expires_craft, expires_ground, goes, mirror, send_up, takes_down, takes_up, up_packet}
+use Rattle.lpt_apart.proofs.Beside.{Core, IsBroughtUp, IsMirrored, Rest, beside_craft, core_of, executes, expires_craft, expires_ground, goes, mirror, send_up, takes_down, takes_up, up_packet}
+
+-- no report of data goes up
+not_reported : (o : Option (Name × List ℕ)) (name : Name) → is_reported o Up name ≡ false
+not_reported None name = refl
+not_reported (Some x) name = refl
 
 module _ (c : Config) (first : Contents) (g : ℕ) (good : IsConfig (at_later g c)) where
-  module _ (p : Pair) (m : IsMirrored c first p) where
+  module _ (p : Pair) (parts : Name → ℕ → Bool) (m : IsMirrored c first p parts) where
     abbrev e : Ends
     e = p.ends
 
@@ -40,23 +48,31 @@ module _ (c : Config) (first : Contents) (g : ℕ) (good : IsConfig (at_later g 
     abbrev r : Rest
     r = m.rest
 
-    -- those beside make the same move
+    -- the parts that came after a move
+    abbrev after : Move → Name → (k : ℕ) → Bool
+    after x name n = came_moved c p x Up name n (parts name n)
+
+    -- those beside make the same move, and the same parts come
     move : (s : Rest) (x : Move)
         → CanMove c (mirror first k r) x
         → moved c (mirror first k r) x ≡ mirror first (core_of (moved c p x).ends) s
-        → IsReached c first (mirror first (core_of (moved c p x).ends) s)
-    move s x can is = goes c first g good k (core_of (moved c p x).ends) r s x m.reached can is
+        → ((name : Name) (n : ℕ)
+        → came_moved c (mirror first k r) x Up name n (parts name n) ≡ after x name n)
+        → IsBroughtUp c first (mirror first (core_of (moved c p x).ends) s) (after x)
+    move s x can is comes =
+        goes c first g good k (core_of (moved c p x).ends) r s x parts (after x) m.reached can is
+        comes
 
     mirrors : (x : Move)
         → IsNoWork x
         → CanMove c p x
-        → IsMirrored c first (moved c p x)
+        → IsMirrored c first (moved c p x) (after x)
     mirrors (Do (Open Up name message)) own can =
         let s : Rest = record r { log = Opened Up name message ∷ r.log } in
         record {
           rest = s;
           reached =
-              move s (Do (Open Up name message)) can refl;
+              move s (Do (Open Up name message)) can refl (λ i n. refl);
           ways = m.ways;
           freed = m.freed;
           like = adds (Opened Up name message) e.log r.log tt m.like;
@@ -66,35 +82,37 @@ module _ (c : Config) (first : Contents) (g : ℕ) (good : IsConfig (at_later g 
       reached = m.reached;
       ways = m.ways;
       freed = m.freed;
-      like = adds_one (Opened Down name message) e.log r.log (λ n o. refl) tt m.like;
+      like =
+          adds_one (Opened Down name message) e.log r.log (opened_down name message) tt m.like;
     }
     mirrors (Do (Send Up name n)) own can =
         let x = sent_of Ground c e.on_ground name n (message_at e.on_ground name) in
-        let y : PutOut = up_packet c first g good p m (Some name) x.1 in
+        let y : PutOut = up_packet c first g good p parts m (Some name) x.1 in
         let s : Rest = record r { ways = y ∷ r.ways } in
         record {
           rest = s;
           reached =
               move s (Do (Send Up name n)) can
-              (send_up c first g good p m name n (message_at e.on_ground name));
+              (send_up c first g good p parts m name n (message_at e.on_ground name))
+              (λ i n. refl);
           ways = up_both y r.ways e.on_the_way m.ways;
           freed = m.freed;
           like = m.like;
         }
     mirrors (Do (Send Down name n)) own can =
         let x = sent_of Craft c e.on_craft name n (message_at e.on_craft name) in
-        beside_craft c first g good p m x.0
+        beside_craft c first g good p parts m x.0
         (put_out e.on_the_way Down (Some name) (x.1 ∷ [])) e.log e.memories
         (same_sent c e.on_craft name n (message_at e.on_craft name))
         (up_down r.ways e.on_the_way (Some name) (x.1 ∷ []) m.ways) m.like
     mirrors (Do (Plain source flags service subtype body)) own can =
         let b : List ℕ = (plain_made c e.on_ground source flags service subtype body).1 in
-        let y : PutOut = up_packet c first g good p m None b in
+        let y : PutOut = up_packet c first g good p parts m None b in
         let s : Rest = record r { ways = y ∷ r.ways; log = Asked b ∷ r.log } in
         record {
           rest = s;
           reached =
-              move s (Do (Plain source flags service subtype body)) can refl;
+              move s (Do (Plain source flags service subtype body)) can refl (λ i n. refl);
           ways = up_both y r.ways e.on_the_way m.ways;
           freed = m.freed;
           like = adds (Asked b) e.log r.log tt m.like;
@@ -102,7 +120,7 @@ module _ (c : Config) (first : Contents) (g : ℕ) (good : IsConfig (at_later g 
     mirrors (Do (Finish Up name)) own can = record {
       rest = r;
       reached =
-          move r (Do (Finish Up name)) can refl;
+          move r (Do (Finish Up name)) can refl (λ i n. refl);
       ways = m.ways;
       freed = m.freed;
       like = m.like;
@@ -114,14 +132,14 @@ module _ (c : Config) (first : Contents) (g : ℕ) (good : IsConfig (at_later g 
       freed = m.freed;
       like = m.like;
     }
-    mirrors (Do (Accept Up b)) own can = takes_up c first g good p m b can
+    mirrors (Do (Accept Up b)) own can = takes_up c first g good p parts m b can
     mirrors (Do (Accept Down b)) own can =
-        takes_down c first g good p m b (arrival_in c Down b) refl
+        takes_down c first g good p parts m b (arrival_in c Down b) refl
     mirrors (Do (Tick Ground)) own can = record {
       rest = r;
       reached =
           move r (Do (Tick Ground)) can
-          refl;
+          refl (λ i n. refl);
       ways = m.ways;
       freed = m.freed;
       like = m.like;
@@ -130,23 +148,28 @@ module _ (c : Config) (first : Contents) (g : ℕ) (good : IsConfig (at_later g 
       rest = r;
       reached =
           move r (Do (Tick Craft)) can
-          refl;
+          refl (λ i n. refl);
       ways = m.ways;
       freed = m.freed;
       like = m.like;
     }
-    mirrors (Do (Expire Ground)) own can = expires_ground c first g good p m (due c e.on_ground)
+    mirrors (Do (Expire Ground)) own can =
+        expires_ground c first g good p parts m (due c e.on_ground)
     mirrors (Do (Expire Craft)) own can =
-        expires_craft c first g good p m (due c e.on_craft) refl can
+        expires_craft c first g good p parts m (due c e.on_craft) refl can
     mirrors (Do (Claim w)) own can = absurd own
     mirrors (Do (Commit w)) own can = absurd own
     mirrors (Do Apply) own can =
         let x = executed_of c e.on_craft e.memories (head_of e.on_craft.jobs.jobs) in
-        beside_craft c first g good p m x.0.0 (put_out e.on_the_way Down None x.0.1.packets)
+        let it : IsMirrored c first (moved c p (Do Apply)) parts =
+        beside_craft c first g good p parts m x.0.0
+        (put_out e.on_the_way Down None x.0.1.packets)
         (Executed ∷ reporting e.log x.0.1.opened) x.1
         (same_executed c e.on_craft e.memories (head_of e.on_craft.jobs.jobs))
         (up_down r.ways e.on_the_way None x.0.1.packets m.ways)
-        (executes c first g good p m x.0.1.opened)
+        (executes c first g good p parts m x.0.1.opened) in
+        subst (λ (ps : Name → ℕ → Bool). IsMirrored c first (moved c p (Do Apply)) ps)
+        (λ i name n. if sym (not_reported x.0.1.opened name) i then false else parts name n) it
     mirrors (Do (Retire Up name)) own can =
         let s : Rest = record r {
           ways = without Up name r.ways;
@@ -156,7 +179,8 @@ module _ (c : Config) (first : Contents) (g : ℕ) (good : IsConfig (at_later g 
         record {
           rest = s;
           reached =
-              move s (Do (Retire Up name)) (can.0, sym (m.freed name) ∙ can.1) refl;
+              move s (Do (Retire Up name)) (can.0, sym (m.freed name) ∙ can.1) refl
+              (λ i n. refl);
           ways = up_left (λ o. not (is_part Up name o)) r.ways e.on_the_way m.ways;
           freed = λ n i. not (is_same Up name Up n) && m.freed n i;
           like = adds (Retired Up name) e.log r.log tt m.like;
@@ -166,7 +190,7 @@ module _ (c : Config) (first : Contents) (g : ℕ) (good : IsConfig (at_later g 
       reached = m.reached;
       ways = up_less (λ o. not (is_part Down name o)) r.ways e.on_the_way m.ways;
       freed = m.freed;
-      like = adds_one (Retired Down name) e.log r.log (λ n o. refl) tt m.like;
+      like = adds_one (Retired Down name) e.log r.log (retired_down name) tt m.like;
     }
     mirrors (Do (Restart Ground)) own can =
         let s : Rest = record r {
@@ -176,7 +200,7 @@ module _ (c : Config) (first : Contents) (g : ℕ) (good : IsConfig (at_later g 
         record {
           rest = s;
           reached =
-              move s (Do (Restart Ground)) tt refl;
+              move s (Do (Restart Ground)) tt refl (λ i n. refl);
           ways = m.ways;
           freed = m.freed;
           like = adds (Restarted Ground) e.log r.log tt m.like;
@@ -191,7 +215,7 @@ module _ (c : Config) (first : Contents) (g : ℕ) (good : IsConfig (at_later g 
         record {
           rest = s;
           reached =
-              move s (Do (Restart Craft)) tt refl;
+              move s (Do (Restart Craft)) tt refl (λ i n. refl);
           ways = m.ways;
           freed = m.freed;
           like = adds (Restarted Craft) e.log r.log tt m.like;
@@ -205,7 +229,8 @@ module _ (c : Config) (first : Contents) (g : ℕ) (good : IsConfig (at_later g 
           rest = s;
           reached =
               move s (Free Up name)
-              (can.0, record { closed = can.1.closed; unheard = can.1.unheard }) refl;
+              (can.0, record { closed = can.1.closed; unheard = can.1.unheard }) refl
+              (λ i n. refl);
           ways = up_left (λ o. not (is_part Up name o)) r.ways e.on_the_way m.ways;
           freed = λ n i. is_same Up name Up n || m.freed n i;
           like = m.like;
@@ -219,24 +244,26 @@ module _ (c : Config) (first : Contents) (g : ℕ) (good : IsConfig (at_later g 
     }
 
   -- a reading changes the spacecraft's requests alone
-  reads_beside : (p : Pair) (message : List ℕ)
-      → IsMirrored c first p
-      → IsMirrored c first (with_craft p (read_as c p.ends message))
-  reads_beside p message m =
-      beside_craft c first g good p m (read_as c p.ends message) p.ends.on_the_way p.ends.log
+  reads_beside : (p : Pair) (message : List ℕ) (parts : Name → ℕ → Bool)
+      → IsMirrored c first p parts
+      → IsMirrored c first (with_craft p (read_as c p.ends message)) parts
+  reads_beside p message parts m =
+      beside_craft c first g good p parts m (read_as c p.ends message) p.ends.on_the_way p.ends.log
       p.ends.memories
       (same_read p.ends.on_craft (unclaimed p.ends.on_craft.jobs)
       (record { apid = c.apid; sizes = sizes_of p.ends.memories; message = message }))
       m.ways m.like
 
-  turns : (s : Service) (x : Turn)
+  turns : (s : Service) (x : Turn) (parts : Name → ℕ → Bool)
       → CanTurn c s x
-      → IsMirrored c first s.pair
+      → IsMirrored c first s.pair parts
       → IsMirrored c first (turned c s x).pair
-  turns s (Makes x) can m = mirrors s.pair m x can.0 can.1
-  turns s Reads can m = reads_beside s.pair (claimed s.pair.ends.on_craft).1.message m
-  turns s Drops can m = reads_beside s.pair [] m
-  turns s LetsGo can m = record {
+      (λ name n. came_turned c s x Up name n (parts name n))
+  turns s (Makes x) parts can m = mirrors s.pair parts m x can.0 can.1
+  turns s Reads parts can m =
+      reads_beside s.pair (claimed s.pair.ends.on_craft).1.message parts m
+  turns s Drops parts can m = reads_beside s.pair [] parts m
+  turns s LetsGo parts can m = record {
     rest = m.rest;
     reached = m.reached;
     ways = m.ways;
@@ -244,20 +271,22 @@ module _ (c : Config) (first : Contents) (g : ℕ) (good : IsConfig (at_later g 
     like = m.like;
   }
 
-  mirrored : (s : Service) (xs : List Turn)
-      → IsMirrored c first s.pair
+  pub mirrored : (s : Service) (xs : List Turn)
+      → IsMirrored c first s.pair (λ name n. false)
       → CanTurnAll c s xs
-      → IsMirrored c first (turned_all c s xs).pair
+      → IsMirrored c first (turned_all c s xs).pair (came_with c s xs Up)
   mirrored s [] m can = m
-  mirrored s (x ∷ xs) m can = turns (turned_all c s xs) x can.1 (mirrored s xs m can.0)
+  mirrored s (x ∷ xs) m can =
+      turns (turned_all c s xs) x (came_with c s xs Up) can.1 (mirrored s xs m can.0)
 
 -- two new ends are beside themselves
 begins_so : (c : Config) (first : Contents) (g k : ℕ)
     → IsConfig (at_later g c)
     → IsConfig (at_later k c)
-    → IsMirrored c first (no_pair_later c first g k)
+    → IsMirrored c first (no_pair_later c first g k) (λ name n. false)
 begins_so c first g k good_g good_k =
     let e : Ends = (no_pair_later c first g k).ends in
+    let b = begun c first g k good_g good_k in
     record {
       rest = record {
         receiving = e.on_ground.receiving;
@@ -267,10 +296,17 @@ begins_so c first g k good_g good_k =
         log = [];
         freed = λ d name. false;
       };
-      reached = begun_later c first g k good_g good_k;
+      reached = record { reached = b.reached; came = b.came Up };
       ways = tt;
       freed = λ name. refl;
-      like = record { awaits = λ name. refl; asked = λ b has. has; sent = tt };
+      like = record {
+        awaits = λ name. refl;
+        opened = λ name. refl;
+        aborted = λ name. refl;
+        released = λ name. refl;
+        asked = λ b has. has;
+        sent = tt;
+      };
     }
 
 -- what was read at the front is what waits first
@@ -303,3 +339,12 @@ ends_that_drop_serve c first g k xs good_g good_k can =
           first_waits c.apid s.pair.ends.memories s.pair.ends.on_craft.jobs.jobs s.waits r w q.jobs
           is there;
     }
+
+pub ends_that_drop_withhold_no_request : EndsThatDropWithholdNoRequest
+ends_that_drop_withhold_no_request c first g k xs good_g good_k can name m now all live =
+    let it = mirrored c first g good_g (no_service c first g k) xs
+    (begins_so c first g k good_g good_k) can in
+    it.like.released name
+    ∙ reached_withhold c first g _ good_g it.reached.reached Up name m
+    (sym (it.like.opened name) ∙ now) (λ n low high. it.reached.came name n ∙ all n low high)
+    (sym (it.like.aborted name) ∙ live)

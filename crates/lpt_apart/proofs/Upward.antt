@@ -19,8 +19,9 @@ use Rattle.lpt_journal.proofs.TestLemmas.{no_place}
 use Rattle.lpt_model.specs.State.{released_of}
 use Rattle.lpt_apart.specs.Drops.{AllSent, IsSent}
 use Rattle.lpt_apart.specs.Ends.{PutOut, put_out}
-use Rattle.lpt_apart.specs.Facts.{Fact, Asked, Released, Aborted, Log, awaited, awaited_after, with_abortion, AllDue}
+use Rattle.lpt_apart.specs.Facts.{Fact, Opened, Asked, Released, Aborted, Executed, Retired, Log, awaited, awaited_after, with_abortion, AllDue}
 use Rattle.lpt_apart.specs.Steps.{with_release}
+use Rattle.lpt_apart.specs.Whole.{aborted_after, is_aborted, last_opened, last_released, opened_after, released_after}
 use Rattle.lpt_apart.proofs.Asking.{later}
 
 -- ---- packets
@@ -127,12 +128,22 @@ up_there ws (x ∷ os) (suc n) o all at up = up_there ws os n o all.1 at up
 
 -- ---- logs
 
--- at the spacecraft the same is awaited by both; what one says was asked the other does; and what
--- the latter says of requests is so
+-- at the spacecraft the same is awaited by both, and the same was opened, broken off and released;
+-- what one says was asked the other does; and what the latter says of requests is so
 pub record IsLike (l r : Log) : Type 0 where
   pub awaits : (name : Name) → awaited l Up name ≡ awaited r Up name
+  pub opened : (name : Name) → last_opened l Up name ≡ last_opened r Up name
+  pub aborted : (name : Name) → is_aborted l Up name ≡ is_aborted r Up name
+  pub released : (name : Name) → last_released l Up name ≡ last_released r Up name
   pub asked : (b : List ℕ) → Contains r (Asked b) → Contains l (Asked b)
   pub sent : AllSent l
+
+-- a fact says nothing of what goes up
+pub record LeavesUp (x : Fact) : Type 0 where
+  pub awaits : (name : Name) (o : Option (List ℕ)) → awaited_after x Up name o ≡ o
+  pub opened : (name : Name) (o : Option (List ℕ)) → opened_after x Up name o ≡ o
+  pub aborted : (name : Name) (b : Bool) → aborted_after x Up name b ≡ b
+  pub released : (name : Name) (o : Option (List ℕ)) → released_after x Up name o ≡ o
 
 has_both : (x f : Fact) (l r : Log)
     → (Contains r f → Contains l f)
@@ -145,20 +156,67 @@ has_both x f l r goes (suc k, within, is) = later x l f (goes (k, omega (arith, 
 pub adds : (x : Fact) (l r : Log) → IsSent x l → IsLike l r → IsLike (x ∷ l) (x ∷ r)
 adds x l r is like = record {
   awaits = λ name i. awaited_after x Up name (like.awaits name i);
+  opened = λ name i. opened_after x Up name (like.opened name i);
+  aborted = λ name i. aborted_after x Up name (like.aborted name i);
+  released = λ name i. released_after x Up name (like.released name i);
   asked = λ b. has_both x (Asked b) l r (like.asked b);
   sent = (like.sent, is);
 }
 
 -- a fact in one, of which nothing is said of requests
 pub adds_one : (x : Fact) (l r : Log)
-    → ((name : Name) (o : Option (List ℕ)) → awaited_after x Up name o ≡ o)
+    → LeavesUp x
     → IsSent x l
     → IsLike l r
     → IsLike (x ∷ l) r
-adds_one x l r same is like = record {
-  awaits = λ name. same name (awaited l Up name) ∙ like.awaits name;
+adds_one x l r beside is like = record {
+  awaits = λ name. beside.awaits name (awaited l Up name) ∙ like.awaits name;
+  opened = λ name. beside.opened name (last_opened l Up name) ∙ like.opened name;
+  aborted = λ name. beside.aborted name (is_aborted l Up name) ∙ like.aborted name;
+  released = λ name. beside.released name (last_released l Up name) ∙ like.released name;
   asked = λ b has. later x l (Asked b) (like.asked b has);
   sent = (like.sent, is);
+}
+
+-- such are what is opened, released, broken off and retired downwards, and an execution
+pub opened_down : (name : Name) (m : List ℕ) → LeavesUp (Opened Down name m)
+opened_down name m = record {
+  awaits = λ n o. refl;
+  opened = λ n o. refl;
+  aborted = λ n b. refl;
+  released = λ n o. refl;
+}
+
+pub released_down : (name : Name) (m : List ℕ) → LeavesUp (Released (Some (Down, name)) m)
+released_down name m = record {
+  awaits = λ n o. refl;
+  opened = λ n o. refl;
+  aborted = λ n b. refl;
+  released = λ n o. refl;
+}
+
+pub aborted_down : (name : Name) → LeavesUp (Aborted Down name)
+aborted_down name = record {
+  awaits = λ n o. refl;
+  opened = λ n o. refl;
+  aborted = λ n b. refl;
+  released = λ n o. refl;
+}
+
+pub retired_down : (name : Name) → LeavesUp (Retired Down name)
+retired_down name = record {
+  awaits = λ n o. refl;
+  opened = λ n o. refl;
+  aborted = λ n b. refl;
+  released = λ n o. refl;
+}
+
+pub an_execution : LeavesUp Executed
+an_execution = record {
+  awaits = λ n o. refl;
+  opened = λ n o. refl;
+  aborted = λ n b. refl;
+  released = λ n o. refl;
 }
 
 -- what a node has taken of what came up

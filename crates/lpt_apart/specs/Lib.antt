@@ -7,5 +7,6 @@ pub mod Plays
 pub mod Reports
 pub mod Steps
 pub mod Told
+pub mod Uploads
 pub mod Whole
 pub mod Worlds

@@ -5,6 +5,7 @@ ghost use Rattle.lpt_apart.specs.Drops.{EndsThatDropServe};
 ghost use Rattle.lpt_apart.specs.Moves.{EndsApartAreAWorld, EndsApartKeepThePromise};
 ghost use Rattle.lpt_apart.specs.Plays.{WorldsAreEnds, StepsAreMoves};
 ghost use Rattle.lpt_apart.specs.Reports.{DroppedIsNotReported};
+ghost use Rattle.lpt_apart.specs.Uploads.{EndsThatDropWithholdNoRequest};
 ghost use Rattle.lpt_apart.specs.Whole.{EndsApartWithholdNothing, EndsWithClocksWithholdNothing, EndsWithholdNothing, MovesBringTheSame, WorldsBringTheSame};
 ghost use Rattle.lpt_apart.specs.Worlds.{EndsAreAWorld, EndsKeepThePromise};
 
@@ -89,6 +90,13 @@ pub fn moves_bring_the_same()
 /// release, and what was dropped isn't among these.
 pub fn ends_that_drop_serve()
     ensures { EndsThatDropServe }
+{}
+
+/// Such ends withhold no request that came whole. Take what was last opened upwards under a name.
+/// If each part of it was handed over since then, and since the spacecraft was last restarted,
+/// while there was room, it was released since; but where its reception expired or was broken off.
+pub fn ends_that_drop_withhold_no_request()
+    ensures { EndsThatDropWithholdNoRequest }
 {}
 
 /// Whatever such ends did before, nothing is put out and nothing is opened of a request that was

@@ -1,5 +1,5 @@
 -- What a machine did and didn't write can be deleted from what was done.
-use Rattle.std.proofs.Common.{◌≡◌, ◌∙◌, ap, sym, subst, refl, ℕ, ◌+◌, ◌<◌, ◌^◌, List, [], ◌∷◌, Option, Some, None, Result, Ok}
+use Rattle.std.proofs.Common.{◌≡◌, ◌∙◌, ap, sym, subst, refl, ℕ, ◌+◌, ◌<◌, ◌^◌, List, [], ◌∷◌, Result, Ok}
 use Rattle.lpt_apart.specs.Clocks.{CanAll, after_all, no_pair_later}
 use Rattle.lpt_apart.specs.Ends.{node_at}
 use Rattle.lpt_apart.specs.Moves.{CanMove, Move, Pair, moved}
@@ -7,15 +7,12 @@ use Rattle.lpt_apart.specs.Whole.{came_since, WithholdsNothing}
 use Rattle.lpt_apart.specs.Worlds.{IsPromised}
 use Rattle.lpt_apart.proofs.Clocks.{begun_later, ends_with_clocks_withhold_nothing, joined, reached_keep}
 use Rattle.lpt_apart_kept.specs.Deeds.{with_memories, with_read}
-use Rattle.lpt_apart_kept.specs.Resets.{CanLive, CanLiveAll, Deed, Lived, Make, MakeForgotten, Reset, ResetEndsKeepThePromise, SendingsAreForgotten, Write, just_written, left_without, lived, lived_all, made, made_forgotten, side_of}
+use Rattle.lpt_apart_kept.specs.Resets.{CanLive, CanLiveAll, Deed, Lived, Make, MakeForgotten, Reset, ResetEndsKeepThePromise, Write, just_written, left_without, lived, lived_all, made, made_forgotten, side_of}
 use Rattle.lpt_apart_kept.proofs.Local.{Aboard, aboard, is_of_craft, is_of_ground, next_aboard, next_ground}
 use Rattle.lpt_events.specs.declared.config.Config.{Config}
 use Rattle.lpt_events.specs.declared.side.Side.{Side}
 use Rattle.lpt_events.specs.declared.side.Side.TheVariants.{Ground, Craft}
-use Rattle.lpt_node.specs.Nodes.{NodeData, NodeView, message_at}
-use Rattle.lpt_node.specs.Sending.{sent_of}
-use Rattle.lpt_packet.specs.Names.{Name}
-use Rattle.lpt_packet.specs.declared.direction.Direction.TheVariants.{Up, Down}
+use Rattle.lpt_node.specs.Nodes.{NodeData, NodeView}
 use Rattle.lpt_node.specs.Restarts.{restarted}
 use Rattle.lpt_state.specs.Lastings.{IsEnd, restarted_node}
 use Rattle.lpt_state.specs.Spellings.{spelled}
@@ -370,30 +367,3 @@ reset_ends_keep_the_promise c first g t k xs good_g good_t new ground craft can 
           subst (λ (p : Pair). WithholdsNothing c (after_all c p ms).ends.log (came_since c p ms))
           (sym new) (ends_with_clocks_withhold_nothing c first g t ms good_g good_t may);
     }
-
--- ---- what is sent
-
-sent_forgotten : (s : Side) (c : Config) (d : NodeData) (name : Name) (k : ℕ)
-    (o : Option (List ℕ))
-    → restarted (sent_of s c d name k o).0 ≡ restarted d
-sent_forgotten s c d name k None = refl
-sent_forgotten s c d name k (Some m) = refl
-
-pub sendings_are_forgotten : SendingsAreForgotten
-sendings_are_forgotten c p Up name k source flags service subtype body = (
-  record {
-    node =
-        sent_forgotten Ground c p.ends.on_ground name k (message_at p.ends.on_ground name);
-    tickets = refl;
-    memories = refl;
-  },
-  record { node = refl; tickets = refl; memories = refl },
-)
-sendings_are_forgotten c p Down name k source flags service subtype body = (
-  record {
-    node = sent_forgotten Craft c p.ends.on_craft name k (message_at p.ends.on_craft name);
-    tickets = refl;
-    memories = refl;
-  },
-  record { node = refl; tickets = refl; memories = refl },
-)

@@ -1,3 +1,4 @@
 pub mod Deleting
+pub mod Finishing
 pub mod Local
 pub mod Readings

@@ -50,7 +50,9 @@ pub record IsKept (c : Config) (k : Kept) (side : Side) : Type 0 where
 
 -- ---- what is read back
 
--- the ends, of which that of this side is what was read; where nothing could be read they stay
+-- The ends, of which that of this side is what was read; where nothing could be read they stay. The
+-- jobs of workers stay, too, though a machine loses them: they are of the boot before, so that what
+-- is handed in of them changes nothing.
 abbrev pub with_read : Pair → Side → Result NodeView StateFault → Pair
 with_read p side (Ok v) =
     record p {

@@ -169,6 +169,7 @@ SendingsAreForgotten =
     (source flags service subtype : ℕ) (body : List ℕ)
     → IsForgotten c p (Do (Send d name k))
     × IsForgotten c p (Do (Plain source flags service subtype body))
+    × IsForgotten c p (Do (Finish d name))
 
 -- two ends that were written before they did anything
 abbrev pub just_written : Config → Kept → Lived

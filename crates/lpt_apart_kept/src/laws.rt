@@ -36,8 +36,8 @@ pub fn reset_ends_keep_the_promise()
     ensures { ResetEndsKeepThePromise }
 {}
 
-/// A restart forgets that a part or a plain request was sent. So what was sent without being
-/// written isn't deleted by a reset, and may be handed over.
+/// A restart forgets that a part or a plain request was sent, and that a message was finished. So
+/// what was sent without being written isn't deleted by a reset, and may be handed over.
 pub fn sendings_are_forgotten()
     ensures { SendingsAreForgotten }
 {}

@@ -1,5 +1,6 @@
 -- Calls that weren't kept can be deleted from what was done.
 use Rattle.std.proofs.Common.{◌≡◌, ◌∙◌, ap, sym, subst, refl, ℕ, List, [], ◌∷◌, Option, Some, None, inl, inr}
+use Rattle.lpt_apart_kept.proofs.Finishing.{finished_runs}
 use Rattle.lpt_c_end.specs.Contents.{memories_of, memories_told}
 use Rattle.lpt_c_end.specs.declared.end.End.{End}
 use Rattle.lpt_c_end.specs.declared.memories.LptMemory.{LptMemory}
@@ -327,6 +328,10 @@ sendings_leave_the_state e new name k source flags service subtype body (inl don
 sendings_leave_the_state e new name k source flags service subtype body (inr (inl done)) =
     same_state e new done.1.fixed.side done.1.fixed.config
     (ap (λ (d : NodeData). lasting_of d) done.1.node)
-sendings_leave_the_state e new name k source flags service subtype body (inr (inr done)) =
+sendings_leave_the_state e new name k source flags service subtype body (inr (inr (inl done))) =
+    same_state e new done.1.fixed.side done.1.fixed.config
+    (ap (λ (d : NodeData). lasting_of d) done.1.node
+    ∙ (λ i. record (lasting_of e.node.at) { sent = finished_runs e.node.at.sending name i }))
+sendings_leave_the_state e new name k source flags service subtype body (inr (inr (inr done))) =
     same_state e new done.1.fixed.side done.1.fixed.config
     (ap (λ (d : NodeData). lasting_of d) done.1.node)

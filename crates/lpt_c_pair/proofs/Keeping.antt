@@ -1,23 +1,28 @@
 -- The memories of a program that drops requests.
-use Rattle.std.proofs.Common.{◌≡◌, ◌∙◌, ap, sym, subst, refl, List, [], ◌∷◌, ◌++◌}
+use Rattle.std.proofs.Common.{◌≡◌, ◌∙◌, ap, sym, subst, refl, ℕ, List, [], ◌∷◌, ◌++◌}
 use Rattle.std.specs.Prelude.{⊤}
-use Rattle.lpt_apart.specs.Clocks.{after_all}
+use Rattle.lpt_apart.specs.Clocks.{after_all, later}
 use Rattle.lpt_apart.specs.Drops.{Service, IsServed, no_service, turned_all}
 use Rattle.lpt_apart.specs.Moves.{Pair}
-use Rattle.lpt_apart.proofs.Mirroring.{ends_that_drop_serve}
+use Rattle.lpt_c_end.specs.Changes.{IsNew}
+use Rattle.lpt_c_end.specs.Sizes.{sizes_said, IsNewSized}
 use Rattle.lpt_c_end.specs.declared.end.End.{End}
-use Rattle.lpt_c_pair.specs.Keepers.{Act, Does, Gives, Keeper, Puts, Settles, TakesBack, Writes, CanKeep, CanKeepAll, ProgramsThatDropServe, giving, kept, kept_all, new_keeper, program_of, stood_by}
+use Rattle.lpt_c_end.specs.declared.memories.LptMemory.{LptMemory}
+use Rattle.lpt_c_end.specs.declared.sizing.LptSize.{LptSize}
+use Rattle.lpt_c_pair.specs.Keepers.{Act, Does, Gives, Keeper, Puts, Settles, TakesBack, Writes, CanKeep, CanKeepAll, ProgramsThatDropServe, deeds_of, giving, kept, kept_all, new_keeper, program_of, stood_by}
 use Rattle.lpt_c_pair.specs.Pairs.{Call, Open, Part, Plain, Finish, LetGo, Packet, Expire, Tick, Read, Execute, ExecuteGiven, Retire, RetireFree, Restart, Resume, ResumeSized, moves}
 use Rattle.lpt_c_pair.specs.Programs as program
 use Rattle.lpt_c_pair.specs.Programs.{Program, Told, acted, put_told}
-use Rattle.lpt_c_pair.specs.Services.{Calls, Deed, Drops, DropsRead, turns}
+use Rattle.lpt_c_pair.specs.Services.{Calls, Deed, Drops, DropsRead, turns, turns_of}
+use Rattle.lpt_c_pair.specs.Withheld.{ProgramsThatDropWithholdNoRequest}
 use Rattle.lpt_c_pair.proofs.Leaving.{craft_leaves, ground_leaves}
 use Rattle.lpt_c_pair.proofs.Programs.{IsOwn, calls_craft, calls_ground, gives, none_told, starts, vow_of, writes}
-use Rattle.lpt_c_pair.proofs.Servicing.{IsLed, led_on}
+use Rattle.lpt_c_pair.proofs.Servicing.{IsLed, led_on, led_serves, led_withholds}
+use Rattle.lpt_events.specs.Configs.{IsConfig}
 use Rattle.lpt_events.specs.declared.config.Config.{Config}
 use Rattle.lpt_events.specs.declared.side.Side.{Side}
 use Rattle.lpt_events.specs.declared.side.Side.TheVariants.{Ground, Craft}
-use Rattle.lpt_memory.specs.Memories.{Contents}
+use Rattle.lpt_memory.specs.Memories.{Contents, sizes_of}
 
 -- the turns of a call leave the same memories as its moves
 same_ghost : (c : Config) (s : Service) (side : Side) (call : Call)
@@ -50,8 +55,8 @@ module _ (c : Config) (start : Service) where
   IsBack [] owed stood ms = ⊤
   IsBack (t ∷ ts) owed stood ms = (stood ≡ ms) × (owed ≡ [])
 
-  record IsKept (k : Keeper) : Type 0 where
-    led : IsLed c start k.serving
+  record IsKept (k : Keeper) (deeds : List Deed) : Type 0 where
+    led : IsLed c start k.serving (turns_of deeds)
     own : IsOwn (program_of k)
     back : IsBack k.ahead k.owed k.stood (ghost k)
 
@@ -82,20 +87,21 @@ module _ (c : Config) (start : Service) where
 
   -- ---- calls and drops
 
-  calls : (k : Keeper) (side : Side) (call : Call) (new : End)
+  calls : (k : Keeper) (deeds : List Deed) (side : Side) (call : Call) (new : End)
       → let x = Calls (record { side = side; call = call; new = new }) in
-      IsKept k
+      IsKept k deeds
       → CanKeep c k (Does x)
-      → IsKept (kept c k (Does x))
-  calls k Ground call new r can =
+      → IsKept (kept c k (Does x)) (x ∷ deeds)
+  calls k deeds Ground call new r can =
       let s : Service = k.serving.service in
       let q : Pair = (turned_all c s (turns Ground call)).pair in
       let same : q.ends.memories ≡ ghost k =
       same_ghost c s Ground call
       ∙ ground_leaves c s.pair k.serving.on_ground new call r.led.ends.ground.memories can.0.0 in
       record {
-        led = led_on c start k.serving (Calls (record { side = Ground; call = call; new = new }))
-            r.led can.0;
+        led =
+            led_on c start k.serving (turns_of deeds)
+            (Calls (record { side = Ground; call = call; new = new })) r.led can.0;
         own =
             own_over (acted c (program_of k)
             (program.Calls (record { side = Ground; call = call; new = new }))) q
@@ -103,14 +109,15 @@ module _ (c : Config) (start : Service) where
             (calls_ground c (program_of k) call new r.led.ends.ground.memories r.own can);
         back = back_over k.ahead k.owed k.stood (ghost k) q.ends.memories same r.back;
       }
-  calls k Craft call new r can =
+  calls k deeds Craft call new r can =
       let s : Service = k.serving.service in
       let q : Pair = (turned_all c s (turns Craft call)).pair in
       let l = craft_leaves c s.pair k.serving.on_ground k.serving.on_craft new r.own.sizes
       (program_of k) call r.own.place can.0.0 can.0.1 can.1 in
       record {
-        led = led_on c start k.serving (Calls (record { side = Craft; call = call; new = new }))
-            r.led can.0;
+        led =
+            led_on c start k.serving (turns_of deeds)
+            (Calls (record { side = Craft; call = call; new = new })) r.led can.0;
         own =
             own_over (acted c (program_of k)
             (program.Calls (record { side = Craft; call = call; new = new }))) q
@@ -120,13 +127,13 @@ module _ (c : Config) (start : Service) where
             (same_ghost c s Craft call ∙ l.memories) r.back;
       }
 
-  does : (k : Keeper) (x : Deed)
-      → IsKept k
+  does : (k : Keeper) (deeds : List Deed) (x : Deed)
+      → IsKept k deeds
       → CanKeep c k (Does x)
-      → IsKept (kept c k (Does x))
-  does k (Calls t) r can = calls k t.side t.call t.new r can
-  does k (Drops new) r can = record {
-    led = led_on c start k.serving (Drops new) r.led can.0;
+      → IsKept (kept c k (Does x)) (x ∷ deeds)
+  does k deeds (Calls t) r can = calls k deeds t.side t.call t.new r can
+  does k deeds (Drops new) r can = record {
+    led = led_on c start k.serving (turns_of deeds) (Drops new) r.led can.0;
     own = record {
       sizes = r.own.sizes;
       place = can.0.1.fixed.memories ∙ r.own.place;
@@ -135,8 +142,8 @@ module _ (c : Config) (start : Service) where
     };
     back = none_back k.ahead k.owed k.stood (ghost k) can.1;
   }
-  does k (DropsRead new) r can = record {
-    led = led_on c start k.serving (DropsRead new) r.led can.0;
+  does k deeds (DropsRead new) r can = record {
+    led = led_on c start k.serving (turns_of deeds) (DropsRead new) r.led can.0;
     own = record {
       sizes = r.own.sizes;
       place = can.0.1.fixed.memories ∙ r.own.place;
@@ -175,22 +182,25 @@ module _ (c : Config) (start : Service) where
 
   -- ---- acts
 
-  acts : (k : Keeper) (x : Act) → IsKept k → CanKeep c k x → IsKept (kept c k x)
-  acts k (Does x) r can = does k x r can
-  acts k (Writes t) r can = record {
+  acts : (k : Keeper) (xs : List Act) (x : Act)
+      → IsKept k (deeds_of xs)
+      → CanKeep c k x
+      → IsKept (kept c k x) (deeds_of (x ∷ xs))
+  acts k xs (Does x) r can = does k (deeds_of xs) x r can
+  acts k xs (Writes t) r can = record {
     led = r.led;
     own = writes c (program_of k) t r.own can;
     back =
         more_back k.ahead t k.owed k.memories k.stood (ghost k) can.0 r.own.same r.back;
   }
-  acts k (Gives octets owed new) r can = record {
+  acts k xs (Gives octets owed new) r can = record {
     led =
-        led_on c start k.serving (giving octets new) r.led
+        led_on c start k.serving (turns_of (deeds_of xs)) (giving octets new) r.led
         (can.0, (vow_of c (program_of k) octets owed new r.own can).vow);
     own = gives c (program_of k) octets owed new r.led.ends.craft.node r.own can;
     back = tt;
   }
-  acts k (Puts ms) r can = record {
+  acts k xs (Puts ms) r can = record {
     led = r.led;
     own = record {
       sizes = r.own.sizes;
@@ -200,7 +210,7 @@ module _ (c : Config) (start : Service) where
     };
     back = r.back;
   }
-  acts k Settles r can = record {
+  acts k xs Settles r can = record {
     led = r.led;
     own = record {
       sizes = r.own.sizes;
@@ -210,7 +220,7 @@ module _ (c : Config) (start : Service) where
     };
     back = settled k.ahead k.owed k.stood (ghost k) r.back;
   }
-  acts k TakesBack r can = record {
+  acts k xs TakesBack r can = record {
     led = r.led;
     own = record {
       sizes = r.own.sizes;
@@ -222,27 +232,43 @@ module _ (c : Config) (start : Service) where
   }
 
   all_acts : (k : Keeper) (xs : List Act)
-      → IsKept k
+      → IsKept k []
       → CanKeepAll c k xs
-      → IsKept (kept_all c k xs)
+      → IsKept (kept_all c k xs) (deeds_of xs)
   all_acts k [] r can = r
-  all_acts k (x ∷ xs) r can = acts (kept_all c k xs) x (all_acts k xs r can.0) can.1
+  all_acts k (x ∷ xs) r can = acts (kept_all c k xs) xs x (all_acts k xs r can.0) can.1
+
+-- what was done with two new ends is so
+all_kept : (c : Config) (a b : ℕ) (none : List LptMemory) (nothing : List ℕ) (sizes : List LptSize)
+    (first : Contents) (g k : End) (xs : List Act)
+    → IsConfig (later a c)
+    → IsConfig (later b c)
+    → sizes_said sizes ≡ sizes_of first
+    → IsNew Ground (later a c) none nothing g
+    → IsNewSized (later b c) sizes k
+    → CanKeepAll c (new_keeper c first a b g k) xs
+    → IsKept c (no_service c first a b) (kept_all c (new_keeper c first a b g k) xs) (deeds_of xs)
+all_kept c a b none nothing sizes first g k xs good_g good_k same new_g new_k can =
+    let s = starts c a b none nothing sizes first g k good_g good_k same new_g new_k in
+    all_acts c (no_service c first a b) (new_keeper c first a b g k) xs (record {
+      led = record { can = tt; is = refl; ends = s.stands.ends };
+      own = s.own;
+      back = tt;
+    }) can
 
 pub programs_that_drop_serve : ProgramsThatDropServe
 programs_that_drop_serve c a b none nothing sizes first g k xs good_g good_k same new_g new_k can =
-    let s = starts c a b none nothing sizes first g k good_g good_k same new_g new_k in
-    let start : Service = no_service c first a b in
     let end : Keeper = kept_all c (new_keeper c first a b g k) xs in
-    let r : IsKept c start end =
-    all_acts c start (new_keeper c first a b g k) xs (record {
-      led = record { all = []; can = tt; is = refl; ends = s.stands.ends };
-      own = s.own;
-      back = tt;
-    }) can in
+    let r = all_kept c a b none nothing sizes first g k xs good_g good_k same new_g new_k can in
     let is : IsServed c first end.serving.service =
-    subst (λ (q : Service). IsServed c first q) r.led.is
-    (ends_that_drop_serve c first a b r.led.all good_g good_k r.led.can) in
+    led_serves c a b first good_g good_k end.serving (turns_of (deeds_of xs)) r.led in
     record {
       service = record { ends = r.led.ends; served = is };
       memories = r.own.same ∙ ap (put_told end.ahead) is.memories;
     }
+
+pub programs_that_drop_withhold_no_request : ProgramsThatDropWithholdNoRequest
+programs_that_drop_withhold_no_request c a b none nothing sizes first g k xs good_g good_k same
+    new_g new_k can =
+    led_withholds c a b first good_g good_k _ (turns_of (deeds_of xs))
+    (all_kept c a b none nothing sizes first g k xs good_g good_k same new_g new_k can).led

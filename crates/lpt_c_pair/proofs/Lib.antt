@@ -13,6 +13,7 @@ pub mod Keeping
 pub mod Leaving
 pub mod Lemmas
 pub mod Loading
+pub mod Outages
 pub mod Passing
 pub mod Pasts
 pub mod Programs

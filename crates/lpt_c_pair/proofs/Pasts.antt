@@ -6,7 +6,7 @@ use Rattle.lpt_c_end.specs.declared.end.End.{End}
 use Rattle.lpt_c_pair.specs.Pairs.{Call}
 use Rattle.lpt_c_pair.specs.Pasts.{Past, Event, Does, Keeps, Resets, CanGo, CanGoAll, ResetEndsThatDropServe, again, did, end_after, just_begun, reset_by, went, went_all}
 use Rattle.lpt_c_pair.specs.Services.{Calls, Deed, Drops, DropsRead, Serving, CanServeAll, no_serving, served_all}
-use Rattle.lpt_c_pair.proofs.Servicing.{ends_of_c_that_drop_serve}
+use Rattle.lpt_c_pair.proofs.Servicing.{ends_of_c_that_drop_serve, ends_of_c_that_drop_withhold_no_request}
 use Rattle.lpt_events.specs.declared.config.Config.{Config}
 use Rattle.lpt_events.specs.declared.side.Side.{Side}
 use Rattle.lpt_events.specs.declared.side.Side.TheVariants.{Ground, Craft}
@@ -168,4 +168,7 @@ reset_ends_that_drop_serve c a b none nothing ms content g k xs good_g good_k ne
       kept =
           ends_of_c_that_drop_serve c a b none nothing ms content g k p.deeds good_g good_k new_g
           new_k so.can;
+      whole =
+          ends_of_c_that_drop_withhold_no_request c a b none nothing ms content g k p.deeds good_g
+          good_k new_g new_k so.can;
     }

@@ -1,13 +1,14 @@
 -- Two ends behind handles that drop requests are two ends apart that do.
-use Rattle.std.proofs.Common.{◌≡◌, ◌∙◌, ap, sym, subst, refl, List, [], ◌∷◌, Option, Some, None}
+use Rattle.std.proofs.Common.{◌≡◌, ◌∙◌, ap, sym, subst, refl, ℕ, List, [], ◌∷◌, ◌++◌, Option, Some, None}
 use Rattle.lpt_apart.specs.Clocks.{CanAll, after_all, later}
 use Rattle.lpt_apart.specs.Drops as apart
 use Rattle.lpt_apart.specs.Drops.{Service, CanTurn, CanTurnAll, IsNoWork, no_service, turned, turned_all}
 use Rattle.lpt_apart.specs.Ends.{Ends}
 use Rattle.lpt_apart.specs.Moves.{Pair}
-use Rattle.lpt_apart.proofs.Mirroring.{ends_that_drop_serve}
+use Rattle.lpt_apart.specs.Uploads.{came_with, WithholdsNoRequest}
+use Rattle.lpt_apart.proofs.Mirroring.{ends_that_drop_serve, ends_that_drop_withhold_no_request}
 use Rattle.lpt_c_end.specs.Accesses.{unready}
-use Rattle.lpt_c_end.specs.Changes.{IsDropped, IsFixed, IsReadDropped, read_as_by}
+use Rattle.lpt_c_end.specs.Changes.{IsDropped, IsFixed, IsNew, IsReadDropped, read_as_by}
 use Rattle.lpt_c_end.specs.Codes.{no_job, node_code}
 use Rattle.lpt_c_end.specs.Contents.{memories_told}
 use Rattle.lpt_c_end.specs.Kept.{memories_refusal, sizes_in}
@@ -15,13 +16,16 @@ use Rattle.lpt_c_end.specs.Refusals.{read_refusal}
 use Rattle.lpt_c_end.specs.Words.{direction_from as direction_by}
 use Rattle.lpt_c_end.specs.declared.end.End.{End}
 use Rattle.lpt_c_end.specs.declared.kept.Kept.{Kept}
+use Rattle.lpt_c_end.specs.declared.memories.LptMemory.{LptMemory}
 use Rattle.lpt_c_pair.specs.Pairs.{AreEndsOf, Call, Open, Part, Plain, Finish, InEnd, LetGo, Packet, Expire, Tick, Read, Execute, ExecuteGiven, Retire, RetireFree, Restart, Resume, ResumeSized, IsDone, freeing, moves}
-use Rattle.lpt_c_pair.specs.Services.{Calls, Deed, Drops, DropsRead, EndsOfCThatDropServe, Serving, CanServe, CanServeAll, no_serving, served, served_all, standing, turns}
+use Rattle.lpt_c_pair.specs.Services.{Calls, Deed, Drops, DropsRead, EndsOfCThatDropServe, Serving, CanServe, CanServeAll, no_serving, served, served_all, standing, turns, turns_by, turns_of}
 use Rattle.lpt_c_pair.specs.Runs.{CanTurnBy}
+use Rattle.lpt_c_pair.specs.Withheld.{EndsOfCThatDropWithholdNoRequest}
 use Rattle.lpt_c_pair.proofs.Calls.{calls_are_moves}
 use Rattle.lpt_c_pair.proofs.Lemmas.{craft_fixed, no_fault, refusal_kept, sizes_kept}
 use Rattle.lpt_c_pair.proofs.Running.{begins}
 use Rattle.lpt_c_pair.proofs.Waiting.{stays}
+use Rattle.lpt_events.specs.Configs.{IsConfig}
 use Rattle.lpt_events.specs.declared.config.Config.{Config}
 use Rattle.lpt_events.specs.declared.side.Side.{Side}
 use Rattle.lpt_events.specs.declared.side.Side.TheVariants.{Ground, Craft}
@@ -162,16 +166,15 @@ module _ (c : Config) (s : Service) (g k new : End) (are : AreEndsOf c s.pair g 
 
 -- ---- whatever is done
 
--- the ends stand where turns lead
-pub record IsLed (c : Config) (start : Service) (s : Serving) : Type 0 where
-  pub all : List apart.Turn
+-- the ends stand where these turns lead
+pub record IsLed (c : Config) (start : Service) (s : Serving) (all : List apart.Turn)
+    : Type 0 where
   pub can : CanTurnAll c start all
   pub is : turned_all c start all ≡ s.service
   pub ends : AreEndsOf c s.service.pair s.on_ground s.on_craft
 
 -- turns behind others
-record AreBehind (c : Config) (start after : Service) : Type 0 where
-  all : List apart.Turn
+record AreBehind (c : Config) (start after : Service) (all : List apart.Turn) : Type 0 where
   can : CanTurnAll c start all
   is : turned_all c start all ≡ after
 
@@ -179,24 +182,24 @@ behind : (c : Config) (start s : Service) (all xs : List apart.Turn)
     → CanTurnAll c start all
     → turned_all c start all ≡ s
     → CanTurnAll c s xs
-    → AreBehind c start (turned_all c s xs)
-behind c start s all [] can is more = record { all = all; can = can; is = is }
+    → AreBehind c start (turned_all c s xs) (xs ++ all)
+behind c start s all [] can is more = record { can = can; is = is }
 behind c start s all (x ∷ xs) can is more =
     let rest = behind c start s all xs can is more.0 in
     record {
-      all = x ∷ rest.all;
       can = (rest.can, subst (λ (q : Service). CanTurn c q x) (sym rest.is) more.1);
       is = ap (λ (q : Service). turned c q x) rest.is;
     }
 
-pub led_on : (c : Config) (start : Service) (s : Serving) (x : Deed)
-    → IsLed c start s
+pub led_on : (c : Config) (start : Service) (s : Serving) (all : List apart.Turn) (x : Deed)
+    → IsLed c start s all
     → CanServe c s x
-    → IsLed c start (served c s x)
-led_on c start s (Calls t) r can = by_side t.side can where
+    → IsLed c start (served c s x) (turns_by x ++ all)
+led_on c start s all (Calls t) r can = by_side t.side can where
   by_side : (side : Side)
       → CanTurnBy c (standing s) side t.call t.new
       → IsLed c start (served c s (Calls (record { side = side; call = t.call; new = t.new })))
+      (turns side t.call ++ all)
   by_side Ground can =
       let w = (calls_are_moves c s.service.pair s.on_ground s.on_craft r.ends t.call).0 t.new can.0
       can.1 in
@@ -205,8 +208,8 @@ led_on c start s (Calls t) r can = by_side t.side can where
       (λ is. reads_ground c s.service.pair s.on_ground s.on_craft t.new
       (AreTurns c s.service Ground Read t.new s.on_craft) r.ends
       (subst (λ (x : Call). IsDone x s.on_ground t.new) is can.0)) w in
-      let b = behind c start s.service r.all (turns Ground t.call) r.can r.is by.can in
-      record { all = b.all; can = b.can; is = b.is; ends = by.ends }
+      let b = behind c start s.service all (turns Ground t.call) r.can r.is by.can in
+      record { can = b.can; is = b.is; ends = by.ends }
   by_side Craft can =
       let w = (calls_are_moves c s.service.pair s.on_ground s.on_craft r.ends t.call).1 t.new can.0
       can.1 in
@@ -215,39 +218,71 @@ led_on c start s (Calls t) r can = by_side t.side can where
       (λ is. reads_craft c s.service s.on_ground s.on_craft t.new r.ends
       (subst (λ (x : Call). CanAll c s.service.pair (moves Craft x)
       × AreEndsOf c (after_all c s.service.pair (moves Craft x)) s.on_ground t.new) is w)) w in
-      let b = behind c start s.service r.all (turns Craft t.call) r.can r.is by.can in
-      record { all = b.all; can = b.can; is = b.is; ends = by.ends }
-led_on c start s (Drops new) r can =
+      let b = behind c start s.service all (turns Craft t.call) r.can r.is by.can in
+      record { can = b.can; is = b.is; ends = by.ends }
+led_on c start s all (Drops new) r can =
     let w = drops c s.service s.on_ground s.on_craft new r.ends can.0 can.1 in
-    let b = behind c start s.service r.all (apart.Drops ∷ []) r.can r.is (tt, w.0) in
-    record { all = b.all; can = b.can; is = b.is; ends = w.1 }
-led_on c start s (DropsRead new) r can =
+    let b = behind c start s.service all (apart.Drops ∷ []) r.can r.is (tt, w.0) in
+    record { can = b.can; is = b.is; ends = w.1 }
+led_on c start s all (DropsRead new) r can =
     let w = drops_read c s.service s.on_ground s.on_craft new r.ends can.0 can.1 in
-    let b = behind c start s.service r.all (apart.LetsGo ∷ []) r.can r.is (tt, w.0) in
-    record { all = b.all; can = b.can; is = b.is; ends = w.1 }
+    let b = behind c start s.service all (apart.LetsGo ∷ []) r.can r.is (tt, w.0) in
+    record { can = b.can; is = b.is; ends = w.1 }
 
 led : (c : Config) (start : Service) (s : Serving) (xs : List Deed)
-    → IsLed c start s
+    → IsLed c start s []
     → CanServeAll c s xs
-    → IsLed c start (served_all c s xs)
+    → IsLed c start (served_all c s xs) (turns_of xs)
 led c start s [] r can = r
 led c start s (x ∷ xs) r can =
-    led_on c start (served_all c s xs) x (led c start s xs r can.0) can.1
+    led_on c start (served_all c s xs) (turns_of xs) x (led c start s xs r can.0) can.1
 
-pub ends_of_c_that_drop_serve : EndsOfCThatDropServe
-ends_of_c_that_drop_serve c a b none nothing ms content g k xs good_g good_k new_g new_k can =
+-- ---- what is promised
+
+-- the ends are led there from two new ones
+module _ (c : Config) (a b : ℕ) (first : Contents) (good_a : IsConfig (later a c))
+    (good_b : IsConfig (later b c)) (s : Serving) (all : List apart.Turn)
+    (r : IsLed c (no_service c first a b) s all) where
+  pub led_serves : apart.IsServed c first s.service
+  led_serves =
+      subst (λ (q : Service). apart.IsServed c first q) r.is
+      (ends_that_drop_serve c first a b all good_a good_b r.can)
+
+  pub led_withholds : WithholdsNoRequest c s.service.pair.ends.log
+      (came_with c (no_service c first a b) all)
+  led_withholds =
+      subst (λ (q : Service). WithholdsNoRequest c q.pair.ends.log
+      (came_with c (no_service c first a b) all)) r.is
+      (ends_that_drop_withhold_no_request c first a b all good_a good_b r.can)
+
+-- two new ends are led by what is done
+led_so : (c : Config) (a b : ℕ) (none : List LptMemory) (nothing : List ℕ) (ms : List LptMemory)
+    (content : List ℕ) (g k : End) (xs : List Deed)
+    → IsConfig (later a c)
+    → IsConfig (later b c)
+    → IsNew Ground (later a c) none nothing g
+    → IsNew Craft (later b c) ms content k
+    → CanServeAll c (no_serving c (memories_told content ms) a b g k) xs
+    → IsLed c (no_service c (memories_told content ms) a b)
+    (served_all c (no_serving c (memories_told content ms) a b g k) xs) (turns_of xs)
+led_so c a b none nothing ms content g k xs good_g good_k new_g new_k can =
     let first : Contents = memories_told content ms in
-    let start : Service = no_service c first a b in
-    let r : IsLed c start (served_all c (no_serving c first a b g k) xs) =
-    led c start (no_serving c first a b g k) xs (record {
-      all = [];
+    led c (no_service c first a b) (no_serving c first a b g k) xs (record {
       can = tt;
       is = refl;
       ends = (begins c a b none nothing InEnd first g k good_g good_k new_g new_k).ends;
-    }) can in
+    }) can
+
+pub ends_of_c_that_drop_serve : EndsOfCThatDropServe
+ends_of_c_that_drop_serve c a b none nothing ms content g k xs good_g good_k new_g new_k can =
+    let r = led_so c a b none nothing ms content g k xs good_g good_k new_g new_k can in
     record {
       ends = r.ends;
-      served =
-          subst (λ (s : Service). apart.IsServed c first s) r.is
-          (ends_that_drop_serve c first a b r.all good_g good_k r.can);
+      served = led_serves c a b (memories_told content ms) good_g good_k _ (turns_of xs) r;
     }
+
+pub ends_of_c_that_drop_withhold_no_request : EndsOfCThatDropWithholdNoRequest
+ends_of_c_that_drop_withhold_no_request c a b none nothing ms content g k xs good_g good_k new_g
+    new_k can =
+    led_withholds c a b (memories_told content ms) good_g good_k _ (turns_of xs)
+    (led_so c a b none nothing ms content g k xs good_g good_k new_g new_k can)

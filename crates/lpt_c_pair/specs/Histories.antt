@@ -10,7 +10,7 @@ use Rattle.lpt_c_end.specs.Changes.{IsNew}
 use Rattle.lpt_c_end.specs.Contents.{memories_told}
 use Rattle.lpt_c_end.specs.declared.end.End.{End}
 use Rattle.lpt_c_end.specs.declared.memories.LptMemory.{LptMemory}
-use Rattle.lpt_c_pair.specs.Pairs.{LetGo, Part, Plain, Resume, IsDone}
+use Rattle.lpt_c_pair.specs.Pairs.{Finish, LetGo, Part, Plain, Resume, IsDone}
 use Rattle.lpt_c_pair.specs.Runs.{Turn, Standing, begun, stood, CanStand, CanTurnBy, KeepsThePromise}
 use Rattle.lpt_c_pair.specs.Withheld.{moves_of}
 use Rattle.lpt_events.specs.Configs.{IsConfig}
@@ -206,5 +206,5 @@ abbrev pub SendingsLeaveTheState : Type 0
 SendingsLeaveTheState =
     (e new : End) (name : Name) (k source flags service subtype : ℕ) (body : List ℕ)
     → IsDone (Part name k) e new ⊎ IsDone (Plain source flags service subtype body) e new
-    ⊎ IsDone LetGo e new
+    ⊎ IsDone (Finish name) e new ⊎ IsDone LetGo e new
     → spelled new.node ≡ spelled e.node

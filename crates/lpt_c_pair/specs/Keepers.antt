@@ -101,6 +101,16 @@ abbrev pub CanKeepAll : Config → Keeper → List Act → Type 0
 CanKeepAll c k [] = ⊤
 CanKeepAll c k (x ∷ xs) = CanKeepAll c k xs × CanKeep c (kept_all c k xs) x
 
+-- the calls and the drops that these acts are
+abbrev pub deeds_of : List Act → List Deed
+deeds_of [] = []
+deeds_of (Does x ∷ xs) = x ∷ deeds_of xs
+deeds_of (Writes t ∷ xs) = deeds_of xs
+deeds_of (Gives octets owed new ∷ xs) = giving octets new ∷ deeds_of xs
+deeds_of (Puts ms ∷ xs) = deeds_of xs
+deeds_of (Settles ∷ xs) = deeds_of xs
+deeds_of (TakesBack ∷ xs) = deeds_of xs
+
 -- two new ends, and memories that nothing was written over
 abbrev pub new_keeper : Config → Contents → (ticks_ground ticks_craft : ℕ)
     → (on_ground on_craft : End)

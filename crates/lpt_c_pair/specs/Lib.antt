@@ -4,6 +4,7 @@ pub mod Handed
 pub mod Histories
 pub mod Keepers
 pub mod Loads
+pub mod Outages
 pub mod Outboxes
 pub mod Pairs
 pub mod Pasts

@@ -4,12 +4,13 @@
 -- drops requests.
 use Rattle.std.specs.Prelude.{◌≡◌, ℕ, List, [], ◌∷◌, ⊤}
 use Rattle.lpt_apart.specs.Clocks.{later}
+use Rattle.lpt_apart.specs.Uploads.{came_with, WithholdsNoRequest}
 use Rattle.lpt_c_end.specs.Changes.{IsNew}
 use Rattle.lpt_c_end.specs.Contents.{memories_told}
 use Rattle.lpt_c_end.specs.declared.end.End.{End}
 use Rattle.lpt_c_end.specs.declared.memories.LptMemory.{LptMemory}
 use Rattle.lpt_c_pair.specs.Pairs.{Resume}
-use Rattle.lpt_c_pair.specs.Services.{Calls, Deed, Drops, DropsRead, Serving, CanServeAll, KeepsItsService, no_serving, served_all}
+use Rattle.lpt_c_pair.specs.Services.{Calls, Deed, Drops, DropsRead, Serving, CanServeAll, KeepsItsService, no_serving, served_all, turns_of}
 use Rattle.lpt_events.specs.Configs.{IsConfig}
 use Rattle.lpt_events.specs.declared.config.Config.{Config}
 use Rattle.lpt_events.specs.declared.side.Side.{Side}
@@ -110,12 +111,14 @@ just_begun s = record {
 }
 
 -- What is left can be done, comes to the ends that the programs have, and is as ends that drop
--- requests promise.
+-- requests promise. A request that came whole with what is left was released.
 pub record IsLeft (c : Config) (first : Contents) (start : Serving) (p : Past) : Type 0 where
   pub can : CanServeAll c start p.deeds
   pub on_ground : p.on_ground ≡ (served_all c start p.deeds).on_ground
   pub on_craft : p.on_craft ≡ (served_all c start p.deeds).on_craft
   pub kept : KeepsItsService c first (served_all c start p.deeds)
+  pub whole : WithholdsNoRequest c (served_all c start p.deeds).service.pair.ends.log
+      (came_with c start.service (turns_of p.deeds))
 
 -- whatever was done with two ends that were new, drops among it, whenever machines were reset
 abbrev pub ResetEndsThatDropServe : Type 0

@@ -1,5 +1,5 @@
 -- Two ends behind handles, whose spacecraft's program drops requests that it doesn't execute.
-use Rattle.std.specs.Prelude.{◌≡◌, ℕ, List, [], ◌∷◌, None, ⊤, Some}
+use Rattle.std.specs.Prelude.{◌≡◌, ℕ, List, [], ◌∷◌, ◌++◌, None, ⊤, Some}
 use Rattle.std.specs.List.{slice_get}
 use Rattle.lpt_apart.specs.Clocks.{later}
 use Rattle.lpt_apart.specs.Drops as apart
@@ -54,6 +54,17 @@ made (x ∷ xs) = apart.Makes x ∷ made xs
 abbrev pub turns : Side → Call → List apart.Turn
 turns side Read = apart.Reads ∷ []
 turns side call = made (moves side call)
+
+-- the turns of a deed, the newest first
+abbrev pub turns_by : Deed → List apart.Turn
+turns_by (Calls t) = turns t.side t.call
+turns_by (Drops new) = apart.Drops ∷ []
+turns_by (DropsRead new) = apart.LetsGo ∷ []
+
+-- and of deeds
+abbrev pub turns_of : List Deed → List apart.Turn
+turns_of [] = []
+turns_of (x ∷ xs) = turns_by x ++ turns_of xs
 
 -- the ends with this one of a side, and this service
 abbrev pub with_end : Serving → Service → Side → End → Serving

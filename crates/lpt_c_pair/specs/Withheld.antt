@@ -1,7 +1,9 @@
 -- Two ends behind handles withhold nothing that came whole.
 use Rattle.std.specs.Prelude.{◌≡◌, ℕ, List, [], ◌∷◌, ◌++◌}
 use Rattle.lpt_apart.specs.Clocks.{later, no_pair_later}
+use Rattle.lpt_apart.specs.Drops.{no_service}
 use Rattle.lpt_apart.specs.Moves.{Move}
+use Rattle.lpt_apart.specs.Uploads.{came_with, WithholdsNoRequest}
 use Rattle.lpt_apart.specs.Whole.{came_since, WithholdsNothing}
 use Rattle.lpt_c_end.specs.Changes.{IsNew}
 use Rattle.lpt_c_end.specs.Contents.{memories_told}
@@ -9,9 +11,11 @@ use Rattle.lpt_c_end.specs.Sizes.{sizes_said, IsNewSized}
 use Rattle.lpt_c_end.specs.declared.end.End.{End}
 use Rattle.lpt_c_end.specs.declared.memories.LptMemory.{LptMemory}
 use Rattle.lpt_c_end.specs.declared.sizing.LptSize.{LptSize}
+use Rattle.lpt_c_pair.specs.Keepers as keeper
 use Rattle.lpt_c_pair.specs.Pairs.{ExecuteGiven, moves}
 use Rattle.lpt_c_pair.specs.Programs.{Act, Calls, Writes, Gives, Puts, Settles, started, came_by, CanActAll}
 use Rattle.lpt_c_pair.specs.Runs.{Turn, begun, stood, CanStand}
+use Rattle.lpt_c_pair.specs.Services.{Deed, CanServeAll, no_serving, served_all, turns_of as turns_by_deeds}
 use Rattle.lpt_events.specs.Configs.{IsConfig}
 use Rattle.lpt_events.specs.declared.config.Config.{Config}
 use Rattle.lpt_events.specs.declared.side.Side.TheVariants.{Ground, Craft}
@@ -64,3 +68,39 @@ ProgramsWithholdNothing =
     → CanActAll c (started c first a b g k) xs
     → WithholdsNothing c (came_by c (started c first a b g k) xs).ends.pair.ends.log
     (came_since c (no_pair_later c first a b) (moves_of (turns_of xs)))
+
+-- ---- where requests are dropped
+
+-- Whatever calls were made of two ends that were new, drops among them: what was last opened
+-- upwards under a name, and each part of which `lpt_end_packet` took since then, and since the
+-- spacecraft was last restarted or made again, was released since; but where there was no room, or
+-- its reception expired or was broken off.
+abbrev pub EndsOfCThatDropWithholdNoRequest : Type 0
+EndsOfCThatDropWithholdNoRequest =
+    (c : Config) (a b : ℕ)
+    (none : List LptMemory) (nothing : List ℕ) (ms : List LptMemory) (content : List ℕ)
+    (g k : End) (xs : List Deed)
+    → IsConfig (later a c)
+    → IsConfig (later b c)
+    → IsNew Ground (later a c) none nothing g
+    → IsNew Craft (later b c) ms content k
+    → CanServeAll c (no_serving c (memories_told content ms) a b g k) xs
+    → WithholdsNoRequest c
+    (served_all c (no_serving c (memories_told content ms) a b g k) xs).service.pair.ends.log
+    (came_with c (no_service c (memories_told content ms) a b) (turns_by_deeds xs))
+
+-- the same where the spacecraft's program has the memories
+abbrev pub ProgramsThatDropWithholdNoRequest : Type 0
+ProgramsThatDropWithholdNoRequest =
+    (c : Config) (a b : ℕ)
+    (none : List LptMemory) (nothing : List ℕ) (sizes : List LptSize) (first : Contents)
+    (g k : End) (xs : List keeper.Act)
+    → IsConfig (later a c)
+    → IsConfig (later b c)
+    → sizes_said sizes ≡ sizes_of first
+    → IsNew Ground (later a c) none nothing g
+    → IsNewSized (later b c) sizes k
+    → keeper.CanKeepAll c (keeper.new_keeper c first a b g k) xs
+    → WithholdsNoRequest c
+    (keeper.kept_all c (keeper.new_keeper c first a b g k) xs).serving.service.pair.ends.log
+    (came_with c (no_service c first a b) (turns_by_deeds (keeper.deeds_of xs)))

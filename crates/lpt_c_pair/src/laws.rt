@@ -6,6 +6,7 @@ ghost use Rattle.lpt_c_pair.specs.Handed.{ExecutionsAreTold, GivenExecutionsAreT
 ghost use Rattle.lpt_c_pair.specs.Histories.{CarefulProgramsMayBeReset, ResetEndsOfCKeepThePromise, SendingsLeaveTheState};
 ghost use Rattle.lpt_c_pair.specs.Keepers.{ProgramsThatDropServe};
 ghost use Rattle.lpt_c_pair.specs.Loads.{LoadsGoWhereTheySay};
+ghost use Rattle.lpt_c_pair.specs.Outages.{ResetProgramsThatDropServe};
 ghost use Rattle.lpt_c_pair.specs.Pairs.{CallsAreMoves};
 ghost use Rattle.lpt_c_pair.specs.Pasts.{ResetEndsThatDropServe};
 ghost use Rattle.lpt_c_pair.specs.Programs.{ProgramsKeepTheirMemories};
@@ -13,7 +14,7 @@ ghost use Rattle.lpt_c_pair.specs.Redo.{WritesCanBeMadeAgain, WritesCanBeTakenBa
 ghost use Rattle.lpt_c_pair.specs.Resets.{CarefulMachinesMayBeReset, ResetProgramsKeepTheirMemories};
 ghost use Rattle.lpt_c_pair.specs.Runs.{EndsOfCKeepThePromise};
 ghost use Rattle.lpt_c_pair.specs.Services.{DroppedStaysDropped, EndsOfCThatDropServe, GivenStaysDropped};
-ghost use Rattle.lpt_c_pair.specs.Withheld.{EndsOfCWithholdNothing, ProgramsWithholdNothing};
+ghost use Rattle.lpt_c_pair.specs.Withheld.{EndsOfCThatDropWithholdNoRequest, EndsOfCWithholdNothing, ProgramsThatDropWithholdNoRequest, ProgramsWithholdNothing};
 
 /// Where two ends behind handles are those of two ends apart, and one of them is called, answers 0,
 /// and the program keeps what it promises of that call, its moves can happen, and the ends are
@@ -40,10 +41,12 @@ pub fn ends_of_c_keep_the_promise()
 /// Such ends withhold nothing that came whole. Take what was last opened under a name. If
 /// `lpt_end_packet` took each of its parts since then, and since its receiver was last restarted or
 /// made again, while there was room, it was released since; but where its reception expired or was
-/// broken off.
+/// broken off. Where the spacecraft's program drops requests, this is said of what goes up.
 pub fn ends_of_c_withhold_nothing()
     ensures in_end { EndsOfCWithholdNothing }
     ensures with_program { ProgramsWithholdNothing }
+    ensures dropping { EndsOfCThatDropWithholdNoRequest }
+    ensures own_dropping { ProgramsThatDropWithholdNoRequest }
 {}
 
 /// So it is whenever a machine is reset, once or again and again, also where its program had made
@@ -55,7 +58,8 @@ pub fn ends_of_c_withhold_nothing()
 /// too; since it last kept its end, they were changed only by what it owed then, or put back.
 ///
 /// Where each call could be made also without what the other program hadn't kept, a machine may be
-/// reset at any time. What is sent leaves an end's state as it is, so that no reset need delete it.
+/// reset at any time. What is sent or finished leaves an end's state as it is, so that no reset
+/// need delete it.
 pub fn resets_keep_the_promise()
     ensures in_end { ResetEndsOfCKeepThePromise }
     ensures with_program { ResetProgramsKeepTheirMemories }
@@ -116,12 +120,14 @@ pub fn dropped_is_never_executed()
 /// by the executed requests in order of release, and none that was dropped is among these.
 ///
 /// So it is too where its program has the memories. It may put back what it wrote ahead of a
-/// request that it then drops. And so it is of what is left where either machine is reset, as
-/// `resets_keep_the_promise` says it of ends that drop nothing.
+/// request that it then drops. And so it is of what is left where either machine is reset, once or
+/// again and again, wherever the memories are, as `resets_keep_the_promise` says it of ends that
+/// drop nothing.
 pub fn ends_of_c_that_drop_serve()
     ensures in_end { EndsOfCThatDropServe }
     ensures with_program { ProgramsThatDropServe }
     ensures reset { ResetEndsThatDropServe }
+    ensures own_reset { ResetProgramsThatDropServe }
 {}
 
 /// A load that is executed, once it is the oldest request of all, is carried out or refused. Where

@@ -1,9 +1,8 @@
 -- What the packet of the worked run is, what the nodes make of it, and what it means.
-use Rattle.std.proofs.Common.{◌≡◌, ◌∙◌, sym, subst, refl, ℕ, zero, suc, ◌<◌, List, [], ◌∷◌, length, map, Option, Some, None, arith}
+use Rattle.std.proofs.Common.{◌≡◌, ◌∙◌, sym, subst, refl, ℕ, zero, suc, ◌+◌, ◌<◌, List, [], ◌∷◌, length, map, Option, Some, None, arith}
 use Rattle.std.specs.Prelude.{⊤}
 use Rattle.std.specs.FinMap as maps
 use Rattle.std.proofs.lemmas.List.Elements.{All-nil}
-use Rattle.lpt_events.specs.declared.side.Side.TheVariants.{Craft}
 use Rattle.lpt_ledger.specs.Runs.{runs_of, runs_of_names, IsRun}
 use Rattle.lpt_ledger.specs.Marks.{Mark}
 use Rattle.lpt_packet.specs.Names.{name_cmp}
@@ -20,14 +19,14 @@ use Rattle.lpt_memory.specs.Requests.{front_load_area, front_head, request_in}
 use Rattle.lpt_ledger.specs.LeastFree.{first_of_numbers, least_free_in}
 use Rattle.lpt_events.specs.Arrivals.{ARequest, arrival}
 use Rattle.lpt_events.specs.declared.side.Side.TheVariants.{Craft}
+use Rattle.lpt_jobs.specs.declared.job.Job.{Job}
 use Rattle.lpt_jobs.specs.declared.job.Job.TheVariants.{Committed}
 use Rattle.lpt_execution.specs.Reporting.{opened_of, request_source}
-use Rattle.lpt_node.specs.Jobs.{executed_given, with_opened}
+use Rattle.lpt_node.specs.Jobs.{executed, executed_given, with_opened}
 use Rattle.lpt_packet.specs.Names.{Name}
 use Rattle.lpt_node.specs.Nodes.{NodeData, no_data}
-use Rattle.lpt_node.specs.Receiving.{with_job}
 use Rattle.lpt_node.specs.Requests.{plain_made}
-use Rattle.lpt_journal_examples.specs.Passes.{load, load_packet, usual}
+use Rattle.lpt_journal_examples.specs.Passes.{load, load_packet, loaded_memories, usual, usual_memories}
 
 abbrev pub asked : NodeData × List ℕ
 asked = plain_made usual (no_data usual) 1 0 6 2 load
@@ -43,40 +42,97 @@ unfolding seen spelling checksum octets_in shift_all tc_field tc_verdict command
     tm_verdict body_of part_verdict arrival
 arrives = refl
 
--- and waits
-abbrev pub taken : NodeData
-taken = with_job Craft (no_data usual) load_packet
+-- the spacecraft's node with these requests, of which the first has this number
+abbrev pub with_jobs : ℕ → List Job → NodeData
+with_jobs first jobs = record (no_data usual) { jobs = record { first = first; jobs = jobs } }
 
+-- the request, once it was read
 abbrev pub source : Source
 source = record { apid = 100; sizes = (1, 256) ∷ []; message = load_packet }
 
--- and was read
-abbrev pub read : NodeData
-read = record taken { jobs = record { first = 0; jobs = Committed source ∷ [] } }
+-- what is read in the place of a request that was dropped
+abbrev pub nothing : Source
+nothing = record { apid = 100; sizes = (1, 256) ∷ []; message = [] }
 
 pub means : meant source ≡ Load 1 (record { address = 16; octets = 171 ∷ 205 ∷ 239 ∷ 1 ∷ [] } ∷ [])
 unfolding seen spelling checksum octets_in shift_all tc_field tc_verdict command_in
     front_load_area front_head request_in body_meaning meaning
 means = refl
 
--- and was executed
-abbrev pub given : NodeData
-given = record taken { jobs = record { first = 1; jobs = [] } }
+-- ---- executions
 
--- no report is opened
-opens_none : (o : Option Name) → with_opened given (opened_of o []) ≡ given
-opens_none None = refl
-opens_none (Some name) = refl
+-- no report of data is opened, whatever name is free
+pub opens_nothing : (o : Option Name) → opened_of o [] ≡ None
+opens_nothing None = refl
+opens_nothing (Some name) = refl
 
-pub executes : (executed_given usual read []).0 ≡ given
+opens_none : (d : NodeData) (o : Option Name) → with_opened d (opened_of o []) ≡ d
+opens_none d None = refl
+opens_none d (Some name) = refl
+
+-- the load is executed where the program has the memory
+pub gives : (first : ℕ)
+    → (executed_given usual (with_jobs first (Committed source ∷ [])) []).0
+    ≡ with_jobs (first + 1) []
 unfolding seen spelling checksum octets_in shift_all tc_field tc_verdict command_in first_of_numbers
     front_load_area front_head request_in body_meaning meaning
-executes = opens_none (least_free_in read.sending.ledger (request_source 100 load_packet))
+gives first =
+    opens_none (with_jobs (first + 1) [])
+    (least_free_in (with_jobs first (Committed source ∷ [])).sending.ledger
+    (request_source 100 load_packet))
 
-pub no_packets : (executed_given usual read []).1.packets ≡ []
+pub gives_quietly : (first : ℕ)
+    → (executed_given usual (with_jobs first (Committed source ∷ [])) []).1.packets ≡ []
 unfolding seen spelling checksum octets_in shift_all tc_field tc_verdict command_in first_of_numbers
     front_load_area front_head request_in body_meaning meaning
-no_packets = refl
+gives_quietly first = refl
+
+-- and where the end has it
+pub executes : (first : ℕ)
+    → (executed usual (with_jobs first (Committed source ∷ [])) usual_memories).0.0
+    ≡ with_jobs (first + 1) []
+unfolding seen spelling checksum octets_in shift_all tc_field tc_verdict command_in first_of_numbers
+    front_load_area front_head request_in body_meaning meaning
+executes first =
+    opens_none (with_jobs (first + 1) [])
+    (least_free_in (with_jobs first (Committed source ∷ [])).sending.ledger
+    (request_source 100 load_packet))
+
+pub executes_quietly : (first : ℕ)
+    → (executed usual (with_jobs first (Committed source ∷ [])) usual_memories).0.1.packets ≡ []
+unfolding seen spelling checksum octets_in shift_all tc_field tc_verdict command_in first_of_numbers
+    front_load_area front_head request_in body_meaning meaning
+executes_quietly first = refl
+
+pub loads : (first : ℕ)
+    → (executed usual (with_jobs first (Committed source ∷ [])) usual_memories).1
+    ≡ loaded_memories
+unfolding seen spelling checksum octets_in shift_all tc_field tc_verdict command_in
+    front_load_area front_head request_in body_meaning meaning
+loads first = refl
+
+-- a dropped request is passed over
+pub passes : (jobs : List Job)
+    → (executed usual (with_jobs 0 (Committed nothing ∷ jobs)) usual_memories).0.0
+    ≡ with_jobs 1 jobs
+unfolding seen spelling command_in meaning
+passes jobs =
+    opens_none (with_jobs 1 jobs)
+    (least_free_in (with_jobs 0 (Committed nothing ∷ jobs)).sending.ledger
+    (request_source 100 []))
+
+pub passes_quietly : (jobs : List Job)
+    → (executed usual (with_jobs 0 (Committed nothing ∷ jobs)) usual_memories).0.1.packets ≡ []
+unfolding seen spelling command_in meaning
+passes_quietly jobs = refl
+
+pub passes_over : (jobs : List Job)
+    → (executed usual (with_jobs 0 (Committed nothing ∷ jobs)) usual_memories).1
+    ≡ usual_memories
+unfolding seen spelling command_in meaning
+passes_over jobs = refl
+
+-- ---- states
 
 -- the names in use of an end that uses none
 no_items : {A : Type 0} (xs : List A) → length xs ≡ 0 → xs ≡ []

@@ -6,7 +6,10 @@ use Rattle.lpt_c_end.specs.declared.end.End.{End}
 use Rattle.lpt_c_end.specs.declared.sizing.LptSize.{LptSize}
 use Rattle.lpt_c_pair.specs.Pairs.{Packet, Plain, Read, ResumeSized}
 use Rattle.lpt_c_pair.specs.Programs.{Act, Calls, Gives, Program, Puts, Settles, Told, Writes, CanActAll, came_by, started}
-use Rattle.lpt_c_pair.specs.Resets.{Deed, Does, Keeps, ResetsCraft, CanLiveAll, just_begun, lived_all}
+use Rattle.lpt_c_pair.specs.Resets.{Deed, Does, Keeps, ResetsCraft, AreCareful, CanLiveAll, just_begun, lived_all}
+use Rattle.lpt_c_pair.specs.Runs.{CanStand}
+use Rattle.lpt_c_pair.specs.Withheld.{turns_of}
+use Rattle.lpt_c_pair_examples.specs.Called.{called_log}
 use Rattle.lpt_events.specs.declared.side.Side.TheVariants.{Ground, Craft}
 use Rattle.lpt_journal_examples.specs.Passes.{load, load_packet, loaded_memories, usual, usual_memories}
 use Rattle.lpt_memory.specs.Memories.{Contents}
@@ -40,7 +43,8 @@ worked asked taken read given again =
     ∷ Calls (record { side = Ground; call = Plain 1 0 6 2 load; new = asked })
     ∷ []
 
--- ends that come of it, and the memories that it leaves
+-- ends that come of it; what was released and executed, and the memories that it leaves; and that
+-- these calls can be made of two ends
 pub record CanBe (start : Program) : Type 0 where
   pub asked : End
   pub taken : End
@@ -48,8 +52,11 @@ pub record CanBe (start : Program) : Type 0 where
   pub given : End
   pub again : End
   pub can : CanActAll usual start (worked asked taken read given again)
+  pub log : (came_by usual start (worked asked taken read given again)).ends.pair.ends.log
+      ≡ called_log
   pub left : (came_by usual start (worked asked taken read given again)).memories
       ≡ loaded_memories
+  pub stands : CanStand usual start.ends (turns_of (worked asked taken read given again))
 
 -- whatever two new ends there are
 abbrev pub WorkedCanBe : Type 0
@@ -65,9 +72,10 @@ WorkedCanBe =
 abbrev pub torn : Contents
 torn = (1, replicate 16 0 ++ 171 ∷ 205 ∷ replicate 238 0) ∷ []
 
--- The same, but that the spacecraft's end is kept behind the execution, with the write that is
--- owed; the machine is reset in the middle of that write; and once the end was made again of what
--- was kept, the write is made again. The newest stands first.
+-- The same, but that ground's end is kept before its packet is handed over, and the spacecraft's
+-- behind the execution, with the write that is owed; the machine is reset in the middle of that
+-- write; and once the end was made again of what was kept, the write is made again. The newest
+-- stands first.
 abbrev pub torn_and_redone : (asked taken read given again : End) → List Deed
 torn_and_redone asked taken read given again =
     Does Settles
@@ -77,16 +85,19 @@ torn_and_redone asked taken read given again =
     ∷ Does (Gives [] (load_told ∷ []) given)
     ∷ Does (Calls (record { side = Craft; call = Read; new = read }))
     ∷ Does (Calls (record { side = Craft; call = Packet load_packet; new = taken }))
+    ∷ Keeps Ground
     ∷ Does (Calls (record { side = Ground; call = Plain 1 0 6 2 load; new = asked }))
     ∷ []
 
--- ends that come of it, and the memories that it leaves
+-- ends that come of it, and the memories that it leaves; nothing was handed over before it was kept
 pub record CanBeRedone (start : Program) : Type 0 where
   pub asked : End
   pub taken : End
   pub read : End
   pub given : End
   pub again : End
+  pub careful : AreCareful usual start (just_begun start)
+      (torn_and_redone asked taken read given again)
   pub can : CanLiveAll usual start (just_begun start)
       (torn_and_redone asked taken read given again)
   pub left : (lived_all usual start (just_begun start)

@@ -1,17 +1,30 @@
-//! A run of two ends behind handles, and what comes of it: a function with an empty body.
+//! Runs of two ends behind handles, and what comes of them: functions with empty bodies.
 
+ghost use Rattle.lpt_c_pair_examples.specs.Called.{CallsCanBe};
 ghost use Rattle.lpt_c_pair_examples.specs.Dropped.{DroppedCanBe};
+ghost use Rattle.lpt_c_pair_examples.specs.Nodes.{NodesCanBe};
+ghost use Rattle.lpt_c_pair_examples.specs.TakenBack.{WrittenCanBeTakenBack};
 ghost use Rattle.lpt_c_pair_examples.specs.Worked.{TornCanBeRedone, WorkedCanBe, WrittenCanBePutBack};
+
+/// Of whatever two new ends, of which the spacecraft's has its memory: ground asks for a load; the
+/// spacecraft takes its packet, reads and executes it, and is made again of its state. All of it
+/// can be done; the load was released and executed, and stands in the memory. So it is where the
+/// machine is reset after that, when the packet has come once more.
+pub fn calls_can_be()
+    ensures { CallsCanBe }
+{}
 
 /// Of whatever two new ends, of which the spacecraft's program has the memories: ground asks for a
 /// load; the spacecraft takes its packet, reads and executes it, writes what it owes, and is made
-/// again of its state. All of it can be done, and the load stands in the memory.
+/// again of its state. All of it can be done; the load was released and executed, and stands in the
+/// memory.
 pub fn worked_can_be()
     ensures { WorkedCanBe }
 {}
 
-/// The same, where the spacecraft's machine is reset while half of the load is written: its end is
-/// made again of what was kept behind the execution, and the write that is owed is made again.
+/// The same, where both ends are kept before anything that depends on it is handed over, and the
+/// spacecraft's machine is reset while half of the load is written: its end is made again of what
+/// was kept behind the execution, and the write that is owed is made again.
 pub fn torn_can_be_redone()
     ensures { TornCanBeRedone }
 {}
@@ -25,7 +38,22 @@ pub fn written_can_be_put_back()
 /// Of whatever two new ends, of which the spacecraft's has its memory: a load comes twice. The
 /// program drops it when it comes first, and reads it when it comes again. The execution of the
 /// first leaves the memory as it was; that of the second is the only one in the list, and writes
-/// it.
+/// it. So it is where the machine is reset after that.
 pub fn dropped_can_be()
     ensures { DroppedCanBe }
+{}
+
+/// The same of a program that has the memory: it reads the first and writes the load, puts back
+/// what stood there and lets the request go. It executes the second, with its write owed, and its
+/// machine is reset while half of that is written. The second is the only one in the list, and the
+/// load stands in the memory.
+pub fn written_can_be_taken_back()
+    ensures { WrittenCanBeTakenBack }
+{}
+
+/// Two nodes with no handles do the same as `calls_can_be` says. The spacecraft's is written and
+/// read back; and its machine is reset when the packet has come once more, with both written in
+/// time. What is left are the same moves.
+pub fn nodes_can_be()
+    ensures { NodesCanBe }
 {}

@@ -1,4 +1,4 @@
-use Rattle.lpt_apart_kept.proofs.Deleting.{sendings_are_forgotten}
+use Rattle.lpt_apart_kept.proofs.Finishing.{sendings_are_forgotten}
 use Rattle.lpt_apart_kept.proofs.laws.sendings_are_forgotten.Goals as goal
 
 pub returns : goal.returns

@@ -1,0 +1,222 @@
+-- The worked run that drops a request over which it had written, computed by the definitions.
+use Rattle.std.proofs.Common.{◌≡◌, refl, List, [], ◌∷◌, None, inl, arith}
+use Rattle.lpt_packet.specs.Checksums.{checksum, octets_in, shift_all}
+use Rattle.lpt_packet.specs.Packets.{seen, spelling}
+use Rattle.lpt_packet.specs.declared.direction.Direction.TheVariants.{Up}
+use Rattle.lpt_pus.specs.Commands.{tc_field, tc_verdict, command_in}
+use Rattle.lpt_pus.specs.Telemetry.{tm_field, tm_verdict}
+use Rattle.lpt_part.specs.Parts.{body_of, part_verdict}
+use Rattle.lpt_events.specs.Arrivals.{arrival}
+use Rattle.lpt_events.specs.declared.side.Side.TheVariants.{Ground, Craft}
+use Rattle.lpt_jobs.specs.declared.job.Job.TheVariants.{Waiting, Committed}
+use Rattle.lpt_c_end.specs.Accesses.{unready}
+use Rattle.lpt_c_end.specs.Changes.{IsNew, IsReadDropped}
+use Rattle.lpt_c_end.specs.Sizes.{IsNewSized, kept_as}
+use Rattle.lpt_c_end.specs.declared.end.End.{End}
+use Rattle.lpt_c_pair.specs.Keepers.{Act, Does, Gives, Keeper, TakesBack, Writes, CanKeepAll, new_keeper}
+use Rattle.lpt_c_pair.specs.Outages.{CanLiveAll, just_begun}
+use Rattle.lpt_c_pair.specs.Pairs.{Packet, Plain, Read}
+use Rattle.lpt_c_pair.specs.Services.{Calls, DropsRead}
+use Rattle.lpt_c_pair_examples.specs.TakenBack.{WrittenCanBeTakenBack, taken_back}
+use Rattle.lpt_c_pair_examples.specs.Worked.{load_told, sizes}
+use Rattle.lpt_c_pair_examples.proofs.Computed.{asked, octets, packet_is, source}
+use Rattle.lpt_c_pair_examples.proofs.Stages.{asked_end, asks, none_read, reads, takes, takes_again}
+use Rattle.lpt_c_pair_examples.proofs.Working.{craft, craft_again, gives_it, no_more, one_done, one_waiting, reads_nothing, resumes_it, told}
+use Rattle.lpt_journal_examples.specs.Passes.{load, load_packet, usual, usual_memories}
+
+module _ (g k : End) (new_g : IsNew Ground usual [] [] g) (new_k : IsNewSized usual sizes k) where
+  abbrev asked_for : End
+  asked_for = asked_end g new_g
+
+  abbrev taken : End
+  taken = craft k new_k 0 (Waiting load_packet ∷ []) one_waiting
+
+  abbrev read : End
+  read = craft k new_k 0 (Committed source ∷ []) one_done
+
+  abbrev let_go : End
+  let_go = craft k new_k 1 [] none_read
+
+  abbrev again : End
+  again = craft k new_k 1 (Waiting load_packet ∷ []) one_waiting
+
+  abbrev read_again : End
+  read_again = craft k new_k 1 (Committed source ∷ []) one_done
+
+  abbrev given : End
+  given = craft k new_k 2 [] none_read
+
+  abbrev resumed : End
+  resumed = craft_again k new_k 2 [] none_read
+
+  abbrev start : Keeper
+  start = new_keeper usual usual_memories 0 0 g k
+
+  -- the request that was read is let go
+  lets_go : (unready read ≡ None) × IsReadDropped read let_go
+  lets_go = (
+    refl,
+    record {
+      node = refl;
+      released = refl;
+      outbox = refl;
+      fixed = record { side = refl; config = refl; memories = refl };
+    },
+  )
+
+  -- ---- the run
+
+  -- up to the execution
+  abbrev run : List Act
+  run =
+      Gives [] (load_told ∷ []) given
+      ∷ Does (Calls (record { side = Craft; call = Read; new = read_again }))
+      ∷ Does (Calls (record { side = Craft; call = Packet load_packet; new = again }))
+      ∷ Does (DropsRead let_go)
+      ∷ TakesBack
+      ∷ Writes load_told
+      ∷ Does (Calls (record { side = Craft; call = Read; new = read }))
+      ∷ Does (Calls (record { side = Craft; call = Packet load_packet; new = taken }))
+      ∷ Does (Calls (record { side = Ground; call = Plain 1 0 6 2 load; new = asked_for }))
+      ∷ []
+
+  can : CanKeepAll usual start run
+  unfolding seen spelling checksum octets_in shift_all tc_field tc_verdict command_in tm_field
+      tm_verdict body_of part_verdict arrival
+  can = (
+    (
+      (
+        (
+          (
+            (
+              (
+                (
+                  (
+                    tt,
+                    (
+                      (
+                        asks g new_g,
+                        (omega arith, omega arith, omega arith, omega arith, octets),
+                      ),
+                      tt,
+                    ),
+                  ),
+                  (
+                    (
+                      takes (kept_as sizes) refl (λ code. refl) k new_k one_waiting,
+                      inl (record {
+                        place = 0;
+                        packet = record { direction = Up; part_of = None; octets = asked.1 };
+                        there = refl;
+                        goes = refl;
+                        octets = packet_is;
+                      }),
+                    ),
+                    tt,
+                  ),
+                ),
+                (
+                  (
+                    reads (kept_as sizes) refl (λ code. refl) k new_k 0
+                        (Waiting load_packet ∷ []) one_waiting 0 (Committed source ∷ []) one_done
+                        refl refl,
+                    tt,
+                  ),
+                  tt,
+                ),
+              ),
+              (refl, told k new_k 0),
+            ),
+            tt,
+          ),
+          (lets_go, refl),
+        ),
+        (
+          (
+            takes_again (kept_as sizes) refl (λ code. refl) k new_k 1 [] none_read one_waiting,
+            inl (record {
+              place = 0;
+              packet = record { direction = Up; part_of = None; octets = asked.1 };
+              there = refl;
+              goes = refl;
+              octets = packet_is;
+            }),
+          ),
+          tt,
+        ),
+      ),
+      (
+        (
+          reads (kept_as sizes) refl (λ code. refl) k new_k 1 (Waiting load_packet ∷ [])
+              one_waiting 1 (Committed source ∷ []) one_done refl refl,
+          tt,
+        ),
+        tt,
+      ),
+    ),
+    (
+      gives_it k new_k 1,
+      record {
+        settled = refl;
+        told = (told k new_k 1, no_more k new_k 1);
+        held = reads_nothing;
+      },
+    ),
+  )
+
+  can_live : CanLiveAll usual start (just_begun start)
+      (taken_back asked_for taken read let_go again read_again given resumed)
+  unfolding seen spelling checksum octets_in shift_all tc_field tc_verdict command_in tm_field
+      tm_verdict body_of part_verdict arrival
+  can_live = (
+    (
+      (
+        (
+          (
+            (
+              (
+                (
+                  (
+                    (
+                      (
+                        ((tt, can.0.0.0.0.0.0.0.0.1), can.0.0.0.0.0.0.0.1),
+                        can.0.0.0.0.0.0.1,
+                      ),
+                      can.0.0.0.0.0.1,
+                    ),
+                    can.0.0.0.0.1,
+                  ),
+                  can.0.0.0.1,
+                ),
+                can.0.0.1,
+              ),
+              can.0.1,
+            ),
+            can.1,
+          ),
+          tt,
+        ),
+        refl,
+      ),
+      ((can, refl), (resumes_it k new_k 2 [] none_read, refl)),
+    ),
+    tt,
+  )
+
+pub written_can_be_taken_back : WrittenCanBeTakenBack
+unfolding seen spelling checksum octets_in shift_all tc_field tc_verdict command_in tm_field
+    tm_verdict body_of part_verdict arrival
+written_can_be_taken_back g k new_g new_k = record {
+  asked = asked_for g k new_g new_k;
+  taken = taken g k new_g new_k;
+  read = read g k new_g new_k;
+  let_go = let_go g k new_g new_k;
+  again = again g k new_g new_k;
+  read_again = read_again g k new_g new_k;
+  given = given g k new_g new_k;
+  resumed = resumed g k new_g new_k;
+  can = can_live g k new_g new_k;
+  kept = ((((can g k new_g new_k, refl), (resumes_it k new_k 2 [] none_read, refl))), tt);
+  executed = refl;
+  left = refl;
+}
