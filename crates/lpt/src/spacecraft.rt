@@ -8,7 +8,7 @@ ghost use Rattle.lpt_spacecraft.specs.Streams.{IsIdle};
 use crate::configuration::read;
 use crate::end::{Failure, Status, tell_place, told};
 use crate::input::{STANDARD, octets_from, opened, read_failure};
-use crate::keeping::{KeptFiles, save_all};
+use crate::keeping::{keep_failure, kept_files, save_all};
 use crate::locking::locked;
 use crate::logging::Log;
 use crate::memories::memories_of;
@@ -179,14 +179,14 @@ fn serve_kept(
 ) -> Result<Status, Failure>
     requires { IsIdle craft.old }
 {
-    let mut keeper = KeptFiles::new(rt, words, state);
+    let mut keeper = kept_files(rt, words, state)?;
     if !keeper.keep(craft, &[]) {
-        return Err(keeper.into_failure());
+        return Err(keep_failure(keeper));
     }
     let ended = serve_input(rt, craft, words, &mut keeper);
     if keeper.has_failed() {
         drop(ended);
-        return Err(keeper.into_failure());
+        return Err(keep_failure(keeper));
     }
     drop(keeper);
     ended

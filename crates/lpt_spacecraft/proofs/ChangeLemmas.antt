@@ -1,11 +1,10 @@
 -- What is kept of an end stays as it is where nothing that is told changes it.
-use Rattle.std.proofs.Common.{◌≡◌, ◌∙◌, ap, sym, subst, refl, true≢false, ℕ, zero, suc, ◌+◌, ◌==◌, ◌||◌, nat_lt, Bool, true, false, if◌then◌else◌, List, [], ◌∷◌, ◌++◌, Option, Some, None, arith}
+use Rattle.std.proofs.Common.{◌≡◌, ◌∙◌, ap, sym, subst, refl, true≢false, ℕ, zero, suc, ◌==◌, ◌||◌, nat_lt, Bool, true, false, if◌then◌else◌, List, [], ◌∷◌, ◌++◌, Option, Some, None, arith}
 use Rattle.std.proofs.lemmas.Bool.Decides.{nat_tests}
 use Rattle.std.specs.Prelude.{is_some}
 use Rattle.lpt_events.specs.Arrivals.{Arrival, NotRead, AnIdle, Foreign, ARequest, AReport, NoPart, APart, AnAbort, arrival}
 use Rattle.lpt_events.specs.NamedParts.{NamedPart}
 use Rattle.lpt_events.specs.declared.config.Config.{Config}
-use Rattle.lpt_events.specs.declared.side.Side.{Side}
 use Rattle.lpt_events.specs.declared.side.Side.TheVariants.{Craft}
 use Rattle.lpt_execution.specs.Reporting.{message_reports}
 use Rattle.lpt_execution.specs.declared.ending.Report.{Report}
@@ -33,13 +32,12 @@ use Rattle.lpt_table.specs.Offering.{OfferKind, offered}
 use Rattle.lpt_table.specs.Tables.{Entries, TableState}
 use Rattle.lpt_spacecraft.specs.Changes.{any_changes, changes, ticks_with, uses_name}
 use Rattle.lpt_spacecraft.specs.Flights.{Flight, Input, Made, Came, came_with, clock_ticks, served, step}
-use Rattle.lpt_spacecraft.specs.Keeping.{IsKeptAs}
+use Rattle.lpt_spacecraft.specs.Keeping.{IsKeptAs, kept_octets}
 use Rattle.lpt_spacecraft.specs.Serving.{Onboard, all_sent, read_over, taken, worked, worked_if}
 use Rattle.lpt_spacecraft.specs.Streams.{flight_of, onboard, Flies}
 use Rattle.lpt_spacecraft.specs.Telling.{all_noted, did, done_if, ended, sent_in, taken_in, took, used_up, work_done, written_at, written_by}
 use Rattle.lpt_spacecraft.specs.declared.pace.Course.{Course}
 use Rattle.lpt_spacecraft.specs.declared.spacecraft.Spacecraft.{Spacecraft}
-use Rattle.lpt_spacecraft.specs.declared.told.Taken.{Taken}
 use Rattle.lpt_spacecraft.specs.declared.told.Told.{Told}
 use Rattle.lpt_spacecraft.specs.declared.told.Told.TheVariants.{Did}
 use Rattle.lpt_spacecraft.proofs.FoldLemmas.{no-tick}
@@ -249,7 +247,7 @@ made-same c f due every since b h =
 
 -- ---- what is kept
 
-kept-still : (k : Option (List ℕ × Contents)) (s t : Spacecraft)
+kept-still : (k : Option (List ℕ)) (s t : Spacecraft)
     → t.config ≡ s.config
     → SameEnd (onboard s) (onboard t)
     → IsKeptAs k s
@@ -258,13 +256,11 @@ kept-still None s t same end h = tt
 kept-still (Some x) s t same end h =
     let side = s.same_side ∙ sym t.same_side in
     let config = s.same_config ∙ sym same ∙ sym t.same_config in
-    let lasting = sym end.0 in (
-      h.0 ∙ (λ i. spelling (side i) (config i) (lasting i)),
-      h.1 ∙ sym end.1,
-    )
+    let lasting = sym end.0 in
+    h ∙ (λ i. kept_octets (spelling (side i) (config i) (lasting i)) (sym end.1 i))
 
 -- a spacecraft that was kept is kept still, where nothing that came with a packet changes that
-pub still-kept : (k : Option (List ℕ × Contents)) (s t : Spacecraft) (q r : Course) (due : ℕ)
+pub still-kept : (k : Option (List ℕ)) (s t : Spacecraft) (q r : Course) (due : ℕ)
     (b : List ℕ) (old new : Option (List ℕ)) (none told : List Told)
     → t.config ≡ s.config
     → none ≡ []

@@ -1,5 +1,6 @@
 pub mod ChangeLemmas
 pub mod EventLemmas
+pub mod FileLemmas
 pub mod FlightLemmas
 pub mod FoldLemmas
 pub mod KeepingLemmas

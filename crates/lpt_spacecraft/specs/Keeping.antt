@@ -9,11 +9,6 @@ use Rattle.lpt_state.specs.Spellings.{spelled}
 use Rattle.lpt_state.specs.Verdicts.{reading}
 use Rattle.lpt_spacecraft.specs.declared.spacecraft.Spacecraft.{Spacecraft}
 
--- what was kept last is the state of this spacecraft and its memories, where it is known
-abbrev pub IsKeptAs : Option (List ℕ × Contents) → Spacecraft → Type 0
-IsKeptAs None s = ⊤
-IsKeptAs (Some x) s = (x.0 ≡ spelled s.node) × (x.1 ≡ s.memories)
-
 -- ---- as octets
 
 -- a memory of this identifier, where there is one: the identifier, its length in 64 bits, its
@@ -34,6 +29,11 @@ kept_head len = codes "LPTK" ++ 1 ∷ [] ++ be len 8
 -- a state and memories, by identifier, with the checksum of all of them behind
 unfoldable pub kept_octets : (state : List ℕ) → Contents → List ℕ
 kept_octets state ms = sealed (kept_head (length state) ++ state ++ kept_memories 256 ms)
+
+-- what was kept last is this spacecraft, its state and its memories, where that is known
+abbrev pub IsKeptAs : Option (List ℕ) → Spacecraft → Type 0
+IsKeptAs None s = ⊤
+IsKeptAs (Some b) s = b ≡ kept_octets (spelled s.node) s.memories
 
 -- the length of a memory, where there is one, is a number of 64 bits
 abbrev pub HasLength : Option (List ℕ) → Type 0

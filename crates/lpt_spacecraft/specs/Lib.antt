@@ -1,4 +1,5 @@
 pub mod Changes
+pub mod Files
 pub mod Flights
 pub mod Keeping
 pub mod Lines

@@ -1,10 +1,10 @@
 //! What outlasts a spacecraft that dies, kept before anything that it made is passed on.
 
-ghost use Rattle.std.specs.Prelude.{◌≡◌, ◌||◌, ℕ, Bool, false, List, Option, None, IfErr, IsTrue, OnOk};
+ghost use Rattle.std.specs.Prelude.{◌≡◌, ◌⊎◌, ◌||◌, ℕ, Bool, false, [], List, map, Option, None, IfErr, IsTrue, OnOk};
 ghost use Rattle.std.specs.Io.KnownBytes.{Appends};
-ghost use Rattle.lpt_memory.specs.Memories.{Contents};
 ghost use Rattle.lpt_text.specs.Streams.{AppendsPart, WriteEnds};
 ghost use Rattle.lpt_spacecraft.specs.Changes.{any_changes};
+ghost use Rattle.lpt_spacecraft.specs.Files.{saved_by};
 ghost use Rattle.lpt_spacecraft.specs.Keeping.{IsKeptAs};
 
 use crate::{Spacecraft, Told};
@@ -12,13 +12,22 @@ use lpt_text::{Sink, StreamFault, write_out};
 
 /// Where the state of a spacecraft and its memories are kept, one in place of the other.
 pub trait Keeper {
-    // The state and the memories that were kept last, where they are known.
-    ghost kept: { Self → Option (List ℕ × Contents) };
+    // The octets that were kept last, where they are known.
+    ghost kept: { Self → Option (List ℕ) };
 
-    /// Keeps the spacecraft as it is, of which this is told since it was kept last, and answers
-    /// whether it could. Where state and memories are still as they were kept last it isn't called.
+    // What the files of memories have, each beside the memory's identifier.
+    ghost saved: { Self → List (ℕ × Option (List ℕ)) };
+
+    /// Keeps the spacecraft as it is, of which this is told since it was kept last, and each memory
+    /// that this says was written in the files that are its own; answers whether it could. Where
+    /// state and memories are still as they were kept last it isn't called.
     fn keep(&mut self, craft: &Spacecraft, told: &[Told]) -> bool
-        ensures { IsTrue result → IsKeptAs (kept self.new) craft.now };
+        ensures kept { IsTrue result → IsKeptAs (kept self.new) craft.now }
+        ensures saved { IsTrue result
+            → saved self.new ≡ map (saved_by told.now craft.now.memories) (saved self.old) }
+
+        // Where it couldn't, it is kept as it was last, or as it is.
+        ensures whole { (kept self.new ≡ kept self.old) ⊎ IsKeptAs (kept self.new) craft.now };
 }
 
 /// The keeper of a spacecraft that need not outlast anything: it keeps nothing.
@@ -27,6 +36,8 @@ pub struct Unkept;
 
 impl Keeper for Unkept {
     ghost kept = { λ _. None };
+
+    ghost saved = { λ _. [] };
 
     fn keep(&mut self, _craft: &Spacecraft, _told: &[Told]) -> bool {
         true

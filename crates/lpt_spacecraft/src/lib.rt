@@ -9,6 +9,7 @@
 #![tactic(auto)]
 
 mod clock;
+mod files;
 mod flying;
 mod keeping;
 mod kept_file;
@@ -26,6 +27,7 @@ mod told;
 mod writing;
 
 pub use clock::Clock;
+pub use files::{KeepFault, KeptFiles, WholeFile, save_one};
 pub use keeping::{Keeper, Unkept};
 pub use kept_file::KeptFault;
 pub use lines::print_told;

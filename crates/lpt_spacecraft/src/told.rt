@@ -63,6 +63,7 @@ impl Told {
     ghost use Rattle.std.specs.Prelude.{◌≡◌};
     ghost use Rattle.lpt_spacecraft.specs.Telling.{ended};
     ghost use Rattle.lpt_spacecraft.specs.Changes.{changes};
+    ghost use Rattle.lpt_spacecraft.specs.Files.{writes_to};
 
     // The name that this has used up, with the direction of its message, where it has.
     pub(crate) fn ended(&self) -> Option<(Direction, Name)>
@@ -77,6 +78,16 @@ impl Told {
                 None => None,
             },
             _ => None,
+        }
+    }
+
+    // Whether it says that the memory of this identifier was written.
+    pub(crate) fn writes_to(&self, id: u8) -> bool
+        ensures { result ≡ writes_to id self.now }
+    {
+        match *self {
+            Told::Did(done) => done.wrote == Some(id),
+            _ => false,
         }
     }
 

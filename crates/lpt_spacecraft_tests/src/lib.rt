@@ -1,7 +1,9 @@
 //! Tests of the spacecraft's end over a stream (`lpt_spacecraft`): what it writes, what its memory
-//! holds, and where it stops.
+//! holds, where it stops, and what is kept of it.
 #![tactic(auto)]
 
+#[cfg(test)]
+mod kept;
 #[cfg(test)]
 mod streams;
 #[cfg(test)]

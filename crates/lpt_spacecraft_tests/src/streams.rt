@@ -11,7 +11,7 @@ use lpt_text::FromStd;
 use std::alloc::Global;
 use std::test::Fail;
 
-const CONFIG: Config = Config {
+pub(crate) const CONFIG: Config = Config {
     apid: 100,
     source: 1,
     part_size: 16,
@@ -51,7 +51,7 @@ const CASES: [(&[u8], u64, bool, &[u8], Stop, [u8; 6], u32); 5] = [
 
 // How much was told.
 #[derive(Drop)]
-struct Counted(u32);
+pub(crate) struct Counted(pub(crate) u32);
 
 impl Listener for Counted {
     ghost heard = { λ _. None };
@@ -63,7 +63,7 @@ impl Listener for Counted {
 
 // A clock that isn't asked.
 #[derive(Drop)]
-struct Still;
+pub(crate) struct Still;
 
 impl Clock for Still {
     ghost answers = { λ _. None };
@@ -74,7 +74,7 @@ impl Clock for Still {
 }
 
 // A spacecraft with a memory of 16 zeros, or none where memory runs out.
-fn craft(alloc: Global) -> Option<Spacecraft>
+pub(crate) fn craft(alloc: Global) -> Option<Spacecraft>
     ensures { IfSome result IsIdle }
 {
     let zeros = Octets::from_vec(vec![in alloc; 0; 16].ok()?);
