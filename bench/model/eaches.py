@@ -69,7 +69,7 @@ class Kept:
             return "waits", None, now
         if self.fits(now):
             return "given", None, now
-        return "lost", "what was joined is no packet: fault", alone if again else {}
+        return "lost", "the joined message is no packet: fault", alone if again else {}
 
     def fits(self, octets):
         """Whether a whole is given out."""

@@ -1,9 +1,10 @@
 -- Octets that are read behind those that are held, and frames that are cut off their front.
-use Rattle.std.proofs.Common.{◌≡◌, ◌∙◌, ◌/◌, ◌==◌, ◌||◌, nat_lt, if◌then◌else◌, ap, sym, subst, inl, inr, refl, ℕ, ◌+◌, ◌-◌, ◌<◌, Bool, true, false, List, [], ◌∷◌, ◌++◌, length, take, drop, Option, Some, None, Ok, Err, arith, append_assoc, append-nil, length-append}
+use Rattle.std.proofs.Common.{◌≡◌, ◌∙◌, ◌/◌, ◌==◌, ◌||◌, nat_lt, if◌then◌else◌, ap, sym, subst, inl, inr, refl, ℕ, zero, suc, ◌+◌, ◌-◌, ◌<◌, ◌≤◌, Bool, true, false, List, [], ◌∷◌, ◌++◌, length, take, drop, Option, Some, None, Ok, Err, arith, append_assoc, append-nil, length-append}
 use Rattle.std.specs.List.{AllByRecursion}
+use Rattle.std.specs.Io.KnownBytes.{IsAtEnd}
 use Rattle.std.proofs.KnownBytes.{Consumes-nil, Consumes-trans}
 use Rattle.std.proofs.lemmas.Bool.Decides.{nat_tests}
-use Rattle.std.proofs.lemmas.List.{take-append-drop}
+use Rattle.std.proofs.lemmas.List.{length-take-le, take-append-drop}
 use Rattle.lpt_packet.specs.Numbers.{word_at}
 use Rattle.lpt_text.specs.declared.fault.StreamFault.{StreamFault}
 use Rattle.lpt_text.specs.declared.fault.StreamFault.TheVariants as faults
@@ -50,6 +51,23 @@ found-stands s (Frame len) b after h = h
 found-stands s Stray b after h = h
 found-stands true End b after h = absurd h
 found-stands false End b after h = absurd h
+
+-- what was read stands behind the rest, or there is no more
+pub fill-found : (old new : FrameBuffer) (b c : Option (List ℕ)) (n : ℕ) (buf : List ℕ)
+    (had failed : Bool)
+    → Adds old new b c (take n buf)
+    → n ≤ length buf
+    → 0 < length buf
+    → (n ≡ 0 → 0 < length buf → IsAtEnd c)
+    → failed ≡ had
+    → Fills (Ok (nat_lt 0 n)) old new b c had failed
+fill-found old new b c zero buf had failed added within some end told =
+    let none : nat_lt 0 0 ≡ false = grind (arith, nat_tests) in
+    subst (λ t. Fills (Ok t) old new b c had failed) (sym none) (added, end refl some, told)
+fill-found old new b c (suc n) buf had failed added within some end told =
+    let more : nat_lt 0 (suc n) ≡ true = grind (arith, nat_tests) in
+    subst (λ t. Fills (Ok t) old new b c had failed) (sym more)
+    (take (suc n) buf, added, omega (arith, length-take-le (suc n) buf within), told)
 
 -- a read that failed, or for which memory ran out, ends the search
 pub fill-fault : (s : Bool) (fault : StreamFault) (old mid new : FrameBuffer)

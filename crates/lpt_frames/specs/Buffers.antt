@@ -1,5 +1,5 @@
 -- The frames of a stream, found as it comes.
-use Rattle.std.specs.Prelude.{◌≡◌, ◌⊎◌, ◌<◌, ◌≤◌, ◌-◌, ◌^◌, ◌++◌, ℕ, Bool, true, false, List, [], length, drop, Option, Result, Ok, Err}
+use Rattle.std.specs.Prelude.{◌≡◌, ◌⊎◌, ◌<◌, ◌≤◌, ◌-◌, ◌^◌, ◌++◌, ℕ, Bool, true, false, List, [], length, take, drop, Option, Result, Ok, Err}
 use Rattle.std.specs.Io.KnownBytes.{Consumes, IsAtEnd}
 use Rattle.lpt_text.specs.declared.fault.StreamFault.{StreamFault}
 use Rattle.lpt_text.specs.declared.fault.StreamFault.TheVariants as faults
@@ -13,9 +13,9 @@ use Rattle.lpt_frames.specs.Stretches.{begins_again, IsFront, IsRun, NeverBegins
 
 -- the octets that were read and not passed over yet
 abbrev pub held : FrameBuffer → List ℕ
-held b = drop b.start b.octets.items
+held b = drop b.start (take b.end b.octets.items)
 
--- all octets that are kept, those that were passed over too
+-- all octets for which there is room
 abbrev pub kept : FrameBuffer → List ℕ
 kept b = b.octets.items
 

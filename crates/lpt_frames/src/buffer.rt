@@ -7,7 +7,7 @@ use crate::Front;
 use crate::front::front_by;
 use lpt_stream::Peer;
 use lpt_text::{Sink, StreamFault, flush_out};
-use std::alloc::Global;
+use std::alloc::{AllocError, Global};
 
 /// How many octets are asked for at a time.
 const CHUNK: usize = 65_536;
@@ -16,15 +16,19 @@ const CHUNK: usize = 65_536;
 /// a packet, and what one read gives.
 #[derive(Drop)]
 pub struct FrameBuffer {
+    // What was read stands in front, and behind it what has been, in which the next is read.
     octets: Vec<u8>,
     // How many of them were passed over.
     start: usize,
-    ghost within: { start ≤ length octets.items },
+    // How many were read, those among them.
+    end: usize,
+    ghost ordered: { start ≤ end },
+    ghost within: { end ≤ length octets.items },
     ghost few: { length octets.items ≤ most_kept },
 }
 
 impl FrameBuffer {
-    ghost use Rattle.std.specs.Prelude.{◌≡◌, ◌≢◌, ◌⊎◌, ◌+◌, ◌<◌, ◌++◌, [], drop, Err, IfErr, OnOk};
+    ghost use Rattle.std.specs.Prelude.{◌≡◌, ◌+◌, ◌<◌, [], drop, OnOk};
     ghost use Rattle.std.specs.Io.KnownBytes.{Keeps};
     ghost use Rattle.lpt_text.specs.Streams.{WriteEnds};
     ghost use Rattle.lpt_packet.specs.Sizes.{longest_packet};
@@ -37,6 +41,7 @@ impl FrameBuffer {
         FrameBuffer {
             octets: Vec::new(alloc),
             start: 0,
+            end: 0,
         }
     }
 
@@ -44,10 +49,10 @@ impl FrameBuffer {
     pub fn held(&self) -> &[u8]
         ensures { result.now ≡ held self.now }
     {
-        &self.octets[self.start..]
+        &self.octets[self.start..self.end]
     }
 
-    /// Cites how many octets are kept, of which some may have been passed over.
+    /// Cites for how many octets there is room, of which some are held.
     pub fn few_are_kept(&self)
         ensures { length (kept self.now) ≤ most_kept }
     {
@@ -113,38 +118,41 @@ impl FrameBuffer {
         ensures { Fills result self.old self.new (P.remaining peer.old) (P.remaining peer.new)
             (P.failed peer.old) (P.failed peer.new) }
     {
-        let mut chunk = [0; CHUNK];
-        let Some(count) = peer.read(out, &mut chunk) else {
+        self.compact();
+        let Ok(()) = self.make_room() else {
+            return Err(StreamFault::Memory);
+        };
+        let room = self.end..self.end + CHUNK;
+        let Some(given) = peer.read(out, &mut self.octets[room]) else {
             return Err(StreamFault::Read);
         };
-        if count == 0 {
-            return Ok(false);
-        }
-        self.push(&chunk[..count])?;
-        Ok(true)
+        self.end += given;
+        Ok(given > 0)
     }
 
-    // Holds octets behind the rest.
-    fn push(&mut self, octets: &[u8]) -> Result<(), StreamFault>
-        requires { length (held self.old) + length octets.now ≤ most_kept }
-        ensures held { OnOk result (held self.new ≡ held self.old ++ octets.now) }
-        ensures fault { IfErr result (λ e. e ≡ StreamFault.Memory) }
-    {
-        self.compact();
-        if self.octets.extend_from_slice(octets).is_err() {
-            return Err(StreamFault::Memory);
-        }
-        Ok(())
-    }
-
-    // Gives up the octets that were passed over.
+    // Moves what is held to the front.
     fn compact(&mut self)
         ensures held { held self.new ≡ held self.old }
-        ensures all { length (kept self.new) ≡ length (held self.old) }
+        ensures front { self.new.start ≡ 0 }
+        ensures last { self.new.end ≡ length (held self.old) }
     {
-        let left = self.octets.len() - self.start;
-        self.octets.rotate_left(self.start);
-        self.octets.truncate(left);
+        self.octets.copy_within(self.start..self.end, 0);
+        self.end -= self.start;
         self.start = 0;
+    }
+
+    // Makes room behind it for what a read gives.
+    fn make_room(&mut self) -> Result<(), AllocError>
+        requires { self.old.end < longest_packet }
+        ensures held { held self.new ≡ held self.old }
+        ensures front { self.new.start ≡ self.old.start }
+        ensures last { self.new.end ≡ self.old.end }
+        ensures room { OnOk result (self.new.end + 65536 ≤ length self.new.octets.items) }
+    {
+        let room = self.end + CHUNK;
+        if self.octets.len() < room {
+            self.octets.resize(room, 0)?;
+        }
+        Ok(())
     }
 }

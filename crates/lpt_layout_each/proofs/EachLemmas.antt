@@ -7,11 +7,11 @@ use Rattle.lpt_text.specs.declared.fault.StreamFault.{StreamFault}
 use Rattle.lpt_text.specs.declared.fault.StreamFault.TheVariants as faults
 use Rattle.lpt_frames.specs.Frames.{IsCut, IsFrame}
 use Rattle.lpt_frames.proofs.FrameLemmas.{cut-more, cut-next, cut-none}
-use Rattle.lpt_layout_join.specs.declared.hearing.LeftAs.{LeftAs}
+use Rattle.lpt_layout_each.specs.declared.left.LeftAs.{LeftAs}
 use Rattle.lpt_carried.specs.declared.reading.Reading.{Reading}
 use Rattle.lpt_carried.specs.Carried.{carried}
-use Rattle.lpt_layout_join.specs.Hearing as hearing
-use Rattle.lpt_layout_join.specs.Hearing.{IsEndless, Leaves}
+use Rattle.lpt_layout_each.specs.Hearing as hearing
+use Rattle.lpt_layout_each.specs.Hearing.{IsEndless, Leaves}
 use Rattle.lpt_layout_each.specs.declared.helds.HeldsAs.{HeldsAs}
 use Rattle.lpt_layout_each.specs.declared.passing.PassedAs.{PassedAs}
 use Rattle.lpt_layout_each.specs.Helds.{HoldsEach}

@@ -14,7 +14,7 @@ use Rattle.lpt_layout_join.specs.Counts.{Counted, all_counted, counted, nothing_
 use Rattle.lpt_layout_join.specs.CountsInside.{shown}
 use Rattle.lpt_layout_each.specs.Eaches.{Course, counts_of, held, held_from, listed, missing_at, nothing, step, step_of}
 use Rattle.lpt_layout_each.specs.Helds.{Follows, HoldsEach, IsHeld}
-use Rattle.lpt_layout_each.specs.Names.{name_cmp}
+use Rattle.lpt_layout_join.specs.Names.{name_cmp}
 use Rattle.lpt_layout_each.specs.News.{News}
 use Rattle.lpt_layout_each.specs.Streams.{of, told, told_by}
 use Rattle.lpt_layout_each.specs.Told.{news_of}

@@ -1,7 +1,7 @@
 pub mod EachLemmas
 pub mod FitLemmas
 pub mod HeldsLemmas
-mod NameLemmas
+mod LeftLemmas
 mod OrderLemmas
 mod RunLemmas
 mod SoundLemmas

@@ -14,10 +14,10 @@ use Rattle.lpt_layout_each.specs.declared.course.CourseAs.{CourseAs}
 use Rattle.lpt_layout_each.specs.declared.helds.HeldsAs.{HeldsAs}
 use Rattle.lpt_layout_each.specs.Eaches.{Course, held, left, nothing}
 use Rattle.lpt_layout_each.specs.Helds.{Follows, HoldsEach, IsHeld}
-use Rattle.lpt_layout_each.specs.Names.{name_cmp}
+use Rattle.lpt_layout_join.specs.Names.{name_cmp}
 use Rattle.lpt_layout_each.specs.News.{Event, Hears, News, dropped}
 use Rattle.lpt_layout_each.specs.Streams.{Leaves, events_from, left_of, of, told_by}
-use Rattle.lpt_layout_each.proofs.NameLemmas.{name_tied}
+use Rattle.lpt_layout_join.proofs.NameLemmas.{name_tied}
 
 -- ---- what was heard
 

@@ -172,24 +172,28 @@ nothing = fresh None
 abbrev pub is_empty : Came → Bool
 is_empty c = highest c.parts == 0
 
--- all parts behind the last message, where these are kept, and else the new ones
-abbrev pub most : Option Came → Came → Came
-most None new = new
-most (Some c) new = c
-
 -- whether parts are joined to this message
 abbrev pub spells : Option (List ℕ) → List ℕ → Bool
 spells None m = false
 spells (Some w) m = same_octets w m
+
+-- whether these, with one more, are
+abbrev pub spells_with : Came → Piece → List ℕ → Bool
+spells_with c q m = spells (message_of (more c q).parts) m
+
+-- whether all parts behind the last message are, where they are kept
+abbrev pub all_spell : Option Came → Piece → List ℕ → Bool
+all_spell None q m = false
+all_spell (Some c) q m = spells_with c q m
 
 -- what is told of a message whose parts came in their order: where parts came before them that
 -- aren't known to be its own, these are given up
 abbrev pub told_in_order : (own : Bool) → Came → List ℕ → News
 told_in_order own c m = if own then Given m else overtaken c m
 
--- whether the new parts are known to be the message's
+-- whether the new parts are known to be the message's: they, or all parts, are joined to it
 abbrev pub are_own : Course → Piece → List ℕ → Bool
-are_own c q m = not c.stale || spells (message_of (more (most c.held.all c.held.new) q).parts) m
+are_own c q m = not c.stale || (spells_with c.held.new q m || all_spell c.held.all q m)
 
 -- behind a part 1, the new parts before it came before the run
 abbrev pub staleness : Course → (number : ℕ) → Bool

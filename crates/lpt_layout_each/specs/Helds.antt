@@ -19,7 +19,7 @@ use Rattle.lpt_layout_each.specs.declared.run.RunTurnAs.TheVariants as ran
 use Rattle.lpt_layout_each.specs.declared.turn.Turn as code
 use Rattle.lpt_layout_each.specs.declared.turn.Turn.TheVariants as turned
 use Rattle.lpt_layout_each.specs.Eaches.{Course, Ends, Goes, Held, Run, RunTurn, Turn, Waits, GivesUp, Gives, alone, counts_of, held, more, nothing, seed}
-use Rattle.lpt_layout_each.specs.Names.{name_cmp}
+use Rattle.lpt_layout_join.specs.Names.{name_cmp}
 use Rattle.lpt_layout_each.specs.News.{News, Unfit, dropped}
 use Rattle.lpt_layout_each.specs.Told.{news_of}
 

@@ -1,7 +1,7 @@
 pub mod Eaches
+pub mod Hearing
 pub mod Helds
 pub mod Laws
-pub mod Names
 pub mod News
 pub mod Passing
 pub mod Streams

@@ -7,7 +7,7 @@ use Rattle.lpt_carried.specs.declared.reading.Reading.{Reading}
 use Rattle.lpt_carried.specs.declared.skip.Skip.{Skip}
 use Rattle.lpt_carried.specs.Carried.{Named, carried, name_of, part_of, same_name}
 use Rattle.lpt_layout_each.specs.Eaches.{counts_of, held, left, listed, missing_at, step_of}
-use Rattle.lpt_layout_each.specs.Names.{name_cmp}
+use Rattle.lpt_layout_join.specs.Names.{name_cmp}
 use Rattle.lpt_layout_each.specs.News.{Event, Hears, News}
 
 -- news of one name

@@ -9,7 +9,7 @@ ghost use Rattle.lpt_carried.specs.declared.skip.Skip.{Skip};
 ghost use Rattle.lpt_carried.specs.Carried.{carried, named, same_name};
 ghost use Rattle.lpt_layout_each.specs.Eaches.{held};
 ghost use Rattle.lpt_layout_each.specs.Helds.{Follows, HoldsEach};
-ghost use Rattle.lpt_layout_each.specs.Names.{name_cmp};
+ghost use Rattle.lpt_layout_join.specs.Names.{name_cmp};
 ghost use Rattle.lpt_layout_each.specs.Streams.{told_by};
 ghost use Rattle.lpt_layout_each.specs.Told.{events_of};
 

@@ -1,26 +1,29 @@
 -- Packets of a stream, carried one after the other.
-use Rattle.std.proofs.Common.{◌≡◌, ◌∙◌, ap, sym, refl, subst, ℕ, suc, ◌+◌, ◌-◌, ◌^◌, ◌==◌, ◌<◌, ◌≤◌, min, Bool, true, false, if◌then◌else◌, inl, inr, None, Some, List, [], ◌∷◌, ◌++◌, length, take, drop, Option, append-nil, append_assoc, arith}
+use Rattle.std.proofs.Common.{◌≡◌, ◌∙◌, ap, sym, refl, subst, ℕ, ◌+◌, ◌-◌, ◌^◌, ◌≤◌, min, Bool, List, [], ◌∷◌, ◌++◌, length, take, drop, Option, Err, append-nil, append_assoc, arith}
 use Rattle.std.specs.List.{concat, flat_map, AllByRecursion}
 use Rattle.std.specs.Io.KnownBytes.{Appends, Consumes, Keeps}
-use Rattle.std.proofs.lemmas.Bool.Decides.{nat_tests}
 use Rattle.std.proofs.KnownBytes.{Appends-kept, Appends-nil, Appends-trans, Consumes-nil, Consumes-trans}
 use Rattle.std.proofs.lemmas.List.{length-append, length-take-le, take-append-drop}
 use Rattle.lpt_text.specs.Streams.{AppendsPart}
 use Rattle.lpt_text.proofs.StreamLemmas.{part_after, part_of_front, part_unchanged, part_whole}
+use Rattle.lpt_text.specs.declared.fault.StreamFault.{StreamFault}
+use Rattle.lpt_text.specs.declared.fault.StreamFault.TheVariants as faults
 use Rattle.lpt_stream.specs.Pieces.{up_to_limit}
 use Rattle.lpt_stream.specs.Streams.{all_octets}
+use Rattle.lpt_frames.specs.Buffers.{held, Adds, FindsFrame}
+use Rattle.lpt_frames.specs.Frames.{IsFound, IsFrame}
+use Rattle.lpt_frames.specs.declared.buffer.FrameBuffer.{FrameBuffer}
+use Rattle.lpt_frames.specs.declared.front.Front.TheVariants.{Frame}
 use Rattle.lpt_lossy.specs.declared.counts.Counts.{Counts}
-use Rattle.lpt_lossy.specs.declared.counts.LossyEnd.{LossyEnd}
 use Rattle.lpt_lossy.specs.declared.fate.Fate.{Fate}
-use Rattle.lpt_lossy.specs.declared.frames.FrameBuffer.{FrameBuffer}
 use Rattle.lpt_lossy.specs.declared.turns.Turns.{Turns as TurnBuffers}
 use Rattle.lpt_lossy.specs.Carrying.{empty_turns, first_turn, at_once, so_far, left, carried}
 use Rattle.lpt_lossy.specs.Counts.{IsCounted}
 use Rattle.lpt_lossy.specs.Ends.{CarriesAll, CarriesPart, IsEndless}
-use Rattle.lpt_lossy.specs.Frames.{EndsAt, IsFrame}
-use Rattle.lpt_lossy.specs.FramesInside.{held, Adds, HasFrame, HasNone}
+use Rattle.lpt_lossy.specs.Frames.{EndsAt}
 use Rattle.lpt_lossy.specs.TurnsInside.{IsHeld, carried_now, carried_turns, turn_octets}
 use Rattle.lpt_lossy.specs.Ways.{Crossing, crossings, settled, way}
+use Rattle.lpt_lossy.proofs.FrontLemmas.{ends-there}
 use Rattle.lpt_lossy.proofs.TurnLemmas.{octets-append, octets-turns, octets-now, held-next, so_far-append, left-append}
 
 -- these packets were read and carried, and all of them were decided by the decider
@@ -139,7 +142,7 @@ next-is {D} decides now next f b len more within e =
 pub record IsCarried {D : Type 0} (decides : D → ℕ → Fate × D) (n : ℕ) (now next : D)
     (new new2 : Option (List ℕ)) (b : FrameBuffer) (t : TurnBuffers) (c : Counts) (place len : ℕ)
     (f : Fate) (o : List ℕ) (w : Fate) (t2 : TurnBuffers) (c2 : Counts) : Type 0 where
-  pub front : HasFrame (held b) len
+  pub front : IsFound (Frame len) (held b)
   pub octets_are : o ≡ take len (held b)
   pub fate_is : (f, next) ≡ decides now len
   pub way_is : w ≡ settled n f o
@@ -219,15 +222,15 @@ at-next decides n first now next before after old new new2 b b2 t t2 c c2 place 
     let xs = crossings decides first at.frames in
     let x = next_crossing b len f in
     let more = crossed decides n first now next before after old new b t c place count len f at
-    one.front.within one.fate_is in
+    one.front.0 one.fate_is in
     record {
       frames = at.frames ++ front ∷ [];
       consumed = subst (Consumes before after)
           (held-cut at.frames len (held b)
           ∙ ap (λ (r : List ℕ). all_octets (at.frames ++ front ∷ []) ++ r) (sym rest)) at.consumed;
-      are = all-more at.frames front at.are one.front.frame;
+      are = all-more at.frames front at.are one.front.1;
       count_is = omega (arith, length-append {A = List ℕ} at.frames (front ∷ []), at.count_is);
-      place_is = place-next at.frames len (held b) place place2 one.front.within at.place_is there;
+      place_is = place-next at.frames len (held b) place place2 one.front.0 at.place_is there;
       wrote = subst (λ (ys : List Crossing). Appends old new2
           (all_octets (so_far n (empty_turns n) ys))) (sym more)
           (subst (Appends old new2) (sym (octets-so_far n xs x))
@@ -242,7 +245,7 @@ at-next decides n first now next before after old new new2 b b2 t t2 c c2 place 
           ap (crossings decides first) (append_assoc at.frames (front ∷ []) rest)
           ∙ at.decided (front ∷ rest)
           ∙ ap (λ (ys : List Crossing). xs ++ ys) (next-is decides now next f b len rest
-          one.front.within one.fate_is)
+          one.front.0 one.fate_is)
           ∙ sym (append_assoc xs (x ∷ []) (crossings decides next rest))
           ∙ ap (λ (ys : List Crossing). ys ++ crossings decides next rest) (sym more);
     }
@@ -263,7 +266,7 @@ pub at-part : {D : Type 0} (decides : D → ℕ → Fate × D) (n : ℕ) (first 
     (before after old new new2 : Option (List ℕ)) (b : FrameBuffer) (t : TurnBuffers) (c : Counts)
     (place count len : ℕ) (f : Fate) (o : List ℕ) (w : Fate)
     → IsAt decides n first now before after old new b t c place count
-    → HasFrame (held b) len
+    → IsFound (Frame len) (held b)
     → o ≡ take len (held b)
     → (f, next) ≡ decides now len
     → w ≡ settled n f o
@@ -273,11 +276,11 @@ at-part decides n first now next before after old new new2 b t c place count len
     fe we part =
     let xs = crossings decides first at.frames in
     let more = crossed decides n first now next before after old new b t c place count len f at
-    front.within fe in (
+    front.0 fe in (
       at.frames ++ take len (held b) ∷ [],
       drop len (held b),
       subst (Consumes before after) (held-cut at.frames len (held b)) at.consumed,
-      all-more at.frames (take len (held b)) at.are front.frame,
+      all-more at.frames (take len (held b)) at.are front.1,
       subst (λ (ys : List Crossing). AppendsPart old new2 (all_octets (carried n ys))) (sym more)
           (part-carried n (xs ++ next_crossing b len f ∷ []) old new2
           (subst (AppendsPart old new2) (sym (octets-so_far n xs (next_crossing b len f)))
@@ -299,36 +302,34 @@ at-lost decides n first now before after old new b t c place count at = (
   part-carried n (crossings decides first at.frames) old new (part_whole old new _ at.wrote),
 )
 
--- what ended it stands at this place
-ends-there : (stray : Option ℕ) (place n : ℕ) (rest : List ℕ) (after : Option (List ℕ))
-    → place ≡ up_to_limit n
-    → EndsAt stray place rest after
-    → EndsAt stray n rest after
-ends-there None place n rest after is ends = ends
-ends-there (Some at) place n rest after is ends = (omega (arith, ends.0), ends.1)
-
--- no packet begins with what is held: the stream is at its end, or that ends it
-ends-so : (b : List ℕ) (place : ℕ) (empty : Bool) (after : Option (List ℕ))
-    → place ≡ up_to_limit place
-    → (length b == 0) ≡ empty
-    → HasNone b after
-    → EndsAt (if empty then None else Some place) place b after
-ends-so [] place true after fits e (inl h) = h
-ends-so (x ∷ b) place true after fits e (inl h) = absurd cc
-ends-so b place false after fits e (inl h) =
-    absurd (let none : length b ≡ 0 = ap (λ (o : List ℕ). length o) h.0 in grind (arith, nat_tests))
-ends-so b place true after fits e (inr h) =
-    absurd (let some : 0 < length b = h.0 in grind (arith, nat_tests))
-ends-so b place false after fits e (inr h) = (fits, h)
-
-pub none-ends : (b : List ℕ) (n place : ℕ) (stray : Option ℕ) (after : Option (List ℕ))
-    → place ≡ up_to_limit n
-    → stray ≡ (if length b == 0 then None else Some place)
-    → HasNone b after
-    → EndsAt stray place b after
-none-ends b n place stray after is e h =
-    subst (λ (s : Option ℕ). EndsAt s place b after) (sym e)
-    (ends-so b place (length b == 0) after (omega arith) refl h)
+-- a read or a write failed, or octets were lost for which there was no memory
+pub at-fault : {D : Type 0} (decides : D → ℕ → Fate × D) (n : ℕ) (first now : D) (e : StreamFault)
+    (before after later old new new2 : Option (List ℕ)) (b b2 : FrameBuffer) (t : TurnBuffers)
+    (c : Counts) (place count : ℕ) (had failed : Bool)
+    → IsAt decides n first now before after old new b t c place count
+    → FindsFrame (Err e) b b2 after later had failed
+    → Keeps new new2
+    → CarriesPart decides n first before later old new2
+at-fault decides n first now faults.Read before after later old new new2 b b2 t c place count had
+    failed at found same =
+    at-lost decides n first now before later old new2 b2 t c place count
+    (at-more decides n first now before after later old new new2 b b2 t c place count found.0 at
+    found.1 same)
+at-fault decides n first now faults.Write before after later old new new2 b b2 t c place count had
+    failed at found same =
+    at-lost decides n first now before later old new2 b2 t c place count
+    (at-more decides n first now before after later old new new2 b b2 t c place count found.0 at
+    found.1 same)
+at-fault decides n first now faults.Memory before after later old new new2 b b2 t c place count had
+    failed at found same = (
+      at.frames,
+      held b ++ found.0,
+      subst (Consumes before later) (append_assoc (all_octets at.frames) (held b) found.0)
+          (Consumes-trans before after later _ found.0 at.consumed found.1),
+      at.are,
+      part-carried n (crossings decides first at.frames) old new2
+          (part_whole old new2 _ (Appends-kept old new new2 _ at.wrote same)),
+    )
 
 -- what is held is all that is left to write
 octets-held : (n : ℕ) (xs : List Crossing) (t : TurnBuffers)

@@ -1,6 +1,6 @@
 -- Changed bits of a packet show: it is none any more.
-use Rattle.std.proofs.Common.{◌≡◌, ◌≢◌, ◌⊎◌, ◌∙◌, ap, sym, refl, subst, ℕ, zero, suc, ◌+◌, ◌*◌, ◌/◌, ◌%◌, ◌^◌, ◌<◌, ◌≤◌, ◌&&◌, ◌||◌, nat_lt, Bool, true, false, List, [], ◌∷◌, ◌++◌, length, take, drop, get_or, inl, inr, Option, None, Some, Result, Ok, Err, append_assoc, arith, length-drop}
-use Rattle.std.specs.Prelude.{bit_xor, slice_index}
+use Rattle.std.proofs.Common.{◌≡◌, ◌≢◌, ◌∙◌, ap, sym, refl, ℕ, zero, suc, ◌+◌, ◌*◌, ◌/◌, ◌%◌, ◌<◌, ◌≤◌, ◌&&◌, ◌||◌, nat_lt, Bool, true, false, List, [], ◌∷◌, ◌++◌, length, take, drop, get_or, Option, None, Some, Result, Ok, Err, arith, length-drop}
+use Rattle.std.specs.Prelude.{bit_xor}
 use lib.Bits.{xor_assoc, xor_self, xor_zero_l}
 use Rattle.std.proofs.lemmas.Bool.Decides.{nat_tests}
 use Rattle.std.proofs.lemmas.List.{length-append, length-take-le}
@@ -12,7 +12,7 @@ use Rattle.lpt_packet.specs.declared.packet.Seen.TheVariants as seen_as
 use Rattle.lpt_packet.specs.Bursts.{all_bits, DifferInBurst}
 use Rattle.lpt_packet.specs.Checksums.{bits}
 use Rattle.lpt_packet.specs.Numbers.{word_at, IsOctets}
-use Rattle.lpt_packet.specs.Packets.{Fields, Gives, Sight, IdlePacket, APacket, IsPacket, seen, verdict}
+use Rattle.lpt_packet.specs.Packets.{Fields, Gives, Sight, IdlePacket, APacket, seen, verdict}
 use Rattle.lpt_packet.proofs.BoolLemmas.{and_left, and_right}
 use Rattle.lpt_packet.proofs.Bursts.{burst_shows_in_packet}
 use Rattle.lpt_packet.proofs.SightLemmas.{seen_sight, seen_verdict}

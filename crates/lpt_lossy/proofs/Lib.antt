@@ -1,7 +1,7 @@
 pub mod CarryLemmas
 pub mod CountLemmas
 pub mod DamageLemmas
-pub mod FrameLemmas
+pub mod FrontLemmas
 pub mod LawLemmas
 pub mod PartLemmas
 pub mod TurnLemmas

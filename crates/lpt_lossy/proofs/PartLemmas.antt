@@ -1,10 +1,9 @@
 -- Front parts of what is written, and what is held.
-use Rattle.std.proofs.Common.{◌≡◌, ◌∙◌, ap, sym, refl, subst, ℕ, zero, suc, ◌+◌, ◌<◌, ◌==◌, Bool, true, false, if◌then◌else◌, List, [], ◌∷◌, ◌++◌, length, map, take, drop, get_or, set, inl, inr, nat_lt, ◌⊎◌, Option, Result, Ok, Err, append-nil, append_assoc, arith}
+use Rattle.std.proofs.Common.{◌≡◌, ◌∙◌, ap, sym, refl, subst, ℕ, zero, suc, ◌+◌, ◌<◌, ◌==◌, Bool, true, false, if◌then◌else◌, List, [], ◌∷◌, ◌++◌, length, map, take, drop, get_or, set, Option, Result, Ok, Err, append-nil, append_assoc, arith}
 use Rattle.std.specs.Prelude.{IfErr}
 use Rattle.std.specs.List.{concat}
-use Rattle.std.specs.Io.KnownBytes.{Appends, IsAtEnd}
+use Rattle.std.specs.Io.KnownBytes.{Appends}
 use Rattle.std.proofs.KnownBytes.{Appends-trans}
-use Rattle.std.proofs.lemmas.Bool.Decides.{nat_tests}
 use Rattle.lpt_text.specs.Streams.{AppendsPart}
 use Rattle.lpt_text.proofs.StreamLemmas.{part_after, part_of_front}
 use Rattle.lpt_lossy.specs.declared.fate.Fate.{Fate}
@@ -67,16 +66,6 @@ concat-at items (x ∷ vs) (suc i) d h =
     ap (λ (o : List ℕ). items x ++ o) (concat-at items vs i d (omega arith))
     ∙ sym (append_assoc (items x) (front ++ turn) back)
     ∙ ap (λ (o : List ℕ). o ++ back) (sym (append_assoc (items x) front turn))
-
--- ---- what is held of a stream
-
--- octets came, or it is the end
-pub more-or : (n : ℕ) (buf : List ℕ) (after : Option (List ℕ))
-    → 0 < length buf
-    → (n ≡ 0 → 0 < length buf → IsAtEnd after)
-    → (nat_lt 0 n ≡ true) ⊎ ((take n buf ≡ []) × IsAtEnd after)
-more-or zero buf after some end = inr (refl, end refl some)
-more-or (suc n) buf after some end = inl (grind (arith, nat_tests))
 
 -- ---- turn after turn
 

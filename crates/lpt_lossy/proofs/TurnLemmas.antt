@@ -1,5 +1,5 @@
 -- What is held turn by turn, and its octets.
-use Rattle.std.proofs.Common.{◌≡◌, ◌∙◌, ap, sym, refl, subst, ℕ, zero, suc, ◌+◌, ◌==◌, Bool, true, false, if◌then◌else◌, List, [], ◌∷◌, ◌++◌, length, map, append-nil, append_assoc, arith}
+use Rattle.std.proofs.Common.{◌≡◌, ◌∙◌, ap, sym, refl, ℕ, zero, suc, ◌+◌, ◌==◌, Bool, true, false, if◌then◌else◌, List, [], ◌∷◌, ◌++◌, length, map, append-nil, append_assoc, arith}
 use Rattle.std.specs.List.{concat, flat_map}
 use Rattle.std.proofs.lemmas.Bool.Decides.{nat_tests}
 use Rattle.std.proofs.lemmas.List.{length-append, length-map, map-append}
@@ -7,7 +7,7 @@ use Rattle.std.proofs.lemmas.List.Concat.{flat_map-append}
 use Rattle.lpt_stream.specs.Streams.{all_octets}
 use Rattle.lpt_lossy.specs.declared.fate.Fate.{Fate}
 use Rattle.lpt_lossy.specs.declared.turns.Turns.{Turns as TurnBuffers}
-use Rattle.lpt_lossy.specs.Carrying.{Turns, empty_turns, first_turn, next_turns, held_later, at_once, with_later, so_far, left, carried}
+use Rattle.lpt_lossy.specs.Carrying.{Turns, empty_turns, first_turn, next_turns, held_later, at_once, with_later, so_far, left}
 use Rattle.lpt_lossy.specs.TurnsInside.{IsHeld, behind_turn, carried_now, carried_turns, first_octets, handed_now, handed_turns, next_octets, passed_octets, repeated, turn_octets}
 use Rattle.lpt_lossy.specs.Ways.{Crossing, copies, made, way, with_burst, written_of}
 

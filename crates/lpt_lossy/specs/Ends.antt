@@ -3,12 +3,13 @@ use Rattle.std.specs.Prelude.{◌≡◌, ℕ, ◌++◌, List, length, Option}
 use Rattle.std.specs.List.{AllByRecursion}
 use Rattle.std.specs.Io.KnownBytes.{Appends, Consumes}
 use Rattle.lpt_text.specs.Streams.{AppendsPart}
+use Rattle.lpt_frames.specs.Frames.{IsFrame}
 use Rattle.lpt_stream.specs.Streams.{all_octets}
 use Rattle.lpt_lossy.specs.declared.counts.LossyEnd.{LossyEnd}
 use Rattle.lpt_lossy.specs.declared.fate.Fate.{Fate}
 use Rattle.lpt_lossy.specs.Carrying.{carried}
 use Rattle.lpt_lossy.specs.Counts.{IsCounted}
-use Rattle.lpt_lossy.specs.Frames.{EndsAt, IsFrame}
+use Rattle.lpt_lossy.specs.Frames.{EndsAt}
 use Rattle.lpt_lossy.specs.Ways.{crossings}
 
 -- packets were read, and what is behind them ended it; what they become, as somebody decides, was

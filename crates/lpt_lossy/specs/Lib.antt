@@ -3,7 +3,6 @@ pub mod Carrying
 pub mod Counts
 pub mod Ends
 pub mod Frames
-pub mod FramesInside
 pub mod Laws
 pub mod Throws
 pub mod TurnsInside

@@ -11,7 +11,6 @@ mod carrying;
 mod counts;
 mod dice;
 mod fate;
-mod frames;
 pub mod laws;
 mod lossy;
 mod settling;

@@ -1,18 +1,19 @@
 //! A stream of packets, carried over the link as it comes.
 
-ghost use Rattle.std.specs.Prelude.{◌≡◌, IfErr, IfOk, IsOk, OnOk};
+ghost use Rattle.std.specs.Prelude.{◌≡◌, ◌==◌, if◌then◌else◌, length, None, Some, IfErr, IfOk, IsOk, OnOk};
 ghost use Rattle.std.specs.List.{concat};
 ghost use Rattle.std.specs.Io.KnownBytes.{Appends};
 ghost use Rattle.lpt_text.specs.Streams.{AppendsPart, ReadEnds, WriteEnds};
 ghost use Rattle.lpt_lossy.specs.Ends.{CarriesAll, CarriesPart, IsEndless};
+ghost use Rattle.lpt_lossy.specs.Frames.{length_in};
 ghost use Rattle.lpt_lossy.specs.TurnsInside.{turn_octets};
 
 use crate::carrying::carry;
 use crate::counts::{Counts, LossyEnd};
 use crate::fate::Decider;
-use crate::frames::FrameBuffer;
 use crate::settling::settled;
 use crate::turns::Turns;
+use lpt_frames::{FrameBuffer, Front};
 use lpt_text::{Sink, Source, StreamFault, flush_out};
 use std::alloc::Global;
 
@@ -48,16 +49,17 @@ pub fn lossy_stream<S: Source, K: Sink, D: Decider>(
         (S.failed source.old) (S.failed source.new) }
     ensures writer { WriteEnds result (K.failed out.old) (K.failed out.new) }
 {
-    let mut frames = FrameBuffer::new(alloc)?;
+    let mut frames = FrameBuffer::new(alloc);
     let mut turns = Turns::new(alloc, most_later)?;
     let mut counts = Counts::new();
     let mut place: u64 = 0;
     for _ in 0..u64::MAX {
-        let len = match frames.find_frame(source, out)? {
+        let front = frames.find_frame(source, out)?;
+        let len = match length_in(front) {
             Some(len) => len,
             None => {
                 end_run(&turns, out)?;
-                let stray = frames.stray(place);
+                let stray = stray_at(place, frames.held());
                 return Ok(LossyEnd { counts, stray });
             }
         };
@@ -85,4 +87,21 @@ fn end_run<K: Sink>(turns: &Turns, out: &mut K) -> Result<(), StreamFault>
 {
     turns.write_all(out)?;
     flush_out(out)
+}
+
+// How many octets the packet in front has, where one is.
+fn length_in(front: Front) -> Option<usize>
+    ensures { result ≡ length_in front }
+{
+    match front {
+        Front::Frame(len) => Some(len),
+        Front::Stray | Front::End => None,
+    }
+}
+
+// The place of octets that are left there, where some are.
+fn stray_at(place: u64, left: &[u8]) -> Option<u64>
+    ensures { result ≡ (if length left.now == 0 then None else Some place) }
+{
+    if left.is_empty() { None } else { Some(place) }
 }

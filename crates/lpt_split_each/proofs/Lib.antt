@@ -1,3 +1,4 @@
 mod OwnLemmas
+mod OwnSplitLemmas
 pub mod ShareLemmas
 pub mod StreamLemmas

@@ -219,6 +219,7 @@ module _ (w : EachWanted) where
       (id next count place len : ℕ)
       → s ≡ record { next = next; end = ends.Unsplit end }
       → IsSplit w a b old between held next count place
+      → next < identifiers w
       → IsFrame (take len held)
       → IsMessage w.writing octets
       → octets ≡ take len held
@@ -226,14 +227,14 @@ module _ (w : EachWanted) where
       → one ≡ ones.Unsplit end
       → WritesOne w id count octets one between new
       → MakesPackets w (Ok s) a b old new
-  split-refused s end one a b old between new held octets id next count place len told h front fits
-      is same was wrote =
+  split-refused s end one a b old between new held octets id next count place len told h few front
+      fits is same was wrote =
       let m = take len held in
       let at = at-next id next count octets m one (ones.Unsplit end) between new same is was
       wrote in
       subst (λ (x : Option (List ℕ)). MakesPackets w (Ok s) a b old x) (sym at.1)
       (split-stop s (ends.Unsplit end) a b old between held next count place told h
-      (m, front-next held len front, subst (IsMessage w.writing) is fits, at.0))
+      (few, (m, front-next held len front, subst (IsMessage w.writing) is fits, at.0)))
 
   -- a read or a write failed before the next packet
   pub split-fault : (fault : StreamFault) (x y : FrameBuffer)

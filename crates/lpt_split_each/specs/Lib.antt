@@ -1,4 +1,5 @@
 pub mod Messages
+pub mod Own
 pub mod Shares
 pub mod Streams
 pub mod StreamsInside

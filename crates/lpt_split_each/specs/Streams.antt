@@ -52,7 +52,8 @@ EndsAt w next count len (NoMessage place) rest after =
     (place ≡ up_to_limit len) × (next < identifiers w)
     × ((m : List ℕ) × IsNext m rest × (IsMessage w.writing m → ⊥))
 EndsAt w next count len (Unsplit end) rest after =
-    (m : List ℕ) × IsNext m rest × IsMessage w.writing m × IsRefused w next count m end
+    (next < identifiers w)
+    × ((m : List ℕ) × IsNext m rest × IsMessage w.writing m × IsRefused w next count m end)
 EndsAt w next count len (NoIdentifier place) rest after =
     (place ≡ up_to_limit len) × (identifiers w ≤ next)
     × ((next ≡ identifiers w) ⊎ (next ≡ w.id)) × ((m : List ℕ) × IsNext m rest)

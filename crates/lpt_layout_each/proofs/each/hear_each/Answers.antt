@@ -5,9 +5,9 @@ use Rattle.std.proofs.lemmas.Result.{err_from_is_err_and}
 use Rattle.lpt_stream.proofs.EndLemmas.{other-fault, reader-after, reader-kept, writer-after}
 use Rattle.lpt_frames.specs.declared.front.Front.{Front}
 use Rattle.lpt_frames.specs.Buffers.{held, FindsFrame}
-use Rattle.lpt_layout_join.specs.declared.hearing.LeftAs.TheVariants.{Stray}
-use Rattle.lpt_layout_join.specs.Hearing.{Leaves, left_at}
-use Rattle.lpt_layout_join.proofs.HearLemmas.{find-reader, leaves-at}
+use Rattle.lpt_layout_each.specs.declared.left.LeftAs.TheVariants.{Stray}
+use Rattle.lpt_layout_each.specs.Hearing.{Leaves, left_at}
+use Rattle.lpt_layout_each.proofs.LeftLemmas.{find-reader, leaves-at}
 use Rattle.lpt_layout_each.specs.Tellers.{IsTold}
 use Rattle.lpt_layout_each.proofs.EachLemmas.{reading-endless, reading-more, reading-next, reading-none, reading-stop, taker-failed, told-next, told-nothing}
 use Rattle.lpt_layout_each.proofs.each.hear_each.Goals as goal

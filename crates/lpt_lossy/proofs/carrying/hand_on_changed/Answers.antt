@@ -1,5 +1,5 @@
 -- What is handed on is the changed copy.
-use Rattle.std.proofs.Common.{◌≡◌, ◌∙◌, ap, sym, subst, List, ℕ, Option}
+use Rattle.std.proofs.Common.{◌≡◌, ◌∙◌, ap, sym, subst, List, ℕ}
 use Rattle.std.proofs.lemmas.Result.{IfErr-weaker}
 use Rattle.lpt_text.specs.Streams.{AppendsPart}
 use Rattle.lpt_lossy.specs.TurnsInside.{handed_now}

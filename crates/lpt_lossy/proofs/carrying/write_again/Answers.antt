@@ -1,6 +1,6 @@
 -- A front part of octets is one of them once or twice.
 use Rattle.std.proofs.lemmas.Result.{IfErr-weaker}
-use Rattle.std.proofs.Common.{◌++◌, List, ℕ, Bool, true, subst, sym}
+use Rattle.std.proofs.Common.{Bool, subst, sym}
 use Rattle.lpt_text.specs.Streams.{AppendsPart}
 use Rattle.lpt_text.proofs.StreamLemmas.{part_after}
 use Rattle.lpt_lossy.specs.TurnsInside.{repeated}

@@ -1,18 +1,18 @@
 -- Packet after packet, until none is left.
-use Rattle.std.proofs.Common.{◌≡◌, ◌∙◌, ◌<◌, ◌+◌, List, ℕ, Option, Ok, ap, inr, length, take, refl, subst, arith}
+use Rattle.std.proofs.Common.{◌≡◌, ◌∙◌, List, ℕ, Some, None, ◌==◌, if◌then◌else◌, ap, inr, sym, length, take, refl, arith}
 use Rattle.std.proofs.KnownBytes.{Consumes-nil}
 use Rattle.lpt_stream.specs.Streams.{all_octets}
 use Rattle.lpt_lossy.specs.Ends.{CarriesPart}
-use Rattle.lpt_lossy.specs.FramesInside.{held, FindsFrame}
+use Rattle.lpt_frames.specs.Buffers.{held}
 use Rattle.lpt_lossy.specs.Ways.{crossings}
-use Rattle.lpt_lossy.proofs.CarryLemmas.{IsAt, at-end, at-end-part, at-lost, at-more, at-most, at-next, at-none, at-part, none-carried, none-ends}
-use Rattle.lpt_lossy.proofs.FrameLemmas.{lost-adds}
+use Rattle.lpt_lossy.proofs.CarryLemmas.{at-end, at-end-part, at-fault, at-lost, at-more, at-most, at-next, at-none, at-part, none-carried}
+use Rattle.lpt_lossy.proofs.FrontLemmas.{front-frame, front-none, none-ends}
 use Rattle.lpt_lossy.proofs.PartLemmas.{any-err}
 use Rattle.lpt_lossy.proofs.TurnLemmas.{turns_are}
 use Rattle.lpt_lossy.proofs.lossy.lossy_stream.Goals as goal
 
-pub returns-in_err-frames-clause-leaves : goal.returns-in_err-frames-clause-leaves
-returns-in_err-frames-clause-leaves g c =
+pub returns-in_err-turns-clause-leaves : goal.returns-in_err-turns-clause-leaves
+returns-in_err-turns-clause-leaves g c =
     any-err (CarriesPart g.D.Decider.decides c.args.most_later c.args.decider.now
     (g.S.Source.remaining c.args.source.now)
     (g.S.Source.remaining c.args.source.now) (g.K.Sink.contents c.args.out.now)
@@ -22,52 +22,30 @@ returns-in_err-frames-clause-leaves g c =
     (g.S.Source.remaining c.args.source.now)
     (g.K.Sink.contents c.args.out.now))
 
-pub returns-in_err-turns-clause-leaves : goal.returns-in_err-turns-clause-leaves
-returns-in_err-turns-clause-leaves g c =
-    any-err (CarriesPart g.D.Decider.decides c.args.most_later c.args.decider.now
-    (g.S.Source.remaining c.args.source.now)
-    (g.S.Source.remaining c.args.source.now) (g.K.Sink.contents c.args.out.now)
-    (g.K.Sink.contents c.args.out.now))
-    c.from_residual-in_err-turns.result
-    (none-carried g.D.Decider.decides c.args.most_later c.args.decider.now
-    (g.S.Source.remaining c.args.source.now)
-    (g.K.Sink.contents c.args.out.now))
-
 pub loop-init : goal.loop-init
 loop-init g c = record {
   at = at-none g.D.Decider.decides c.args.most_later c.args.decider.now
       (g.S.Source.remaining c.args.source.now)
-      (g.K.Sink.contents c.args.out.now) c.in_ok-frames.frames c.in_ok-turns.turns
+      (g.K.Sink.contents c.args.out.now) c.new-frames.result c.in_ok-turns.turns
       c.new-counts.result
-      (Consumes-nil (g.S.Source.remaining c.args.source.now)) c.in_ok-frames.ensures
+      (Consumes-nil (g.S.Source.remaining c.args.source.now)) c.new-frames.ensures
       c.in_ok-turns.ensures
       c.new-counts.ensures;
   reader = refl;
   writer = refl;
 }
 
--- a read failed, or what was kept back couldn't be passed on
-pub returns-in_err-len-clause-leaves : goal.returns-in_err-len-clause-leaves
-returns-in_err-len-clause-leaves g c =
-    let first = c.args.decider.now in
-    let a = g.S.Source.remaining c.args.source.now in
-    let mid = g.S.Source.remaining c.loop.source in
-    let after = g.S.Source.remaining c.find_frame.new.source in
-    let k0 = g.K.Sink.contents c.args.out.now in
-    let k1 = g.K.Sink.contents c.loop.out in
-    let k2 = g.K.Sink.contents c.find_frame.new.out in
-    let b = c.loop.frames in
-    let b2 = c.find_frame.new.self in
-    let lost = lost-adds c.in_err-len.field-0.0 b b2 mid after _ _ c.in_err-len.ensures.finds in
-    any-err (CarriesPart g.D.Decider.decides c.args.most_later first a after k0 k2)
-    c.from_residual-in_err-len.result
-    (at-lost g.D.Decider.decides c.args.most_later first c.loop.decider a after k0 k2 b2
-    c.loop.turns c.loop.counts
-    c.loop.place c.loop.counter
-    (at-more g.D.Decider.decides c.args.most_later first c.loop.decider a mid after k0 k1 k2 b b2
-    c.loop.turns
-    c.loop.counts c.loop.place c.loop.counter lost.0 c.loop.invariant.at lost.1
-    c.in_err-len.ensures.same))
+-- a read failed, what was kept back couldn't be passed on, or there was no memory
+pub returns-in_err-front-clause-leaves : goal.returns-in_err-front-clause-leaves
+returns-in_err-front-clause-leaves g c =
+    any-err (CarriesPart g.D.Decider.decides c.args.most_later c.args.decider.now
+    (g.S.Source.remaining c.args.source.now) (g.S.Source.remaining c.find_frame.new.peer)
+    (g.K.Sink.contents c.args.out.now) (g.K.Sink.contents c.find_frame.new.out))
+    c.from_residual-in_err-front.result
+    (at-fault g.D.Decider.decides c.args.most_later c.args.decider.now c.loop.decider
+    c.in_err-front.field-0.0 _ _ _ _ _ _ c.loop.frames c.find_frame.new.self c.loop.turns
+    c.loop.counts c.loop.place c.loop.counter _ _ c.loop.invariant.at c.in_err-front.ensures.finds
+    c.in_err-front.ensures.same)
 
 -- no more packets come
 pub returns-in_err-end_run-in-None-clause-leaves : goal.returns-in_err-end_run-in-None-clause-leaves
@@ -75,22 +53,21 @@ returns-in_err-end_run-in-None-clause-leaves g c =
     let first = c.args.decider.now in
     let a = g.S.Source.remaining c.args.source.now in
     let mid = g.S.Source.remaining c.loop.source in
-    let after = g.S.Source.remaining c.find_frame.new.source in
+    let after = g.S.Source.remaining c.find_frame.new.peer in
     let k0 = g.K.Sink.contents c.args.out.now in
     let k1 = g.K.Sink.contents c.loop.out in
     let k2 = g.K.Sink.contents c.find_frame.new.out in
     let k3 = g.K.Sink.contents c.end_run.new.out in
     let b = c.loop.frames in
     let b2 = c.find_frame.new.self in
-    let found = subst (λ (f : Option ℕ). FindsFrame (Ok f) b b2 mid after
-    (g.S.Source.failed c.loop.source) (g.S.Source.failed c.find_frame.new.source)) c.in-None.is c.in_ok-len.ensures.finds in
+    let found = c.in_ok-front.ensures.finds in
     any-err (CarriesPart g.D.Decider.decides c.args.most_later first a after k0 k3)
     c.from_residual-in_err-end_run-in-None.result
     (at-end-part g.D.Decider.decides c.args.most_later first c.loop.decider a after k0 k2 k3 b2
     c.loop.turns c.loop.counts c.loop.place c.loop.counter
     (at-more g.D.Decider.decides c.args.most_later first c.loop.decider a mid after k0 k1 k2 b b2
     c.loop.turns c.loop.counts c.loop.place c.loop.counter found.0 c.loop.invariant.at found.1
-    c.in_ok-len.ensures.same)
+    c.in_ok-front.ensures.same)
     c.in_err-end_run-in-None.ensures.part)
 
 pub returns-in-None-clause-ends : goal.returns-in-None-clause-ends
@@ -98,25 +75,26 @@ returns-in-None-clause-ends g c =
     let first = c.args.decider.now in
     let a = g.S.Source.remaining c.args.source.now in
     let mid = g.S.Source.remaining c.loop.source in
-    let after = g.S.Source.remaining c.find_frame.new.source in
+    let after = g.S.Source.remaining c.find_frame.new.peer in
     let k0 = g.K.Sink.contents c.args.out.now in
     let k1 = g.K.Sink.contents c.loop.out in
     let k2 = g.K.Sink.contents c.find_frame.new.out in
     let k3 = g.K.Sink.contents c.end_run.new.out in
     let b = c.loop.frames in
     let b2 = c.find_frame.new.self in
-    let found = subst (λ (f : Option ℕ). FindsFrame (Ok f) b b2 mid after
-    (g.S.Source.failed c.loop.source)
-    (g.S.Source.failed c.find_frame.new.source)) c.in-None.is c.in_ok-len.ensures.finds in
+    let found = c.in_ok-front.ensures.finds in
     let at = at-more g.D.Decider.decides c.args.most_later first c.loop.decider a mid after k0 k1
     k2 b b2 c.loop.turns
     c.loop.counts c.loop.place c.loop.counter found.0 c.loop.invariant.at found.1
-    c.in_ok-len.ensures.same in
+    c.in_ok-front.ensures.same in
     at-end g.D.Decider.decides c.args.most_later first c.loop.decider a after k0 k2 k3 b2
     c.loop.turns c.loop.counts
-    c.loop.place c.loop.counter c.stray-stray.result at
-    (none-ends (held b2) (length (all_octets at.frames)) c.loop.place c.stray-stray.result after
-    at.place_is c.stray-stray.ensures found.3)
+    c.loop.place c.loop.counter c.stray_at-stray.result at
+    (none-ends (held b2) (length (all_octets at.frames)) c.loop.place c.stray_at-stray.result after
+    at.place_is
+    (c.stray_at-stray.ensures
+    ∙ ap (λ (o : List ℕ). if length o == 0 then None else Some c.loop.place) c.held.ensures)
+    (front-none c.in_ok-front.front (held b2) after (sym c.in-None.ensures) found.2))
     c.in_ok-end_run-in-None.ensures.ok
 
 -- a packet
@@ -135,7 +113,7 @@ returns-in_err-carry-clause-leaves g c =
     let first = c.args.decider.now in
     let a = g.S.Source.remaining c.args.source.now in
     let mid = g.S.Source.remaining c.loop.source in
-    let after = g.S.Source.remaining c.find_frame.new.source in
+    let after = g.S.Source.remaining c.find_frame.new.peer in
     let k0 = g.K.Sink.contents c.args.out.now in
     let k1 = g.K.Sink.contents c.loop.out in
     let k2 = g.K.Sink.contents c.find_frame.new.out in
@@ -143,20 +121,20 @@ returns-in_err-carry-clause-leaves g c =
     let b = c.loop.frames in
     let b2 = c.find_frame.new.self in
     let len = c.in-Some.len in
-    let found = subst (λ (f : Option ℕ). FindsFrame (Ok f) b b2 mid after
-    (g.S.Source.failed c.loop.source)
-    (g.S.Source.failed c.find_frame.new.source)) c.in-Some.is c.in_ok-len.ensures.finds in
+    let found = c.in_ok-front.ensures.finds in
     let at = at-more g.D.Decider.decides c.args.most_later first c.loop.decider a mid after k0 k1
     k2 b b2 c.loop.turns
     c.loop.counts c.loop.place c.loop.counter found.0 c.loop.invariant.at found.1
-    c.in_ok-len.ensures.same in
+    c.in_ok-front.ensures.same in
     any-err (CarriesPart g.D.Decider.decides c.args.most_later first a after k0 k3)
     c.from_residual-in_err-carry.result
     (at-part g.D.Decider.decides c.args.most_later first c.loop.decider c.decide.new.self a after
     k0 k2 k3 b2 c.loop.turns
-    c.loop.counts c.loop.place c.loop.counter len c.decide.result (take len c.held.result.now)
+    c.loop.counts c.loop.place c.loop.counter len c.decide.result
+    (take len c.held-in-loop.result.now)
     c.settled-way.result
-    at found.3 (ap (take len) c.held.ensures) c.decide.ensures c.settled-way.ensures.way
+    at (front-frame c.in_ok-front.front len (held b2) after (sym c.in-Some.ensures) found.2)
+    (ap (take len) c.held-in-loop.ensures) c.decide.ensures c.settled-way.ensures.way
     c.in_err-carry.ensures.part)
 
 pub loop-preserved : goal.loop-preserved
@@ -164,7 +142,7 @@ loop-preserved g c =
     let first = c.args.decider.now in
     let a = g.S.Source.remaining c.args.source.now in
     let mid = g.S.Source.remaining c.loop.source in
-    let after = g.S.Source.remaining c.find_frame.new.source in
+    let after = g.S.Source.remaining c.find_frame.new.peer in
     let k0 = g.K.Sink.contents c.args.out.now in
     let k1 = g.K.Sink.contents c.loop.out in
     let k2 = g.K.Sink.contents c.find_frame.new.out in
@@ -172,30 +150,29 @@ loop-preserved g c =
     let b = c.loop.frames in
     let b2 = c.find_frame.new.self in
     let len = c.in-Some.len in
-    let o = take len c.held.result.now in
-    let found = subst (λ (f : Option ℕ). FindsFrame (Ok f) b b2 mid after
-    (g.S.Source.failed c.loop.source)
-    (g.S.Source.failed c.find_frame.new.source)) c.in-Some.is c.in_ok-len.ensures.finds in
+    let o = take len c.held-in-loop.result.now in
+    let found = c.in_ok-front.ensures.finds in
     let at = at-more g.D.Decider.decides c.args.most_later first c.loop.decider a mid after k0 k1
     k2 b b2 c.loop.turns
     c.loop.counts c.loop.place c.loop.counter found.0 c.loop.invariant.at found.1
-    c.in_ok-len.ensures.same in
+    c.in_ok-front.ensures.same in
     record {
       at = at-next g.D.Decider.decides c.args.most_later first c.loop.decider c.decide.new.self a
           after k0 k2 k3 b2
           c.skip.new.self c.loop.turns c.carry.new.turns c.loop.counts c.add.new.self c.loop.place
           c.saturating_add-place.result c.loop.counter len c.decide.result o c.settled-way.result at
           record {
-            front = found.3;
-            octets_are = ap (take len) c.held.ensures;
+            front = front-frame c.in_ok-front.front len (held b2) after (sym c.in-Some.ensures)
+                found.2;
+            octets_are = ap (take len) c.held-in-loop.ensures;
             fate_is = c.decide.ensures;
             way_is = c.settled-way.ensures.way;
             written = c.in_ok-carry.ensures.ok;
             held_is = c.in_ok-carry.ensures.turns;
             added = c.add.ensures;
           } c.saturating_add-place.ensures c.skip.ensures;
-      reader = found.2 ∙ c.loop.invariant.reader;
-      writer = c.in_ok-carry.ensures.writer ∙ (c.in_ok-len.ensures.writer
+      reader = found.3 ∙ c.loop.invariant.reader;
+      writer = c.in_ok-carry.ensures.writer ∙ (c.in_ok-front.ensures.writer
           ∙ c.loop.invariant.writer);
     }
 

@@ -125,7 +125,8 @@ returns-in-Ok-Unsplit-clause-makes g c =
     c.in-Ok-Unsplit.end c.in-Ok-Unsplit.field-0 _ _ _ _ _ (held c.find_frame.new.self)
     (take c.in-Ok-Frame.len c.held-in-loop-len.result.now) c.loop-len.next c.loop-len.next
     c.loop-len.count c.loop-len.place c.in-Ok-Frame.len c.ended-in-Ok-Unsplit.ensures at
-    found.2.1 (c.is_message.ensures.fit (search rules))
+    (omega (arith, c.greatest.ensures, c.if-next-most.false)) found.2.1
+    (c.is_message.ensures.fit (search rules))
     (ap (take c.in-Ok-Frame.len) c.held-in-loop-len.ensures) refl
     c.in-Ok-Unsplit.field-0-is c.in-Ok-Unsplit.ensures.ok
 

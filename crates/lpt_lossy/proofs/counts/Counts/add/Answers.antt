@@ -1,5 +1,5 @@
 -- Each number is one more, where it is.
-use Rattle.std.proofs.Common.{refl, rules}
+use Rattle.std.proofs.Common.{rules}
 use Rattle.lpt_lossy.specs.Counts.{is_damaged, is_delayed, is_passed}
 use Rattle.lpt_lossy.specs.declared.fate.Fate.{Fate}
 use Rattle.lpt_lossy.proofs.CountLemmas.{number-next}

@@ -1,5 +1,5 @@
 -- Turn after turn.
-use Rattle.std.proofs.Common.{◌∙◌, arith}
+use Rattle.std.proofs.Common.{◌∙◌}
 use Rattle.std.specs.List.{concat}
 use Rattle.lpt_text.specs.Streams.{AppendsPart}
 use Rattle.lpt_lossy.specs.TurnsInside.{turn_octets}

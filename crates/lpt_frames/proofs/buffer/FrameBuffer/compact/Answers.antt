@@ -1,7 +1,7 @@
 -- What was moved to the front is what was held.
 use Rattle.std.proofs.Common.{◌∙◌, ◌-◌, ap, take, List, ℕ}
 use Rattle.lpt_stream.proofs.BufferLemmas.{moved}
-use Rattle.lpt_lossy.proofs.frames.FrameBuffer.compact.Goals as goal
+use Rattle.lpt_frames.proofs.buffer.FrameBuffer.compact.Goals as goal
 
 pub returns-clause-held : goal.returns-clause-held
 returns-clause-held c =
