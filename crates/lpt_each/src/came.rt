@@ -45,7 +45,7 @@ impl Came {
             mut numbers,
             place: first,
         } = self;
-        numbers.add(part.number, part.kind)?;
+        numbers.add(u32::from(part.number), part.kind)?;
         Ok(Came {
             numbers,
             place: Some(first.unwrap_or(place)),

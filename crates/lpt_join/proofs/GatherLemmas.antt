@@ -3,7 +3,7 @@ use Rattle.std.proofs.Common.{◌≡◌, ◌∙◌, ap, sym, refl, ℕ, ◌+◌,
 use Rattle.std.specs.Option.{option_map}
 use Rattle.std.specs.List.{list_any}
 use Rattle.lpt_reception.specs.Received.{Kept, is_last, no_parts}
-use Rattle.lpt_skips.specs.declared.reading.Reading.{Reading}
+use Rattle.lpt_skips.specs.declared.wanted.Wanted.{Wanted}
 use Rattle.lpt_skips.specs.declared.skips.Skips.{Skips}
 use Rattle.lpt_skips.specs.Tallies.{noted, nothing_noted, skips_of}
 use Rattle.lpt_skips.proofs.TallyLemmas.{noted-append}
@@ -207,7 +207,7 @@ gives-part t ps p g h n x is place was some of joins comes ends against at found
 }
 
 -- what is noted of pieces, with one more
-pub noted-next : (r s : Reading) (was now : Skips) (ps : List Piece) (p q : Piece)
+pub noted-next : (r s : Wanted) (was now : Skips) (ps : List Piece) (p q : Piece)
     → s ≡ r
     → was ≡ skips_of r ps
     → q ≡ p

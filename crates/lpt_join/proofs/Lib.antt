@@ -18,4 +18,5 @@ pub mod SkipLemmas
 pub mod SeveralLemmas
 mod SoleLemmas
 pub mod ThereLemmas
+mod WideLemmas
 mod WriteLemmas

@@ -12,3 +12,4 @@ pub mod Readers
 pub mod Several
 pub mod SeveralInside
 pub mod Writes
+pub mod Wide

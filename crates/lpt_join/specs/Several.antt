@@ -2,27 +2,43 @@
 use Rattle.std.specs.Prelude.{◌≡◌, ◌≤◌, ℕ, Bool, true, false, List, length, Option, Some, None, is_some}
 use Rattle.std.specs.BTreeMap.{get}
 use Rattle.std.specs.List.{list_any}
+use Rattle.std.specs.Option.{option_map}
+use Rattle.std.proofs.Common.{arith}
+use Rattle.std.proofs.lemmas.Bool.Decides.{nat_tests}
 use Rattle.lpt_packet.specs.Names.{Name, name_cmp}
-use Rattle.lpt_skips.specs.declared.reading.Reading.{Reading}
+use Rattle.lpt_carried.specs.Own.{own_layout}
+use Rattle.lpt_carried.specs.Sizes.{is_size}
+use Rattle.lpt_layout.specs.Own.{own_parts}
+use Rattle.lpt_part.specs.Splitting.{IsPartSize}
+use Rattle.lpt_skips.specs.declared.wanted.Wanted.{Wanted}
 use Rattle.lpt_stream.specs.Pieces.{Piece, packets_of}
 use Rattle.lpt_join.specs.declared.gathering.Gathering.{Gathering}
 use Rattle.lpt_join.specs.declared.gatherings.Gatherings.{Gatherings}
 use Rattle.lpt_join.specs.declared.transaction.Transaction.{Transaction}
 use Rattle.lpt_join.specs.Gatherings.{Gives}
 use Rattle.lpt_join.specs.Offers.{offered}
+use Rattle.lpt_join.specs.Wide.{wide}
 
 -- the transaction of another name, whose packets are read alike
 abbrev pub of_name : Transaction → Name → Transaction
 of_name t n = record t { name = n }
 
--- how its parts are read, and those of any other name or of this one alone are wanted
-abbrev pub reading_of : Transaction → Option Name → Reading
+-- a part size of the profile is one of a layout
+pub size_fits : (p : ℕ) → IsPartSize p → is_size (Some p) ≡ true
+size_fits p h = grind (arith, nat_tests)
+
+-- how its parts are read, and those of any name or of this one alone are wanted
+abbrev pub reading_of : Transaction → Option Name → Wanted
 reading_of t name = record {
-  direction = t.direction;
-  apid = t.apid;
-  part_size = t.part_size;
-  name = name;
-  size = t.size;
+  reading = record {
+    direction = t.direction;
+    apid = t.apid;
+    layout = own_layout t.direction;
+    parts = own_parts;
+    part_size = Some t.part_size;
+    size = size_fits t.part_size t.size;
+  };
+  name = option_map wide name;
 }
 
 -- whether one of the packets carries a part of the transaction

@@ -62,7 +62,7 @@ impl Gathering {
             mut came,
             against,
         } = self;
-        came.add(part.number, part.kind)?;
+        came.add(u32::from(part.number), part.kind)?;
         let (joining, is_against) = joining.take(alloc, transaction, part)?;
         Ok(Gathering {
             joining,

@@ -11,7 +11,7 @@ pub struct PartNumbers {
     // Whether each number's part came, up to the highest that did.
     marks: Vec<bool>,
     ended: bool,
-    ghost few: { length marks.items ≤ 65536 },
+    ghost few: { length marks.items ≤ 65543 },
     ghost top: { get_or marks.items (length marks.items - 1) true ≡ true },
 }
 
@@ -49,20 +49,21 @@ impl PartNumbers {
         self.ended
     }
 
-    /// The highest number of a part that came, at most 65,535; 0 where none came.
+    /// The highest number of a part that came, at most 65,542; 0 where none came.
     pub fn highest(&self) -> u32
         ensures highest { IsHighest (has self.now) result }
-        ensures small { result ≤ 65535 }
+        ensures small { result ≤ 65542 }
     {
         self.marks.len().saturating_sub(1) as u32
     }
 
-    /// Notes that a part came. The only error is out of memory.
-    pub fn add(&mut self, number: u16, kind: Kind) -> Result<(), AllocError>
+    /// Notes that a part of this number came, at most 65,542. The only error is out of memory.
+    pub fn add(&mut self, number: u32, kind: Kind) -> Result<(), AllocError>
+        requires { number ≤ 65542 }
         ensures came { OnOk result ((n : ℕ) → has self.new n ≡ ((number == n) || has self.old n)) }
         ensures ended { OnOk result (is_ended self.new ≡ (same_kind kind Last || is_ended self.old)) }
     {
-        mark(&mut self.marks, usize::from(number))?;
+        mark(&mut self.marks, number as usize)?;
         self.ended = self.ended || kind == Kind::Last;
         Ok(())
     }
@@ -70,12 +71,12 @@ impl PartNumbers {
 
 // Marks a number. The only error is out of memory.
 fn mark(marks: &mut Vec<bool>, place: usize) -> Result<(), AllocError>
-    requires place { place ≤ 65535 }
-    requires few { length marks.old.items ≤ 65536 }
+    requires place { place ≤ 65542 }
+    requires few { length marks.old.items ≤ 65543 }
     requires top { get_or marks.old.items (length marks.old.items - 1) true ≡ true }
     ensures came { OnOk result ((n : ℕ) → get_or marks.new.items n false
         ≡ ((place == n) || get_or marks.old.items n false)) }
-    ensures few { length marks.new.items ≤ 65536 }
+    ensures few { length marks.new.items ≤ 65543 }
     ensures top { get_or marks.new.items (length marks.new.items - 1) true ≡ true }
 {
     if marks.len() <= place {

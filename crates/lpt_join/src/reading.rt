@@ -1,6 +1,6 @@
 //! The part that a packet carries.
 
-ghost use Rattle.std.specs.Prelude.{◌≡◌, ◌≢◌, ℕ, List, Err, IfSome};
+ghost use Rattle.std.specs.Prelude.{◌≡◌, ◌≢◌, ℕ, List, Some, None, Err, IfSome};
 ghost use Rattle.std.specs.Option.{option_map};
 ghost use Rattle.lpt_packet.specs.Packets.{fields, verdict};
 ghost use Rattle.lpt_packet.specs.declared.fault.PacketFault.TheVariants.{Checksum};
@@ -10,8 +10,11 @@ ghost use Rattle.lpt_events.specs.Arrivals.{packet_arrival};
 ghost use Rattle.lpt_events.specs.NamedParts.{named};
 ghost use Rattle.lpt_events.specs.declared.side.Side.TheVariants.{Ground, Craft};
 ghost use Rattle.lpt_stream.specs.Pieces.{IsSealed};
+ghost use Rattle.lpt_skips.specs.declared.why.Why.TheVariants.{Taken};
+ghost use Rattle.lpt_skips.specs.Skipping.{why_of};
 ghost use Rattle.lpt_join.specs.Contradictions.{offered_in};
 ghost use Rattle.lpt_join.specs.Offers.{named_in, offered, part_of_piece, piece_in, piece_of};
+ghost use Rattle.lpt_join.specs.Several.{reading_of};
 
 use crate::Transaction;
 use lpt_events::part_kind;
@@ -19,6 +22,7 @@ use lpt_packet::laws::seen_is_read;
 use lpt_packet::{Direction, Name, Packet, Seen, read_sealed};
 use lpt_part::{Part, read_part};
 use lpt_pus::{read_tc, read_tm};
+use lpt_skips::laws::the_own_skips;
 use lpt_stream::PieceKind;
 
 /// The part of this transaction that a piece of a stream carries; none where it is no packet, an
@@ -34,7 +38,10 @@ pub fn part_in_piece<'a>(
         ≡ offered_in transaction.now kind octets.now }
     ensures id { IfSome result (λ x. x.id ≡ transaction.now.name.id) }
     ensures size { IfSome result (λ x. x.p ≡ transaction.now.part_size) }
+    ensures why { IfSome result (λ _. why_of
+        (reading_of transaction.now (Some transaction.now.name)) kind octets.now ≡ Taken) }
 {
+    the_own_skips();
     match kind {
         PieceKind::Whole => part_in(octets, transaction),
         PieceKind::Damaged => None,
@@ -55,7 +62,10 @@ pub fn named_part_in<'a>(
         ≡ named_in transaction.now kind octets.now }
     ensures id { IfSome result (λ x. x.1.id ≡ x.0.id) }
     ensures size { IfSome result (λ x. x.1.p ≡ transaction.now.part_size) }
+    ensures why { IfSome result (λ _. why_of (reading_of transaction.now None) kind octets.now
+        ≡ Taken) }
 {
+    the_own_skips();
     match kind {
         PieceKind::Whole => match any_part_in(octets, transaction) {
             Some((source, part)) => {

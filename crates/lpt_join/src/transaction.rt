@@ -2,8 +2,10 @@
 
 ghost use Rattle.lpt_part.specs.Splitting.{IsPartSize};
 
+use crate::wide;
+use lpt_carried::Reading;
 use lpt_packet::{Direction, Name};
-use lpt_skips::Reading;
+use lpt_skips::Wanted;
 
 /// Which transaction, and how its packets are read.
 #[derive(Clone, Copy, Debug)]
@@ -36,13 +38,15 @@ impl Transaction {
     }
 
     /// How its parts are read, where parts of this name alone are wanted, or of any.
-    pub fn reading(&self, name: Option<Name>) -> Reading
+    pub fn reading(&self, name: Option<Name>) -> Wanted
         ensures { result ≡ reading_of self.now name }
     {
-        Reading {
-            direction: self.direction,
-            apid: self.apid,
-            part_size: self.part_size,
+        let name = match name {
+            Some(name) => Some(wide(name)),
+            None => None,
+        };
+        Wanted {
+            reading: Reading::own(self.direction, self.apid, self.part_size),
             name,
         }
     }

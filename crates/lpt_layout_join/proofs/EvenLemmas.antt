@@ -12,8 +12,8 @@ use Rattle.lpt_carried.specs.declared.name.Name.{Name}
 use Rattle.lpt_carried.specs.declared.reading.Reading.{Reading}
 use Rattle.lpt_carried.specs.declared.skip.Skip.{Skip}
 use Rattle.lpt_layout_join.specs.Came.{Came, size_by, size_told, last_by, last_told, octets_told, octets_of, size_of, last_of, highest, other_octets, other_size, other_last, other_end, contradicts, step}
-use Rattle.lpt_carried.specs.Carried.{Named, carried, name_of}
-use Rattle.lpt_layout_join.specs.Hearing.{Heard, all_heard, heard, is_joined, next, nothing_heard, with_counts, with_packet, with_part}
+use Rattle.lpt_carried.specs.Carried.{carried, part_of}
+use Rattle.lpt_layout_join.specs.Gathered.{Gathered, all_gathered, gathered, next, nothing_gathered, with_counts, with_part}
 use Rattle.lpt_layout_join.specs.Laws.{HasItsLength}
 use Rattle.lpt_layout_join.proofs.CameLemmas.{first_told-more}
 
@@ -135,25 +135,22 @@ even-step c place q h = by (is_some c.against) (contradicts c.parts q) refl wher
   by false true e = h
   by false false e = even-more c.parts q h e
 
-even-packet : (h : Heard) (v : Result Named Skip)
-    → AreEven h.came.parts
-    → AreEven (with_packet h v).came.parts
-even-packet h (Err s) even = even
-even-packet h (Ok c) even = by (is_joined h.name (name_of c)) where
-  by : (t : Bool) → AreEven (with_part h c t).came.parts
-  by true = even-step h.came h.place c.piece even
-  by false = even
+even-part : (g : Gathered) (o : Option Piece)
+    → AreEven g.came.parts
+    → AreEven (with_part g o).came.parts
+even-part g None even = even
+even-part g (Some q) even = even-step g.came 0 q even
 
-even-all : (r : Reading) (h : Heard) (bs : List (List ℕ))
-    → AreEven h.came.parts
-    → AreEven (all_heard r h bs).came.parts
-even-all r h [] even = even
-even-all r h (b ∷ bs) even =
-    even-all r (next r h b) bs (even-packet (with_counts r h b) (carried r b) even)
+even-all : (r : Reading) (n : Name) (g : Gathered) (bs : List (List ℕ))
+    → AreEven g.came.parts
+    → AreEven (all_gathered r n g bs).came.parts
+even-all r n g [] even = even
+even-all r n g (b ∷ bs) even =
+    even-all r n (next r n g b) bs (even-part (with_counts r g b) (part_of n (carried r b)) even)
 
 -- whatever packets came
-pub even-heard : (r : Reading) (asked : Option Name) (bs : List (List ℕ)) (k : ℕ) (x : List ℕ)
-    → octets_of (heard r asked bs).came.parts k ≡ Some x
-    → HasItsLength (heard r asked bs).came.parts k x
-unfolding heard
-even-heard r asked bs = even-all r (nothing_heard asked) bs (λ k x e. absurd cc)
+pub even-gathered : (r : Reading) (n : Name) (bs : List (List ℕ)) (k : ℕ) (x : List ℕ)
+    → octets_of (gathered r n bs).came.parts k ≡ Some x
+    → HasItsLength (gathered r n bs).came.parts k x
+unfolding gathered
+even-gathered r n bs = even-all r n nothing_gathered bs (λ k x e. absurd cc)

@@ -1,11 +1,14 @@
 pub mod CameLemmas
 pub mod CountLemmas
 pub mod EvenLemmas
-pub mod HearLemmas
+pub mod GatherLemmas
 pub mod InOrderLemmas
 pub mod LawLemmas
 pub mod MadeLemmas
+pub mod NameLemmas
 pub mod PartsLemmas
+pub mod SeveralLemmas
 pub mod SlotLemmas
+pub mod StreamLemmas
 pub mod SureLemmas
 pub mod WriteLemmas

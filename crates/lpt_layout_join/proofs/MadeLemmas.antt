@@ -45,7 +45,7 @@ own_fits Last k len p h =
     record { least = h.least; greatest = omega arith; end = omega (arith, less, h.end) }
 
 -- and no part has no octets
-some_octets : (kind : Kind) (k len p : ℕ) → 1 ≤ p → LengthFits kind k len p → 1 ≤ len
+pub some_octets : (kind : Kind) (k len p : ℕ) → 1 ≤ p → LengthFits kind k len p → 1 ≤ len
 some_octets First k len p some h = omega (arith, h.least)
 some_octets Middle k len p some h = omega (arith, h.least)
 some_octets Last k len p some h = omega (arith, h.least)

@@ -2,8 +2,12 @@ pub mod Came
 pub mod CameInside
 pub mod Counts
 pub mod CountsInside
-pub mod Hearing
+pub mod Gathered
+pub mod Gatherings
+pub mod GatheringsInside
 pub mod InOrder
 pub mod Laws
+pub mod Names
 pub mod Orders
+pub mod Readers
 pub mod Writes

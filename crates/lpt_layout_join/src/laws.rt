@@ -1,6 +1,6 @@
 //! What the definitions say of the parts of one message: functions with empty bodies.
 
-ghost use Rattle.std.specs.Prelude.{◌≡◌, ◌⊎◌, ◌≤◌, ℕ, Bool, false, List, Option, Some, None, Ok, length, is_some};
+ghost use Rattle.std.specs.Prelude.{◌≡◌, ◌⊎◌, ◌≤◌, ℕ, Bool, false, List, Option, Some, None, Ok, length};
 ghost use Rattle.lpt_events.specs.Arrivals.{part_subtype};
 ghost use Rattle.lpt_layout.specs.Messages.{Said, HeadFits};
 ghost use Rattle.lpt_layout.specs.Parts.{PieceFits, body_as};
@@ -11,9 +11,9 @@ ghost use Rattle.lpt_part.specs.Splitting.{kind_at, part_count};
 ghost use Rattle.lpt_carried.specs.declared.name.Name.{Name};
 ghost use Rattle.lpt_carried.specs.declared.reading.Reading.{Reading};
 ghost use Rattle.lpt_layout_join.specs.Came.{message_of, octets_of};
-ghost use Rattle.lpt_carried.specs.Carried.{carried, kind_to};
-ghost use Rattle.lpt_layout_join.specs.Hearing.{heard};
-ghost use Rattle.lpt_layout_join.specs.declared.ending.EndAs.TheVariants.{Written};
+ghost use Rattle.lpt_carried.specs.Carried.{carried, kind_to, same_name};
+ghost use Rattle.lpt_layout_join.specs.Gathered.{carry, gathered};
+ghost use Rattle.lpt_layout_join.specs.declared.ending.JoinEnd.TheVariants.{Written};
 ghost use Rattle.lpt_layout_join.specs.InOrder.{IsInOrder};
 ghost use Rattle.lpt_layout_join.specs.Laws.{AreOneOrOther, EachIsAmong, HasItsLength, IsAsked, IsSplit, part_named};
 ghost use Rattle.lpt_layout_join.specs.Writes.{end_of, end_whole, unfit};
@@ -21,36 +21,36 @@ ghost use Rattle.lpt_layout_join.specs.Writes.{end_of, end_whole, unfit};
 use lpt_layout::laws::written_is_read;
 
 /// The packets of a message's parts, in any order and with repeats, and others in between, are
-/// joined to that message once each part is among them, byte for byte. They are the only ones where
-/// no transaction was asked for.
+/// joined to that message once each part is among them, byte for byte. Where no transaction was
+/// asked for, they are the only ones: then no part came of another.
 pub fn split_is_joined()
     ensures message { (r : Reading) (asked : Option Name) (n : Name) (p : ℕ) (m : List ℕ)
         (bs : List (List ℕ)) → IsSplit p m → IsAsked asked n → AreOneOrOther r asked n p m bs
-        → EachIsAmong r n p m bs → message_of (heard r asked bs).came.parts ≡ Some m }
+        → EachIsAmong r n p m bs → message_of (gathered r n bs).came.parts ≡ Some m }
     ensures end { (r : Reading) (asked : Option Name) (n : Name) (p : ℕ) (m : List ℕ)
         (bs : List (List ℕ)) (any : Bool) → IsSplit p m → IsAsked asked n
         → AreOneOrOther r asked n p m bs → EachIsAmong r n p m bs
-        → end_of r any (is_some asked) (heard r asked bs)
-        ≡ end_whole m (unfit r any (heard r asked bs).sure m) }
+        → end_of r any (gathered r n bs) ≡ end_whole m (unfit r any (gathered r n bs).sure m) }
+    ensures alone { (r : Reading) (n k : Name) (p : ℕ) (m : List ℕ) (bs : List (List ℕ))
+        → AreOneOrOther r None n p m bs → same_name n k ≡ false → carry r k bs ≡ false }
 {}
 
 /// Of whatever packets: what is written of a layout without a checksum, but with `any`, is joined
 /// of parts that stand in the order of their numbers, and between each of them and the next fewer
 /// sequence counts of the APID are missing than its number.
 pub fn written_is_in_order()
-    ensures { (r : Reading) (asked : Option Name) (bs : List (List ℕ)) (len : ℕ) (m : List ℕ)
+    ensures { (r : Reading) (n : Name) (bs : List (List ℕ)) (len : ℕ) (m : List ℕ)
         → r.layout.has_checksum ≡ false
-        → end_of r false (is_some asked) (heard r asked bs) ≡ Written len
-        → message_of (heard r asked bs).came.parts ≡ Some m
-        → (n : Name) × ((heard r asked bs).name ≡ Some n) × IsInOrder r n bs m }
+        → end_of r false (gathered r n bs) ≡ Written len
+        → message_of (gathered r n bs).came.parts ≡ Some m → IsInOrder r n bs m }
 {}
 
 /// Of whatever packets: the octets that are joined of each part have the one length that is told,
 /// but for the last part's.
 pub fn parts_are_even()
-    ensures { (r : Reading) (asked : Option Name) (bs : List (List ℕ)) (k : ℕ) (x : List ℕ)
-        → octets_of (heard r asked bs).came.parts k ≡ Some x
-        → HasItsLength (heard r asked bs).came.parts k x }
+    ensures { (r : Reading) (n : Name) (bs : List (List ℕ)) (k : ℕ) (x : List ℕ)
+        → octets_of (gathered r n bs).came.parts k ≡ Some x
+        → HasItsLength (gathered r n bs).came.parts k x }
 {}
 
 /// The packet that is written of a part carries that part, whether the part size is known or not.

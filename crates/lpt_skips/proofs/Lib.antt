@@ -1,2 +1,3 @@
+pub mod OwnLemmas
 pub mod TallyLemmas
 mod ToldLemmas

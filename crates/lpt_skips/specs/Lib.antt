@@ -1,3 +1,4 @@
+pub mod Own
 pub mod Skipping
 pub mod Tallies
 pub mod Told

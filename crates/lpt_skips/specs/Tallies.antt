@@ -2,7 +2,7 @@
 use Rattle.std.specs.Prelude.{ℕ, ◌+◌, List, [], ◌∷◌, Some, None}
 use Rattle.std.specs.Option.{option_or}
 use Rattle.lpt_stream.specs.Pieces.{Piece, up_to_limit}
-use Rattle.lpt_skips.specs.declared.reading.Reading.{Reading}
+use Rattle.lpt_skips.specs.declared.wanted.Wanted.{Wanted}
 use Rattle.lpt_skips.specs.declared.skips.Skips.{Skips}
 use Rattle.lpt_skips.specs.declared.why.Why.{Why}
 use Rattle.lpt_skips.specs.declared.why.Why.TheVariants.{Taken, Damaged, Stray, OtherApid, OtherDirection, NoNumber, Unread, OtherName, NoPart}
@@ -44,14 +44,14 @@ with_why s (OtherName name) =
 with_why s NoPart = record s { bare = raised s.bare 1 }
 
 -- with this piece
-abbrev pub noted : Reading → Skips → Piece → Skips
-noted r s p = with_why s (why r p)
+abbrev pub noted : Wanted → Skips → Piece → Skips
+noted w s p = with_why s (why w p)
 
 -- with these pieces, one after the other
-abbrev pub noted_all : Reading → Skips → List Piece → Skips
-noted_all r s [] = s
-noted_all r s (p ∷ ps) = noted_all r (noted r s p) ps
+abbrev pub noted_all : Wanted → Skips → List Piece → Skips
+noted_all w s [] = s
+noted_all w s (p ∷ ps) = noted_all w (noted w s p) ps
 
 -- what is noted of these pieces
-abbrev pub skips_of : Reading → List Piece → Skips
-skips_of r ps = noted_all r nothing_noted ps
+abbrev pub skips_of : Wanted → List Piece → Skips
+skips_of w ps = noted_all w nothing_noted ps

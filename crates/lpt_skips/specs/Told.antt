@@ -4,8 +4,8 @@ use Rattle.std.specs.Fmt.{decimal}
 use Rattle.std.specs.Option.{option_map_or}
 use Rattle.lpt_packet.specs.declared.direction.Direction.{Direction}
 use Rattle.lpt_packet.specs.Directions.{direction_word}
-use Rattle.lpt_events.specs.NameTexts.{name_text}
-use Rattle.lpt_skips.specs.declared.reading.Reading.{Reading}
+use Rattle.lpt_carried.specs.declared.name.Name.{Name}
+use Rattle.lpt_skips.specs.declared.wanted.Wanted.{Wanted}
 use Rattle.lpt_skips.specs.declared.skips.Skips.{Skips}
 use Rattle.lpt_skips.specs.declared.topic.Topic.{Topic}
 use Rattle.lpt_skips.specs.declared.topic.Topic.TheVariants.{OtherApid, OtherDirection, NoNumber, Unread, OtherName, NoPart, Damaged, Stray}
@@ -43,36 +43,43 @@ words_of_many NoPart = codes " packets carry no part"
 words_of_many Damaged = codes " packets with a fault were skipped"
 words_of_many Stray = codes " octets are no packets"
 
--- this part size, and behind it the one by which parts would be read, where one is known
-abbrev pub sizes_text : (p : ℕ) → Option ℕ → List ℕ
-sizes_text p None = decimal p
-sizes_text p (Some fitting) = decimal p ++ (codes ", but part_size = " ++ decimal fitting)
+-- the part size, or where that isn't known, those that there are; and behind it the one by which
+-- parts would be read, where one is known
+abbrev pub sizes_text : (size fitting : Option ℕ) → List ℕ
+sizes_text None fitting = codes "1 to 65535"
+sizes_text (Some p) None = decimal p
+sizes_text (Some p) (Some fitting) = decimal p ++ (codes ", but part_size = " ++ decimal fitting)
+
+-- a name: its identifier alone where it is of the configured source, which is the first argument
+abbrev pub name_text : (source : ℕ) → Name → List ℕ
+name_text source n =
+    if n.user == source then decimal n.id else decimal n.user ++ (47 ∷ decimal n.id)
 
 -- the end of what is said: an APID; part sizes; a name, as it is written where this source is
 -- configured
-abbrev pub ending_of : Reading → (source : ℕ) → Skips → Topic → List ℕ
-ending_of r source s OtherApid = option_map_or (λ apid. decimal apid) s.apid []
-ending_of r source s OtherDirection = []
-ending_of r source s NoNumber = []
-ending_of r source s Unread = sizes_text r.part_size s.part_size
-ending_of r source s OtherName = option_map_or (λ name. name_text source name) s.name []
-ending_of r source s NoPart = []
-ending_of r source s Damaged = []
-ending_of r source s Stray = []
+abbrev pub ending_of : Wanted → (source : ℕ) → Skips → Topic → List ℕ
+ending_of w source s OtherApid = option_map_or (λ apid. decimal apid) s.apid []
+ending_of w source s OtherDirection = []
+ending_of w source s NoNumber = []
+ending_of w source s Unread = sizes_text w.reading.part_size s.part_size
+ending_of w source s OtherName = option_map_or (λ name. name_text source name) s.name []
+ending_of w source s NoPart = []
+ending_of w source s Damaged = []
+ending_of w source s Stray = []
 
 -- a direction and a number
 abbrev pub opening : Direction → ℕ → List ℕ
 opening d n = direction_word d ++ (58 ∷ 32 ∷ decimal n)
 
 -- what is told of a topic
-abbrev pub line_text : Reading → (source : ℕ) → Skips → Topic → List ℕ
-line_text r source s t =
-    opening r.direction (count_of s t)
-    ++ ((if count_of s t == 1 then words_of_one t else words_of_many t) ++ ending_of r source s t)
+abbrev pub line_text : Wanted → (source : ℕ) → Skips → Topic → List ℕ
+line_text w source s t =
+    opening w.reading.direction (count_of s t)
+    ++ ((if count_of s t == 1 then words_of_one t else words_of_many t) ++ ending_of w source s t)
 
 -- what is told of a topic, where there is something of it
-abbrev pub line_of : Reading → (source : ℕ) → Skips → Topic → Option (List ℕ)
-line_of r source s t = if count_of s t == 0 then None else Some (line_text r source s t)
+abbrev pub line_of : Wanted → (source : ℕ) → Skips → Topic → Option (List ℕ)
+line_of w source s t = if count_of s t == 0 then None else Some (line_text w source s t)
 
 -- the topics, in the order in which they are told
 abbrev pub topics : List Topic
@@ -80,5 +87,5 @@ topics =
     OtherApid ∷ OtherDirection ∷ NoNumber ∷ Unread ∷ OtherName ∷ NoPart ∷ Damaged ∷ Stray ∷ []
 
 -- what is told, a line for each topic of which there is something
-abbrev pub lines_of : Reading → (source : ℕ) → Skips → List (List ℕ)
-lines_of r source s = filter_map (line_of r source s) topics
+abbrev pub lines_of : Wanted → (source : ℕ) → Skips → List (List ℕ)
+lines_of w source s = filter_map (line_of w source s) topics

@@ -1,19 +1,22 @@
-//! What a reader of parts passes over: how many pieces of a stream, and why.
+//! What a reader of parts passes over, by a layout or by the profile: how many pieces of a stream,
+//! and why.
 //!
 //! The main type is `Skips`. The first calls are `Skips::new`, then `note` with each piece, and
 //! `lines` for what is to be told.
 #![tactic(auto)]
 
+mod fitting;
+pub mod laws;
 mod lines;
-mod reading;
 mod skips;
 mod sorting;
 mod topic;
+mod wanted;
 mod why;
 
-pub use lpt_packet::{Direction, Name};
-pub use lpt_stream::PieceKind;
-pub use reading::Reading;
+pub use fitting::fitting_size;
+pub use lines::name_text;
+pub use lpt_carried::{Direction, Name, PieceKind, Reading};
 pub use skips::Skips;
-pub use sorting::fitting_size;
+pub use wanted::Wanted;
 pub use why::Why;

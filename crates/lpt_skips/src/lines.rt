@@ -3,29 +3,28 @@
 ghost use Rattle.std.specs.Prelude.{◌≡◌, ◌==◌, map, IfOk, if◌then◌else◌};
 ghost use Rattle.std.specs.Option.{option_map};
 ghost use Rattle.std.specs.String.{string_bytes};
-ghost use Rattle.lpt_skips.specs.Told.{count_of, ending_of, line_of, lines_of, opening, sizes_text, words_of_many, words_of_one};
+ghost use Rattle.lpt_skips.specs.Told.{count_of, ending_of, line_of, lines_of, name_text, opening, sizes_text, words_of_many, words_of_one};
 
 use crate::topic::{TOPICS, Topic};
-use crate::{Reading, Skips};
-use lpt_events::name_word;
-use lpt_packet::Direction;
+use crate::{Skips, Wanted};
+use lpt_carried::{Direction, Name};
 use std::alloc::{AllocError, Global};
 
 impl Skips {
-    /// What is told of what this reading passed over, a line for each reason of which there is
-    /// something, where this source is configured. The only error is out of memory.
+    /// What is told of what was passed over where these were wanted, a line for each reason of
+    /// which there is something, where this source is configured. The only error is out of memory.
     pub fn lines(
         &self,
         alloc: Global,
-        reading: &Reading,
-        source: u16,
+        wanted: &Wanted,
+        source: u32,
     ) -> Result<Vec<String>, AllocError>
         ensures { IfOk result (λ v. map string_bytes v.items
-            ≡ lines_of reading.now source self.now) }
+            ≡ lines_of wanted.now source self.now) }
     {
         let mut lines = Vec::new(alloc);
         for topic in TOPICS {
-            if let Some(line) = self.line(alloc, reading, source, topic)? {
+            if let Some(line) = self.line(alloc, wanted, source, topic)? {
                 lines.push(line)?;
             }
         }
@@ -36,20 +35,20 @@ impl Skips {
     fn line(
         &self,
         alloc: Global,
-        reading: &Reading,
-        source: u16,
+        wanted: &Wanted,
+        source: u32,
         topic: Topic,
     ) -> Result<Option<String>, AllocError>
         ensures { IfOk result (λ t. option_map string_bytes t
-            ≡ line_of reading.now source self.now topic) }
+            ≡ line_of wanted.now source self.now topic) }
     {
         let count = self.count_of(topic);
         if count == 0 {
             return Ok(None);
         }
-        let mut line = opening(alloc, reading.direction, count)?;
+        let mut line = opening(alloc, wanted.reading.direction, count)?;
         line.push_str(words_of(topic, count))?;
-        line.push_str(self.ending(alloc, reading, source, topic)?.as_str())?;
+        line.push_str(self.ending(alloc, wanted, source, topic)?.as_str())?;
         Ok(Some(line))
     }
 
@@ -73,23 +72,20 @@ impl Skips {
     fn ending(
         &self,
         alloc: Global,
-        reading: &Reading,
-        source: u16,
+        wanted: &Wanted,
+        source: u32,
         topic: Topic,
     ) -> Result<String, AllocError>
-        ensures { IfOk result (λ t. string_bytes t ≡ ending_of reading.now source self.now topic) }
+        ensures { IfOk result (λ t. string_bytes t ≡ ending_of wanted.now source self.now topic) }
     {
         match topic {
             Topic::OtherApid => match self.apid {
                 Some(apid) => format!(in alloc; "{apid}"),
                 None => Ok(String::new(alloc)),
             },
-            Topic::Unread => sizes_text(alloc, reading.part_size, self.part_size),
+            Topic::Unread => sizes_text(alloc, wanted.reading.part_size, self.part_size),
             Topic::OtherName => match self.name {
-                Some(name) => {
-                    let word = name_word(source, name);
-                    format!(in alloc; "{word}")
-                }
+                Some(name) => name_text(alloc, source, name),
                 None => Ok(String::new(alloc)),
             },
             Topic::OtherDirection
@@ -102,12 +98,26 @@ impl Skips {
 }
 
 // A part size, and behind it the one by which parts would be read, where one is known.
-fn sizes_text(alloc: Global, p: u32, fitting: Option<u32>) -> Result<String, AllocError>
-    ensures { IfOk result (λ t. string_bytes t ≡ sizes_text p fitting) }
+fn sizes_text(alloc: Global, size: Option<u32>, fitting: Option<u32>) -> Result<String, AllocError>
+    ensures { IfOk result (λ t. string_bytes t ≡ sizes_text size fitting) }
 {
-    match fitting {
-        Some(fitting) => format!(in alloc; "{p}, but part_size = {fitting}"),
-        None => format!(in alloc; "{p}"),
+    match (size, fitting) {
+        (None, _) => String::from_str(alloc, "1 to 65535"),
+        (Some(p), None) => format!(in alloc; "{p}"),
+        (Some(p), Some(fitting)) => format!(in alloc; "{p}, but part_size = {fitting}"),
+    }
+}
+
+/// The word of a name where this source is configured: its identifier alone where it is of that
+/// source, and `SOURCE/ID` otherwise. The only error is out of memory.
+pub fn name_text(alloc: Global, source: u32, name: Name) -> Result<String, AllocError>
+    ensures { IfOk result (λ t. string_bytes t ≡ name_text source name) }
+{
+    let Name { user, id } = name;
+    if user == source {
+        format!(in alloc; "{id}")
+    } else {
+        format!(in alloc; "{user}/{id}")
     }
 }
 

@@ -1,12 +1,12 @@
 //! How many pieces of a stream were passed over, and why.
 
 ghost use Rattle.std.specs.Prelude.{◌≡◌};
-ghost use Rattle.lpt_stream.specs.Pieces.{IsSealed};
+ghost use Rattle.lpt_carried.specs.Carried.{cut};
+ghost use Rattle.lpt_stream.specs.Pieces.{IsSealedBy};
 ghost use Rattle.lpt_skips.specs.Tallies.{nothing_noted, noted};
 
-use crate::{Reading, Why};
-use lpt_packet::Name;
-use lpt_stream::PieceKind;
+use crate::{Wanted, Why};
+use lpt_carried::{Name, PieceKind};
 
 /// How many pieces of a stream were passed over, and why. A count ends at 2^64 - 1.
 #[derive(Clone, Copy)]
@@ -55,14 +55,15 @@ impl Skips {
         }
     }
 
-    /// Notes a piece of a stream that came to this reading, of this kind and these octets: nothing
-    /// of a part that is wanted. A whole one's checksum was taken before, and is right.
-    pub fn note(&mut self, reading: &Reading, kind: PieceKind, octets: &[u8])
-        requires { IsSealed kind octets.now }
+    /// Notes a piece of a stream, of this kind and these octets, where these parts are wanted:
+    /// nothing of one of them. Where packets have a checksum, that of a whole one was taken before,
+    /// and is right.
+    pub fn note(&mut self, wanted: &Wanted, kind: PieceKind, octets: &[u8])
+        requires { IsSealedBy (cut wanted.now.reading) kind octets.now }
         ensures noted { self.new
-            ≡ noted reading.now self.old (record { kind = kind; octets = octets.now }) }
+            ≡ noted wanted.now self.old (record { kind = kind; octets = octets.now }) }
     {
-        match reading.why(kind, octets) {
+        match wanted.why(kind, octets) {
             Why::Taken => {}
             Why::Damaged => self.damaged = self.damaged.saturating_add(1),
             Why::Stray(len) => self.stray = self.stray.saturating_add(len as u64),

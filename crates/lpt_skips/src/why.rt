@@ -1,6 +1,6 @@
 //! Why a piece of a stream is passed over.
 
-use lpt_packet::Name;
+use lpt_carried::Name;
 
 /// Why a reader of parts passes over a piece of a stream.
 #[derive(Clone, Copy)]

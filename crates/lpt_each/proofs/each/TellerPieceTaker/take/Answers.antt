@@ -1,13 +1,12 @@
 -- A piece more.
-use Rattle.std.proofs.Common.{None, refl, arith, subst, Bool, [], ◌∷◌, ◌++◌}
-use Rattle.lpt_packet.specs.Numbers.{IsOctets}
+use Rattle.std.proofs.Common.{None, ap, refl, subst, sym, Bool, [], ◌∷◌, ◌++◌}
 use Rattle.lpt_part.specs.Parts.{piece}
 use Rattle.lpt_events.specs.NamedParts.{named}
 use Rattle.lpt_stream.specs.Pieces.{Piece, packets_of}
 use Rattle.lpt_stream.proofs.EndLemmas.{other-fault}
 use Rattle.lpt_join.specs.Several.{reading_of}
 use Rattle.lpt_join.proofs.GatherLemmas.{noted-next}
-use Rattle.lpt_join.proofs.SkipLemmas.{noted-any}
+use Rattle.lpt_skips.specs.Tallies.{with_why}
 use Rattle.lpt_join.specs.declared.transaction.Transaction.{Transaction}
 use Rattle.lpt_each.specs.News.{Hears, HearsPart}
 use Rattle.lpt_each.specs.Streams.{events}
@@ -45,7 +44,6 @@ returns-in-Ok-clause-taken g c = λ first old pieces h at.
     let r = reading_of was.transaction None in
     let t = was.transaction in
     let p : Piece = record { kind = c.args.kind; octets = c.args.octets.now } in
-    let octets : IsOctets p.octets = λ i. omega (arith, c.type_inv.octets i) in
     let q = named c.in-Some.name.source (piece c.in-Some.part) in
     let bs = packets_of pieces in
     let hear = g.T.Taker.heard c.args.lent.now in
@@ -60,7 +58,7 @@ returns-in-Ok-clause-taken g c = λ first old pieces h at.
           (told-part t was.any bs p.kind p.octets q (Hears hear hears) c.in-Some.ensures.part
           (c.in-Ok.ensures.told bs p.octets h.held));
       skips_are = noted-next r r was.skips was.skips pieces p p refl h.skips_are refl
-          (noted-any t p.kind p.octets q was.skips octets c.in-Some.ensures.part);
+          (ap (with_why was.skips) (sym c.in-Some.ensures.why));
     }
 
 -- the taker failed, or memory ran out

@@ -1,13 +1,12 @@
 -- A piece more.
-use Rattle.std.proofs.Common.{None, refl, arith}
-use Rattle.lpt_packet.specs.Numbers.{IsOctets}
+use Rattle.std.proofs.Common.{None, ap, refl, sym}
 use Rattle.lpt_part.specs.Parts.{piece}
 use Rattle.lpt_events.specs.NamedParts.{named}
 use Rattle.lpt_stream.specs.Pieces.{Piece}
 use Rattle.lpt_join.specs.Several.{reading_of}
 use Rattle.lpt_join.proofs.GatherLemmas.{noted-next}
 use Rattle.lpt_join.proofs.SeveralLemmas.{each-other, each-packet, none-named}
-use Rattle.lpt_join.proofs.SkipLemmas.{noted-any}
+use Rattle.lpt_skips.specs.Tallies.{with_why}
 use Rattle.lpt_join.proofs.several.GathererPieceTakerUnit.take.Goals as goal
 
 -- no part of any is passed over
@@ -30,12 +29,11 @@ returns-in-Ok-clause-taken c = λ first old pieces h at.
     let was = c.args.self in
     let r = reading_of was.transaction None in
     let p : Piece = record { kind = c.args.kind; octets = c.args.octets.now } in
-    let octets : IsOctets p.octets = λ i. omega (arith, c.type_inv.octets i) in
     let q = named c.in-Some.name.source (piece c.in-Some.part) in
     record {
       same = h.same;
       gives = each-packet was.transaction pieces p.kind p.octets q c.in-Ok.gatherings c.in-Some.ensures.part
           (c.in-Ok.ensures pieces p.octets h.gives at);
       skips_are = noted-next r r was.skips was.skips pieces p p refl h.skips_are refl
-          (noted-any was.transaction p.kind p.octets q was.skips octets c.in-Some.ensures.part);
+          (ap (with_why was.skips) (sym c.in-Some.ensures.why));
     }

@@ -1,12 +1,11 @@
 -- A piece more.
-use Rattle.std.proofs.Common.{Some, refl, arith}
-use Rattle.lpt_packet.specs.Numbers.{IsOctets}
+use Rattle.std.proofs.Common.{Some, ap, refl, sym}
 use Rattle.lpt_part.specs.Parts.{piece}
 use Rattle.lpt_stream.specs.Pieces.{Piece}
 use Rattle.lpt_join.specs.Offers.{part_of_piece}
 use Rattle.lpt_join.specs.Several.{reading_of}
 use Rattle.lpt_join.proofs.GatherLemmas.{gives-other, noted-next}
-use Rattle.lpt_join.proofs.SkipLemmas.{noted-own}
+use Rattle.lpt_skips.specs.Tallies.{with_why}
 use Rattle.lpt_join.proofs.stream.JoinerPieceTakerUnit.take.Goals as goal
 
 -- no part of the transaction is passed over
@@ -28,11 +27,9 @@ returns-in-Ok-clause-taken c = λ first old pieces h at.
     let was = c.args.self in
     let r = reading_of was.transaction (Some was.transaction.name) in
     let p : Piece = record { kind = c.args.kind; octets = c.args.octets.now } in
-    let octets : IsOctets p.octets = λ i. omega (arith, c.type_inv.octets i) in
     record {
       same = h.same;
       gives = c.in-Ok.ensures pieces p h.gives at c.in-Some.ensures.part;
       skips_are = noted-next r r was.skips was.skips pieces p p refl h.skips_are refl
-          (noted-own was.transaction p.kind p.octets (part_of_piece (piece c.in-Some.part)) was.skips
-          octets c.in-Some.ensures.part);
+          (ap (with_why was.skips) (sym c.in-Some.ensures.why));
     }

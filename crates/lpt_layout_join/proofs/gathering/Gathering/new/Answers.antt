@@ -1,0 +1,15 @@
+-- Nothing gives nothing.
+use Rattle.std.proofs.Common.{refl}
+use Rattle.lpt_layout_join.specs.Gathered.{gathered}
+use Rattle.lpt_layout_join.proofs.gathering.Gathering.new.Goals as goal
+
+pub returns : goal.returns
+unfolding gathered
+returns c = λ r n. record {
+  came_is = c.new.ensures;
+  order_is = c.none.ensures;
+  sure_is = refl;
+  numbers_are = c.new-2.ensures.none;
+  ended_is = c.new-2.ensures.ended;
+  against_is = refl;
+}
