@@ -5,10 +5,11 @@ _lpt() {
     local command='' request='' offered='' i
     for ((i = 1; i < COMP_CWORD; i++)); do
         case $command:${COMP_WORDS[i]} in
-        :run | :threads | :shell | :lint | :chart | :decode | :list | :split | :join | :extract | :link | :spacecraft | :verify | :compare | :checksum | :request | :help)
+        :run | :threads | :shell | :lint | :chart | :decode | :list | :split | :join | :extract | :link | :spacecraft | :verify | :compare | :checksum | :ground | :request | :help)
             command=${COMP_WORDS[i]}
             ;;
-        request:load | request:dump | request:check | request:help)
+        ground:load | ground:dump | ground:check | ground:help | \
+            request:load | request:dump | request:check | request:help)
             request=${COMP_WORDS[i]}
             break
             ;;
@@ -29,12 +30,16 @@ _lpt() {
     spacecraft:*) options+=' --mode --memory --save --tick-every --tick --reuse --resync --log --state' ;;
     compare:*) options+=' --quiet' ;;
     checksum:*) options='--from --length --help --version' ;;
+    ground:load) options+=' --ack --verify --count --wait --tries --up --job --quiet' ;;
+    ground:dump) options+=' --to --count --wait --tries --up --job --quiet' ;;
+    ground:check) options+=' --count --wait --tries --up --job --quiet' ;;
     request:load) options+=' --area --each --ack --count' ;;
     request:dump | request:check) options+=' --each --ack --count' ;;
     esac
     COMPREPLY=()
     case $command:$request:$before:$word in
-    *:*:--config:* | *:*:--layout:* | *:*:--state:*)
+    ground:load:--ack:*) offered='8 10' ;;
+    *:*:--config:* | *:*:--layout:* | *:*:--state:* | *:*:--up:* | *:*:--job:* | ground:dump:--to:*)
         mapfile -t COMPREPLY < <(compgen -f -- "$word")
         return
         ;;
@@ -43,16 +48,16 @@ _lpt() {
         return
         ;;
     *:*:--from:* | *:*:--to:* | *:*:--at:* | *:*:--fill:* | *:*:--length:* | *:*:--parts:* | *:*:--id:* | *:*:--ack:* | *:*:--count:* | *:*:--area:* | *:*:--each:* | \
-        *:*:--lose:* | *:*:--repeat:* | *:*:--damage:* | *:*:--delay:* | *:*:--seed:* | *:*:--memory:* | *:*:--tick-every:* | *:*:--reuse:* | \
+        *:*:--wait:* | *:*:--tries:* | *:*:--lose:* | *:*:--repeat:* | *:*:--damage:* | *:*:--delay:* | *:*:--seed:* | *:*:--memory:* | *:*:--tick-every:* | *:*:--reuse:* | \
         *:*:--apid:* | *:*:--source:* | *:*:--part-size:*)
         return
         ;;
     *:*:--mode:*) offered='any strict' ;;
-    :*) offered='run threads shell lint chart decode list split join extract link spacecraft verify compare checksum request help --help --version' ;;
-    help::help:*) offered='run threads shell lint chart decode list split join extract link spacecraft verify compare checksum request help' ;;
-    help::request:* | request:help:help:*) offered='load dump check' ;;
-    help:* | request:help:*) return ;;
-    request::*) offered='load dump check help --help --version' ;;
+    :*) offered='run threads shell lint chart decode list split join extract link spacecraft verify compare checksum ground request help --help --version' ;;
+    help::help:*) offered='run threads shell lint chart decode list split join extract link spacecraft verify compare checksum ground request help' ;;
+    help::ground:* | help::request:* | ground:help:help:* | request:help:help:*) offered='load dump check' ;;
+    help:* | ground:help:* | request:help:*) return ;;
+    ground::* | request::*) offered='load dump check help --help --version' ;;
     *:*:*:-*) offered=$options ;;
     split::split:* | join::join:*) offered='up down' ;;
     decode:* | shell:* | spacecraft:*) return ;;

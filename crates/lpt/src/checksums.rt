@@ -23,8 +23,8 @@ fn written(rt: &HostRuntime, words: &ChecksumWords<'_>, octets: &[u8]) -> Result
     let Some(named) = named_in(words, octets) else {
         let size = octets.len();
         let text = match size {
-            1 => format!(in rt.alloc(); "there is 1 octet alone"),
-            _ => format!(in rt.alloc(); "there are {size} octets alone"),
+            1 => format!(in rt.alloc(); "it has only 1 octet"),
+            _ => format!(in rt.alloc(); "it has only {size} octets"),
         };
         if let Ok(text) = text {
             tell_place(rt, text.as_str());

@@ -139,7 +139,7 @@ fn lacking(
     }
     let address = open?;
     let memory = words.memory;
-    Some(format!(in alloc; "memory {memory}: no check report agrees at address {address}"))
+    Some(format!(in alloc; "memory {memory}: no agreeing check report came for address {address}"))
 }
 
 // Writes a line for each area, and gives whether all of them agree.

@@ -35,7 +35,7 @@ pub fn extract(
     requires { IsConfig config.now }
 {
     let Ok(at) = place(words) else {
-        tell_place(rt, "--from, --fill and --whole stand beside --at");
+        tell_place(rt, "--from, --fill and --whole need --at");
         return Ok(Status::Unreadable);
     };
     let voice = voice.beside_output(rt);
@@ -157,9 +157,9 @@ fn tell_gaps(rt: &HostRuntime, wanted: &Wanted, gaps: &BTreeMap<u64, u64>) {
     };
     for (first, last) in gaps {
         let text = if first == last {
-            format!(in rt.alloc(); "memory {memory}: no octets came of {first}")
+            format!(in rt.alloc(); "memory {memory}: no octets came for address {first}")
         } else {
-            format!(in rt.alloc(); "memory {memory}: no octets came of {first}-{last}")
+            format!(in rt.alloc(); "memory {memory}: no octets came for addresses {first}-{last}")
         };
         tell_text(rt, text);
     }
@@ -186,7 +186,7 @@ fn nothing_text(alloc: Global, wanted: &Wanted) -> Result<String, AllocError> {
         Some(place) => {
             let memory = place.memory;
             let from = place.from;
-            format!(in alloc; "memory {memory}: no octet came of address {from} or after it")
+            format!(in alloc; "memory {memory}: no octets came for address {from} or later ones")
         }
     }
 }

@@ -13,7 +13,7 @@ use lpt_join::{
     join_message, join_only, missing_list,
 };
 use lpt_packet::{Direction, Name};
-use lpt_skips::{Reading, Skips};
+use lpt_skips::Skips;
 use lpt_text::StreamFault;
 use lpt_tool::ToolFault;
 use std::alloc::{AllocError, Global};
@@ -98,18 +98,25 @@ fn join_packets(
 {
     let given = words.name.map(|name| name.under(config.source));
     let name = given.unwrap_or(Name { source: 0, id: 0 });
-    let transaction = Transaction {
-        direction: words.direction,
-        name,
-        apid: config.apid,
-        part_size: config.part_size,
-    };
+    let transaction = transaction_of(config, words, name);
     if given.is_some() {
         let report = join_message(alloc, &transaction, words.any, source, out)?;
         return Ok(Joined::One(name, report));
     }
     let (end, gatherings, skips) = join_only(alloc, &transaction, words.any, source, out)?;
     Ok(Joined::Each(end, gatherings, skips))
+}
+
+// The transaction of a name, in the direction that is asked for.
+fn transaction_of(config: &Config, words: &JoinWords<'_>, name: Name) -> Transaction
+    requires { IsConfig config.now }
+{
+    Transaction {
+        direction: words.direction,
+        name,
+        apid: config.apid,
+        part_size: config.part_size,
+    }
 }
 
 // The status of a join that ended so, after it was told what isn't whole, or isn't all, and where
@@ -151,13 +158,9 @@ pub fn tell_skips(
 ) -> Result<(), AllocError>
     requires { IsConfig config.now }
 {
-    let reading = Reading {
-        direction: words.direction,
-        apid: config.apid,
-        part_size: config.part_size,
-        name,
-    };
-    for line in skips.lines(rt.alloc(), &reading, config.source)? {
+    let transaction = transaction_of(config, words, Name { source: 0, id: 0 });
+    let wanted = transaction.reading(name);
+    for line in skips.lines(rt.alloc(), &wanted, u32::from(config.source))? {
         tell_place(rt, line.as_str());
     }
     Ok(())
@@ -205,7 +208,7 @@ fn tell_each(
         tell_end(rt, config, words, *name, end, came, gathering.against)?;
     }
     if gatherings.has_more {
-        let text = "others: --id tells of them";
+        let text = "parts of more messages came: --id ID chooses one";
         return tell(rt, format!(in rt.alloc(); "{direction}: {text}"));
     }
     Ok(())
@@ -255,13 +258,13 @@ fn tell_end(
     Ok(Status::Refused)
 }
 
-// That the part at this place broke a message off.
-fn contradicting(alloc: Global, place: u64) -> Result<String, AllocError> {
+/// That the part at this place broke a message off.
+pub fn contradicting(alloc: Global, place: u64) -> Result<String, AllocError> {
     format!(in alloc; "broken off: the part at octet {place} contradicts those before it")
 }
 
-// That the parts from this place on aren't all of the message.
-fn foreign(alloc: Global, place: u64) -> Result<String, AllocError> {
+/// That the parts from this place on aren't all of the message.
+pub fn foreign(alloc: Global, place: u64) -> Result<String, AllocError> {
     format!(in alloc; "parts of another message of this name come from octet {place} on")
 }
 
@@ -274,7 +277,7 @@ pub fn tell_unfit(
     name: Name,
     misfit: Misfit,
 ) -> Result<(), AllocError> {
-    let joined = "what was joined is no packet";
+    let joined = "the joined message is no packet";
     let text = match misfit {
         Misfit::NoPacket(fault) => {
             let code = fault.code();

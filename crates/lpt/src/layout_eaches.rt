@@ -3,18 +3,21 @@
 ghost use Rattle.std.specs.Prelude.{◌≡◌, IfErr};
 
 use crate::eaches::write_new;
-use crate::end::{Failure, Status};
+use crate::end::{Failure, Status, tell_place};
 use crate::input::{Packets, packets_end};
 use crate::joins::tell;
-use crate::layout_joins::{missing_text, tell_left, tell_skips, unfit_text, who};
+use crate::layout_joins::{unfit_text, who};
 use crate::progress::Voice;
 use crate::streams::{finish, first_failure, output};
-use lpt_carried::{Name, Reading};
+use lpt_carried::{Name, Reading, Skip};
 use lpt_command_line::JoinLayoutWords;
-use lpt_layout_each::{EachedAs, NewsAs, TakerAs, each_as};
+use lpt_join::{PartNumbers, missing_list};
+use lpt_layout_each::{CameAs, EachedAs, LeftAs, NewsAs, TakerAs, each_as};
+use lpt_packet::Direction;
+use lpt_part::Kind;
 use lpt_text::StreamFault;
 use lpt_tool::ToolFault;
-use std::alloc::AllocError;
+use std::alloc::{AllocError, Global};
 use std::collections::BTreeMap;
 use std::fs;
 
@@ -207,4 +210,103 @@ fn told(
     }
     let left = tell_left(rt, passed.place.saturating_add(from), ended.left)?;
     Ok(if came && !lost { left } else { Status::Refused })
+}
+
+// That no part came, or which are missing, and where the first stands that came, where that is
+// known.
+fn missing_text(
+    alloc: Global,
+    who: &str,
+    name: Option<Name>,
+    came: &CameAs,
+    from: u64,
+) -> Result<String, AllocError> {
+    if name.is_none() {
+        return format!(in alloc; "{who}: no part of a message came");
+    }
+    let numbers = numbers_of(alloc, came)?;
+    let list = missing_list(alloc, &numbers);
+    drop(numbers);
+    let list = list?;
+    match came.began() {
+        Some(began) => {
+            let place = began.saturating_add(from);
+            format!(in alloc; "{who}: from octet {place} on, missing parts: {list}")
+        }
+        None => format!(in alloc; "{who}: missing parts: {list}"),
+    }
+}
+
+// The numbers of the parts that came, up to 65,542.
+fn numbers_of(alloc: Global, came: &CameAs) -> Result<PartNumbers, AllocError> {
+    let mut numbers = PartNumbers::new(alloc);
+    let end = match came.last() {
+        Some(last) => last.number,
+        None => 0,
+    };
+    let highest = came.highest().min(65_542) as u32;
+    for number in 1..highest + 1 {
+        let kind = if number == end {
+            Kind::Last
+        } else {
+            Kind::Middle
+        };
+        if came.has(number) {
+            numbers.add(number, kind)?;
+        }
+    }
+    Ok(numbers)
+}
+
+// Says how many packets carried no part, and why the first didn't. The only error is out of
+// memory.
+fn tell_skips(
+    rt: &HostRuntime,
+    direction: Direction,
+    from: u64,
+    skipped: Option<(u64, Skip)>,
+    skips: u64,
+) -> Result<(), AllocError> {
+    let Some((behind, skip)) = skipped else {
+        return Ok(());
+    };
+    let alloc = rt.alloc();
+    let direction = direction.word();
+    let place = behind.saturating_add(from);
+    let why = skip_text(alloc, skip)?;
+    tell(
+        rt,
+        format!(in alloc;
+            "{direction}: packets that carry no part: {skips}, the first at octet {place}: {why}"
+        ),
+    )
+}
+
+// Why a packet carries no part.
+fn skip_text(alloc: Global, skip: Skip) -> Result<String, AllocError> {
+    let (code, name) = match skip {
+        Skip::Idle => return format!(in alloc; "it is idle"),
+        Skip::OtherApid(apid) => return format!(in alloc; "its APID is {apid}"),
+        Skip::OtherType { service, subtype } => {
+            return format!(in alloc; "it has service {service} and subtype {subtype}");
+        }
+        Skip::Stray(len) => return format!(in alloc; "{len} octets are no packet"),
+        Skip::NoPacket(fault) => (fault.code(), fault.name()),
+        Skip::NoMessage(fault) => (fault.code(), fault.name()),
+        Skip::NoPart(fault) => (fault.code(), fault.name()),
+    };
+    format!(in alloc; "fault {code} {name}")
+}
+
+// Says that the packets end at this place, where something is left behind them, and gives the
+// status of that. The only error is out of memory.
+fn tell_left(rt: &HostRuntime, place: u64, left: LeftAs) -> Result<Status, AllocError> {
+    let text = match left {
+        LeftAs::Nothing => return Ok(Status::Done),
+        LeftAs::Unfinished => format!(in rt.alloc(); "octet {place}: less than a packet"),
+        LeftAs::Stray => format!(in rt.alloc(); "octet {place}: no packet"),
+    };
+    let text = text?;
+    tell_place(rt, text.as_str());
+    Ok(Status::Refused)
 }

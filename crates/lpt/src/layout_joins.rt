@@ -1,21 +1,22 @@
 //! Messages joined of packets of a mission's layout, from files to standard output.
 
 use crate::counts::octets_word;
-use crate::end::{Failure, Status, tell_place};
+use crate::end::{Failure, Status, tell_place, word_refused};
 use crate::input::{Packets, opened_packets, packets_end};
-use crate::joins::tell;
+use crate::joins::{contradicting, foreign, tell};
 use crate::layout_eaches::join_each;
 use crate::layouts;
 use crate::progress::Voice;
 use crate::streams::{finish, first_failure, output};
-use lpt_carried::{Layouts, Name, Reading, Skip};
-use lpt_command_line::{JoinLayoutWords, WideName};
+use lpt_carried::{Layouts, Name, Reading};
+use lpt_command_line::{JoinLayoutWords, WideName, WordFault, name_within};
 use lpt_events::Config;
 use lpt_join::{PartNumbers, missing_list};
 use lpt_layout::Width;
-use lpt_layout_join::{CameAs, EndAs, JoinedAs, LeftAs, MisfitAs, join_as};
+use lpt_layout_join::{Gathering, JoinEnd, JoinReport, MisfitAs, end_of, join_as};
 use lpt_packet::Direction;
-use lpt_part::Kind;
+use lpt_skips::{Wanted, name_text};
+use lpt_split::greatest;
 use lpt_text::StreamFault;
 use lpt_tool::ToolFault;
 use std::alloc::{AllocError, Global};
@@ -34,12 +35,19 @@ pub fn join(
         return Ok(Status::Unreadable);
     };
     let reading = reading_of(&layouts, config.apid, words.direction);
+    let user = u32::from(config.source);
+    let name = match name_in(words, user, &reading) {
+        Ok(name) => name,
+        Err(fault) => return Ok(word_refused(rt, rt.alloc(), &fault)),
+    };
     let span = words.span;
     let mut source = opened_packets(rt, voice, &words.files, span.from, span.to)?;
-    let user = u32::from(config.source);
     let status = match words.each {
         Some(path) => join_each(rt, voice, user, &reading, words, path, &mut source),
-        None => join_from(rt, voice, user, &reading, words, &mut source),
+        None => {
+            let wanted = Wanted { reading, name };
+            join_from(rt, voice, user, &wanted, words, &mut source)
+        }
     };
     drop(source);
     status
@@ -61,27 +69,27 @@ pub fn reading_of(layouts: &Layouts, apid: u16, direction: Direction) -> Reading
     }
 }
 
-// The same of packets that were opened, where this source is configured.
-fn join_from(
-    rt: &HostRuntime,
-    voice: Voice,
+// The name that the words give, where one is asked for and the layout has room for it, and this
+// source is configured.
+//
+// Errors: `Id`.
+fn name_in<'a>(
+    words: &JoinLayoutWords<'a>,
     source: u32,
     reading: &Reading,
-    words: &JoinLayoutWords<'_>,
-    packets: &mut Packets,
-) -> Result<Status, Failure> {
-    let name = match words.name {
-        Some(given) => Some(name_of(given, source, reading)),
-        None => None,
+) -> Result<Option<Name>, WordFault<'a>> {
+    let Some(word) = words.name else {
+        return Ok(None);
     };
-    let mut out = output(rt)?;
-    let joined = join_as(rt.alloc(), reading, name, words.any, packets, &mut out);
-    let failed = matches!(joined, Err(StreamFault::Read));
-    let failure = packets_end(rt, voice, packets, &words.files, failed);
-    let finished = first_failure(finish(rt, out), failure);
-    let status = status_of(rt, source, reading, words, finished, &joined);
-    drop(joined);
-    status
+    let most = match reading.layout.user {
+        Width::Absent => u32::MAX,
+        width => greatest(width),
+    };
+    let given = name_within("--id <ID>", word, most, greatest(reading.parts.id))?;
+    Ok(Some(Name {
+        user: user_of(given, source, reading.layout.user),
+        id: given.id,
+    }))
 }
 
 /// The name that is meant where this source is configured: 0 where the layout has no field for it.
@@ -92,26 +100,37 @@ pub fn user_of(given: WideName, source: u32, width: Width) -> u32 {
     }
 }
 
-// The same with its identifier.
-fn name_of(given: WideName, source: u32, reading: &Reading) -> Name {
-    Name {
-        user: user_of(given, source, reading.layout.user),
-        id: given.id,
-    }
+// The same of packets that were opened, where this source is configured.
+fn join_from(
+    rt: &HostRuntime,
+    voice: Voice,
+    source: u32,
+    wanted: &Wanted,
+    words: &JoinLayoutWords<'_>,
+    packets: &mut Packets,
+) -> Result<Status, Failure> {
+    let mut out = output(rt)?;
+    let joined = join_as(rt.alloc(), wanted, words.any, packets, &mut out);
+    let failed = matches!(joined, Err(StreamFault::Read));
+    let failure = packets_end(rt, voice, packets, &words.files, failed);
+    let finished = first_failure(finish(rt, out), failure);
+    let status = status_of(rt, source, wanted, words, finished, &joined);
+    drop(joined);
+    status
 }
 
 // The status of a join that ended so, where its output was finished.
 fn status_of(
     rt: &HostRuntime,
     source: u32,
-    reading: &Reading,
+    wanted: &Wanted,
     words: &JoinLayoutWords<'_>,
     finished: Result<(), Failure>,
-    joined: &Result<JoinedAs, StreamFault>,
+    joined: &Result<JoinReport, StreamFault>,
 ) -> Result<Status, Failure> {
     finished?;
     match joined {
-        Ok(joined) => match told(rt, source, reading, words, joined) {
+        Ok(report) => match told(rt, source, wanted, words, report) {
             Ok(status) => Ok(status),
             Err(_) => Err(Failure::from(ToolFault::Memory)),
         },
@@ -119,34 +138,124 @@ fn status_of(
     }
 }
 
-// The status of a join that ended so, after it was told what was found, and what isn't well. The
-// only error is out of memory.
+// The status of a join that ended so, after it was told what isn't whole, or isn't all, and where
+// nothing was written, what was passed over. The only error is out of memory.
 fn told(
+    rt: &HostRuntime,
+    source: u32,
+    wanted: &Wanted,
+    words: &JoinLayoutWords<'_>,
+    report: &JoinReport,
+) -> Result<Status, AllocError> {
+    let reading = &wanted.reading;
+    let status = match (report.end, wanted.name) {
+        (Some(end), Some(name)) => {
+            let gathering = report.gatherings.kept.get(&name);
+            tell_end(rt, source, reading, words, name, end, gathering)?
+        }
+        (Some(end), None) => match report.gatherings.kept.first_key_value() {
+            Some((name, gathering)) => {
+                tell_end(rt, source, reading, words, *name, end, Some(gathering))?
+            }
+            None => Status::Refused,
+        },
+        (None, _) => {
+            tell_each(rt, source, reading, words, report)?;
+            Status::Refused
+        }
+    };
+    if !matches!(report.end, Some(JoinEnd::Written(_))) {
+        let alone = source_of(source, reading);
+        for line in report.skips.lines(rt.alloc(), wanted, alone)? {
+            tell_place(rt, line.as_str());
+        }
+    }
+    Ok(status)
+}
+
+// Says of each transaction what isn't whole. The only error is out of memory.
+fn tell_each(
     rt: &HostRuntime,
     source: u32,
     reading: &Reading,
     words: &JoinLayoutWords<'_>,
-    joined: &JoinedAs,
+    report: &JoinReport,
+) -> Result<(), AllocError> {
+    let alloc = rt.alloc();
+    let direction = reading.direction.word();
+    if report.gatherings.kept.is_empty() {
+        return tell(
+            rt,
+            format!(in alloc; "{direction}: no part of a message came"),
+        );
+    }
+    for (name, gathering) in report.gatherings.kept.iter() {
+        let end = end_of(alloc, reading, words.any, gathering)?;
+        if let JoinEnd::Written(_) = end {
+            let id = name_text(alloc, source_of(source, reading), *name)?;
+            let text = format!(in alloc; "{direction} {id}: whole, --id {id} writes it");
+            tell(rt, text)?;
+        }
+        tell_end(rt, source, reading, words, *name, end, Some(gathering))?;
+    }
+    if report.gatherings.has_more {
+        let text = "parts of more messages came: --id ID chooses one";
+        return tell(rt, format!(in alloc; "{direction}: {text}"));
+    }
+    Ok(())
+}
+
+// Says how the join of a transaction ended of which this is kept, where not all of it is well, and
+// gives the status of that. The only error is out of memory.
+fn tell_end(
+    rt: &HostRuntime,
+    source: u32,
+    reading: &Reading,
+    words: &JoinLayoutWords<'_>,
+    name: Name,
+    end: JoinEnd,
+    gathering: Option<&Gathering>,
 ) -> Result<Status, AllocError> {
-    let who = who(rt.alloc(), source, reading, joined.heard.name)?;
-    let from = words.span.from.unwrap_or(0);
-    if let (None, Some(size)) = (reading.part_size, joined.heard.came.size()) {
+    let alloc = rt.alloc();
+    let who = who(alloc, source, reading, Some(name))?;
+    let against = tell_size(rt, reading, &who, gathering)?;
+    match end {
+        JoinEnd::Written(_) if words.first => return Ok(Status::Done),
+        JoinEnd::Written(_) if against.is_none() => return Ok(Status::Done),
+        JoinEnd::Written(_) | JoinEnd::BrokenOff => {}
+        JoinEnd::Unfit(misfit) => tell(rt, unfit_text(alloc, &who, misfit))?,
+        JoinEnd::Missing => tell(rt, missing_text(alloc, &who, gathering))?,
+    }
+    if let Some(behind) = against {
+        let place = behind.saturating_add(words.span.from.unwrap_or(0));
+        let text = match end {
+            JoinEnd::BrokenOff => contradicting(alloc, place)?,
+            _ => foreign(alloc, place)?,
+        };
+        tell(rt, format!(in alloc; "{who}: {text}"))?;
+    }
+    Ok(Status::Refused)
+}
+
+// Says the part size of a transaction, where that isn't known before, and gives the place of the
+// first part that contradicts those before it. The only error is out of memory.
+fn tell_size(
+    rt: &HostRuntime,
+    reading: &Reading,
+    who: &str,
+    gathering: Option<&Gathering>,
+) -> Result<Option<u64>, AllocError> {
+    let Some(gathering) = gathering else {
+        return Ok(None);
+    };
+    if let (None, Some(size)) = (reading.part_size, gathering.came.size()) {
         let octets = octets_word(size);
         tell(
             rt,
             format!(in rt.alloc(); "{who}: parts of {size} {octets}"),
         )?;
     }
-    let ended = tell_end(rt, source, words, &who, from, joined)?;
-    if !matches!(joined.end, EndAs::Written(_)) {
-        let (skipped, skips) = (joined.heard.skipped, joined.heard.skips);
-        tell_skips(rt, reading.direction, from, skipped, skips)?;
-    }
-    let place = joined.heard.place.saturating_add(from);
-    Ok(match tell_left(rt, place, joined.left)? {
-        Status::Done => ended,
-        status => status,
-    })
+    Ok(gathering.against)
 }
 
 /// What names a transaction where this source is configured, behind its direction.
@@ -159,62 +268,24 @@ pub fn who(
     let direction = reading.direction.word();
     match name {
         Some(name) => {
-            let word = word_of(alloc, source, reading.layout.user, name)?;
+            let word = name_text(alloc, source_of(source, reading), name)?;
             format!(in alloc; "{direction} {word}")
         }
         None => format!(in alloc; "{direction}"),
     }
 }
 
-// The word for a name, with its source only where that isn't the one that is meant without.
-fn word_of(alloc: Global, source: u32, width: Width, name: Name) -> Result<String, AllocError> {
-    let (user, id) = (name.user, name.id);
-    if user == source || matches!(width, Width::Absent) {
-        format!(in alloc; "{id}")
-    } else {
-        format!(in alloc; "{user}/{id}")
+// The source that is meant where none is said: 0 where the layout has no field for it.
+fn source_of(source: u32, reading: &Reading) -> u32 {
+    match reading.layout.user {
+        Width::Absent => 0,
+        _ => source,
     }
-}
-
-// Says how a join ended, where not all of it is well, and gives the status of that. The only error
-// is out of memory.
-fn tell_end(
-    rt: &HostRuntime,
-    source: u32,
-    words: &JoinLayoutWords<'_>,
-    who: &str,
-    from: u64,
-    joined: &JoinedAs,
-) -> Result<Status, AllocError> {
-    let alloc = rt.alloc();
-    let came = &joined.heard.came;
-    let text = match joined.end {
-        EndAs::Written(_) => match came.against() {
-            Some(behind) if !words.first => foreign_text(alloc, who, behind.saturating_add(from)),
-            _ => return Ok(Status::Done),
-        },
-        EndAs::Unfit(misfit) => unfit_text(alloc, who, misfit),
-        EndAs::Missing => missing_text(alloc, who, joined.heard.name, came, from),
-        EndAs::BrokenOff(behind) => broken_text(alloc, who, behind.saturating_add(from)),
-        EndAs::Several => several_text(alloc, source, who, joined.heard.other),
-    };
-    tell(rt, text)?;
-    Ok(Status::Refused)
-}
-
-// That the parts from this place on aren't all of the message.
-fn foreign_text(alloc: Global, who: &str, place: u64) -> Result<String, AllocError> {
-    format!(in alloc; "{who}: parts of another message of this name come from octet {place} on")
-}
-
-// That the part at this place broke a message off.
-fn broken_text(alloc: Global, who: &str, place: u64) -> Result<String, AllocError> {
-    format!(in alloc; "{who}: broken off: the part at octet {place} contradicts those before it")
 }
 
 /// Why what was joined isn't written.
 pub fn unfit_text(alloc: Global, who: &str, misfit: MisfitAs) -> Result<String, AllocError> {
-    let joined = "what was joined is no packet";
+    let joined = "the joined message is no packet";
     match misfit {
         MisfitAs::OtherKind => format!(in alloc; "{who}: {joined} of its direction"),
         MisfitAs::Unsure => format!(in alloc;
@@ -228,117 +299,20 @@ pub fn unfit_text(alloc: Global, who: &str, misfit: MisfitAs) -> Result<String, 
     }
 }
 
-/// That no part came, or which are missing, and where the first stands that came, where that is
-/// known.
-pub fn missing_text(
+// Which parts are missing, as a list for `split`. The only error is out of memory.
+fn missing_text(
     alloc: Global,
     who: &str,
-    name: Option<Name>,
-    came: &CameAs,
-    from: u64,
+    gathering: Option<&Gathering>,
 ) -> Result<String, AllocError> {
-    if name.is_none() {
-        return format!(in alloc; "{who}: no part of a message came");
-    }
-    let numbers = numbers_of(alloc, came)?;
-    let list = missing_list(alloc, &numbers);
-    drop(numbers);
-    let list = list?;
-    match came.began() {
-        Some(began) => {
-            let place = began.saturating_add(from);
-            format!(in alloc; "{who}: from octet {place} on, missing parts: {list}")
+    let list = match gathering {
+        Some(gathering) => missing_list(alloc, &gathering.numbers)?,
+        None => {
+            let none = PartNumbers::new(alloc);
+            let list = missing_list(alloc, &none);
+            drop(none);
+            list?
         }
-        None => format!(in alloc; "{who}: missing parts: {list}"),
-    }
-}
-
-// The numbers of the parts that came, up to 65,535.
-fn numbers_of(alloc: Global, came: &CameAs) -> Result<PartNumbers, AllocError> {
-    let mut numbers = PartNumbers::new(alloc);
-    let end = match came.last() {
-        Some(last) => last.number,
-        None => 0,
     };
-    let highest = came.highest().min(65_535) as u32;
-    for number in 1..highest + 1 {
-        let kind = if number == end {
-            Kind::Last
-        } else {
-            Kind::Middle
-        };
-        if came.has(number) {
-            numbers.add(number as u16, kind)?;
-        }
-    }
-    Ok(numbers)
-}
-
-// That parts of several transactions came.
-fn several_text(
-    alloc: Global,
-    source: u32,
-    who: &str,
-    other: Option<Name>,
-) -> Result<String, AllocError> {
-    match other {
-        Some(name) => {
-            let other = word_of(alloc, source, Width::Long, name)?;
-            format!(in alloc; "{who}: parts of {other} came too: --id ID takes one of them")
-        }
-        None => format!(in alloc; "{who}: others came too: --id ID takes one of them"),
-    }
-}
-
-/// Says how many packets carried no part, and why the first didn't. The only error is out of
-/// memory.
-pub fn tell_skips(
-    rt: &HostRuntime,
-    direction: Direction,
-    from: u64,
-    skipped: Option<(u64, Skip)>,
-    skips: u64,
-) -> Result<(), AllocError> {
-    let Some((behind, skip)) = skipped else {
-        return Ok(());
-    };
-    let alloc = rt.alloc();
-    let direction = direction.word();
-    let place = behind.saturating_add(from);
-    let why = skip_text(alloc, skip)?;
-    tell(
-        rt,
-        format!(in alloc;
-            "{direction}: packets that carry no part: {skips}, the first at octet {place}: {why}"
-        ),
-    )
-}
-
-// Why a packet carries no part.
-fn skip_text(alloc: Global, skip: Skip) -> Result<String, AllocError> {
-    let (code, name) = match skip {
-        Skip::Idle => return format!(in alloc; "it is idle"),
-        Skip::OtherApid(apid) => return format!(in alloc; "its APID is {apid}"),
-        Skip::OtherType { service, subtype } => {
-            return format!(in alloc; "it has service {service} and subtype {subtype}");
-        }
-        Skip::Stray(len) => return format!(in alloc; "{len} octets are no packet"),
-        Skip::NoPacket(fault) => (fault.code(), fault.name()),
-        Skip::NoMessage(fault) => (fault.code(), fault.name()),
-        Skip::NoPart(fault) => (fault.code(), fault.name()),
-    };
-    format!(in alloc; "fault {code} {name}")
-}
-
-/// Says that the packets end at this place, where something is left behind them, and gives the
-/// status of that. The only error is out of memory.
-pub fn tell_left(rt: &HostRuntime, place: u64, left: LeftAs) -> Result<Status, AllocError> {
-    let text = match left {
-        LeftAs::Nothing => return Ok(Status::Done),
-        LeftAs::Unfinished => format!(in rt.alloc(); "octet {place}: less than a packet"),
-        LeftAs::Stray => format!(in rt.alloc(); "octet {place}: no packet"),
-    };
-    let text = text?;
-    tell_place(rt, text.as_str());
-    Ok(Status::Refused)
+    format!(in alloc; "{who}: missing parts: {list}")
 }

@@ -16,11 +16,16 @@ mod counts;
 mod decoding;
 mod eaches;
 mod end;
+mod errands;
 mod extract_joins;
 mod extract_notices;
 mod extracts;
 mod filling;
 mod glancing;
+mod ground_notes;
+mod ground_told;
+mod ground_wires;
+mod grounds;
 mod input;
 mod joins;
 mod keeping;
@@ -56,6 +61,7 @@ use progress::Voice;
 use std::process::ExitCode;
 use std::sync::Wait;
 use std::thread::Threads;
+use std::time::Clock;
 use std::{env, io};
 use work::RunKind;
 
@@ -77,7 +83,7 @@ fn given_words(rt: &HostRuntime) -> Result<Vec<String>, Status> {
             return Err(end::told(rt, Err(Failure::from(ToolFault::Memory))));
         }
         Err(_) => {
-            let _ = rt.eprintln("error: a word of the command line isn't text");
+            let _ = rt.eprintln("error: a word of the command line isn't UTF-8");
             return Err(Status::Unreadable);
         }
     };
@@ -88,7 +94,11 @@ fn given_words(rt: &HostRuntime) -> Result<Vec<String>, Status> {
 }
 
 // Does what the words ask for.
-fn serve<T: Threads + Wait + Sync>(rt: &HostRuntime, threads: &T, words: &[String]) -> Status {
+fn serve<T: Threads + Wait + Clock + Copy + Drop + Send + Sync + 'static>(
+    rt: &HostRuntime,
+    threads: &T,
+    words: &[String],
+) -> Status {
     match read_words(rt.alloc(), words) {
         Ok(asked) => {
             let voice = Voice::new(rt, asked.quiet);
@@ -103,7 +113,7 @@ fn serve<T: Threads + Wait + Sync>(rt: &HostRuntime, threads: &T, words: &[Strin
 }
 
 // Does the command, under its configuration where it has one.
-fn done<T: Threads + Wait + Sync>(
+fn done<T: Threads + Wait + Clock + Copy + Drop + Send + Sync + 'static>(
     rt: &HostRuntime,
     threads: &T,
     voice: Voice,
@@ -131,6 +141,7 @@ fn done<T: Threads + Wait + Sync>(
         Command::Link(words) => links::link(rt, voice, words),
         Command::Extract(words) => extracts::extract(rt, voice, &alone(rt, settings)?, words),
         Command::Request(words) => requests::request(rt, &alone(rt, settings)?, words),
+        Command::Ground(words) => grounds::ground(rt, threads, voice, &alone(rt, settings)?, words),
         Command::Spacecraft(words) => spacecraft::spacecraft(rt, settings, words),
         Command::Verify(words) => verifies::verify(rt, voice, words),
         Command::Compare(words) => compares::compare(rt, voice, &alone(rt, settings)?, words),

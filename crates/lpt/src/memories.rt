@@ -16,7 +16,7 @@ pub fn memories_of(rt: &HostRuntime, words: &SpacecraftWords<'_>) -> Result<Memo
     let count = words.memories.len();
     if count > MEMORY_LIMIT {
         let place = format!(in rt.alloc();
-            "--memory: there can be {MEMORY_LIMIT} memories, and not {count}"
+            "--memory: there can be at most {MEMORY_LIMIT} memories, not {count}"
         );
         return Err(Failure::at(ToolFault::Config, place));
     }

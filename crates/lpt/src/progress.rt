@@ -46,6 +46,17 @@ impl Voice {
         }
     }
 
+    /// Tells how many requests are settled before a round, and leaves the cursor at the line's
+    /// front.
+    pub fn tell_round(self, rt: &HostRuntime, settled: usize, of: usize, round: u64) {
+        if self.paced {
+            let text = format!(in rt.alloc(); "lpt: {settled} of {of}, round {round}{CLEAR}\r");
+            if let Ok(text) = text {
+                let _ = rt.eprint(text.as_str());
+            }
+        }
+    }
+
     /// How far a reading of so many octets is, where that is told.
     pub fn pace(self, rt: &HostRuntime, of: Option<u64>) -> Option<Pace> {
         if !self.paced {

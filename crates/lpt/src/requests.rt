@@ -30,7 +30,7 @@ pub fn request(
     let requests = match asked(rt, words)? {
         Ok(requests) => requests,
         Err(CutFault::Memory) => return Err(Failure::from(ToolFault::Memory)),
-        Err(CutFault::Empty) => return Ok(refused(rt, "an area has at least one octet")),
+        Err(CutFault::Empty) => return Ok(refused(rt, "an area has no octets: its file is empty")),
         Err(CutFault::PastEnd) => {
             return Ok(refused(rt, "an area ends after the last address, 4294967295"));
         }

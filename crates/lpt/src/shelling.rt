@@ -20,7 +20,7 @@ use std::io::IsTerminal;
 const PROMPT: &str = "lpt> ";
 
 /// What standard error says before the first of them.
-const GREETING: &str = "help lists the lines; exit or Ctrl-D ends";
+const GREETING: &str = "help lists the lines; exit or Ctrl-D ends the shell";
 
 /// Standard input, which keeps why it failed.
 type Lines<'r> = FromStd<Watched<Filled<'r>>>;

@@ -135,7 +135,11 @@ fn told(
     let alloc = rt.alloc();
     match split.end {
         EachEnd::End if split.next == u64::from(wanted.id) => {
-            tell(rt, format!(in alloc; "no packet came"), Status::Refused)
+            tell(
+                rt,
+                format!(in alloc; "the input has no packet"),
+                Status::Refused,
+            )
         }
         EachEnd::End => tell_unknown(rt, wanted.id, words, split.next),
         EachEnd::Cut(place) | EachEnd::Stray(place) => {
@@ -172,7 +176,7 @@ fn tell_unsplit(
     let parts = list_of(words, next);
     let text = match end {
         SplitEnd::NoSuchPart(last) => {
-            format!(in alloc; "--parts {next}:{parts}: no list of parts of 1 to {last}")
+            format!(in alloc; "--parts {next}:{parts}: not a list of parts from 1 to {last}")
         }
         end => {
             let reason = reason(alloc, wanted.writing.part_size, parts, end)?;

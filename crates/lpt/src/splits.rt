@@ -114,7 +114,7 @@ pub fn name_in<'a>(words: &SplitWords<'a>, tailored: &Tailored) -> Result<WideNa
         Width::Absent => u32::MAX,
         width => greatest(width),
     };
-    name_within(words.name, source, greatest(tailored.parts.id))
+    name_within("<ID>", words.name, source, greatest(tailored.parts.id))
 }
 
 /// How packets of this layout are written that go under this name.
@@ -194,7 +194,7 @@ fn tell_misfit(
         // It is whole, so that it is unsure doesn't come.
         None | Some(MisfitAs::Unsure) => return,
         Some(MisfitAs::OtherKind) => {
-            format!(in rt.alloc(); "what was split is no packet of its direction")
+            format!(in rt.alloc(); "the message is no packet of this direction: join it with --any")
         }
         Some(MisfitAs::NoPacket(fault)) => {
             let (code, name) = (fault.code(), fault.name());
@@ -202,7 +202,9 @@ fn tell_misfit(
                 Some(len) if len < octets.len() => "; --each splits each packet of a file",
                 _ => "",
             };
-            format!(in rt.alloc(); "what was split is no packet: fault {code} {name}{each}")
+            format!(in rt.alloc();
+                "the message is no packet (fault {code} {name}): join it with --any{each}"
+            )
         }
     };
     if let Ok(text) = text {
@@ -236,16 +238,21 @@ pub fn status_of(end: SplitEnd) -> Status {
 pub fn reason(alloc: Global, size: u32, parts: &str, end: SplitEnd) -> Result<String, AllocError> {
     match end {
         SplitEnd::Written(_) => Ok(String::new(alloc)),
+        SplitEnd::Short(0) => format!(in alloc; "a message of no octets isn't split"),
         SplitEnd::Short(len) => {
             let octets = octets_word(len);
-            format!(in alloc; "a message of {len} {octets} isn't split: a part has {size}")
+            format!(in alloc;
+                "a message of {len} {octets} fits in a part of {size}: --whole writes it as it is"
+            )
         }
-        SplitEnd::Long => format!(in alloc; "a message of more than 65542 octets isn't split"),
+        SplitEnd::Long => format!(in alloc;
+            "a message of more than 65542 octets isn't split; --each splits each packet of a file"
+        ),
         SplitEnd::Many(last) => {
             format!(in alloc; "a message of {last} parts isn't split: the most are 65535")
         }
         SplitEnd::NoSuchPart(last) => {
-            format!(in alloc; "--parts {parts}: no list of parts of 1 to {last}")
+            format!(in alloc; "--parts {parts}: not a list of parts from 1 to {last}")
         }
         SplitEnd::Unfit => {
             format!(in alloc; "the identifier, the source or a number doesn't fit the layout")

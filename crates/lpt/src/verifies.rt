@@ -139,7 +139,7 @@ fn tell_among_requests(rt: &HostRuntime, path: &str, requests: &Requests) {
     if requests.asked.is_empty() {
         let name = name_of(path);
         let text = format!(in rt.alloc();
-            "no request was found in {name}: it should hold what request writes"
+            "no telecommand was found in {name}: give what lpt request wrote"
         );
         tell_text(rt, text);
     }

@@ -1,5 +1,6 @@
 //! Readers and writers that keep why they failed.
 
+use lpt_text::Flushed;
 use std::io::{self, Read, Write};
 
 /// A reader or a writer with the error of its last call that failed.
@@ -57,5 +58,12 @@ impl<W: Write> Write for Watched<W> {
                 Err(error)
             }
         }
+    }
+}
+
+impl<W: Write> Flushed for Watched<W> {
+    // Nothing is kept back here.
+    fn flush_all(&mut self) -> io::Result<()> {
+        self.flush()
     }
 }

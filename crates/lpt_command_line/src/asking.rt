@@ -1,18 +1,19 @@
 //! The commands that write requests to a memory, and those that say what became of them.
 
 use crate::commands::{COUNT, JSON, QUIET, TEXT, U8};
+use crate::grounds::GROUND;
 use crate::row::{Configured, Family, Named, Need, Row, Word};
 use clap::ArgAction;
 use clap::builder::ValueParser;
 
-const MEMORY: Word = Word {
+pub(crate) const MEMORY: Word = Word {
     name: "MEMORY",
     value: U8,
     need: Need::One,
     help: "The memory's identifier, 0 to 255",
 };
 
-const ADDRESS: Word = Word {
+pub(crate) const ADDRESS: Word = Word {
     name: "ADDRESS",
     value: TEXT,
     need: Need::One,
@@ -23,14 +24,14 @@ const REPORTS: Word = Word {
     name: "REPORTS",
     value: TEXT,
     need: Need::Any(&["-"]),
-    help: "The reports' paths, or - for standard input",
+    help: "Files of reports, or - for standard input",
 };
 
 const PLACES: Word = Word {
     name: "PLACE",
     value: TEXT,
     need: Need::Several(&["ADDRESS", "LENGTH"]),
-    help: "Addresses, each with a number of octets, 1 to 4294967295 or 0xffffffff",
+    help: "Addresses, each followed by a number of octets, 1 to 4294967295 or 0xffffffff",
 };
 
 const EACH: Named = Named {
@@ -39,7 +40,7 @@ const EACH: Named = Named {
     behind: &["N"],
     action: ArgAction::Set,
     other: &[],
-    help: "How many octets one request asks for at most, as many as it holds without it",
+    help: "At most so many octets in a request; as many as fit if not given",
 };
 
 const ACK: Named = Named {
@@ -48,19 +49,19 @@ const ACK: Named = Named {
     behind: &["N"],
     action: ArgAction::Set,
     other: &["0"],
-    help: "The acknowledgement flags, 0 to 15",
+    help: "Acknowledgement flags, 0 to 15: 1 acceptance, 2 start, 8 completion, or a sum",
 };
 
 /// `verify`.
 const VERIFY: Row = Row {
     name: "verify",
-    about: "List requests with what verification reports say of them",
+    about: "List requests with what verification reports say about them",
     words: &[
         Word {
             name: "REQUESTS",
             value: TEXT,
             need: Need::One,
-            help: "The path of the requests, before split, or - for standard input",
+            help: "The requests, before split cut them, or - for standard input",
         },
         REPORTS,
     ],
@@ -72,7 +73,7 @@ const VERIFY: Row = Row {
             behind: &[],
             action: ArgAction::SetTrue,
             other: &[],
-            help: "Write the packets of the requests whose end no report tells, and no list",
+            help: "Write the packets of requests without a final report, in place of the list",
         },
         QUIET,
     ],
@@ -90,7 +91,7 @@ const COMPARE: Row = Row {
             name: "FILE",
             value: TEXT,
             need: Need::One,
-            help: "The path of what should stand there, or - for standard input",
+            help: "The file that should be in the memory, or - for standard input",
         },
         REPORTS,
     ],
@@ -101,12 +102,12 @@ const COMPARE: Row = Row {
 /// `checksum`.
 const CHECKSUM: Row = Row {
     name: "checksum",
-    about: "Print the checksum of a file, as in a check report",
+    about: "Print the checksum that a check report has for a file",
     words: &[Word {
         name: "FILE",
         value: TEXT,
         need: Need::Else(&["-"]),
-        help: "The octets' path, or - for standard input",
+        help: "The octets' file, or - for standard input",
     }],
     named: &[
         Named {
@@ -115,7 +116,7 @@ const CHECKSUM: Row = Row {
             behind: &["PLACE"],
             action: ArgAction::Set,
             other: &["0"],
-            help: "The place of the first octet, 0 without it",
+            help: "The place of the first octet",
         },
         Named {
             name: "length",
@@ -123,7 +124,7 @@ const CHECKSUM: Row = Row {
             behind: &["N"],
             action: ArgAction::Set,
             other: &[],
-            help: "How many octets; without it all after that place",
+            help: "How many octets; all that follow if not given",
         },
     ],
     configured: Configured::No,
@@ -133,51 +134,54 @@ const CHECKSUM: Row = Row {
 pub(crate) static COMPARISONS: [Row; 3] = [VERIFY, COMPARE, CHECKSUM];
 
 /// The commands with others below them.
-pub(crate) static FAMILIES: [Family; 1] = [Family {
-    name: "request",
-    about: "Write telecommands that load, dump or check a memory",
-    below: &[
-        Row {
-            name: "load",
-            about: "Load octets into a memory",
-            words: &[
-                MEMORY,
-                ADDRESS,
-                Word {
-                    name: "FILE",
-                    value: TEXT,
-                    need: Need::Else(&["-"]),
-                    help: "The octets' path, or - for standard input",
-                },
-            ],
-            named: &[
-                Named {
-                    name: "area",
-                    value: TEXT,
-                    behind: &["ADDRESS", "FILE"],
-                    action: ArgAction::Append,
-                    other: &[],
-                    help: "Octets for another address",
-                },
-                EACH,
-                ACK,
-                COUNT,
-            ],
-            configured: Configured::Packets,
-        },
-        Row {
-            name: "dump",
-            about: "Ask for octets of a memory",
-            words: &[MEMORY, PLACES],
-            named: &[EACH, ACK, COUNT],
-            configured: Configured::Packets,
-        },
-        Row {
-            name: "check",
-            about: "Ask for checksums of a memory",
-            words: &[MEMORY, PLACES],
-            named: &[EACH, ACK, COUNT],
-            configured: Configured::Packets,
-        },
-    ],
-}];
+pub(crate) static FAMILIES: [Family; 2] = [
+    GROUND,
+    Family {
+        name: "request",
+        about: "Write telecommands that load, dump or check a memory",
+        below: &[
+            Row {
+                name: "load",
+                about: "Load octets into a memory",
+                words: &[
+                    MEMORY,
+                    ADDRESS,
+                    Word {
+                        name: "FILE",
+                        value: TEXT,
+                        need: Need::Else(&["-"]),
+                        help: "The octets' file, or - for standard input",
+                    },
+                ],
+                named: &[
+                    Named {
+                        name: "area",
+                        value: TEXT,
+                        behind: &["ADDRESS", "FILE"],
+                        action: ArgAction::Append,
+                        other: &[],
+                        help: "Load another file to another address, in the same requests",
+                    },
+                    EACH,
+                    ACK,
+                    COUNT,
+                ],
+                configured: Configured::Packets,
+            },
+            Row {
+                name: "dump",
+                about: "Ask for octets of a memory",
+                words: &[MEMORY, PLACES],
+                named: &[EACH, ACK, COUNT],
+                configured: Configured::Packets,
+            },
+            Row {
+                name: "check",
+                about: "Ask for checksums of a memory",
+                words: &[MEMORY, PLACES],
+                named: &[EACH, ACK, COUNT],
+                configured: Configured::Packets,
+            },
+        ],
+    },
+];

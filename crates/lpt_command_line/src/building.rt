@@ -4,7 +4,7 @@ use crate::asking::{COMPARISONS, FAMILIES};
 use crate::commands::COMMANDS;
 use crate::passes::PASSES;
 use crate::row::{Configured, Family, Named, Row, Word};
-use crate::setting_words::SETTINGS;
+use crate::setting_words::{PASS_SETTINGS, SETTINGS};
 use clap::builder::ValueParser;
 use clap::{Arg, Command};
 use std::alloc::{AllocError, Global};
@@ -13,14 +13,15 @@ use std::alloc::{AllocError, Global};
 const MORE: &str = "\
 Examples:
   lpt run examples/first_path.script    run the script of that file
-  lpt run - --config settings.toml      run the one on standard input, line by line
-  lpt threads examples/threads.script   run it, and then ten threads
+  lpt run - --config settings.toml      run the script on standard input, line by line
+  lpt threads examples/threads.script   run this script, and then ten threads
   lpt shell                             answer the lines that are typed
-  lpt lint examples/first_path.script   print where it can't be read, and why
+  lpt lint examples/first_path.script   print which lines can't be read, and why
   lpt chart examples/first_path.script  draw what happened, as an SVG
   lpt decode 07ffc000000000             decode this packet
   lpt list packets                      list the packets of this file
   lpt request load 1 0 image            write the telecommand that loads this file
+  lpt ground load 1 0 image --source 7  load this file, and end once it has arrived
   lpt split up 7 load                   write the packets of this message
   lpt join up --id 7 packets            write the message that they carry
   lpt link --lose 5% packets            lose one in twenty of these packets
@@ -28,12 +29,12 @@ Examples:
   lpt compare 1 0 image checks          compare this file with these check reports
 
 Statuses:
-  0  all was done
+  0  everything was done
   1  an event or a line was refused, a message isn't whole or can't be sent, or octets are no packet
-  2  the words, a line of the script, HEX or the configuration can't be read
+  2  the command line, a line of the script, HEX or the configuration can't be read
   3  a file can't be read, the output can't be written, memory ran out, or threads failed
 
-docs/SCRIPT.md has the script language and the configuration, man/lpt.1 is this as a page.";
+docs/FILES.md has commands by task, docs/SCRIPT.md scripts and configuration; man/lpt.1 is this.";
 
 /// The program and its commands, or that one alone whose name is asked for, where there is one. The
 /// only error is out of memory.
@@ -146,6 +147,7 @@ fn settings_of(configured: Configured) -> &'static [Named] {
         Configured::No => &[],
         // All but the last, `mode`.
         Configured::Packets => &SETTINGS[..4],
+        Configured::Pass => &PASS_SETTINGS,
         Configured::Nodes => &SETTINGS,
     }
 }

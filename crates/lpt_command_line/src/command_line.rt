@@ -4,6 +4,7 @@ use crate::building::program;
 use crate::compare_words::{ChecksumWords, CompareWords, checksum_words, compare_words};
 use crate::extract_words::{ExtractWords, extract_words};
 use crate::file_words::{JoinWords, ListWords, check_order, join_words, list_words};
+use crate::ground_words::{GroundWords, ground_words};
 use crate::layout_words::{DecodeWords, decode_words};
 use crate::link_words::{LinkWords, link_words};
 use crate::request_words::{RequestWords, request_words};
@@ -58,6 +59,8 @@ pub enum Command<'a> {
     Extract(ExtractWords<'a>),
     /// `request load|dump|check MEMORY ..`.
     Request(RequestWords<'a>),
+    /// `ground load|dump|check MEMORY ADDRESS ..`.
+    Ground(GroundWords<'a>),
     /// `spacecraft`.
     Spacecraft(SpacecraftWords<'a>),
     /// `verify REQUESTS [REPORTS]..`.
@@ -75,7 +78,7 @@ pub struct ChartWords<'a> {
     pub script: &'a str,
     /// Whether packets stand there.
     pub stream: bool,
-    /// The first place of the journal that is drawn, or of the octets, where one is given.
+    /// Begin at this event of the run, or at this octet of the packets, where one is given.
     pub from: Option<u64>,
     /// The last place of the journal that is drawn, or the first of the octets that isn't, where
     /// one is given.
@@ -125,20 +128,29 @@ fn asked_by<'a>(alloc: Global, matches: ArgMatches<'a>) -> Result<CommandLine<'a
 
 fn meant<'a>(alloc: Global, matches: &ArgMatches<'a>) -> Result<CommandLine<'a>, WordFault<'a>> {
     let (name, inner) = matches.subcommand().ok_or(WordFault::Missing)?;
-    let quiet = inner.get_flag("quiet");
-    let (settings, command) = match inner.subcommand() {
-        None => (setting_words(inner), command_of(alloc, name, inner)?),
-        Some((name, inner)) => {
-            let request = request_words(alloc, name, inner)?;
-            (setting_words(inner), Some(Command::Request(request)))
-        }
+    let (words, command) = match inner.subcommand() {
+        None => (inner, command_of(alloc, name, inner)?),
+        Some((below, words)) => (words, Some(command_below(alloc, name, below, words)?)),
     };
     let command = command.ok_or(WordFault::Missing)?;
     Ok(CommandLine {
         command,
-        settings,
-        quiet,
+        settings: setting_words(words),
+        quiet: words.get_flag("quiet"),
     })
+}
+
+// What the words of a command of this name ask for, which stands below another.
+fn command_below<'a>(
+    alloc: Global,
+    above: &str,
+    name: &str,
+    words: &ArgMatches<'a>,
+) -> Result<Command<'a>, WordFault<'a>> {
+    match above {
+        "ground" => Ok(Command::Ground(ground_words(name, words)?)),
+        _ => Ok(Command::Request(request_words(alloc, name, words)?)),
+    }
 }
 
 // What the words of a command of this name ask for, where none that is required is missing.

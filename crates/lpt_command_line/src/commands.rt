@@ -26,7 +26,7 @@ pub(crate) const JSON: Named = Named {
     behind: &[],
     action: ArgAction::SetTrue,
     other: &[],
-    help: "Print each line as an object of JSON",
+    help: "Print each line as a JSON object",
 };
 
 pub(crate) const QUIET: Named = Named {
@@ -35,7 +35,7 @@ pub(crate) const QUIET: Named = Named {
     behind: &[],
     action: ArgAction::SetTrue,
     other: &[],
-    help: "Say nothing on standard error but what is wrong",
+    help: "Report only faults on standard error",
 };
 
 const DIRECTION: Word = Word {
@@ -49,7 +49,7 @@ pub(crate) const PACKETS: Word = Word {
     name: "FILE",
     value: TEXT,
     need: Need::Any(&["-"]),
-    help: "The packets' paths, or - for standard input",
+    help: "Files of packets, or - for standard input",
 };
 
 const FROM: Named = Named {
@@ -58,7 +58,7 @@ const FROM: Named = Named {
     behind: &["PLACE"],
     action: ArgAction::Set,
     other: &[],
-    help: "The place of the first octet that is read, as list prints it",
+    help: "Read from this place on, the number of an octet as list prints it",
 };
 
 const TO: Named = Named {
@@ -67,7 +67,7 @@ const TO: Named = Named {
     behind: &["PLACE"],
     action: ArgAction::Set,
     other: &[],
-    help: "The place of the first octet that isn't read any more",
+    help: "Read up to this place, without its octet",
 };
 
 pub(crate) const COUNT: Named = Named {
@@ -90,14 +90,14 @@ pub(crate) static COMMANDS: [Row; 10] = [
     },
     Row {
         name: "threads",
-        about: "Run a script, and then ten threads on its world",
+        about: "Run a script, then let ten threads go on with its world",
         words: &[SCRIPT],
         named: &[],
         configured: Configured::Nodes,
     },
     Row {
         name: "shell",
-        about: "Answer a script's lines as they are typed",
+        about: "Run a script's lines as you type them",
         words: &[],
         named: &[],
         configured: Configured::Nodes,
@@ -111,9 +111,9 @@ pub(crate) static COMMANDS: [Row; 10] = [
     },
     Row {
         name: "chart",
-        about: "Draw a script's run, or a stream of packets, as an SVG",
+        about: "Draw a script's run, or a file of packets, as an SVG picture",
         words: &[Word {
-            help: "The script's path, or the packets', or - for standard input",
+            help: "The script, or the packets if --stream is given; - for standard input",
             ..SCRIPT
         }],
         named: &[
@@ -123,7 +123,7 @@ pub(crate) static COMMANDS: [Row; 10] = [
                 behind: &[],
                 action: ArgAction::SetTrue,
                 other: &[],
-                help: "Draw the packets at the path, a row for each transaction",
+                help: "Draw packets instead of a script, a row for each transaction",
             },
             Named {
                 name: "from",
@@ -131,7 +131,7 @@ pub(crate) static COMMANDS: [Row; 10] = [
                 behind: &["N"],
                 action: ArgAction::Set,
                 other: &[],
-                help: "The first place of the journal that is drawn, or of the octets",
+                help: "Begin at this event of the run, or at this octet of the packets",
             },
             Named {
                 name: "to",
@@ -139,7 +139,7 @@ pub(crate) static COMMANDS: [Row; 10] = [
                 behind: &["N"],
                 action: ArgAction::Set,
                 other: &[],
-                help: "The last place of the journal that is drawn, or the end of the octets",
+                help: "End with this event of the run, or before this octet of the packets",
             },
             Named {
                 name: "refused",
@@ -147,7 +147,7 @@ pub(crate) static COMMANDS: [Row; 10] = [
                 behind: &[],
                 action: ArgAction::SetTrue,
                 other: &[],
-                help: "Draw the lines that were refused, too",
+                help: "Draw refused lines too",
             },
         ],
         configured: Configured::Nodes,
@@ -176,7 +176,7 @@ pub(crate) static COMMANDS: [Row; 10] = [
                 behind: &[],
                 action: ArgAction::SetTrue,
                 other: &[],
-                help: "End at the first place where no packet is",
+                help: "Stop at the first octet where no packet begins",
             },
             FROM,
             TO,
@@ -187,20 +187,20 @@ pub(crate) static COMMANDS: [Row; 10] = [
     },
     Row {
         name: "split",
-        about: "Cut a message into parts, and write their packets",
+        about: "Split a message into parts, and write their packets",
         words: &[
             DIRECTION,
             Word {
                 name: "ID",
                 value: TEXT,
                 need: Need::One,
-                help: "The message's ID or SOURCE/ID, of 0 to 65535, or as wide as --layout says",
+                help: "The message's ID or SOURCE/ID, each 0 to 65535 or as wide as --layout says",
             },
             Word {
                 name: "FILE",
                 value: TEXT,
                 need: Need::Else(&["-"]),
-                help: "The message's path, or - for standard input",
+                help: "The message's file, or - for standard input",
             },
         ],
         named: &[
@@ -210,7 +210,7 @@ pub(crate) static COMMANDS: [Row; 10] = [
                 behind: &["LIST"],
                 action: ArgAction::Append,
                 other: &["1-"],
-                help: "The parts to write, as 3,7-9,12-; with --each as ID:LIST",
+                help: "The parts to write, such as 3,7-9,12-; with --each ID:LIST",
             },
             COUNT,
             Named {
@@ -219,7 +219,7 @@ pub(crate) static COMMANDS: [Row; 10] = [
                 behind: &[],
                 action: ArgAction::SetTrue,
                 other: &[],
-                help: "Split each packet, the first under this ID, the others under the next ones",
+                help: "Split each packet of the file; the IDs count up from this one",
             },
             Named {
                 name: "whole",
@@ -227,7 +227,7 @@ pub(crate) static COMMANDS: [Row; 10] = [
                 behind: &[],
                 action: ArgAction::SetTrue,
                 other: &[],
-                help: "Pass on a message that has no more octets than a part",
+                help: "Write a message that fits in one part as it is, unsplit",
             },
             Named {
                 name: "pcap",
@@ -235,7 +235,7 @@ pub(crate) static COMMANDS: [Row; 10] = [
                 behind: &[],
                 action: ArgAction::SetTrue,
                 other: &[],
-                help: "Write the packets as a capture, a pcap file",
+                help: "Write the packets as a pcap capture",
             },
             LAYOUT,
         ],
@@ -243,7 +243,7 @@ pub(crate) static COMMANDS: [Row; 10] = [
     },
     Row {
         name: "join",
-        about: "Join the parts in packets, and write the message",
+        about: "Join the parts that packets carry, and write the message",
         words: &[DIRECTION, PACKETS],
         named: &[
             Named {
@@ -252,7 +252,7 @@ pub(crate) static COMMANDS: [Row; 10] = [
                 behind: &["ID"],
                 action: ArgAction::Set,
                 other: &[],
-                help: "The message's ID or SOURCE/ID; without one, it is the only one there",
+                help: "The message's ID or SOURCE/ID; needed if parts of several messages came",
             },
             Named {
                 name: "first",
@@ -260,7 +260,7 @@ pub(crate) static COMMANDS: [Row; 10] = [
                 behind: &[],
                 action: ArgAction::SetTrue,
                 other: &[],
-                help: "Take the first whole message, whatever comes after it",
+                help: "Write the first message that is whole, whatever comes after it",
             },
             Named {
                 name: "any",
@@ -268,7 +268,7 @@ pub(crate) static COMMANDS: [Row; 10] = [
                 behind: &[],
                 action: ArgAction::SetTrue,
                 other: &[],
-                help: "Write what is joined also where it is no packet",
+                help: "Write the joined message even if it is no packet",
             },
             Named {
                 name: "each",
@@ -276,7 +276,7 @@ pub(crate) static COMMANDS: [Row; 10] = [
                 behind: &["DIR"],
                 action: ArgAction::Set,
                 other: &[],
-                help: "Write every message there is, each as a file in this folder",
+                help: "Write every message, each to a file of its own in this folder",
             },
             FROM,
             TO,
@@ -287,7 +287,7 @@ pub(crate) static COMMANDS: [Row; 10] = [
     },
     Row {
         name: "extract",
-        about: "Extract the memory that dump reports hold",
+        about: "Extract octets of memory from dump reports",
         words: &[PACKETS],
         named: &[
             Named {
@@ -296,7 +296,7 @@ pub(crate) static COMMANDS: [Row; 10] = [
                 behind: &["MEMORY"],
                 action: ArgAction::Set,
                 other: &[],
-                help: "Write an image of this memory, its areas at their places",
+                help: "Write an image of this memory, each area at its address",
             },
             Named {
                 name: "from",
@@ -304,7 +304,7 @@ pub(crate) static COMMANDS: [Row; 10] = [
                 behind: &["ADDRESS"],
                 action: ArgAction::Set,
                 other: &[],
-                help: "The address at which the image begins, 0 without it",
+                help: "The address at which the image begins; 0 if not given",
             },
             Named {
                 name: "fill",
@@ -312,7 +312,7 @@ pub(crate) static COMMANDS: [Row; 10] = [
                 behind: &["OCTET"],
                 action: ArgAction::Set,
                 other: &[],
-                help: "The octet where no area gives one, 0 to 255, 0 without it",
+                help: "The octet for addresses that no area covers, 0 to 255; 0 if not given",
             },
             Named {
                 name: "whole",
@@ -320,7 +320,7 @@ pub(crate) static COMMANDS: [Row; 10] = [
                 behind: &[],
                 action: ArgAction::SetTrue,
                 other: &[],
-                help: "Write an image only where no octet of it is missing",
+                help: "Write the image only if no octet of it is missing",
             },
             Named {
                 name: "join",
@@ -328,7 +328,7 @@ pub(crate) static COMMANDS: [Row; 10] = [
                 behind: &[],
                 action: ArgAction::SetTrue,
                 other: &[],
-                help: "Take dump reports that come in parts, too",
+                help: "Also take dump reports that came in parts",
             },
             LAYOUT,
             QUIET,

@@ -13,7 +13,7 @@ pub(crate) const LAYOUT: Named = Named {
     behind: &["FILE"],
     action: ArgAction::Set,
     other: &[],
-    help: "The mission's layouts of headers and parts, a TOML file",
+    help: "A TOML file with the mission's layouts of headers and parts",
 };
 
 /// That more is said of octets than what they are.
@@ -23,7 +23,7 @@ pub(crate) const MORE: Named = Named {
     behind: &[],
     action: ArgAction::SetTrue,
     other: &[],
-    help: "Say which areas a request or a report names, and which segment a packet is",
+    help: "Also print the areas of a request or report, and which segment a packet is",
 };
 
 /// What `decode` asks for.

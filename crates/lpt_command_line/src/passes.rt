@@ -17,7 +17,7 @@ const LINK: Row = Row {
             behind: &["P"],
             action: ArgAction::Set,
             other: &["0%"],
-            help: "How many of the packets aren't written",
+            help: "The share of packets that get lost",
         },
         Named {
             name: "repeat",
@@ -25,7 +25,7 @@ const LINK: Row = Row {
             behind: &["P"],
             action: ArgAction::Set,
             other: &["0%"],
-            help: "How many of them are written twice",
+            help: "The share of packets that are written twice",
         },
         Named {
             name: "damage",
@@ -33,7 +33,7 @@ const LINK: Row = Row {
             behind: &["P"],
             action: ArgAction::Set,
             other: &["0%"],
-            help: "Of how many of them bits are changed, which their checksum shows",
+            help: "The share of packets in which bits change, so that the checksum is wrong",
         },
         Named {
             name: "delay",
@@ -41,7 +41,7 @@ const LINK: Row = Row {
             behind: &["N"],
             action: ArgAction::Set,
             other: &["0"],
-            help: "How many packets later one is written at most, 0 to 1000",
+            help: "Delay packets, each by at most N others, 0 to 1000",
         },
         Named {
             name: "seed",
@@ -49,7 +49,7 @@ const LINK: Row = Row {
             behind: &["S"],
             action: ArgAction::Set,
             other: &["0"],
-            help: "The seed: the same one gives the same run",
+            help: "The random seed; the same seed gives the same run",
         },
         QUIET,
     ],
@@ -68,7 +68,7 @@ const SPACECRAFT: Row = Row {
             behind: &["ID=FILE"],
             action: ArgAction::Append,
             other: &[],
-            help: "A memory, and the file of its first content, of 1 to 1048576 octets",
+            help: "The ID of a memory, and the file of its first content, 1 to 1048576 octets",
         },
         Named {
             name: "save",
@@ -76,7 +76,7 @@ const SPACECRAFT: Row = Row {
             behind: &[],
             action: ArgAction::SetTrue,
             other: &[],
-            help: "Write a memory back into its file after each load into it, and all at the end",
+            help: "Write a memory back to its file after each load, and all of them at the end",
         },
         Named {
             name: "tick-every",
@@ -84,7 +84,7 @@ const SPACECRAFT: Row = Row {
             behind: &["N"],
             action: ArgAction::Set,
             other: &[],
-            help: "Set the clock on after each N packets; without it, or at 0, never",
+            help: "Move the clock on by a tick after every N packets; never if 0 or not given",
         },
         Named {
             name: "tick",
@@ -92,7 +92,7 @@ const SPACECRAFT: Row = Row {
             behind: &["MS"],
             action: ArgAction::Set,
             other: &[],
-            help: "Set the clock on every MS milliseconds, as the next packet comes",
+            help: "Tick every MS milliseconds; all due ticks happen as the next packet comes",
         },
         Named {
             name: "reuse",
@@ -100,7 +100,7 @@ const SPACECRAFT: Row = Row {
             behind: &["N"],
             action: ArgAction::Set,
             other: &[],
-            help: "Free a name N ticks after its use: nothing older may be on the way",
+            help: "Free a name N ticks after its use; no older packet may be on its way then",
         },
         Named {
             name: "resync",
@@ -108,7 +108,7 @@ const SPACECRAFT: Row = Row {
             behind: &[],
             action: ArgAction::SetTrue,
             other: &[],
-            help: "Go on after octets that are no packet: what one carries may be taken for one",
+            help: "Go on after octets that are no packet; may take a packet within a message",
         },
         Named {
             name: "log",
@@ -116,7 +116,7 @@ const SPACECRAFT: Row = Row {
             behind: &[],
             action: ArgAction::SetTrue,
             other: &[],
-            help: "Tell on standard error what becomes of each packet and request",
+            help: "Report on standard error what becomes of each packet and request",
         },
         Named {
             name: "state",
@@ -124,7 +124,7 @@ const SPACECRAFT: Row = Row {
             behind: &["FILE"],
             action: ArgAction::Set,
             other: &[],
-            help: "Keep state and memories in this file, for this process alone, and go on from it",
+            help: "Keep the state and the memories in this file, and go on from it next time",
         },
     ],
     configured: Configured::Nodes,

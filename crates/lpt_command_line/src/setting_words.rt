@@ -21,48 +21,69 @@ pub struct SettingWords<'a> {
     pub mode: Option<Mode>,
 }
 
+const CONFIG: Named = Named {
+    name: "config",
+    value: TEXT,
+    behind: &["FILE"],
+    action: ArgAction::Set,
+    other: &[],
+    help: "A TOML file with the configuration",
+};
+
+const APID: Named = Named {
+    name: "apid",
+    value: ValueParser::Signed(0, 2046),
+    behind: &["N"],
+    action: ArgAction::Set,
+    other: &[],
+    help: "The APID of all packets, 0 to 2046",
+};
+
+const PART_SIZE: Named = Named {
+    name: "part-size",
+    value: ValueParser::Signed(4, 1024),
+    behind: &["N"],
+    action: ArgAction::Set,
+    other: &[],
+    help: "The size of a part in octets, 4 to 1024",
+};
+
 /// The configuration's file, and the words that win over it.
 pub(crate) static SETTINGS: [Named; 5] = [
-    Named {
-        name: "config",
-        value: TEXT,
-        behind: &["FILE"],
-        action: ArgAction::Set,
-        other: &[],
-        help: "The configuration, a TOML file",
-    },
-    Named {
-        name: "apid",
-        value: ValueParser::Signed(0, 2046),
-        behind: &["N"],
-        action: ArgAction::Set,
-        other: &[],
-        help: "The APID of all packets, 0 to 2046",
-    },
+    CONFIG,
+    APID,
     Named {
         name: "source",
         value: ValueParser::Signed(0, 65_535),
         behind: &["N"],
         action: ArgAction::Set,
         other: &[],
-        help: "The source that is meant where none is given, 0 to 65535",
+        help: "The source to use if none is given, 0 to 65535",
     },
-    Named {
-        name: "part-size",
-        value: ValueParser::Signed(4, 1024),
-        behind: &["N"],
-        action: ArgAction::Set,
-        other: &[],
-        help: "The octets of a part, 4 to 1024",
-    },
+    PART_SIZE,
     Named {
         name: "mode",
         value: ValueParser::Names(&["any", "strict"]),
         behind: &["MODE"],
         action: ArgAction::Set,
         other: &[],
-        help: "Whether parts are taken in any order, or strictly in theirs",
+        help: "Take parts in any order, or strictly in the order of their numbers",
     },
+];
+
+/// Those of a pass, which has a source of its own.
+pub(crate) static PASS_SETTINGS: [Named; 4] = [
+    CONFIG,
+    APID,
+    Named {
+        name: "source",
+        value: ValueParser::Signed(1, 65_535),
+        behind: &["N"],
+        action: ArgAction::Set,
+        other: &[],
+        help: "The pass's own source, 1 to 65535, which no pass had before",
+    },
+    PART_SIZE,
 ];
 
 /// What the words of a command give of a configuration.

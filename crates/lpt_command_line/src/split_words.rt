@@ -119,7 +119,7 @@ fn common_words<'a>(matches: &ArgMatches<'a>) -> Result<SplitWords<'a>, WordFaul
     let name = matches.get_str("ID").ok_or(WordFault::Missing)?;
     let layout = layout_in(matches);
     if layout.is_none() {
-        name_within(name, MOST, MOST)?;
+        name_within("<ID>", name, MOST, MOST)?;
     }
     Ok(SplitWords {
         layout,
@@ -132,16 +132,17 @@ fn common_words<'a>(matches: &ArgMatches<'a>) -> Result<SplitWords<'a>, WordFaul
     })
 }
 
-/// What the word of `split` names, by sources and identifiers up to these.
+/// What a word at this place names, by sources and identifiers up to these.
 ///
 /// Errors: `Id`.
 pub fn name_within<'a>(
+    place: &'static str,
     word: &'a str,
     most_source: u32,
     most: u32,
 ) -> Result<WideName, WordFault<'a>> {
     let refused = WordFault::Id {
-        place: "<ID>",
+        place,
         word,
         most,
         source: most_source,

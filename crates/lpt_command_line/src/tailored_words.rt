@@ -24,8 +24,9 @@ pub struct JoinLayoutWords<'a> {
     pub layout: &'a str,
     /// The direction of the packets.
     pub direction: Direction,
-    /// What names the message; without that, it is the only one there.
-    pub name: Option<WideName>,
+    /// The word that names the message, which `name_within` reads; without that, it is the only one
+    /// there.
+    pub name: Option<&'a str>,
     /// The paths of the packets, one behind the other, or `-` for standard input.
     pub files: Vec<&'a str>,
     /// Whether what is joined needn't be a packet.
@@ -40,21 +41,12 @@ pub struct JoinLayoutWords<'a> {
 
 /// What the words of `join --layout` ask for.
 ///
-/// Errors: `Missing`; `Id` where what should name the message doesn't; `Beside`, `Order`,
-/// `Memory`.
+/// Errors: `Missing`, `Beside`, `Order`, `Memory`.
 pub fn join_layout_words<'a>(
     alloc: Global,
     matches: &ArgMatches<'a>,
 ) -> Result<JoinLayoutWords<'a>, WordFault<'a>> {
-    let name = match matches.get_str("id") {
-        Some(word) => Some(wide_name_in(word).ok_or(WordFault::Id {
-            place: "--id <ID>",
-            word,
-            most: u32::MAX,
-            source: u32::MAX,
-        })?),
-        None => None,
-    };
+    let name = matches.get_str("id");
     let first = matches.get_flag("first");
     let each = each_in(matches, name.is_some(), first)?;
     Ok(JoinLayoutWords {

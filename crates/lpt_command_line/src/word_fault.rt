@@ -7,6 +7,8 @@ use std::alloc::{AllocError, Global};
 pub enum WordFault<'a> {
     /// One is missing.
     Missing,
+    /// This one has to be given.
+    Wanted(&'static str),
     /// This one is no address.
     Address(&'a str),
     /// Where this place is, this word names no message by an identifier and a source up to these.
@@ -60,6 +62,7 @@ impl WordFault<'_> {
     pub fn text(&self, alloc: Global) -> Result<String, AllocError> {
         match self {
             WordFault::Missing => format!(in alloc; "a word is missing"),
+            WordFault::Wanted(word) => format!(in alloc; "the argument '{word}' has to be given"),
             WordFault::Address(word) => invalid(alloc, word, "<ADDRESS>", 0),
             WordFault::Id {
                 place,
@@ -69,11 +72,13 @@ impl WordFault<'_> {
             } => no_name(alloc, word, place, *most, *source),
             WordFault::Length(word) => invalid(alloc, word, "<LENGTH>", 1),
             WordFault::NoLength(word) => {
-                format!(in alloc; "no '<LENGTH>' stands after the '<ADDRESS>' {word}")
+                format!(in alloc; "a '<LENGTH>' is missing after the '<ADDRESS>' {word}")
             }
             WordFault::Each { each, limit } => too_many(alloc, *each, *limit),
             WordFault::Odds(word) => {
-                format!(in alloc; "invalid value '{word}' for '<P>': no percentage of 0% to 100%")
+                format!(in alloc;
+                    "invalid value '{word}' for '<P>': not a percentage from 0% to 100%"
+                )
             }
             WordFault::Beside(one, other) => {
                 format!(in alloc; "the argument '{one}' cannot be used with '{other}'")
@@ -83,18 +88,14 @@ impl WordFault<'_> {
             }
             WordFault::NoMemory(word) => {
                 format!(in alloc;
-                    "invalid value '{word}' for '--memory': no ID=FILE, an ID of 0 to 255"
+                    "invalid value '{word}' for '--memory': not ID=FILE with an ID from 0 to 255"
                 )
             }
-            WordFault::Pick { word, most } => {
-                format!(in alloc;
-                    "invalid value '{word}' for '--parts <LIST>': no ID:LIST, an ID of 0 to {most}"
-                )
-            }
+            WordFault::Pick { word, most } => no_pick(alloc, word, *most),
             WordFault::PickedTwice(word) => {
                 format!(in alloc; "the ID of '--parts {word}' has a list already")
             }
-            WordFault::Twice => format!(in alloc; "'-' stands twice: standard input is read once"),
+            WordFault::Twice => format!(in alloc; "'-' stands twice, and can be read only once"),
             WordFault::Memory => format!(in alloc; "out of memory"),
         }
     }
@@ -110,20 +111,29 @@ fn no_name(
 ) -> Result<String, AllocError> {
     if source == most {
         return format!(in alloc;
-            "invalid value '{word}' for '{place}': no ID or SOURCE/ID of 0 to {most}"
+            "invalid value '{word}' for '{place}': not an ID or SOURCE/ID from 0 to {most}"
         );
     }
     format!(in alloc;
-        "invalid value '{word}' for '{place}': no ID of 0 to {most}, or no SOURCE of 0 to {source}"
+        "invalid value '{word}' for '{place}': not an ID up to {most} or a SOURCE up to {source}"
+    )
+}
+
+// What is reported of a word that is no identifier up to this one with a list of parts.
+fn no_pick(alloc: Global, word: &str, most: u32) -> Result<String, AllocError> {
+    format!(in alloc;
+        "invalid value '{word}' for '--parts <LIST>': not ID:LIST with an ID up to {most}"
     )
 }
 
 // What is reported of a number of octets that is more than a request holds.
 fn too_many(alloc: Global, each: u16, limit: u16) -> Result<String, AllocError> {
-    format!(in alloc; "invalid value '{each}' for '--each <N>': no number of 1 to {limit}")
+    format!(in alloc; "invalid value '{each}' for '--each <N>': not a number from 1 to {limit}")
 }
 
 // What is reported of a word that is no number of 32 bits, or below the lowest.
 fn invalid(alloc: Global, word: &str, place: &str, lowest: u32) -> Result<String, AllocError> {
-    format!(in alloc; "invalid value '{word}' for '{place}': no number of {lowest} to 4294967295")
+    format!(in alloc;
+        "invalid value '{word}' for '{place}': not a number from {lowest} to 4294967295"
+    )
 }

@@ -1,0 +1,156 @@
+//! What a job's file says is settled, and what standard error is told before each round.
+
+use crate::end::Failure;
+use crate::input::{octets_from, opened};
+use crate::progress::Voice;
+use crate::saving::write_for_good;
+use lpt_ground::Pass;
+use lpt_ground_run::{Asked, Fate, Notes, digest_of, hear_kept, kept_packets};
+use lpt_tool::ToolFault;
+use std::alloc::{AllocError, Global};
+use std::fs;
+use std::io::ErrorKind;
+
+/// What a job's file begins with.
+const FRONT: &str = "lpt ground ";
+
+/// What is told and kept of a pass before each of its rounds.
+#[derive(Drop)]
+pub struct GroundNotes {
+    rt: HostRuntime,
+    voice: Voice,
+    // The path of the job's file, and its first line, where there is one.
+    job: Option<(String, String)>,
+    // Why it couldn't be written, if it couldn't.
+    failure: Option<Failure>,
+}
+
+impl GroundNotes {
+    /// The notes of a pass that begins, or that goes on from the file at this path.
+    ///
+    /// Errors: `Read` where it can't be read, or is another job's; `Memory`.
+    pub fn begin(
+        rt: &HostRuntime,
+        voice: Voice,
+        title: Result<String, AllocError>,
+        pass: &mut Pass,
+        path: Option<&str>,
+    ) -> Result<Self, Failure> {
+        let job = match (path, title) {
+            (None, _) => None,
+            (Some(path), Ok(title)) => Some(job_at(rt, title.as_str(), pass, path)?),
+            (Some(_), Err(_)) => return Err(Failure::from(ToolFault::Memory)),
+        };
+        Ok(GroundNotes {
+            rt: *rt,
+            voice,
+            job,
+            failure: None,
+        })
+    }
+
+    /// From now on nothing is kept.
+    pub fn keep_no_more(&mut self) {
+        self.job = None;
+    }
+
+    /// Whether what was done is told.
+    pub fn voice(&self) -> Voice {
+        self.voice
+    }
+
+    /// Why the job's file couldn't be written, if it couldn't.
+    pub fn take_failure(&mut self) -> Option<Failure> {
+        self.failure.take()
+    }
+
+    // Writes the job's file, where there is one.
+    fn write(&self, asked: &[Asked]) -> Result<(), Failure> {
+        let Some((path, line)) = &self.job else {
+            return Ok(());
+        };
+        match octets_of(self.rt.alloc(), line.as_str(), asked) {
+            Ok(octets) => write_for_good(&self.rt, path.as_str(), &octets),
+            Err(_) => Err(Failure::from(ToolFault::Memory)),
+        }
+    }
+}
+
+impl Notes for GroundNotes {
+    fn keep(&mut self, round: u64, asked: &[Asked]) -> bool {
+        let settled = asked
+            .iter()
+            .filter(|one| !matches!(one.fate, Fate::Waiting))
+            .count();
+        self.voice.tell_round(&self.rt, settled, asked.len(), round);
+        match self.write(asked) {
+            Ok(()) => true,
+            Err(failure) => {
+                self.failure = Some(failure);
+                false
+            }
+        }
+    }
+}
+
+// A job's file: its line, and the packets that settled requests. The only error is out of memory.
+fn octets_of(alloc: Global, line: &str, asked: &[Asked]) -> Result<Vec<u8>, AllocError> {
+    let packets = kept_packets(alloc, asked)?;
+    let mut octets = Vec::new(alloc);
+    octets.extend_from_slice(line.as_bytes())?;
+    octets.extend_from_slice(&packets)?;
+    Ok(octets)
+}
+
+// The job of this pass, at this path: where there is such a file, the pass hears its packets.
+fn job_at(
+    rt: &HostRuntime,
+    title: &str,
+    pass: &mut Pass,
+    path: &str,
+) -> Result<(String, String), Failure> {
+    let (Ok(line), Ok(name)) = (
+        line_of(rt.alloc(), title, pass),
+        format!(in rt.alloc(); "{path}"),
+    ) else {
+        return Err(Failure::from(ToolFault::Memory));
+    };
+    if let Err(error) = fs::metadata(rt, path) {
+        if error.kind() == ErrorKind::NotFound {
+            return Ok((name, line));
+        }
+    }
+    let mut source = opened(rt, path)?;
+    let octets = octets_from(rt, path, &mut source);
+    drop(source);
+    let octets = octets?;
+    let Some(packets) = octets.as_slice().strip_prefix(line.as_bytes()) else {
+        return Err(foreign(rt, path, octets.as_slice()));
+    };
+    match hear_kept(rt.alloc(), pass, packets) {
+        Ok(_) => Ok((name, line)),
+        Err(_) => Err(Failure::from(ToolFault::Memory)),
+    }
+}
+
+// The first line of the file of a job of this pass. The only error is out of memory.
+fn line_of(alloc: Global, title: &str, pass: &Pass) -> Result<String, AllocError> {
+    let mut line = format!(in alloc; "{FRONT}{title} requests ")?;
+    for octet in digest_of(pass.asked()) {
+        line.write(format_args!("{octet:02x}"))?;
+    }
+    line.push_str("\n")?;
+    Ok(line)
+}
+
+// That the file at this path isn't this job's.
+fn foreign(rt: &HostRuntime, path: &str, octets: &[u8]) -> Failure {
+    let line = octets.split(|octet| *octet == b'\n').next().unwrap_or(&[]);
+    let place = match std::str::from_utf8(line) {
+        Ok(line) if line.starts_with(FRONT) => {
+            format!(in rt.alloc(); "{path}: it is the file of another job: {line}")
+        }
+        _ => format!(in rt.alloc(); "{path}: it is no file of a job"),
+    };
+    Failure::at(ToolFault::Read, place)
+}

@@ -1,0 +1,55 @@
+-- How a pass that was carried ends.
+use Rattle.std.proofs.Common.{◌≡◌, ◌∙◌, ap, sym, refl, subst, ℕ, List, [], ◌∷◌, ◌++◌, map, Option, Result, Ok, Err}
+use Rattle.std.specs.Io.KnownBytes.{Appends}
+use Rattle.std.specs.Prelude.{IfOk, OnOk}
+use Rattle.lpt_text.specs.declared.fault.StreamFault.{StreamFault}
+use Rattle.lpt_ground.specs.declared.asked.Terms.{Terms}
+use Rattle.lpt_ground.specs.declared.pass.End.{End}
+use Rattle.lpt_ground.specs.declared.pass.Step.TheVariants.{Stop}
+use Rattle.lpt_ground.specs.Carrying.{Answer, Came, Went, answered, come_to, paced}
+use Rattle.lpt_ground.specs.Passes.{State, next_step}
+use Rattle.lpt_ground.proofs.CarryLemmas.{done-told}
+use Rattle.lpt_ground_run.specs.Carried.{CameTo}
+use Rattle.lpt_ground_run.specs.Laws.{KeptRunsAreOnePass}
+
+pub came-to : (terms : Terms) (s t : State) (had has : Option (List Answer))
+    (old new : Option (List ℕ)) (r : Result End StreamFault)
+    → IfOk r (λ e. next_step t ≡ Stop e)
+    → OnOk r (Went terms s t had has old new)
+    → IfOk r (CameTo terms s t old new)
+came-to terms s t had has old new (Err e) stop went = tt
+came-to terms s t had has old new (Ok e) stop w = record {
+  answers = w.answers;
+  came = w.came;
+  ends = stop;
+  written = w.written;
+  told = λ is. done-told terms s w.answers (ap next_step (sym w.came) ∙ stop ∙ ap Stop is);
+}
+
+came-append : (terms : Terms) (s : State) (ps : List (List ℕ)) (xs : List Answer)
+    → come_to terms s (map Came ps ++ xs) ≡ come_to terms (come_to terms s (map Came ps)) xs
+came-append terms s [] xs = refl
+came-append terms s (p ∷ ps) xs = came-append terms (answered terms s (Came p)) ps xs
+
+paced-append : (terms : Terms) (s : State) (ps : List (List ℕ)) (xs : List Answer)
+    → paced terms s (map Came ps ++ xs) ≡ paced terms (come_to terms s (map Came ps)) xs
+paced-append terms s [] xs = refl
+paced-append terms s (p ∷ ps) xs = paced-append terms (answered terms s (Came p)) ps xs
+
+-- a pass that heard again what was kept, and then was carried to its end
+pub one-pass : KeptRunsAreOnePass
+one-pass terms s t u octets all old new end h c =
+    let xs : List Answer = map Came h.packets ++ c.answers in
+    let came : u ≡ come_to terms s xs =
+    c.came ∙ ap (λ (m : State). come_to terms m c.answers) h.came
+    ∙ sym (came-append terms s h.packets c.answers) in
+    record {
+      answers = xs;
+      came = came;
+      ends = c.ends;
+      written =
+          subst (Appends old new)
+          (ap (λ (m : State). paced terms m c.answers) h.came
+          ∙ sym (paced-append terms s h.packets c.answers)) c.written;
+      told = λ is. done-told terms s xs (ap next_step (sym came) ∙ c.ends ∙ ap Stop is);
+    }

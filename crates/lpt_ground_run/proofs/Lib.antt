@@ -1,0 +1,5 @@
+mod CarriedLemmas
+mod HandingLemmas
+mod KeepingLemmas
+mod PlanLemmas
+mod RunLemmas

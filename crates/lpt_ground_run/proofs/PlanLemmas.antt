@@ -1,0 +1,11 @@
+-- How many requests a plan has.
+use Rattle.std.proofs.Common.{◌≡◌, ap, refl, ℕ, suc, List, [], ◌∷◌, length}
+use Rattle.lpt_requests.specs.declared.request.Request.{Request}
+use Rattle.lpt_requests.specs.Packets.{next_count}
+use Rattle.lpt_ground.specs.Plans.{planned}
+
+pub length-planned : (apid source count flags : ℕ) (rs : List Request)
+    → length (planned apid source count flags rs) ≡ length rs
+length-planned apid source count flags [] = refl
+length-planned apid source count flags (r ∷ rs) =
+    ap suc (length-planned apid source (next_count count) flags rs)

@@ -1,0 +1,19 @@
+-- A pass that was carried to its end.
+use Rattle.std.specs.Prelude.{◌≡◌, ℕ, List, Option}
+use Rattle.std.specs.Io.KnownBytes.{Appends}
+use Rattle.lpt_ground.specs.declared.asked.Terms.{Terms}
+use Rattle.lpt_ground.specs.declared.pass.End.{End}
+use Rattle.lpt_ground.specs.declared.pass.End.TheVariants.{Done}
+use Rattle.lpt_ground.specs.declared.pass.Step.TheVariants.{Stop}
+use Rattle.lpt_ground.specs.Carrying.{Answer, AllTold, come_to, packets_of, paced}
+use Rattle.lpt_ground.specs.Passes.{State, next_step}
+
+-- Whatever the ear answered: the pass came to this end by it, and wrote what follows from it. Where
+-- it is done, of each request that waited one of the packets among the answers says so.
+pub record CameTo (terms : Terms) (s t : State) (old new : Option (List ℕ))
+    (end : End) : Type 0 where
+  pub answers : List Answer
+  pub came : t ≡ come_to terms s answers
+  pub ends : next_step t ≡ Stop end
+  pub written : Appends old new (paced terms s answers)
+  pub told : end ≡ Done → AllTold terms s.asked (packets_of answers)

@@ -1,0 +1,6 @@
+pub mod Carried
+pub mod Handing
+pub mod Keeping
+pub mod Laws
+pub mod Planning
+pub mod Runs

@@ -1,0 +1,36 @@
+-- The requests of a pass.
+use Rattle.std.specs.Prelude.{◌≡◌, ◌≤◌, ℕ, ◌+◌, ◌-◌, ◌%◌, nat_le, if◌then◌else◌, List, length, map, Result, Ok, Err}
+use Rattle.lpt_requests.specs.declared.request.Request.{Request}
+use Rattle.lpt_requests.specs.declared.cut_fault.CutFault.{CutFault}
+use Rattle.lpt_requests.specs.declared.cut_fault.CutFault.TheVariants as cuts
+use Rattle.lpt_requests.specs.Cuts as asking
+use Rattle.lpt_requests.specs.Cuts.{view}
+use Rattle.lpt_ground.specs.declared.asked.Asked.{Asked}
+use Rattle.lpt_ground.specs.Plans.{planned}
+use Rattle.lpt_ground_run.specs.declared.heads.Heads.{Heads}
+use Rattle.lpt_ground_run.specs.declared.planning.PlanFault.{PlanFault}
+use Rattle.lpt_ground_run.specs.declared.planning.PlanFault.TheVariants.{Empty, PastEnd, Narrow, Memory}
+
+-- why what is asked can't be cut
+abbrev pub fault_of : CutFault → PlanFault
+fault_of cuts.Empty = Empty
+fault_of cuts.PastEnd = PastEnd
+fault_of cuts.Memory = Memory
+
+-- how many octets a dump is of at most where a part has so many, 6 of which its report takes up
+abbrev pub dump_each : (part_size : ℕ) → Result ℕ PlanFault
+dump_each p = if nat_le p 6 then Err Narrow else Ok (p - 6)
+
+-- the heads of requests behind so many, which ask for no report of success
+pub record IsBehind (h : Heads) (many : ℕ) (next : Heads) : Type 0 where
+  pub apid : next.apid ≡ h.apid
+  pub source : next.source ≡ h.source
+  pub count : next.count ≡ (h.count + many) % 16384
+  pub flags : next.flags ≡ 0
+
+-- they are the pass of requests that ask this, no more than have a request ID of their own
+pub record ArePlanned (h : Heads) (views : List asking.Asked) (asked : List Asked) : Type 0 where
+  pub requests : List Request
+  pub ask : map view requests ≡ views
+  pub are : asked ≡ planned h.apid h.source h.count h.flags requests
+  pub few : length asked ≤ 16384

@@ -1,0 +1,37 @@
+//! A pass carried by what another thread hands over.
+
+ghost use Rattle.std.specs.Prelude.{◌≡◌, IfOk};
+ghost use Rattle.lpt_ground.specs.Passes.{state_of};
+ghost use Rattle.lpt_ground_run.specs.Carried.{CameTo};
+
+use crate::hearing::{Hearing, Notes};
+use lpt_ground::{End, Pass, carry};
+use lpt_text::{Sink, StreamFault};
+use std::sync::Wait;
+use std::time::Clock;
+
+/// Carries a pass to its end, by what is heard of another thread. The notes are told of the
+/// requests before each round, and however it ends.
+///
+/// Errors: `Write` where a write failed, or where the notes couldn't be kept; `Read` where a read
+/// of what comes down failed; `Memory` where memory ran out for it. What became of the requests
+/// stays.
+pub fn carry_pass<R: Wait + Clock + Drop, N: Notes + Drop, K: Sink>(
+    pass: &mut Pass,
+    hearing: &mut Hearing<R, N>,
+    out: &mut K,
+) -> Result<End, StreamFault>
+    // Where it is done, each request that waited was told so by a packet that came.
+    ensures carried { IfOk result (CameTo pass.old.terms (state_of pass.old) (state_of pass.new)
+        (K.contents out.old) (K.contents out.new)) }
+    ensures terms { pass.new.terms ≡ pass.old.terms }
+{
+    let ended = carry(pass, hearing, out);
+    if !hearing.tell_end(pass.asked()) {
+        return Err(StreamFault::Write);
+    }
+    match hearing.fault() {
+        Some(fault) if matches!(ended, Ok(End::Ended)) => Err(fault),
+        _ => ended,
+    }
+}

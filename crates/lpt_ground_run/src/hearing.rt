@@ -1,0 +1,203 @@
+//! A thread that reads what comes down, and the ear to which it hands the packets over.
+
+ghost use Rattle.std.specs.Prelude.{◌≡◌, None, true};
+
+use crate::cutting::{Outlet, hand_packets};
+use crossbeam_channel::{Receiver, RecvTimeoutError, Sender, unbounded};
+use lpt_ground::{Asked, Ear, Waited};
+use lpt_packet::Octets;
+use lpt_text::{Source, StreamFault};
+use std::alloc::Global;
+use std::sync::Wait;
+use std::thread::{Builder, Threads};
+use std::time::{Clock, Duration, Instant};
+use thiserror::Error;
+
+/// Why nothing can be heard.
+#[derive(Clone, Copy, Debug, PartialEq, Eq, Error)]
+pub enum HearFault {
+    /// The thread that reads couldn't be started.
+    #[error("a thread couldn't be started")]
+    NoThread,
+    /// Out of memory.
+    #[error("out of memory")]
+    Memory,
+}
+
+/// Is told how far a pass is.
+pub trait Notes {
+    /// Before this round, the first of which is 1, and once the pass is at its end, behind the last
+    /// one, this became of its requests. It answers whether the pass may go on.
+    fn keep(&mut self, round: u64, asked: &[Asked]) -> bool;
+}
+
+// What the thread that reads hands over.
+#[derive(Drop)]
+enum Came {
+    Packet(Octets),
+    // Why nothing more will come, where it isn't the end of what comes down.
+    Fault(StreamFault),
+}
+
+// The end of the channel at which the thread hands over.
+#[derive(Drop)]
+struct Handing<R: Wait + Drop> {
+    rt: R,
+    to: Sender<Came>,
+    // Whether somebody takes what is handed over.
+    open: bool,
+}
+
+impl<R: Wait + Drop> Outlet for Handing<R> {
+    ghost handed = { λ _. None };
+
+    ghost is_open = { λ handing. handing.«open» };
+
+    fn hand(&mut self, packet: Octets) -> bool {
+        self.open = self.to.send(&self.rt, Came::Packet(packet)).is_ok();
+        self.open
+    }
+}
+
+/// An ear at what another thread reads.
+#[derive(Drop)]
+pub struct Hearing<R: Wait + Clock + Drop, N: Notes + Drop> {
+    rt: R,
+    from: Receiver<Came>,
+    // How long nothing comes until a wait is over.
+    wait: Duration,
+    notes: N,
+    // Why nothing more will come, where it isn't the end of what comes down.
+    fault: Option<StreamFault>,
+    // The packets that were put, and the rounds that were begun.
+    put: u64,
+    rounds: u64,
+}
+
+impl<R: Threads + Wait + Clock + Copy + Drop + Send + 'static, N: Notes + Drop> Hearing<R, N> {
+    /// Starts a thread that reads this source to its end, and hears what it hands over. A wait is
+    /// over once nothing has come for so many milliseconds.
+    ///
+    /// The thread isn't joined: it ends with its source, with the process, or once it has a packet
+    /// to hand over and this is gone. Errors: `NoThread`, `Memory`.
+    pub fn begin<S: Source + Drop + Send + 'static>(
+        rt: &R,
+        alloc: Global,
+        source: S,
+        wait: u32,
+        notes: N,
+    ) -> Result<Self, HearFault> {
+        let Ok((to, from)) = unbounded(alloc) else {
+            return Err(HearFault::Memory);
+        };
+        let handing = Handing {
+            rt: *rt,
+            to,
+            open: true,
+        };
+        let read = move || -> ()
+            requires { handing.«open» ≡ true }
+        { read_all(alloc, source, handing) };
+        match Builder::new().spawn(rt, read) {
+            Ok(_) => Ok(Hearing {
+                rt: *rt,
+                from,
+                wait: Duration::from_millis(u64::from(wait)),
+                notes,
+                fault: None,
+                put: 0,
+                rounds: 0,
+            }),
+            Err(_) => Err(HearFault::NoThread),
+        }
+    }
+}
+
+// Hands over what this source gives, and then why it gave no more.
+fn read_all<R: Wait + Drop, S: Source + Drop>(alloc: Global, source: S, handing: Handing<R>)
+    requires { handing.«open» ≡ true }
+{
+    let (mut source, mut handing) = (source, handing);
+    if let Err(fault) = hand_packets(alloc, &mut source, &mut handing) {
+        let _ = handing.to.send(&handing.rt, Came::Fault(fault));
+    }
+}
+
+impl<R: Wait + Clock + Drop, N: Notes + Drop> Hearing<R, N> {
+    /// Its notes.
+    pub fn notes(&mut self) -> &mut N {
+        &mut self.notes
+    }
+
+    /// Why nothing more will come, where what comes down isn't at its end: a read failed, or memory
+    /// ran out.
+    pub fn fault(&self) -> Option<StreamFault>
+        ensures { result ≡ self.now.fault }
+    {
+        self.fault
+    }
+
+    /// How many packets were put, and in how many rounds, since this was asked last.
+    pub fn counts(&mut self) -> (u64, u64)
+        ensures counts { result ≡ (self.old.put, self.old.rounds) }
+        ensures put { self.new.put ≡ 0 }
+        ensures rounds { self.new.rounds ≡ 0 }
+    {
+        let counts = (self.put, self.rounds);
+        self.put = 0;
+        self.rounds = 0;
+        counts
+    }
+
+    /// Tells the notes how a pass has ended, and answers whether they could keep that.
+    pub fn tell_end(&mut self, asked: &[Asked]) -> bool {
+        self.notes.keep(self.rounds.saturating_add(1), asked)
+    }
+
+    /// Hears on until what comes down is at its end, or for one wait, and passes over what comes.
+    pub fn hear_out(&mut self) {
+        let Ok(now) = Instant::now(&self.rt) else {
+            return;
+        };
+        let Some(deadline) = now.checked_add(self.wait) else {
+            return;
+        };
+        for _ in 0..u64::MAX {
+            match self.from.recv_deadline(&self.rt, deadline) {
+                Ok(came) => drop(came),
+                Err(_) => return,
+            }
+        }
+    }
+}
+
+impl<R: Wait + Clock + Drop, N: Notes + Drop> Ear for Hearing<R, N> {
+    ghost told = { λ _. None };
+
+    fn ready(&mut self) -> Option<Octets> {
+        match self.from.try_recv(&self.rt) {
+            Ok(Came::Packet(octets)) => return Some(octets),
+            Ok(Came::Fault(fault)) => self.fault = Some(fault),
+            Err(_) => {}
+        }
+        self.put = self.put.saturating_add(1);
+        None
+    }
+
+    fn wait(&mut self) -> Waited {
+        match self.from.recv_timeout(&self.rt, self.wait) {
+            Ok(Came::Packet(octets)) => Waited::Packet(octets),
+            Ok(Came::Fault(fault)) => {
+                self.fault = Some(fault);
+                Waited::End
+            }
+            Err(RecvTimeoutError::Timeout) => Waited::Quiet,
+            Err(RecvTimeoutError::Disconnected) => Waited::End,
+        }
+    }
+
+    fn keep(&mut self, asked: &[Asked]) -> bool {
+        self.rounds = self.rounds.saturating_add(1);
+        self.notes.keep(self.rounds, asked)
+    }
+}

@@ -1,0 +1,31 @@
+//! A pass in a process: a thread reads what comes down and cuts it into packets, and the pass is
+//! carried by what that thread hands over. So nobody who writes down ever waits for ground, and
+//! what ground puts up is read in turn.
+//!
+//! The main type is `Hearing`, an ear at a channel. The first call is `Hearing::begin`, with where
+//! octets come from and with `Notes`, which are told before each round what became of the requests,
+//! and then `carry_pass`. `runs_of` says what became of them in few words; `kept_packets` and
+//! `hear_kept` take a pass from one process to the next.
+#![tactic(auto)]
+
+mod carrying;
+mod cutting;
+mod heads;
+mod hearing;
+mod keeping;
+pub mod laws;
+mod planning;
+mod runs;
+
+pub use carrying::carry_pass;
+pub use cutting::{Outlet, hand_packets};
+pub use heads::Heads;
+pub use hearing::{HearFault, Hearing, Notes};
+pub use keeping::{digest_of, hear_kept, kept_packets};
+pub use lpt_ground::{Asked, End, Fate, Pass};
+pub use lpt_packet::Octets;
+pub use lpt_pus::AckFlags;
+pub use lpt_requests::{Area, CutFault, Place, Read};
+pub use lpt_text::{Sink, Source, StreamFault};
+pub use planning::{PlanFault, dump_each, plan_loads, plan_reads};
+pub use runs::{Outcome, Run, runs_of};
