@@ -3,16 +3,16 @@
  * memory management (ECSS-E-ST-70-41C, services 13, 1 and 6), read from and written to the caller's
  * buffers.
  *
- * No call allocates memory. Each returns LPT_DONE, or the number of what is wrong; then nothing has
- * been written through a pointer but what the call's comment says. docs/FORMATS.md has the layouts
- * and the faults, docs/C.md what the caller promises:
+ * No call allocates memory. One that can fail returns LPT_DONE, or the number of what is wrong; in
+ * that case nothing is written through a pointer but what its comment says. docs/FORMATS.md has the
+ * layouts and the faults, docs/C.md what the caller promises:
  *
- *   - a length is the true number of octets behind its pointer, and what is read there is
+ *   - a length is the true number of items behind its pointer, and what is read there is
  *     initialised. What a call only writes through, as `out` and `needed`, may have no value yet;
  *   - a pointer is null only if its length is 0, and is aligned for its type;
  *   - what a call writes to (a pointer without const) overlaps nothing else that it is passed, and
- *     nothing else writes there, or to what it reads, while it runs. What stands in the buffer
- *     already, where it is to be, is for the calls lpt_build_..
+ *     nothing else writes there, or to what it reads, while it runs. For octets that already stand
+ *     in their place there are the calls lpt_build_..
  *
  * Calls over different buffers may run at once, on whatever threads.
  */
@@ -40,7 +40,7 @@ extern "C" {
 #define LPT_MUST_USE
 #endif
 
-/* What is said of a structure's layout is so, or nothing compiles. */
+/* Nothing compiles if a structure has another layout than is said here. */
 #define LPT_LAYOUT(structure, octets, alignment)                                                   \
     struct lpt_aligned_##structure {                                                               \
         char before;                                                                               \
@@ -89,7 +89,7 @@ enum LptFault {
     /* A body that is no abortion report. */
     LPT_E_ABORT_BODY = 24,
 
-    /* Of an end: not 1 to 16 memories of 1 to 1,048,576 octets each, as lpt_end_new says. */
+    /* Of an end: the memories aren't as lpt_end_new or lpt_end_new_sized says. */
     LPT_E_MEMORIES = 25,
 
     /* A request to a memory: the load's packet would have more than 65,542 octets; no area, more
@@ -137,7 +137,8 @@ enum LptFault {
     LPT_E_MORE = 104,
     /* The body is no such report. */
     LPT_E_NO_REPORT = 105,
-    /* Of an end: it was let go. Bindings say so; no call answers it of the address of an end. */
+    /* Of an end: nothing is left of it, as after a longjmp out of a memory function; in Python:
+       it was closed. */
     LPT_E_EMPTY = 106,
     /* Of an end: no number is left for a job, or for a restart. */
     LPT_E_NO_NUMBER = 108,
@@ -297,10 +298,11 @@ enum LptPartKind {
     LPT_PART_LAST = 3
 };
 
-/* What the front of a stream is: a packet, in step also an idle one, or one with a right checksum
-   that has no secondary header or is a segment (which lpt_read_packet answers by LPT_E_IDLE,
-   LPT_E_NO_SECONDARY and LPT_E_SEGMENTED); as many octets as a header says, which are none, with a
-   packet after them or nothing; an octet with which none of these begins. */
+/* The piece in front of a stream. WHOLE: a packet; in step (see lpt_find_piece) also an idle
+   packet, or one with a right checksum that has no secondary header or is a segment:
+   lpt_read_packet answers LPT_E_IDLE, LPT_E_NO_SECONDARY or LPT_E_SEGMENTED. DAMAGED: as many
+   octets as their header says that are no packet, before a packet or the end. STRAY: an octet
+   with which neither begins. */
 enum LptPieceKind { LPT_PIECE_WHOLE = 1, LPT_PIECE_DAMAGED = 2, LPT_PIECE_STRAY = 3 };
 
 /* Why a reception was aborted: no part came for as long as the time-out; in strict mode a part came
@@ -321,7 +323,7 @@ static inline const char *lpt_reason_name(uint32_t reason) {
     }
 }
 
-/* Why a request wasn't accepted, the first two; why its execution didn't start, the others. */
+/* The first two say why a request wasn't accepted, the others why its execution didn't start. */
 enum LptFailure {
     LPT_FAILURE_UNKNOWN_TYPE = 1,
     LPT_FAILURE_BODY = 2,
@@ -333,7 +335,7 @@ enum LptFailure {
     LPT_FAILURE_TOO_MANY_OPEN = 8
 };
 
-/* The name of a failure code; "unknown" of a code of another's, which a report may bear. */
+/* The name of a failure code; "unknown" for any other code, which a report may have. */
 static inline const char *lpt_failure_name(uint32_t failure) {
     switch (failure) {
     case LPT_FAILURE_UNKNOWN_TYPE:
@@ -357,8 +359,8 @@ static inline const char *lpt_failure_name(uint32_t failure) {
     }
 }
 
-/* The longest packet, and the longest message that is sent in parts, in octets; so many of a stream
-   as always show which piece is in front; and the room that lpt_count_strays is quick with. */
+/* In octets: the longest packet, and message sent in parts; how many of a stream always show
+   which piece is in front. And the room with which lpt_count_strays is quick. */
 enum { LPT_LONGEST_PACKET = 65542, LPT_LOOKAHEAD = 131084, LPT_STRAY_ROOM = 2049 };
 
 /* ---- packets ---- */
@@ -368,9 +370,9 @@ LPT_MUST_USE
 uint16_t lpt_crc16(const uint8_t *octets, size_t octets_len);
 
 /*
- * Says how many octets the packet has that begins a stream, by the first six of them. LPT_DONE of
- * a packet, LPT_E_IDLE of an idle one, which may be skipped: *length is written then, 7 to 65,542.
- * LPT_E_MORE if there are too few octets yet to know, LPT_E_VERSION if no packet begins so.
+ * Says how many octets the packet has that begins a stream, by the first six of them. LPT_DONE for
+ * a packet, LPT_E_IDLE for an idle one, which may be skipped; at both *length is written, 7 to
+ * 65,542. LPT_E_MORE if there are too few octets yet to know, LPT_E_VERSION if no packet begins so.
  */
 LPT_MUST_USE
 uint32_t lpt_packet_length(const uint8_t *octets, size_t octets_len, size_t *length);
@@ -382,9 +384,9 @@ uint32_t lpt_packet_length(const uint8_t *octets, size_t octets_len, size_t *len
  * number but 0 is taken as 1.
  *
  * LPT_DONE, and *kind (LPT_PIECE_WHOLE, LPT_PIECE_DAMAGED or LPT_PIECE_STRAY) and *size, its
- * octets, at least one, are written: whatever comes after won't change them. LPT_E_MORE if
- * there are no octets, or what is in front depends on those that may still come: never of
- * LPT_LOOKAHEAD octets or more, nor of some with `is_end`.
+ * octets, at least one, are written: whatever comes after won't change them. LPT_E_MORE if there
+ * are no octets, or the piece depends on octets to come: never with LPT_LOOKAHEAD octets or more,
+ * nor with `is_end` and at least one.
  */
 LPT_MUST_USE
 uint32_t lpt_find_piece(const uint8_t *octets, size_t octets_len, uint32_t in_step, uint32_t is_end,
@@ -392,11 +394,11 @@ uint32_t lpt_find_piece(const uint8_t *octets, size_t octets_len, uint32_t in_st
 
 /*
  * Counts the octets in front of a stream that are part of no packet, right after an octet that is
- * none: so many times, one after the other, lpt_find_piece with `in_step` 0 would tell
- * LPT_PIECE_STRAY. At most LPT_LONGEST_PACKET at a call, and 0 if it would report something else.
- * If headers among them announce long packets, this is much quicker: what it works out is kept in
- * `room` during the call. With LPT_STRAY_ROOM numbers there each octet takes a bounded time; with
- * fewer, or with none, the answer is the same. `room` needn't be set before, nor kept.
+ * none: lpt_find_piece with `in_step` 0 would report LPT_PIECE_STRAY that many times in a row. A
+ * call counts at most LPT_LONGEST_PACKET, and returns 0 if lpt_find_piece would report something
+ * else. If headers among them announce long packets, this is much quicker: what it works out is
+ * kept in `room` during the call. With LPT_STRAY_ROOM numbers there each octet takes a bounded
+ * time; with fewer, or with none, the answer is the same. `room` needn't be set before, nor kept.
  */
 LPT_MUST_USE
 size_t lpt_count_strays(const uint8_t *octets, size_t octets_len, uint32_t is_end, uint16_t *room,
@@ -625,7 +627,7 @@ uint32_t lpt_write_report(uint8_t subtype, uint32_t request, uint16_t code, uint
 
 /*
  * Writes the body of a load of one area, subtype 2, to the front of a buffer, and leaves the rest
- * of it as it was: that these octets go to this memory, from this address on. They get their
+ * of it as it was: that these octets go to this memory, from this address on. It adds their
  * checksum.
  * LPT_DONE; LPT_E_BAD_AREA for no octets, LPT_E_LONG_LOAD for more than 65,519; LPT_E_ROOM. At
  * LPT_DONE and LPT_E_ROOM *needed is the body's length, 10 more than theirs.
@@ -641,10 +643,10 @@ typedef struct LptRange {
 } LptRange;
 
 /*
- * Writes the body of a dump, subtype 5, to the front of a buffer, and leaves the rest of it as it
- * was: of the memory of this identifier, the octets at these places, in their order. LPT_DONE;
- * LPT_E_BAD_AREA for no place, more than 255, or one without octets; LPT_E_ROOM. At LPT_DONE and
- * LPT_E_ROOM *needed is the body's length, 2 and 6 for each place.
+ * Writes the body of a dump, subtype 5, to the front of a buffer, whose rest stays: it asks for the
+ * octets at these places of this memory, in this order. LPT_DONE; LPT_E_BAD_AREA for no place, more
+ * than 255, or one without octets; LPT_E_ROOM. At LPT_DONE and LPT_E_ROOM *needed is the body's
+ * length, 2 and 6 for each place.
  */
 LPT_MUST_USE
 uint32_t lpt_write_dump(uint8_t memory, const LptRange *ranges, size_t ranges_len, uint8_t *out,

@@ -60,9 +60,9 @@ class Library(NamedTuple):
 
 
 LIBRARIES = [
-    Library("lpt_c", "lpt", "Space packets, PUS headers and large packet transfer, proved", "", []),
+    Library("lpt_c", "lpt", "Space packets, PUS headers and large packet transfer", "", []),
     Library(
-        "lpt_c_end", "lpt_end", "One end of a link of large packet transfer, proved", "lpt",
+        "lpt_c_end", "lpt_end", "One end of a link of large packet transfer", "lpt",
         ["examples/c/memory/heap.c"],
     ),
 ]
@@ -155,13 +155,18 @@ def shared(top: pathlib.Path, library: Library, compiler: str, folder: pathlib.P
     script.unlink()
 
 
-def package(top: pathlib.Path, library: Library, processor: Processor, folder: pathlib.Path) -> None:
-    """Writes a library's files for pkg-config: of its archive, and of the shared one."""
-    place = pathlib.PurePosixPath("build") / processor.folder
-    version = (top / "docs/help/version").read_text(encoding="utf-8").strip()
+def version_of(top: pathlib.Path) -> str:
+    """The libraries' version."""
+    return (top / "docs/help/version").read_text(encoding="utf-8").strip()
+
+
+def package(top: pathlib.Path, library: Library, place: str, version: str, folder: pathlib.Path) -> None:
+    """Writes a library's files for pkg-config: of its archive, and of the shared one. They say in which
+    folder of TOP it will stand."""
+    told = f"{library.description}, {'not proved' if 'unproved' in version else 'proved'}"
     for suffix, file in (("", f"-l:lib{library.name}.a"), ("_shared", f"-l:lib{library.name}.so.0")):
         lines = [
-            f"prefix={top}", "", f"Name: {library.name}{suffix}", f"Description: {library.description}",
+            f"prefix={top}", "", f"Name: {library.name}{suffix}", f"Description: {told}",
             f"Version: {version}", f"Requires: {library.requires and library.requires + suffix}",
             "Cflags: -I${prefix}/include", f"Libs: -L${{prefix}}/{place} {file}", "",
         ]
@@ -191,7 +196,7 @@ def build(room: pathlib.Path, top: pathlib.Path, name: str = "x86_64") -> None:
         for library in LIBRARIES:
             if name == "x86_64" or shutil.which(compiler):
                 shared(top, library, compiler, folder)
-            package(top, library, processor, folder)
+            package(top, library, str(pathlib.PurePosixPath("build") / processor.folder), version_of(top), folder)
         for file in sorted(folder.iterdir(), key=lambda it: it.name == "sums"):
             file.replace(to / file.name)
 

@@ -15,9 +15,9 @@ def octets_text(count):
 
 
 def beside_misfits(ran):
-    """What a run came to, without the note that what was split is no packet of its direction."""
+    """What a run came to, without the note that the message is no packet of its direction."""
     status, printed, said = ran
-    return status, printed, [line for line in said if not line.startswith("lpt: what was split is no packet")]
+    return status, printed, [line for line in said if not line.startswith("lpt: the message is no packet")]
 
 
 class Driver:

@@ -19,36 +19,39 @@ static LptEnd *ground, *spacecraft;
 /* The memory: what stands from LOCKED on can be read, and isn't written. */
 static uint8_t array[SIZE];
 
-static int memory_write(uint32_t address, const uint8_t *octets, size_t len) {
+static bool memory_write(uint32_t address, const uint8_t *octets, size_t len) {
     if (address + len > LOCKED) {
-        return 0;
+        return false;
     }
     memcpy(array + address, octets, len);
-    return 1;
+    return true;
 }
 
-static int memory_read(uint32_t address, uint8_t *out, size_t len) {
+static bool memory_read(uint32_t address, uint8_t *out, size_t len) {
     memcpy(out, array + address, len);
-    return 1;
+    return true;
 }
 
 /* Does what the oldest request asks of the memory, and then executes it. What it reads stands in
-   one buffer; a request that reads more than that is dropped, as one is whose memory fails. */
+   one buffer; a request that reads more than that, or whose memory fails, is dropped. Loads have
+   one area here, so there is nothing to put back. */
 static uint32_t work(LptApplied *applied) {
     static uint8_t octets[SIZE];
     LptAccess access = {0, 0, 0, 0};
     size_t number, len = 0, read = 0;
     uint32_t fault;
     for (number = 0; (fault = lpt_end_access(spacecraft, number, &access)) == LPT_DONE; number++) {
-        int is_done = access.len <= sizeof octets - read;
-        if (is_done && access.write) {
+        bool is_done = false;
+        if (access.len > sizeof octets - read) {
+            /* it asks for more than is done here */
+        } else if (access.write != 0) {
             fault = lpt_end_access_octets(spacecraft, number, octets, sizeof octets, &len);
             is_done = fault == LPT_DONE && memory_write(access.address, octets, len);
-        } else if (is_done) {
+        } else {
             is_done = memory_read(access.address, octets + read, access.len);
             read += access.len;
         }
-        printf("  %s %u at %u: %s\n", access.write ? "write" : "read", (unsigned)access.len,
+        printf("  %s %u at %u: %s\n", access.write != 0 ? "write" : "read", (unsigned)access.len,
                (unsigned)access.address, is_done ? "done" : "failed");
         if (!is_done) {
             return lpt_end_drop_read(spacecraft); /* and report it by a service of your own */

@@ -2,8 +2,8 @@
  * A spacecraft that outlasts its program. What it has to know after a reset stands in a file, in
  * two copies that are written in turn, each with a number that grows. Ground loads an image in
  * three requests, each sent in parts, and asks for checksums. A copy goes to the file by several
- * writes. The spacecraft's process is stopped behind each of its writes, to the file or to ground,
- * in a pass of its own, and started again: each request is executed once, and the image is whole.
+ * writes. In each pass the spacecraft's process is stopped after another of its writes, to the file
+ * or to ground, and started again: each request is executed once, and the image is whole.
  *
  * A copy is a number of 8 octets; the memory; how many requests were executed; how long the state
  * of the end is, and the state; and the number again. Its checksum stands last. One whose numbers

@@ -6,7 +6,7 @@
  *
  * On a pipe, packets and lines of this program's own stand one behind the other. A packet says how
  * long it is. A line is a letter, with which no packet begins, and a name: by 'F' the sender says
- * that it has finished and that no part comes any more, by 'R' the receiver that it freed the name.
+ * that it has finished and no part comes any more, by 'R' the receiver says that it freed the name.
  *
  *   cc -Iinclude examples/c/processes.c examples/c/memory/heap.c build/liblpt_end.a \
  *       build/liblpt.a -o processes && ./processes

@@ -250,8 +250,9 @@ static void execute(LptEnd *end, Files files, Kept *kept) {
     must(lpt_end_execute_given(end, octets, read, &applied) == LPT_DONE, "nothing is executed");
 }
 
-/* Takes a packet, and executes what it released. The state is kept with what is owed to the memory,
-   then the memory is written, and nothing goes out before. */
+/* Takes a packet, and executes what it released. The state is kept with what is owed to the
+   memory, then the memory is written, and nothing goes out before. Plain requests are checks
+   here: nothing is kept of them. */
 static void serve(LptEnd *end, Files files, Kept *kept, const uint8_t *packet, size_t len) {
     LptOutcome outcome = {0, {0, 0}, 0, 0};
     must(lpt_end_packet(end, packet, len, &outcome) == LPT_DONE, "a packet isn't taken");

@@ -137,7 +137,7 @@ class WrongThread(RuntimeError):
 
 
 class End:
-    """An end of the link, as a context manager: at its close all its memory goes back.
+    """An end of the link. It is a context manager, and frees all its memory when it is closed.
 
     >>> with End(Side.GROUND, Config(part_size=8)) as ground:
     ...     ground.open((1, 7), bytes(20))
@@ -146,8 +146,8 @@ class End:
     [25, 25, 21]
 
     An end stays on the thread that made it, and is neither copied nor pickled. A call raises the
-    first fault that applies, and then the end is as it was; `Empty` where it was closed. Arguments
-    of another type raise TypeError.
+    first fault that applies, and leaves the end as it was; on a closed end it raises `Empty`.
+    Arguments of another type raise TypeError.
     """
 
     __slots__ = ("config", "side", "_at", "_is_called", "_length", "_thread", "__weakref__")
@@ -162,11 +162,10 @@ class End:
         """Makes an end. The spacecraft's has these memories, which begin with these octets: 1 to
         16, of 1 to 1,048,576 octets each. Ground's has none.
 
-        An end that is made anew isn't restarted: it has forgotten which names are used up. So the
-        other end is made anew too then, and no packet of before may come any more. Of a state that
-        `End.state` gave it is made as a restart would have left the end that gave it. Raises
-        `Range`, `ConfigApid` to `ConfigOutgoing`, or `Memories`; of a state `StateShort` to
-        `StateOrder`, or `NoNumber`.
+        A new end is no restart of an old one: it doesn't know which names were used. So make the
+        other end anew too, and let no older packet come. From a state of `End.state` it is
+        restored, as a restart would have left that end. Raises `Range`, `ConfigApid` to
+        `ConfigOutgoing`, or `Memories`; of a state `StateShort` to `StateOrder`, or `NoNumber`.
         """
         self._at: Optional[int] = None
         self._length, place = 0, _library.POINTER()
@@ -297,9 +296,8 @@ class End:
         return self._copied(_end.lpt_end_released, Room(self._length))
 
     def expire(self) -> Optional[Name]:
-        """Gives a reception up that took no part for as long as the time-out: the one that has
-        waited longest. Its name, or None where none is due. A spacecraft has a report of it to be
-        sent."""
+        """Gives up the reception that has waited longest without a part, if it is due by the timeout,
+        and returns its name; None if none is due. A spacecraft has a report of it to be sent."""
         name = _library.LptName()
         fault = self._call(_end.lpt_end_expire, byref(name))
         if fault == _NOTHING_DUE:
@@ -317,15 +315,15 @@ class End:
         return part_count(given.len, self.config.part_size)
 
     def part(self, name: Named, its_number: int) -> None:
-        """Makes the packet of the part of this number, from 1, of an open message: it is to be
-        sent, after those that are. Raises `NotOpen`, `NoSuchPart` or `Allocation`."""
+        """Makes the packet of the part of this number, from 1, of an open message: it goes behind the
+        packets that wait. Raises `NotOpen`, `NoSuchPart` or `Allocation`."""
         named, its_number = _c_name(name), number(its_number, 0xFFFF, "the part's number")
         self._done(_end.lpt_end_part, byref(named), its_number)
 
     def parts(self, name: Named, numbers: Optional[Iterable[int]] = None) -> Iterator[bytes]:
-        """Makes the packets of an open message's parts one by one, of all or of those with these
-        numbers, and gives each, with what else is to be sent, as `outgoing` does. The message stays
-        open until `finish`."""
+        """Makes the packets of an open message's parts, all or those with these numbers, one by one,
+        and gives them as `outgoing` does, with what else waits to be sent. The message stays open
+        until `finish`."""
         its_name = name_of(name)
         for it in range(1, 0x10000) if numbers is None else numbers:
             try:
@@ -431,7 +429,7 @@ class End:
     def serve(self) -> Iterator[bytes]:
         """Reads and executes all requests that were released, and gives the packets to be sent, as
         `outgoing` does: what waited before, reports, and the parts of reports that are too long for
-        a packet. The names of those are finished then; both ends retire them, ground first."""
+        a packet. It finishes these messages; you retire their names at both ends, ground first."""
         while self.read():
             pass
         yield from self.outgoing()
@@ -543,9 +541,9 @@ class End:
         self._done(_end.lpt_end_restart)
 
     def state(self) -> bytes:
-        """What of the end outlasts its process, besides the memories: `End(.., state=..)` makes an
-        end of it. Written before what a call answered is acted on or sent, it keeps the promise
-        through a stop at any place; docs/C.md says how. The library takes no memory for it."""
+        """What outlasts the end's process, besides the memories: `End(.., state=..)` restores an end
+        from it. If you write it before you act on a call's result or send anything, the promise
+        holds through a stop at any place; docs/C.md says how. The library takes no memory for it."""
         return self._copied(_end.lpt_end_state, Room(57)) or b""
 
     @staticmethod

@@ -157,7 +157,7 @@ class TooMany(Fault, ValueError):
 
 
 class NotOpen(Fault, ValueError):
-    """No message of this name is open."""
+    """No message or reception of this name is open."""
 
     number = 45
 
@@ -313,7 +313,7 @@ class StateVersion(Fault, ValueError):
 
 
 class StateLength(Fault, ValueError):
-    """The state is cut, or has octets after it."""
+    """The state's octets aren't as many as it says."""
 
     number = 114
 

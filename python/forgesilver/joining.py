@@ -41,7 +41,7 @@ class Joined:
     missing: str = ""
     #: Whether another part contradicts those that came, as where another message of the name began.
     is_contradicted: bool = False
-    #: Why what was joined is no packet of its direction.
+    #: Why the joined message is no packet of its direction.
     fault: Optional[Fault] = field(default=None, compare=False)
 
 
@@ -64,7 +64,7 @@ def join(
 ) -> bytes:
     """The one message whose parts these packets carry, in any order, with repeats, among others.
 
-    With a name, a direction or an APID no other packets count; without an APID it is that of the
+    With a name, a direction or an APID no other packets count; the APID is by default that of the
     first packet with a part. A message is a packet of its direction, or with `any` whatever is
     joined. Raises `NotJoined` if there is none, or several, or parts of others; `join_each` gives
     those.
@@ -110,9 +110,9 @@ def join_each(
     damaged, idle, of another APID or that carry no part are skipped, and so are octets that are no
     packets.
 
-    What is joined is a message if it is a packet of its direction, and else its `fault` says why it
-    isn't; with `any` whatever is joined is one. Raises `Range`; and `NotJoined` at the end, if
-    parts came and none fits the part size but last ones.
+    If what is joined isn't a packet of its direction, `message` is None and `fault` says why; with
+    `any` anything joined is a message. Raises `Range`; at the end `NotJoined`, if some part doesn't
+    fit the part size and at most last ones do.
     """
     joiners: dict[Direction, _Joiner] = {}
     part_size = part_size_of(part_size)

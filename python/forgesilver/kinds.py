@@ -130,8 +130,8 @@ class Why(IntEnum):
 
 
 class AppliedKind(IntEnum):
-    """What became of a request: it was carried out; so it was, and its report is open to be sent in
-    parts; it is no telecommand of the APID, and nothing was done; it was refused."""
+    """What became of a request: carried out; carried out, with its report open to be sent in parts; no
+    telecommand of the APID, or dropped: nothing was done; refused."""
 
     CARRIED_OUT = 1
     OPENED = 2

@@ -23,7 +23,7 @@ STREAMS, DAMAGED = 150, 40
 SIZE, APID = 8, 100
 WORDS = ["--part-size", str(SIZE)]
 LOST = re.compile(r"lpt: \w+ (?:(\d+)/)?(\d+): (?:from octet \d+ on, )?missing parts: \d+:(\S+)")
-UNFIT = re.compile(r"lpt: \w+ (?:(\d+)/)?(\d+): what was joined is no packet(?: of its direction|: fault (\d+) \w+)")
+UNFIT = re.compile(r"lpt: \w+ (?:(\d+)/)?(\d+): the joined message is no packet(?: of its direction|: fault (\d+) \w+)")
 # What the program calls no packet of its direction.
 OTHER_KINDS = (faults.WrongType.number, faults.Idle.number)
 

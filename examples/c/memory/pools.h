@@ -1,7 +1,7 @@
 /*
- * Pools of memory for ends of a link, one for each end, over octets of the program's: so what one
- * end takes another doesn't lack, and ends with pools of their own may be used on different threads
- * at once. In place of heap.c or pool.c:
+ * Pools of memory for ends of a link, one for each end, over octets of the program's: so no end
+ * takes another's memory, and ends with pools of their own may be used on different threads at
+ * once. In place of heap.c or pool.c:
  *
  *   cc -Iinclude -Iexamples/c/memory program.c examples/c/memory/pools.c \
  *       build/liblpt_end.a build/liblpt.a

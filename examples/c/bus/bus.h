@@ -1,0 +1,115 @@
+/*
+ * What the two programs of this folder share: craft.c is a spacecraft's task on a bus, ground.c its
+ * ground. Each has one end, goes by cycles of a millisecond, and may be killed at any place.
+ *
+ * A cycle takes what came, at most so much; does at most one piece of work; sets the clock one
+ * tick on; keeps what has to outlast it, in one write; and only then sends. So what a kill takes is
+ * as if the link had lost it, and a cycle makes at most 710 calls of the end: 264 for a request, if
+ * it has 255 areas, and the rest by the bounds below.
+ *
+ * Datagrams go over UDP. In front of each stand its kind, a name with its direction, and the turn
+ * of that name (freeing.h); behind it stands a checksum. Beside packets there are lines of the
+ * programs' own: by ASKS the sender of a message asks what is missing of it, and is told part
+ * numbers, or that the message has ended; by FINISHED and FREED a name is freed.
+ */
+#ifndef BUS_BUS_H
+#define BUS_BUS_H
+
+#include "keeping.h"
+
+enum { APID = 100, SOURCE = 1, NAMES = 16, PART_SIZE = 256, LONGEST = PART_SIZE + 23 };
+enum { MEMORY = 1, SIZE = 16384 };
+enum { RECEPTIONS = 8, OUTGOING = 4, TIMEOUT = 300 };
+
+/* The bounds of a cycle: how many datagrams are taken; how many lines, and parts that were asked
+   for, are sent; how many parts of each open message; how many closed names are told. */
+enum { MOST_TAKEN = 8, MOST_LINES = 16, MOST_WANTED = 32, MOST_PARTS = 8, MOST_TOLD = 2 };
+/* How many parts are asked for at once, and how often what isn't answered is said. */
+enum { MOST_MISSING = 16, EACH = 8 };
+
+enum Kind { PACKET = 1, PART, ASKS, MISSING, ENDED, FINISHED, FREED, HOUSEKEEPING };
+
+/* What stands in front of a datagram. */
+typedef struct Head {
+    uint8_t kind;
+    uint8_t direction;
+    LptName name;
+    uint32_t turn;
+} Head;
+
+enum { HEAD = 10, MOST_OCTETS = HEAD + LONGEST + 2 };
+
+/* A message that is open to be sent: its parts, which is next, and for how many cycles nothing was
+   heard of it since the last one went. */
+typedef struct Sending {
+    LptName name;
+    uint32_t parts;
+    uint32_t next;
+    uint32_t quiet;
+} Sending;
+
+/* A part that was asked for. */
+typedef struct Wanted {
+    LptName name;
+    uint16_t number;
+} Wanted;
+
+/* A program's end, and all that is about it. */
+typedef struct Node {
+    LptEnd *end;
+    uint32_t sends;    /* the direction in which it sends messages */
+    uint32_t receives; /* the other one */
+    Kept kept;
+    bool has_changed; /* since it was kept */
+    uint8_t *copies;  /* two, over a mapped file */
+    int link;
+    int journal;
+    uint32_t cycles;
+    Sending sendings[OUTGOING];
+    uint32_t sendings_len;
+    Head lines[MOST_LINES]; /* to be sent once this cycle is kept */
+    uint32_t lines_len;
+    Wanted wanted[MOST_WANTED];
+    uint32_t wanted_len;
+    LptName told; /* the closed name that was told last */
+} Node;
+
+/* The words of the command line: FOLDER PORT ITS_PORT STOP. The link goes from the first port to
+   the second, and what is kept is read: whether something was. */
+bool node_begin(Node *it, uint32_t side, char **words);
+
+/* ---- a cycle ---- */
+
+/* Takes a datagram that came: false if there is none. The outcome's kind is 0 if it was no packet
+   for the end. */
+bool node_take(Node *it, Head *head, LptOutcome *outcome, uint8_t *packet, size_t *packet_len);
+
+/* Opens a message to be sent, as one that is new or that the end has opened by itself. */
+void node_opened(Node *it, const LptName *name);
+
+/* Sets the clock on, and ends at most one reception. */
+void node_tick(Node *it);
+
+/* Keeps what has to be kept, if something has changed or is to be sent. */
+void node_keep(Node *it);
+
+/* Sends lines, packets that wait, parts that were asked for, parts that weren't sent yet, and what
+   has to be said again. */
+void node_send(Node *it);
+
+/* Writes a line to the journal, with the number of the copy that makes it so: of a name in a
+   direction, with its turn, also octets of a message, and more. */
+void node_note(Node *it, const char *line);
+void node_note_name(Node *it, const char *what, uint32_t direction, const LptName *name,
+                    const uint8_t *octets, size_t len, const char *more);
+
+/* Sends a datagram. */
+void node_say(Node *it, const Head *head, const uint8_t *octets, size_t len);
+
+/* Waits for the next cycle: false once the program gets SIGTERM. */
+bool node_wait(Node *it);
+
+/* Whether the program is to begin nothing new: it got SIGUSR1, or is to end. */
+bool is_over(void);
+
+#endif

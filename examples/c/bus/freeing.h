@@ -1,0 +1,54 @@
+/*
+ * Frees names so that they can be used again, over a link that loses, repeats, delays and reorders
+ * whatever goes over it, also the two lines of which this protocol is made.
+ *
+ * A name has a turn at each end: how often it was freed there. It only grows, and is kept with the
+ * state of the end, in the same write. Each packet of a part goes with its name and the turn of its
+ * sender, and the receiver hands it to its end only if that is its own turn too. Then:
+ *
+ *   1. The sender has kept its message's opening, and closed it. It says FINISHED, with its turn,
+ *      again and again.
+ *   2. The receiver, at that turn, frees the name and goes on to the next turn. It keeps both in
+ *      one write, and only then answers FREED with the turn that was said. To a line of an earlier
+ *      turn it answers the same, since its answer may be lost, and frees nothing.
+ *   3. The sender, at the turn of the answer, frees the name and goes on to the next turn. It keeps
+ *      both before it sends a part of the next message, in the write that has that message's
+ *      opening.
+ *
+ * Why a turn: without it a late FINISHED frees the name of the next message. Its parts that come
+ * again are then joined to a message that is released twice; and a late part of the former message
+ * is joined to the next one.
+ */
+#ifndef BUS_FREEING_H
+#define BUS_FREEING_H
+
+#include "lpt_end.h"
+
+enum { FREEING_NAMES = 64 };
+
+/* The turn of a name in a direction. One that isn't listed has turn 0. */
+typedef struct Turn {
+    LptName name;
+    uint32_t direction;
+    uint32_t turn;
+} Turn;
+
+/* The turns of an end's names. It is kept with the end's state; all of it zero is a new end's. */
+typedef struct Freeing {
+    Turn of[FREEING_NAMES];
+    uint32_t len;
+} Freeing;
+
+/* The turn of a name at this end. */
+uint32_t freeing_turn(const Freeing *it, uint32_t direction, const LptName *name);
+
+/* FINISHED came of a name that this end receives: whether to answer FREED, with the same turn, once
+   this and the end's state are kept. It isn't while a reception of the name is open. */
+bool freeing_finished(Freeing *it, LptEnd *end, uint32_t direction, const LptName *name,
+                      uint32_t turn);
+
+/* FREED came of a name that this end sends: whether the name is free now. */
+bool freeing_freed(Freeing *it, LptEnd *end, uint32_t direction, const LptName *name,
+                   uint32_t turn);
+
+#endif
