@@ -14,11 +14,11 @@ use lpt_tool::ToolFault;
 
 /// Runs a script on a new world, the one at this path or standard input for `-`, and writes the
 /// picture of what happened. The world is that of the configuration that the words give. Standard
-/// error is told where the run has fewer events than the choice of rows begins at.
+/// error is told if the run has fewer events than the choice of rows begins at.
 ///
-/// Errors: `Config` where the configuration is refused; `Line` at an unreadable line, after
-/// standard error was told why it is, `Read` where the script can't be opened or read: then the
-/// picture is of what happened before, and there is none where nothing did; `Write` where a write
+/// Errors: `Config` if the configuration is refused; `Line` at an unreadable line, after
+/// standard error was told why it is, `Read` if the script can't be opened or read: then the
+/// picture is of what happened before, and there is none if nothing did; `Write` if a write
 /// failed, `Memory`.
 pub fn chart(
     rt: &HostRuntime,

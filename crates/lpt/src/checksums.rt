@@ -10,7 +10,7 @@ use lpt_tool::ToolFault;
 
 /// Writes the checksum of a file's octets, or of those from a place on.
 ///
-/// Errors: `Read` where the file can't be opened or read; `Write`, `Memory`.
+/// Errors: `Read` if the file can't be opened or read; `Write`, `Memory`.
 pub fn checksum(rt: &HostRuntime, words: &ChecksumWords<'_>) -> Result<Status, Failure> {
     let octets = file_at(rt, words.file)?;
     let status = written(rt, words, octets.as_slice());

@@ -18,7 +18,7 @@ use std::alloc::{AllocError, Global};
 /// octets there. What is no packet, check reports that can't be read, and parts of messages are
 /// told, and the status says so.
 ///
-/// Errors: `Read` where the file or the packets can't be opened or read, or their capture is wrong;
+/// Errors: `Read` if the file or the packets can't be opened or read, or their capture is wrong;
 /// `Write`, `Memory`.
 pub fn compare(
     rt: &HostRuntime,
@@ -37,7 +37,7 @@ pub fn compare(
 
 /// The octets of a file, or of standard input.
 ///
-/// Errors: `Read` where it can't be opened or read; `Memory`.
+/// Errors: `Read` if it can't be opened or read; `Memory`.
 pub fn file_at(rt: &HostRuntime, path: &str) -> Result<Octets, Failure> {
     let mut source = opened(rt, path)?;
     let octets = octets_from(rt, path, &mut source);

@@ -22,7 +22,7 @@ const LONGEST_FILE: usize = 1_048_576;
 /// The configuration, the first memories, and how much a run of threads does: those of the file
 /// that the words name, or of an empty one without it. What else the words say wins over it.
 ///
-/// Errors: `Read` where the file can't be opened or read; `Config` where it has more than 1,048,576
+/// Errors: `Read` if the file can't be opened or read; `Config` if it has more than 1,048,576
 /// octets, isn't UTF-8 or is refused; `Memory`.
 pub fn read(
     rt: &HostRuntime,
@@ -97,7 +97,7 @@ fn complaint(alloc: Global, path: &str, text: &str) -> Result<String, AllocError
 
 /// The octets of the file at this path.
 ///
-/// Errors: `Read` where it can't be opened or read; `Config` where it has more than 1,048,576
+/// Errors: `Read` if it can't be opened or read; `Config` if it has more than 1,048,576
 /// octets; `Memory`.
 pub(crate) fn read_file(rt: &HostRuntime, path: &str) -> Result<Vec<u8>, Failure> {
     let file = match File::open(rt, path) {

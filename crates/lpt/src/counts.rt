@@ -3,8 +3,8 @@
 use crate::end::tell_place;
 use std::alloc::{AllocError, Global};
 
-/// Tells how many packets of a stream have a fault, and how many octets are part of none, where
-/// there are any. In front stands what stream it is, where there are several.
+/// Tells how many packets of a stream have a fault, and how many octets are part of none, if
+/// there are any. In front stands what stream it is, if there are several.
 pub fn tell_no_packets(rt: &HostRuntime, stream: &str, damaged: u64, stray: u64) {
     if damaged == 0 && stray == 0 {
         return;

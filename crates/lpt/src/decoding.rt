@@ -67,10 +67,10 @@ impl Given {
 /// Prints what octets are as a packet: those of a word, or of standard input for `-`, where white
 /// space is passed over.
 ///
-/// Errors: `Read`, `Write` where a read or a write failed, `Memory`. What stands for no octets is
-/// no error here: it is reported on standard error, and the status says so. Where a part isn't read
-/// for the configured part size, a note on standard error says which one fits, if one does. Where
-/// more is asked for, the areas that they name are printed too, and which segment they are. Where
+/// Errors: `Read`, `Write` if a read or a write failed, `Memory`. What stands for no octets is
+/// no error here: it is reported on standard error, and the status says so. If a part isn't read
+/// for the configured part size, a note on standard error says which one fits, if one does. If
+/// more is asked for, the areas that they name are printed too, and which segment they are. If
 /// layouts are given, they are read by these, and the note says by which other one they would be.
 pub fn decode(rt: &HostRuntime, config: Config, words: &DecodeWords<'_>) -> Result<Status, Failure>
     requires { IsPartSize config.part_size }
@@ -254,7 +254,7 @@ fn tell_size(rt: &HostRuntime, octets: &[u8], p: u32)
     }
 }
 
-/// The kind of part that a packet carries, and the message's body; none where it carries none.
+/// The kind of part that a packet carries, and the message's body; none if it carries none.
 pub fn part_body<'a>(packet: &Packet<'a>) -> Option<(Kind, &'a [u8])> {
     match packet.kind {
         PacketKind::Tc => match read_tc(packet) {

@@ -128,7 +128,7 @@ impl Folder<'_> {
 
 /// Writes octets under another name, and gives them this one once all are there.
 ///
-/// Errors: `Write`, also where there is a file of this name; `Memory`.
+/// Errors: `Write`, also if there is a file of this name; `Memory`.
 pub fn write_new(rt: &HostRuntime, path: &str, octets: &[u8]) -> Result<(), Failure> {
     if fs::symlink_metadata(rt, path).is_ok() {
         let place = format!(in rt.alloc(); "{path} is there already");
@@ -167,10 +167,10 @@ fn missing_text(alloc: Global, behind: u64, name: Name, came: &Came) -> Result<S
 }
 
 /// Writes every message that packets carry, each into a file of its own in this folder, which is
-/// made where it isn't there.
+/// made if it isn't there.
 ///
-/// Errors: `Read` where the packets can't be opened or read, or their capture is wrong; `Write`
-/// where the folder can't be made, or a message can't be written into a file that isn't there yet;
+/// Errors: `Read` if the packets can't be opened or read, or their capture is wrong; `Write`
+/// if the folder can't be made, or a message can't be written into a file that isn't there yet;
 /// `Memory`.
 pub fn join_each<'a>(
     rt: &'a HostRuntime,

@@ -32,7 +32,7 @@ pub struct Failure {
 }
 
 impl Failure {
-    /// A fault with where it is and what is wrong there. Where there is no memory for that, it is
+    /// A fault with where it is and what is wrong there. If there is no memory for that, it is
     /// reported without.
     pub fn at(fault: ToolFault, place: Result<String, AllocError>) -> Self {
         Failure {
@@ -78,7 +78,7 @@ impl From<SettingsFault> for Failure {
 }
 
 /// The status by which the program ends. Before that, two lines go to standard error: one names the
-/// fault, and where that is known, one says where it is and what is wrong there.
+/// fault, and if that is known, one says where it is and what is wrong there.
 ///
 /// An unreadable line has been reported on standard output, in its place.
 pub fn told(rt: &impl Eprint, ended: Result<Status, Failure>) -> Status {
@@ -131,7 +131,7 @@ fn named(rt: &impl Eprint, fault: ToolFault) -> Status {
     }
 }
 
-/// The status by which the program ends where its words ask for nothing that is to be done, after
+/// The status by which the program ends if its words ask for nothing that is to be done, after
 /// that was printed: a usage fault, or the help or the version that was asked for.
 pub fn explained<R: Print + Eprint>(rt: &R, alloc: Global, unasked: &NoCommand<'_>) -> Status {
     match unasked {
@@ -140,7 +140,7 @@ pub fn explained<R: Print + Eprint>(rt: &R, alloc: Global, unasked: &NoCommand<'
     }
 }
 
-/// The status by which the program ends where a word is refused, after it was told why.
+/// The status by which the program ends if a word is refused, after it was told why.
 pub fn word_refused(rt: &impl Eprint, alloc: Global, fault: &WordFault<'_>) -> Status {
     if matches!(fault, WordFault::Memory) {
         return named(rt, ToolFault::Memory);

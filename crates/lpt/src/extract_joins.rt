@@ -76,7 +76,7 @@ impl TakerAs for LayoutLosses<'_> {
     }
 }
 
-/// Writes the octets that dump reports hold which may come in parts: by the layouts of a file where
+/// Writes the octets that dump reports hold which may come in parts: by the layouts of a file if
 /// one is given, else by the profile. Beside what that gave it says whether parts never became
 /// whole, which standard error was told.
 pub fn extract_parts<K: Sink>(

@@ -20,11 +20,11 @@ use lpt_tool::ToolFault;
 use std::alloc::{AllocError, Global};
 use std::collections::BTreeMap;
 
-/// Writes the octets that dump reports hold: by the layouts of a file where one is given, else by
+/// Writes the octets that dump reports hold: by the layouts of a file if one is given, else by
 /// the profile.
 ///
-/// Errors: `Read` where the packets can't be opened or read, or their capture is wrong; `Config`
-/// where the layouts' file is too long; `Write`; `Memory`, also for an image that would be too
+/// Errors: `Read` if the packets can't be opened or read, or their capture is wrong; `Config`
+/// if the layouts' file is too long; `Write`; `Memory`, also for an image that would be too
 /// large.
 pub fn extract(
     rt: &HostRuntime,

@@ -12,7 +12,7 @@ use std::io::{self, Read, StdinLock};
 /// How many octets are asked for at a time.
 const CHUNK: usize = 4_096;
 
-/// What was read of a file, where it could be, and isn't too long.
+/// What was read of a file, if it could be, and isn't too long.
 type Found = Result<Option<Vec<u8>>, AllocError>;
 
 /// Standard input, in which each line that names a file has its octets in place of the name.

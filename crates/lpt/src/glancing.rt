@@ -14,7 +14,7 @@ use lpt_tool::ToolFault;
 
 /// Writes the picture of the packets at the path of these words, `-` for standard input.
 ///
-/// Errors: `Read` where the packets can't be opened or read, or their capture is wrong; `Write`,
+/// Errors: `Read` if the packets can't be opened or read, or their capture is wrong; `Write`,
 /// `Memory`.
 pub fn glance(
     rt: &HostRuntime,

@@ -28,7 +28,7 @@ pub struct GroundNotes {
 impl GroundNotes {
     /// The notes of a pass that begins, or that goes on from the file at this path.
     ///
-    /// Errors: `Read` where it can't be read, or is another job's; `Memory`.
+    /// Errors: `Read` if it can't be read, or is another job's; `Memory`.
     pub fn begin(
         rt: &HostRuntime,
         voice: Voice,

@@ -128,7 +128,7 @@ fn sentence(code: u16) -> &'static str {
     }
 }
 
-/// Whether the checksums that the reports of checks hold are those of this content. Where they
+/// Whether the checksums that the reports of checks hold are those of this content. If they
 /// aren't, it is told of which octets.
 pub fn compare_checks(
     rt: &HostRuntime,
@@ -152,7 +152,7 @@ pub fn compare_checks(
     Status::Refused
 }
 
-/// Whether these octets of a memory are this content. Where they aren't, it is told from which one
+/// Whether these octets of a memory are this content. If they aren't, it is told from which one
 /// on.
 pub fn compare_octets(rt: &HostRuntime, places: &Places, content: &[u8], octets: &[u8]) -> Status {
     let is_unlike = |pair: (&u8, &u8)| pair.0 != pair.1;

@@ -22,7 +22,7 @@ pub type Wire<W> = FromStd<Watched<W>>;
 
 /// Hears what comes on standard input, and waits so many milliseconds for it.
 ///
-/// Errors: `Read` where no thread could be started; `Memory`.
+/// Errors: `Read` if no thread could be started; `Memory`.
 pub fn hear<T: Threads + Wait + Clock + Copy + Drop + Send + 'static>(
     rt: &HostRuntime,
     threads: &T,
@@ -47,7 +47,7 @@ pub fn output_wire(rt: &HostRuntime) -> Wire<Printer<'_, HostRuntime>> {
 
 /// The FIFO at this path, to which they are.
 ///
-/// Errors: `Write` where it can't be opened.
+/// Errors: `Write` if it can't be opened.
 pub fn fifo_wire(rt: &HostRuntime, path: &str) -> Result<Wire<File>, Failure> {
     let mut options = OpenOptions::new();
     options.write(true);

@@ -27,8 +27,8 @@ use std::time::Clock;
 
 /// Carries what is asked of a memory to its end.
 ///
-/// Errors: `Read` where a file or standard input can't be read, or the job's file is another
-/// job's; `Write` where the requests or a file can't be written; `Memory`.
+/// Errors: `Read` if a file or standard input can't be read, or the job's file is another
+/// job's; `Write` if the requests or a file can't be written; `Memory`.
 pub fn ground<T: Threads + Wait + Clock + Copy + Drop + Send + 'static>(
     rt: &HostRuntime,
     threads: &T,

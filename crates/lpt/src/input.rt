@@ -62,7 +62,7 @@ pub type Packets = Span<Chain<Captured<Incoming>>>;
 
 /// The file at this path, or standard input for `-`, to be read.
 ///
-/// Errors: `Read` where it can't be opened.
+/// Errors: `Read` if it can't be opened.
 pub fn opened(rt: &HostRuntime, path: &str) -> Result<Incoming, Failure> {
     let input = Paced::new(input_at(rt, path)?, None);
     Ok(FromStd::new(Watched::new(input)))
@@ -70,7 +70,7 @@ pub fn opened(rt: &HostRuntime, path: &str) -> Result<Incoming, Failure> {
 
 /// The same of a long reading: this voice tells how far it is.
 ///
-/// Errors: `Read` where it can't be opened.
+/// Errors: `Read` if it can't be opened.
 pub fn opened_long(rt: &HostRuntime, path: &str, voice: Voice) -> Result<Incoming, Failure> {
     let input = input_at(rt, path)?;
     let pace = voice.pace(rt, input.size());
@@ -79,7 +79,7 @@ pub fn opened_long(rt: &HostRuntime, path: &str, voice: Voice) -> Result<Incomin
 
 /// The same of a script, of which so much is kept.
 ///
-/// Errors: `Read` where it can't be opened.
+/// Errors: `Read` if it can't be opened.
 pub fn opened_script(rt: &HostRuntime, path: &str, kept: Kept) -> Result<Script, Failure> {
     let input = input_at(rt, path)?;
     Ok(FromStd::new(Watched::new(Recalled::new(rt.alloc(), input, kept))))
@@ -102,7 +102,7 @@ fn input_at(rt: &HostRuntime, path: &str) -> Result<Input, Failure> {
 /// The octets of packets in the files at these paths, `-` for standard input, from a place up to
 /// another. All are opened before any is read. The voice tells how far the reading is.
 ///
-/// Errors: `Read` where one can't be opened; `Memory`.
+/// Errors: `Read` if one can't be opened; `Memory`.
 pub fn opened_packets(
     rt: &HostRuntime,
     voice: Voice,
@@ -151,7 +151,7 @@ pub fn name_of(path: &str) -> &str {
 
 /// All octets of a file that was opened at this path, or more than the addresses of a memory.
 ///
-/// Errors: `Read` where a read failed; `Memory`.
+/// Errors: `Read` if a read failed; `Memory`.
 pub fn octets_from(rt: &HostRuntime, path: &str, source: &mut Incoming) -> Result<Octets, Failure> {
     let mut octets = Vec::new(rt.alloc());
     for _ in 0..TEXTS_AT_MOST {
@@ -184,9 +184,9 @@ pub fn read_failure(rt: &HostRuntime, source: &Incoming, path: &str) -> Failure 
     }
 }
 
-/// Why the packets that are read at these paths failed, where a read did. Else standard error is
-/// told where they end before the place from which on they are read, and which captures end within
-/// a record, where the voice tells that: what stands in front of it was read.
+/// Why the packets that are read at these paths failed, if a read did. Else standard error is
+/// told if they end before the place from which on they are read, and which captures end within
+/// a record, if the voice tells that: what stands in front of it was read.
 pub fn packets_end(
     rt: &HostRuntime,
     voice: Voice,

@@ -23,13 +23,13 @@ use std::alloc::{AllocError, Global};
 enum Joined {
     /// Of the transaction that was asked for.
     One(Name, JoinReport),
-    /// Of all, where none was.
+    /// Of all, if none was.
     Each(Option<JoinEnd>, Gatherings, Skips),
 }
 
 /// Writes the message that packets carry.
 ///
-/// Errors: `Read` where the packets can't be opened or read, or their capture is wrong; `Write`,
+/// Errors: `Read` if the packets can't be opened or read, or their capture is wrong; `Write`,
 /// `Memory`.
 pub fn join(
     rt: &HostRuntime,
@@ -147,7 +147,7 @@ fn told(
     Ok(status)
 }
 
-/// Says on standard error what was passed over, and why, where parts of this name were wanted, or
+/// Says on standard error what was passed over, and why, if parts of this name were wanted, or
 /// of any. The only error is out of memory.
 pub fn tell_skips(
     rt: &HostRuntime,
@@ -302,7 +302,7 @@ fn tell_missing(
     tell_of(rt, config, direction, name, text)
 }
 
-/// Says this of a transaction on standard error, where there was memory for it.
+/// Says this of a transaction on standard error, if there was memory for it.
 pub fn tell_of(
     rt: &HostRuntime,
     config: &Config,
@@ -316,7 +316,7 @@ pub fn tell_of(
     tell(rt, format!(in rt.alloc(); "{direction} {id}: {text}"))
 }
 
-/// Says this on standard error, where there was memory for it.
+/// Says this on standard error, if there was memory for it.
 pub fn tell(rt: &HostRuntime, text: Result<String, AllocError>) -> Result<(), AllocError> {
     let text = text?;
     tell_place(rt, text.as_str());

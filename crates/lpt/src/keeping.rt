@@ -26,8 +26,8 @@ impl WholeFile for HostFile<'_> {
     }
 }
 
-/// The files that the words name, of which those of the memories are saved where that is asked for;
-/// that of the state is at this path, where it is kept. The only error is out of memory.
+/// The files that the words name, of which those of the memories are saved if that is asked for;
+/// that of the state is at this path, if it is kept. The only error is out of memory.
 pub fn kept_files<'a>(
     rt: &'a HostRuntime,
     words: &SpacecraftWords<'a>,
@@ -57,7 +57,7 @@ pub fn keep_failure(files: KeptFiles<HostFile<'_>>) -> Failure {
     }
 }
 
-/// Writes each memory into its file, also where another couldn't be written, and tells of each that
+/// Writes each memory into its file, also if another couldn't be written, and tells of each that
 /// couldn't but the last.
 ///
 /// Errors: that of the last one that couldn't be written.

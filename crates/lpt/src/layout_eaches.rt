@@ -110,7 +110,7 @@ impl Folder<'_> {
     }
 }
 
-/// Says what of a name never became whole, where this source is configured and packets are taken
+/// Says what of a name never became whole, if this source is configured and packets are taken
 /// from this octet on. The only error is out of memory.
 pub fn tell_lost(
     rt: &HostRuntime,
@@ -131,9 +131,9 @@ pub fn tell_lost(
 }
 
 /// Writes every message that packets carry, each into a file of its own in the folder at this path,
-/// which is made where it isn't there.
+/// which is made if it isn't there.
 ///
-/// Errors: `Read` where the packets can't be read, or their capture is wrong; `Write` where the
+/// Errors: `Read` if the packets can't be read, or their capture is wrong; `Write` if the
 /// folder can't be made, or a message can't be written into a file that isn't there yet; `Memory`.
 pub fn join_each<'a>(
     rt: &'a HostRuntime,

@@ -23,7 +23,7 @@ use std::alloc::{AllocError, Global};
 
 /// Writes the message that packets of a mission's layout carry.
 ///
-/// Errors: `Read` where a file can't be opened or read, or a capture is wrong; `Config` where the
+/// Errors: `Read` if a file can't be opened or read, or a capture is wrong; `Config` if the
 /// layouts' file is too long; `Write`, `Memory`.
 pub fn join(
     rt: &HostRuntime,
@@ -92,7 +92,7 @@ fn name_in<'a>(
     }))
 }
 
-/// The name that is meant where this source is configured: 0 where the layout has no field for it.
+/// The name that is meant if this source is configured: 0 if the layout has no field for it.
 pub fn user_of(given: WideName, source: u32, width: Width) -> u32 {
     match width {
         Width::Absent => 0,
@@ -258,7 +258,7 @@ fn tell_size(
     Ok(gathering.against)
 }
 
-/// What names a transaction where this source is configured, behind its direction.
+/// What names a transaction if this source is configured, behind its direction.
 pub fn who(
     alloc: Global,
     source: u32,

@@ -19,10 +19,10 @@ use std::str;
 /// The octets of a part's identifier and number.
 pub const PART_FIELDS: usize = 4;
 
-/// The layouts of the file at this path; none where they are refused, after standard error was told
+/// The layouts of the file at this path; none if they are refused, after standard error was told
 /// where and why.
 ///
-/// Errors: `Read` where the file can't be opened or read; `Config` where it has more than 1,048,576
+/// Errors: `Read` if the file can't be opened or read; `Config` if it has more than 1,048,576
 /// octets; `Memory`.
 pub fn read(rt: &HostRuntime, path: &str) -> Result<Option<Layouts>, Failure>
     ensures { IfOk result (λ l. IfSome l SizesFit) }
@@ -56,8 +56,8 @@ fn complaint(alloc: Global, path: &str, text: &str) -> Result<String, AllocError
     }
 }
 
-/// The layouts of the file at this path; or, where none is given, the profile's with parts of `p`
-/// octets; none where the file's are refused, after standard error was told so.
+/// The layouts of the file at this path; or, if none is given, the profile's with parts of `p`
+/// octets; none if the file's are refused, after standard error was told so.
 ///
 /// Errors: as `read`.
 pub fn own_or_read(rt: &HostRuntime, p: u32, path: Option<&str>) -> Result<Option<Layouts>, Failure>
@@ -70,13 +70,13 @@ pub fn own_or_read(rt: &HostRuntime, p: u32, path: Option<&str>) -> Result<Optio
     }
 }
 
-/// Says on standard error by which other layout a part would be read, where there is one.
+/// Says on standard error by which other layout a part would be read, if there is one.
 pub fn tell_hint(rt: &HostRuntime, hint: Option<Hint>) {
     tell_other(rt, "this layout", "", hint);
 }
 
 /// The same of the packets at the front of octets. That parts would be read without a packet error
-/// control is said only where several packets fail a test and no part is read, since a damaged one
+/// control is said only if several packets fail a test and no part is read, since a damaged one
 /// may look so.
 pub fn tell_front(rt: &HostRuntime, layouts: &Layouts, octets: &[u8])
     requires { SizesFit layouts.now }
@@ -91,7 +91,7 @@ pub fn tell_own_front(rt: &HostRuntime, octets: &[u8]) {
 }
 
 /// The kind of part whose message type stands in a packet of the profile, and how long the secondary
-/// header of that type is; none where it has another type. Nothing else of it is looked at.
+/// header of that type is; none if it has another type. Nothing else of it is looked at.
 pub fn kind_of(packet: &[u8]) -> Option<(Kind, usize)> {
     if packet.len() < 9 {
         return None;

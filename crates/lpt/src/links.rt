@@ -10,7 +10,7 @@ use lpt_text::StreamFault;
 
 /// Carries packets over a link that loses, and tells how many were lost, repeated and so on.
 ///
-/// Errors: `Read` where the packets can't be opened or read, or their capture is wrong; `Write`,
+/// Errors: `Read` if the packets can't be opened or read, or their capture is wrong; `Write`,
 /// `Memory`.
 pub fn link(rt: &HostRuntime, voice: Voice, words: &LinkWords<'_>) -> Result<Status, Failure> {
     let voice = voice.beside_output(rt);

@@ -11,7 +11,7 @@ use lpt_tool::ToolFault;
 
 /// Writes what is unreadable in a script, the one at this path or standard input for `-`.
 ///
-/// Errors: `Read` where the script can't be opened or read; `Write`, `Memory`.
+/// Errors: `Read` if the script can't be opened or read; `Write`, `Memory`.
 pub fn lint(rt: &HostRuntime, script: &str) -> Result<Status, Failure> {
     let mut source = opened(rt, script)?;
     let status = lint_from(rt, script, &mut source);

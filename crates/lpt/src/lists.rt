@@ -24,9 +24,9 @@ use lpt_text::StreamFault;
 /// So many octets in front are looked at for parts of another layout.
 const FRONT: usize = 131_072;
 
-/// Lists the packets of a stream: by the layouts of a file where one is given, else by the profile.
+/// Lists the packets of a stream: by the layouts of a file if one is given, else by the profile.
 ///
-/// Errors: `Read` where a file can't be opened or read, or a capture is wrong; `Config` where the
+/// Errors: `Read` if a file can't be opened or read, or a capture is wrong; `Config` if the
 /// layouts' file is too long; `Write`, `Memory`.
 pub fn list(
     rt: &HostRuntime,

@@ -10,7 +10,7 @@ use std::process;
 /// beside it whose name ends in `.lock`, which stays, with the number of the process that held it
 /// last. Whatever ends a process, the system gives up its locks.
 ///
-/// Errors: `Write` where another process holds it, or it can't be had.
+/// Errors: `Write` if another process holds it, or it can't be had.
 pub fn locked(rt: &HostRuntime, path: &str) -> Result<File, Failure> {
     let Ok(name) = format!(in rt.alloc(); "{path}.lock") else {
         return Err(Failure::from(ToolFault::Memory));

@@ -10,7 +10,7 @@ use std::fs;
 
 /// The memories whose first contents are the files that the words name.
 ///
-/// Errors: `Read` where one can't be read; `Config` where a file is empty or too long, there are
+/// Errors: `Read` if one can't be read; `Config` if a file is empty or too long, there are
 /// more than 16, or two of one identifier; `Memory`.
 pub fn memories_of(rt: &HostRuntime, words: &SpacecraftWords<'_>) -> Result<Memories, Failure> {
     let count = words.memories.len();

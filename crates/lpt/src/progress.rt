@@ -17,7 +17,7 @@ pub struct Voice {
 
 impl Voice {
     /// That of a command, of which nothing is to be told but what is wrong, or more. How far it is
-    /// is told where standard error is a terminal.
+    /// is told if standard error is a terminal.
     pub fn new(rt: &HostRuntime, quiet: bool) -> Voice {
         Voice {
             tells: !quiet,
@@ -25,7 +25,7 @@ impl Voice {
         }
     }
 
-    /// The same of a command that writes while it reads: how far it is isn't told where standard
+    /// The same of a command that writes while it reads: how far it is isn't told if standard
     /// output is a terminal too.
     pub fn beside_output(self, rt: &HostRuntime) -> Voice {
         Voice {
@@ -57,7 +57,7 @@ impl Voice {
         }
     }
 
-    /// How far a reading of so many octets is, where that is told.
+    /// How far a reading of so many octets is, if that is told.
     pub fn pace(self, rt: &HostRuntime, of: Option<u64>) -> Option<Pace> {
         if !self.paced {
             return None;
@@ -112,7 +112,7 @@ impl Pace {
     }
 }
 
-/// A reader, and how far it is, where that is told.
+/// A reader, and how far it is, if that is told.
 #[derive(Drop)]
 pub struct Paced<R> {
     inner: R,

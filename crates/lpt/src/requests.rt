@@ -19,7 +19,7 @@ use std::alloc::{AllocError, Global};
 
 /// Writes what is asked of a memory as telecommands, one behind the other: as many as it needs.
 ///
-/// Errors: `Read` where a file can't be opened or read; `Write`, `Memory`.
+/// Errors: `Read` if a file can't be opened or read; `Write`, `Memory`.
 pub fn request(
     rt: &HostRuntime,
     config: &Config,

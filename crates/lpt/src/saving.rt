@@ -21,11 +21,11 @@ pub fn write_beside(rt: &HostRuntime, path: &str, octets: &[u8]) -> Result<(), F
     }
 }
 
-/// The same, and forces to the disk first the octets, and then the name. Where this path is a
-/// symbolic link, it is the file behind it that is written. The file's mode stays, and where the
+/// The same, and forces to the disk first the octets, and then the name. If this path is a
+/// symbolic link, it is the file behind it that is written. The file's mode stays, and if the
 /// system allows it the owner.
 ///
-/// Errors: `Write`; the file at this path is as it was then, or has these octets where its name
+/// Errors: `Write`; the file at this path is as it was then, or has these octets if its name
 /// alone couldn't be forced. `Memory`.
 pub fn write_for_good(rt: &HostRuntime, path: &str, octets: &[u8]) -> Result<(), Failure> {
     let path = match file_behind(rt, path) {

@@ -16,7 +16,7 @@ use lpt_text::FromStd;
 use lpt_tool::ToolFault;
 use std::io::IsTerminal;
 
-/// What a shell writes before each line, where standard input is a terminal.
+/// What a shell writes before each line, if standard input is a terminal.
 const PROMPT: &str = "lpt> ";
 
 /// What standard error says before the first of them.
@@ -28,8 +28,8 @@ type Lines<'r> = FromStd<Watched<Filled<'r>>>;
 /// Answers the lines of standard input on a new world of the configuration that the words give. A
 /// line that is unreadable counts as one that is refused.
 ///
-/// Errors: `Config` where the configuration is refused; `Read` where it or standard input can't be
-/// read, `Write` where a write failed, `Memory`.
+/// Errors: `Config` if the configuration is refused; `Read` if it or standard input can't be
+/// read, `Write` if a write failed, `Memory`.
 pub fn answer(rt: &HostRuntime, settings: &SettingWords<'_>) -> Result<Status, Failure> {
     let (config, memories, _) = configuration::read(rt, settings)?;
     let mut out = match output(rt) {

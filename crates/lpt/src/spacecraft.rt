@@ -31,8 +31,8 @@ use std::io::ErrorKind;
 /// use that file meanwhile. Octets that are no packet end it, or with `--resync` are passed over:
 /// the status is then the same.
 ///
-/// Errors: `Read` where a file or standard input can't be read, or a file isn't what was kept;
-/// `Config` where the files make no memories; `Write`, also where a file can't be written, or
+/// Errors: `Read` if a file or standard input can't be read, or a file isn't what was kept;
+/// `Config` if the files make no memories; `Write`, also if a file can't be written, or
 /// another process uses that of the state; `Memory`.
 pub fn spacecraft(
     rt: &HostRuntime,

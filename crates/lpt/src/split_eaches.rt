@@ -17,10 +17,10 @@ use lpt_text::StreamFault;
 use lpt_tool::ToolFault;
 use std::alloc::{AllocError, Global};
 
-/// Writes the packets of the parts of each message of a stream: by the layouts of a file where one
+/// Writes the packets of the parts of each message of a stream: by the layouts of a file if one
 /// is given, else by the profile.
 ///
-/// Errors: `Read` where a file can't be opened or read; `Config` where the layouts' file is too
+/// Errors: `Read` if a file can't be opened or read; `Config` if the layouts' file is too
 /// long; `Write`, `Memory`.
 pub fn split_all(
     rt: &HostRuntime,

@@ -55,10 +55,10 @@ impl Fill {
     }
 }
 
-/// Writes the packets of a message's parts: by the layouts of a file where one is given, else by
+/// Writes the packets of a message's parts: by the layouts of a file if one is given, else by
 /// the profile.
 ///
-/// Errors: `Read` where a file can't be opened or read; `Config` where the layouts' file is too
+/// Errors: `Read` if a file can't be opened or read; `Config` if the layouts' file is too
 /// long; `Write`, `Memory`.
 pub fn split(
     rt: &HostRuntime,
@@ -106,7 +106,7 @@ fn wanted_of<'a>(
     }
 }
 
-/// The name that the words give, where the layout has room for it.
+/// The name that the words give, if the layout has room for it.
 ///
 /// Errors: `Id`.
 pub fn name_in<'a>(words: &SplitWords<'a>, tailored: &Tailored) -> Result<WideName, WordFault<'a>> {
@@ -225,7 +225,7 @@ fn unsplit(
     status_of(end)
 }
 
-/// The status where a message isn't split, so.
+/// The status if a message isn't split, so.
 pub fn status_of(end: SplitEnd) -> Status {
     match end {
         SplitEnd::Written(_) => Status::Done,

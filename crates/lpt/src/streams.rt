@@ -20,7 +20,7 @@ pub fn output(rt: &HostRuntime) -> Result<Output<'_>, ToolFault> {
     }
 }
 
-/// Writes what the output has kept back, and gives why that failed, or a write before it. Where
+/// Writes what the output has kept back, and gives why that failed, or a write before it. If
 /// nobody reads the output any more, nothing is reported of it.
 ///
 /// Errors: `Write`.

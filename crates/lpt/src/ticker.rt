@@ -20,7 +20,7 @@ pub struct Ticker {
 impl Ticker {
     /// A clock whose ticks come every so many milliseconds from now on; at 0 never.
     ///
-    /// Errors: `Read` where the machine has no clock.
+    /// Errors: `Read` if the machine has no clock.
     pub fn new(rt: &HostRuntime, millis: u32) -> Result<Self, Failure> {
         match Instant::now(rt) {
             Ok(begun) => Ok(Ticker {

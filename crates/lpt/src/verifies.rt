@@ -17,7 +17,7 @@ use std::alloc::{AllocError, Global};
 /// Says what became of each request, by the reports on it, or writes the packets of those that are
 /// open, and then says what of requests and reports was passed over.
 ///
-/// Errors: `Read` where requests or reports can't be opened or read, or their capture is wrong;
+/// Errors: `Read` if requests or reports can't be opened or read, or their capture is wrong;
 /// `Write`, `Memory`.
 pub fn verify(rt: &HostRuntime, voice: Voice, words: &VerifyWords<'_>) -> Result<Status, Failure> {
     let mut requests = requests_at(rt, voice, words.requests)?;

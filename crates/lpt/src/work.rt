@@ -29,9 +29,9 @@ pub enum RunKind {
 /// Runs a script on a new world: the one at this path, or standard input for `-`. The world is that
 /// of the configuration that the words give.
 ///
-/// Errors: `Config` where that is refused; `Line` at an unreadable line, after standard error was
-/// told why it is; `Read` where the script or the configuration can't be opened or read, `Write`
-/// where a write failed, `Memory`, `Threads` where the threads failed.
+/// Errors: `Config` if that is refused; `Line` at an unreadable line, after standard error was
+/// told why it is; `Read` if the script or the configuration can't be opened or read, `Write`
+/// if a write failed, `Memory`, `Threads` if the threads failed.
 pub fn run<T: Threads + Wait + Sync>(
     rt: &HostRuntime,
     threads: &T,

@@ -10,7 +10,7 @@ ghost use Rattle.lpt_apart.specs.Whole.{EndsApartWithholdNothing, EndsWithClocks
 ghost use Rattle.lpt_apart.specs.Worlds.{EndsAreAWorld, EndsKeepThePromise};
 
 /// Take two nodes of one configuration, one on each side, and any list of steps of them that can
-/// happen, where the network hands over only what the other end put out, and what is neither a part
+/// happen, if the network hands over only what the other end put out, and what is neither a part
 /// nor a request. Then there is a legal journal of a world that shows it, which has both nodes as
 /// they are, the workers' jobs, the memories and the log.
 pub fn ends_are_a_world()
@@ -25,7 +25,7 @@ pub fn ends_keep_the_promise()
     ensures { EndsKeepThePromise }
 {}
 
-/// The same, where a name is freed at its receiver first and then at its sender, so that no call is
+/// The same, if a name is freed at its receiver first and then at its sender, so that no call is
 /// of both ends: but for names that are freed at their receivers alone, the ends are a world's.
 pub fn ends_apart_are_a_world()
     ensures { EndsApartAreAWorld }
@@ -42,14 +42,14 @@ pub fn ends_with_clocks_keep_the_promise()
     ensures { EndsWithClocksKeepThePromise }
 {}
 
-/// Whatever a world does, two ends can do: each legal journal is steps of them, where what a lane
+/// Whatever a world does, two ends can do: each legal journal is steps of them, if what a lane
 /// delivers is handed over, and they come to the nodes, jobs, memories and log of a world that
 /// shows it. So of the network no more is asked than a world asks of its link.
 pub fn worlds_are_ends()
     ensures { WorldsAreEnds }
 {}
 
-/// Steps that two ends can do they can also do where a name is freed at its receiver first and then
+/// Steps that two ends can do they can also do if a name is freed at its receiver first and then
 /// at its sender.
 pub fn steps_are_moves()
     ensures { StepsAreMoves }
@@ -57,18 +57,18 @@ pub fn steps_are_moves()
 
 /// Two ends withhold nothing that came whole. Take what was last opened under a name. If each of
 /// its parts was handed over since then, and since its receiver was last restarted, while there was
-/// room, the log says since then that it was released; but where it says since then that its
+/// room, the log says since then that it was released, unless it says since then that its
 /// reception expired or was broken off. Nothing is said of parts that don't come.
 pub fn ends_withhold_nothing()
     ensures { EndsWithholdNothing }
 {}
 
-/// So it is where a name is freed at its receiver first and then at its sender.
+/// So it is if a name is freed at its receiver first and then at its sender.
 pub fn ends_apart_withhold_nothing()
     ensures { EndsApartWithholdNothing }
 {}
 
-/// And so it is where their clocks begin at numbers of their own.
+/// And so it is if their clocks begin at numbers of their own.
 pub fn ends_with_clocks_withhold_nothing()
     ensures { EndsWithClocksWithholdNothing }
 {}
@@ -84,7 +84,7 @@ pub fn moves_bring_the_same()
 {}
 
 /// Take two ends apart that read a request at once, and drop some of them: before they are read,
-/// where a message of no octets is read in their place, or once they stand at the front and were
+/// if a message of no octets is read in their place, or once they stand at the front and were
 /// read. Each request that was released is one that ground asked, or the message last opened under
 /// its name. The memories are their first content, changed by the executed requests in order of
 /// release, and what was dropped isn't among these.
@@ -94,13 +94,13 @@ pub fn ends_that_drop_serve()
 
 /// Such ends withhold no request that came whole. Take what was last opened upwards under a name.
 /// If each part of it was handed over since then, and since the spacecraft was last restarted,
-/// while there was room, it was released since; but where its reception expired or was broken off.
+/// while there was room, it was released since, unless its reception expired or was broken off.
 pub fn ends_that_drop_withhold_no_request()
     ensures { EndsThatDropWithholdNoRequest }
 {}
 
 /// Whatever such ends did before, nothing is put out and nothing is opened of a request that was
-/// dropped: neither when it is dropped nor when its place is passed over. What is put out where a
+/// dropped: neither when it is dropped nor when its place is passed over. What is put out if a
 /// request is executed are the reports of this request, as it was read, and it is the newest of
 /// those that were executed.
 pub fn dropped_is_not_reported()

@@ -29,8 +29,8 @@ pub fn kept_ends_keep_the_promise()
 /// comes to the nodes, jobs and memories that the machines have; so they keep the promise, and
 /// withhold nothing that came whole.
 ///
-/// A machine may be reset where the other end has done nothing that it couldn't do without what is
-/// deleted: where it was handed no packet that was put out since the last writing, and freed no
+/// A machine may be reset if the other end has done nothing that it couldn't do without what is
+/// deleted: if it was handed no packet that was put out since the last writing, and freed no
 /// name because of it.
 pub fn reset_ends_keep_the_promise()
     ensures { ResetEndsKeepThePromise }

@@ -23,8 +23,8 @@ pub struct Areas {
 }
 
 /// The areas that a message of this direction, service and subtype names in its body. There are
-/// none where it is no load, dump or check of raw memory, nor a report on a dump or a check; or
-/// where the body ends before the first area's length, or says that there is no area, or that the
+/// none if it is no load, dump or check of raw memory, nor a report on a dump or a check; or
+/// if the body ends before the first area's length, or says that there is no area, or that the
 /// first has no octets.
 #[tactic(auto, unfolding(crate::specs::Areas::areas_in))]
 pub fn read_areas(direction: Direction, service: u8, subtype: u8, body: &[u8]) -> Option<Areas>

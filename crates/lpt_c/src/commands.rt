@@ -39,7 +39,7 @@ pub struct LptTcHead {
 pub struct LptTc {
     /// What its headers say.
     pub head: LptTcHead,
-    /// Where the body stands in the octets that were read.
+    /// If the body stands in the octets that were read.
     pub at: usize,
     /// How many octets the body has.
     pub len: usize,
@@ -80,8 +80,8 @@ pub fn lpt_read_tc(octets: &[u8], out: &mut LptTc) -> u32
 
 /// Writes a telecommand's whole packet to the front of a buffer.
 ///
-/// 0; 102 where the APID is above 2046, the count above 16,383 or the flags above 15; 14 where the
-/// packet would have more than 65,542 octets; 103 where the buffer is too short. At 0 and at 103
+/// 0; 102 if the APID is above 2046, the count above 16,383 or the flags above 15; 14 if the
+/// packet would have more than 65,542 octets; 103 if the buffer is too short. At 0 and at 103
 /// `needed` says how many octets the packet has, 13 more than the body.
 #[tactic(auto, unfolding(crate::specs::Standing::rest_in))]
 pub fn lpt_write_tc(head: &LptTcHead, body: &[u8], out: &mut [u8], needed: &mut usize) -> u32
@@ -95,7 +95,7 @@ pub fn lpt_write_tc(head: &LptTcHead, body: &[u8], out: &mut [u8], needed: &mut 
 /// Does the same of a body of so many octets that stands in the buffer already, from `out[11]` on,
 /// where it stands in the packet.
 ///
-/// It answers as `lpt_write_tc` does of those octets. Where the answer isn't 0 the buffer is as it
+/// It answers as `lpt_write_tc` does of those octets. If the answer isn't 0 the buffer is as it
 /// was.
 #[tactic(auto, unfolding(crate::specs::Standing::rest_in))]
 pub fn lpt_build_tc(head: &LptTcHead, body_len: usize, out: &mut [u8], needed: &mut usize) -> u32
@@ -149,7 +149,7 @@ fn fill_tc(head: &LptTcHead, body: Rest<'_>, out: &mut [u8], needed: &mut usize)
 /// Gives the request ID of a telecommand of this head, whatever its body: the first four octets of
 /// its packet as a number.
 ///
-/// 0; 102 where the APID is above 2046, the count above 16,383 or the flags above 15.
+/// 0; 102 if the APID is above 2046, the count above 16,383 or the flags above 15.
 pub fn lpt_request_id(head: &LptTcHead, id: &mut u32) -> u32
     ensures code { result ≡ (if tc_fits head.now then done else range) }
     ensures id { (body : List ℕ) → result ≡ done → be id.new 4 ≡ take 4 (tc_packet head.now body) }

@@ -6,7 +6,7 @@
 //! No call takes memory, and each is total: whatever the octets and the numbers are, it answers 0,
 //! or the number of what is wrong, and then it has left all but a reported length as it was. A
 //! writer writes to the front of a buffer and leaves the rest of it; it reports how many octets it
-//! needs also where the buffer is too short. The numbers are those of the faults, and a few of this
+//! needs also if the buffer is too short. The numbers are those of the faults, and a few of this
 //! library's own (`codes`). A caller in C promises what the types of the parameters say: that
 //! lengths are true, that no pointer is null, and that nothing overlaps.
 #![tactic(auto)]

@@ -25,7 +25,7 @@ pub struct LptPart {
     pub number: u16,
     /// 1 the first part, 2 an intermediate one, 3 the last.
     pub kind: u32,
-    /// Where the part's octets stand in the body that was read.
+    /// If the part's octets stand in the body that was read.
     pub at: usize,
     /// How many octets the part has.
     pub len: usize,
@@ -35,7 +35,7 @@ pub struct LptPart {
 const TRANSFER: u8 = 13;
 
 /// What a message of this service and subtype is, in a packet of this kind: 1 the first part of a
-/// message, 2 an intermediate one, 3 the last; 0 where it carries no part, or the packet's kind is
+/// message, 2 an intermediate one, 3 the last; 0 if it carries no part, or the packet's kind is
 /// above 1.
 pub fn lpt_part_kind(packet_kind: u32, service: u8, subtype: u8) -> u32
     ensures { result ≡ carried_kind (kind_of_number packet_kind) service subtype }
@@ -48,7 +48,7 @@ pub fn lpt_part_kind(packet_kind: u32, service: u8, subtype: u8) -> u32
     }
 }
 
-/// How many parts of `part_size` octets a message of this length has; 0 where the size isn't 4 to
+/// How many parts of `part_size` octets a message of this length has; 0 if the size isn't 4 to
 /// 1024, or the message has more than 65,542 octets.
 pub fn lpt_part_count(message_len: usize, part_size: u32) -> u32
     ensures { result ≡ count_told message_len part_size }
@@ -61,7 +61,7 @@ pub fn lpt_part_count(message_len: usize, part_size: u32) -> u32
 
 /// Reads a message's body as a part of this kind, for parts of `part_size` octets.
 ///
-/// 0, and `out` says what it is; 102 where the kind isn't 1 to 3 or the size isn't 4 to 1024; 20 to
+/// 0, and `out` says what it is; 102 if the kind isn't 1 to 3 or the size isn't 4 to 1024; 20 to
 /// 23, the first fault of a body that is no such part.
 pub fn lpt_read_part(kind: u32, body: &[u8], part_size: u32, out: &mut LptPart) -> u32
     ensures code { result ≡ code_read (part_read (kind_named kind) body.now part_size) }
@@ -91,8 +91,8 @@ pub fn lpt_read_part(kind: u32, body: &[u8], part_size: u32, out: &mut LptPart) 
 
 /// Writes the body of a message that carries a part to the front of a buffer.
 ///
-/// 0; 102 where the kind isn't 1 to 3 or the size isn't 4 to 1024; 21, 22 or 23 where there is no
-/// part of this kind, number and length; 103 where the buffer is too short. At 0 and at 103
+/// 0; 102 if the kind isn't 1 to 3 or the size isn't 4 to 1024; 21, 22 or 23 if there is no
+/// part of this kind, number and length; 103 if the buffer is too short. At 0 and at 103
 /// `needed` says how many octets the body has, 4 more than the part.
 #[tactic(auto, unfolding(crate::specs::Standing::rest_in))]
 pub fn lpt_write_part(
@@ -125,7 +125,7 @@ pub fn lpt_write_part(
 /// Does the same of a part of so many octets that stands in the buffer already, from `out[4]` on,
 /// where it stands in the body.
 ///
-/// It answers as `lpt_write_part` does of those octets. Where the answer isn't 0 the buffer is as
+/// It answers as `lpt_write_part` does of those octets. If the answer isn't 0 the buffer is as
 /// it was.
 #[tactic(auto, unfolding(crate::specs::Standing::rest_in))]
 pub fn lpt_build_part(
@@ -200,8 +200,8 @@ fn write_part(
 /// Writes the body of the message that carries the part of a number, in parts of `part_size`
 /// octets, to the front of a buffer, and gives the part's kind, 1 to 3.
 ///
-/// 0; 102 where the size isn't 4 to 1024; 42 where the message isn't longer than a part, 43 where
-/// it has more than 65,542 octets; 46 where it has no part of that number; 103 where the buffer is
+/// 0; 102 if the size isn't 4 to 1024; 42 if the message isn't longer than a part, 43 if
+/// it has more than 65,542 octets; 46 if it has no part of that number; 103 if the buffer is
 /// too short. At 0 and at 103 the kind is written, and `needed` says how many octets the body has.
 #[tactic(auto, unfolding(crate::specs::Standing::rest_in, crate::specs::Standing::rest_len))]
 pub fn lpt_slice_part(

@@ -41,7 +41,7 @@ pub struct LptTmHead {
 pub struct LptTm {
     /// What its headers say.
     pub head: LptTmHead,
-    /// Where the body stands in the octets that were read.
+    /// If the body stands in the octets that were read.
     pub at: usize,
     /// How many octets the body has.
     pub len: usize,
@@ -85,8 +85,8 @@ pub fn lpt_read_tm(octets: &[u8], out: &mut LptTm) -> u32
 /// Writes telemetry's whole packet to the front of a buffer. The status is written as 0, whatever
 /// the head's is.
 ///
-/// 0; 102 where the APID is above 2046, the count above 16,383 or the status above 15; 14 where the
-/// packet would have more than 65,542 octets; 103 where the buffer is too short. At 0 and at 103
+/// 0; 102 if the APID is above 2046, the count above 16,383 or the status above 15; 14 if the
+/// packet would have more than 65,542 octets; 103 if the buffer is too short. At 0 and at 103
 /// `needed` says how many octets the packet has, 19 more than the body.
 #[tactic(auto, unfolding(crate::specs::Standing::rest_in))]
 pub fn lpt_write_tm(head: &LptTmHead, body: &[u8], out: &mut [u8], needed: &mut usize) -> u32
@@ -100,7 +100,7 @@ pub fn lpt_write_tm(head: &LptTmHead, body: &[u8], out: &mut [u8], needed: &mut 
 /// Does the same of a body of so many octets that stands in the buffer already, from `out[17]` on,
 /// where it stands in the packet.
 ///
-/// It answers as `lpt_write_tm` does of those octets. Where the answer isn't 0 the buffer is as it
+/// It answers as `lpt_write_tm` does of those octets. If the answer isn't 0 the buffer is as it
 /// was.
 #[tactic(auto, unfolding(crate::specs::Standing::rest_in))]
 pub fn lpt_build_tm(head: &LptTmHead, body_len: usize, out: &mut [u8], needed: &mut usize) -> u32

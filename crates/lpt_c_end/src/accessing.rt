@@ -26,7 +26,7 @@ use std::collections::VecDeque;
 pub struct LptAccess {
     /// The identifier of the memory.
     pub memory: u8,
-    /// 1 where they are written, 0 where they are read.
+    /// 1 if they are written, 0 if they are read.
     pub write: u8,
     /// The address of the first octet.
     pub address: u32,
@@ -37,8 +37,8 @@ pub struct LptAccess {
 /// Says what the oldest request, which has been read, does to a memory, by a number from 0: what is
 /// written, or what is read, in this order. A request that isn't right does nothing.
 ///
-/// 0; 106 where the handle is empty; 51 where there is no request, as always on ground; 52 where
-/// the oldest wasn't read; 109 where it does no more. The end stays as it is.
+/// 0; 106 if the handle is empty; 51 if there is no request, as always on ground; 52 if
+/// the oldest wasn't read; 109 if it does no more. The end stays as it is.
 pub fn lpt_end_access(alloc: Global, end: &mut LptEnd, number: usize, access: &mut LptAccess) -> u32
     ensures code { result ≡ answer (refusal_by (access_refusal number) end.old.held.value) }
     ensures told { result ≡ 0 → IfHeld (IsAccess number access.new) end.old.held.value }
@@ -56,8 +56,8 @@ pub fn lpt_end_access(alloc: Global, end: &mut LptEnd, number: usize, access: &m
 /// Copies the octets that the oldest request, which has been read, writes by an access to the front
 /// of a buffer.
 ///
-/// 0; 106 where the handle is empty; 51 where there is no request, as always on ground; 52 where
-/// the oldest wasn't read; 109 where it writes nothing so; 103 where the buffer is too short. At 0
+/// 0; 106 if the handle is empty; 51 if there is no request, as always on ground; 52 if
+/// the oldest wasn't read; 109 if it writes nothing so; 103 if the buffer is too short. At 0
 /// and at 103 `needed` says how many octets there are.
 pub fn lpt_end_access_octets(
     alloc: Global,
@@ -79,13 +79,13 @@ pub fn lpt_end_access_octets(
     code
 }
 
-/// Executes the oldest request, which has been read, where the memories are with the caller: by the
+/// Executes the oldest request, which has been read, if the memories are with the caller: by the
 /// octets that they have in what it reads, those of one access behind those of the other, and none
-/// where it reads nothing. Says what became of it. Its reports are to be sent.
+/// if it reads nothing. Says what became of it. Its reports are to be sent.
 ///
-/// 0; 106 where the handle is empty; 51 where there is no request, as always on ground; 119 where
-/// the memories are in the end; 52 where the oldest wasn't read; 120 where it reads more octets, or
-/// fewer; 110 where packets are to be sent first; 58 when out of memory. Then nothing has changed.
+/// 0; 106 if the handle is empty; 51 if there is no request, as always on ground; 119 if
+/// the memories are in the end; 52 if the oldest wasn't read; 120 if it reads more octets, or
+/// fewer; 110 if packets are to be sent first; 58 when out of memory. Then nothing has changed.
 pub fn lpt_end_execute_given(
     alloc: Global,
     end: &mut LptEnd,
@@ -111,7 +111,7 @@ pub fn lpt_end_execute_given(
 /// Drops the oldest request, which has been read, in place of executing it: it is never executed,
 /// and nothing is reported of it.
 ///
-/// 0; 106 where the handle is empty; 51 where there is no request, as always on ground; 52 where
+/// 0; 106 if the handle is empty; 51 if there is no request, as always on ground; 52 if
 /// the oldest wasn't read. Then nothing has changed. It takes no memory.
 pub fn lpt_end_drop_read(alloc: Global, end: &mut LptEnd) -> u32
     ensures code { result ≡ answer (refusal_by unready end.old.held.value) }

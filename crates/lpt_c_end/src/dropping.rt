@@ -18,9 +18,9 @@ use lpt_pus::read_tc;
 use std::alloc::Global;
 
 /// Says which service type and message subtype the oldest request has that was released and not
-/// read yet, where it is a telecommand of the end's APID.
+/// read yet, if it is a telecommand of the end's APID.
 ///
-/// 0; 106 where the handle is empty; 51 where there is none, as always on ground; 109 where it is
+/// 0; 106 if the handle is empty; 51 if there is none, as always on ground; 109 if it is
 /// no such telecommand. The end stays as it is.
 pub fn lpt_end_asked(alloc: Global, end: &mut LptEnd, service: &mut u8, subtype: &mut u8) -> u32
     ensures code { result ≡ answer (refusal_by asked_refusal end.old.held.value) }
@@ -41,7 +41,7 @@ pub fn lpt_end_asked(alloc: Global, end: &mut LptEnd, service: &mut u8, subtype:
 /// never executed. What stands in its place asks nothing, and `lpt_end_execute` lets it go in its
 /// turn, with no report.
 ///
-/// 0; 106 where the handle is empty; 51 where there is none, as always on ground; 58 when out of
+/// 0; 106 if the handle is empty; 51 if there is none, as always on ground; 58 when out of
 /// memory. Then nothing has changed.
 pub fn lpt_end_drop(alloc: Global, end: &mut LptEnd) -> u32
     ensures code { IsAnswer (refusal_by read_refusal end.old.held.value) result }

@@ -3,7 +3,7 @@
 //! has the rest. `tools/archive.py` makes a static library of these calls.
 //!
 //! Each call is total. It answers 0, or the number of the first fault that applies, and then the
-//! end is as it was; where nothing else refuses it, a call that takes memory may answer that there
+//! end is as it was; if nothing else refuses it, a call that takes memory may answer that there
 //! is none. What a node makes to be sent stands in the end's outbox until the caller lets it go.
 //! Memory comes from the three allocator functions of the kit, which the caller's program has.
 //!

@@ -23,11 +23,11 @@ use lpt_node::Node;
 use std::alloc::Global;
 use std::collections::VecDeque;
 
-/// Makes an end, and writes its address: of ground where `side` is 0, of the spacecraft where it is
+/// Makes an end, and writes its address: of ground if `side` is 0, of the spacecraft if it is
 /// 1, then with these memories, which begin with octets of the content. Those are copied.
 ///
-/// 0; 102 where the side or the mode is above 1; 71 to 75, the first value of the configuration
-/// that is out of its range; 25 where the memories of a spacecraft aren't 1 to 16 with distinct
+/// 0; 102 if the side or the mode is above 1; 71 to 75, the first value of the configuration
+/// that is out of its range; 25 if the memories of a spacecraft aren't 1 to 16 with distinct
 /// identifiers, of 1 to 1,048,576 octets each, all of the content; 58 when out of memory. The
 /// address is written only at 0.
 pub fn lpt_end_new(

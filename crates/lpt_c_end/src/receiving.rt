@@ -21,7 +21,7 @@ use std::alloc::{AllocError, Global};
 
 /// Takes the octets of a packet that was delivered to this end, and says what became of them.
 ///
-/// 0; 106 where the handle is empty; 108 where no number is left for a job; 58 when out of memory.
+/// 0; 106 if the handle is empty; 108 if no number is left for a job; 58 when out of memory.
 /// Then nothing has changed.
 pub fn lpt_end_packet(
     alloc: Global,
@@ -45,7 +45,7 @@ pub fn lpt_end_packet(
 
 /// Copies the message that the last packet released to the front of a buffer.
 ///
-/// 0; 106 where the handle is empty; 109 where the last packet released none; 103 where the buffer
+/// 0; 106 if the handle is empty; 109 if the last packet released none; 103 if the buffer
 /// is too short. At 0 and at 103 `needed` says how many octets the message has.
 pub fn lpt_end_released(alloc: Global, end: &mut LptEnd, out: &mut [u8], needed: &mut usize) -> u32
     ensures code { result ≡ code_for (released_of end.old.held.value) out.old }
@@ -67,7 +67,7 @@ pub fn lpt_end_released(alloc: Global, end: &mut LptEnd, out: &mut [u8], needed:
 /// Gives the reception up that is due, and writes its name; at the spacecraft a report of it is to
 /// be sent.
 ///
-/// 0; 106 where the handle is empty; 50 where none is due; 58 when out of memory. Then nothing has
+/// 0; 106 if the handle is empty; 50 if none is due; 58 when out of memory. Then nothing has
 /// changed.
 pub fn lpt_end_expire(alloc: Global, end: &mut LptEnd, name: &mut LptName) -> u32
     ensures code { IsAnswer (refusal_by expire_refusal end.old.held.value) result }

@@ -18,8 +18,8 @@ use std::alloc::Global;
 /// Makes the packet of a plain request, of this source, these acknowledgement flags, service type,
 /// message subtype and body: it is to be sent. Ground alone makes them.
 ///
-/// 0; 106 where the handle is empty; 102 where the flags are above 15, and at the spacecraft; 60
-/// where the types are those of a part; 43 where the packet would have more octets than the part
+/// 0; 106 if the handle is empty; 102 if the flags are above 15, and at the spacecraft; 60
+/// if the types are those of a part; 43 if the packet would have more octets than the part
 /// size and 23; 58 when out of memory. Then nothing has changed.
 pub fn lpt_end_plain(
     alloc: Global,

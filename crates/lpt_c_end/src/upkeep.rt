@@ -18,7 +18,7 @@ use std::alloc::Global;
 
 /// Sets the clock one tick on.
 ///
-/// 0; 106 where the handle is empty; 56 where the clock is at its greatest value: nothing has
+/// 0; 106 if the handle is empty; 56 if the clock is at its greatest value: nothing has
 /// changed then.
 pub fn lpt_end_tick(alloc: Global, end: &mut LptEnd) -> u32
     ensures code { result ≡ answer (refusal_by tick_refusal end.old.held.value) }
@@ -33,10 +33,10 @@ pub fn lpt_end_tick(alloc: Global, end: &mut LptEnd) -> u32
     code
 }
 
-/// Makes the name of a transaction free at this end, so that it can be used again: up where
-/// `direction` is 0, down where it is 1. A name that is free stays so.
+/// Makes the name of a transaction free at this end, so that it can be used again: up if
+/// `direction` is 0, down if it is 1. A name that is free stays so.
 ///
-/// 0; 106 where the handle is empty; 102 where the direction is above 1; 55 where the end sends in
+/// 0; 106 if the handle is empty; 102 if the direction is above 1; 55 if the end sends in
 /// this direction and a message of this name is open, or receives in it and a reception of this name
 /// is: nothing has changed then.
 pub fn lpt_end_retire(alloc: Global, end: &mut LptEnd, direction: u32, name: &LptName) -> u32
@@ -53,11 +53,11 @@ pub fn lpt_end_retire(alloc: Global, end: &mut LptEnd, direction: u32, name: &Lp
     code
 }
 
-/// Tells the state of a transaction's name at this end: 0 free, 1 open, 2 closed; up where
-/// `direction` is 0, down where it is 1. In the direction in which the end sends that is its
+/// Tells the state of a transaction's name at this end: 0 free, 1 open, 2 closed; up if
+/// `direction` is 0, down if it is 1. In the direction in which the end sends that is its
 /// message's; in the other its reception's, which is closed once it has ended.
 ///
-/// 0; 106 where the handle is empty; 102 where the direction is above 1. The end stays as it is.
+/// 0; 106 if the handle is empty; 102 if the direction is above 1. The end stays as it is.
 pub fn lpt_end_name(
     alloc: Global,
     end: &mut LptEnd,
@@ -88,7 +88,7 @@ pub fn lpt_end_name(
 /// dropped, and it counts from 0 again. It knows the names and the clock as before. What was released
 /// last, and the packets that are to be sent, stay.
 ///
-/// 0; 106 where the handle is empty; 108 where no number is left for a start: nothing has changed
+/// 0; 106 if the handle is empty; 108 if no number is left for a start: nothing has changed
 /// then.
 pub fn lpt_end_restart(alloc: Global, end: &mut LptEnd) -> u32
     ensures code { result ≡ answer (refusal_by restart_refusal end.old.held.value) }

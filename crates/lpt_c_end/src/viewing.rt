@@ -17,9 +17,9 @@ use std::alloc::Global;
 pub struct LptView {
     /// The clock, in ticks.
     pub clock: u32,
-    /// 1 where a reception is due, else 0.
+    /// 1 if a reception is due, else 0.
     pub due: u32,
-    /// The value of the clock from which on one is, 0 where no reception is open.
+    /// The value of the clock from which on one is, 0 if no reception is open.
     pub next_due: u64,
     /// How many packets are to be sent.
     pub outgoing: usize,
@@ -32,7 +32,7 @@ pub struct LptView {
 /// Tells the clock, whether a reception is due and when the next one is, and how many packets and
 /// requests wait.
 ///
-/// 0; 106 where the handle is empty. The end stays as it is.
+/// 0; 106 if the handle is empty. The end stays as it is.
 pub fn lpt_end_view(alloc: Global, end: &mut LptEnd, view: &mut LptView) -> u32
     ensures code { result ≡ answer (refusal_by (λ e. None) end.old.held.value) }
     ensures view { view.new ≡ view_told end.old.held.value view.old }

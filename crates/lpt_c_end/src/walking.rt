@@ -26,7 +26,7 @@ pub struct LptReception {
     pub name: LptName,
     /// How many parts were kept.
     pub kept: u32,
-    /// The number of the last part, 0 where that hasn't come.
+    /// The number of the last part, 0 if that hasn't come.
     pub last: u32,
     /// The value of the clock from which on it is overdue.
     pub due: u64,
@@ -47,7 +47,7 @@ pub struct LptSender {
 /// Tells an open reception by its number, from 0, in the order of names: of sources, and of one
 /// source of identifiers.
 ///
-/// 0; 106 where the handle is empty; 109 where no more are open: nothing is written then. The end
+/// 0; 106 if the handle is empty; 109 if no more are open: nothing is written then. The end
 /// stays as it is.
 pub fn lpt_end_reception(
     alloc: Global,
@@ -75,9 +75,9 @@ pub fn lpt_end_reception(
 }
 
 /// Tells the least number from `from` on of a part that is missing of an open reception: one that
-/// wasn't kept, from 1 on and before the last part, where that has come.
+/// wasn't kept, from 1 on and before the last part, if that has come.
 ///
-/// 0; 106 where the handle is empty; 45 where no reception of the name is open; 109 where none is
+/// 0; 106 if the handle is empty; 45 if no reception of the name is open; 109 if none is
 /// missing from there on: nothing is written then. The end stays as it is.
 pub fn lpt_end_missing(
     alloc: Global,
@@ -100,7 +100,7 @@ pub fn lpt_end_missing(
 
 /// Tells a message that is open to be sent by its number, from 0, in the order of names.
 ///
-/// 0; 106 where the handle is empty; 109 where no more are open: nothing is written then. The end
+/// 0; 106 if the handle is empty; 109 if no more are open: nothing is written then. The end
 /// stays as it is.
 pub fn lpt_end_sender(alloc: Global, end: &mut LptEnd, number: usize, sender: &mut LptSender) -> u32
     ensures code { result ≡ answer (refusal_by (sender_refusal number) end.old.held.value) }

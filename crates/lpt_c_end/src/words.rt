@@ -40,7 +40,7 @@ pub struct LptConfig {
     pub mode: u32,
 }
 
-/// What became of a packet: the kind, 1 to 8, and what it says, by the kind; 0 where it says nothing.
+/// What became of a packet: the kind, 1 to 8, and what it says, by the kind; 0 if it says nothing.
 #[repr(C)]
 #[derive(Clone, Copy)]
 pub struct LptOutcome {
@@ -55,7 +55,7 @@ pub struct LptOutcome {
     pub second: u32,
 }
 
-/// What became of a request that was executed: the kind, 1 to 4, and what it says; 0 where it says
+/// What became of a request that was executed: the kind, 1 to 4, and what it says; 0 if it says
 /// nothing.
 #[repr(C)]
 #[derive(Clone, Copy)]

@@ -150,7 +150,7 @@ moves side (ResumeSized config state sizes) = Do (step.Restart side) ∷ []
 -- what was kept of an end is this state, which reads as its restart, and these memories, in
 -- whatever order they are told; nothing happened at it since, and a number is left for a start
 --
--- Assumed: Memories, names and clocks outlast a restart, and none falls within a call.
+-- Assumed: Memories, names and clocks outlast a restart, and no restart falls within a call.
 pub record IsKept (c : Config) (e : End) (config : Config) (state : List ℕ)
     (kept : Kept) : Type 0 where
   pub ticks : ℕ

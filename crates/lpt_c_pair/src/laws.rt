@@ -16,7 +16,7 @@ ghost use Rattle.lpt_c_pair.specs.Runs.{EndsOfCKeepThePromise};
 ghost use Rattle.lpt_c_pair.specs.Services.{DroppedStaysDropped, EndsOfCThatDropServe, GivenStaysDropped};
 ghost use Rattle.lpt_c_pair.specs.Withheld.{EndsOfCThatDropWithholdNoRequest, EndsOfCWithholdNothing, ProgramsThatDropWithholdNoRequest, ProgramsWithholdNothing};
 
-/// Where two ends behind handles are those of two ends apart, and one of them is called, answers 0,
+/// If two ends behind handles are those of two ends apart, and one of them is called, answers 0,
 /// and the program keeps what it promises of that call, its moves can happen, and the ends are
 /// those of two ends apart after them.
 pub fn calls_are_moves()
@@ -30,9 +30,9 @@ pub fn calls_are_moves()
 /// plain request is one that ground asked; and the spacecraft's memories are their first content,
 /// changed by the executed requests in order of release.
 ///
-/// So it is too where its program has the memories: those are its own, and what it writes over them
-/// is what `lpt_end_access` and `lpt_end_access_octets` told it. Where it wrote something ahead of
-/// an execution, that stands over them besides; where it owes something, it is missing.
+/// So it is too if its program has the memories: those are its own, and what it writes over them
+/// is what `lpt_end_access` and `lpt_end_access_octets` told it. If it wrote something ahead of
+/// an execution, that stands over them besides; if it owes something, it is missing.
 pub fn ends_of_c_keep_the_promise()
     ensures in_end { EndsOfCKeepThePromise }
     ensures with_program { ProgramsKeepTheirMemories }
@@ -40,8 +40,8 @@ pub fn ends_of_c_keep_the_promise()
 
 /// Such ends withhold nothing that came whole. Take what was last opened under a name. If
 /// `lpt_end_packet` took each of its parts since then, and since its receiver was last restarted or
-/// made again, while there was room, it was released since; but where its reception expired or was
-/// broken off. Where the spacecraft's program drops requests, this is said of what goes up.
+/// made again, while there was room, it was released since, unless its reception expired or was
+/// broken off. If the spacecraft's program drops requests, this is said of what goes up.
 pub fn ends_of_c_withhold_nothing()
     ensures in_end { EndsOfCWithholdNothing }
     ensures with_program { ProgramsWithholdNothing }
@@ -49,15 +49,15 @@ pub fn ends_of_c_withhold_nothing()
     ensures own_dropping { ProgramsThatDropWithholdNoRequest }
 {}
 
-/// So it is whenever a machine is reset, once or again and again, also where its program had made
+/// So it is whenever a machine is reset, once or again and again, also if its program had made
 /// calls that it hadn't kept: what is left of all calls comes to the ends that the programs have,
 /// and what came whole with it was released. Nothing of what is deleted was handed to the other
 /// end.
 ///
-/// Where the spacecraft's program has the memories, what is left comes to these and to what it owes
+/// If the spacecraft's program has the memories, what is left comes to these and to what it owes
 /// too; since it last kept its end, they were changed only by what it owed then, or put back.
 ///
-/// Where each call could be made also without what the other program hadn't kept, a machine may be
+/// If each call could be made also without what the other program hadn't kept, a machine may be
 /// reset at any time. What is sent or finished leaves an end's state as it is, so that no reset
 /// need delete it.
 pub fn resets_keep_the_promise()
@@ -68,7 +68,7 @@ pub fn resets_keep_the_promise()
     ensures sent { SendingsLeaveTheState }
 {}
 
-/// Where some writes of a load were made, whole or in part and in any order, and then all are made
+/// If some writes of a load were made, whole or in part and in any order, and then all are made
 /// in their order, memories are as if nothing had been written before. So a program that keeps what
 /// it was told to write can write it again after a reset, wherever that came. And one that keeps
 /// what stood there can put it back.
@@ -87,7 +87,7 @@ pub fn messages_are_handed()
     ensures later { MessagesStay }
 {}
 
-/// Where `lpt_end_execute` or `lpt_end_execute_given` answers 0, the newest fact of the log is that
+/// If `lpt_end_execute` or `lpt_end_execute_given` answers 0, the newest fact of the log is that
 /// the oldest request was executed; one waited, and it is the one that was read at that end, of
 /// which `lpt_end_access` tells; and a report whose name the call told was opened under that name.
 pub fn executions_are_told()
@@ -95,13 +95,13 @@ pub fn executions_are_told()
     ensures with_program { GivenExecutionsAreTold }
 {}
 
-/// Where a call answers 0, its end didn't refuse it: no refusal has the number 0.
+/// If a call answers 0, its end didn't refuse it: no refusal has the number 0.
 pub fn zero_is_done()
     ensures { ZeroIsAlwaysDone }
 {}
 
 /// A request that is dropped is never executed. Its drop puts a message of no octets in the place
-/// of the oldest request that waited, and changes nothing else. Where that is the oldest of all,
+/// of the oldest request that waited, and changes nothing else. If that is the oldest of all,
 /// executing it lets it go: no memory changes, and no packet is made. So it is after whatever calls
 /// of ends that drop requests, once its place comes to the front.
 pub fn dropped_is_never_executed()
@@ -119,8 +119,8 @@ pub fn dropped_is_never_executed()
 /// message last opened under its name. The spacecraft's memories are their first content, changed
 /// by the executed requests in order of release, and none that was dropped is among these.
 ///
-/// So it is too where its program has the memories. It may put back what it wrote ahead of a
-/// request that it then drops. And so it is of what is left where either machine is reset, once or
+/// So it is too if its program has the memories. It may put back what it wrote ahead of a
+/// request that it then drops. And so it is of what is left if either machine is reset, once or
 /// again and again, wherever the memories are, as `resets_keep_the_promise` says it of ends that
 /// drop nothing.
 pub fn ends_of_c_that_drop_serve()
@@ -130,9 +130,9 @@ pub fn ends_of_c_that_drop_serve()
     ensures own_reset { ResetProgramsThatDropServe }
 {}
 
-/// A load that is executed, once it is the oldest request of all, is carried out or refused. Where
+/// A load that is executed, once it is the oldest request of all, is carried out or refused. If
 /// it is carried out, its areas are written over the memory that it names, in their order, and
-/// nothing else is; where it is refused, nothing is.
+/// nothing else is; if it is refused, nothing is.
 pub fn loads_go_where_they_say()
     ensures { LoadsGoWhereTheySay }
 {}

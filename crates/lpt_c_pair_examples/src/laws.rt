@@ -8,7 +8,7 @@ ghost use Rattle.lpt_c_pair_examples.specs.Worked.{TornCanBeRedone, WorkedCanBe,
 
 /// Of whatever two new ends, of which the spacecraft's has its memory: ground asks for a load; the
 /// spacecraft takes its packet, reads and executes it, and is made again of its state. All of it
-/// can be done; the load was released and executed, and stands in the memory. So it is where the
+/// can be done; the load was released and executed, and stands in the memory. So it is if the
 /// machine is reset after that, when the packet has come once more.
 pub fn calls_can_be()
     ensures { CallsCanBe }
@@ -22,7 +22,7 @@ pub fn worked_can_be()
     ensures { WorkedCanBe }
 {}
 
-/// The same, where both ends are kept before anything that depends on it is handed over, and the
+/// The same, if both ends are kept before anything that depends on it is handed over, and the
 /// spacecraft's machine is reset while half of the load is written: its end is made again of what
 /// was kept behind the execution, and the write that is owed is made again.
 pub fn torn_can_be_redone()
@@ -38,7 +38,7 @@ pub fn written_can_be_put_back()
 /// Of whatever two new ends, of which the spacecraft's has its memory: a load comes twice. The
 /// program drops it when it comes first, and reads it when it comes again. The execution of the
 /// first leaves the memory as it was; that of the second is the only one in the list, and writes
-/// it. So it is where the machine is reset after that.
+/// it. So it is if the machine is reset after that.
 pub fn dropped_can_be()
     ensures { DroppedCanBe }
 {}

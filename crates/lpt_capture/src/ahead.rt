@@ -101,7 +101,7 @@ impl<S: Source> Ahead<S> {
 
     /// Gives octets to the front of `buf`, and gives how many: with room, none only at the end.
     ///
-    /// Errors: `None` where the source failed. It gave no octets then.
+    /// Errors: `None` if the source failed. It gave no octets then.
     pub(crate) fn read(&mut self, buf: &mut [u8]) -> Option<usize>
         ensures bound { IfSome result (λ n. n ≤ length buf.new) }
         ensures bytes { MatchOption result

@@ -20,7 +20,7 @@ use lpt_text::Source;
 const MAGIC: usize = 4;
 
 /// A source of the octets that the records of a capture have. What doesn't begin as a capture is
-/// given as it is. Where a capture ends within a record, that is no failure: those octets of the
+/// given as it is. If a capture ends within a record, that is no failure: those octets of the
 /// record are given that are there, and `fault` tells of it.
 #[derive(Drop)]
 pub struct Captured<S> {
@@ -51,7 +51,7 @@ impl<S> Captured<S> {
         self.ahead.source()
     }
 
-    /// What is wrong with the capture, where that was found.
+    /// What is wrong with the capture, if that was found.
     pub fn fault(&self) -> Option<CaptureFault>
         ensures { result ≡ fault_at (place_of self.now) }
     {

@@ -6,10 +6,10 @@ use thiserror::Error;
 #[derive(Clone, Copy, Debug, Error)]
 pub enum CaptureFault {
     /// It isn't whole, and ends within its header.
-    #[error("octet 0: the capture ends within what begins here")]
+    #[error("octet 0: the capture ends within its header")]
     Header,
     /// The record that begins at this octet isn't whole: the capture ends within it.
-    #[error("octet {0}: the capture ends within what begins here")]
+    #[error("octet {0}: the capture ends within the record that begins here")]
     Short(u64),
     /// Its link type isn't 147.
     #[error("octet 20: the capture's link type is {0}, and not 147")]

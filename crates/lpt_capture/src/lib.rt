@@ -3,7 +3,7 @@
 //! a capture is given as it is: a packet begins with three bits of 0, and a capture never does.
 //!
 //! The main type is `Captured`, a source over a source. The first calls are `Captured::new`, and
-//! `capture_header` where one is written.
+//! `capture_header` if one is written.
 #![tactic(auto)]
 
 mod ahead;

@@ -3,7 +3,7 @@
 ghost use Rattle.std.specs.Prelude.{◌≡◌, ◌+◌, ◌<◌, length, slice_index};
 ghost use Rattle.lpt_capture.specs.Captured.{begins_so, is_pcapng, number_at, order_of};
 
-/// The number of 32 bits at a place, its last octet first where the order is turned.
+/// The number of 32 bits at a place, its last octet first if the order is turned.
 pub(crate) fn number_in(octets: &[u8], turned: bool, at: usize) -> u32
     requires { at + 3 < length octets.now }
     ensures { result ≡ number_at turned octets.now at }
@@ -16,7 +16,7 @@ pub(crate) fn number_in(octets: &[u8], turned: bool, at: usize) -> u32
     }
 }
 
-/// Whether the numbers of a capture that begins so are turned; none where it is no capture.
+/// Whether the numbers of a capture that begins so are turned; none if it is no capture.
 pub(crate) fn order_in(octets: &[u8]) -> Option<bool>
     ensures { result ≡ order_of octets.now }
 {

@@ -23,7 +23,7 @@ const LONGEST: u32 = 65_542;
 /// At which place of a file it is.
 #[derive(Clone, Copy)]
 pub enum Place {
-    /// In front, where it isn't known yet whether it is a capture.
+    /// In front, if it isn't known yet whether it is a capture.
     Front,
     /// In octets that are no capture.
     Plain,
@@ -42,16 +42,16 @@ pub enum Place {
 pub struct Record {
     /// Whether the numbers of the capture have their last octet first.
     pub(crate) turned: bool,
-    /// Where it begins.
+    /// If it begins.
     pub(crate) at: u64,
-    /// Where the next one begins.
+    /// If the next one begins.
     pub(crate) next: u64,
     /// How many of its octets are still to come.
     pub(crate) left: usize,
 }
 
 impl Place {
-    /// What is wrong, where that was found.
+    /// What is wrong, if that was found.
     pub(crate) fn fault(self) -> Option<CaptureFault>
         ensures { result ≡ fault_at self }
     {

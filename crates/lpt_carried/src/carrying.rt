@@ -60,7 +60,7 @@ pub fn carried<'a>(reading: &Reading, octets: &'a [u8]) -> Result<CarriedPart<'a
     in_read(reading, read_packet_as(&reading.layout, octets))
 }
 
-/// The part that a piece of a stream carries, read like this. Where its packets have a checksum,
+/// The part that a piece of a stream carries, read like this. If its packets have a checksum,
 /// that of a whole piece was taken before, and is right; it isn't taken again.
 ///
 /// Errors: why it carries none.

@@ -13,11 +13,11 @@ use lpt_packet::Direction;
 pub struct Tailored {
     /// The headers.
     pub packets: Layout,
-    /// How the time of telemetry says a date, where it is known.
+    /// How the time of telemetry says a date, if it is known.
     pub time: Option<TimeCode>,
     /// The bodies of parts.
     pub parts: PartLayout,
-    /// The octets of a part that isn't the last, 1 to 65,535, where they are known.
+    /// The octets of a part that isn't the last, 1 to 65,535, if they are known.
     pub part_size: Option<u32>,
 }
 

@@ -4,7 +4,7 @@
 /// of one user in that of their identifiers.
 #[derive(Clone, Copy, PartialEq, Eq, PartialOrd, Ord)]
 pub struct Name {
-    /// The source ID of telecommands up, the destination ID of telemetry down; 0 where the layout
+    /// The source ID of telecommands up, the destination ID of telemetry down; 0 if the layout
     /// has none.
     pub user: u32,
     /// The transaction identifier.

@@ -18,7 +18,7 @@ pub struct Reading {
     pub layout: Layout,
     /// The layout of their bodies.
     pub parts: PartLayout,
-    /// The part size in octets, 1 to 65,535, where it is known.
+    /// The part size in octets, 1 to 65,535, if it is known.
     pub part_size: Option<u32>,
     ghost size: { is_size part_size ≡ true },
 }
@@ -50,7 +50,7 @@ impl Reading {
         }
     }
 
-    /// How a stream of these packets is cut: by checksums, where they have one.
+    /// How a stream of these packets is cut: by checksums, if they have one.
     pub fn cut(&self) -> Cut
         ensures { result ≡ cut self.now }
     {

@@ -198,7 +198,7 @@ fn add_end(
     add_outcome(out, end, to, number, direction, outcome)
 }
 
-/// Adds what a lane took, where one of its heights is drawn: its way to the hand, in it, and on.
+/// Adds what a lane took, if one of its heights is drawn: its way to the hand, in it, and on.
 pub(crate) fn add_held(
     out: &mut Vec<Shape>,
     frame: Frame,
@@ -228,7 +228,7 @@ pub(crate) fn add_held(
     add(out, Shape::GroupEnd)
 }
 
-/// Adds a loss, where one of its heights is drawn: a line to a cross in the middle of the link.
+/// Adds a loss, if one of its heights is drawn: a line to a cross in the middle of the link.
 pub(crate) fn add_loss(
     out: &mut Vec<Shape>,
     frame: Frame,

@@ -8,7 +8,7 @@ use crate::picture::{Picture, is_side};
 use crate::title::{title_room, title_wide};
 use lpt_events::{Lane, Side};
 
-/// Where the columns of a picture stand: the right edge of the words at ground's side; the middle of
+/// If the columns of a picture stand: the right edge of the words at ground's side; the middle of
 /// ground's line of life, from which the spacecraft's is 380 pixels right; the left edge of the words
 /// at the spacecraft's side; the width of all; the tops of the nodes' boxes above the rows, and of the
 /// rows; and the first height that is drawn, and that at which the drawing ends.
@@ -203,7 +203,7 @@ pub(crate) fn holds(frame: Frame, at: u32) -> bool
     shows(frame, at, at)
 }
 
-/// So far from a point toward another, or beside it where both are one above the other.
+/// So far from a point toward another, or beside it if both are one above the other.
 #[tactic(auto, unfolding(crate::specs::Frames::toward))]
 pub(crate) fn toward(x: u64, to: u64, far: u8, beside: u8) -> u64
     requires { x < 2 ^ 40 }

@@ -6,7 +6,7 @@ use crate::style::{Style, Weight};
 use lpt_events::{Lane, Outcome, Side, StepFault};
 use lpt_packet::{Direction, Name, Octets};
 
-/// Which rows are drawn, by places of the journal: the first 400 where neither is given.
+/// Which rows are drawn, by places of the journal: the first 400 if neither is given.
 #[derive(Clone, Copy)]
 pub struct Choice {
     /// The first place of which rows are drawn.

@@ -142,7 +142,7 @@ fn words_x(frame: Frame, side: Side) -> u64
     }
 }
 
-/// Adds a row's ground, where it is dark, and its line to the words, where its height is drawn.
+/// Adds a row's ground, if it is dark, and its line to the words, if its height is drawn.
 pub(crate) fn add_base(out: &mut Vec<Shape>, frame: Frame, row: &Row) -> Result<(), AllocError>
     ensures { OnOk result (out.new.items ≡ out.old.items ++ base_shapes frame row.now) }
 {
@@ -178,7 +178,7 @@ fn add_words(
     add_text(out, x, y, letters, 60, words)
 }
 
-/// Adds a row, where its height is drawn: its place in the journal, its words, and its mark.
+/// Adds a row, if its height is drawn: its place in the journal, its words, and its mark.
 pub(crate) fn add_row(out: &mut Vec<Shape>, frame: Frame, row: &Row) -> Result<(), AllocError>
     ensures { OnOk result (out.new.items ≡ out.old.items ++ row_shapes frame row.now) }
 {
@@ -242,7 +242,7 @@ pub(crate) fn add_stage(
     }
 }
 
-/// Adds a piece of a track as a group, where some of its heights is drawn.
+/// Adds a piece of a track as a group, if some of its heights is drawn.
 #[tactic(auto, unfolding(crate::specs::Rows::bar_shapes))]
 pub(crate) fn add_bar(
     out: &mut Vec<Shape>,

@@ -14,7 +14,7 @@ fn octet_at(octets: &[u8], at: u16) -> u8
 }
 
 impl Kind {
-    /// What a packet says that it is; 0 where it is too short for that.
+    /// What a packet says that it is; 0 if it is too short for that.
     pub fn of(packet: &[u8]) -> Kind
         ensures { result ≡ kind_in packet.now }
     {

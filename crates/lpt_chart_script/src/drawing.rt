@@ -25,7 +25,7 @@ pub struct Drawing {
     /// The picture, as one SVG: of all, or of what happened before an unreadable line, or before the
     /// script couldn't be read.
     pub picture: String,
-    /// How the run ended: `Line` at an unreadable line, `Read` where a read failed or more octets came
+    /// How the run ended: `Line` at an unreadable line, `Read` if a read failed or more octets came
     /// than a script may have.
     pub ran: Result<ScriptEnd, ScriptFault>,
     /// How many events there were.
@@ -33,7 +33,7 @@ pub struct Drawing {
 }
 
 /// Reads a script from a reader, runs its lines on a new world of this configuration and these memories,
-/// and draws what happened: rows as they are chosen, and the lines that were refused where `all` says so.
+/// and draws what happened: rows as they are chosen, and the lines that were refused if `all` says so.
 ///
 /// The title is the first sentence of the script's first comment. A script has 16,777,216 octets at most.
 /// A run that ends at an unreadable line, at a read that failed or at too many octets is drawn up to

@@ -1,5 +1,5 @@
 //! The picture of a script's run, as a function of the octets that were read: the lines are run on a new
-//! world, and what happened is drawn, with the lines that were refused where that is asked.
+//! world, and what happened is drawn, with the lines that were refused if that is asked.
 //!
 //! The main type is `Drawing`, and the first call `draw_script`.
 #![tactic(auto)]

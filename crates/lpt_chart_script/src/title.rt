@@ -7,7 +7,7 @@ ghost use Rattle.lpt_text.specs.Texts.{is_filled};
 use std::alloc::{AllocError, Global};
 use std::marker::Model;
 
-/// Where in a line an octet stands.
+/// If in a line an octet stands.
 #[derive(Clone, Copy)]
 pub(crate) enum Place {
     /// Before anything but spaces.

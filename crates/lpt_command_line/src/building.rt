@@ -36,7 +36,7 @@ Statuses:
 
 docs/FILES.md has commands by task, docs/SCRIPT.md scripts and configuration; man/lpt.1 is this.";
 
-/// The program and its commands, or that one alone whose name is asked for, where there is one. The
+/// The program and its commands, or that one alone whose name is asked for, if there is one. The
 /// only error is out of memory.
 pub(crate) fn program<'a>(alloc: Global, asked: Option<&str>) -> Result<Command<'a>, AllocError> {
     let mut commands = commands_named(alloc, asked)?;

@@ -78,9 +78,9 @@ pub struct ChartWords<'a> {
     pub script: &'a str,
     /// Whether packets stand there.
     pub stream: bool,
-    /// Begin at this event of the run, or at this octet of the packets, where one is given.
+    /// Begin at this event of the run, or at this octet of the packets, if one is given.
     pub from: Option<u64>,
-    /// The last place of the journal that is drawn, or the first of the octets that isn't, where
+    /// The last place of the journal that is drawn, or the first of the octets that isn't, if
     /// one is given.
     pub to: Option<u64>,
     /// Whether the lines that were refused are drawn.

@@ -27,7 +27,7 @@ pub struct ChecksumWords<'a> {
     pub file: &'a str,
     /// The place of the first octet.
     pub from: u32,
-    /// How many octets, where it is given.
+    /// How many octets, if it is given.
     pub len: Option<u32>,
 }
 

@@ -12,17 +12,17 @@ use std::alloc::Global;
 pub struct ExtractWords<'a> {
     /// The paths of the packets, one behind the other, or `-` for standard input.
     pub files: Vec<&'a str>,
-    /// The memory whose image is wanted, where one is.
+    /// The memory whose image is wanted, if one is.
     pub at: Option<u8>,
-    /// The address of the image's first octet, where one is given.
+    /// The address of the image's first octet, if one is given.
     pub from: Option<u32>,
-    /// The octet that stands where nothing gives one, where it is given.
+    /// The octet that stands where nothing gives one, if it is given.
     pub fill: Option<u8>,
-    /// Whether an image is written only where nothing is wanting of it.
+    /// Whether an image is written only if nothing is wanting of it.
     pub whole: bool,
     /// Whether reports may come in parts.
     pub join: bool,
-    /// The path of the layouts, where one is given.
+    /// The path of the layouts, if one is given.
     pub layout: Option<&'a str>,
 }
 

@@ -11,17 +11,17 @@ use std::alloc::Global;
 /// The word for standard input.
 pub(crate) const STANDARD: &str = "-";
 
-/// What words name a transaction by: its identifier, behind its source where that is given.
+/// What words name a transaction by: its identifier, behind its source if that is given.
 #[derive(Clone, Copy)]
 pub struct GivenName {
-    /// Its source, where it is given.
+    /// Its source, if it is given.
     pub source: Option<u16>,
     /// Its identifier.
     pub id: u16,
 }
 
 impl GivenName {
-    /// The name that is meant where this source is configured.
+    /// The name that is meant if this source is configured.
     pub fn under(&self, configured: u16) -> Name {
         Name {
             source: self.source.unwrap_or(configured),
@@ -43,7 +43,7 @@ pub struct JoinWords<'a> {
     pub any: bool,
     /// Whether the first whole message is taken for good.
     pub first: bool,
-    /// The folder into which every message is written, where one is given.
+    /// The folder into which every message is written, if one is given.
     pub each: Option<&'a str>,
     /// Which octets of the packets are read.
     pub span: Span,
@@ -52,9 +52,9 @@ pub struct JoinWords<'a> {
 /// Which octets of a stream are read.
 #[derive(Clone, Copy)]
 pub struct Span {
-    /// The place of the first, from 0, where one is given.
+    /// The place of the first, from 0, if one is given.
     pub from: Option<u64>,
-    /// The place of the first that isn't read any more, where one is given.
+    /// The place of the first that isn't read any more, if one is given.
     pub to: Option<u64>,
 }
 
@@ -67,7 +67,7 @@ pub struct ListWords<'a> {
     pub json: bool,
     /// Whether the list ends at the first place where no packet is.
     pub strict: bool,
-    /// The path of the layouts, where one is given.
+    /// The path of the layouts, if one is given.
     pub layout: Option<&'a str>,
     /// Which octets of the packets are read.
     pub span: Span,
@@ -102,7 +102,7 @@ pub(crate) fn each_in<'a>(
 
 /// What the words of `join` ask for.
 ///
-/// Errors: `Missing`; `Id` where what should name the message doesn't; `Beside`, `Order`, `Memory`.
+/// Errors: `Missing`; `Id` if what should name the message doesn't; `Beside`, `Order`, `Memory`.
 pub fn join_words<'a>(
     alloc: Global,
     matches: &ArgMatches<'a>,

@@ -24,7 +24,7 @@ pub struct GroundWords<'a> {
     pub wait: u32,
     /// After how many such waits in a row that settle nothing it gives up.
     pub tries: u32,
-    /// Where requests are written, where it isn't standard output.
+    /// Where requests are written, if it isn't standard output.
     pub up: Option<&'a str>,
     /// The file in which it is kept what is settled.
     pub kept: Option<&'a str>,

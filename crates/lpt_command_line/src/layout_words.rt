@@ -33,7 +33,7 @@ pub struct DecodeWords<'a> {
     pub hex: &'a str,
     /// Whether areas and segments are said.
     pub more: bool,
-    /// The path of the layouts, where one is given.
+    /// The path of the layouts, if one is given.
     pub layout: Option<&'a str>,
 }
 

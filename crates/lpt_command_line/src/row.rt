@@ -62,7 +62,7 @@ pub(crate) enum Need {
     Several(&'static [&'static str]),
     /// It needn't, and is this one then.
     Else(&'static [&'static str; 1]),
-    /// There may be as many as one likes, and where there is none, it is this one.
+    /// There may be as many as one likes, and if there is none, it is this one.
     Any(&'static [&'static str; 1]),
 }
 
@@ -108,7 +108,7 @@ pub(crate) struct Named {
     pub(crate) behind: &'static [&'static str],
     /// Whether it is a flag, and whether it may come again.
     pub(crate) action: ArgAction,
-    /// What it is where it isn't given, if there is such a thing.
+    /// What it is if it isn't given, if there is such a thing.
     pub(crate) other: &'static [&'static str],
     /// What it is.
     pub(crate) help: &'static str,

@@ -9,15 +9,15 @@ use lpt_part::Mode;
 /// The words that give a configuration.
 #[derive(Clone, Copy)]
 pub struct SettingWords<'a> {
-    /// The path of its file, where one is given.
+    /// The path of its file, if one is given.
     pub file: Option<&'a str>,
-    /// The application process identifier, where it is given.
+    /// The application process identifier, if it is given.
     pub apid: Option<u16>,
-    /// The source, where it is given.
+    /// The source, if it is given.
     pub source: Option<u16>,
-    /// The part size in octets, where it is given.
+    /// The part size in octets, if it is given.
     pub part_size: Option<u32>,
-    /// In which order parts are taken, where it is given.
+    /// In which order parts are taken, if it is given.
     pub mode: Option<Mode>,
 }
 

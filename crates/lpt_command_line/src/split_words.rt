@@ -19,7 +19,7 @@ const MOST: u32 = 65_535;
 /// What `split` asks for of a message, or of each.
 #[derive(Clone, Copy)]
 pub struct SplitWords<'a> {
-    /// The path of the layouts, where one is given.
+    /// The path of the layouts, if one is given.
     pub layout: Option<&'a str>,
     /// The direction in which it goes.
     pub direction: Direction,
@@ -82,7 +82,7 @@ impl<'a> GivenPick<'a> {
 
 /// What the words of `split` ask for, and the list of the parts.
 ///
-/// Errors: `Missing`; `Id` where what should name the message doesn't; `Beside`.
+/// Errors: `Missing`; `Id` if what should name the message doesn't; `Beside`.
 pub fn split_words<'a>(matches: &ArgMatches<'a>) -> Result<SplitOneWords<'a>, WordFault<'a>> {
     Ok(SplitOneWords {
         split: common_words(matches)?,
@@ -92,7 +92,7 @@ pub fn split_words<'a>(matches: &ArgMatches<'a>) -> Result<SplitOneWords<'a>, Wo
 
 /// What the words of `split --each` ask for.
 ///
-/// Errors: `Missing`; `Id` where what should name the first message doesn't; `Beside`,
+/// Errors: `Missing`; `Id` if what should name the first message doesn't; `Beside`,
 /// `Pick`, `PickedTwice`, `Memory`.
 pub fn split_each_words<'a>(
     alloc: Global,

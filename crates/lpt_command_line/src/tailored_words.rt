@@ -7,11 +7,11 @@ use clap::ArgMatches;
 use lpt_packet::Direction;
 use std::alloc::Global;
 
-/// What words name a transaction of a layout by: its identifier, behind its source where that is
+/// What words name a transaction of a layout by: its identifier, behind its source if that is
 /// given.
 #[derive(Clone, Copy)]
 pub struct WideName {
-    /// Its source, where it is given.
+    /// Its source, if it is given.
     pub source: Option<u32>,
     /// Its identifier.
     pub id: u32,
@@ -33,7 +33,7 @@ pub struct JoinLayoutWords<'a> {
     pub any: bool,
     /// Whether the first whole message is taken for good.
     pub first: bool,
-    /// The folder into which every message is written, where it isn't one alone.
+    /// The folder into which every message is written, if it isn't one alone.
     pub each: Option<&'a str>,
     /// Which octets of the packets are read.
     pub span: Span,

@@ -11,7 +11,7 @@ pub enum WordFault<'a> {
     Wanted(&'static str),
     /// This one is no address.
     Address(&'a str),
-    /// Where this place is, this word names no message by an identifier and a source up to these.
+    /// If this place is, this word names no message by an identifier and a source up to these.
     Id {
         place: &'static str,
         word: &'a str,

@@ -12,7 +12,7 @@ use lpt_text::{Source, StreamFault};
 use std::alloc::{AllocError, Global};
 
 /// What the check reports of a stream say of a memory, and how much of the stream is no packet.
-/// Each number stays at 2^64 - 1 where it would be more.
+/// Each number stays at 2^64 - 1 if it would be more.
 #[derive(Drop)]
 pub struct Checks {
     /// The areas, in their order.
@@ -31,7 +31,7 @@ pub struct Checks {
 /// memory. Other packets are passed over; check reports that aren't read, parts of messages, and
 /// what is no packet are counted.
 ///
-/// Errors: `Read` where a read failed, or where 2^64 - 1 pieces came; `Memory`.
+/// Errors: `Read` if a read failed, or if 2^64 - 1 pieces came; `Memory`.
 pub fn read_checks<S: Source>(
     alloc: Global,
     apid: u16,

@@ -1,7 +1,7 @@
 //! What a memory should hold, compared with the check reports of a stream (ECSS-E-ST-70-41C,
 //! service 6): each tells the checksum that octets of the memory have, in 16 bits.
 //!
-//! Where a report agrees, the memory had those octets, but for one case in 65,536 of others. The
+//! If a report agrees, the memory had those octets, but for one case in 65,536 of others. The
 //! main types are `Checked`, an area of a report, and `Image`. The first calls are `read_checks`,
 //! with a source, and then `Image::checksum` and `Image::first_open`.
 #![tactic(auto)]

@@ -115,7 +115,7 @@ static CALLS: [Row; 16] = [
     (Call::Shut, 2, 31, State::Closed, Some(0)),
 ];
 
-/// The least free one rises with what is opened, and falls where one below it is retired.
+/// The least free one rises with what is opened, and falls if one below it is retired.
 static LEAST_FREE: [Row; 6] = [
     (Call::Open, 0, 0, State::Open, Some(1)),
     (Call::Open, 2, 0, State::Open, Some(1)),

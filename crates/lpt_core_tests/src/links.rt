@@ -16,14 +16,14 @@ enum Call {
     Lose(u64),
     /// The number of the packet that was in the hand.
     DropHand(Lane),
-    /// 1 where it is so.
+    /// 1 if it is so.
     Holds(Direction, Name),
-    /// 1 where it is so.
+    /// 1 if it is so.
     IsHeld(u64),
     /// The number of the packet in the hand, or that it is empty.
     Hand(Lane),
     RefusalDrop(Lane),
-    /// 1 where a packet has these octets, or there is none.
+    /// 1 if a packet has these octets, or there is none.
     IsPacket(u64, Option<&'static [u8]>),
     /// How many packets there are.
     Packets,
@@ -152,7 +152,7 @@ static LOSSES: [Row; 27] = [
 ];
 
 /// Packets of no transaction and of one are put into reserved room. A place that was made holds
-/// nothing, and is made again where its last packet was lost.
+/// nothing, and is made again if its last packet was lost.
 static ROOM: [Row; 10] = [
     (Call::Reserve(40, None), Ok(0)),
     (Call::Put(Direction::Down, None, &[]), Ok(0)),

@@ -183,7 +183,7 @@ static ROOM: [Row; 9] = [
     Row::IsOpen(1, 8, false),
 ];
 
-/// Where parts are taken in order, a part that is neither kept nor the next one breaks off.
+/// If parts are taken in order, a part that is neither kept nor the next one breaks off.
 static IN_ORDER: [Row; 11] = [
     Row::Offers(1, 7, 2, Kind::Last, ONES, 0, Expected::Gap),
     Row::Offers(1, 7, 1, Kind::First, ZEROS, 0, Expected::Kept),

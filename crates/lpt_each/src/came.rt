@@ -16,7 +16,7 @@ use std::alloc::{AllocError, Global};
 pub struct Came {
     /// Their numbers.
     pub numbers: PartNumbers,
-    /// Where the packet of the first of them stands in the stream, where one came.
+    /// Where the packet of the first of them stands in the stream, if one came.
     pub place: Option<u64>,
 }
 

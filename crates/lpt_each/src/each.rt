@@ -31,9 +31,9 @@ use std::alloc::Global;
 /// is given up. At the end it is told what is left of each name, in the order of names. The answer
 /// counts what was passed over, by its reasons.
 ///
-/// A message is given out where it is a packet of its direction, or with `any` whatever it is.
+/// A message is given out if it is a packet of its direction, or with `any` whatever it is.
 ///
-/// Errors: `Read` where a read failed, or where 2^64 - 1 pieces came; `Memory`; those of the taker.
+/// Errors: `Read` if a read failed, or if 2^64 - 1 pieces came; `Memory`; those of the taker.
 /// A front part of what was to be told stays told.
 pub fn each_stream<S: Source, T: Taker>(
     alloc: Global,

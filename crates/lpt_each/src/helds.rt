@@ -38,7 +38,7 @@ impl Helds {
 
     /// Takes a part of this name that a packet carries, at this place of the stream, and gives what
     /// it tells. A message is given
-    /// where it is a packet of its direction, or with `any` whatever it is. The only error is out
+    /// if it is a packet of its direction, or with `any` whatever it is. The only error is out
     /// of memory.
     pub fn take(
         self,

@@ -15,7 +15,7 @@ ghost use Rattle.lpt_each.specs.Streams.{events};
 use lpt_reception::laws::whole_is_split;
 
 /// Each message that is given out is one each part of which stands among the packets, whatever
-/// these are, and a packet of its direction, where not any will do.
+/// these are, and a packet of its direction, if not any will do.
 pub fn given_is_there()
     ensures { (t : Transaction) (any : Bool) (packets : List (List ℕ)) (m : List ℕ)
         (front back : List (List ℕ))
@@ -25,7 +25,7 @@ pub fn given_is_there()
 }
 
 /// Over packets of messages one behind the other, under one name, just these messages are given
-/// out, in their order, and nothing is given up: where each is whole with the last of its packets,
+/// out, in their order, and nothing is given up: if each is whole with the last of its packets,
 /// which may come in any order and more than once, with others in between. Only its last part
 /// doesn't come before its first.
 pub fn sent_is_given()
@@ -37,7 +37,7 @@ pub fn sent_is_given()
 
 /// Over the packets of messages that are split, one message behind the other under one name, and
 /// others that carry no part of it in between, just these messages are given out, in their order,
-/// and nothing is given up: whichever order their parts are sent in, and as often, where not all
+/// and nothing is given up: whichever order their parts are sent in, and as often, if not all
 /// are sent before the last, and the last part not before the first.
 pub fn split_is_given()
     ensures { (t : Transaction) (any : Bool) (c : Config) (splits : List Split)
@@ -48,7 +48,7 @@ pub fn split_is_given()
     whole_is_split();
 }
 
-/// Where the parts of a message stand in a stream in the order of their numbers, with no other part
+/// If the parts of a message stand in a stream in the order of their numbers, with no other part
 /// of their name between them, this message is given out with one of them: whatever came before,
 /// and whatever comes behind. The packets between its first and its last part may hold packets of
 /// other names, and parts of it again but its first.

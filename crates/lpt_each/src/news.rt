@@ -30,7 +30,7 @@ pub trait Taker {
 
     /// Is told something more.
     ///
-    /// Errors: `Write` where it couldn't be written; `Memory`.
+    /// Errors: `Write` if it couldn't be written; `Memory`.
     fn take(&mut self, name: Name, news: &News) -> Result<(), StreamFault>
         ensures heard { OnOk result (Hears (heard self.old) (heard self.new)
             ((name, news_of news.now) ∷ [])) }

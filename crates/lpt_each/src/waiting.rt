@@ -6,6 +6,6 @@
 pub struct Waiting {
     /// How many there are.
     pub count: u32,
-    /// The greatest of their numbers, 0 where there are none.
+    /// The greatest of their numbers, 0 if there are none.
     pub highest: u32,
 }

@@ -53,7 +53,7 @@ name_of PartRequest = codes "PartRequest"
 abbrev pub text_of : StepFault → List ℕ
 text_of InUse = codes "the name isn't free: its message is open, or wasn't retired"
 text_of Short = codes "the message isn't longer than a part"
-text_of Long = codes "a message has 65,542 octets at most, and what is put whole 23 more than a part"
+text_of Long = codes "a message has 65,542 octets at most, and what is sent in one piece 23 more than a part"
 text_of TooMany = codes "as many messages are open as the configuration allows"
 text_of NotOpen = codes "no such message is open"
 text_of NoSuchPart = codes "the message has no part of that number"

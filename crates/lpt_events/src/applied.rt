@@ -7,7 +7,7 @@ use lpt_pus::FailureCode;
 #[derive(Clone, Copy, Debug, PartialEq, Eq)]
 pub enum Applied {
     /// It was carried out. Its report of data was opened as the downlinked message of this name,
-    /// where it was too long for a packet on the link.
+    /// if it was too long for a packet on the link.
     Done(Option<Name>),
     /// The message is no telecommand for the spacecraft: nothing was done, and nothing is reported.
     Silent,

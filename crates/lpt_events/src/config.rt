@@ -10,7 +10,7 @@ use lpt_part::Mode;
 pub struct Config {
     /// The application process identifier of all packets, 0 to 2046.
     pub apid: u16,
-    /// The source ID that is meant where none is given, of a name and of a plain request.
+    /// The source ID that is meant if none is given, of a name and of a plain request.
     pub source: u16,
     /// The part size in octets, 4 to 1024.
     pub part_size: u32,
@@ -29,7 +29,7 @@ pub struct Config {
 impl Config {
     ghost use Rattle.lpt_events.specs.Configs.{IsConfig, config_fault};
 
-    /// The first value that is out of its range, or none where all are in theirs.
+    /// The first value that is out of its range, or none if all are in theirs.
     pub fn fault(&self) -> Option<ConfigFault>
         ensures fault { result ≡ config_fault self.now }
         ensures in_range { (result ≡ None) ↔ IsConfig self.now }

@@ -118,7 +118,7 @@ impl StepFault {
             StepFault::InUse => "the name isn't free: its message is open, or wasn't retired",
             StepFault::Short => "the message isn't longer than a part",
             StepFault::Long => {
-                "a message has 65,542 octets at most, and what is put whole 23 more than a part"
+                "a message has 65,542 octets at most, and what is sent in one piece 23 more than a part"
             }
             StepFault::TooMany => "as many messages are open as the configuration allows",
             StepFault::NotOpen => "no such message is open",

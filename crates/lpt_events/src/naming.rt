@@ -5,7 +5,7 @@ ghost use Rattle.std.specs.Prelude.{◌≡◌};
 use lpt_packet::Name;
 use std::fmt::{self, Display};
 
-/// The word of a name where this source is configured.
+/// The word of a name if this source is configured.
 #[derive(Clone, Copy)]
 pub struct NameWord {
     source: u16,
@@ -28,7 +28,7 @@ impl Display for NameWord {
     }
 }
 
-/// The word of a name where this source is configured: its identifier alone where it is of that
+/// The word of a name if this source is configured: its identifier alone if it is of that
 /// source, and `SOURCE/ID` otherwise.
 pub fn name_word(source: u16, name: Name) -> NameWord
     ensures { result ≡ record { source = source; name = name } }

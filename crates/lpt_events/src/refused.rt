@@ -1,4 +1,4 @@
-//! What a world answers where it accepts nothing.
+//! What a world answers if it accepts nothing.
 
 use crate::{Event, StepFault};
 

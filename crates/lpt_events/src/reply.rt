@@ -8,7 +8,7 @@ use lpt_packet::{Direction, Name};
 pub struct Reply {
     /// What is particular to the event.
     pub answer: Answer,
-    /// The packets that the event put on the link, where it put any.
+    /// The packets that the event put on the link, if it put any.
     pub puts: Option<Puts>,
 }
 

@@ -26,18 +26,18 @@ pub trait Network {
     fn put(&mut self, packet: Octets) -> Result<(), NodeFault>
         ensures { (b : List ℕ) → may_come self.new b → (b ≡ packet) ⊎ may_come self.old b };
 
-    /// The packet that comes out now, where one does.
+    /// The packet that comes out now, if one does.
     fn next(&mut self) -> Option<Octets>
         ensures came { IfSome result (λ o. may_come self.old o) }
         ensures rest { (b : List ℕ) → may_come self.new b → may_come self.old b };
 }
 
-/// Sends a message up under a free name, all its parts in each of so many rounds at most, and gives
-/// it as the spacecraft released it: byte for byte the message that was handed in. `None` where it
+/// Sends a message up under a free name, all its parts in each round, for at most so many rounds, and
+/// returns what the spacecraft released: byte for byte the message that was handed in. `None` if it
 /// wasn't whole after the last round, or its reception was broken off.
 ///
-/// Errors: as [`Node::open`] and [`Node::send_part`]; `Memory` also where the network or the
-/// spacecraft has none, or no number for one job more. The nodes stand as two ends apart then too.
+/// Errors: as [`Node::open`] and [`Node::send_part`]; `Memory` also if the network or the
+/// spacecraft has none, or no number for one job more. Then too the nodes are two ends apart.
 pub fn carry<N: Network>(
     ground: &mut Node,
     craft: &mut Node,

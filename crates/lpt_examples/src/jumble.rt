@@ -7,7 +7,7 @@ use lpt_node::NodeFault;
 use lpt_packet::Octets;
 use std::alloc::Global;
 
-// It loses one packet of so many, and of those that it has it gives out this many further on.
+// One packet of so many is lost; of those that it has, the next is so many places further on.
 const LOST: u32 = 5;
 
 const STRIDE: u32 = 7;

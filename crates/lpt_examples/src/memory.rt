@@ -11,7 +11,7 @@ use std::alloc::{AllocError, Global};
 
 /// Carries out what a message asks of the memories, at a node with this APID.
 ///
-/// The only error is that memory is out. The memories are as they were then.
+/// The only error is out of memory, which leaves the memories as they were.
 pub fn carry_out(
     alloc: Global,
     memories: &mut Memories,
@@ -25,7 +25,7 @@ pub fn carry_out(
     ensures unchanged { OnErr result (memories.new ≡ memories.old) }
 {
     let shape = memories.shape()?;
-    // This service numbers no boots and no jobs.
+    // This service has no numbers for boots or jobs, so both are 0.
     match prepare(alloc, &shape, apid, Ticket::new(0, 0, message)) {
         // A ticket can't be dropped: it is given up.
         Err(ticket) => {

@@ -8,7 +8,7 @@ ghost use Rattle.lpt_packet.specs.Ranges.{InRange};
 use lpt_packet::{Octets, Packet, PacketFault, PacketKind, Seen, read_packet, write_packet};
 use std::alloc::{AllocError, Global};
 
-/// The data field of a packet of this APID. `None` where the octets are idle, or of another APID.
+/// The data field of a packet of this APID. `None` if the octets are idle, or of another APID.
 ///
 /// Errors: the first test of a packet that the octets fail.
 pub fn field_for(octets: &[u8], apid: u16) -> Result<Option<&[u8]>, PacketFault>
@@ -29,7 +29,7 @@ pub fn field_for(octets: &[u8], apid: u16) -> Result<Option<&[u8]>, PacketFault>
     }
 }
 
-/// A telecommand's packet, or `None` where a field is out of its range. The only error is that
+/// A telecommand's packet, or `None` if a field is out of its range. The only error is that
 /// memory is out.
 pub fn telecommand(
     alloc: Global,

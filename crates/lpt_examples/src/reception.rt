@@ -36,7 +36,7 @@ pub fn hear(filling: Filling, part: &Part<'_>) -> Heard
         Step::Conflict(broken) => Heard::Conflict(broken.abort()),
         Step::Whole(whole) => match whole.release() {
             Ok(message) => Heard::Whole(message),
-            // It never comes. A whole reception can't be dropped, so it is given back.
+            // This error never comes. But a whole reception can't be dropped, so it is given back.
             Err(whole) => Heard::NoMemory(whole.back()),
         },
     }

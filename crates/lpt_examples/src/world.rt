@@ -52,9 +52,9 @@ pub fn release(world: &World, number: usize) -> Option<&Release>
     world.released().get(number)
 }
 
-/// All that was released. Each message is among it that was opened last under a name, each part of
-/// which was delivered since then and since its receiver was last restarted, while there was room;
-/// but where its reception expired or was broken off.
+/// All that was released. The message that was opened last under a name is among it, if each of its
+/// parts was delivered since then and since the receiver's last restart, while there was room,
+/// unless its reception expired or was broken off.
 pub fn releases_of(world: &World) -> &[Release]
     ensures all { result.now ≡ releases world.now.config (history world.now) }
     ensures whole { (d : Direction) (name : Name) (o : Opening)

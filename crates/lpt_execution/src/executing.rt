@@ -18,14 +18,14 @@ use std::alloc::{AllocError, Global};
 // The octets that stand around the body of telemetry.
 const AROUND_A_BODY: usize = PRIMARY_HEADER + TM_HEADER + ERROR_CONTROL;
 
-/// Whether telemetry with a body of so many octets is a packet of the link, where a part has `p`.
+/// Whether telemetry with a body of so many octets is a packet of the link, if a part has `p`.
 pub fn is_small(p: u32, length: usize) -> bool
     ensures { result ≡ is_small p length }
 {
     length <= longest_on_link(p) - AROUND_A_BODY
 }
 
-/// Why a reply with a body of so many octets isn't sent. Where it is no packet of the link it needs
+/// Why a reply with a body of so many octets isn't sent. If it is no packet of the link it needs
 /// a `free` name, and then `room` for one open message more.
 pub fn reply_fault(p: u32, length: usize, free: bool, room: bool) -> Option<FailureCode>
     ensures { result ≡ reply_fault p length free room }
@@ -54,7 +54,7 @@ fn reply_refusal(p: u32, free: bool, room: bool, reading: &Reading) -> Option<Fa
     }
 }
 
-/// How the execution of a request ends, with its reply, where it has one. A load isn't done yet,
+/// How the execution of a request ends, with its reply, if it has one. A load isn't done yet,
 /// and no memory changes. `free` and `room` say whether a reply could be opened as a message.
 ///
 /// The only error is out of memory, for a reply that is sent.

@@ -14,7 +14,7 @@ use lpt_verify::{EncodedReport, Reports};
 use std::alloc::{AllocError, Global};
 
 /// The source that the reports of a request go to: that of its own header, under whatever name it
-/// came. 0 where the message is no telecommand for the APID, which has no reports. It takes no
+/// came. 0 if the message is no telecommand for the APID, which has no reports. It takes no
 /// memory.
 pub fn request_source(reading: &Reading) -> u16
     ensures { result ≡ request_source reading.now.apid reading.now.message }

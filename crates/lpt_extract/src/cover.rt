@@ -3,7 +3,7 @@
 use std::alloc::{AllocError, Global};
 use std::collections::BTreeMap;
 
-/// Where the area ends that ends last, and the gaps in front of that: of each, its first address
+/// If the area ends that ends last, and the gaps in front of that: of each, its first address
 /// and its last.
 ///
 /// There are no more gaps than areas. An area costs a few searches in the map, and one for each gap

@@ -10,10 +10,10 @@ use crate::holding::Holding;
 use crate::{ExtractEnd, Extracted, Wanted};
 use lpt_text::{Sink, StreamFault, flush_out, write_out};
 
-/// Ends an extraction once the stream was read: writes the image, where one is wanted, and passes on
+/// Ends an extraction once the stream was read: writes the image, if one is wanted, and passes on
 /// what was written.
 ///
-/// Errors: `Write` where a write failed, behind a front part of the image.
+/// Errors: `Write` if a write failed, behind a front part of the image.
 pub fn end_extract<K: Sink>(
     wanted: &Wanted,
     holding: Holding,

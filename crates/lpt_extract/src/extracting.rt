@@ -22,11 +22,11 @@ use std::alloc::Global;
 /// the later one wins. The listener is told of each area, of each dump report that isn't taken, and
 /// of what is no packet. Before each read, and at the end, `out` passes on what was written.
 ///
-/// Where packets have a checksum, the next one is found behind octets that are none; else the
+/// If packets have a checksum, the next one is found behind octets that are none; else the
 /// stream is cut by lengths alone.
 ///
-/// Errors: `Read` where a read failed, or where 2^64 - 1 pieces came; `Write` where a write failed;
-/// `Memory`. A front part of the octets stays written; of an image, only where a write failed.
+/// Errors: `Read` if a read failed, or if 2^64 - 1 pieces came; `Write` if a write failed;
+/// `Memory`. A front part of the octets stays written; of an image, only if a write failed.
 pub fn extract_stream<S: Source, K: Sink, L: Listener>(
     alloc: Global,
     wanted: &Wanted,

@@ -32,11 +32,11 @@ pub struct Hearers<L, T> {
     pub taker: T,
 }
 
-/// Reads a stream of packets to its end, as `extract_stream` does, where dump reports may come in
+/// Reads a stream of packets to its end, as `extract_stream` does, if dump reports may come in
 /// parts that are joined so.
 ///
-/// Errors: `Read` where a read failed, or where 2^64 - 1 pieces came; `Write` where a write failed;
-/// `Memory`; those of the taker. A front part of the octets stays written; of an image, only where
+/// Errors: `Read` if a read failed, or if 2^64 - 1 pieces came; `Write` if a write failed;
+/// `Memory`; those of the taker. A front part of the octets stays written; of an image, only if
 /// a write failed.
 pub(crate) fn join_stream<S: Source, K: Sink, L: Listener, T, J: Joins<T>>(
     alloc: Global,

@@ -1,4 +1,4 @@
-//! What is read in place of the pieces of a stream, where some carry parts of messages.
+//! What is read in place of the pieces of a stream, if some carry parts of messages.
 
 use lpt_packet::Octets;
 use lpt_stream::{Cut, PieceKind};

@@ -26,13 +26,13 @@ use lpt_stream::{Cut, PieceKind};
 use lpt_text::{Sink, Source, StreamFault};
 use std::alloc::Global;
 
-/// Reads a stream of packets to its end, as `extract_stream` does, where dump reports may come in
+/// Reads a stream of packets to its end, as `extract_stream` does, if dump reports may come in
 /// parts as well, of packets that are read so: a packet that carries a part, of any name, is no
 /// report itself. The message that becomes whole with it is read in its place. The taker is told of
 /// that message first, of parts that are given up, and at the end of what is left of each name.
 ///
-/// Errors: `Read` where a read failed, or where 2^64 - 1 pieces came; `Write` where a write failed;
-/// `Memory`; those of the taker. A front part of the octets stays written; of an image, only where
+/// Errors: `Read` if a read failed, or if 2^64 - 1 pieces came; `Write` if a write failed;
+/// `Memory`; those of the taker. A front part of the octets stays written; of an image, only if
 /// a write failed.
 pub fn extract_joined_as<S: Source, K: Sink, L: Listener, T: TakerAs>(
     alloc: Global,

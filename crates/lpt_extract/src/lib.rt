@@ -2,13 +2,13 @@
 //! areas in dump reports, in the order in which they stand, or at their places in an image.
 //!
 //! A dump report is telemetry, of the profile or of a mission's layout; its body is encoded as a
-//! load's. Where an area's checksum is wrong, or the body isn't read, it is passed over, and told
+//! load's. If an area's checksum is wrong, or the body isn't read, it is passed over, and told
 //! with its place. The addresses of an image that no area gave are known as its gaps. A `Tally`
 //! counts what was passed over, skipped, or no packet.
 //!
 //! The main type is `Wanted`. The first call is `extract_stream`, with a stream of packets, a sink
-//! for the octets, and a `Listener`, who is told of each area; or `extract_joined`, where reports
-//! may come in parts, and `extract_joined_as` where these are a mission's.
+//! for the octets, and a `Listener`, who is told of each area; or `extract_joined`, if reports
+//! may come in parts, and `extract_joined_as` if these are a mission's.
 #![tactic(auto)]
 
 mod cover;

@@ -2,7 +2,7 @@
 
 /// What became of an area of a dump report, of a report, or of octets that are no packet.
 ///
-/// A place is where the packet begins: how many octets of the stream come before it. One beyond
+/// A place is if the packet begins: how many octets of the stream come before it. One beyond
 /// 2^64 - 1 is told as that.
 #[derive(Clone, Copy)]
 pub enum Notice {
@@ -25,7 +25,7 @@ pub enum Notice {
     Stray,
 }
 
-/// Where the octets of an area stand.
+/// If the octets of an area stand.
 #[derive(Clone, Copy)]
 pub struct Span {
     /// The memory's identifier.

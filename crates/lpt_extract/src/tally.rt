@@ -2,7 +2,7 @@
 
 use crate::Notice;
 
-/// How much of a stream wasn't taken. Each number stays at 2^64 - 1 where it would be more.
+/// How much of a stream wasn't taken. Each number stays at 2^64 - 1 if it would be more.
 #[derive(Clone, Copy)]
 pub struct Tally {
     /// Areas that were passed over since they end past the last address or their checksum is wrong,

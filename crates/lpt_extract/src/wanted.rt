@@ -24,7 +24,7 @@ pub struct Place {
     pub from: u32,
     /// The octet that stands where no area gives one.
     pub fill: u8,
-    /// Whether it is to be written only where no octet is missing and nothing was passed over.
+    /// Whether it is to be written only if no octet is missing and nothing was passed over.
     pub whole: bool,
 }
 

@@ -26,7 +26,7 @@ impl FrameBuffer {
     /// to the next with which a packet begins whose checksum is right. Before each read `out`
     /// passes on what it has kept back. What such octets carry may be taken for a packet.
     ///
-    /// Errors: `Read` where a read failed, or where 2^64 - 1 octets were passed over; `Write` where
+    /// Errors: `Read` if a read failed, or if 2^64 - 1 octets were passed over; `Write` if
     /// `out` failed; `Memory`, with which some octets of the stream are lost.
     pub fn find_again<P: Peer, K: Sink>(
         &mut self,

@@ -67,10 +67,10 @@ impl FrameBuffer {
         self.start += len;
     }
 
-    /// Reads until the octets that are held show what stands in front of them, and gives it. Where
+    /// Reads until the octets that are held show what stands in front of them, and gives it. If
     /// they do already, nothing is read. Before each read `out` passes on what it has kept back.
     ///
-    /// Errors: `Read` where a read failed; `Write` where `out` failed; `Memory`, with which some
+    /// Errors: `Read` if a read failed; `Write` if `out` failed; `Memory`, with which some
     /// octets of the stream are lost.
     pub fn find_frame<P: Peer, K: Sink>(
         &mut self,

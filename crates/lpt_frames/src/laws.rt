@@ -12,7 +12,7 @@ pub fn frames_are_cut_one_way()
         → frames ≡ others }
 {}
 
-/// Where no octets are passed over, a stream is cut into frames as ever.
+/// If no octets are passed over, a stream is cut into frames as ever.
 pub fn stretches_are_frames()
     ensures { (stream : List ℕ) (stretches : List Stretch) (rest : List ℕ)
         → IsCutInto false stream stretches rest → IsCut stream (frames_in stretches) rest }

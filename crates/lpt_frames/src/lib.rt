@@ -4,7 +4,7 @@
 //! or are passed over up to the next packet whose checksum is right.
 //!
 //! The main type is `FrameBuffer`. The first call is its `find_frame`, with a `Peer`, which reads
-//! only where all that was written has been passed on.
+//! only if all that was written has been passed on.
 #![tactic(auto)]
 
 mod again;

@@ -38,7 +38,7 @@ pub struct Glance {
 
 /// Reads a stream of packets to its end, and gives what is drawn of it.
 ///
-/// Errors: `Read` where a read failed, or where 2^64 - 1 pieces came; `Memory`.
+/// Errors: `Read` if a read failed, or if 2^64 - 1 pieces came; `Memory`.
 pub fn look<S: Source>(alloc: Global, view: View, source: &mut S) -> Result<Glance, StreamFault>
     ensures shows { IfOk result (λ g. ReadsPieces (S.remaining source.old)
         (S.remaining source.new) (λ pieces. seen_of g ≡ seen view pieces)) }

@@ -42,7 +42,7 @@ pub trait Ear {
 /// round, and at the end, the ear is told of the requests. Before each wait the sink passes on what
 /// it has kept back.
 ///
-/// Errors: `Write` where a write failed, or where the ear couldn't keep the requests; `Read` where
+/// Errors: `Write` if a write failed, or if the ear couldn't keep the requests; `Read` if
 /// it took 2^64 - 1 steps. What became of the requests stays.
 pub fn carry<E: Ear, K: Sink>(pass: &mut Pass, ear: &mut E, out: &mut K) -> Result<End, StreamFault>
     // It is at its end, and each request that waited was told done by what was heard.

@@ -37,7 +37,7 @@ pub enum Step {
 
 /// Requests that are sent by rounds until each is settled.
 ///
-/// In a round each request that waits is put once; in all but the first at least 8 packets, where
+/// In a round each request that waits is put once; in all but the first at least 8 packets, if
 /// one waits. Behind a round the pass listens, and once nothing was heard for the wait the next
 /// round begins.
 #[derive(Drop)]
@@ -95,9 +95,9 @@ impl Pass {
         self.asked[k].octets.as_slice()
     }
 
-    /// What the pass does next. Where no request waits any more it stops; else also where nothing
+    /// What the pass does next. If no request waits any more it stops; else also if nothing
     /// more will be heard, or too many waits settled nothing. Else it puts the next that waits in
-    /// this round, or listens where there is none.
+    /// this round, or listens if there is none.
     #[tactic(auto, unfolding(crate::specs::Passes::next_step))]
     pub fn next(&self) -> Step
         ensures step { result ≡ next_step (state_of self.now) }

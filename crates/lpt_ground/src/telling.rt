@@ -35,7 +35,7 @@ const CHECKSUM: usize = 2;
 /// What a report says of a request.
 #[derive(Clone, Copy, Debug, PartialEq, Eq)]
 pub enum Said {
-    /// It was carried out, and where something was asked, answered.
+    /// It was carried out, and if something was asked, answered.
     Done,
     /// It failed, with this code.
     Failed(u16),

@@ -2,13 +2,13 @@
 
 ghost use Rattle.lpt_ground_moves.specs.Chains.{DoneLeavesTheImage, DoneWasHeard};
 
-/// Where a pass of loads is done, and each packet that it heard was put out by the spacecraft, of
+/// If a pass of loads is done, and each packet that it heard was put out by the spacecraft, of
 /// each of its loads a report of start or completion could be heard that goes to its source.
 pub fn done_was_heard()
     ensures { DoneWasHeard }
 {}
 
-/// So where its loads are a pass of an image, the spacecraft's memory has the image there, whatever
+/// So if its loads are a pass of an image, the spacecraft's memory has the image there, whatever
 /// else the two ends did.
 pub fn done_leaves_the_image()
     ensures { DoneLeavesTheImage }

@@ -13,8 +13,8 @@ use std::time::Clock;
 /// Carries a pass to its end, by what is heard of another thread. The notes are told of the
 /// requests before each round, and however it ends.
 ///
-/// Errors: `Write` where a write failed, or where the notes couldn't be kept; `Read` where a read
-/// of what comes down failed; `Memory` where memory ran out for it. What became of the requests
+/// Errors: `Write` if a write failed, or if the notes couldn't be kept; `Read` if a read
+/// of what comes down failed; `Memory` if memory ran out for it. What became of the requests
 /// stays.
 pub fn carry_pass<R: Wait + Clock + Drop, N: Notes + Drop, K: Sink>(
     pass: &mut Pass,

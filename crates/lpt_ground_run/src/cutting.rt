@@ -12,7 +12,7 @@ use lpt_stream::{Cut, PieceKind, Taker, take_pieces};
 use lpt_text::{FromStd, Sink, Source, StreamFault};
 use std::alloc::Global;
 
-/// Where the packets that come down are handed over.
+/// If the packets that come down are handed over.
 pub trait Outlet {
     // What was handed over, where that is known.
     ghost handed: { Self → Option (List (List ℕ)) };
@@ -30,7 +30,7 @@ pub trait Outlet {
 /// many octets as a header says, and behind octets with which none begins what has a right
 /// checksum. Each is handed over as soon as its last octet has come, but behind damage.
 ///
-/// Errors: `Read` where a read failed, or where 2^64 - 1 pieces came; `Memory`. A front part was
+/// Errors: `Read` if a read failed, or if 2^64 - 1 pieces came; `Memory`. A front part was
 /// handed over.
 pub fn hand_packets<S: Source, O: Outlet>(
     alloc: Global,

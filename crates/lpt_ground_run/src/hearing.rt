@@ -129,7 +129,7 @@ impl<R: Wait + Clock + Drop, N: Notes + Drop> Hearing<R, N> {
         &mut self.notes
     }
 
-    /// Why nothing more will come, where what comes down isn't at its end: a read failed, or memory
+    /// Why nothing more will come, if what comes down isn't at its end: a read failed, or memory
     /// ran out.
     pub fn fault(&self) -> Option<StreamFault>
         ensures { result ≡ self.now.fault }

@@ -73,7 +73,7 @@ impl JobQueue {
         self.jobs.len() - self.claimed
     }
 
-    /// The number and the message of the oldest job that waits. `None` where none does.
+    /// The number and the message of the oldest job that waits. `None` if none does.
     pub fn unclaimed(&self) -> Option<(u64, &Octets)>
         ensures value { option_map (λ x. (x.0, x.1.now)) result ≡ unclaimed self.now }
 

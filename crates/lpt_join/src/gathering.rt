@@ -41,7 +41,7 @@ impl Gathering {
     }
 
     /// Adds a part of the transaction that a piece carries which stands at a place of the stream, or
-    /// beyond 2^64 - 1 where it is that. The only error is out of memory.
+    /// beyond 2^64 - 1 if it is that. The only error is out of memory.
     pub fn add(
         self,
         alloc: Global,

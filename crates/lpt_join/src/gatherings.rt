@@ -45,7 +45,7 @@ impl Gatherings {
     }
 
     /// Adds a part of the transaction of this name that a packet carries which stands at a place of the
-    /// stream, or beyond 2^64 - 1 where it is that. The only error is out of memory.
+    /// stream, or beyond 2^64 - 1 if it is that. The only error is out of memory.
     pub fn add(
         self,
         alloc: Global,

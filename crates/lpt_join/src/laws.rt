@@ -62,7 +62,7 @@ pub fn split_is_joined()
 {}
 
 /// No part of a message contradicts another: nothing is told of packets each of which carries a part
-/// of the message, or no part of its transaction. And where nothing is told of the pieces of a stream
+/// of the message, or no part of its transaction. And if nothing is told of the pieces of a stream
 /// whose packets are joined to a message, each of these packets carries a part of that message, or
 /// no part of its transaction, also those that came once it was whole.
 pub fn contradictions_are_told()
@@ -76,7 +76,7 @@ pub fn contradictions_are_told()
     whole_is_split();
 }
 
-/// Over packets each of which carries a part of the message, or no part of its transaction: where the
+/// Over packets each of which carries a part of the message, or no part of its transaction: if the
 /// last part came, the highest number that came is the number of the message's parts. So the list of
 /// the parts that are missing has just those of the message that didn't come.
 pub fn last_part_is_highest()

@@ -25,7 +25,7 @@ pub enum Misfit {
 /// Whether octets are a message of this direction: upwards a telecommand, downwards telemetry, with
 /// a right checksum.
 ///
-/// Errors: `NoPacket` where they are no packet; `OtherKind` where they are one, but none of this
+/// Errors: `NoPacket` if they are no packet; `OtherKind` if they are one, but none of this
 /// direction.
 pub fn check_message(direction: Direction, octets: &[u8]) -> Result<(), Misfit>
     ensures exact { Finding (misfit direction octets.now) result }

@@ -24,8 +24,8 @@ use std::alloc::Global;
 
 /// Reads a stream of packets to its end, and writes the message of the only transaction of which
 /// they carry parts, of those that are read as this one is, whatever its name. The answer says what
-/// is kept of each transaction and what was passed over, and where there is only one, how its join
-/// ends. Where there is none or there are more, nothing is written, and neither where what is joined
+/// is kept of each transaction and what was passed over, and if there is only one, how its join
+/// ends. If there is none or there are more, nothing is written, and neither if what is joined
 /// is no packet of the direction, unless `any` octets are taken.
 ///
 /// Errors: those of `join_message`.

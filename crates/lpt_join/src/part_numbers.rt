@@ -49,7 +49,7 @@ impl PartNumbers {
         self.ended
     }
 
-    /// The highest number of a part that came, at most 65,542; 0 where none came.
+    /// The highest number of a part that came, at most 65,542; 0 if none came.
     pub fn highest(&self) -> u32
         ensures highest { IsHighest (has self.now) result }
         ensures small { result ≤ 65542 }

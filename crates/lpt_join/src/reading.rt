@@ -25,7 +25,7 @@ use lpt_pus::{read_tc, read_tm};
 use lpt_skips::laws::the_own_skips;
 use lpt_stream::PieceKind;
 
-/// The part of this transaction that a piece of a stream carries; none where it is no packet, an
+/// The part of this transaction that a piece of a stream carries; none if it is no packet, an
 /// idle one, one of another APID, type, service or transaction, or one whose part isn't read for
 /// this part size. A whole piece's checksum was taken before, and is right.
 pub fn part_in_piece<'a>(

@@ -20,7 +20,7 @@ use std::alloc::Global;
 /// Joins the parts of a transaction that a stream's packets carry, up to the stream's end, and counts
 /// what was passed over, by its reasons.
 ///
-/// Errors: `Read` where a read failed, or where 2^64 - 1 pieces came; `Memory`.
+/// Errors: `Read` if a read failed, or if 2^64 - 1 pieces came; `Memory`.
 pub fn join_stream<S: Source>(
     alloc: Global,
     transaction: &Transaction,

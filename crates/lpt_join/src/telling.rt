@@ -9,8 +9,8 @@ ghost use Rattle.lpt_join.specs.MissingLists.{item_text, items_text, list_text, 
 use crate::{PartNumbers, missing};
 use std::alloc::{AllocError, Global};
 
-/// The parts that are missing, as a part list: `3,7-9`, and where the last part hasn't come, all
-/// behind the highest that came too, as `3,7-9,12-`. It is empty where none is missing.
+/// The parts that are missing, as a part list: `3,7-9`, and if the last part hasn't come, all
+/// behind the highest that came too, as `3,7-9,12-`. It is empty if none is missing.
 ///
 /// The only error is out of memory.
 pub fn missing_list(alloc: Global, came: &PartNumbers) -> Result<String, AllocError>

@@ -37,7 +37,7 @@ impl Transaction {
         }
     }
 
-    /// How its parts are read, where parts of this name alone are wanted, or of any.
+    /// How its parts are read, if parts of this name alone are wanted, or of any.
     pub fn reading(&self, name: Option<Name>) -> Wanted
         ensures { result ≡ reading_of self.now name }
     {

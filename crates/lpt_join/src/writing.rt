@@ -20,11 +20,11 @@ use lpt_text::{Sink, Source, StreamFault, write_out};
 use std::alloc::Global;
 
 /// Reads a stream of packets to its end, and writes the message that the parts of this transaction
-/// among them are joined to. Where they are joined to none, nothing is written, and neither where what
+/// among them are joined to. If they are joined to none, nothing is written, and neither if what
 /// they are joined to is no packet of the direction, unless `any` octets are taken. The answer says
 /// which parts came, where the first came that contradicts those before it, and what was passed over.
 ///
-/// Errors: `Read` where a read failed; `Write` where a write failed, after a front part of the
+/// Errors: `Read` if a read failed; `Write` if a write failed, after a front part of the
 /// message; `Memory`.
 pub fn join_message<S: Source, K: Sink>(
     alloc: Global,

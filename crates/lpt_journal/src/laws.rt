@@ -10,7 +10,7 @@ ghost use Rattle.lpt_journal.specs.Work.{WorkIsOfItsBoot};
 /// opened under its name in its direction, so by the other node, and at most once per opening. Each
 /// plain request that was released is the packet of one that ground had asked for; so nothing is
 /// executed that ground didn't send. What is delivered is a message that contradicts nothing; it
-/// isn't read exactly where the link's noise left it. In strict mode alone a part breaks its
+/// isn't read exactly if the link's noise left it. In strict mode alone a part breaks its
 /// reception off, and only one that isn't the next. The memories are their first content, changed
 /// by released requests, each executed at most once and in order of release.
 pub fn headline()
@@ -26,13 +26,13 @@ pub fn abortion_is_final()
 
 /// Nothing that came whole is withheld. Over every legal journal, take what was last opened under a
 /// name. If each of its parts was delivered since then, and since its receiver was last restarted,
-/// while there was room, it was released; but where its reception expired, or in strict mode a part
+/// while there was room, it was released, unless its reception expired, or in strict mode a part
 /// out of order broke it off. Nothing is said of parts that don't come.
 pub fn nothing_is_withheld()
     ensures { NothingIsWithheld }
 {}
 
-/// Over every legal journal, a commit answers that its job is stale exactly where the spacecraft
+/// Over every legal journal, a commit answers that its job is stale exactly if the spacecraft
 /// was restarted since the claim, and then changes nothing but that the worker has no job any more;
 /// and each request that was executed was released and committed in the same boot.
 pub fn work_is_of_its_boot()

@@ -41,7 +41,7 @@ pub fn noisy_is_legal()
         ≡ record { place = 12; of = Some (Up, own 7); message = m9 } ∷ [] }
 {}
 
-/// Where parts are taken in the order of their numbers, the third one breaks a reception off that
+/// If parts are taken in the order of their numbers, the third one breaks a reception off that
 /// has the first one alone. Ground notes the report of it, and nothing is released.
 pub fn second_part_missing_is_legal()
     ensures pass { IsPass strict second_part_missing }
@@ -54,7 +54,7 @@ pub fn second_part_missing_is_legal()
     ensures released { releases strict (passed strict second_part_missing) ≡ [] }
 {}
 
-/// Where parts are taken in the order of their numbers, the last one breaks a reception off before
+/// If parts are taken in the order of their numbers, the last one breaks a reception off before
 /// it is open, and nothing is released.
 pub fn last_part_first_is_legal()
     ensures pass { IsPass strict out_of_order }

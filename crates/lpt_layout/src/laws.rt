@@ -54,7 +54,7 @@ pub fn written_is_read()
         → part_verdict_as l q.kind b p ≡ Ok q }
 {}
 
-/// Octets, packets and bodies are read exactly where they are what they are read as.
+/// Octets, packets and bodies are read exactly if they are what they are read as.
 pub fn verdicts_are_exact()
     ensures packet { (ends : Bool) (b : List ℕ) (s : Sight) → IsOctets b
         → (verdict_as ends b ≡ Ok s) ↔ IsSightAs ends b s }
@@ -65,7 +65,7 @@ pub fn verdicts_are_exact()
         → (part_verdict_as l q.kind b p ≡ Ok q) ↔ IsPartAs l p b q }
 {}
 
-/// Where a layout has a packet error control, no packet is read whose checksum is at fault: a
+/// If a layout has a packet error control, no packet is read whose checksum is at fault: a
 /// packet of one such layout that was changed by a burst of 1 to 16 bits is none of another either.
 pub fn checksums_show()
     ensures checksum { (b : List ℕ) (f : Fields) → verdict_as true b ≡ Ok (APacket f)

@@ -47,7 +47,7 @@ pub struct Layout {
     pub counter: Width,
     /// The source ID of telecommands, or the destination ID of telemetry: mostly 0, 8 or 16 bits.
     pub user: Width,
-    /// The octets of time of telemetry, with a preamble field where the mission has one: mostly 0
+    /// The octets of time of telemetry, with a preamble field if the mission has one: mostly 0
     /// to 16. A telecommand has none.
     pub time: u8,
     /// The spare octets at the end of the secondary header.

@@ -15,9 +15,9 @@ pub struct Message<'a> {
     pub service: u8,
     /// The message subtype.
     pub subtype: u8,
-    /// The message type counter, 0 where the layout has none.
+    /// The message type counter, 0 if the layout has none.
     pub counter: u32,
-    /// The source ID of a telecommand or the destination ID of telemetry, 0 where there is none.
+    /// The source ID of a telecommand or the destination ID of telemetry, 0 if there is none.
     pub user: u32,
     /// The time, as octets.
     pub time: &'a [u8],

@@ -14,7 +14,7 @@ use lpt_packet::{PRIMARY_HEADER, PacketFault, PacketKind, Seen, read_packet, rea
 /// The data field is borrowed. Errors, the first that applies: `Short`, fewer than 7 octets;
 /// `Version`, not 0; `Length`, the octets aren't 7 more than the data length field; then a packet
 /// of APID 2047 is idle, whatever else it holds; `Segmented`, the sequence flags aren't
-/// 'unsegmented'; `NoSecondary`, the secondary header flag is 0; and where the layout has a packet
+/// 'unsegmented'; `NoSecondary`, the secondary header flag is 0; and if the layout has a packet
 /// error control, `Checksum`, fewer than 8 octets, or the last two aren't the checksum of those
 /// before.
 pub fn read_packet_as<'a>(layout: &Layout, bytes: &'a [u8]) -> Result<SeenAs<'a>, PacketFault>

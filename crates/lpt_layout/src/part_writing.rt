@@ -11,8 +11,8 @@ use std::alloc::{AllocError, Global};
 
 /// The body of a message that carries this part, as the layout has it.
 ///
-/// Errors, the first that applies: `Unfit` where the identifier or the number is too great for its
-/// width, which is found before any memory is taken; `Memory` where memory runs out.
+/// Errors, the first that applies: `Unfit` if the identifier or the number is too great for its
+/// width, which is found before any memory is taken; `Memory` if memory runs out.
 pub fn write_part_as(
     alloc: Global,
     layout: &PartLayout,

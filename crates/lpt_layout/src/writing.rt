@@ -18,9 +18,9 @@ const MOST: usize = 65_536;
 
 /// The octets of a whole packet of telemetry of this layout.
 ///
-/// Errors, the first that applies, both before any memory is taken: `Unfit` where a field is out of
-/// its range or of another width than the layout has it; `TooLong` where the packet would have more
-/// than 65,542 octets. Then `Memory` where memory runs out.
+/// Errors, the first that applies, both before any memory is taken: `Unfit` if a field is out of
+/// its range or of another width than the layout has it; `TooLong` if the packet would have more
+/// than 65,542 octets. Then `Memory` if memory runs out.
 pub fn write_tm_as(
     alloc: Global,
     layout: &Layout,
@@ -34,9 +34,9 @@ pub fn write_tm_as(
 
 /// The octets of a whole telecommand of this layout.
 ///
-/// Errors, the first that applies, both before any memory is taken: `Unfit` where a field is out of
-/// its range or of another width than the layout has it; `TooLong` where the packet would have more
-/// than 65,542 octets. Then `Memory` where memory runs out.
+/// Errors, the first that applies, both before any memory is taken: `Unfit` if a field is out of
+/// its range or of another width than the layout has it; `TooLong` if the packet would have more
+/// than 65,542 octets. Then `Memory` if memory runs out.
 pub fn write_tc_as(
     alloc: Global,
     layout: &Layout,

@@ -37,11 +37,11 @@ pub struct EachedAs {
 /// given up. At the end it is told what is left of each name, in the order of names. Before each
 /// read `out` passes on what it has kept back; nothing else is done with it.
 ///
-/// A message is given out where it is a packet of the layout and the direction, or with `any`
-/// whatever it is; by a layout without a checksum, but with `any`, only where its parts came in
+/// A message is given out if it is a packet of the layout and the direction, or with `any`
+/// whatever it is; by a layout without a checksum, but with `any`, only if its parts came in
 /// their order, and few sequence counts are missing between them.
 ///
-/// Errors: `Read` where a read failed, or where 2^64 - 1 packets came; `Write` where `out` failed;
+/// Errors: `Read` if a read failed, or if 2^64 - 1 packets came; `Write` if `out` failed;
 /// `Memory`; those of the taker. What was told before stays told.
 pub fn each_as<S: Source, K: Sink, T: TakerAs>(
     alloc: Global,

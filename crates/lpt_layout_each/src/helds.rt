@@ -41,9 +41,9 @@ impl HeldsAs {
     }
 
     /// Takes the packet that comes next, at this place, which carries a part, and gives what it
-    /// tells of its name. A message is given where it is a packet of the layout and the direction,
+    /// tells of its name. A message is given if it is a packet of the layout and the direction,
     /// or with `any` whatever it is. By a layout without a checksum it is given, but with `any`,
-    /// only where its parts came in their order, and between each of them and the next fewer
+    /// only if its parts came in their order, and between each of them and the next fewer
     /// sequence counts of the APID are missing than the number of it. The only error is out of
     /// memory.
     pub fn take(

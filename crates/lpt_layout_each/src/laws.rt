@@ -10,7 +10,7 @@ ghost use Rattle.lpt_layout_each.specs.News.{Event, News, messages_in, messages_
 ghost use Rattle.lpt_layout_each.specs.Streams.{events};
 
 /// Each message that is given out is joined of parts of its name that stand among the packets,
-/// whatever these are, and a packet of its direction, where not any will do.
+/// whatever these are, and a packet of its direction, if not any will do.
 pub fn given_is_there()
     ensures { (r : Reading) (any : Bool) (packets : List (List ℕ)) (n : Name) (m : List ℕ)
         (front back : List Event) (w : News)
@@ -28,7 +28,7 @@ pub fn given_is_in_order()
         → IsInOrder r n packets m }
 {}
 
-/// Where the parts of a message stand in a stream in the order of their numbers, with no other part
+/// If the parts of a message stand in a stream in the order of their numbers, with no other part
 /// of their name between them, this message is given out with one of them: whatever came before.
 /// The packets between its first and its last part may hold packets of other names, and parts of it
 /// again but its first.

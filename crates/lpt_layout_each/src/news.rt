@@ -30,7 +30,7 @@ pub trait TakerAs {
 
     /// Is told something more.
     ///
-    /// Errors: `Write` where it couldn't be written; `Memory`.
+    /// Errors: `Write` if it couldn't be written; `Memory`.
     fn take(&mut self, name: Name, news: &NewsAs) -> Result<(), StreamFault>
         ensures heard { OnOk result (Hears (heard self.old) (heard self.new)
             ((name, news_of news.now) ∷ [])) }

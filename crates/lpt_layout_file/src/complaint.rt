@@ -8,7 +8,7 @@ use crate::reading::judge;
 use lpt_settings::{Complaint, complain, complain_of_toml};
 use std::alloc::{AllocError, Global};
 
-/// The first thing for which `read_layouts` refuses a text; `None` where it means layouts.
+/// The first thing for which `read_layouts` refuses a text; `None` if it means layouts.
 ///
 /// The only error is out of memory.
 pub fn why_refused(alloc: Global, text: &str) -> Result<Option<Complaint>, AllocError>

@@ -1,14 +1,14 @@
 //! The layout file: a TOML document that says how a mission lays out its telemetry, telecommands
-//! and their parts, where it does so otherwise than this project's own profile. It is a file of its
+//! and their parts, if it does so otherwise than this project's own profile. It is a file of its
 //! own, for the commands that read packets in files; nodes and worlds know no layout but their own.
 //!
 //! The main types are `Layouts`, with a `Tailored` for each packet type, and lpt_settings'
-//! `Complaint`, what is wrong with a text. The first calls are `read_layouts` and, where it refuses
+//! `Complaint`, what is wrong with a text. The first calls are `read_layouts` and, if it refuses
 //! a text, `why_refused`. `Layouts::own` are the profile's.
 //!
 //! There are two tables, `telemetry` and `telecommands`:
 //!
-//! | Key | In | Value | Where it is absent |
+//! | Key | In | Value | If it is absent |
 //! |---|---|---|---|
 //! | `checksum` | both | `true` or `false` | `true` |
 //! | `version` | both | 1 or 2 | 2 |

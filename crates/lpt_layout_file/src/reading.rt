@@ -18,8 +18,8 @@ use toml::Table;
 /// Reads the text of a layout file: a TOML document of the tables, keys, ranges and defaults that
 /// the crate lists.
 ///
-/// `None` where the text isn't TOML, a table or a key isn't known, a value has another type or is
-/// none of those that the key may have, and where the reader of TOML runs out of memory.
+/// `None` if the text isn't TOML, a table or a key isn't known, a value has another type or is
+/// none of those that the key may have, and if the reader of TOML runs out of memory.
 pub fn read_layouts(alloc: Global, text: &str) -> Option<Layouts>
     // The text is a TOML document, and the layouts are what its table means.
     ensures some { IfSome result (λ l.

@@ -88,7 +88,7 @@ impl CameAs {
         Ok(())
     }
 
-    /// The place of the first of them, where it was told.
+    /// The place of the first of them, if it was told.
     pub fn began(&self) -> Option<u64>
         ensures { result ≡ self.now.began }
     {
@@ -157,7 +157,7 @@ impl CameAs {
         self.last
     }
 
-    /// The greatest number of a part that came, 0 where none did.
+    /// The greatest number of a part that came, 0 if none did.
     pub fn highest(&self) -> usize
         ensures { (c : Came) → Shows c self.now → result ≡ highest c.parts }
     {

@@ -37,7 +37,7 @@ pub enum JoinEnd {
 /// What became of a join.
 #[derive(Drop)]
 pub struct JoinReport {
-    /// How it ended, of the transaction that was asked for, or of the only one; none where none was
+    /// How it ended, of the transaction that was asked for, or of the only one; none if none was
     /// asked for, and there isn't just one.
     pub end: Option<JoinEnd>,
     /// What is kept of each transaction.

@@ -53,7 +53,7 @@ impl Gathering {
     }
 
     /// Adds a part of the transaction that a packet carries which stands at a place of the stream,
-    /// or beyond 2^64 - 1 where it is that, and up to which so many sequence counts are missing.
+    /// or beyond 2^64 - 1 if it is that, and up to which so many sequence counts are missing.
     /// The only error is out of memory.
     pub fn add(
         self,

@@ -21,7 +21,7 @@ ghost use Rattle.lpt_layout_join.specs.Writes.{end_of, end_whole, unfit};
 use lpt_layout::laws::written_is_read;
 
 /// The packets of a message's parts, in any order and with repeats, and others in between, are
-/// joined to that message once each part is among them, byte for byte. Where no transaction was
+/// joined to that message once each part is among them, byte for byte. If no transaction was
 /// asked for, they are the only ones: then no part came of another.
 pub fn split_is_joined()
     ensures message { (r : Reading) (asked : Option Name) (n : Name) (p : ℕ) (m : List ℕ)

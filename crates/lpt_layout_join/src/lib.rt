@@ -1,6 +1,6 @@
 //! The parts of one transaction of a mission's layout among the packets of a stream, joined to
 //! their message. The packets may come in any order, more than once, and with others in between;
-//! parts may have any size, which is found where it isn't known.
+//! parts may have any size, which is found if it isn't known.
 //!
 //! The stream is cut by the lengths that its packets' headers say, and by nothing else, since
 //! packets of a layout may have no checksum.

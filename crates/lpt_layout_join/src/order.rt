@@ -9,7 +9,7 @@ use crate::LastPart;
 /// nothing came of the name but the next one, or one of these again.
 #[derive(Clone, Copy)]
 pub struct Order {
-    /// How many they are, 0 where there are none.
+    /// How many they are, 0 if there are none.
     pub count: u32,
     /// How many sequence counts were missing up to the last of them.
     pub missing: u64,

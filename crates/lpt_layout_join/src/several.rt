@@ -23,7 +23,7 @@ use std::alloc::{AllocError, Global};
 /// Keeps what a stream's packets give of each transaction that is wanted, up to the stream's end,
 /// and counts what was passed over, by its reasons.
 ///
-/// Errors: `Read` where a read failed, or where 2^64 - 1 pieces came; `Memory`.
+/// Errors: `Read` if a read failed, or if 2^64 - 1 pieces came; `Memory`.
 pub fn gather_stream<S: Source>(
     alloc: Global,
     wanted: &Wanted,

@@ -20,14 +20,14 @@ use lpt_text::{Sink, Source, StreamFault, write_out};
 use std::alloc::{AllocError, Global};
 
 /// Reads a stream of packets to its end, and writes the message of the transaction that is wanted,
-/// or of the only one of which parts came. Where the parts are joined to none, nothing is written,
-/// and neither where what they are joined to is no packet of the layout and the direction, unless
+/// or of the only one of which parts came. If the parts are joined to none, nothing is written,
+/// and neither if what they are joined to is no packet of the layout and the direction, unless
 /// `any` octets are taken. Nor is it, without `any`, by a layout without a checksum, unless the
 /// parts came in their order, and between each of them and the next fewer sequence counts of the
 /// APID are missing than the number of it. The answer says what is kept of each transaction, and
 /// what was passed over.
 ///
-/// Errors: `Read` where a read failed, or where 2^64 - 1 pieces came; `Write` where a write failed,
+/// Errors: `Read` if a read failed, or if 2^64 - 1 pieces came; `Write` if a write failed,
 /// behind a front part of the message; `Memory`.
 pub fn join_as<S: Source, K: Sink>(
     alloc: Global,
@@ -151,7 +151,7 @@ fn write_gathering<K: Sink>(
     }
 }
 
-/// How the join of a transaction ends of which this is kept, if its message is written where it is
+/// How the join of a transaction ends of which this is kept, if its message is written if it is
 /// whole and fit. The only error is out of memory.
 pub fn end_of(
     alloc: Global,
@@ -209,8 +209,8 @@ fn write_message<K: Sink>(
     Ok(JoinEnd::Written(message.len()))
 }
 
-/// Why octets are no packet of the layout and the direction, where they aren't, and not any are
-/// taken; or that this isn't sure, where packets have no checksum.
+/// Why octets are no packet of the layout and the direction, if they aren't, and not any are
+/// taken; or that this isn't sure, if packets have no checksum.
 pub fn unfit(reading: &Reading, any: bool, sure: bool, octets: &[u8]) -> Option<MisfitAs>
     ensures { result ≡ unfit reading.now any sure octets.now }
 {

@@ -7,7 +7,7 @@ ghost use Rattle.lpt_layout_time.specs.Codes.{day_octets};
 /// known.
 #[derive(Clone, Copy)]
 pub struct TimeCode {
-    /// The mission's own epoch, where it has one: the day from whose beginning on is counted, as a
+    /// The mission's own epoch, if it has one: the day from whose beginning on is counted, as a
     /// number of days behind 1 January 1900. The standard's is 1 January 1958.
     pub epoch: Option<u32>,
     /// Whether a preamble field of one octet stands in front.

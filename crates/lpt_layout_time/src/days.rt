@@ -8,7 +8,7 @@ use jiff_core::civil::Date;
 /// Days from the first date of the kit's calendar, 1 January of the year -9999, to 1 January 1900.
 const TO_1900: u32 = 4_346_020;
 
-/// How many days a day of the calendar is behind 1 January 1900; `None` where the calendar has no
+/// How many days a day of the calendar is behind 1 January 1900; `None` if the calendar has no
 /// such day, and for one that isn't in the years 1900 to 9999.
 pub fn day_number(year: u16, month: u8, day: u8) -> Option<u32>
     ensures { result ≡ day_number year month day }

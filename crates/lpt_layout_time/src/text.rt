@@ -24,7 +24,7 @@ const LAST_MINUTE: u32 = 1439;
 /// rounded down; in CDS those of milliseconds and of what stands behind them, which is exact. A leap
 /// second is `23:59:60`, on any day.
 ///
-/// `None` where octets are more or fewer than the code has, where a preamble field says another
+/// `None` if octets are more or fewer than the code has, if a preamble field says another
 /// code, other lengths or another epoch, or that a second octet follows it; for milliseconds of the
 /// day above 86,400,999, and more parts than one has; and behind the year 9999. The only error is
 /// out of memory.

@@ -19,7 +19,7 @@ pub(crate) const WORD: u16 = 64;
 /// How many names these pages have.
 pub(crate) const WORD_NAMES: u16 = 4_096;
 
-/// The words, by the first names of their pages. A word has a place in memory where one of its bits
+/// The words, by the first names of their pages. A word has a place in memory if one of its bits
 /// is set.
 pub(crate) type Words = BTreeMap<Name, u64>;
 
@@ -33,7 +33,7 @@ pub(crate) fn word_of(words: &Words, first: Name) -> u64
     }
 }
 
-/// Makes the place in memory that the bit of a name's page takes, where the page gets full. No bit
+/// Makes the place in memory that the bit of a name's page takes, if the page gets full. No bit
 /// changes. The only error is out of memory.
 pub(crate) fn keep_place(
     words: &mut Words,
@@ -58,7 +58,7 @@ pub(crate) fn keep_place(
     }
 }
 
-/// Sets the bit of a name's page where the page is full, or clears it. It takes no memory: a bit
+/// Sets the bit of a name's page if the page is full, or clears it. It takes no memory: a bit
 /// without a place stays clear.
 pub(crate) fn put_bit(words: &mut Words, name: Name, is_full: bool)
     ensures this { (q : Name) → page_first q ≡ page_first name

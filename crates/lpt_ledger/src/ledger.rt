@@ -63,7 +63,7 @@ impl Ledger {
         page_of(&self.pages, first_among(name, PAGE)).state(u32::from(name.id % PAGE))
     }
 
-    /// The least free name of a source, or `None` where none of its 65,536 is free. It looks at no
+    /// The least free name of a source, or `None` if none of its 65,536 is free. It looks at no
     /// more than 16 words of 64 bits, and at the pages that no bit tells as full.
     pub fn least_free(&self, source: u16) -> Option<Name>
         ensures least { IsLeastFree self.now source result }
@@ -100,7 +100,7 @@ impl Ledger {
 
     /// Closes an open name. It takes no memory.
     ///
-    /// Errors: `NotOpen` where it is free or closed.
+    /// Errors: `NotOpen` if it is free or closed.
     pub fn close(&mut self, name: Name) -> Result<(), LedgerFault>
         ensures enabled { OnOk result (refusal_close (state_at self.old name) ≡ None) }
         ensures ok { OnOk result (self.new ≡ map.insert self.old name Shut) }
@@ -132,7 +132,7 @@ impl Ledger {
 
     /// Frees a closed name. It takes no memory.
     ///
-    /// Errors: `StillOpen` where it is open, `NotOpen` where it is free.
+    /// Errors: `StillOpen` if it is open, `NotOpen` if it is free.
     pub fn retire(&mut self, name: Name) -> Result<(), LedgerFault>
         ensures enabled { OnOk result (refusal_retire (state_at self.old name) ≡ None) }
         ensures ok { OnOk result (self.new ≡ map.remove self.old name) }

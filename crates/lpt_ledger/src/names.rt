@@ -46,7 +46,7 @@ impl<'a> Names<'a> {
         }
     }
 
-    /// The next one, where one is left.
+    /// The next one, if one is left.
     pub(crate) fn next(&mut self) -> Option<Name>
         ensures some { IfSome result (λ n. self.old ≡ n ∷ self.new) }
         ensures none { IfNone result (self.old ≡ []) }

@@ -106,7 +106,7 @@ impl Page {
     }
 }
 
-/// The first of a name's run, where the names of a source stand in runs of so many.
+/// The first of a name's run, if the names of a source stand in runs of so many.
 pub(crate) fn first_among(name: Name, names: u16) -> Name
     requires { 0 < names }
     ensures { result ≡ named_by name.source (name.id / names * names) }

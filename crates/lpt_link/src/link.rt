@@ -75,7 +75,7 @@ impl Link {
         self.packets.len() as u64
     }
 
-    /// The octets of the packet numbered `n`, lost or not. `None` where no packet has that number.
+    /// The octets of the packet numbered `n`, lost or not. `None` if no packet has that number.
     pub fn packet(&self, n: u64) -> Option<&[u8]>
         ensures value { option_copied result ≡ octets_at self.now.at n }
         ensures some { IsSome result ↔ (n < length self.now.at.packets) }

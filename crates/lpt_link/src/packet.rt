@@ -7,7 +7,7 @@ use lpt_packet::{Direction, Name, Octets};
 pub(crate) struct LinkPacket {
     /// Which way it goes.
     pub(crate) direction: Direction,
-    /// The name of the transaction that it is a part of; `None` where it is no part.
+    /// The name of the transaction that it is a part of; `None` if it is no part.
     pub(crate) tag: Option<Name>,
     /// Its octets. They stay readable after it is lost.
     pub(crate) octets: Octets,

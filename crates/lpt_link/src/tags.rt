@@ -10,7 +10,7 @@ use std::collections::BTreeMap;
 use std::marker::Model;
 
 /// A number for each transaction, by its direction and name. One that isn't 0 has a place in
-/// memory, and 0 has one where it was made.
+/// memory, and 0 has one if it was made.
 #[derive(Drop)]
 pub(crate) struct Tags {
     up: BTreeMap<Name, u64>,

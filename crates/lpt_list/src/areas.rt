@@ -9,7 +9,7 @@ use lpt_areas::Areas;
 use std::alloc::{AllocError, Global};
 
 /// The areas that a message names, as items behind others: the memory, how many areas, and the
-/// address and the length of the first; nothing where it names none. The only error is out of
+/// address and the length of the first; nothing if it names none. The only error is out of
 /// memory.
 pub fn print_areas(alloc: Global, form: Form, areas: Option<Areas>) -> Result<String, AllocError>
     ensures { IfOk result (λ t. string_bytes t ≡ items_text form (areas_said areas)) }

@@ -18,7 +18,7 @@ use std::alloc::{AllocError, Global};
 /// Writes the line that says what octets are by the layout of their packet type, as a list has it
 /// behind place and length.
 ///
-/// Errors: `Write` where a write failed; `Memory`. A front part of the line stays written.
+/// Errors: `Write` if a write failed; `Memory`. A front part of the line stays written.
 pub fn decode_layouts<K: Sink>(
     alloc: Global,
     layouts: &Layouts,

@@ -28,8 +28,8 @@ pub enum Hint {
 }
 
 /// By which other layout of its packet type octets would be read as the first part of a message,
-/// where they aren't by this one: with 1 to 4 octets more of time, or spare ones of telecommands,
-/// or without a packet error control, the first that fits. `None` where they are read, where no
+/// if they aren't by this one: with 1 to 4 octets more of time, or spare ones of telecommands,
+/// or without a packet error control, the first that fits. `None` if they are read, if no
 /// such layout fits, and of other parts, whose numbers may be any.
 pub fn hint_of(layouts: &Layouts, octets: &[u8]) -> Option<Hint>
     requires { SizesFit layouts.now }

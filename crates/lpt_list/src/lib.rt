@@ -1,6 +1,6 @@
 //! A list of the packets of a stream by layouts, of which the profile's are the default: a line for
 //! each, with its place, its length, and what its headers and its part or report say, as words or
-//! as an object of JSON. Where octets are no packet, a line says from which place on.
+//! as an object of JSON. If octets are no packet, a line says from which place on.
 //!
 //! The main types are `Form`, words or JSON, and `Listed`, how a list ends and how much is no
 //! packet. The first call is `list_stream`, with a source and a sink; `decode_layouts` writes what

@@ -10,7 +10,7 @@ use lpt_stream::PieceKind;
 pub enum ListEnd {
     /// At the stream's end.
     Whole,
-    /// At the first place at which no packet is, where no more was asked for.
+    /// At the first place at which no packet is, if no more was asked for.
     Stopped(u64),
 }
 

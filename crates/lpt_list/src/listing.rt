@@ -15,13 +15,13 @@ use std::alloc::Global;
 
 /// Reads a stream to its end, of which the first octet has the place `from`, and writes a line for
 /// each packet in it by the layout of its packet type, and one for each place from which on octets
-/// are no packet. Where `strict` is set, it ends behind the first line of what is no packet.
+/// are no packet. If `strict` is set, it ends behind the first line of what is no packet.
 ///
-/// Where packets of both types have a checksum, the next packet is found behind octets that are
+/// If packets of both types have a checksum, the next packet is found behind octets that are
 /// none; else the stream is cut by lengths alone. Each line is written as its packet comes, and
 /// before more is read `out` has passed on what was written.
 ///
-/// Errors: `Read` where a read failed, or where 2^64 - 1 pieces came; `Write` where a write failed;
+/// Errors: `Read` if a read failed, or if 2^64 - 1 pieces came; `Write` if a write failed;
 /// `Memory`. A front part of the list stays written.
 pub fn list_stream<P: Peer, K: Sink>(
     alloc: Global,

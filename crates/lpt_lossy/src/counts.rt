@@ -7,7 +7,7 @@ ghost use Rattle.lpt_lossy.specs.Counts.{is_passed};
 use crate::Fate;
 
 /// How many packets of a stream were lost, repeated and so on. One can be several of these. Each
-/// number stays at 2^64 - 1 where it would be more.
+/// number stays at 2^64 - 1 if it would be more.
 #[derive(Clone, Copy)]
 pub struct Counts {
     /// Packets that weren't written.

@@ -15,7 +15,7 @@ pub fn nothing_else_is_written()
     ensures { (n : ℕ) (xs : List Crossing) → AllByRecursion (ComesFrom xs) (carried n xs) }
 {}
 
-/// Of a packet that isn't lost, it itself is written or, where bits are changed, what is no packet;
+/// Of a packet that isn't lost, it itself is written or, if bits are changed, what is no packet;
 /// once, or twice. Of one that is lost, nothing is.
 pub fn packets_are_written_once_or_twice()
     ensures lost { (n : ℕ) (x : Crossing) → (way n x).is_lost ≡ true → written_of n x ≡ [] }

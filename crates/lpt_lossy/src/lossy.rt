@@ -25,7 +25,7 @@ use std::alloc::Global;
 /// Octets with which no packet begins end the run: those of another version than 0, and those at
 /// the stream's end that are fewer than their header says.
 ///
-/// Errors: `Read` where a read failed, or where 2^64 - 1 packets came; `Write` where a write
+/// Errors: `Read` if a read failed, or if 2^64 - 1 packets came; `Write` if a write
 /// failed; `Memory`. A front part of what would be written stays written.
 pub fn lossy_stream<S: Source, K: Sink, D: Decider>(
     alloc: Global,

@@ -26,7 +26,7 @@ pub struct Access {
 
 impl Reading {
     /// What the message does to a memory, by a number from 0, in the order in which it is done: a
-    /// load writes its areas, a dump and a check read theirs. `None` where it does no more.
+    /// load writes its areas, a dump and a check read theirs. `None` if it does no more.
     pub fn access(&self, number: usize) -> Option<Access>
         ensures { result ≡ slice_get (accesses (meant self.now)) number }
     {
@@ -39,7 +39,7 @@ impl Reading {
         }
     }
 
-    /// The octets that a load writes by an access of it. `None` where there is no such access, as
+    /// The octets that a load writes by an access of it. `None` if there is no such access, as
     /// always of another message.
     pub fn written(&self, number: usize) -> Option<&[u8]>
         ensures { option_map (λ x. x.now) result ≡ slice_get (written (meant self.now)) number }

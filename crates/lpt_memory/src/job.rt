@@ -224,7 +224,7 @@ impl Reading {
     ghost use Rattle.lpt_memory.specs.Readings.{meant, IsHeadIn};
     ghost use Rattle.lpt_memory.specs.Seen.{body_of, seen, IsWithin, IsCounted};
 
-    /// The head of the telecommand that the message is, or `None` where it is none for the APID:
+    /// The head of the telecommand that the message is, or `None` if it is none for the APID:
     /// its acknowledgement flags, its source, and what its request ID is made of. `prepare` has
     /// read it.
     pub fn head(&self) -> Option<TcHead>
@@ -233,7 +233,7 @@ impl Reading {
         self.head
     }
 
-    /// How many octets the body of the reply to the message has, at most 65,523. `None` where it has
+    /// How many octets the body of the reply to the message has, at most 65,523. `None` if it has
     /// no reply: it is no telecommand, has a fault or is a load. It takes no memory.
     pub fn reply_len(&self) -> Option<usize>
         ensures meant { result ≡ reply_length (meant self.now) }

@@ -15,8 +15,8 @@ ghost use Rattle.lpt_memory.specs.Overlaps.{Covers, NoneCovers};
 ghost use Rattle.lpt_memory.specs.Ranges.{AreasFit};
 ghost use Rattle.lpt_memory.specs.Meanings.{Meaning, Sizes, Silent, Fault, Load, Dump, Check, size_of, load_fault, range_fault, dump_length, area, unless, body_meaning, meaning};
 
-/// What a message means, by what its octets are: nothing where they are no telecommand of this
-/// APID, an unknown request where its service and subtype are none that is known, else what its
+/// What a message means, by what its octets are: nothing if they are no telecommand of this
+/// APID, an unknown request if its service and subtype are none that is known, else what its
 /// body means.
 pub fn meanings_follow_octets()
     ensures silent { (apid : ℕ) (sizes : Sizes) (message : List ℕ)
@@ -31,7 +31,7 @@ pub fn meanings_follow_octets()
         → body_meaning sizes 6 subtype body ≡ Fault UnknownRequest }
 {}
 
-/// The body of a load is read exactly where it is encoded so.
+/// The body of a load is read exactly if it is encoded so.
 pub fn load_bodies_are_read()
     ensures spelled { (memory : ℕ) (areas : List LoadArea) → AreAreas LoadAreaFits areas
         → request_in front_load_area (body_text load_area_text memory areas)
@@ -41,7 +41,7 @@ pub fn load_bodies_are_read()
         → (body ≡ body_text load_area_text r.memory r.areas) × AreAreas LoadAreaFits r.areas }
 {}
 
-/// The body of a dump or a check is read exactly where it is encoded so.
+/// The body of a dump or a check is read exactly if it is encoded so.
 pub fn range_bodies_are_read()
     ensures spelled { (memory : ℕ) (ranges : List AreaRange) → AreAreas RangeFits ranges
         → request_in front_range (body_text range_text memory ranges)
@@ -51,7 +51,7 @@ pub fn range_bodies_are_read()
         → (body ≡ body_text range_text r.memory r.areas) × AreAreas RangeFits r.areas }
 {}
 
-/// What a load means, by the encoding of its body: malformed where it has none; an unknown memory;
+/// What a load means, by the encoding of its body: malformed if it has none; an unknown memory;
 /// else the first fault of its areas, or the load.
 pub fn load_meanings_follow_bodies()
     ensures malformed { (sizes : Sizes) (body : List ℕ) → IsOctets body
@@ -69,7 +69,7 @@ pub fn load_meanings_follow_bodies()
         ≡ unless (load_fault size areas) (Load memory (map area areas)) }
 {}
 
-/// What a dump or a check means, by the encoding of its body: malformed where it has none; an
+/// What a dump or a check means, by the encoding of its body: malformed if it has none; an
 /// unknown memory; else a range that isn't within it; then a dump whose answer is too long; else
 /// the dump or the check.
 pub fn range_meanings_follow_bodies()

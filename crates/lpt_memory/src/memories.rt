@@ -36,7 +36,7 @@ impl Memories {
 
     /// Memories of these identifiers and octets, which are not copied. It takes no memory.
     ///
-    /// Errors: `BadMemories` where they aren't 1 to 16 with distinct identifiers, of 1 to 1,048,576
+    /// Errors: `BadMemories` if they aren't 1 to 16 with distinct identifiers, of 1 to 1,048,576
     /// octets each; they are dropped then.
     pub fn new(memories: Vec<(u8, Octets)>) -> Result<Memories, MemoryFault>
         ensures ok { IsOk result ↔ IsTrue (are_memories memories.items) }
@@ -65,7 +65,7 @@ impl Memories {
         Ok(Shape::of(contents::sizes_of(self.alloc(), &self.items)?))
     }
 
-    /// The octets of a memory, or `None` where there is no such memory.
+    /// The octets of a memory, or `None` if there is no such memory.
     pub fn content(&self, id: u8) -> Option<&[u8]>
         ensures { option_map (λ x. x.now) result ≡ content_of id self.now }
     {

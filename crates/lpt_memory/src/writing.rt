@@ -111,7 +111,7 @@ fn load_packet(
 
 /// The fault for which a load of these areas can't be written, if there is one. It takes no memory.
 ///
-/// It is the first that applies: `TooLong` where the packet would have more than 65,542 octets;
+/// It is the first that applies: `TooLong` if the packet would have more than 65,542 octets;
 /// `BadArea` for no area, more than 255, or an empty one.
 pub fn load_fault(areas: &[Area]) -> Option<MemoryFault>
     ensures { result ≡ write_fault areas.now }
@@ -128,8 +128,8 @@ pub fn load_fault(areas: &[Area]) -> Option<MemoryFault>
 /// The packet of a load: a telecommand of this head, with the areas in their order and a checksum
 /// for each. An area's own checksum is over its octets alone.
 ///
-/// Errors: the fault that `load_fault` gives for the areas, `TooLong` or `BadArea`; where there is
-/// none, `Memory` where memory runs out.
+/// Errors: the fault that `load_fault` gives for the areas, `TooLong` or `BadArea`; if there is
+/// none, `Memory` if memory runs out.
 pub fn write_load(
     alloc: Global,
     head: &TcHead,

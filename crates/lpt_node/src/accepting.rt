@@ -55,7 +55,7 @@ impl Node {
 
     /// Takes the octets of a packet that was delivered to this end, and answers what became of it.
     ///
-    /// As [`Node::accept`], but the octets are borrowed: they are copied only where they are
+    /// As [`Node::accept`], but the octets are borrowed: they are copied only if they are
     /// released as a plain request. The only error is an allocation that fails; then nothing has
     /// changed.
     #[inline(always)]

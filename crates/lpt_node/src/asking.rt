@@ -15,7 +15,7 @@ use lpt_packet::{LONGEST_PACKET, Name};
 use lpt_part::count;
 
 impl Node {
-    /// The first reason why this call would be refused now, or `None` where only an allocation
+    /// The first reason why this call would be refused now, or `None` if only an allocation
     /// failure can stop it.
     pub fn refusal(&self, ask: &Ask) -> Option<NodeFault>
         ensures { result ≡ refusal_of self.now.config self.now.at ask.now }

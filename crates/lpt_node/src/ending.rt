@@ -1,5 +1,5 @@
 //! How a reception ends. What takes memory comes first: the report or the job, and then the place of
-//! its name in the ledger. So a reception is put back as it was where memory runs out.
+//! its name in the ledger. So a reception is put back as it was if memory runs out.
 
 ghost use Rattle.std.specs.Prelude.{◌≡◌, ◌+◌, ◌<◌, ◌^◌, [], None, IsSomeAnd, IfOk, OnOk, OnErr};
 ghost use Rattle.std.specs.FinMap as map;

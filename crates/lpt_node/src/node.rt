@@ -21,7 +21,7 @@ use std::marker::Model;
 ///
 /// The sender's and the receiver's ledger know each transaction name as free, open or closed. The
 /// messages of open outgoing transactions are kept until these are closed. A receiver's name is
-/// closed when its reception is released, broken off or given up, and stays free where a restart
+/// closed when its reception is released, broken off or given up, and stays free if a restart
 /// drops it. A closed name is free again once it is retired.
 #[derive(Drop)]
 pub struct Node {
@@ -144,7 +144,7 @@ impl Node {
         &self.senders
     }
 
-    /// The names of incoming transactions, closed where a reception has ended, and never open.
+    /// The names of incoming transactions, closed if a reception has ended, and never open.
     pub fn receivers(&self) -> &Ledger
         ensures names { result.now ≡ self.now.at.receiving.ledger }
         ensures none_open { NoneOpen result.now }

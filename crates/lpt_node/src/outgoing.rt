@@ -90,7 +90,7 @@ impl Outgoing {
         Some(*name)
     }
 
-    /// Adds a message of a name that has none. Where there is no memory for it, it is handed back.
+    /// Adds a message of a name that has none. If there is no memory for it, it is handed back.
     pub(crate) fn insert(&mut self, name: Name, message: Octets) -> Result<(), Octets>
         requires fits { MessageFits self.old.p (length message) }
         requires absent { map.get self.old.messages name ≡ None }
@@ -129,7 +129,7 @@ impl Outgoing {
         }
     }
 
-    /// Lets the message of the least name go, and answers that name. `None` where there is no
+    /// Lets the message of the least name go, and answers that name. `None` if there is no
     /// message.
     pub(crate) fn pop_first(&mut self) -> Option<Name>
         ensures rest { IfSome result (λ name.

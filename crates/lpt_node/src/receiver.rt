@@ -90,7 +90,7 @@ impl Receiver {
         })
     }
 
-    /// The names, closed where a reception has ended, and never open.
+    /// The names, closed if a reception has ended, and never open.
     pub(crate) fn ledger(&self) -> &Ledger
         ensures names { result.now ≡ self.now.ledger }
         ensures none_open { NoneOpen result.now }
@@ -137,7 +137,7 @@ impl Receiver {
 
     /// Takes a part that came from this source, or to it, at this tick. A message that is whole is
     /// joined and its reception ended; at the spacecraft it becomes a job. One that is broken off
-    /// is ended with a report of it, where reports have a head.
+    /// is ended with a report of it, if reports have a head.
     ///
     /// The only error is out of memory, and then nothing has changed.
     pub(crate) fn accept(
@@ -196,7 +196,7 @@ impl Receiver {
         }
     }
 
-    /// Ends an open reception for its age, with a report of it, where reports have a head.
+    /// Ends an open reception for its age, with a report of it, if reports have a head.
     ///
     /// The only error is out of memory, and then nothing has changed.
     pub(crate) fn expire(

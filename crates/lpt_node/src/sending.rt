@@ -71,7 +71,7 @@ impl Node {
 
     /// Closes an open outgoing transaction and lets its message go.
     ///
-    /// Errors: `NotOpen` where none of this name is open. Nothing has changed then.
+    /// Errors: `NotOpen` if none of this name is open. Nothing has changed then.
     pub fn finish(&mut self, name: Name) -> Result<(), NodeFault>
         ensures enabled { OnOk result (refusal_finish self.old.at name ≡ None) }
         ensures ok { OnOk result (self.new.at ≡ closed self.old.at name) }

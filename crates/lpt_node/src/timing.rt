@@ -10,7 +10,7 @@ use lpt_events::TelemetryKind;
 impl Node {
     /// Sets the clock one tick on.
     ///
-    /// Errors: `ClockEnd` where it is at its greatest value. Nothing has changed then.
+    /// Errors: `ClockEnd` if it is at its greatest value. Nothing has changed then.
     pub fn tick(&mut self) -> Result<(), NodeFault>
         ensures enabled { OnOk result (refusal_tick self.old.at ≡ None) }
         ensures ok { OnOk result (self.new.at ≡ ticked self.old.at) }

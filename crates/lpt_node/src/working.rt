@@ -47,7 +47,7 @@ impl Node {
         self.jobs.waiting() as u64
     }
 
-    /// The number and the message of the oldest job that waits. `None` where none does.
+    /// The number and the message of the oldest job that waits. `None` if none does.
     pub fn unclaimed(&self) -> Option<(u64, &Octets)>
         ensures { option_map (λ x. (x.0, x.1.now)) result ≡ unclaimed self.now.at.jobs }
     {
@@ -56,7 +56,7 @@ impl Node {
 
     /// Gives the oldest job that waits to a worker, with its message. It takes no memory.
     ///
-    /// Errors: `NoJob` where none waits. Nothing has changed then.
+    /// Errors: `NoJob` if none waits. Nothing has changed then.
     pub fn claim(&mut self) -> Result<Ticket, NodeFault>
         ensures enabled { OnOk result (refusal_claim self.old.at ≡ None) }
         ensures ok { IfOk result (λ t. (self.new.at, t) ≡ claimed self.old.at) }
@@ -93,7 +93,7 @@ impl Node {
         true
     }
 
-    /// The reading of the oldest job. `None` where there is no job, or it wasn't handed in.
+    /// The reading of the oldest job. `None` if there is no job, or it wasn't handed in.
     pub fn front(&self) -> Option<&Reading>
         ensures { option_map (λ x. x.now) result
             ≡ front_reading (head_of self.now.at.jobs.jobs) }
@@ -111,7 +111,7 @@ impl Node {
     /// under the least free name of that source.
     ///
     /// Errors, with node and memories unchanged, the first that applies: `NoJob`, there is none;
-    /// `NotReady`, no reading of the oldest was handed in; `Memory`, where there is a report.
+    /// `NotReady`, no reading of the oldest was handed in; `Memory`, if there is a report.
     pub fn apply_front(&mut self, memories: &mut Memories) -> Result<Executed, NodeFault>
         requires { IsReadFor self.old memories.old }
         ensures enabled { OnOk result (refusal_apply self.old.at ≡ None) }
@@ -146,7 +146,7 @@ impl Node {
         Ok(executed)
     }
 
-    /// Executes the oldest job where the memories are elsewhere, by the octets that it reads of
+    /// Executes the oldest job if the memories are elsewhere, by the octets that it reads of
     /// them, one area behind the other: makes its reports and lets the job go. What a load writes is
     /// the caller's to do.
     ///

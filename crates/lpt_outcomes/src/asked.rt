@@ -27,7 +27,7 @@ pub struct Asked {
     pub service: u8,
     /// The message subtype.
     pub subtype: u8,
-    /// The areas that it names, where it is a load, a dump or a check.
+    /// The areas that it names, if it is a load, a dump or a check.
     pub areas: Option<Areas>,
     /// What reports have told of it.
     pub outcome: Outcome,
@@ -84,7 +84,7 @@ impl Asked {
 /// Whether nothing is open: there are requests, all of them are settled, and nothing is to be told
 /// that was passed over among them or among the reports.
 ///
-/// A request is settled where it didn't fail, and the last report of success has come that its
+/// A request is settled if it didn't fail, and the last report of success has come that its
 /// acknowledgement flags ask for, of acceptance, start and completion; no report of progress is
 /// waited for. One that asks for none of these is settled by nothing.
 pub fn are_settled(requests: &[Asked], of_requests: &Passed, of_reports: &Passed) -> bool

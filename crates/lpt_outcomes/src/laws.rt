@@ -5,8 +5,8 @@ ghost use Rattle.lpt_outcomes.specs.declared.asked.Asked.{Asked};
 ghost use Rattle.lpt_outcomes.specs.Requests.{nothing_told};
 ghost use Rattle.lpt_outcomes.specs.Settled.{answered, is_acknowledged, is_settled};
 
-/// Once all reports on a request have come that are sent on it, it is settled exactly where it asks
-/// for a report of success and was carried out: where it failed, with whatever code, it isn't.
+/// Once all reports on a request have come that are sent on it, it is settled exactly if it asks
+/// for a report of success and was carried out: if it failed, with whatever code, it isn't.
 pub fn answered_is_settled()
     ensures { (a : Asked) (code : Option ℕ) → a.request.value < 2 ^ 32
         → IfSome code (λ c. c < 2 ^ 16) → a.outcome ≡ nothing_told

@@ -18,10 +18,10 @@ use std::alloc::Global;
 
 /// Writes the packets of a stream's requests that are open, as they stand there, and gives how many
 /// requests are left that the stream doesn't have: its first request is the first of these, and so
-/// on. A request is open where no report tells its end: neither that it failed, nor the last
+/// on. A request is open if no report tells its end: neither that it failed, nor the last
 /// success that it asks for.
 ///
-/// Errors: `Read` where a read failed, or where 2^64 - 1 pieces came; `Write` where a write failed;
+/// Errors: `Read` if a read failed, or if 2^64 - 1 pieces came; `Write` if a write failed;
 /// `Memory`. A front part stays written.
 pub fn write_open<S: Source, K: Sink>(
     alloc: Global,

@@ -18,7 +18,7 @@ pub(crate) enum Beside {
 }
 
 /// How much of a stream of requests, or of reports on them, was passed over. Each number stays at
-/// 2^64 - 1 where it would be more.
+/// 2^64 - 1 if it would be more.
 #[derive(Clone, Copy)]
 pub struct Passed {
     /// Parts of large messages among requests.

@@ -19,7 +19,7 @@ use std::collections::BTreeMap;
 /// each is told of all requests whose source is its destination and that have its request ID, by
 /// which it is looked up. What is none is counted, but for idle packets and other telemetry.
 ///
-/// Errors: `Read` where a read failed, or where 2^64 - 1 pieces came; `Memory`. The requests are
+/// Errors: `Read` if a read failed, or if 2^64 - 1 pieces came; `Memory`. The requests are
 /// unchanged.
 pub fn read_reports<S: Source>(
     alloc: Global,

@@ -24,7 +24,7 @@ pub struct Requests {
 /// The telecommands among the packets of a stream, in their order, before any report on them. A
 /// part of a large message is none: what was split may be one. What else there is is counted.
 ///
-/// Errors: `Read` where a read failed, or where 2^64 - 1 pieces came; `Memory`.
+/// Errors: `Read` if a read failed, or if 2^64 - 1 pieces came; `Memory`.
 pub fn read_requests<S: Source>(alloc: Global, source: &mut S) -> Result<Requests, StreamFault>
     // The stream is read to its end.
     ensures requests { IfOk result (λ r. ReadsPieces (S.remaining source.old)

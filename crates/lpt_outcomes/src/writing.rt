@@ -16,7 +16,7 @@ use std::alloc::{AllocError, Global};
 /// Writes a line for each request, in their order, and passes it on: what the request asks, and
 /// which successes were reported, or the failure code and what it means, or that nothing was yet,
 /// or that it asks for no report of success; and how many requests have its source and its request
-/// ID, where it isn't one alone.
+/// ID, if it isn't one alone.
 ///
 /// Errors: `Memory`, and then nothing was written; `Write`, and then a front part was.
 pub fn write_outcomes<K: Sink>(

@@ -1,5 +1,5 @@
 //! What the definitions say of packets, proved of all lists of octets: functions with empty bodies.
-//! Where a law speaks of a value, its body reads the value and does nothing.
+//! If a law speaks of a value, its body reads the value and does nothing.
 
 ghost use Rattle.std.specs.Prelude.{◌≡◌, ◌<◌, ◌++◌, ◌↔◌, ℕ, List, [], Some, Ok};
 ghost use Rattle.std.specs.Result.{result_ok};
@@ -9,7 +9,7 @@ ghost use Rattle.lpt_packet.specs.Numbers.{IsOctets};
 ghost use Rattle.lpt_packet.specs.Packets.{Fields, Sight, APacket, IsPacket, IsSight, seen, spelling, verdict};
 ghost use Rattle.lpt_packet.specs.Ranges.{InRange};
 
-/// No packet's octets are a proper beginning of another's: where they begin another packet, the two
+/// No packet's octets are a proper beginning of another's: if they begin another packet, the two
 /// are the same.
 pub fn no_prefix()
     ensures { (a b rest : List ℕ) (f g : Fields) → IsPacket a f → IsPacket b g → a ++ rest ≡ b

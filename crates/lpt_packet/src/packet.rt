@@ -33,7 +33,7 @@ pub struct Packet<'a> {
 }
 
 impl<'a> Packet<'a> {
-    /// A packet of these fields, or `None` where one of them is out of its range.
+    /// A packet of these fields, or `None` if one of them is out of its range.
     pub fn new(kind: PacketKind, apid: u16, count: u16, field: &'a [u8]) -> Option<Packet<'a>>
         ensures fits { IsSome result ↔ InRange apid count field.now }
         ensures fields { IfSome result (λ p. (p.kind ≡ kind) × (p.apid ≡ apid) × (p.count ≡ count) × (p.field.now ≡ field.now)) }

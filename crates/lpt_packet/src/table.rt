@@ -4,7 +4,7 @@ ghost use Rattle.std.specs.Prelude.{◌≡◌, ◌<◌, ◌∷◌, replicate};
 ghost use Rattle.lpt_packet.specs.Checksums.{octets_in};
 
 /// In the row n, 0 to 7, the register after each octet, 0 to 255, and n octets of zeros behind it,
-/// where it is 0 before.
+/// if it is 0 before.
 const TABLES: [[u16; 256]; 8] = [
     [
         0x0000, 0x1021, 0x2042, 0x3063, 0x4084, 0x50a5, 0x60c6, 0x70e7, 0x8108, 0x9129, 0xa14a,

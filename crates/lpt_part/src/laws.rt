@@ -37,7 +37,7 @@ pub fn written_is_read()
         → abort_verdict (abort_body id reason) ≡ Ok (id, reason) }
 {}
 
-/// A list of octets reads as a part, or as an abortion report, exactly where it is one.
+/// A list of octets reads as a part, or as an abortion report, exactly if it is one.
 pub fn read_is_spelled()
     ensures part { (p : ℕ) (b : List ℕ) (q : Piece) → IsOctets b
         → (part_in p q.kind b ≡ Some q) ↔ IsPart p b q }

@@ -28,7 +28,7 @@ pub struct Part<'a> {
 }
 
 impl<'a> Part<'a> {
-    /// A part of these fields, for parts of `p` octets, or `None` where there is no such part:
+    /// A part of these fields, for parts of `p` octets, or `None` if there is no such part:
     /// the number is 0, a first part's number isn't 1, another's is 1, or `octets` is too short
     /// or too long for a part of this kind and number.
     pub fn new(

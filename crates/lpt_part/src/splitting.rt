@@ -17,7 +17,7 @@ pub fn count(len: u32, p: u32) -> u32
 }
 
 /// The octets of part `k` of a message that is split into parts of `p` octets; parts are counted
-/// from 1. `None` where `k` is 0 or greater than the number of parts.
+/// from 1. `None` if `k` is 0 or greater than the number of parts.
 pub fn slice(message: &[u8], p: u32, k: u32) -> Option<&[u8]>
     requires { IsPartSize p }
     ensures some { IsSome result ↔ ((1 ≤ k) × (k ≤ part_count (length message.now) p)) }

@@ -16,13 +16,13 @@ pub fn heard_dump_is_memory()
 {}
 
 /// Each request that the log has as executed is one that ground asked for by a plain request, or
-/// opened upwards, where each fact of the log was due, as it is of two ends apart.
+/// opened upwards, if each fact of the log was due, as it is of two ends apart.
 pub fn executed_was_asked()
     ensures { ExecutedWasAsked }
 {}
 
 /// Take an image and ground's requests to load it, each of a source and request ID that no other
-/// request has. Where a report of the completion of each could be heard at some moment, as the
+/// request has. If a report of the completion of each could be heard at some moment, as the
 /// spacecraft had put it out, and nothing else was loaded into the range since the first of them,
 /// the memory has the image there.
 pub fn passes_leave_the_image()

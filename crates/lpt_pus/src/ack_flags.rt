@@ -26,7 +26,7 @@ impl Model for AckFlags {
 }
 
 impl AckFlags {
-    /// The flags of this number, or `None` where it is above 15.
+    /// The flags of this number, or `None` if it is above 15.
     pub fn new(bits: u8) -> Option<AckFlags>
         ensures fits { IsSome result ↔ (bits ≤ 15) }
         ensures value { IfSome result (λ flags. flags ≡ bits) }

@@ -27,7 +27,7 @@ pub enum FailureCode {
 }
 
 impl FailureCode {
-    /// The failure code of this number, or `None` where it isn't one of 1 to 8.
+    /// The failure code of this number, or `None` if it isn't one of 1 to 8.
     pub fn from_number(number: u16) -> Option<FailureCode>
         ensures known { IsSome result ↔ ((1 ≤ number) × (number ≤ 8)) }
         ensures value { IfSome result (λ c. number_of c ≡ number) }

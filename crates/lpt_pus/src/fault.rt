@@ -14,7 +14,7 @@ pub enum PusFault {
     /// The PUS version number isn't 2.
     #[error("the PUS version number isn't 2")]
     PusVersion,
-    /// Telemetry where a telecommand is read, or the other way round.
+    /// Telemetry if a telecommand is read, or the other way round.
     #[error("a packet of the other type")]
     WrongType,
     /// The packet's data field is shorter than the secondary header.

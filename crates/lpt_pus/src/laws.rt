@@ -14,7 +14,7 @@ pub fn written_is_read()
     ensures telemetry { (t : Telemetry) → TelemetryFits t → tm_verdict (tm_packet_of t) ≡ Ok t }
 {}
 
-/// A packet in its ranges is read as a message exactly where it is that message's packet.
+/// A packet in its ranges is read as a message exactly if it is that message's packet.
 pub fn verdicts_are_exact()
     ensures command { (f : Fields) (c : Command) → InRange f.apid f.count f.octets
         → IsOctets f.octets → (tc_verdict f ≡ Ok c) ↔ IsCommand f c }
@@ -36,7 +36,7 @@ pub fn lengths_add_up()
     ensures telemetry { (t : Telemetry) → length (spelling (tm_packet_of t)) ≡ length t.body + 19 }
 {}
 
-/// Octets are read as a message with an APID exactly where they are a packet, it is read as that
+/// Octets are read as a message with an APID exactly if they are a packet, it is read as that
 /// message, and this is its APID.
 pub fn octets_are_read_exactly()
     ensures command { (apid : ℕ) (b : List ℕ) (c : Command)

@@ -25,7 +25,7 @@ pub struct TcHead {
 }
 
 impl TcHead {
-    /// A head of these fields, or `None` where one of them is out of its range.
+    /// A head of these fields, or `None` if one of them is out of its range.
     pub fn new(
         apid: u16,
         count: u16,

@@ -14,8 +14,8 @@ use std::alloc::{AllocError, Global};
 
 /// The octets of a telecommand's whole packet.
 ///
-/// Errors: `TooLong` where the packet would have more than 65,542 octets, which is found before
-/// any memory is taken; `Memory` where memory runs out.
+/// Errors: `TooLong` if the packet would have more than 65,542 octets, which is found before
+/// any memory is taken; `Memory` if memory runs out.
 pub fn write_tc(alloc: Global, head: &TcHead, body: &[u8]) -> Result<Octets, PusFault>
     ensures { Writes result (spelling (packet_of (command head.now body.now))) }
 {
@@ -61,8 +61,8 @@ pub fn tc_pieces(
 /// The octets of a telemetry message's whole packet. The status is written as 0, whatever the
 /// head's is.
 ///
-/// Errors: `TooLong` where the packet would have more than 65,542 octets, which is found before
-/// any memory is taken; `Memory` where memory runs out.
+/// Errors: `TooLong` if the packet would have more than 65,542 octets, which is found before
+/// any memory is taken; `Memory` if memory runs out.
 pub fn write_tm(alloc: Global, head: &TmHead, body: &[u8]) -> Result<Octets, PusFault>
     ensures { Writes result (spelling (tm_packet_of (as_written (telemetry head.now body.now)))) }
 {

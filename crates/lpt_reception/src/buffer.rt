@@ -59,7 +59,7 @@ impl Buffer {
         octets
     }
 
-    /// Writes octets from a place on, behind zeros where the buffer ends before it. An allocation
+    /// Writes octets from a place on, behind zeros if the buffer ends before it. An allocation
     /// failure leaves the buffer as it was.
     pub(crate) fn write(&mut self, start: usize, octets: &[u8]) -> Result<(), AllocError>
         requires { start + length octets.now ≤ longest_packet }

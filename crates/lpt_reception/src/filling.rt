@@ -79,7 +79,7 @@ impl Filling {
         self.store.len()
     }
 
-    /// The number of the last part, or `None` where that wasn't kept.
+    /// The number of the last part, or `None` if that wasn't kept.
     pub fn last_number(&self) -> Option<u16>
         ensures is { IsLastNumber self.now.parts result }
         ensures above { IfSome result (λ n. 2 ≤ n) }
@@ -88,7 +88,7 @@ impl Filling {
     }
 
     /// The least number from `from` on, and from 1 on, whose part wasn't kept and stands before the
-    /// last part, where that was kept; else all up to 65,535 are looked at. `None` where there is
+    /// last part, if that was kept; else all up to 65,535 are looked at. `None` if there is
     /// none.
     pub fn next_missing(&self, from: u16) -> Option<u16>
         ensures { IsNextMissing self.now.parts from result }
@@ -131,7 +131,7 @@ impl Filling {
         }
     }
 
-    /// Adds a part of this transaction in this mode, and leaves the reception where it is. Where the
+    /// Adds a part of this transaction in this mode, and leaves the reception where it is. If the
     /// answer is `Whole` or `Conflict`, `ended_by` and `broken_for` give the reception that ended.
     #[inline(always)]
     pub fn take(&mut self, mode: Mode, part: &Part<'_>) -> Took
@@ -172,7 +172,7 @@ impl Filling {
         }
     }
 
-    /// A copy of the message, where all parts are there. The only error is out of memory.
+    /// A copy of the message, if all parts are there. The only error is out of memory.
     pub(crate) fn joined(&self) -> Result<Octets, AllocError>
         requires { is_whole self.now.parts ≡ true }
         ensures message { IfOk result (λ m. m ≡ spelled self.now.parts) }
@@ -182,7 +182,7 @@ impl Filling {
         Ok(Octets::from_vec(self.store.octets.copy()?))
     }
 
-    /// The message, where all parts are there.
+    /// The message, if all parts are there.
     pub(crate) fn into_message(self) -> Octets
         requires { is_whole self.parts ≡ true }
         ensures message { result ≡ spelled self.parts }
@@ -193,7 +193,7 @@ impl Filling {
         Octets::from_vec(store.into_octets())
     }
 
-    /// The reception without one of its parts, where all parts are there.
+    /// The reception without one of its parts, if all parts are there.
     pub(crate) fn without(mut self, number: u16) -> Filling
         requires whole { is_whole self.parts ≡ true }
         requires there { IsSome (map.get self.parts number) }

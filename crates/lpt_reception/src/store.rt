@@ -164,7 +164,7 @@ impl Store {
         self.so_many
     }
 
-    /// The number of the last part, where that is there.
+    /// The number of the last part, if that is there.
     pub(crate) fn last_number(&self, p: u32) -> Option<u16>
         requires { IsSound p self.now }
         ensures is { IsLastNumber (stored p self.now) result }

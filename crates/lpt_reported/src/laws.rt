@@ -18,7 +18,7 @@ pub fn completed_was_executed()
     ensures { CompletedWasExecuted }
 {}
 
-/// Where ground gave a source and a request ID to one message alone, it is that message that was
+/// If ground gave a source and a request ID to one message alone, it is that message that was
 /// carried out under them.
 pub fn carried_out_is_alone()
     ensures { CarriedOutIsAlone }
@@ -38,7 +38,7 @@ pub fn dumped_is_memory()
 {}
 
 /// Let each of the requests that are executed load nothing but the image's octets into a range of a
-/// memory. Where each octet of the range was loaded by one of them, the range is the image,
+/// memory. If each octet of the range was loaded by one of them, the range is the image,
 /// whatever their order and however often each was executed.
 pub fn loads_leave_the_image()
     ensures { LoadsLeaveTheImage }
@@ -50,7 +50,7 @@ pub fn pass_leaves_the_image()
     ensures { PassLeavesTheImage }
 {}
 
-/// Where a range of a memory is the image, it stays so through requests that load nothing else into
+/// If a range of a memory is the image, it stays so through requests that load nothing else into
 /// it: what is dumped of it in between, piece by piece, is the image.
 pub fn range_stays()
     ensures { RangeStays }

@@ -20,7 +20,7 @@ pub(crate) const ADDRESSES: u64 = 1 << 32;
 /// first to its last, area by area. One load holds 65,519 octets at most.
 ///
 /// Errors, the first in the order of the areas: `Empty` for none, or one without octets; `PastEnd`
-/// for one that ends behind the last address; where there is no such fault, `Memory`.
+/// for one that ends behind the last address; if there is no such fault, `Memory`.
 pub fn load_requests(
     alloc: Global,
     memory: u8,
@@ -41,7 +41,7 @@ pub fn load_requests(
     Ok(cut_areas(alloc, memory, areas, each)?)
 }
 
-/// The first fault of areas that are to be loaded, where there is one: `Empty` for none, or one
+/// The first fault of areas that are to be loaded, if there is one: `Empty` for none, or one
 /// without octets; `PastEnd` for one that ends behind the last address.
 pub fn areas_fault(areas: &[Area]) -> Option<CutFault>
     ensures { result ≡ areas_fault areas.now }

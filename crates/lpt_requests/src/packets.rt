@@ -14,7 +14,7 @@ use std::alloc::Global;
 /// The packets of requests, as `write_request` makes them, in their order. The sequence counts go
 /// on from the first one, and from 16,383 to 0.
 ///
-/// Errors: the first fault of a request, as there; where there is none, `Memory`.
+/// Errors: the first fault of a request, as there; if there is none, `Memory`.
 pub fn write_requests(
     alloc: Global,
     apid: u16,

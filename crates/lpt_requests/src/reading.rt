@@ -37,7 +37,7 @@ pub enum Read {
 /// many octets, from its first to its last, place by place. One dump holds 65,513 octets at most.
 ///
 /// Errors, the first in the order of the places: `Empty` for none, or one without octets; `PastEnd`
-/// for one that ends behind the last address; where there is no such fault, `Memory`.
+/// for one that ends behind the last address; if there is no such fault, `Memory`.
 pub fn read_requests(
     alloc: Global,
     what: Read,
@@ -59,7 +59,7 @@ pub fn read_requests(
     Ok(cut_places(alloc, what, memory, places, each)?)
 }
 
-/// The first fault of places that are to be read, where there is one: `Empty` for none, or one
+/// The first fault of places that are to be read, if there is one: `Empty` for none, or one
 /// without octets; `PastEnd` for one that ends behind the last address.
 pub fn places_fault(places: &[Place]) -> Option<CutFault>
     ensures { result ≡ places_fault places.now }

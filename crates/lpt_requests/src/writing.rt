@@ -18,8 +18,8 @@ use std::alloc::Global;
 /// count (0 to 16,383) and acknowledgement flags, with the areas in their order, and for each area
 /// of a load its checksum.
 ///
-/// Errors: `TooLong` where the packet would have more than 65,542 octets; `BadArea` for no area,
-/// more than 255, or an empty one; where there is no such fault, `Memory`.
+/// Errors: `TooLong` if the packet would have more than 65,542 octets; `BadArea` for no area,
+/// more than 255, or an empty one; if there is no such fault, `Memory`.
 pub fn write_request(
     alloc: Global,
     apid: u16,

@@ -36,7 +36,7 @@ pub fn run_command<K: Sink>(
     ran
 }
 
-/// The same, where the text of a line is made in one that serves for many.
+/// The same, if the text of a line is made in one that serves for many.
 pub(crate) fn run_command_in<K: Sink>(
     alloc: Global,
     text: &mut String,

@@ -12,7 +12,7 @@ use std::alloc::Global;
 /// Writes what octets are as a packet, for the part size `p` (4 to 1,024 octets), and answers whether
 /// that is a fault.
 ///
-/// Errors: `Write` where a write failed or took nothing, after a front part of the text; `Memory`,
+/// Errors: `Write` if a write failed or took nothing, after a front part of the text; `Memory`,
 /// before anything was written.
 pub fn decode<K: Sink>(
     alloc: Global,

@@ -10,7 +10,7 @@ use lpt_script_text::write_refused;
 use lpt_text::{Sink, StreamFault, write_out};
 use std::alloc::{AllocError, Global};
 
-/// Writes a text, where it could be made.
+/// Writes a text, if it could be made.
 #[inline(always)]
 pub fn put<K: Sink>(out: &mut K, text: Result<String, AllocError>) -> Result<(), StreamFault>
     ensures ends { (t : List ℕ) → IfOk text (λ s. string_bytes s ≡ t) → TextEnds t result (K.contents out.old) (K.contents out.new) }

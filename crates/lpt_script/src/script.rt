@@ -21,14 +21,14 @@ use std::alloc::Global;
 /// what its lines print.
 ///
 /// Each line is run as it comes: before more is read, every whole line that came has been run, and
-/// `out` has passed on what it printed. Where the run ends well, `out` has passed on all of it. A script
+/// `out` has passed on what it printed. If the run ends well, `out` has passed on all of it. A script
 /// has 16,777,216 octets at most; what it takes of memory depends on its longest line, and on the journal
 /// of its world.
 ///
 /// Errors: `Config` for a configuration out of its ranges, before anything is read; `Line` at the
-/// first unreadable line, which ends the run; `Read` where a read failed or more octets came than a
+/// first unreadable line, which ends the run; `Read` if a read failed or more octets came than a
 /// script may have, after the lines before that, unless the line that this cuts is too long already
-/// and so unreadable; `Write` where a write failed or took nothing; `Memory`.
+/// and so unreadable; `Write` if a write failed or took nothing; `Memory`.
 pub fn run_script<S: Source, K: Sink>(
     alloc: Global,
     config: Config,

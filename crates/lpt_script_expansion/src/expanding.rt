@@ -17,10 +17,10 @@ use lpt_world::World;
 use std::alloc::{AllocError, Global};
 
 /// The lines that a line stands for, in their order, each of which a script reads as a command;
-/// none where it stands for itself alone.
+/// none if it stands for itself alone.
 ///
 /// `send DIRECTION ID all` stands for a line for each part of the message that was last opened so,
-/// or for one with part 1 where none was. `pass LANE all` stands for one for each packet that waits
+/// or for one with part 1 if none was. `pass LANE all` stands for one for each packet that waits
 /// for the lane, which may be no line: the link holds it, and no lane has taken it yet. In place of
 /// the number of `send`, `pass` and `lose` may stand a list, as `1-3,5`, of up to 65,535 numbers.
 /// And `open DIRECTION ID "TEXT"` stands for the line with the octets of the text, up to the quote

@@ -1,4 +1,4 @@
-//! What a line of a shell stands for: the lines that a script reads, where it names all parts of a
+//! What a line of a shell stands for: the lines that a script reads, if it names all parts of a
 //! message, all packets that wait for a lane, or several of either by a list of their numbers, or
 //! has a text in quotes or a file's octets in place of a message's octets. Nothing is run here, and
 //! no file is read: `filled` takes a file's octets.

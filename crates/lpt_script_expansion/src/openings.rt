@@ -8,7 +8,7 @@ use lpt_events::Opening;
 use lpt_packet::{Direction, Name};
 use lpt_world::World;
 
-/// How many parts the message has that was last opened as this transaction; 0 where none was.
+/// How many parts the message has that was last opened as this transaction; 0 if none was.
 pub fn parts_of(world: &World, direction: Direction, name: Name) -> usize
     ensures { result ≡ parts_of world.now direction name }
 {

@@ -48,7 +48,7 @@ fn given(alloc: Global, line: &[u8]) -> Result<Option<Octets>, AllocError>
     Ok(Some(Octets::from_vec(spelled)))
 }
 
-/// The name of the file whose octets an `open` stands for: what stands behind its first `@`, where
+/// The name of the file whose octets an `open` stands for: what stands behind its first `@`, if
 /// that comes before any quote.
 pub fn file_named(line: &[u8]) -> Option<&[u8]>
     ensures { option_map (λ t. t.now) result ≡ file_named line.now }

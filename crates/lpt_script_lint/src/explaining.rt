@@ -12,7 +12,7 @@ use crate::reasons::Reason;
 use lpt_script_words::split_word;
 use lpt_text::LONGEST_LINE;
 
-/// Where and why a line is unreadable, given without its line feed and the carriage return dropped
+/// If and why a line is unreadable, given without its line feed and the carriage return dropped
 /// with that; nothing of one that can be read.
 ///
 /// A line of more than 140,000 octets is unreadable whatever it holds. In any other it is the first

@@ -2,7 +2,7 @@
 
 use crate::reasons::Reason;
 
-/// Where a line stops being readable, and why.
+/// If a line stops being readable, and why.
 #[derive(Clone, Copy, PartialEq, Eq)]
 pub struct Finding {
     /// The place in the line, from 1: of the first octet of the word at fault; behind the last

@@ -7,7 +7,7 @@ ghost use Rattle.lpt_script_lint.specs.Fronts.{StopsAt};
 ghost use Rattle.lpt_script_lint.specs.declared.findings.Finding.{Finding};
 
 /// A finding is in the column of the first word up to and with which no readable line goes on as
-/// its line does; or behind the line, where a readable line begins with all of its words.
+/// its line does; or behind the line, if a readable line begins with all of its words.
 #[tactic(auto, using(crate::proofs::FrontLemmas::why_first))]
 pub fn findings_are_first()
     ensures { (line : List ℕ) (f : Finding) → why line ≡ Some f → length line ≤ 140000

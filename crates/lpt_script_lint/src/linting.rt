@@ -22,8 +22,8 @@ pub struct LintEnd {
 /// script has 16,777,216 octets at most; what a lint takes of memory depends on its longest line
 /// alone.
 ///
-/// Errors: `Read` where a read failed or more octets came than a script may have, after the lines
-/// before that; `Write` where a write failed or took nothing; `Memory`.
+/// Errors: `Read` if a read failed or more octets came than a script may have, after the lines
+/// before that; `Write` if a write failed or took nothing; `Memory`.
 #[tactic(auto, using(crate::proofs::LintLemmas::ok_kept))]
 pub fn lint<S: Source, K: Sink>(
     alloc: Global,

@@ -1,4 +1,4 @@
-//! A shell: the lines of a script one by one, with a reason where one can't be read, a sentence where
+//! A shell: the lines of a script one by one, with a reason if one can't be read, a sentence if
 //! an event is refused, and lines of its own that show what a world holds and list what can be
 //! typed. A line that a script reads does and prints here what it does there.
 //!

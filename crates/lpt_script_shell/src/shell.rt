@@ -31,16 +31,16 @@ pub(crate) struct Heard {
 /// Answers lines from a reader on a new world of this configuration and these memories, and counts
 /// those that were unreadable or asked for an event that was refused.
 ///
-/// A line that a script reads does and prints what it does there, and where an event of it was refused,
+/// A line that a script reads does and prints what it does there, and if an event of it was refused,
 /// a further line says why. `help`, `help WORD`, `show link`, `show receptions`, `show senders`,
 /// `show jobs` and `show packets FROM TO` are a shell's own; `exit` and `quit` end the session: they
 /// print nothing, and what is behind them isn't answered. Of any other line it is said where and why it
 /// is unreadable, and the next one is answered. The prompt is written before each line is waited for;
-/// where it isn't empty and the text ends, a line end is written behind the last. Before more is read,
+/// if it isn't empty and the text ends, a line end is written behind the last. Before more is read,
 /// `out` has passed on what was written.
 ///
 /// Errors: `Config` for a configuration out of its ranges, before anything is read or written; `Read`
-/// where a read failed or more than 16,777,216 octets came, after the lines before that; `Write` where a
+/// if a read failed or more than 16,777,216 octets came, after the lines before that; `Write` if a
 /// write failed or took nothing; `Memory`.
 pub fn run_shell<S: Source, K: Sink>(
     alloc: Global,

@@ -1,5 +1,5 @@
 //! The lines of events: what an accepted one did, and why one was refused. A name is printed as its
-//! identifier where it is of the configured source, and as `SOURCE/ID` otherwise.
+//! identifier if it is of the configured source, and as `SOURCE/ID` otherwise.
 
 ghost use Rattle.std.specs.Prelude.{◌≡◌, IfOk, OnOk};
 ghost use Rattle.std.specs.String.{string_bytes};
@@ -13,7 +13,7 @@ use lpt_packet::{Direction, Name};
 use std::alloc::{AllocError, Global};
 
 /// Makes a text what an accepted event prints by its reply: the text of its own answer, and nothing
-/// for another. Where memory runs out, nothing is said of the text.
+/// for another. If memory runs out, nothing is said of the text.
 pub fn write_accepted(
     text: &mut String,
     source: u16,
@@ -210,7 +210,7 @@ fn write_outcome(
     }
 }
 
-/// Makes a text `refused 47 NotHeld`: an event was refused, for this reason. Where memory runs out,
+/// Makes a text `refused 47 NotHeld`: an event was refused, for this reason. If memory runs out,
 /// nothing is said of the text.
 pub fn write_refused(text: &mut String, fault: StepFault) -> Result<(), AllocError>
     ensures { OnOk result (string_bytes text.new ≡ refused_text fault) }

@@ -32,7 +32,7 @@ pub struct Decoded {
 ///
 /// `idle`; or a line with what the headers of the telecommand or the telemetry say, one with its
 /// body, and one with the part, the verification report or the abortion report that the body is,
-/// where it is read as one; or `fault 3 Length`, the first test of the packet, and then of its
+/// if it is read as one; or `fault 3 Length`, the first test of the packet, and then of its
 /// secondary header, that fails.
 pub fn print_decoded(alloc: Global, octets: &[u8], p: u32) -> Result<Decoded, AllocError>
     requires { IsPartSize p }

@@ -1,9 +1,9 @@
 //! The texts that the tool prints: what an event did or why it was refused, what a world shows, and
 //! what octets are when they are decoded. A text is lines of words, with a space between the words.
-//! Numbers are decimal; octets are hexadecimal digits in lower case, or `-` where there are none.
+//! Numbers are decimal; octets are hexadecimal digits in lower case, or `-` if there are none.
 //!
 //! Texts are made here and written nowhere; the only error is out of memory. A text is a `String`:
-//! a new one, or where `write` stands in the name the caller's, which is made anew and can serve
+//! a new one, or if `write` stands in the name the caller's, which is made anew and can serve
 //! for all lines. The first calls are `write_accepted` with an event and its reply, and
 //! `print_decoded` with octets; `print_areas` says more of them.
 #![tactic(auto)]

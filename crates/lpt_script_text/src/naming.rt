@@ -9,9 +9,9 @@ use lpt_packet::{Direction, PacketKind, Seen, read_packet};
 use lpt_pus::{read_tc, read_tm};
 use std::alloc::{AllocError, Global};
 
-/// A line with the areas that octets name, where they are the packet of a load, a dump, a check or
+/// A line with the areas that octets name, if they are the packet of a load, a dump, a check or
 /// a report that answers one: the memory, how many areas, and where the first of them begins and
-/// how long it is. No octets, where they aren't. The only error is out of memory.
+/// how long it is. No octets, if they aren't. The only error is out of memory.
 pub fn print_areas(alloc: Global, octets: &[u8]) -> Result<String, AllocError>
     ensures { IfOk result (λ t. string_bytes t ≡ areas_line (areas_named octets.now)) }
 {

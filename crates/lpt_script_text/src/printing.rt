@@ -1,4 +1,4 @@
-//! The lines that show something, and those of counts. A name is printed as its identifier where it
+//! The lines that show something, and those of counts. A name is printed as its identifier if it
 //! is of the configured source, and as `SOURCE/ID` otherwise.
 
 ghost use Rattle.std.specs.Prelude.{◌≡◌, IfOk};
@@ -38,7 +38,7 @@ pub fn print_applied_count(alloc: Global, n: u64) -> Result<String, AllocError>
     text_of(alloc, format_args!("applied {n}\n"))
 }
 
-/// `packet 0 1864c000`, or `packet 9 none`: the octets of the packet of this number, where there is
+/// `packet 0 1864c000`, or `packet 9 none`: the octets of the packet of this number, if there is
 /// one.
 pub fn print_packet(alloc: Global, n: u64, packet: Option<&[u8]>) -> Result<String, AllocError>
     ensures { IfOk result (λ t. string_bytes t ≡ packet_text n (option_copied packet.entry)) }
@@ -67,7 +67,7 @@ pub fn print_memory_front(alloc: Global, id: u8, address: u32) -> Result<String,
     text_of(alloc, format_args!("memory {id} {address} "))
 }
 
-/// `up 7 1864c000`, or `plain 1864c000` where the message was of no transaction: a release.
+/// `up 7 1864c000`, or `plain 1864c000` if the message was of no transaction: a release.
 pub fn print_release(alloc: Global, source: u16, release: &Release) -> Result<String, AllocError>
     ensures { IfOk result (λ t. string_bytes t ≡ release_text source release.now) }
 {

@@ -56,7 +56,7 @@ pub enum Reading {
 /// is `craft` or `ground`, WORKER is `w1` or `w2`, ID, SOURCE and K are numbers to 65,535, SEQ is
 /// one to 16,383, FLAGS one to 15, SERVICE, SUBTYPE, MEM and the ID of a memory are numbers to 255,
 /// ADDR and LEN to 4,294,967,295, N is one of at most ten digits, and HEX is as `read_hex` reads it.
-/// A load has at least one pair of ADDR and HEX, and is unreadable where it can't be written
+/// A load has at least one pair of ADDR and HEX, and is unreadable if it can't be written
 /// (`Load::new`).
 /// Nothing may follow the last word.
 /// Errors: out of memory, only at a line that asks for an `open`, a `damage`, a `plain` or a `load`.

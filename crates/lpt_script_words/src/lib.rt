@@ -1,5 +1,5 @@
 //! The lines of a script: how a line is cut into words, and what it asks for. The words of a line stand
-//! between spaces. This crate reads lines; it runs and prints nothing. A line is read as a load only where its areas can
+//! between spaces. This crate reads lines; it runs and prints nothing. A line is read as a load only if its areas can
 //! be written.
 //!
 //! The main types are `Reading`, what a line says, `Command`, what it asks for, and `Load`. The

@@ -53,7 +53,7 @@ impl Load {
     /// The load that message `name` is to be: a packet of this sequence count and these
     /// acknowledgement flags, which loads the areas into a memory.
     ///
-    /// `None` where the count is above 16,383 or the areas have a fault (`lpt_memory::load_fault`).
+    /// `None` if the count is above 16,383 or the areas have a fault (`lpt_memory::load_fault`).
     pub fn new(
         name: Name,
         count: u16,

@@ -122,7 +122,7 @@ pub(crate) fn read_u16(word: &[u8]) -> Option<u16>
     Some(number as u16)
 }
 
-/// Cuts a word at its first slash: what stands before that, where the word has one, and what stands
+/// Cuts a word at its first slash: what stands before that, if the word has one, and what stands
 /// behind. So a source stands before what is of it.
 pub fn cut_source(word: &[u8]) -> (Option<&[u8]>, &[u8])
     ensures before { option_map (λ w. w.now) result.0 ≡ (cut_source word.now).0 }

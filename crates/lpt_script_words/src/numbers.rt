@@ -11,7 +11,7 @@ use std::alloc::{AllocError, Global};
 
 /// Reads a number of 1 to 10 decimal digits that is at most `greatest`.
 ///
-/// Leading zeros count as digits. There is none where the word is anything else.
+/// Leading zeros count as digits. There is none if the word is anything else.
 #[tactic(auto, unfolding(crate::specs::Numbers::number_of))]
 #[inline(always)]
 pub fn read_number(word: &[u8], greatest: u64) -> Option<u64>
@@ -27,8 +27,8 @@ pub fn read_number(word: &[u8], greatest: u64) -> Option<u64>
 
 /// Reads octets, each as two hexadecimal digits of either case; `-` stands for no octets.
 ///
-/// There are none where the word is empty, has an odd number of digits or another octet.
-/// Errors: out of memory, only where the word spells at least one octet.
+/// There are none if the word is empty, has an odd number of digits or another octet.
+/// Errors: out of memory, only if the word spells at least one octet.
 #[tactic(auto, using(crate::proofs::Hexes::none_of), unfolding(crate::specs::Numbers::octets_of))]
 pub fn read_hex(alloc: Global, word: &[u8]) -> Result<Option<Octets>, AllocError>
     ensures octets { IfOk result (λ r. r ≡ octets_of word.now) }

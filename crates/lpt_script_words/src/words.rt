@@ -8,7 +8,7 @@ use lpt_text::first_place;
 /// Splits the first word of a line from what follows it.
 ///
 /// Words are the pieces between spaces that aren't empty, so any number of spaces may stand before,
-/// between and after them. No other octet separates, a tab doesn't either. There is none where the
+/// between and after them. No other octet separates, a tab doesn't either. There is none if the
 /// line has no word.
 #[inline(always)]
 pub fn split_word(line: &[u8]) -> Option<(&[u8], &[u8])>

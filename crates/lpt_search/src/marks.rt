@@ -45,7 +45,7 @@ impl Marks {
     }
 
     /// Whether the checksum of the `len` octets at the place may be 0, as that of each packet is,
-    /// with its packet error control. If it may not, it isn't. Where the room ends before the
+    /// with its packet error control. If it may not, it isn't. If the room ends before the
     /// octets do, the answer is that it may: 2,049 numbers are enough for two of the longest
     /// packets.
     pub fn may_fit(&mut self, room: &mut [u16], octets: &[u8], at: usize, len: usize) -> bool

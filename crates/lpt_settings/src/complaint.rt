@@ -27,7 +27,7 @@ pub struct Complaint {
 }
 
 impl Complaint {
-    /// The line, counted from 1. `None` where no line begins with the key, as where escapes spell it.
+    /// The line, counted from 1. `None` if no line begins with the key, as if escapes spell it.
     pub fn line(&self) -> Option<usize>
         ensures { result ≡ self.now.line }
     {
@@ -51,7 +51,7 @@ impl fmt::Display for Complaint {
     }
 }
 
-/// The first thing for which `read_config` refuses a text; `None` where it means settings.
+/// The first thing for which `read_config` refuses a text; `None` if it means settings.
 ///
 /// The only error is out of memory.
 pub fn why_refused(alloc: Global, text: &str) -> Result<Option<Complaint>, AllocError>

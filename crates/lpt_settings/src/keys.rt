@@ -41,7 +41,7 @@ fn are_keys_among(table: &Table, words: &[&str]) -> bool
     table.keys().all(|key| is_one_of(key.as_str(), words))
 }
 
-/// The first key of the table that is none of the words; the empty text where each is one.
+/// The first key of the table that is none of the words; the empty text if each is one.
 pub fn unknown_key<'t>(table: &'t Table, words: &[&str]) -> &'t str
     ensures { result.now ≡ unknown_key (map (λ w. w.now) words.now) (table_view table.now) }
 {

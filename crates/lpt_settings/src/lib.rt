@@ -1,7 +1,7 @@
 //! The configuration file: a TOML document of numbers, each with its range and its default, of the
 //! mode, and of the memories. The main types are lpt_events' `Config` and `Turns`, lpt_memory's
 //! `Memories`, `SettingsFault`, and `Complaint`, what is wrong with a text. The first calls are
-//! `read_config` and, where it refuses a text, `why_refused`. Whoever reads another file of tables
+//! `read_config` and, if it refuses a text, `why_refused`. Whoever reads another file of tables
 //! does it by `has_only`, `unknown_key` and `number`, and says by `complain` what is wrong there.
 //!
 //! | Key | Range | Default |

@@ -85,9 +85,9 @@ fn is_of_id(value: &Value, id: u8) -> bool
     }
 }
 
-/// The memories at the key `memory`, or the default where the key is absent.
+/// The memories at the key `memory`, or the default if the key is absent.
 ///
-/// `None` where the value at the key is refused. The only error is out of memory, where it isn't.
+/// `None` if the value at the key is refused. The only error is out of memory, if it isn't.
 pub(crate) fn memories(alloc: Global, table: &Table) -> Result<Option<Memories>, AllocError>
     ensures { IfOk result (λ m. m ≡ memories_of (table_view table.now)) }
 {

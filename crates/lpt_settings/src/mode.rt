@@ -9,9 +9,9 @@ use crate::wrong::{Reason, Wrong};
 use lpt_part::Mode;
 use toml::{Table, Value};
 
-/// The mode at the key `mode` of the table; that of any order where the key is absent.
+/// The mode at the key `mode` of the table; that of any order if the key is absent.
 ///
-/// Errors: where the key has a value that names no mode.
+/// Errors: if the key has a value that names no mode.
 pub(crate) fn mode(table: &Table) -> Result<Mode, Wrong<'static>>
     ensures value { result_ok result ≡ mode_at (table_view table.now) }
 {

@@ -8,9 +8,9 @@ ghost use Rattle.lpt_settings.specs.Numbers.{natural_in, number_in, number_at};
 use crate::wrong::{Reason, Wrong};
 use toml::{Table, Value};
 
-/// The number at a key of the table, from `least` to `greatest`; `default` where the key is absent.
+/// The number at a key of the table, from `least` to `greatest`; `default` if the key is absent.
 ///
-/// Errors: where the key has another value, or is absent and has no default.
+/// Errors: if the key has another value, or is absent and has no default.
 pub fn number(
     table: &Table,
     key: &'static str,
@@ -32,7 +32,7 @@ pub fn number(
 
 /// The number of a value, if it is an integer from `least` to `greatest`.
 ///
-/// Errors: where it is another value.
+/// Errors: if it is another value.
 pub fn number_of_value(
     value: &Value,
     key: &'static str,

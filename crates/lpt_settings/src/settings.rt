@@ -22,9 +22,9 @@ use toml::Table;
 /// Reads a configuration and the first memories: a TOML document of the keys, ranges and defaults
 /// that the crate lists.
 ///
-/// Errors: `Config` where the text isn't TOML, a key isn't known or is missing, a value has another
+/// Errors: `Config` if the text isn't TOML, a key isn't known or is missing, a value has another
 /// type or is out of its range, the memories are too many or none or have an identifier twice, and
-/// where the reader of TOML runs out of memory; `Memory` where there is none for the memories of a
+/// if the reader of TOML runs out of memory; `Memory` if there is none for the memories of a
 /// text that isn't refused for anything else.
 pub fn read_config(alloc: Global, text: &str) -> Result<(Config, Memories, Turns), SettingsFault>
     // The text is a TOML document, and the settings are what its table means.

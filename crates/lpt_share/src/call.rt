@@ -62,7 +62,7 @@ impl<J: Origin> Shared<J> {
     /// node, at most once per opening; the memories are their first content, changed by the
     /// executed requests in order of release; what expired, was broken off or was released is
     /// final; and no request is executed in another boot than that of its release. It goes on from
-    /// the world that the lock was opened with, where one was named.
+    /// the world that the lock was opened with, if one was named.
     pub fn into_world(self) -> World
         ensures legal { IsLegal result }
         ensures promised { Promised result }
@@ -73,7 +73,7 @@ impl<J: Origin> Shared<J> {
     }
 
     /// Does one event of the log's seat, and adds its place, event and reply to the log. The place
-    /// is at least as great as the journal was long when the seat last saw it. Where the lock names
+    /// is at least as great as the journal was long when the seat last saw it. If the lock names
     /// the world that it was opened with, a world that goes on from that one answers. It returns
     /// only if the lock comes free.
     ///

@@ -18,7 +18,7 @@ use lpt_world::World;
 use std::alloc::AllocError;
 use std::marker::{Brand, Model, PhantomData};
 
-/// The world that a lock was opened with, where one was named: a function that is generic in it may
+/// The world that a lock was opened with, if one was named: a function that is generic in it may
 /// require that the given world is its own, and knows then that what comes out of the lock goes on
 /// from that one.
 pub trait Origin {

@@ -22,7 +22,7 @@ pub(crate) struct Ran {
 /// The logs of a run that began at this place with what was owed. A seat that found the journal
 /// torn has only ended before its time: what that left is found as for any other.
 ///
-/// Errors: `Torn` where the run isn't whole; `Memory` and `NoThread`, with which the logs agree
+/// Errors: `Torn` if the run isn't whole; `Memory` and `NoThread`, with which the logs agree
 /// with the journal.
 pub(crate) fn judged(
     alloc: Global,

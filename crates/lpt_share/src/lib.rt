@@ -1,5 +1,5 @@
 //! A world that threads share: the lock round it, the seats' logs, and the run of ten seats.
-//! Packets are read and requests prepared while the lock is free, but where a turn goes on with
+//! Packets are read and requests prepared while the lock is free, unless a turn goes on with
 //! what it had begun. Threads send each other notices that there is work; a notice that leads to a
 //! refusal is dropped. After a run the logs are compared with the journal.
 //!

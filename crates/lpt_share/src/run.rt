@@ -49,7 +49,7 @@ pub struct ShareEnd {
 /// meanwhile was sent whole and finished, or aborted; each packet that was never lost was taken;
 /// hands and workers are empty, each job is executed, and each timer has ticked as often as it was
 /// to, or its clock is at its greatest. What a seat left whose log has `per_seat` calls is excused,
-/// where no other seat does the same: both lanes of a direction, both workers, a sender, a timer.
+/// if no other seat does the same: both lanes of a direction, both workers, a sender, a timer.
 /// No packet was taken twice, and no timer ticked more often than it was to. It returns only if
 /// each thread ends.
 ///

@@ -116,8 +116,8 @@ impl<J: Origin> Shared<J> {
         Ok(expired + 1)
     }
 
-    /// A sender's turn: sends the part of this number of a transaction, or finishes it where no
-    /// part is named. The answer is how many calls were accepted: 1, or 0 where it was refused.
+    /// A sender's turn: sends the part of this number of a transaction, or finishes it if no
+    /// part is named. The answer is how many calls were accepted: 1, or 0 if it was refused.
     ///
     /// Errors: `Torn` and `Memory`; the log stays.
     pub fn sender_turn<R: Wait, G: Gate>(

@@ -27,7 +27,7 @@ impl<J: Origin> Shared<J> {
     /// is how many calls were accepted.
     ///
     /// Errors: `Torn` and `Memory`; the calls that were accepted before stay in the log and in the
-    /// journal. Where the preparation finds no memory, the job stays the worker's.
+    /// journal. If the preparation finds no memory, the job stays the worker's.
     pub fn worker_turn<R: Wait, G: Gate>(
         &self,
         alloc: Global,

@@ -33,7 +33,7 @@ pub fn are_executed(world: &World, limit: u32, logs: &[SeatLog]) -> bool
     world.jobs_queued() == 0 || are_full(limit, logs, 7, 8)
 }
 
-/// Whether a node's timer ticked not more than it was to, and so often where its log isn't full and
+/// Whether a node's timer ticked not more than it was to, and so often if its log isn't full and
 /// the clock isn't at its greatest.
 pub fn is_ticked(
     world: &World,

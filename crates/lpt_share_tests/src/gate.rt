@@ -12,7 +12,7 @@ use std::sync::atomic::AtomicU64;
 use std::sync::atomic::Ordering::SeqCst;
 use std::test::Fail;
 
-/// A gate that makes a call of its own at each point. Where the lock is held there, it waits for ever.
+/// A gate that makes a call of its own at each point. If the lock is held there, it waits for ever.
 #[derive(Drop)]
 struct Caller<'a, R: Wait> {
     rt: &'a R,

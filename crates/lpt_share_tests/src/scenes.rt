@@ -54,7 +54,7 @@ impl Gate for Free {
     fn pass(&self, _seat: u8, _point: Point) {}
 }
 
-/// A world after these events, which are accepted; none where memory runs out for it.
+/// A world after these events, which are accepted; none if memory runs out for it.
 pub(crate) fn world_after(alloc: Global, config: Config, asked: &[Asked<'_>]) -> Option<World> {
     let mut world = new_world(alloc, config)?;
     if play(alloc, &mut world, asked) {

@@ -1,4 +1,4 @@
-//! Growths that fail: a short script, where one growth of memory fails.
+//! Growths that fail: a short script, in which one growth of memory fails.
 //!
 //! `tests/growths` has each growth fail in turn, in the tests as they are built.
 

@@ -14,7 +14,7 @@ const LEAST_PART_SIZE: usize = 4;
 /// The greatest part size.
 const GREATEST_PART_SIZE: usize = 1024;
 
-/// The part size by which the body of a part of this kind would be read, where it is a first part:
+/// The part size by which the body of a part of this kind would be read, if it is a first part:
 /// the number of another may be any.
 pub fn fitting_size(kind: Kind, body: &[u8]) -> Option<u32>
     ensures { result ≡ fitting_size kind body.now }

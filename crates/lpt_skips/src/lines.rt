@@ -11,8 +11,8 @@ use lpt_carried::{Direction, Name};
 use std::alloc::{AllocError, Global};
 
 impl Skips {
-    /// What is told of what was passed over where these were wanted, a line for each reason of
-    /// which there is something, where this source is configured. The only error is out of memory.
+    /// What is told of what was passed over if these were wanted, a line for each reason of
+    /// which there is something, if this source is configured. The only error is out of memory.
     pub fn lines(
         &self,
         alloc: Global,
@@ -108,7 +108,7 @@ fn sizes_text(alloc: Global, size: Option<u32>, fitting: Option<u32>) -> Result<
     }
 }
 
-/// The word of a name where this source is configured: its identifier alone where it is of that
+/// The word of a name if this source is configured: its identifier alone if it is of that
 /// source, and `SOURCE/ID` otherwise. The only error is out of memory.
 pub fn name_text(alloc: Global, source: u32, name: Name) -> Result<String, AllocError>
     ensures { IfOk result (λ t. string_bytes t ≡ name_text source name) }

@@ -55,8 +55,8 @@ impl Skips {
         }
     }
 
-    /// Notes a piece of a stream, of this kind and these octets, where these parts are wanted:
-    /// nothing of one of them. Where packets have a checksum, that of a whole one was taken before,
+    /// Notes a piece of a stream, of this kind and these octets, if these parts are wanted:
+    /// nothing of one of them. If packets have a checksum, that of a whole one was taken before,
     /// and is right.
     pub fn note(&mut self, wanted: &Wanted, kind: PieceKind, octets: &[u8])
         requires { IsSealedBy (cut wanted.now.reading) kind octets.now }

@@ -11,7 +11,7 @@ use lpt_carried::{Name, PartFault, PieceKind, PusFault, Reading, Skip, carried_i
 use lpt_part::Kind;
 
 impl Wanted {
-    /// Why a piece of this kind, of these octets, is passed over; or that it isn't. Where its
+    /// Why a piece of this kind, of these octets, is passed over; or that it isn't. If its
     /// packets have a checksum, that of a whole one was taken before, and is right.
     pub fn why(&self, kind: PieceKind, octets: &[u8]) -> Why
         requires { IsSealedBy (cut self.now.reading) kind octets.now }

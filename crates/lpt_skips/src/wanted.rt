@@ -7,6 +7,6 @@ use lpt_carried::{Name, Reading};
 pub struct Wanted {
     /// How they are read.
     pub reading: Reading,
-    /// The name of their transaction, where one alone is wanted.
+    /// The name of their transaction, if one alone is wanted.
     pub name: Option<Name>,
 }

@@ -17,7 +17,7 @@ pub enum Why {
     OtherDirection,
     /// A part of number 0.
     NoNumber,
-    /// A part whose body isn't read for the part size; the part size by which it would be, where it
+    /// A part whose body isn't read for the part size; the part size by which it would be, if it
     /// is a first part and there is one.
     Unread(Option<u32>),
     /// A part of the transaction of this other name.

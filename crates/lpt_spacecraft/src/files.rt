@@ -48,7 +48,7 @@ pub struct KeptFiles<F: WholeFile> {
 }
 
 impl<F: WholeFile> KeptFiles<F> {
-    /// These files: that of the state, where it is kept, and those of memories that are saved, each
+    /// These files: that of the state, if it is kept, and those of memories that are saved, each
     /// beside the memory's identifier.
     pub fn new(state: Option<F>, saved: Vec<(u8, F)>) -> Self
         ensures state { result.state ≡ state }
@@ -61,7 +61,7 @@ impl<F: WholeFile> KeptFiles<F> {
         }
     }
 
-    /// The file of the state, where it is kept.
+    /// The file of the state, if it is kept.
     pub fn state_file(&self) -> Option<&F>
         ensures { option_map (λ x. x.now) result ≡ self.now.state }
     {
@@ -140,7 +140,7 @@ fn keep_in<F: WholeFile>(file: &mut F, craft: &Spacecraft) -> Result<(), KeepFau
     }
 }
 
-/// Replaces a file by a memory of a spacecraft, where there is one of this identifier.
+/// Replaces a file by a memory of a spacecraft, if there is one of this identifier.
 ///
 /// Errors: why the file couldn't be replaced.
 pub fn save_one<F: WholeFile>(file: &mut F, craft: &Spacecraft, id: u8) -> Result<(), F::Fault>

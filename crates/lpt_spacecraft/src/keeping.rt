@@ -10,7 +10,7 @@ ghost use Rattle.lpt_spacecraft.specs.Keeping.{IsKeptAs};
 use crate::{Spacecraft, Told};
 use lpt_text::{Sink, StreamFault, write_out};
 
-/// Where the state of a spacecraft and its memories are kept, one in place of the other.
+/// If the state of a spacecraft and its memories are kept, one in place of the other.
 pub trait Keeper {
     // The octets that were kept last, where they are known.
     ghost kept: { Self → Option (List ℕ) };
@@ -19,7 +19,7 @@ pub trait Keeper {
     ghost saved: { Self → List (ℕ × Option (List ℕ)) };
 
     /// Keeps the spacecraft as it is, of which this is told since it was kept last, and each memory
-    /// that this says was written in the files that are its own; answers whether it could. Where
+    /// that this says was written in the files that are its own; answers whether it could. If
     /// state and memories are still as they were kept last it isn't called.
     fn keep(&mut self, craft: &Spacecraft, told: &[Told]) -> bool
         ensures kept { IsTrue result → IsKeptAs (kept self.new) craft.now }
@@ -69,7 +69,7 @@ fn any_changes(told: &[Told]) -> bool
     told.iter().any(|one| one.changes())
 }
 
-/// Where what a spacecraft made is passed on, and nothing else is written.
+/// If what a spacecraft made is passed on, and nothing else is written.
 pub(crate) trait Outlet {
     // The octets that were written, where they are known.
     ghost contents: { Self → Option (List ℕ) };

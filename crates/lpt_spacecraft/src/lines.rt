@@ -12,9 +12,9 @@ use lpt_script_text::{print_applied, print_expired, print_outcome, print_retired
 use std::alloc::{AllocError, Global};
 
 /// The lines that tell this: what became of a packet, as `kept up 7 3`; of a request, as
-/// `applied done`, with `reports 4` behind it, and `sent down 0 235` where a report went in so many
-/// parts; `expired up 7`; `retired up 7` where the name is free again; `full up 1` where that
-/// source has no free name left; `skipped 52 13` where so many octets at a place are no packet. The
+/// `applied done`, with `reports 4` behind it, and `sent down 0 235` if a report went in so many
+/// parts; `expired up 7`; `retired up 7` if the name is free again; `full up 1` if that
+/// source has no free name left; `skipped 52 13` if so many octets at a place are no packet. The
 /// only error is out of memory.
 pub fn print_told(alloc: Global, source: u16, told: Told) -> Result<String, AllocError>
     ensures { IfOk result (λ t. string_bytes t ≡ told_text source told) }

@@ -40,7 +40,7 @@ pub(crate) struct Course {
     pub(crate) pace: Pace,
     /// How many packets came since the last tick.
     pub(crate) since: u64,
-    /// The names that were used and aren't free yet, the oldest use first; none where none is
+    /// The names that were used and aren't free yet, the oldest use first; none if none is
     /// freed.
     pub(crate) uses: VecDeque<Use>,
 }

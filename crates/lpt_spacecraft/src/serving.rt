@@ -24,13 +24,13 @@ use lpt_text::{FromStd, Sink, StreamFault, flush_out};
 /// and then what there is to tell is told.
 /// Before each read, and at the end, `out` passes on all that was written.
 ///
-/// Where the pace says so, such octets are passed over, up to the next packet whose checksum is
+/// If the pace says so, such octets are passed over, up to the next packet whose checksum is
 /// right, and that is told; and before a packet is taken the clock is asked, and all ticks that are
 /// due by it come.
 ///
-/// Errors: `Read` where a read failed, after all packets before it; or where 2^64 - 1 packets came,
-/// or as many requests, or so many octets are passed over; `Write` where a write failed; `Memory`,
-/// also where the spacecraft couldn't be kept. The memories are then as before the last packet or
+/// Errors: `Read` if a read failed, after all packets before it; or if 2^64 - 1 packets came,
+/// or as many requests, or so many octets are passed over; `Write` if a write failed; `Memory`,
+/// also if the spacecraft couldn't be kept. The memories are then as before the last packet or
 /// as that leaves them, a front part of what would be reported stays written, and of the last
 /// packet nothing is told.
 pub fn serve_stream<P: Peer, C: Clock, H: Keeper, L: Listener, K: Sink>(

@@ -79,7 +79,7 @@ impl Spacecraft {
         write_state(&self.node, out)
     }
 
-    /// The octets of a memory, or `None` where there is no such memory.
+    /// The octets of a memory, or `None` if there is no such memory.
     pub fn content(&self, id: u8) -> Option<&[u8]>
         ensures { option_map (λ x. x.now) result ≡ content_of id self.now.memories }
     {
@@ -97,7 +97,7 @@ impl Spacecraft {
     /// Takes a packet, executes what it released, writes what is reported, and answers what became
     /// of them.
     ///
-    /// Errors: `Write` where a write failed; `Memory`. The memories are as they were or as the
+    /// Errors: `Write` if a write failed; `Memory`. The memories are as they were or as the
     /// request leaves them, and a front part of what would be reported stays written.
     pub fn take<K: Sink>(&mut self, octets: &[u8], out: &mut K) -> Result<Taken, StreamFault>
         requires idle { IsIdle self.old }

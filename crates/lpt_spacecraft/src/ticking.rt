@@ -17,7 +17,7 @@ impl Spacecraft {
     /// Sets the clock on, gives up all receptions that are due, writes what is reported, and adds
     /// what is given up. At its end the clock stands.
     ///
-    /// Errors: `Write` where a write failed; `Memory`. A front part of what would be reported stays
+    /// Errors: `Write` if a write failed; `Memory`. A front part of what would be reported stays
     /// written.
     pub fn tick<K: Sink>(&mut self, told: &mut Vec<Told>, out: &mut K) -> Result<(), StreamFault>
         ensures ok { OnOk result (Writes (beaten self.old.config (onboard self.old)) self.new

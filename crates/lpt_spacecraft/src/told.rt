@@ -23,7 +23,7 @@ pub enum Told {
     Skipped { place: u64, len: u64 },
 }
 
-/// What became of a packet, and of the request that it released, where it released one.
+/// What became of a packet, and of the request that it released, if it released one.
 #[derive(Clone, Copy)]
 pub struct Taken {
     /// What became of the packet.
@@ -39,9 +39,9 @@ pub struct Done {
     pub applied: Applied,
     /// How many reports were sent, each in a packet.
     pub reports: usize,
-    /// The name of the report that was sent in parts, and how many, where one was.
+    /// The name of the report that was sent in parts, and how many, if one was.
     pub sent: Option<(Name, u16)>,
-    /// The memory that it wrote to, where it did.
+    /// The memory that it wrote to, if it did.
     pub wrote: Option<u8>,
 }
 

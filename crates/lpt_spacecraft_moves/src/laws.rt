@@ -8,8 +8,8 @@ ghost use Rattle.lpt_spacecraft_moves.specs.Moves.{InputsAreMoves};
 /// of the spacecraft alone, each of which can happen. They come to the same end, and put the same
 /// packets out, in their order. Of octets that are passed over it is no move.
 ///
-/// A name of a message that comes up may be freed where its sender is closed and no reception of it
-/// is open; one of a report, where ground has freed it. No part of it may be handed over any more.
+/// A name of a message that comes up may be freed if its sender is closed and no reception of it
+/// is open; one of a report, if ground has freed it. No part of it may be handed over any more.
 pub fn inputs_are_moves()
     ensures { InputsAreMoves }
 {}

@@ -15,7 +15,7 @@ use std::alloc::{AllocError, Global};
 /// The parts that a list names, of a message of `last` parts (at most 65,535), in its order and as
 /// often as it names them.
 ///
-/// There are none where an item is none of the three, names part 0 or one above `last`, or ends
+/// There are none if an item is none of the three, names part 0 or one above `last`, or ends
 /// before it begins. The only error is out of memory.
 pub fn read_parts(alloc: Global, list: &[u8], last: u32) -> Result<Option<Vec<u16>>, AllocError>
     requires { last ≤ 65535 }

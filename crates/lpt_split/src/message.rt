@@ -16,7 +16,7 @@ use std::alloc::{AllocError, Global};
 ///
 /// The answer says what isn't split, and nothing is written then.
 ///
-/// Errors: `Read` where a read failed; `Write` where a write failed; `Memory`. A front part of the
+/// Errors: `Read` if a read failed; `Write` if a write failed; `Memory`. A front part of the
 /// packets stays written.
 pub fn split_message<S: Source, K: Sink>(
     alloc: Global,

@@ -17,7 +17,7 @@ use std::alloc::{AllocError, Global};
 const PARTS: u32 = 65_535;
 
 /// Puts the packets of the parts that are wanted of a message behind octets, in the form that is
-/// wanted, where each can be made. Their sequence counts go on from the first, and after 16,383 from
+/// wanted, if each can be made. Their sequence counts go on from the first, and after 16,383 from
 /// 0.
 ///
 /// The answer says what isn't split; any octets stand behind those that were there then. The only

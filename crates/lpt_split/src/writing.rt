@@ -34,7 +34,7 @@ pub struct Writing<'a> {
     ghost size: { IsPartSizeAs part_size },
 }
 
-/// The greatest number of this width: 0 where a layout has none.
+/// The greatest number of this width: 0 if a layout has none.
 pub fn greatest(width: Width) -> u32
     ensures { result + 1 ≡ 256 ^ octets_of width }
 {

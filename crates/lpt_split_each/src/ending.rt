@@ -21,7 +21,7 @@ pub enum EachEnd {
     NoIdentifier(u64),
 }
 
-/// What a split of a stream's packets did. Everything that is wanted was written where it ended at
+/// What a split of a stream's packets did. Everything that is wanted was written if it ended at
 /// the stream's end, and else nothing.
 #[derive(Clone, Copy)]
 pub struct EachSplit {

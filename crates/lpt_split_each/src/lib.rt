@@ -5,7 +5,7 @@
 //!
 //! The stream is cut by the lengths that its packets' headers say. A packet that has no more octets
 //! than a part goes as it is, and takes an identifier all the same. Each packet must be a message of
-//! its direction; where one isn't, or something else is no packet, nothing is written.
+//! its direction; if one isn't, or something else is no packet, nothing is written.
 //!
 //! The main types are `EachWanted`, what is to be written, and `Pick`, which names parts of one
 //! message. The first call is `split_each`.

@@ -20,10 +20,10 @@ use std::alloc::Global;
 /// packets that are wanted: the first under the identifier of the name that is wanted, and each
 /// other under the identifier behind. The sequence counts go on from message to message.
 ///
-/// The answer says where that ended. Before the stream's end it ends where something isn't to be
+/// The answer says where that ended. Before the stream's end it ends if something isn't to be
 /// split, and then nothing is written.
 ///
-/// Errors: `Read` where a read failed, and `Memory`: nothing was written; `Write` where a write
+/// Errors: `Read` if a read failed, and `Memory`: nothing was written; `Write` if a write
 /// failed: a front part of what is wanted stays written.
 pub fn split_each<S: Source, K: Sink>(
     alloc: Global,

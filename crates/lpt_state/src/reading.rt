@@ -22,7 +22,7 @@ use std::alloc::{AllocError, Global};
 /// How many octets the shortest state has.
 const LEAST: usize = 57;
 
-/// Where the runs of a state begin.
+/// If the runs of a state begin.
 const RUNS: usize = 55;
 
 /// Makes an end of octets that are the state of an end of this side and configuration: what a

@@ -101,7 +101,7 @@ static ROWS: [Row; 3] = [
     },
 ];
 
-/// Reads a state; none where the configuration is out of its ranges.
+/// Reads a state; none if the configuration is out of its ranges.
 pub(crate) fn read(
     alloc: Global,
     side: Side,

@@ -99,13 +99,13 @@ impl PacketBuffer {
     }
 
     /// Reads until the octets that are held show which piece is in front of them, and gives it.
-    /// Where they do already, nothing is read. Before each read `out` passes on what it has kept
+    /// If they do already, nothing is read. Before each read `out` passes on what it has kept
     /// back.
     ///
-    /// There is none where the stream is at its end and nothing is held.
+    /// There is none if the stream is at its end and nothing is held.
     ///
-    /// Errors: `Read` where a read failed; `Memory`, with which some octets of the stream are lost;
-    /// `Write` where `out` failed. All that was read is held then.
+    /// Errors: `Read` if a read failed; `Memory`, with which some octets of the stream are lost;
+    /// `Write` if `out` failed. All that was read is held then.
     pub fn find_piece_passing<P: Peer, K: Sink>(
         &mut self,
         source: &mut P,

@@ -9,7 +9,7 @@ ghost use Rattle.lpt_stream.specs.Streams.{length_at, front_of, cut_at, IsFramed
 
 use lpt_packet::PRIMARY_HEADER;
 
-/// How many octets the packet at the front has, 7 to 65,542, as its header says. None where the
+/// How many octets the packet at the front has, 7 to 65,542, as its header says. None if the
 /// header hasn't come whole: fewer than 6 octets. What the header says else isn't looked at.
 pub fn packet_length(bytes: &[u8]) -> Option<usize>
     ensures value { result ≡ length_at bytes.now }
@@ -22,7 +22,7 @@ pub fn packet_length(bytes: &[u8]) -> Option<usize>
     Some(7 + usize::from(u16::from_be_bytes([bytes[4], bytes[5]])))
 }
 
-/// How many octets the packet at the front has, where all of them have come; none where more are
+/// How many octets the packet at the front has, if all of them have come; none if more are
 /// wanted.
 #[tactic(auto, unfolding(crate::specs::Streams::front_of))]
 pub fn whole_length(bytes: &[u8]) -> Option<usize>

@@ -48,7 +48,7 @@ pub trait Taker<K: Sink, W>: Drop {
         ensures { result ≡ is_open self.now };
 
     /// Takes the next piece, which stands at this place of the stream; at 2^64 - 1, there or behind
-    /// it. Where the cut looks at checksums, that of a whole piece was taken, and is right.
+    /// it. If the cut looks at checksums, that of a whole piece was taken, and is right.
     ///
     /// Errors: `Write`, behind a front part of what is written; `Memory`.
     fn take(
@@ -95,7 +95,7 @@ pub trait Taker<K: Sink, W>: Drop {
 /// Reads a stream, whose first octet has the place `from`, to its end, or until the taker takes no
 /// more, and lets it take each piece. Before each read `out` passes on what was written.
 ///
-/// Errors: `Read` where a read failed, or where 2^64 - 1 pieces came; `Write` where `out` failed;
+/// Errors: `Read` if a read failed, or if 2^64 - 1 pieces came; `Write` if `out` failed;
 /// `Memory`; those of the taker. A front part of what the pieces give stays written.
 pub fn take_pieces<P: Peer, K: Sink, W, T: Taker<K, W>>(
     alloc: Global,

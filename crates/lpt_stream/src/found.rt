@@ -1,4 +1,4 @@
-//! The piece at the front of a stream (CCSDS 133.0-B), where not all octets are packets.
+//! The piece at the front of a stream (CCSDS 133.0-B), if not all octets are packets.
 
 ghost use Rattle.std.specs.Prelude.{◌≡◌, ◌≢◌, ◌+◌, ◌<◌, ◌≤◌, ◌==◌, ◌||◌, ◌&&◌, true, false, length, take, None, IfSome};
 ghost use Rattle.lpt_packet.specs.Checksums.{checksum};

@@ -15,7 +15,7 @@ pub(crate) const LOOKAHEAD: usize = 131_084;
 /// that they come right behind a packet or a damaged one, or at the stream's beginning; `is_end`
 /// that nothing comes behind them.
 ///
-/// None where there are no octets, or what is in front depends on octets that may still come. Where
+/// None if there are no octets, or what is in front depends on octets that may still come. If
 /// 131,084 octets are given that isn't so.
 pub fn piece_in_front(octets: &[u8], in_step: bool, is_end: bool) -> Option<Found>
     ensures piece { option_map (found_in octets.now) result

@@ -25,9 +25,9 @@ pub fn packets_are_found()
     ensures { (packets : List (List ℕ)) → AreInStep packets → Finds (all_octets packets) packets }
 {}
 
-/// A packet that is damaged, but not in its length, costs itself and nothing else, where a packet
+/// A packet that is damaged, but not in its length, costs itself and nothing else, if a packet
 /// stands behind it or the stream ends: those before it are found, and behind it what is found
-/// where it is whole.
+/// if it is whole.
 pub fn damage_costs_one_packet()
     ensures whole { (before : List (List ℕ)) (packet rest : List ℕ) (packets : List (List ℕ))
         → AreInStep before → IsInStep packet → Finds rest packets

@@ -1,4 +1,4 @@
-//! Where nothing is written.
+//! If nothing is written.
 
 use lpt_text::Sink;
 

@@ -6,7 +6,7 @@ ghost use Rattle.lpt_text.specs.Streams.{read_failed};
 
 use lpt_text::{Sink, Source};
 
-/// Where octets come from that somebody sends who waits for what is written to a sink.
+/// If octets come from that somebody sends who waits for what is written to a sink.
 pub trait Peer {
     // The octets that reads will give from here on, where they are known.
     ghost remaining: { Self → Option (List ℕ) };
@@ -17,7 +17,7 @@ pub trait Peer {
     /// Reads octets to the front of `buf`, and gives how many: with room, none only at the end. The
     /// sink has passed on all that was written to it.
     ///
-    /// Errors: `None` where the read failed. It gave no octets then.
+    /// Errors: `None` if the read failed. It gave no octets then.
     fn read<K: Sink>(&mut self, out: &K, buf: &mut [u8]) -> Option<usize>
         requires { K.flushed out.now ≡ K.contents out.now }
         ensures bound { IfSome result (λ n. n ≤ length buf.new) }

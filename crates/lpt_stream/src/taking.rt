@@ -1,4 +1,4 @@
-//! Piece after piece of a stream, each taken as it comes, where nothing is written.
+//! Piece after piece of a stream, each taken as it comes, if nothing is written.
 
 ghost use Rattle.std.specs.Prelude.{◌≡◌, ◌⊎◌, [], Err, IfErr, IfOk};
 ghost use Rattle.lpt_text.specs.Streams.{ReadEnds};
@@ -56,7 +56,7 @@ pub trait PieceTaker<W>: Drop {
 
 /// Reads a stream to its end, and lets the taker take each of its pieces.
 ///
-/// Errors: `Read` where a read failed, or where 2^64 - 1 pieces came; `Memory`; those of the taker.
+/// Errors: `Read` if a read failed, or if 2^64 - 1 pieces came; `Memory`; those of the taker.
 pub fn each_piece<S: Source, W, T: PieceTaker<W>>(
     alloc: Global,
     source: &mut S,

@@ -94,8 +94,8 @@ impl EntryList {
         spot_of(&self.places, name).is_some()
     }
 
-    /// Lets the reception of this name, where one is open, take a part of it in this mode. It stays
-    /// in the list; where it has the part and others are missing, its last tick is `now`.
+    /// Lets the reception of this name, if one is open, take a part of it in this mode. It stays
+    /// in the list; if it has the part and others are missing, its last tick is `now`.
     pub(crate) fn offer(
         &mut self,
         mode: Mode,

@@ -1,4 +1,4 @@
-//! Where the open receptions are kept, in the order in which they would be due.
+//! If the open receptions are kept, in the order in which they would be due.
 
 ghost use Rattle.std.specs.Prelude.{◌≡◌, ◌<◌, ◌≤◌, T, length, slice_index_or, vec_capacity};
 ghost use Rattle.std.specs.FinMap as map;
@@ -9,7 +9,7 @@ ghost use Rattle.lpt_table.specs.Walking.{first_last, is_behind, is_nearer, near
 use lpt_packet::Name;
 use std::cmp::Ordering;
 
-/// Where an open reception is kept: the tick at which it last took a part, its name, and its key.
+/// If an open reception is kept: the tick at which it last took a part, its name, and its key.
 #[derive(Clone, Copy)]
 pub(crate) struct Place {
     pub(crate) last: u32,

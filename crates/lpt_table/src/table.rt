@@ -85,13 +85,13 @@ impl Table {
         })
     }
 
-    /// Offers a part that came from this source to its transaction's reception, and opens one where
+    /// Offers a part that came from this source to its transaction's reception, and opens one if
     /// none is open. `now` is the tick at which the part has come; it isn't compared with earlier
     /// ticks.
     ///
     /// The answer is the first of these that applies: `NoRoom`; `Conflict` for a contradiction;
-    /// `Again`; in strict mode, for a part that isn't the next one, `Conflict` where a reception is
-    /// open and `Gap` where none is; `Whole`; `Kept`. `Memory` comes in place of the last two alone.
+    /// `Again`; in strict mode, for a part that isn't the next one, `Conflict` if a reception is
+    /// open and `Gap` if none is; `Whole`; `Kept`. `Memory` comes in place of the last two alone.
     /// A reception that comes out leaves its last tick and its place in the table.
     pub fn offer(&mut self, source: u16, part: &Part<'_>, now: u32) -> Offer
         requires p { part.now.p ≡ self.old.p }
@@ -244,7 +244,7 @@ impl Table {
     }
 
     /// The name of the overdue reception with the least last tick, and of equal ones the least
-    /// name, or `None` where none is overdue.
+    /// name, or `None` if none is overdue.
     ///
     /// A reception is overdue when its last tick and the time-out add up to at most `now`.
     pub fn due(&self, now: u32) -> Option<Name>
@@ -255,7 +255,7 @@ impl Table {
         self.receptions.due(self.timeout, now)
     }
 
-    /// The tick from which on some reception is overdue, or `None` where none is open.
+    /// The tick from which on some reception is overdue, or `None` if none is open.
     pub fn next_due(&self) -> Option<u64>
         requires settled { self.now.out ≡ None }
         ensures value { result ≡ next_due self.now }
@@ -274,7 +274,7 @@ impl Table {
         self.receptions.nearest(after)
     }
 
-    /// The reception of this name, where one is open.
+    /// The reception of this name, if one is open.
     pub fn reception(&self, name: Name) -> Option<&Filling>
         requires settled { self.now.out ≡ None }
         ensures { option_map (λ f. f.now) result ≡ reception_at self.now name }
@@ -283,7 +283,7 @@ impl Table {
         Some(filling)
     }
 
-    /// The tick from which on the reception of this name is overdue, where one is open.
+    /// The tick from which on the reception of this name is overdue, if one is open.
     pub fn due_at(&self, name: Name) -> Option<u64>
         requires settled { self.now.out ≡ None }
         ensures { result ≡ due_at self.now name }

@@ -5,7 +5,7 @@ ghost use Rattle.lpt_text.specs.Items.{items_of};
 
 use crate::line_end::first_place;
 
-/// The item in front of the first comma of a list, and what is behind it; none where there is no
+/// The item in front of the first comma of a list, and what is behind it; none if there is no
 /// comma: then the list is one item.
 pub fn cut_item(list: &[u8]) -> Option<(&[u8], &[u8])>
     ensures items { MatchOption result (items_of list.now ≡ list.now ∷ [])

@@ -61,11 +61,11 @@ impl LineBuffer {
     /// Reads up to a line end, and gives its place among the octets that are held, which then has
     /// none before it.
     ///
-    /// There is none where the text ends, or where more than 140,000 octets are held without one.
+    /// There is none if the text ends, or if more than 140,000 octets are held without one.
     /// Before each read `out` passes on what it has kept back, so whoever waits for it has it.
     ///
-    /// Errors: `Read` where a read failed, or where more octets came than a text may have; `Write`
-    /// where `out` failed; `Memory`, with which some octets of the text are lost.
+    /// Errors: `Read` if a read failed, or if more octets came than a text may have; `Write`
+    /// if `out` failed; `Memory`, with which some octets of the text are lost.
     pub fn find_line<S: Source, K: Sink>(
         &mut self,
         source: &mut S,

@@ -12,7 +12,7 @@ use std::alloc::Global;
 /// How many octets are asked for at a time.
 pub(crate) const CHUNK: usize = 16_384;
 
-/// Where the reading of a text ended.
+/// If the reading of a text ended.
 #[derive(Clone, Copy, PartialEq, Eq)]
 pub enum End {
     /// At the text's end.

@@ -9,7 +9,7 @@ use crate::fault::StreamFault;
 use crate::flushing::Flushed;
 use std::io;
 
-/// Where a text is read from.
+/// If a text is read from.
 pub trait Source {
     // The octets that reads will give from here on, where they are known.
     ghost remaining: { Self → Option (List ℕ) };
@@ -19,7 +19,7 @@ pub trait Source {
 
     /// Reads octets to the front of `buf`, and gives how many: with room, none only at the end.
     ///
-    /// Errors: `None` where the read failed. It gave no octets then, and the source has failed from
+    /// Errors: `None` if the read failed. It gave no octets then, and the source has failed from
     /// then on.
     fn read(&mut self, buf: &mut [u8]) -> Option<usize>
         ensures bound { IfSome result (λ n. n ≤ length buf.new) }
@@ -29,7 +29,7 @@ pub trait Source {
         ensures cause { failed self.new ≡ read_failed result (failed self.old) };
 }
 
-/// Where a text is written to.
+/// If a text is written to.
 pub trait Sink {
     // The octets that were written, where they are known.
     ghost contents: { Self → Option (List ℕ) };
@@ -42,7 +42,7 @@ pub trait Sink {
 
     /// Writes a front part of `buf`, and gives how many octets it took.
     ///
-    /// Errors: `None` where the write failed. It took nothing then. After that, and after
+    /// Errors: `None` if the write failed. It took nothing then. After that, and after
     /// `Some(0)`, the sink has failed from then on.
     fn write(&mut self, buf: &[u8]) -> Option<usize>
         ensures bound { IfSome result (λ n. n ≤ length buf.now) }
@@ -142,7 +142,7 @@ impl<W: Flushed> Sink for FromStd<W> {
 
 /// Writes a whole text, however little each write takes.
 ///
-/// Errors: `Write` where a write failed or took nothing. The front part of the text that was taken
+/// Errors: `Write` if a write failed or took nothing. The front part of the text that was taken
 /// before stays written.
 pub fn write_out<K: Sink>(out: &mut K, text: &[u8]) -> Result<(), StreamFault>
     ensures ok { OnOk result (Appends (K.contents out.old) (K.contents out.new) text.now) }
@@ -166,7 +166,7 @@ pub fn write_out<K: Sink>(out: &mut K, text: &[u8]) -> Result<(), StreamFault>
 
 /// Has a sink pass on what it has kept back of what was written.
 ///
-/// Errors: `Write` where it couldn't.
+/// Errors: `Write` if it couldn't.
 pub fn flush_out<K: Sink>(out: &mut K) -> Result<(), StreamFault>
     ensures same { Keeps (K.contents out.old) (K.contents out.new) }
     ensures all { OnOk result (K.flushed out.new ≡ K.contents out.new) }

@@ -72,7 +72,7 @@ pub trait LineTaker {
     /// Takes the line of this number, from 1, without its line end. Of a line that is too long it
     /// is given a front of more than 140,000 octets, and what is behind that isn't taken.
     ///
-    /// Errors: `Write` where a write failed or took nothing; `Memory`.
+    /// Errors: `Write` if a write failed or took nothing; `Memory`.
     fn take<K: Sink>(&mut self, number: u64, line: &[u8], out: &mut K) -> Result<Taken, StreamFault>
         requires { is_over self.old ≡ false }
         ensures over { IfOk result (λ taken. is_over self.new ≡ is_last taken) }
@@ -91,7 +91,7 @@ pub trait LineTaker {
 /// has passed on what was written. A text has 16,777,216 octets at most; what it takes of memory
 /// depends on its longest line alone. A line that is too long is taken as soon as it is seen to be.
 ///
-/// Errors: `Read` where a read failed or more octets came than a text may have, after the lines
+/// Errors: `Read` if a read failed or more octets came than a text may have, after the lines
 /// before that; `Memory`; those of the taker.
 pub fn each_line<S: Source, K: Sink, T: LineTaker>(
     alloc: Global,

@@ -16,7 +16,7 @@ pub const LONGEST_TEXT: usize = 16_777_216;
 ///
 /// A line feed ends a line, and one carriage return directly before it is dropped, but it counts: a
 /// line that has more than 140,000 octets with it keeps it, and is too long to be read. A last line
-/// may lack its line feed, and then keeps its carriage return. There is none where the text is
+/// may lack its line feed, and then keeps its carriage return. There is none if the text is
 /// empty.
 pub fn split_line(text: &[u8]) -> Option<(&[u8], &[u8])>
     ensures lines { MatchOption result (lines text.now ≡ [])

@@ -41,7 +41,7 @@ impl Gate for Open {
 /// The lines that don't show are run as `run_script` runs them, and print the same; those that show
 /// are read with them, so an unreadable one ends the run in its place, and no thread runs. Behind that
 /// text stand the large releases, by direction and name, how many plain requests were released
-/// and how many requests executed; then what the kept lines show, in order. Where the run ends well,
+/// and how many requests executed; then what the kept lines show, in order. If the run ends well,
 /// `out` has passed on all that was written, and it is answered which seats have as many calls in the
 /// journal as `turns` gives each, or more: of those much may be left to do.
 ///

@@ -10,14 +10,14 @@ ghost use Rattle.lpt_verify.specs.Reports.{all_reports};
 ghost use Rattle.lpt_verify.specs.Reading.{IsReport, Names, report_in};
 
 /// What is written is read again: each report of a request is read as one that names the request
-/// and, where it is one of failure, the failure code.
+/// and, if it is one of failure, the failure code.
 pub fn written_is_read()
     ensures { (request : RequestId) (flags : ℕ) (code : Option ℕ) → request.value < 2 ^ 32
         → IfSome code (λ c. c < 2 ^ 16)
         → All (Names request code) (all_reports request.value flags code) }
 {}
 
-/// A list of octets reads as a report exactly where it is one.
+/// A list of octets reads as a report exactly if it is one.
 pub fn read_is_spelled()
     ensures { (subtype : ℕ) (body : List ℕ) (r : Report) → IsOctets body
         → (report_in subtype body ≡ Some r) ↔ IsReport subtype body r }

@@ -10,7 +10,7 @@ use lpt_pus::RequestId;
 /// Reads the body of a report of this message subtype: the request ID (32 bits) and, of a report
 /// of failure, the failure code (16 bits).
 ///
-/// `None` where the subtype is none of 1, 3 and 7 for success and 2 and 4 for failure, or the body
+/// `None` if the subtype is none of 1, 3 and 7 for success and 2 and 4 for failure, or the body
 /// isn't as long as that. Any failure code is read.
 #[tactic(auto, unfolding(crate::specs::Reading::report_in))]
 pub fn read_report(subtype: u8, body: &[u8]) -> Option<Report>

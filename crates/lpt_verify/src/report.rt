@@ -8,7 +8,7 @@ use lpt_pus::RequestId;
 pub struct Report {
     /// The request that it reports on.
     pub request: RequestId,
-    /// The failure code, of any number, where it reports a failure.
+    /// The failure code, of any number, if it reports a failure.
     pub code: Option<u16>,
 }
 

@@ -31,9 +31,9 @@ const COMPLETED: u8 = 7;
 ///
 /// `flags` are the request's acknowledgement flags, a sum of: 1 acceptance, 2 start, 4 progress
 /// and 8 completion of execution. No progress is reported. `code` is why the request failed, or
-/// none where it was carried out.
+/// none if it was carried out.
 ///
-/// A report of success is sent only where its flag asks for it, one of failure always, and none
+/// A report of success is sent only if its flag asks for it, one of failure always, and none
 /// after it. A request that isn't known or has a malformed body has failed its acceptance; any
 /// other failure is one of the start of its execution.
 ///

@@ -67,7 +67,7 @@ impl World {
         }
     }
 
-    /// Delivers the packet in the lane's hand, as the event `Deliver` does, where it was read before.
+    /// Delivers the packet in the lane's hand, as the event `Deliver` does, if it was read before.
     ///
     /// Errors, each with what was read: those of the event; then `NotYours`, it isn't what the lane
     /// has in its hand, or was read for another receiver, APID or part size; out of memory is last.
@@ -185,7 +185,7 @@ impl World {
         }
     }
 
-    /// Hands in the reading of the worker's job, as the event `Commit` does, where it was prepared
+    /// Hands in the reading of the worker's job, as the event `Commit` does, if it was prepared
     /// before. The message isn't read again.
     ///
     /// Errors, each with what was prepared: those of the event; then `NotYours`, it isn't of the

@@ -52,7 +52,7 @@ impl World {
     ///
     /// None that came whole is withheld: what was last opened under a name is among them if each of
     /// its parts was delivered since then, and since its receiver was last restarted, while there
-    /// was room; but where its reception expired or was broken off.
+    /// was room, unless its reception expired or was broken off.
     pub fn released(&self) -> &[Release]
         ensures all { result.now ≡ releases self.now.config (history self.now) }
         ensures last_opened { EachIsLastOpened self.now.config (history self.now) }
@@ -63,7 +63,7 @@ impl World {
         self.system.released.as_slice()
     }
 
-    /// The octets of the packet of this number, whether the link still holds it or not; none where
+    /// The octets of the packet of this number, whether the link still holds it or not; none if
     /// fewer packets were put.
     pub fn packet(&self, n: u64) -> Option<&[u8]>
         ensures { option_copied result
@@ -74,7 +74,7 @@ impl World {
 
     /// The octets of a memory now: its first content, changed by the requests that were executed,
     /// in the order in which the spacecraft released them. Each of these is a plain one that ground
-    /// had asked for, or the message last opened upwards under its name. None where there is no
+    /// had asked for, or the message last opened upwards under its name. None if there is no
     /// such memory.
     pub fn memory(&self, id: u8) -> Option<&[u8]>
         ensures content { option_map (λ x. x.now) result ≡ content_of id (memories_now self.now) }
@@ -84,7 +84,7 @@ impl World {
         self.system.memories.content(id)
     }
 
-    /// The octets that a memory had first, or none where there is no such memory.
+    /// The octets that a memory had first, or none if there is no such memory.
     pub fn first(&self, id: u8) -> Option<&[u8]>
         ensures { option_map (λ x. x.now) result ≡ content_of id self.now.first }
     {
@@ -122,7 +122,7 @@ impl World {
         self.system.link.is_held(n)
     }
 
-    /// The number of the packet in a lane's hand, where there is one.
+    /// The number of the packet in a lane's hand, if there is one.
     pub fn hand(&self, lane: Lane) -> Option<u64>
         ensures { result ≡ hand (history self.now) lane }
     {

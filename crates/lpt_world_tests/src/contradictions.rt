@@ -1,4 +1,4 @@
-//! Parts that contradict what a lone node has kept, or come out of order where that breaks off, and
+//! Parts that contradict what a lone node has kept, or come out of order if that breaks off, and
 //! parts at the end of the longest message.
 
 use crate::names::ID_7;
@@ -114,7 +114,7 @@ const LAST_8193_DOWN: [u8; 29] = [
     0x00, 0x00, 0x07, 0x20, 0x01, 0x00, 0x01, 0x02, 0x03, 0x04, 0x05, 0x0e, 0xf4,
 ];
 
-/// Parts of message 7, to the spacecraft and to ground. Their octets are the first of the message, where
+/// Parts of message 7, to the spacecraft and to ground. Their octets are the first of the message, if
 /// nothing else is said.
 const FIRST: Packet = (&FIRST_UP, &FIRST_DOWN);
 

@@ -1,4 +1,4 @@
-//! Growths that fail: a load and two dumps are released and executed, where one growth fails.
+//! Growths that fail: a load and two dumps are released and executed, in which one growth fails.
 //!
 //! `tests/growths` has each growth fail in turn, in the tests as they are built.
 

@@ -1,4 +1,4 @@
-//! Growths that fail: a message is opened, sent and released, where one growth fails.
+//! Growths that fail: a message is opened, sent and released, in which one growth fails.
 //!
 //! `tests/growths` has each growth fail in turn, in the tests as they are built.
 

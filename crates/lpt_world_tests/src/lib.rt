@@ -1,6 +1,6 @@
 //! Tests of nodes and worlds: worked rows, what no clause says, and growths of memory that fail.
 //!
-//! Most tests are rows in statics: `walking` goes paths of rows through new worlds, where a growth
+//! Most tests are rows in statics: `walking` goes paths of rows through new worlds, in which a growth
 //! may fail, and `playing` plays rows to lone nodes. So a case costs nothing but its row.
 //!
 //! They stand in a crate of their own, so that the libraries are proved without them. A function

@@ -14,7 +14,7 @@ use lpt_packet::Direction::Up;
 use lpt_world::World;
 use std::alloc::{AllocError, Global};
 
-/// Whether what is asked for outside a world comes as its step says; none where the step is no such
+/// Whether what is asked for outside a world comes as its step says; none if the step is no such
 /// one.
 pub(crate) fn comes_outside(
     alloc: Global,

@@ -27,7 +27,7 @@ pub(crate) type Packet = (&'static [u8], &'static [u8]);
 /// What is asked of a node and what comes of it, or what it shows.
 pub(crate) enum Row {
     /// A message of so many octets, which count from 0, is to be sent under this name: the fault's
-    /// number, or 0 where it is taken.
+    /// number, or 0 if it is taken.
     Opens(Name, usize, u16),
     /// A part is sent, as this packet.
     Sends(Name, u16, Result<&'static [u8], NodeFault>),
@@ -37,8 +37,8 @@ pub(crate) enum Row {
     Finishes(Name),
     /// A plain request of these flags, service, subtype and body is sent, as this packet.
     Requests(u8, u8, u8, &'static [u8], Result<&'static [u8], NodeFault>),
-    /// A packet comes. Where a message is released by it, it is this one; a plain request is released
-    /// as it is. Where a reception is broken off by it, the spacecraft reports it by this packet.
+    /// A packet comes. If a message is released by it, it is this one; a plain request is released
+    /// as it is. If a reception is broken off by it, the spacecraft reports it by this packet.
     Hears(Packet, Outcome, &'static [u8]),
     /// The clock ticks, and has this value then.
     Ticks(u32),

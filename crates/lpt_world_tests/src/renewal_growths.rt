@@ -1,5 +1,5 @@
 //! Growths that fail: a transaction is retired and its name used again, the spacecraft restarts
-//! while a worker has a request, and two sources use one identifier, where one growth fails.
+//! while a worker has a request, and two sources use one identifier, in which one growth fails.
 //!
 //! `tests/growths` has each growth fail in turn, in the tests as they are built.
 

@@ -37,7 +37,7 @@ pub(crate) struct Path {
 /// A memory 1 of 256 octets of zero.
 pub(crate) const ONE: [(u8, &[u8]); 1] = [(1, &[0; 256])];
 
-/// A message that was opened or released: its place, its transaction where it has one, and what it is.
+/// A message that was opened or released: its place, its transaction if it has one, and what it is.
 pub(crate) type Message = (u64, Option<(Direction, Name)>, Content);
 
 /// What a message is.
@@ -50,7 +50,7 @@ pub(crate) enum Content {
     Packet(u64),
 }
 
-/// What is asked for. The spacecraft restarts, and where nothing else is said the clock and the
+/// What is asked for. The spacecraft restarts, and if nothing else is said the clock and the
 /// receptions are its own; the worker is worker 1. What is done outside is done for lane s1.
 #[derive(Clone, Copy)]
 pub(crate) enum Asked {
@@ -86,7 +86,7 @@ pub(crate) enum Asked {
 }
 
 /// What was read of a job outside a world: the job's boot, its number and its message; for which APID;
-/// and for which memories, where it isn't for the world's own.
+/// and for which memories, if it isn't for the world's own.
 pub(crate) type Read = (
     u64,
     u64,
@@ -95,7 +95,7 @@ pub(crate) type Read = (
     Option<&'static [(u8, &'static [u8])]>,
 );
 
-/// A row of a path. Seat 3 asks, where nothing else is said.
+/// A row of a path. Seat 3 asks, if nothing else is said.
 pub(crate) enum Row {
     /// The opening of a message of so many octets, which has so many parts.
     Opens(Direction, Name, usize, u16),
@@ -127,7 +127,7 @@ pub(crate) enum Row {
 pub(crate) enum Shown {
     /// How many packets were put.
     Packets(u64),
-    /// The octets of a packet, where it is there.
+    /// The octets of a packet, if it is there.
     Packet(u64, Option<&'static [u8]>),
     /// Whether the link holds a packet.
     Held(u64, bool),

@@ -49,7 +49,7 @@ impl Station {
         })
     }
 
-    /// Takes a message to be sent, and gives the fault's number, or 0 where it is taken.
+    /// Takes a message to be sent, and gives the fault's number, or 0 if it is taken.
     pub(crate) fn opens(&mut self, name: Name, message: Octets) -> u16 {
         match self.node.open(name, message) {
             Ok(()) => 0,

@@ -1,5 +1,5 @@
 //! Growths that fail: a reception expires, gaps break receptions off, requests are refused, dumps are
-//! answered by a packet and by a message, and a check has all its reports, where one growth fails.
+//! answered by a packet and by a message, and a check has all its reports, in which one growth fails.
 //!
 //! `tests/growths` has each growth fail in turn, in the tests as they are built.
 
@@ -59,7 +59,7 @@ const GAP_REPORT: [u8; 22] = [
     0x00, 0x00, 0x07, 0x02, 0xfe, 0x8f,
 ];
 
-/// What is answered where a gap breaks a reception off.
+/// What is answered if a gap breaks a reception off.
 const GAP_7: Answer = Answer::Delivered(Outcome::Broken(ID_7, Reason::Discontinuity));
 
 const GAP_8: Answer = Answer::Delivered(Outcome::Broken(ID_8, Reason::Discontinuity));
