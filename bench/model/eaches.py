@@ -94,7 +94,8 @@ class Kept:
         fit = whole is not None and self.fits(whole)
         if not fit or gave and whole == self.last:
             return self.go_on(place, part, whole is None, gave)
-        own = not self.stale or added(self.new if self.all is None else self.all, part) == whole
+        parts = parts_of(whole, self.size)
+        own = not self.stale or all((number, *kept) in parts for number, kept in self.new.items())
         said = [] if own else [self.missing(self.new)]
         self.last, self.all, self.new, self.stale, self.gave = whole, {}, {}, False, False
         return [*said, whole]

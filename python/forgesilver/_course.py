@@ -105,7 +105,7 @@ class Course:
         if self._judge(message) is not None or (self._gave and message == self._last):
             # It came in its order, so the part is this whole's own, and of no next one.
             return self._gather(part, with_it=False)
-        given_up = None if self._are_own(part, message) else self.new
+        given_up = None if self._are_own(message) else self.new
         self._begin(message)
         return News(message, given_up)
 
@@ -126,15 +126,11 @@ class Course:
             self._run = Parts()
         return message
 
-    def _are_own(self, part: Kept, message: bytes) -> bool:
-        """Whether the new parts are the message's of a run: none came before it, or with this part
-        they spell it too."""
-        if not self._is_stale:
-            return True
-        most = self.new if self._all is None else self._all
-        if most.contradicts(part):
-            return False
-        return Parts(*most.by_number.values(), part).whole() == message
+    def _are_own(self, message: bytes) -> bool:
+        """Whether the new parts are all the message's of a run: none came before it, or each is one
+        of its parts."""
+        new = self.new.by_number.values()
+        return not self._is_stale or all(self._is_of(message, it) for it in new)
 
     # ---- the others ----
 
@@ -172,9 +168,11 @@ class Course:
         return News(message) if unfit is None else News(unfit=unfit)
 
     def _is_old(self, part: Kept) -> bool:
-        """Whether it is a part of the last message, octet for octet."""
-        if self._last is None:
-            return False
+        """Whether it is a part of the last message."""
+        return self._last is not None and self._is_of(self._last, part)
+
+    def _is_of(self, message: bytes, part: Kept) -> bool:
+        """Whether it is a part of this message, octet for octet."""
         end = part.number * self._size
-        octets = self._last[end - self._size : end]
-        return part.octets == octets and part.is_last == (end >= len(self._last))
+        octets = message[end - self._size : end]
+        return part.octets == octets and part.is_last == (end >= len(message))

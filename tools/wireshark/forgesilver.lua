@@ -452,14 +452,13 @@ local function run_with(course, part)
     return run.count == run.last and run or nil
 end
 
--- Whether the new parts are those of a run that is this message: none came before it, or they spell it too.
-local function are_own(course, part, octets)
-    local most, with = course.all or course.new, set_of(part)
-    if not course.is_stale or contradicted(most, part) then return not course.is_stale end
-    for number, one in pairs(most.parts) do
-        if number ~= part.number then add(with, one) end
+-- Whether the new parts are those of a run that is whole: none came before it, or each is one of them.
+local function are_own(course, run)
+    for number, one in pairs(course.is_stale and course.new.parts or {}) do
+        local same = run.parts[number]
+        if not same or same.kind ~= one.kind or same.octets ~= one.octets then return false end
     end
-    return joined(with) == octets
+    return true
 end
 
 -- What a further part makes of others: it contradicts one, or came before, or they are whole.
@@ -509,7 +508,7 @@ local function take(course, part)
         gather(course, part, not octets)
         return
     end
-    place.given_up = not are_own(course, part, octets) and new or nil
+    place.given_up = not are_own(course, run) and new or nil
     give(course, run, octets, place, place.given_up)
 end
 

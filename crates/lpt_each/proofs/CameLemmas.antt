@@ -16,7 +16,7 @@ use Rattle.lpt_join.specs.PartNumbersInside.{has, is_ended, IsHighest}
 use Rattle.lpt_reception.proofs.GreatestLemmas.{greatest_least, greatest_most, greatest_none}
 use Rattle.lpt_join.specs.Joins.{Missing, Broken, kept_by, added}
 use Rattle.lpt_join.proofs.SetLemmas.{added_cases, get_more, get_none, get_other, get_same, not_none}
-use Rattle.lpt_each.specs.Eaches.{Course, are_own, most, spells, told_in_order}
+use Rattle.lpt_each.specs.Eaches.{Course, are_of, are_own, told_in_order}
 use Rattle.lpt_each.specs.Helds.{AreCame}
 use Rattle.lpt_each.specs.Streams.{waiting}
 use Rattle.lpt_each.specs.News.{News, Dropped, Overtaken, dropped, has_end}
@@ -213,16 +213,16 @@ dropped-told c s h = λ i. Some (Dropped (λ n. h.came n i) (h.ended i))
 -- ---- a message that overtakes parts
 
 -- the new parts came before the run did, and aren't the message's: they are told, and it is
-pub overtakes : (c : Course) (x : ℕ × Kept) (m : List ℕ) (came were : Came) (stale own : Bool)
+pub overtakes : (c : Course) (p : ℕ) (m : List ℕ) (came were : Came) (stale own : Bool)
     → stale ≡ c.stale
     → not stale ≡ false
-    → own ≡ spells (added (most c.held.all c.held.new) x.0 x.1) m
+    → own ≡ are_of c.held.new p m
     → own ≡ false
     → came ≡ were
     → AreCame were c.held.new
     → ◌≡◌ {A = News} (Overtaken (has came.numbers) (is_ended came.numbers) m)
-    (told_in_order (are_own c x m) c.held.new m)
-overtakes c x m came were stale own is older same none be are =
+    (told_in_order (are_own c p m) c.held.new m)
+overtakes c p m came were stale own is older same none be are =
     (λ i. Overtaken (λ n. kept.came n i) (kept.ended i) m)
     ∙ sym (ap (λ (b : Bool). told_in_order b c.held.new m)
     ((λ i. not (sym is i) || sym same i) ∙ (λ i. older i || none i))) where

@@ -2,6 +2,7 @@ mod AloneLemmas
 pub mod CameLemmas
 pub mod HeldsLemmas
 mod OrderLemmas
+pub mod OwnLemmas
 pub mod ReadLemmas
 mod RestrictLemmas
 mod RunLemmas

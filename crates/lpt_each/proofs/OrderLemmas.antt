@@ -278,7 +278,7 @@ module _ (messages : Messages) (splits : Splits) (t : Transaction) (any : Bool) 
             (messages_in (listed (go_on t any false (record c { run = no_run }) x).1)) gave
             (and_left (gave_before c x.0) (is_same c.held.last m) e)
             (and_right (gave_before c x.0) (is_same c.held.last m) e)
-        go false e = (ms, [], ap (λ ns. ms ++ ns) (told-own (are_own c x m) c.held.new))
+        go false e = (ms, [], ap (λ ns. ms ++ ns) (told-own (are_own c t.part_size m) c.held.new))
 
   -- ---- the packets
 

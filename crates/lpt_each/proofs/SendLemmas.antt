@@ -2,11 +2,10 @@
 use Rattle.std.proofs.Common.{◌≡◌, ◌∙◌, ap, sym, subst, refl, inl, inr, ◌⊎◌, ℕ, ◌+◌, ◌==◌, ◌≤◌, nat_le, Bool, true, false, not, ◌||◌, if◌then◌else◌, List, [], ◌∷◌, ◌++◌, map, length, Option, Some, None, append-nil, append_assoc, arith}
 use Rattle.std.specs.Prelude.{◌&&◌}
 use Rattle.std.specs.Option.{option_map}
-use Rattle.std.proofs.lemmas.Bool.{or_parts}
+use Rattle.std.proofs.lemmas.Bool.{or_parts, or_right}
 use Rattle.lpt_packet.proofs.Readings.{eq_true}
-use Rattle.lpt_packet.proofs.SightLemmas.{same_octets-refl}
 use Rattle.lpt_part.specs.Splitting.{part_count}
-use Rattle.lpt_reception.specs.PartsOf.{kept_of}
+use Rattle.lpt_reception.specs.PartsOf.{IsMessage, kept_of}
 use Rattle.lpt_reception.specs.Received.{Kept, Parts, is_last, no_parts}
 use Rattle.lpt_join.specs.declared.transaction.Transaction.{Transaction}
 use Rattle.lpt_join.specs.Joins.{Joined, Missing, Complete, Broken, added, join_part, joined}
@@ -14,9 +13,10 @@ use Rattle.lpt_join.specs.Laws.{AllBelong, AllCame, Belongs, came, is_end, is_pa
 use Rattle.lpt_join.specs.Offers.{offered}
 use Rattle.lpt_join.proofs.GatherLemmas.{join_none, joined-next}
 use Rattle.lpt_join.proofs.LawLemmas.{IsGathered, gathered_all, gathered_none, joined_whole}
-use Rattle.lpt_each.specs.Eaches.{Course, Ends, Goes, Held, Run, RunTurn, Turn, Waits, Gives, after, after_all, all_turn, are_own, begun, course_by, end_by, end_run, fresh, gather, gave_before, given, held_from, higher, is_old, is_same, left, listed, most, news, news_from, no_run, run_before, run_by, run_turn, spells, staleness, step, step_by, step_of, told_in_order, turn, turn_by, unfit, whole_turn}
+use Rattle.lpt_each.specs.Eaches.{Course, Ends, Goes, Held, Run, RunTurn, Turn, Waits, Gives, after, after_all, all_turn, are_of, are_own, begun, course_by, end_by, end_run, fresh, gather, gave_before, given, held_from, higher, is_old, is_same, left, listed, news, news_from, no_run, run_before, run_by, run_turn, staleness, step, step_by, step_of, told_in_order, turn, turn_by, unfit, whole_turn}
 use Rattle.lpt_each.specs.Laws.{FirstBeforeLast, IsSentBy, Sends}
 use Rattle.lpt_each.specs.News.{News, Given, dropped}
+use Rattle.lpt_each.proofs.OwnLemmas.{gathered-of}
 use Rattle.lpt_each.proofs.RunLemmas.{IsInner, none_inner, run-cases}
 use Rattle.lpt_each.proofs.TurnLemmas.{empty-none}
 use Rattle.lpt_each.proofs.SieveLemmas.{Messages, Splits, all_belong-append, came-append, held_from-append, is_again, kept, news_from-append, none-from, set_of, sieved, sieved-belong, sieved-first, sieved-more, sieved-none, still_missing}
@@ -554,16 +554,6 @@ module _ (messages : Messages) (splits : Splits) (t : Transaction) (any : Bool)
 
 -- ---- a message
 
--- all parts behind the last message
-most_are : (t : Transaction) (last : Option (List ℕ)) (bs : List (List ℕ))
-    → most (kept t last bs).all (kept t last bs).new ≡ set_of (joined t bs)
-most_are t None bs = ap (λ xs. set_of (joined t xs)) (sieved-none t bs)
-most_are t (Some l) bs = refl
-
-or_right : (a b : Bool) → b ≡ true → (a || b) ≡ true
-or_right true b h = refl
-or_right false b h = h
-
 module _ (messages : Messages) (splits : Splits) (t : Transaction) (any : Bool) (m : List ℕ)
     (number : ℕ)
     (some : 1 ≤ number) (within : number ≤ part_count (length m) t.part_size) where
@@ -613,11 +603,12 @@ module _ (messages : Messages) (splits : Splits) (t : Transaction) (any : Bool) 
       → Belongs t m b
       → joined t (bs ++ b ∷ []) ≡ Complete m
       → IsInner r
+      → IsMessage m t.part_size
       → IsBefore messages splits t any last m number some within (run_before r x.0)
       → gave_before (at last bs r stale gave) x.0 ≡ false
       → Anew (step t any (at last bs r stale gave) x)
   unfolding step
-  last-step last bs b x r stale gave is fit all first belongs whole none h nothing =
+  last-step last bs b x r stale gave is fit all first belongs whole none message h nothing =
       elim (run-last messages splits t any last m number some within r b x is belongs none h) [
         | inl w ↦ let c = at last bs r stale gave in (
           w.0,
@@ -641,21 +632,14 @@ module _ (messages : Messages) (splits : Splits) (t : Transaction) (any : Bool) 
               (fresh (Some m), Some (told_in_order own (kept t last bs).new m))) own,
         )
       ] where
-        spelled_so : spells (added (most (kept t last bs).all (kept t last bs).new) x.0 x.1) m
-            ≡ true
-        spelled_so =
-            let was = missing_all messages splits t any last m number some within bs all first in
-            ap (λ (s : Parts). spells (added s x.0 x.1) m) (most_are t last bs ∙ ap set_of was.1)
-            ∙ ap (λ (j : Joined). spells j m)
-            (sym (joined-next t (Missing no_parts) bs b ∙ (λ i. join_part (was.1 i) (is i)))
-            ∙ whole)
-            ∙ same_octets-refl m
-
-        own : are_own (at last bs r stale gave) x m ≡ true
+        own : are_own (at last bs r stale gave) t.part_size m ≡ true
         own =
-            or_right (not stale)
-            (spells (added (most (kept t last bs).all (kept t last bs).new) x.0 x.1) m)
-            spelled_so
+            let was = missing_new messages splits t any last m number some within bs all first in
+            or_right (not stale) (are_of (kept t last bs).new t.part_size m)
+            (gathered-of t m (kept t last bs).new message
+            (subst (IsGathered m t.part_size) (was.1 ∙ ap Missing (sym (ap set_of was.1)))
+            (gathered_all t m (sieved t last bs) (Missing no_parts) t.size
+            (gathered_none m t.part_size) (sieved-belong t m last bs all))))
 
   all_packets : (last : Option (List ℕ)) (front : List (List ℕ)) (b : List ℕ) (x : ℕ
       × Kept) (r : Run) (stale gave : Bool)
@@ -668,18 +652,19 @@ module _ (messages : Messages) (splits : Splits) (t : Transaction) (any : Bool) 
       → came t 1 (front ++ b ∷ []) ≡ true
       → FirstBeforeLast t m front
       → IsInner r
+      → IsMessage m t.part_size
       → (q : Run) × (s : Bool) × (g : Bool) × IsInner q
       × (held_from t any (at last [] r stale gave) (front ++ b ∷ [])
       ≡ record { held = begun (Some m) no_parts; run = q; stale = s; gave = g })
       × (news_from t any (at last [] r stale gave) (front ++ b ∷ []) ≡ Given m ∷ [])
-  all_packets last front b x r stale gave is fit all first belongs whole one order none =
+  all_packets last front b x r stale gave is fit all first belongs whole one order none message =
       let k = front-kept messages splits t any last m number some within
       [] front r stale gave all first none
       (inr (refl, order)) in
       let before = at last front k.0 k.1 k.2 in
       let begun_so = began k.0 k.2 k.4 in
       let end =
-      last-step last front b x k.0 k.1 k.2 is fit all first belongs whole k.3 begun_so.0
+      last-step last front b x k.0 k.1 k.2 is fit all first belongs whole k.3 message begun_so.0
       begun_so.1 in
       let ends = ap (λ (o : Option (ℕ × Kept)). step_of t any before o) is ∙ end.4 in (
         end.0,
@@ -744,7 +729,7 @@ module _ (parts : Messages) (splits : Splits) (t : Transaction) (any : Bool) whe
       belongs
       (joined_whole t m (h.front ++ h.last ∷ []) t.size h.message
       (all_belong-append t m h.front (h.last ∷ []) h.belong (belongs, tt)) all)
-      (all 1 (omega arith) (omega (arith, h.ends.some, h.ends.within))) h.order none)
+      (all 1 (omega arith) (omega (arith, h.ends.some, h.ends.within))) h.order none h.message)
 
   -- nothing is left of it
   nothing_left : (last : Option (List ℕ)) (r : Run) (stale gave : Bool)

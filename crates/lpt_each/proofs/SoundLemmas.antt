@@ -184,7 +184,7 @@ module _ (t : Transaction) (any : Bool) (all : List (List ℕ)) where
     end_by-from c m false k of fit = (
       ((from_none t all, from_none t all), from_none t all),
       in_order-sound
-          (are_own c x m) c.held.new m of fit,
+          (are_own c t.part_size m) c.held.new m of fit,
     )
 
     end_run-from : (c : Course) (m : List ℕ) (o : Option Misfit)

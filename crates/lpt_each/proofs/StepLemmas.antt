@@ -112,7 +112,7 @@ module _ (t : Transaction) (any : Bool) (c : Course) (x : ℕ × Kept) where
   pub ends-new : (m : List ℕ)
       → repeats c x.0 m ≡ false
       → ◌≡◌ {A = Course
-      × Option News} (fresh (Some m), Some (told_in_order (are_own c x m) c.held.new m))
+      × Option News} (fresh (Some m), Some (told_in_order (are_own c t.part_size m) c.held.new m))
       (end_by t any c x m (repeats c x.0 m))
   ends-new m e = sym (ap (end_by t any c x m) e)
 

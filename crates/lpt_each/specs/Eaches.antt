@@ -1,12 +1,15 @@
 -- The messages of one name, in the order in which they become whole, and what never does.
-use Rattle.std.specs.Prelude.{ℕ, ◌+◌, ◌==◌, Bool, true, false, not, ◌||◌, ◌&&◌, nat_le, nat_lt, if◌then◌else◌, List, [], ◌∷◌, ◌++◌, Option, Some, None, is_none}
+use Rattle.std.specs.Prelude.{ℕ, zero, suc, ◌+◌, ◌==◌, Bool, true, false, not, ◌||◌, ◌&&◌, nat_le, nat_lt, if◌then◌else◌, List, [], ◌∷◌, ◌++◌, length, Option, Some, None, is_none}
 use Rattle.std.specs.Option.{option_map}
 use Rattle.std.specs.FinMap as map
 use Rattle.lpt_packet.specs.Numbers.{same_octets}
+use Rattle.lpt_packet.specs.Sizes.{longest_packet}
+use Rattle.lpt_part.specs.Splitting.{part_count}
+use Rattle.lpt_reception.specs.PartsOf.{kept_of}
 use Rattle.lpt_reception.specs.Received.{Kept, Parts, is_last, no_parts, with_part}
 use Rattle.lpt_join.specs.declared.messages.Misfit.{Misfit}
 use Rattle.lpt_join.specs.declared.transaction.Transaction.{Transaction}
-use Rattle.lpt_join.specs.Joins.{Joined, Missing, Complete, Broken, added}
+use Rattle.lpt_join.specs.Joins.{Joined, Missing, Complete, Broken, added, join_part}
 use Rattle.lpt_join.specs.Messages.{is_part_of, misfit}
 use Rattle.lpt_join.specs.Offers.{offered}
 use Rattle.lpt_each.specs.News.{News, Given, Dropped, Unfit, Overtaken, dropped, overtaken}
@@ -158,25 +161,32 @@ nothing = fresh None
 abbrev pub is_empty : Parts → Bool
 is_empty s = map.len s == 0
 
--- all parts behind the last message, where these are kept, and else the new ones
-abbrev pub most : Option Parts → Parts → Parts
-most None new = new
-most (Some s) new = s
-
 -- whether parts are joined to this message
 abbrev pub spells : Joined → List ℕ → Bool
 spells (Missing s) m = false
 spells (Complete w) m = same_octets w m
 spells Broken m = false
 
+-- parts, with parts 1 to n of a message
+abbrev pub with_parts_of : (m : List ℕ) → (p : ℕ) → Parts → (n : ℕ) → Joined
+with_parts_of m p s zero = Missing s
+with_parts_of m p s (suc n) =
+    join_part (with_parts_of m p s n) (Some (suc n, kept_of m p (suc n)))
+
+-- whether parts are all of this message: with its own they are joined to it
+abbrev pub are_of : Parts → (p : ℕ) → (m : List ℕ) → Bool
+are_of s p m =
+    nat_lt p (length m) && nat_le (length m) longest_packet
+    && spells (with_parts_of m p s (part_count (length m) p)) m
+
 -- what is told of a message whose parts came in their order: where parts came before them that
--- aren't known to be its own, these are given up
+-- aren't all its own, these are given up
 abbrev pub told_in_order : (own : Bool) → Parts → List ℕ → News
 told_in_order own s m = if own then Given m else overtaken s m
 
--- whether the new parts are known to be the message's
-abbrev pub are_own : Course → ℕ × Kept → List ℕ → Bool
-are_own c x m = not c.stale || spells (added (most c.held.all c.held.new) x.0 x.1) m
+-- whether the new parts are all the message's
+abbrev pub are_own : Course → (p : ℕ) → List ℕ → Bool
+are_own c p m = not c.stale || are_of c.held.new p m
 
 -- behind a part 1, the new parts before it came before the run
 abbrev pub staleness : Course → (number : ℕ) → Bool
@@ -221,7 +231,8 @@ repeats c n m = gave_before c n && is_same c.held.last m
 abbrev pub end_by : Transaction → (any : Bool) → Course → ℕ × Kept → List ℕ → (again : Bool)
     → Course × Option News
 end_by t any c x m true = go_on t any false c x
-end_by t any c x m false = (fresh (Some m), Some (told_in_order (are_own c x m) c.held.new m))
+end_by t any c x m false =
+    (fresh (Some m), Some (told_in_order (are_own c t.part_size m) c.held.new m))
 
 -- one with which one is whole: it is given out, where it may be and wasn't yet
 abbrev pub end_run : Transaction → (any : Bool) → Course → ℕ × Kept → List ℕ → Option Misfit

@@ -242,7 +242,7 @@ impl Course {
             return self.go_on(alloc, transaction, any, false, place, part);
         }
         let last = message.copy()?;
-        let news = overtake(alloc, transaction, self.held, self.stale, message, part)?;
+        let news = overtake(alloc, transaction, self.held, self.stale, message)?;
         Ok((Course::behind(alloc, Some(last)), Some(news)))
     }
 
@@ -322,19 +322,16 @@ fn overtake(
     held: Held,
     stale: bool,
     message: Octets,
-    part: &Part<'_>,
 ) -> Result<News, AllocError>
-    requires held { (h : each.Held) × Holds transaction.now held h }
-    requires id { part.now.id ≡ transaction.now.name.id }
-    requires size { part.now.p ≡ transaction.now.part_size }
+    requires { (h : each.Held) × Holds transaction.now held h }
     ensures { (c : each.Course) → Holds transaction.now held c.held → stale ≡ c.stale
         → IfOk result (λ w. news_of w ≡ each.told_in_order
-        (each.are_own c (part_of_piece (piece part.now)) message) c.held.new message) }
+        (each.are_own c transaction.now.part_size message) c.held.new message) }
 {
     if !stale {
         return Ok(News::Given(message));
     }
-    let (own, came) = held.is_joined_to(alloc, transaction, part, &message)?;
+    let (own, came) = held.are_of(alloc, transaction, &message)?;
     if own {
         return Ok(News::Given(message));
     }

@@ -1,12 +1,15 @@
 //! What is kept of one name.
 
-ghost use Rattle.std.specs.Prelude.{◌≡◌, ℕ, Bool, false, Option, IfOk};
+ghost use Rattle.std.specs.Prelude.{◌≡◌, ◌<◌, ◌≤◌, ℕ, Bool, false, length, Option, IfOk};
 ghost use Rattle.std.specs.FinMap as map;
 ghost use Rattle.std.specs.Option.{option_map};
+ghost use Rattle.lpt_packet.specs.Sizes.{longest_packet};
 ghost use Rattle.lpt_part.specs.Parts.{piece};
+ghost use Rattle.lpt_part.specs.Splitting.{part_count};
 ghost use Rattle.lpt_reception.specs.Received.{Kept, Parts, is_whole, no_parts};
 ghost use Rattle.lpt_join.specs.declared.transaction.Transaction.{Transaction};
-ghost use Rattle.lpt_join.specs.Joins.{added};
+ghost use Rattle.lpt_join.specs.Gatherings.{IsJoiningOf, state};
+ghost use Rattle.lpt_join.specs.Joins.{Missing};
 ghost use Rattle.lpt_join.specs.Offers.{part_of_piece};
 ghost use Rattle.lpt_each.specs.Eaches as each;
 ghost use Rattle.lpt_each.specs.Streams.{waiting};
@@ -15,8 +18,8 @@ ghost use Rattle.lpt_each.specs.Helds.{AreCame, Holds, IsTurnOfAll, Keeps, Keeps
 use crate::turn::{Turn, alone, turn_with};
 use crate::{Came, News, Waiting};
 use lpt_join::{Joining, Transaction, is_part_of};
-use lpt_packet::Octets;
-use lpt_part::Part;
+use lpt_packet::{LONGEST_PACKET, Octets};
+use lpt_part::{Part, count, part_at};
 use std::alloc::{AllocError, Global};
 
 /// The last message of a name, and what came behind it in any order.
@@ -143,34 +146,85 @@ impl Held {
         }
     }
 
-    // Whether all parts behind the last message, with this one, are joined to this message, and
-    // which of them aren't parts of the last. The only error is out of memory.
-    pub(crate) fn is_joined_to(
+    // Whether those behind the last message that aren't parts of it are all of this message, and
+    // which these are. The only error is out of memory.
+    pub(crate) fn are_of(
         self,
         alloc: Global,
         transaction: &Transaction,
-        part: &Part<'_>,
         message: &Octets,
     ) -> Result<(bool, Came), AllocError>
         requires held { (h : each.Held) × Holds transaction.now self h }
-        requires id { part.now.id ≡ transaction.now.name.id }
-        requires size { part.now.p ≡ transaction.now.part_size }
-        ensures spells { (h : each.Held) → Holds transaction.now self h → IfOk result (λ r.
-            r.0 ≡ each.spells (added (each.most h.all h.new) part.now.number
-            (part_of_piece (piece part.now)).1) message.now) }
+        ensures own { (h : each.Held) → Holds transaction.now self h → IfOk result (λ r.
+            r.0 ≡ each.are_of h.new transaction.now.part_size message.now) }
         ensures came { IfOk result (λ r. r.1 ≡ self.came) }
     {
         let Held {
             last: _,
-            all,
+            all: _,
             new,
             came,
         } = self;
-        let joining = most(all, new);
-        match joining.add(alloc, transaction, part)? {
-            Joining::Complete(whole) => Ok((whole == *message, came)),
-            _ => Ok((false, came)),
-        }
+        let own = are_of(alloc, transaction, new, message)?;
+        Ok((own, came))
+    }
+}
+
+// Whether parts are all of this message: with its own they are joined to it. The only error is out
+// of memory.
+fn are_of(
+    alloc: Global,
+    transaction: &Transaction,
+    joining: Joining,
+    message: &Octets,
+) -> Result<bool, AllocError>
+    requires kept { (s : Parts) × Keeps transaction.now joining s }
+    ensures { (s : Parts) → Keeps transaction.now joining s → IfOk result (λ b.
+        b ≡ each.are_of s transaction.now.part_size message.now) }
+{
+    let size = transaction.part_size;
+    let octets = message.as_slice();
+    if octets.len() <= size as usize || octets.len() > LONGEST_PACKET {
+        return Ok(false);
+    }
+    let count = count(octets.len() as u32, size) as u16;
+    let joining = with_parts_of(alloc, transaction, joining, octets, count)?;
+    Ok(spells(&joining, message))
+}
+
+// Parts, with so many of a message from its first on. The only error is out of memory.
+fn with_parts_of(
+    alloc: Global,
+    transaction: &Transaction,
+    joining: Joining,
+    octets: &[u8],
+    count: u16,
+) -> Result<Joining, AllocError>
+    requires joining { IsJoiningOf transaction.now joining }
+    requires long { transaction.now.part_size < length octets.now }
+    requires short { length octets.now ≤ longest_packet }
+    requires within { count ≤ part_count (length octets.now) transaction.now.part_size }
+    ensures { (s : Parts) → state joining ≡ Missing s → IfOk result (λ j.
+        state j ≡ each.with_parts_of octets.now transaction.now.part_size s count) }
+{
+    let mut joining = joining;
+    for before in 0..count {
+        let number = before + 1;
+        let part = part_at(octets, transaction.part_size, transaction.name.id, number);
+        joining = joining.add(alloc, transaction, &part)?;
+    }
+    Ok(joining)
+}
+
+// Whether this is what parts are joined to.
+fn spells(joining: &Joining, message: &Octets) -> bool
+    ensures { result ≡ each.spells (state joining.now) message.now }
+{
+    match joining {
+        Joining::Complete(whole) => *whole == *message,
+        Joining::Nothing => false,
+        Joining::Missing(_) => false,
+        Joining::BrokenOff => false,
     }
 }
 
@@ -183,17 +237,6 @@ fn count_of(joining: &Joining) -> u32
         Joining::Missing(filling) => filling.kept_count(),
         Joining::Complete(_) => 0,
         Joining::BrokenOff => 0,
-    }
-}
-
-// All parts behind the last message, where these are kept, and else the new ones.
-fn most(all: Option<Joining>, new: Joining) -> Joining
-    ensures { (t : Transaction) (a : Option Parts) (s : Parts) → KeepsAll t all a → Keeps t new s
-        → Keeps t result (each.most a s) }
-{
-    match all {
-        None => new,
-        Some(joining) => joining,
     }
 }
 

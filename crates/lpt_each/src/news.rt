@@ -14,8 +14,8 @@ pub enum News {
     Dropped(Came),
     /// What parts were joined to is no packet of the direction.
     Unfit(Misfit),
-    /// Parts were given up that weren't whole: these came; and with the same part a message is
-    /// whole.
+    /// Parts were given up that weren't whole: these came before the part with which this message
+    /// is whole.
     Overtaken(Came, Octets),
 }
 

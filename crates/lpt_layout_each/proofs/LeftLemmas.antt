@@ -1,5 +1,5 @@
 -- What is left behind the packets of a stream.
-use Rattle.std.proofs.Common.{◌≡◌, refl, inl, ℕ, Bool, Err, List, [], ◌∷◌, Option, arith}
+use Rattle.std.proofs.Common.{refl, inl, ℕ, Bool, Err, List, [], ◌∷◌, Option, arith}
 use Rattle.std.specs.Io.KnownBytes.{IsAtEnd}
 use Rattle.lpt_text.specs.Streams.{ReadFails}
 use Rattle.lpt_text.specs.declared.fault.StreamFault.{StreamFault}

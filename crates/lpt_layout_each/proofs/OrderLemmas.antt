@@ -214,7 +214,7 @@ module _ (r : Reading) (any : Bool) (n : Name) where
             (and_left (gave_before c q.number) (is_same c.held.last m) e)
             (and_right (gave_before c q.number) (is_same c.held.last m) e)
         go false e =
-            (ms, [], ap (λ ns. ms ++ ns) (told-own (are_own c q m) (more c.held.new q) m))
+            (ms, [], ap (λ ns. ms ++ ns) (told-own (are_own c d) c.held.new m))
 
   step-goes : (now : ℕ) (c : Course) (q : Piece) (run : Run) (ms : List (List ℕ))
       → run_turn c.run now q ≡ Goes run

@@ -221,7 +221,7 @@ module _ (r : Reading) (any : Bool) (all : List (List ℕ)) where
         → CourseFrom (end_by r any c q d m again).0 × IsTold (end_by r any c q d m again).1
     end_by-from c q d m true k good here = go_on-from false c q k here
     end_by-from c q d m false k good here =
-        (((tt, tt), tt), in_order-sound (are_own c q m) (more c.held.new q) m good)
+        (((tt, tt), tt), in_order-sound (are_own c d) c.held.new m good)
 
     end_run-from : (c : Course) (q : Piece) (d : Came) (m : List ℕ) (sure : Bool)
         (o : Option MisfitAs)

@@ -184,7 +184,7 @@ module _ (r : Reading) (bare : r.layout.has_checksum ≡ false) where
       end_by-so d m true is = goes-so false no_run (none-came r n bsb [])
       end_by-so d m false is = (
         none-came r n bsb [],
-        λ x e. subst (IsInOrder r n bsb) (told-one (are_own c q m) (more c.held.new q) m x e) is,
+        λ x e. subst (IsInOrder r n bsb) (told-one (are_own c d) c.held.new m x e) is,
       )
 
       -- the message is whole

@@ -7,7 +7,7 @@ use Rattle.lpt_layout_join.specs.declared.ending.MisfitAs.{MisfitAs}
 use Rattle.lpt_carried.specs.declared.name.Name.{Name}
 use Rattle.lpt_layout_join.specs.declared.order.Order.{Order}
 use Rattle.lpt_carried.specs.declared.reading.Reading.{Reading}
-use Rattle.lpt_layout_join.specs.Came.{Came, nothing_came, has_part, highest, last_of, message_of, step as came_with}
+use Rattle.lpt_layout_join.specs.Came.{Came, nothing_came, are_of, has_part, highest, last_of, message_of, step as came_with}
 use Rattle.lpt_carried.specs.Carried.{carried, part_of}
 use Rattle.lpt_layout_join.specs.Counts.{Counted, all_counted, counted, nothing_counted}
 use Rattle.lpt_layout_join.specs.Orders.{is_in_order, no_order, ordered}
@@ -177,23 +177,14 @@ abbrev pub spells : Option (List ℕ) → List ℕ → Bool
 spells None m = false
 spells (Some w) m = same_octets w m
 
--- whether these, with one more, are
-abbrev pub spells_with : Came → Piece → List ℕ → Bool
-spells_with c q m = spells (message_of (more c q).parts) m
-
--- whether all parts behind the last message are, where they are kept
-abbrev pub all_spell : Option Came → Piece → List ℕ → Bool
-all_spell None q m = false
-all_spell (Some c) q m = spells_with c q m
-
 -- what is told of a message whose parts came in their order: where parts came before them that
--- aren't known to be its own, these are given up
+-- aren't all its own, these are given up
 abbrev pub told_in_order : (own : Bool) → Came → List ℕ → News
 told_in_order own c m = if own then Given m else overtaken c m
 
--- whether the new parts are known to be the message's: they, or all parts, are joined to it
-abbrev pub are_own : Course → Piece → List ℕ → Bool
-are_own c q m = not c.stale || (spells_with c.held.new q m || all_spell c.held.all q m)
+-- whether the new parts are all the message's, which has these
+abbrev pub are_own : Course → (whole : Came) → Bool
+are_own c d = not c.stale || are_of c.held.new.parts d.parts
 
 -- behind a part 1, the new parts before it came before the run
 abbrev pub staleness : Course → (number : ℕ) → Bool
@@ -240,7 +231,7 @@ abbrev pub end_by : Reading → (any : Bool) → Course → Piece → Came → L
     → Course × Option News
 end_by r any c q d m true = go_on r any false c q
 end_by r any c q d m false =
-    (fresh (Some d), Some (told_in_order (are_own c q m) (more c.held.new q) m))
+    (fresh (Some d), Some (told_in_order (are_own c d) c.held.new m))
 
 -- one with which one is whole: it is given out, where it may be and wasn't yet
 abbrev pub end_run : Reading → (any : Bool) → Course → Piece → Came → List ℕ → Option MisfitAs

@@ -155,7 +155,7 @@ impl CourseAs {
         if self.repeats(alloc, part.number, &message)? {
             return self.go_on(alloc, reading, any, false, place, part);
         }
-        let news = overtake(alloc, self.held, self.stale, message, place, part)?;
+        let news = overtake(self.held, self.stale, message, &came);
         Ok((CourseAs::behind(alloc, Some(came)), Some(news)))
     }
 
@@ -226,27 +226,14 @@ fn is_given(news: &NewsAs) -> bool
     }
 }
 
-// What is told of it. The only error is out of memory.
-fn overtake(
-    alloc: Global,
-    held: HeldAs,
-    stale: bool,
-    message: Octets,
-    place: u64,
-    part: &PartAs<'_>,
-) -> Result<NewsAs, AllocError>
-    requires number { 1 ≤ part.now.number }
-    requires short { length part.now.octets.now ≤ longest_packet }
-    ensures { (c : each.Course) → Holds c.held held → stale ≡ c.stale
-        → IfOk result (λ w. news_of w ≡ each.told_in_order
-        (each.are_own c (piece part.now) message) (each.more c.held.new (piece part.now)) message) }
+// What is told of it, whose parts are these.
+fn overtake(held: HeldAs, stale: bool, message: Octets, whole: &CameAs) -> NewsAs
+    ensures { (c : each.Course) (d : Came) → Holds c.held held → stale ≡ c.stale
+        → Shows d whole.now
+        → news_of result ≡ each.told_in_order (each.are_own c d) c.held.new message }
 {
-    if !stale {
-        return Ok(NewsAs::Given(message));
+    if !stale || held.new.are_of(whole) {
+        return NewsAs::Given(message);
     }
-    let (own, new) = held.is_joined_to(alloc, place, part, &message)?;
-    if own {
-        return Ok(NewsAs::Given(message));
-    }
-    Ok(NewsAs::Overtaken(new, message))
+    NewsAs::Overtaken(held.into_new(), message)
 }

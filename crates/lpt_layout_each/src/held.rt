@@ -1,6 +1,6 @@
 //! What is kept of one name.
 
-ghost use Rattle.std.specs.Prelude.{◌≡◌, ◌≤◌, ◌==◌, ◌||◌, Bool, Option, length, IfOk};
+ghost use Rattle.std.specs.Prelude.{◌≡◌, ◌≤◌, ◌==◌, Bool, Option, length, IfOk};
 ghost use Rattle.lpt_packet.specs.Sizes.{longest_packet};
 ghost use Rattle.lpt_part.specs.Parts.{Piece};
 ghost use Rattle.lpt_layout.specs.Parts.{piece};
@@ -105,57 +105,6 @@ impl HeldAs {
         match &self.last {
             None => Ok(false),
             Some(came) => spells(alloc, came, message),
-        }
-    }
-
-    // Whether those behind the last message that aren't parts of it, with this one, are joined to
-    // this message, or all behind it; and those. The only error is out of memory.
-    pub(crate) fn is_joined_to(
-        self,
-        alloc: Global,
-        place: u64,
-        part: &PartAs<'_>,
-        message: &Octets,
-    ) -> Result<(bool, CameAs), AllocError>
-        requires number { 1 ≤ part.now.number }
-        requires short { length part.now.octets.now ≤ longest_packet }
-        ensures own { (h : each.Held) → Holds h self → IfOk result (λ r.
-            r.0 ≡ (each.spells_with h.new (piece part.now) message.now
-            || each.all_spell h.all (piece part.now) message.now)) }
-        ensures new { (h : each.Held) → Holds h self → IfOk result (λ r.
-            Shows (each.more h.new (piece part.now)) r.1) }
-    {
-        let HeldAs {
-            last: _,
-            all,
-            mut new,
-        } = self;
-        new.take_from(alloc, place, part)?;
-        let own = spells(alloc, &new, message)? || all_spell(alloc, all, place, part, message)?;
-        Ok((own, new))
-    }
-}
-
-// Whether all parts, with this one, are joined to this message, where they are kept. The only error
-// is out of memory.
-fn all_spell(
-    alloc: Global,
-    all: Option<CameAs>,
-    place: u64,
-    part: &PartAs<'_>,
-    message: &Octets,
-) -> Result<bool, AllocError>
-    requires number { 1 ≤ part.now.number }
-    requires short { length part.now.octets.now ≤ longest_packet }
-    ensures { (a : Option Came) → ShowsSome a all → IfOk result (λ b.
-        b ≡ each.all_spell a (piece part.now) message.now) }
-{
-    match all {
-        None => Ok(false),
-        Some(came) => {
-            let mut all = came;
-            all.take_from(alloc, place, part)?;
-            spells(alloc, &all, message)
         }
     }
 }

@@ -1,10 +1,10 @@
 -- How many counts are missing in packets, as they are counted.
-use Rattle.std.proofs.Common.{◌≡◌, ◌∙◌, ap, sym, refl, ℕ, ◌+◌, ◌≤◌, ◌<◌, Bool, true, List, [], ◌∷◌, ◌++◌, arith}
+use Rattle.std.proofs.Common.{◌≡◌, ◌∙◌, ap, refl, ℕ, ◌+◌, ◌≤◌, ◌<◌, true, List, [], ◌∷◌, ◌++◌, arith}
 use Rattle.std.specs.Prelude.{Option, Some, None}
 use Rattle.lpt_packet.proofs.BoolLemmas.{true_lt}
 use Rattle.lpt_stream.specs.Pieces.{up_to_limit}
 use Rattle.lpt_carried.specs.declared.reading.Reading.{Reading}
-use Rattle.lpt_layout_join.specs.Counts.{Counted, Latest, all_counted, count_of, counted, counted_by, gap_by, latest, latest_by, missing_from, missing_in, no_latest, nothing_counted}
+use Rattle.lpt_layout_join.specs.Counts.{Counted, Latest, all_counted, count_of, counted, counted_by, gap_by, latest, latest_by, missing_from, missing_in, nothing_counted}
 use Rattle.lpt_layout_join.specs.Orders.{are_few}
 
 pub counted-more : (r : Reading) (k : Counted) (bs : List (List ℕ)) (b : List ℕ)

@@ -1,5 +1,5 @@
 -- Parts that agree have one length, but for the last.
-use Rattle.std.proofs.Common.{◌≡◌, ◌∙◌, ap, sym, subst, refl, inl, inr, ℕ, ◌==◌, Bool, true, false, if◌then◌else◌, List, [], ◌∷◌, ◌++◌, length, arith, eqb-true, Ok, Err, Result}
+use Rattle.std.proofs.Common.{◌≡◌, ◌∙◌, ap, sym, subst, refl, inl, inr, ℕ, ◌==◌, Bool, true, false, if◌then◌else◌, List, [], ◌∷◌, ◌++◌, length, arith, eqb-true}
 use Rattle.std.specs.Prelude.{Option, Some, None, is_some, ◌||◌}
 use Rattle.std.specs.Option.{option_or}
 use Rattle.lpt_packet.proofs.BoolLemmas.{not_false, or_false_left, or_false_right}
@@ -10,7 +10,6 @@ use Rattle.lpt_part.proofs.BodyLemmas.{length_test-true}
 use Rattle.lpt_layout_join.specs.declared.last_part.LastPart.{LastPart}
 use Rattle.lpt_carried.specs.declared.name.Name.{Name}
 use Rattle.lpt_carried.specs.declared.reading.Reading.{Reading}
-use Rattle.lpt_carried.specs.declared.skip.Skip.{Skip}
 use Rattle.lpt_layout_join.specs.Came.{Came, size_by, size_told, last_by, last_told, octets_told, octets_of, size_of, last_of, highest, other_octets, other_size, other_last, other_end, contradicts, step}
 use Rattle.lpt_carried.specs.Carried.{carried, part_of}
 use Rattle.lpt_layout_join.specs.Gathered.{Gathered, all_gathered, gathered, next, nothing_gathered, with_counts, with_part}

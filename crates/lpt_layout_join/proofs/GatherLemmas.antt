@@ -2,7 +2,6 @@
 use Rattle.std.proofs.Common.{◌≡◌, ◌∙◌, ap, sym, subst, refl, ℕ, ◌+◌, ◌==◌, Bool, true, false, ◌||◌, List, [], ◌∷◌, ◌++◌, length, Option, Some, None, is_some, append-nil, arith}
 use Rattle.std.specs.Option.{option_map}
 use Rattle.std.specs.List.{list_any}
-use Rattle.lpt_part.specs.declared.kind.Kind.{Kind}
 use Rattle.lpt_part.specs.declared.kind.Kind.TheVariants.{Last}
 use Rattle.lpt_part.specs.Parts.{same_kind}
 use Rattle.lpt_part.specs.Parts as part
@@ -20,7 +19,7 @@ use Rattle.lpt_layout_join.specs.declared.order.Order.{Order}
 use Rattle.lpt_layout_join.specs.Came.{Came, last_of, nothing_came, step}
 use Rattle.lpt_layout_join.specs.CameInside.{Shows}
 use Rattle.lpt_layout_join.specs.Counts.{Counted, all_counted, counted, nothing_counted}
-use Rattle.lpt_layout_join.specs.Gathered.{Gathered, against_from, all_gathered, breaks, came, came_by, carry, ended, first_against, gathered, is_end, is_part, next, nothing_gathered, order_by, part_in, place_if, place_or, with_counts, with_part}
+use Rattle.lpt_layout_join.specs.Gathered.{Gathered, against_from, all_gathered, breaks, came, came_by, ended, first_against, gathered, is_end, is_part, next, nothing_gathered, order_by, part_in, place_if, place_or, with_counts, with_part}
 use Rattle.lpt_layout_join.specs.Gatherings.{Gives}
 use Rattle.lpt_layout_join.specs.Orders.{is_in_order}
 use Rattle.lpt_layout_join.proofs.CountLemmas.{counted-more}

@@ -1,18 +1,18 @@
 -- Parts that came in their order stand so in the stream.
-use Rattle.std.proofs.Common.{◌≡◌, ◌≢◌, ◌⊎◌, ◌∙◌, ap, sym, subst, refl, inl, inr, ℕ, zero, suc, ◌+◌, ◌≤◌, ◌<◌, ◌==◌, ◌&&◌, nat_lt, Bool, true, false, not, if◌then◌else◌, List, [], ◌∷◌, ◌++◌, append-nil, append_assoc, arith}
+use Rattle.std.proofs.Common.{◌≡◌, ◌≢◌, ◌∙◌, ap, sym, subst, refl, inl, inr, ℕ, zero, suc, ◌+◌, ◌≤◌, ◌==◌, ◌&&◌, nat_lt, Bool, true, false, if◌then◌else◌, List, [], ◌∷◌, ◌++◌, append-nil, append_assoc, arith}
 use Rattle.std.specs.Prelude.{Option, Some, None, bytes_eq, ◌||◌}
 use Rattle.std.specs.Option.{option_or}
 use Rattle.std.specs.List.{AllByRecursion}
 use Rattle.std.proofs.lemmas.Bool.{eqb-true, eqb-false}
 use Rattle.std.proofs.lemmas.Bool.Decides.{nat_tests}
 use Rattle.std.proofs.lemmas.Slice.Eq.{bytes_eq-Decides}
-use Rattle.lpt_packet.proofs.BoolLemmas.{not_false, or_false_left, true_lt}
+use Rattle.lpt_packet.proofs.BoolLemmas.{not_false, or_false_left}
 use Rattle.lpt_part.specs.Parts.{Piece}
 use Rattle.lpt_layout_join.specs.declared.last_part.LastPart.{LastPart}
 use Rattle.lpt_carried.specs.declared.name.Name.{Name}
 use Rattle.lpt_layout_join.specs.declared.order.Order.{Order}
 use Rattle.lpt_carried.specs.declared.reading.Reading.{Reading}
-use Rattle.lpt_layout_join.specs.Came.{contradicts, highest, last_of, octets_of, octets_told, other_end, other_octets, other_size, size_of}
+use Rattle.lpt_layout_join.specs.Came.{contradicts, highest, last_of, octets_of, other_end, other_octets, other_size, size_of}
 use Rattle.lpt_carried.specs.Carried.{carried, part_of}
 use Rattle.lpt_layout_join.specs.Counts.{all_counted, missing_in, nothing_counted}
 use Rattle.lpt_layout_join.specs.InOrder.{Carries, IsBetween, Stands}

@@ -1,5 +1,5 @@
 -- A stream of packets that carry the parts of one message, and others.
-use Rattle.std.proofs.Common.{◌≡◌, ◌⊎◌, ◌∙◌, ap, sym, subst, refl, inl, inr, ℕ, ◌≤◌, Bool, true, false, ◌||◌, if◌then◌else◌, List, [], ◌∷◌, ◌++◌, length, arith, Ok, Err, Result}
+use Rattle.std.proofs.Common.{◌≡◌, ◌∙◌, ap, sym, subst, refl, inl, inr, ℕ, ◌≤◌, Bool, true, false, ◌||◌, if◌then◌else◌, List, [], ◌∷◌, ◌++◌, length, Ok, Err, Result}
 use Rattle.std.specs.Prelude.{Option, Some, None, is_some}
 use Rattle.lpt_part.specs.Parts.{Piece, nth_part}
 use Rattle.lpt_part.specs.Splitting as message_part
@@ -10,7 +10,7 @@ use Rattle.lpt_carried.specs.declared.reading.Reading.{Reading}
 use Rattle.lpt_carried.specs.declared.skip.Skip.{Skip}
 use Rattle.lpt_layout_join.specs.Came.{Came, contradicts, message_of, octets_of, step}
 use Rattle.lpt_carried.specs.Carried.{Named, carried, name_of, part_of, same_name}
-use Rattle.lpt_layout_join.specs.Gathered.{Gathered, all_gathered, carry, gathered, next, nothing_gathered, order_by, with_came, with_counts, with_own, with_part}
+use Rattle.lpt_layout_join.specs.Gathered.{Gathered, all_gathered, carry, gathered, next, nothing_gathered, with_counts, with_own, with_part}
 use Rattle.lpt_layout_join.specs.Laws.{IsSplit, OneOrOther, AreOneOrOther, EachIsAmong, IsAmong, IsAsked, is_other, part_named}
 use Rattle.lpt_layout_join.specs.Writes.{end_by, end_of, end_whole, unfit}
 use Rattle.lpt_carried.proofs.NameLemmas.{same_name-refl, same_name-true}

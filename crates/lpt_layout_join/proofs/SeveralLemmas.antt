@@ -1,5 +1,5 @@
 -- What is kept of each transaction, a piece further.
-use Rattle.std.proofs.Common.{◌≡◌, ◌∙◌, ap, sym, subst, refl, inl, inr, ◌⊎◌, ℕ, ◌+◌, ◌≤◌, Bool, true, false, if◌then◌else◌, ◌||◌, List, [], ◌∷◌, ◌++◌, length, Option, Some, None, is_some, append-nil, append_assoc, arith, cond, Ok, Err, Result}
+use Rattle.std.proofs.Common.{◌≡◌, ◌∙◌, ap, sym, subst, refl, inl, inr, ◌⊎◌, ℕ, ◌+◌, ◌≤◌, Bool, true, false, if◌then◌else◌, ◌||◌, List, [], ◌∷◌, ◌++◌, length, Option, Some, None, is_some, append-nil, append_assoc, arith, cond, Ok}
 use Rattle.std.specs.BTreeMap.{is_at}
 use Rattle.std.specs.Map.{lookup}
 use Rattle.std.specs.Ordering.{is_eq}
@@ -10,7 +10,6 @@ use Rattle.lpt_stream.specs.declared.piece_kind.PieceKind.TheVariants.{Whole, Da
 use Rattle.lpt_stream.specs.Pieces.{Piece, packet_before, packets_of}
 use Rattle.lpt_carried.specs.declared.name.Name.{Name}
 use Rattle.lpt_carried.specs.declared.reading.Reading.{Reading}
-use Rattle.lpt_carried.specs.declared.skip.Skip.{Skip}
 use Rattle.lpt_carried.specs.Carried.{Named, carried, name_of, part_of, same_name}
 use Rattle.lpt_carried.proofs.NameLemmas.{same_name-refl, same_name-true}
 use Rattle.lpt_layout_join.specs.declared.gathering.Gathering.{Gathering}

@@ -1,7 +1,8 @@
 -- The octets of each part, by its number.
-use Rattle.std.proofs.Common.{◌≡◌, ◌∙◌, ap, refl, sym, ℕ, zero, suc, ◌+◌, ◌-◌, ◌<◌, List, [], ◌∷◌, ◌++◌, arith}
+use Rattle.std.proofs.Common.{◌≡◌, ◌∙◌, ap, refl, sym, inl, inr, ℕ, zero, suc, ◌+◌, ◌-◌, ◌<◌, ◌≤◌, Bool, true, false, if◌then◌else◌, List, [], ◌∷◌, ◌++◌, arith}
 use Rattle.std.specs.Prelude.{Option, Some, None}
-use Rattle.lpt_layout_join.specs.Came.{at, and_more, joined}
+use Rattle.std.proofs.lemmas.Bool.Decides.{eqb_tells}
+use Rattle.lpt_layout_join.specs.Came.{at, and_more, is_other, joined, none_other}
 
 -- an empty place behind the others changes nothing
 pub at-behind : (xs : List (Option (List ℕ))) (i : ℕ) → at (xs ++ None ∷ []) i ≡ at xs i
@@ -40,3 +41,34 @@ pub joined-next : (f : ℕ → Option (List ℕ)) (k : ℕ) (a b : List ℕ)
     → f (suc k) ≡ Some b
     → joined f (suc k) ≡ Some (a ++ b)
 joined-next f k a b h e = λ i. and_more (h i) (e i)
+
+-- the part behind place k is another, so one up to n is
+pub other-some : (f g : ℕ → Option (List ℕ)) (k n : ℕ)
+    → is_other (f (suc k)) (g (suc k)) ≡ true
+    → k < n
+    → none_other f g n ≡ false
+other-some f g k zero h less = absurd (omega (arith, less))
+other-some f g k (suc n) h less =
+    go (is_other (f (suc n)) (g (suc n))) refl (λ l. other-some f g k n h l) where
+      go : (b : Bool)
+          → is_other (f (suc n)) (g (suc n)) ≡ b
+          → (k < n → none_other f g n ≡ false)
+          → (if b then false else none_other f g n) ≡ false
+      go true e before = refl
+      go false e before = elim (eqb_tells k n) [
+        | inl w ↦
+            let both : true ≡ false = sym h ∙ ap (λ i. is_other (f (suc i)) (g (suc i))) w.1 ∙ e in
+            absurd cc
+        | inr w ↦ before (omega (arith, less, w.1))
+      ]
+
+-- by the octets of each number
+pub others-same : (f g p q : ℕ → Option (List ℕ)) (n : ℕ)
+    → ((i : ℕ) → 1 ≤ i → f i ≡ p i)
+    → ((i : ℕ) → 1 ≤ i → g i ≡ q i)
+    → none_other f g n ≡ none_other p q n
+others-same f g p q zero h k = refl
+others-same f g p q (suc n) h k =
+    let least : 1 ≤ suc n = omega arith in
+    λ i. if is_other (h (suc n) least i) (k (suc n) least i) then false
+    else others-same f g p q n h k i

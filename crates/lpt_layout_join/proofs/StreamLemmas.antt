@@ -1,6 +1,5 @@
 -- A stream, a piece further.
-use Rattle.std.proofs.Common.{◌≡◌, ◌∙◌, ap, sym, subst, refl, ℕ, ◌+◌, ◌-◌, ◌*◌, ◌≤◌, ◌==◌, ◌&&◌, nat_le, nat_lt, Bool, true, false, if◌then◌else◌, List, [], ◌∷◌, ◌++◌, length, Option, Some, None, arith, append-nil, Ok, Err, Result}
-use Rattle.std.specs.Prelude.{max, min}
+use Rattle.std.proofs.Common.{◌≡◌, ◌∙◌, ap, sym, subst, refl, ℕ, ◌-◌, ◌*◌, ◌≤◌, ◌==◌, nat_le, nat_lt, Bool, true, false, if◌then◌else◌, List, [], ◌∷◌, ◌++◌, length, Option, Some, None, arith, append-nil, Ok, Err, Result}
 use Rattle.std.proofs.Math.Nat.{mul-le-mul_left}
 use Rattle.std.proofs.lemmas.Bool.{and_parts}
 use Rattle.std.proofs.lemmas.Bool.Decides.{nat_tests}
@@ -22,7 +21,6 @@ use Rattle.lpt_layout.specs.Packets.{verdict_as}
 use Rattle.lpt_layout.specs.Parts.{is_numbered, octets_at, part_verdict_as, piece_at}
 use Rattle.lpt_carried.specs.declared.name.Name.{Name}
 use Rattle.lpt_carried.specs.declared.reading.Reading.{Reading}
-use Rattle.lpt_carried.specs.declared.skip.Skip.{Skip}
 use Rattle.lpt_carried.specs.declared.skip.Skip.TheVariants.{OtherApid}
 use Rattle.lpt_carried.specs.Carried.{Named, carried, kind_to, name_of, of_kind, of_message, of_part, of_sight, part_of, same_name}
 use Rattle.lpt_carried.specs.Sizes.{is_size, size_for}
@@ -30,12 +28,12 @@ use Rattle.lpt_carried.proofs.NameLemmas.{same_name-true}
 use Rattle.lpt_skips.specs.declared.skips.Skips.{Skips}
 use Rattle.lpt_skips.specs.declared.wanted.Wanted.{Wanted}
 use Rattle.lpt_skips.specs.declared.why.Why.TheVariants.{Taken, OtherName}
-use Rattle.lpt_skips.specs.Skipping.{sizeless, why_carried, why_name, why_of}
+use Rattle.lpt_skips.specs.Skipping.{sizeless, why_carried, why_name}
 use Rattle.lpt_skips.specs.Tallies.{noted, nothing_noted, skips_of, with_why}
 use Rattle.lpt_skips.proofs.TallyLemmas.{noted-append}
 use Rattle.lpt_stream.specs.declared.piece_kind.PieceKind.{PieceKind}
 use Rattle.lpt_stream.specs.declared.piece_kind.PieceKind.TheVariants.{Whole, Damaged, Stray}
-use Rattle.lpt_stream.specs.Pieces.{Piece, packet_before, packets_of}
+use Rattle.lpt_stream.specs.Pieces.{Piece, packets_of}
 use Rattle.lpt_stream.proofs.CutLemmas.{packets-next}
 use Rattle.lpt_layout_join.specs.declared.counts.Counts as declared
 use Rattle.lpt_layout_join.specs.declared.gatherings.Gatherings.{Gatherings}

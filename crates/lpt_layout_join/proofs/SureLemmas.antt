@@ -4,7 +4,6 @@ use Rattle.std.proofs.Common.{◌≡◌, ◌∙◌, ap, sym, subst, refl, ℕ, B
 use Rattle.std.specs.Prelude.{Option, Some, None, is_some}
 use Rattle.std.specs.Option.{option_or}
 use Rattle.lpt_part.specs.Parts.{Piece}
-use Rattle.lpt_layout_join.specs.declared.ending.JoinEnd.{JoinEnd}
 use Rattle.lpt_layout_join.specs.declared.ending.JoinEnd.TheVariants.{Written}
 use Rattle.lpt_layout_join.specs.declared.ending.MisfitAs.{MisfitAs}
 use Rattle.lpt_layout_join.specs.declared.ending.MisfitAs.TheVariants.{Unsure}

@@ -1,5 +1,5 @@
 -- What came of one transaction: the parts that agree, and the first that doesn't.
-use Rattle.std.specs.Prelude.{ℕ, zero, suc, ◌==◌, ◌||◌, max, nat_le, Bool, true, false, not, if◌then◌else◌, List, [], ◌∷◌, ◌++◌, length, Option, Some, None, is_some, bytes_eq, slice_index_or}
+use Rattle.std.specs.Prelude.{ℕ, zero, suc, ◌==◌, ◌||◌, ◌&&◌, max, nat_le, nat_lt, Bool, true, false, not, if◌then◌else◌, List, [], ◌∷◌, ◌++◌, length, Option, Some, None, is_some, bytes_eq, slice_index_or}
 use Rattle.std.specs.Option.{option_or}
 use Rattle.lpt_part.specs.declared.kind.Kind.{Kind}
 use Rattle.lpt_part.specs.declared.kind.Kind.TheVariants.{First, Middle, Last}
@@ -109,6 +109,37 @@ step c place q =
     else record c { parts = c.parts ++ q ∷ [] }
 
 -- ---- the message
+
+-- octets aren't these
+abbrev pub differ : List ℕ → Option (List ℕ) → Bool
+differ x None = true
+differ x (Some y) = not (bytes_eq x y)
+
+-- octets came of a number, and of the other's number others or none
+abbrev pub is_other : Option (List ℕ) → Option (List ℕ) → Bool
+is_other None others = false
+is_other (Some x) others = differ x others
+
+-- for no number up to this one
+abbrev pub none_other : (part others : ℕ → Option (List ℕ)) → ℕ → Bool
+none_other part others zero = true
+none_other part others (suc n) =
+    if is_other (part (suc n)) (others (suc n)) then false else none_other part others n
+
+-- parts end as these do, behind which no more come: with the same last part, or before it
+abbrev pub ends_before : Option LastPart → (greatest number : ℕ) → Bool
+ends_before None greatest number = nat_lt greatest number
+ends_before (Some l) greatest number = l.number == number
+
+abbrev pub ends_in : Option LastPart → (greatest : ℕ) → Option LastPart → Bool
+ends_in last greatest None = false
+ends_in last greatest (Some w) = ends_before last greatest w.number
+
+-- whether each of these parts is one of those, with which a message is whole
+abbrev pub are_of : (parts whole : List Piece) → Bool
+are_of qs whole =
+    ends_in (last_of qs) (highest qs) (last_of whole)
+    && none_other (octets_of qs) (octets_of whole) (highest qs)
 
 -- octets, and more of them, where both are there
 abbrev pub and_more : Option (List ℕ) → Option (List ℕ) → Option (List ℕ)

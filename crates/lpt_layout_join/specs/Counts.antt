@@ -1,5 +1,5 @@
 -- How many sequence counts are missing among the packets of a stream.
-use Rattle.std.specs.Prelude.{ℕ, ◌+◌, ◌-◌, ◌%◌, ◌==◌, ◌||◌, Bool, true, false, if◌then◌else◌, List, [], ◌∷◌, length, Option, Some, None, Result, Ok, Err, bytes_eq}
+use Rattle.std.specs.Prelude.{ℕ, ◌+◌, ◌-◌, ◌%◌, ◌==◌, ◌||◌, if◌then◌else◌, List, [], ◌∷◌, length, Option, Some, None, Result, Ok, Err, bytes_eq}
 use Rattle.lpt_stream.specs.Pieces.{up_to_limit}
 use Rattle.lpt_layout.specs.Packets.{verdict_as}
 use Rattle.lpt_packet.specs.declared.fault.PacketFault.{PacketFault}

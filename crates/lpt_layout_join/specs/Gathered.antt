@@ -1,5 +1,5 @@
 -- What the packets of a stream give of the transaction of one name.
-use Rattle.std.specs.Prelude.{ℕ, ◌+◌, ◌==◌, ◌||◌, Bool, true, false, if◌then◌else◌, List, [], ◌∷◌, length, Option, Some, None, is_some}
+use Rattle.std.specs.Prelude.{ℕ, ◌+◌, ◌==◌, ◌||◌, Bool, false, if◌then◌else◌, List, [], ◌∷◌, length, Option, Some, None, is_some}
 use Rattle.std.specs.List.{list_any}
 use Rattle.lpt_part.specs.declared.kind.Kind.TheVariants.{Last}
 use Rattle.lpt_part.specs.Parts.{Piece, same_kind}

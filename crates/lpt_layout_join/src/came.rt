@@ -5,8 +5,8 @@ ghost use Rattle.lpt_layout_join.specs.Came.{is_small, is_small_last};
 
 use crate::LastPart;
 use crate::against::{other_end, other_octets, other_size};
-use crate::last_part::{last_told, size_told};
-use crate::slots::{has_slot, joined, next_empty, put};
+use crate::last_part::{ends_in, last_told, size_told};
+use crate::slots::{has_slot, joined, next_empty, none_other, put};
 use lpt_layout::{Octets, PartAs};
 use std::alloc::{AllocError, Global};
 
@@ -34,7 +34,7 @@ impl CameAs {
     ghost use Rattle.std.specs.Option.{option_or};
     ghost use Rattle.lpt_packet.specs.Sizes.{longest_packet};
     ghost use Rattle.lpt_layout.specs.Parts.{piece};
-    ghost use Rattle.lpt_layout_join.specs.Came.{Came, nothing_came, has_part, highest, is_against, last_of, message_of, octets_of, size_of, step};
+    ghost use Rattle.lpt_layout_join.specs.Came.{Came, nothing_came, are_of, has_part, highest, is_against, last_of, message_of, octets_of, size_of, step};
     ghost use Rattle.lpt_layout_join.specs.CameInside.{Shows, part_at};
 
     /// Nothing has come.
@@ -134,6 +134,14 @@ impl CameAs {
             Some(last) => joined(alloc, &self.slots, last.number as usize),
             None => Ok(None),
         }
+    }
+
+    /// Whether each of these parts is one of those, with which a message is whole.
+    pub fn are_of(&self, whole: &CameAs) -> bool
+        ensures { (c d : Came) → Shows c self.now → Shows d whole.now
+            → result ≡ are_of c.parts d.parts }
+    {
+        ends_in(self.last, self.slots.len(), whole.last) && none_other(&self.slots, &whole.slots)
     }
 
     /// The place of the packet of the first part that contradicts those before it.

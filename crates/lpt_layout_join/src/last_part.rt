@@ -3,7 +3,7 @@
 ghost use Rattle.std.specs.Prelude.{◌≡◌, ◌≤◌, length, true};
 ghost use Rattle.lpt_packet.specs.Sizes.{longest_packet};
 ghost use Rattle.lpt_layout.specs.Parts.{piece};
-ghost use Rattle.lpt_layout_join.specs.Came.{is_small, is_small_last, last_told, size_told};
+ghost use Rattle.lpt_layout_join.specs.Came.{ends_in, is_small, is_small_last, last_told, size_told};
 
 use lpt_layout::PartAs;
 use lpt_part::Kind;
@@ -15,6 +15,18 @@ pub struct LastPart {
     pub number: u32,
     /// How many octets it has.
     pub len: usize,
+}
+
+// Whether parts up to this number, of which this is the last one, end with the last part of a
+// whole, or before it.
+pub(crate) fn ends_in(last: Option<LastPart>, greatest: usize, whole: Option<LastPart>) -> bool
+    ensures { result ≡ ends_in last greatest whole }
+{
+    match (last, whole) {
+        (_, None) => false,
+        (None, Some(whole)) => greatest < whole.number as usize,
+        (Some(last), Some(whole)) => last.number == whole.number,
+    }
 }
 
 // The part size that a part tells, unless it is a last one.

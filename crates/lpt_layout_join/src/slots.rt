@@ -2,7 +2,7 @@
 
 ghost use Rattle.std.specs.Prelude.{◌≡◌, ◌≢◌, ◌≤◌, ◌<◌, ◌-◌, ℕ, true, Some, None, length, max, IfOk, IfSome, OnOk, is_some};
 ghost use Rattle.std.specs.Option.{option_or};
-ghost use Rattle.lpt_layout_join.specs.Came.{at, joined};
+ghost use Rattle.lpt_layout_join.specs.Came.{at, is_other, joined, none_other};
 
 use lpt_layout::{Octets, PartAs};
 use std::alloc::{AllocError, Global};
@@ -87,4 +87,30 @@ pub(crate) fn has_slot(slots: &[Option<Octets>], place: usize) -> bool
     ensures { result ≡ is_some (at slots.now place) }
 {
     matches!(slots.get(place), Some(Some(_)))
+}
+
+// Whether at no place octets are that aren't at that place of others.
+pub(crate) fn none_other(slots: &[Option<Octets>], others: &[Option<Octets>]) -> bool
+    ensures { result ≡ none_other (λ n. at slots.now (n - 1)) (λ n. at others.now (n - 1))
+        (length slots.now) }
+{
+    for place in 0..slots.len() {
+        if is_other(slots, others, place) {
+            return false;
+        }
+    }
+    true
+}
+
+// Whether octets are at a place that aren't at that place of others.
+fn is_other(slots: &[Option<Octets>], others: &[Option<Octets>], place: usize) -> bool
+    ensures { result ≡ is_other (at slots.now place) (at others.now place) }
+{
+    let Some(part) = part_at(slots, place) else {
+        return false;
+    };
+    match part_at(others, place) {
+        None => true,
+        Some(other) => part.as_slice() != other.as_slice(),
+    }
 }

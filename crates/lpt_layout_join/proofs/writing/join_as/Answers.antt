@@ -1,6 +1,4 @@
 -- A write failed, or memory ran out, behind the stream's end.
-use Rattle.std.proofs.Common.{◌≡◌, List}
-use Rattle.lpt_skips.specs.Tallies.{skips_of}
 use Rattle.lpt_layout_join.proofs.WriteLemmas.{join-leaves}
 use Rattle.lpt_layout_join.proofs.writing.join_as.Goals as goal
 

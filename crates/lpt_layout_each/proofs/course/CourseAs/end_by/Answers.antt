@@ -9,10 +9,10 @@ use Rattle.lpt_layout_each.proofs.course.CourseAs.end_by.Goals as goal
 pub returns : goal.returns
 returns c = λ k d h shows.
     let q = piece c.args.part.now in
-    subst (λ (again : Bool). Steps (c.behind.result, Some c.in_ok-news.news)
+    subst (λ (again : Bool). Steps (c.behind.result, Some c.overtake-news.result)
     (end_by c.args.reading.now c.args.any k q d c.args.whole.1 again))
     (sym c.if-branch.false ∙ c.in_ok-repeats.ensures k h)
     (record {
       follows = c.behind.ensures (Some d) shows;
-      tells = ap (λ (w : News). Some w) (c.in_ok-news.ensures k h.held h.stale);
+      tells = ap (λ (w : News). Some w) (c.overtake-news.ensures k d h.held h.stale shows);
     })

@@ -1,5 +1,5 @@
 -- A part of the transaction.
-use Rattle.std.proofs.Common.{◌≡◌, ◌∙◌, ap, sym, Bool, true, ◌||◌, is_some}
+use Rattle.std.proofs.Common.{◌≡◌, ◌∙◌, ap, sym, Bool, ◌||◌, is_some}
 use Rattle.lpt_layout.specs.Parts.{piece}
 use Rattle.lpt_layout_join.specs.Came.{Came, last_of}
 use Rattle.lpt_layout_join.specs.CameInside.{Shows}

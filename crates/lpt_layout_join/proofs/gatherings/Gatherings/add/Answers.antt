@@ -1,9 +1,8 @@
 -- A part more, by the transaction of which it is one.
-use Rattle.std.proofs.Common.{◌≡◌, ◌∙◌, ap, sym, subst, Option, Some, true}
+use Rattle.std.proofs.Common.{◌∙◌, ap, sym, subst}
 use Rattle.lpt_carried.specs.declared.name.Name.{Name}
-use Rattle.lpt_carried.specs.Carried.{carried, name_of, named, part_of, same_name}
+use Rattle.lpt_carried.specs.Carried.{name_of, named, same_name}
 use Rattle.lpt_layout_join.specs.Gatherings.{Gives, is_wanted, kept_of}
-use Rattle.lpt_layout_join.specs.declared.gatherings.Gatherings.{Gatherings}
 use Rattle.lpt_layout_join.proofs.SeveralLemmas.{each-more, each-part, part-its}
 use Rattle.lpt_layout_join.proofs.gatherings.Gatherings.add.Goals as goal
 
