@@ -142,14 +142,14 @@ enum LptFault {
     LPT_E_EMPTY = 106,
     /* Of an end: no number is left for a job, or for a restart. */
     LPT_E_NO_NUMBER = 108,
-    /* Of an end: there is nothing to copy, or to let go. */
+    /* Of an end: there is nothing to copy, or to drop. */
     LPT_E_NOTHING = 109,
-    /* Of an end: packets are to be sent first. */
+    /* Of an end: packets that wait must be sent first. */
     LPT_E_UNSENT = 110,
 
-    /* Octets that are no state of an end, in the order in which they are tested: they are cut
-       short; they are none; of another version; not as many as they say; the other side's; of
-       another configuration; their checksum is wrong; their names are out of order. */
+    /* The octets are no state of this end, for the first of these reasons: they are fewer than 57;
+       don't begin with a state's tag; have another version; aren't as many as they say; are the
+       other side's; have another configuration; have a wrong checksum, or names out of order. */
     LPT_E_STATE_SHORT = 111,
     LPT_E_STATE_TAG = 112,
     LPT_E_STATE_VERSION = 113,
@@ -159,7 +159,8 @@ enum LptFault {
     LPT_E_STATE_CHECKSUM = 117,
     LPT_E_STATE_ORDER = 118,
 
-    /* Of an end: the memories are with the caller, or in the end, and the call is for the other. */
+    /* Of an end: the call is for an end that has its memories itself, and this one's caller has
+       them, or the other way round. */
     LPT_E_ELSEWHERE = 119,
     /* Of an end: these are more or fewer octets than the request reads. */
     LPT_E_READ_LENGTH = 120
@@ -298,14 +299,14 @@ enum LptPartKind {
     LPT_PART_LAST = 3
 };
 
-/* The piece in front of a stream. WHOLE: a packet; in step (see lpt_find_piece) also an idle
-   packet, or one with a right checksum that has no secondary header or is a segment:
-   lpt_read_packet answers LPT_E_IDLE, LPT_E_NO_SECONDARY or LPT_E_SEGMENTED. DAMAGED: as many
-   octets as their header says that are no packet, before a packet or the end. STRAY: an octet
-   with which neither begins. */
+/* The piece in front of a stream. WHOLE: a packet. In step (see lpt_find_piece) an idle packet is
+   WHOLE too, and so is one with a right checksum that has no secondary header or is a segment; of
+   these lpt_read_packet returns LPT_E_IDLE, LPT_E_NO_SECONDARY or LPT_E_SEGMENTED. DAMAGED: octets
+   that are no packet, as many as their header says, with a packet or the end after them. STRAY: an
+   octet with which neither begins. */
 enum LptPieceKind { LPT_PIECE_WHOLE = 1, LPT_PIECE_DAMAGED = 2, LPT_PIECE_STRAY = 3 };
 
-/* Why a reception was aborted: no part came for as long as the time-out; in strict mode a part came
+/* Why a reception was aborted: no part came for as long as the timeout; in strict mode a part came
    that isn't the next; a part contradicts another. */
 enum LptReason { LPT_REASON_EXPIRED = 1, LPT_REASON_DISCONTINUITY = 2, LPT_REASON_CONFLICT = 3 };
 
@@ -359,8 +360,9 @@ static inline const char *lpt_failure_name(uint32_t failure) {
     }
 }
 
-/* In octets: the longest packet, and message sent in parts; how many of a stream always show
-   which piece is in front. And the room with which lpt_count_strays is quick. */
+/* How many octets the longest packet has, and the longest message that is sent in parts; how many
+   octets of a stream are always enough for lpt_find_piece; and how many numbers of room make
+   lpt_count_strays quick. */
 enum { LPT_LONGEST_PACKET = 65542, LPT_LOOKAHEAD = 131084, LPT_STRAY_ROOM = 2049 };
 
 /* ---- packets ---- */
@@ -368,6 +370,11 @@ enum { LPT_LONGEST_PACKET = 65542, LPT_LOOKAHEAD = 131084, LPT_STRAY_ROOM = 2049
 /* The packet error control over these octets. */
 LPT_MUST_USE
 uint16_t lpt_crc16(const uint8_t *octets, size_t octets_len);
+
+/* The packet error control of octets that come in pieces: that of the octets before is `crc`, and
+   these follow. Of no octets it is 0xffff. */
+LPT_MUST_USE
+uint16_t lpt_crc16_more(uint16_t crc, const uint8_t *octets, size_t octets_len);
 
 /*
  * Says how many octets the packet has that begins a stream, by the first six of them. LPT_DONE for
@@ -627,8 +634,8 @@ uint32_t lpt_write_report(uint8_t subtype, uint32_t request, uint16_t code, uint
 
 /*
  * Writes the body of a load of one area, subtype 2, to the front of a buffer, and leaves the rest
- * of it as it was: that these octets go to this memory, from this address on. It adds their
- * checksum.
+ * of it as it was. The load writes these octets into this memory, from this address on. Their
+ * checksum is added.
  * LPT_DONE; LPT_E_BAD_AREA for no octets, LPT_E_LONG_LOAD for more than 65,519; LPT_E_ROOM. At
  * LPT_DONE and LPT_E_ROOM *needed is the body's length, 10 more than theirs.
  */
@@ -687,7 +694,7 @@ typedef struct LptChecked {
 LPT_MUST_USE
 uint32_t lpt_read_check(const uint8_t *body, size_t body_len, size_t number, LptChecked *out);
 
-/* ---- what is so of the structures in the archive: size, alignment, offsets ---- */
+/* ---- the structures as the archive has them: size, alignment, offsets ---- */
 
 LPT_LAYOUT(LptPacket, 24, 8);
 LPT_FIELD(LptPacket, kind, 0);

@@ -50,9 +50,13 @@ enum LptMode { LPT_MODE_ANY = 0, LPT_MODE_STRICT = 1 };
 /* An end. */
 typedef struct LptEnd LptEnd;
 
-/* What is fixed about an end. Both ends of a link have the same values, but for the clock. An end
-   that is restored from a state has them too; otherwise lpt_end_resume returns
-   LPT_E_STATE_CONFIG. */
+/*
+ * What is fixed about an end. Both ends of a link have the same values, but for the clock: APID,
+ * part size and mode because packets are made and joined by them, the other three because what is
+ * proved is proved of one configuration. So an end that is restored from a state has the values of
+ * the end whose state it is; otherwise lpt_end_resume returns LPT_E_STATE_CONFIG. To change one,
+ * make both ends anew; they forget which names were used.
+ */
 typedef struct LptConfig {
     uint16_t apid;       /* of all packets, 0 to 2046 */
     uint32_t part_size;  /* in octets, 4 to 1024 */
@@ -96,8 +100,8 @@ void lpt_end_free(LptEnd *end);
 
 /* ---- receiving ---- */
 
-/* What became of a packet. If it says 'named', `name` is its transaction. Behind the colon stands
-   what `first` says, and then `second`. */
+/* What became of a packet. If it says 'named', `name` is its transaction. After the colon is what
+   `first` says, and after a comma what `second` says. */
 enum LptOutcomeKind {
     LPT_OUTCOME_KEPT = 1,           /* a part, named: its number */
     LPT_OUTCOME_AGAIN = 2,          /* a part that was kept before, named: its number */
@@ -431,6 +435,12 @@ uint32_t lpt_end_drop_read(LptEnd *end);
 LPT_MUST_USE
 uint32_t lpt_end_tick(LptEnd *end);
 
+/* Moves the clock on by as many ticks at once, in the time of one call of lpt_end_tick, and leaves
+   what that many calls would. Nothing expires meanwhile, so call lpt_end_expire afterwards.
+   LPT_DONE, also for 0 ticks; LPT_E_CLOCK_END if the clock would go past 4,294,967,295. */
+LPT_MUST_USE
+uint32_t lpt_end_tick_many(LptEnd *end, uint32_t ticks);
+
 /*
  * Frees the name of a transaction at this end. A name may be used again only when both ends have
  * freed it, in this order:
@@ -499,8 +509,8 @@ LPT_MUST_USE
 uint32_t lpt_end_reception(LptEnd *end, size_t number, LptReception *reception);
 
 /*
- * Tells the next missing part of an open reception: the least number from `from` (or 1) on whose
- * part wasn't kept. If the last part has come, only numbers before it count.
+ * Tells the next missing part of an open reception: the least number, not below `from`, of a part
+ * that wasn't kept. If the last part has come, only numbers before it count.
  * LPT_DONE, and *number is that part's; LPT_E_NOT_OPEN if no reception of the name is open;
  * LPT_E_NOTHING if no part is missing from there on.
  */
@@ -575,7 +585,7 @@ LptTried rattle_realloc(void *block, size_t kept, size_t n, size_t align);
 /* Takes a block back. */
 void rattle_dealloc(void *block);
 
-/* ---- what is so of the structures in the archive: size, alignment, offsets ---- */
+/* ---- the structures as the archive has them: size, alignment, offsets ---- */
 
 LPT_LAYOUT(LptConfig, 28, 4);
 LPT_FIELD(LptConfig, apid, 0);

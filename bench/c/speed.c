@@ -243,10 +243,10 @@ int main(int argc, char **argv) {
     split(4);
     row("65,542 octets joined of parts of 4", JOINS * (double)LONG, rounds, join_proved,
         join_plain);
-    printf("\n| State of an end | Octets | Written in, ms | Made again in, ms |\n|---|--:|--:|--:|\n");
+    printf("\n| State of an end | Octets | Written in, ms | Restored in, ms |\n|---|--:|--:|--:|\n");
     state_row("no name", 0, 1);
     state_row("65,536 names of a source", NAMES, 1);
-    state_row("32,768 names of a source, every second", NAMES / 2, 2);
+    state_row("every other one of 65,536 names of a source", NAMES / 2, 2);
     if (is_wrong) {
         printf("what was computed is wrong\n");
     }

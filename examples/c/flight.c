@@ -1,7 +1,7 @@
 /*
  * A spacecraft whose memory is the program's own: an array, reached by two functions, as a flight
- * computer's is by its drivers. Ground loads octets into it, dumps them, and has their checksum
- * told. One load goes to a page that can't be written: it is dropped.
+ * computer's is by its drivers. Ground loads octets into it, dumps them, and asks for their
+ * checksum. One load goes to a page that can't be written: it is dropped.
  *
  *   cc -Iinclude examples/c/flight.c examples/c/memory/pool.c build/liblpt_end.a build/liblpt.a \
  *       -o flight && ./flight

@@ -32,7 +32,7 @@ enum { PIECE = 100, STOPPED = 2 };
 static const LptConfig config = {APID, PART_SIZE, 10, 4, 4, 0, LPT_MODE_ANY};
 static uint8_t image[SIZE];
 
-/* Ends the process where something isn't so. */
+/* Ends the process if something isn't so. */
 static void must(bool is_so, const char *what) {
     if (!is_so) {
         fprintf(stderr, "keep: %s\n", what);
@@ -40,7 +40,7 @@ static void must(bool is_so, const char *what) {
     }
 }
 
-/* Writes a number, the high octet first, and reads one: how many octets. */
+/* Writes a number, the high octet first, and returns how many octets it has; and reads one. */
 static size_t put(uint8_t *to, uint64_t value, size_t octets) {
     size_t i;
     for (i = 0; i < octets; i++) {
@@ -107,7 +107,7 @@ static void keep(int file, Kept *kept) {
     must(fsync(file) == 0, "the file isn't on the disk");
 }
 
-/* Reads a copy; false where it was torn, or there is none. */
+/* Reads a copy; false if it was torn, or there is none. */
 static bool read_copy(int file, off_t at, Kept *kept) {
     uint8_t copy[COPY_ROOM] = {0};
     const size_t front = 8 + SIZE + 4 + 4;
@@ -129,7 +129,7 @@ static bool read_copy(int file, off_t at, Kept *kept) {
            number(copy + len + 8, 2) == lpt_crc16(copy, len + 8);
 }
 
-/* Reads the newer of the copies that are whole; false where none is. */
+/* Reads the newer of the copies that are whole; false if none is. */
 static bool read_kept(int file, Kept *kept) {
     Kept other = {0, {0}, 0, {0}, 0};
     bool is_one = read_copy(file, 0, kept), is_other = read_copy(file, SLOT, &other);
@@ -171,7 +171,7 @@ static bool take(int from, uint8_t *octets, size_t *len) {
 
 /* ---- the spacecraft ---- */
 
-/* What a restart leaves of the end that was kept, or a new one where nothing was yet. */
+/* Restores the end that was kept, or makes a new one if none was. */
 static void start(LptEnd **end, int file, Kept *kept) {
     static const LptMemory memory = {MEMORY, 0, SIZE};
     uint32_t fault;
@@ -185,7 +185,8 @@ static void start(LptEnd **end, int file, Kept *kept) {
     must(fault == LPT_DONE, lpt_fault_name(fault));
 }
 
-/* Takes a packet, and executes what it released. What changed is kept before anything goes out. */
+/* Takes a packet, and executes what it released. What changed is kept before anything goes out.
+   Plain requests are checks here, so nothing is kept of them. */
 static void serve(LptEnd *end, int file, Kept *kept, const uint8_t *packet, size_t len) {
     LptOutcome outcome = {0, {0, 0}, 0, 0};
     LptApplied applied = {0, {0, 0}, 0};
@@ -269,8 +270,8 @@ static void note(const uint8_t *packet, size_t len) {
     }
 }
 
-/* Sends up what waits on ground, and takes the answers. A packet is lost where the spacecraft's
-   process stops at it; that is started again. */
+/* Sends up what waits on ground, and takes the answers. A packet is lost if the spacecraft's
+   process stops at it; the process is then started again. */
 static void send_up(const char *path) {
     uint8_t packet[LONGEST] = {0};
     size_t len = 0;
@@ -321,7 +322,8 @@ static void load(const char *path, uint16_t k) {
     must(lpt_end_finish(ground, &name) == LPT_DONE, "a request isn't finished");
 }
 
-/* A pass, in which the spacecraft is stopped behind a write: whether it was; all has to be well. */
+/* A pass, in which the spacecraft is stopped behind a write, and after which all must be well.
+   Returns whether it was stopped. */
 static bool run(const char *path, unsigned stop) {
     static Kept kept;
     FILE *file = fopen(path, "w");

@@ -41,7 +41,7 @@ static unsigned seen[LPT_OUTCOME_IGNORED + 1], freed;
 static LptName owed;
 static bool is_owed;
 
-/* Ends the process where something isn't so. The other then reads the end of its pipe. */
+/* Ends the process if something isn't so. The other then reads the end of its pipe. */
 static void must(bool is_so, const char *what) {
     if (!is_so) {
         fprintf(stderr, "%s: %s\n", side == LPT_SIDE_GROUND ? "ground" : "spacecraft", what);
@@ -100,7 +100,7 @@ static void take(const uint8_t *octets, size_t len) {
     }
 }
 
-/* How long the packet or the line is that begins these octets; 0 where it hasn't come whole. */
+/* How long the packet or the line is that begins these octets; 0 if it hasn't come whole. */
 static size_t whole(const uint8_t *octets, size_t len) {
     size_t length = LINE;
     uint32_t said = LPT_DONE;
@@ -133,8 +133,8 @@ static void receive(void) {
     memmove(came, came + at, came_len);
 }
 
-/* Writes octets, all of them; of none, waits until some have come. What comes is taken also while
-   the other pipe is full, so the two processes never wait for each other. */
+/* Writes all of these octets, or, if there are none, waits until some come. What comes is taken
+   also while the other pipe is full, so the two processes never wait for each other. */
 static void write_all(const uint8_t *octets, size_t len) {
     size_t at = 0;
     do {
@@ -217,7 +217,7 @@ static bool serve(void) {
     return fault == LPT_DONE;
 }
 
-/* Does what there is to do; where there's nothing, waits for what comes. */
+/* Does what there is to do; if there is nothing, waits for what comes. */
 static void work(void) {
     static const uint8_t nothing = 0;
     LptName name = owed;

@@ -50,7 +50,7 @@ static void must(bool is_so, const char *what) {
     }
 }
 
-/* Writes a number, the high octet first, and reads one: how many octets. */
+/* Writes a number, the high octet first, and returns how many octets it has; and reads one. */
 static size_t put(uint8_t *to, uint64_t value, size_t octets) {
     size_t i;
     for (i = 0; i < octets; i++) {
@@ -213,7 +213,7 @@ static bool take(int from, uint8_t *octets, size_t *len) {
 
 /* ---- the spacecraft ---- */
 
-/* What a reset leaves: what was owed is written again, and the end is made again of its state. */
+/* After a reset: writes again what was owed, and restores the end from its state. */
 static void start(LptEnd **end, Files files, Kept *kept) {
     uint32_t fault;
     if (read_kept(files.copies, kept)) {
@@ -227,7 +227,7 @@ static void start(LptEnd **end, Files files, Kept *kept) {
     must(is_exact(files.memory, kept->executed), "the memory isn't what was executed");
 }
 
-/* Executes the oldest request: what it writes is put down, and what it reads is read. */
+/* Executes the oldest request. Copies what it writes to what is kept, and reads what it reads. */
 static void execute(LptEnd *end, Files files, Kept *kept) {
     LptApplied applied = {0, {0, 0}, 0};
     LptAccess access = {0, 0, 0, 0};

@@ -70,6 +70,7 @@ static void read_all(const uint8_t *octets, size_t len)
     uint32_t in_step = below(3), is_end = below(3);
 
     note(lpt_crc16(octets, len));
+    note(lpt_crc16_more(lpt_crc16(octets, len / 3), octets + len / 3, len - len / 3));
     note(lpt_packet_length(octets, len, &length));
     note(lpt_find_piece(octets, len, in_step, is_end, &kind, &size));
     note(length + 31 * size + 1009 * kind);

@@ -69,6 +69,7 @@ static void codecs(void) {
     LptChecked checked;
 
     EXPECT(lpt_crc16(NULL, 0) == 0xffff);
+    EXPECT(lpt_crc16_more(0x29b1, NULL, 0) == 0x29b1);
     EXPECT(lpt_packet_length(NULL, 0, &length) == LPT_E_MORE);
     EXPECT(lpt_find_piece(NULL, 0, 1, 1, &kind, &size) != LPT_DONE);
     EXPECT(lpt_count_strays(NULL, 0, 1, NULL, 0) == 0);

@@ -141,6 +141,10 @@ static void checksums(void) {
     EXPECT(lpt_crc16(noughts, 0) == 0xffff && lpt_crc16(noughts, 1) == 0xe1f0);
     EXPECT(lpt_crc16(noughts, 2) == 0x1d0f && lpt_crc16(noughts, 3) == 0xcc9c);
     EXPECT(lpt_crc16(noughts, 4) == 0x84c0);
+    EXPECT(lpt_crc16_more(0xffff, digits, sizeof digits) == 0x29b1);
+    EXPECT(lpt_crc16_more(lpt_crc16(digits, 4), digits + 4, sizeof digits - 4) == 0x29b1);
+    EXPECT(lpt_crc16_more(0x1d0f, noughts + 2, 2) == 0x84c0);
+    EXPECT(lpt_crc16_more(0x1d0f, noughts, 1) == 0xcc9c);
 }
 
 static void lengths(void) {

@@ -97,7 +97,7 @@ class Calls:
 
     def __init__(self, path):
         self.library = ctypes.CDLL(path)
-        self.library.lpt_crc16.restype = U16
+        self.library.lpt_crc16.restype = self.library.lpt_crc16_more.restype = U16
         self.passed = self.failed = 0
 
     def wants(self, case, got, wanted):
@@ -248,6 +248,10 @@ class Turns:
         """All readers on the same octets."""
         calls, name = self.calls, octets.hex()
         calls.wants(name, calls.call("lpt_crc16", octets), number_of(checksum(octets)))
+        cut = self.random.randrange(len(octets) + 1)
+        front = number_of(checksum(octets[:cut]))
+        more = calls.call("lpt_crc16_more", front, octets[cut:])
+        calls.wants(name, more, number_of(checksum(octets)))
         calls.wants(name, calls.read("lpt_read_packet", LptPacket, octets), told_packet(octets))
         calls.wants(name, calls.read("lpt_read_tc", LptTc, octets), told_message(octets, True))
         calls.wants(name, calls.read("lpt_read_tm", LptTm, octets), told_message(octets, False))

@@ -10,6 +10,7 @@
 #include <stdio.h>
 #include <stdlib.h>
 #include <string.h>
+#include <time.h>
 
 static unsigned passed, failed;
 
@@ -200,7 +201,6 @@ static void two_sources(void) {
     LptEnd *ground = NULL, *craft = NULL;
     LptName name = NONE;
     size_t len = 0;
-    unsigned tick;
     make(&ground, LPT_SIDE_GROUND, &CONFIG);
     make(&craft, LPT_SIDE_SPACECRAFT, &CONFIG);
     DONE(lpt_end_open(ground, &NAME, message, 20));
@@ -222,9 +222,9 @@ static void two_sources(void) {
     DONE(lpt_end_open(ground, &OTHER, message, 20));
     EXPECT(told(carry(ground, craft, &OTHER, 3), LPT_OUTCOME_KEPT, &OTHER, 3, 0));
 
-    for (tick = 0; tick < 19; tick++) {
-        DONE(lpt_end_tick(craft));
-    }
+    DONE(lpt_end_tick_many(craft, 18));
+    EXPECT(lpt_end_expire(craft, &name) == LPT_E_NOTHING_DUE);
+    DONE(lpt_end_tick_many(craft, 1));
     EXPECT(lpt_end_expire(craft, &name) == LPT_DONE && same(name, &NAME));
     EXPECT(lpt_end_expire(craft, &name) == LPT_DONE && same(name, &OTHER));
     EXPECT(take_packet(craft) && packet_is(ABORTED, sizeof ABORTED));
@@ -525,8 +525,11 @@ static void refused_calls(void) {
     uint32_t state = 9;
     config.clock = 4294967294u;
     make(&end, LPT_SIDE_GROUND, &config);
+    EXPECT(lpt_end_tick_many(end, 2) == LPT_E_CLOCK_END && has(end, 4294967294u, 0, 0, 0, 0));
     DONE(lpt_end_tick(end));
     EXPECT(lpt_end_tick(end) == LPT_E_CLOCK_END);
+    EXPECT(lpt_end_tick_many(end, 4294967295u) == LPT_E_CLOCK_END);
+    DONE(lpt_end_tick_many(end, 0));
     EXPECT(lpt_end_part(end, &NAME, 1) == LPT_E_NOT_OPEN);
     EXPECT(lpt_end_finish(end, &NAME) == LPT_E_NOT_OPEN);
     EXPECT(lpt_end_open(end, &NAME, message, P) == LPT_E_SHORT_MESSAGE);
@@ -541,6 +544,20 @@ static void refused_calls(void) {
     EXPECT(lpt_end_retire(end, 2, named(2)) == LPT_E_RANGE);
     EXPECT(lpt_end_name(end, 2, named(2), &state) == LPT_E_RANGE && state == 9);
     DONE(lpt_end_retire(end, LPT_DIRECTION_DOWN, named(2)));
+    lpt_end_free(end);
+}
+
+/* All ticks of a clock take no longer than one. */
+static void all_ticks(void) {
+    LptEnd *end = NULL;
+    LptConfig config = CONFIG;
+    clock_t before;
+    config.clock = 0;
+    make(&end, LPT_SIDE_GROUND, &config);
+    before = clock();
+    DONE(lpt_end_tick_many(end, 4294967295u));
+    EXPECT(clock() - before < CLOCKS_PER_SEC / 10);
+    EXPECT(has(end, 4294967295u, 0, 0, 0, 0) && lpt_end_tick(end) == LPT_E_CLOCK_END);
     lpt_end_free(end);
 }
 
@@ -813,6 +830,7 @@ int main(void) {
     refused_ends();
     refused_memories();
     refused_calls();
+    all_ticks();
     copied();
     new_start();
     kept();

@@ -1,3 +1,4 @@
+pub mod ChecksumLemmas
 pub mod DumpLemmas
 pub mod LoadLemmas
 pub mod PartLemmas

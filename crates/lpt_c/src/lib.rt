@@ -31,7 +31,7 @@ mod version;
 
 pub use aborts::{LptAbort, lpt_read_abort, lpt_write_abort};
 pub use checks::{LptChecked, lpt_read_check};
-pub use checksum::lpt_crc16;
+pub use checksum::{lpt_crc16, lpt_crc16_more};
 pub use commands::{LptTc, LptTcHead, lpt_build_tc, lpt_read_tc, lpt_request_id, lpt_write_tc};
 pub use dumps::{LptDumped, lpt_read_dump};
 pub use loads::lpt_write_load;

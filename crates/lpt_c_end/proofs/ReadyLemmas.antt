@@ -29,6 +29,7 @@ use Rattle.lpt_node.specs.Receiving.{with_report}
 use Rattle.lpt_node.specs.Requests.{plain_made}
 use Rattle.lpt_node.specs.Sending.{opened, sent, sent_of, closed}
 use Rattle.lpt_node.specs.Times.{ticked, expired, expired_of, due}
+use Rattle.lpt_c_end.specs.Changes.{ticked_by}
 use Rattle.lpt_c_end.specs.Ready.{IsReading, IsReady}
 
 -- ---- jobs
@@ -138,6 +139,14 @@ pub ready_ticked : {A B : Type 0} (r : Result A B) (n new : NodeView) (own : Opt
     → IsReady n own
     → IsReady new own
 ready_ticked r n new own config ok err is = by_result r n new own _ config ok err
+    (λ apid sizes all. all) is
+
+pub ready_ticked_by : (n new : NodeView) (own : Option Sizes) (ticks : ℕ)
+    → new.config ≡ n.config
+    → new.at ≡ ticked_by ticks n.at
+    → IsReady n own
+    → IsReady new own
+ready_ticked_by n new own ticks config at is = becomes n new own _ config at
     (λ apid sizes all. all) is
 
 pub ready_opened : {A B : Type 0} (r : Result A B) (n new : NodeView) (own : Option Sizes)

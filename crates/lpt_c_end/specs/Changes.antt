@@ -1,5 +1,5 @@
 -- What a call that isn't refused makes of an end.
-use Rattle.std.specs.Prelude.{◌≡◌, ℕ, List, [], ◌∷◌, ◌++◌, drop, Option, Some, None, option_to_list}
+use Rattle.std.specs.Prelude.{◌≡◌, ℕ, ◌+◌, List, [], ◌∷◌, ◌++◌, drop, Option, Some, None, option_to_list}
 use Rattle.lpt_events.specs.Arrivals.{arrival}
 use Rattle.lpt_events.specs.declared.config.Config.{Config}
 use Rattle.lpt_events.specs.declared.side.Side.{Side}
@@ -131,6 +131,14 @@ pub record IsLetGo (e new : End) : Type 0 where
 -- the clock is one tick on
 abbrev pub IsTicked : End → End → Type 0
 IsTicked e = Becomes (ticked e.node.at) e
+
+-- the end as many ticks later
+abbrev pub ticked_by : (ticks : ℕ) → NodeData → NodeData
+ticked_by ticks d = record d { clock = d.clock + ticks }
+
+-- the clock is as many ticks on
+abbrev pub IsTickedBy : (ticks : ℕ) → End → End → Type 0
+IsTickedBy ticks e = Becomes (ticked_by ticks e.node.at) e
 
 -- a name was freed
 abbrev pub IsRetired : (direction : ℕ) → Name → End → End → Type 0

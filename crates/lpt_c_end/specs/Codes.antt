@@ -23,6 +23,10 @@ memory = step.code_of step_fault.Memory
 abbrev pub still_open : ℕ
 still_open = step.code_of step_fault.StillOpen
 
+-- the clock is at its greatest value, or would go past it
+abbrev pub clock_end : ℕ
+clock_end = step.code_of step_fault.ClockEnd
+
 -- no transaction of the name is open
 abbrev pub not_open : ℕ
 not_open = step.code_of step_fault.NotOpen

@@ -1,6 +1,7 @@
 -- Why a call on a handle is refused: the number of the first fault, out of memory aside.
-use Rattle.std.specs.Prelude.{ℕ, ◌==◌, nat_lt, ◌||◌, if◌then◌else◌, List, length, Option, Some, None}
+use Rattle.std.specs.Prelude.{ℕ, ◌+◌, ◌==◌, nat_lt, ◌||◌, if◌then◌else◌, List, length, Option, Some, None}
 use Rattle.lpt_events.specs.Configs.{config_fault}
+use Rattle.lpt_events.specs.Counts.{greatest_clock}
 use Rattle.lpt_events.specs.declared.config_fault.ConfigFault.{ConfigFault}
 use Rattle.lpt_events.specs.declared.side.Side.{Side}
 use Rattle.lpt_events.specs.declared.side.Side.TheVariants.{Ground, Craft}
@@ -11,7 +12,7 @@ use Rattle.lpt_node.specs.Requests.{refusal_plain}
 use Rattle.lpt_node.specs.Sending.{refusal_open, refusal_send, refusal_finish}
 use Rattle.lpt_node.specs.Times.{refusal_tick, refusal_expire}
 use Rattle.lpt_node.specs.Jobs.{refusal_claim, refusal_apply}
-use Rattle.lpt_c_end.specs.Codes.{node_code, config_code, still_open, bad_memories, range, empty, no_number, nothing, unsent}
+use Rattle.lpt_c_end.specs.Codes.{node_code, clock_end, config_code, still_open, bad_memories, range, empty, no_number, nothing, unsent}
 use Rattle.lpt_c_end.specs.Contents.{can_be}
 use Rattle.lpt_c_end.specs.Kept.{here_refusal, memories_refusal}
 use Rattle.lpt_c_end.specs.Words.{side_from, direction_from, config_from}
@@ -56,6 +57,11 @@ packet_refusal e = if numbered e.node.at.jobs == last_number then Some no_number
 -- the clock isn't set on
 abbrev pub tick_refusal : End → Option ℕ
 tick_refusal e = node_code (refusal_tick e.node.at)
+
+-- it isn't set so many ticks on
+abbrev pub ticks_refusal : (ticks : ℕ) → End → Option ℕ
+ticks_refusal ticks e =
+    if nat_lt greatest_clock (e.node.at.clock + ticks) then Some clock_end else None
 
 -- no reception is given up
 abbrev pub expire_refusal : End → Option ℕ

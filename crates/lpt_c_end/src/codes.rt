@@ -15,6 +15,9 @@ pub(crate) const NO_JOB: u32 = 51;
 // The transaction is open.
 pub(crate) const STILL_OPEN: u32 = 55;
 
+// The clock is at its greatest value, or would go past it.
+pub(crate) const CLOCK_END: u32 = 56;
+
 // Out of memory.
 pub(crate) const MEMORY: u32 = 58;
 

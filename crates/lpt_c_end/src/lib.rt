@@ -61,7 +61,7 @@ pub use receiving::{lpt_end_expire, lpt_end_packet, lpt_end_released};
 pub use requesting::lpt_end_plain;
 pub use sending::{lpt_end_finish, lpt_end_open, lpt_end_outgoing, lpt_end_part, lpt_end_sent};
 pub use sizing::{LptSize, lpt_end_new_sized, lpt_end_resume_sized};
-pub use upkeep::{lpt_end_name, lpt_end_restart, lpt_end_retire, lpt_end_tick};
+pub use upkeep::{lpt_end_name, lpt_end_restart, lpt_end_retire, lpt_end_tick, lpt_end_tick_many};
 pub use viewing::{LptView, lpt_end_view};
 pub use walking::{LptReception, LptSender, lpt_end_missing, lpt_end_reception, lpt_end_sender};
 pub use words::{LptApplied, LptConfig, LptName, LptOutcome};

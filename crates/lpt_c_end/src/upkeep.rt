@@ -1,18 +1,19 @@
 //! The clock, names that are freed, and a restart.
 
-ghost use Rattle.std.specs.Prelude.{◌≡◌};
+ghost use Rattle.std.specs.Prelude.{◌≡◌, ◌+◌, ◌<◌, ◌^◌};
 ghost use Rattle.lpt_node.specs.Restarts.{may_retire};
 ghost use Rattle.lpt_c_end.specs.Calls.{IfBoth, state_of, state_told};
-ghost use Rattle.lpt_c_end.specs.Changes.{IsRestarted, IsRetired, IsSame, IsTicked};
+ghost use Rattle.lpt_c_end.specs.Changes.{IsRestarted, IsRetired, IsSame, IsTicked, IsTickedBy, ticked_by};
 ghost use Rattle.lpt_c_end.specs.Codes.{answer};
-ghost use Rattle.lpt_c_end.specs.Refusals.{name_refusal, refusal_by, restart_refusal, retire_refusal, tick_refusal};
+ghost use Rattle.lpt_c_end.specs.Refusals.{name_refusal, refusal_by, restart_refusal, retire_refusal, tick_refusal, ticks_refusal};
 ghost use Rattle.lpt_c_end.specs.Words.{name_from, state_word};
 
-use crate::codes::{DONE, EMPTY, NO_NUMBER, RANGE, STILL_OPEN};
+use crate::codes::{CLOCK_END, DONE, EMPTY, NO_NUMBER, RANGE, STILL_OPEN};
 use crate::end::End;
 use crate::handle::{LptEnd, put, take};
 use crate::words::{LptName, direction_of, name_of};
 use lpt_ledger::State;
+use lpt_node::Node;
 use lpt_packet::{Direction, Name};
 use std::alloc::Global;
 
@@ -29,6 +30,24 @@ pub fn lpt_end_tick(alloc: Global, end: &mut LptEnd) -> u32
         return EMPTY;
     };
     let code = held.tick();
+    put(end, held);
+    code
+}
+
+/// Sets the clock as many ticks on at once: what as many calls of `lpt_end_tick` do that answer 0.
+/// No reception is given up meanwhile.
+///
+/// 0; 106 if the handle is empty; 56 if the clock would go past its greatest value: nothing has
+/// changed then, and `lpt_end_view` says how many ticks are left.
+pub fn lpt_end_tick_many(alloc: Global, end: &mut LptEnd, ticks: u32) -> u32
+    ensures code { result ≡ answer (refusal_by (ticks_refusal ticks) end.old.held.value) }
+    ensures done { result ≡ 0 → IfBoth (IsTickedBy ticks) end.old.held.value end.new.held.value }
+    ensures refused { ¬ (result ≡ 0) → IfBoth IsSame end.old.held.value end.new.held.value }
+{
+    let Some(mut held) = take(alloc, end) else {
+        return EMPTY;
+    };
+    let code = held.tick_many(ticks);
     put(end, held);
     code
 }
@@ -116,6 +135,19 @@ impl End {
         }
     }
 
+    // Sets the clock as many ticks on.
+    fn tick_many(&mut self, ticks: u32) -> u32
+        ensures code { result ≡ answer (ticks_refusal ticks self.old) }
+        ensures done { result ≡ 0 → IsTickedBy ticks self.old self.new }
+        ensures refused { ¬ (result ≡ 0) → IsSame self.old self.new }
+    {
+        if ticks > u32::MAX - self.node.clock() {
+            return CLOCK_END;
+        }
+        set_on(&mut self.node, ticks);
+        DONE
+    }
+
     // Makes a name free at this end.
     fn retire(&mut self, direction: u32, name: Name) -> u32
         ensures code { result ≡ answer (retire_refusal direction name self.old) }
@@ -166,6 +198,18 @@ impl End {
         }
         self.node.restart();
         DONE
+    }
+}
+
+// Sets a clock as many ticks on. As it is compiled, no loop is left of this.
+fn set_on(node: &mut Node, ticks: u32)
+    requires { node.old.at.clock + ticks < 2 ^ 32 }
+    ensures ticked { node.new.at ≡ ticked_by ticks node.old.at }
+    ensures side { node.new.side ≡ node.old.side }
+    ensures config { node.new.config ≡ node.old.config }
+{
+    for _ in 0..ticks {
+        let Ok(()) = node.tick() else { unreachable!() };
     }
 }
 

@@ -1,12 +1,13 @@
 -- No refusal has the number 0.
-use Rattle.std.proofs.Common.{◌≡◌, ap, sym, refl, ℕ, nat_lt, ◌==◌, Bool, true, false, if◌then◌else◌, List, length, Option, Some, None, arith}
+use Rattle.std.proofs.Common.{◌≡◌, ap, sym, refl, ℕ, ◌+◌, nat_lt, ◌==◌, Bool, true, false, if◌then◌else◌, List, length, Option, Some, None, arith}
 use Rattle.lpt_c_end.specs.Accesses.{first_read, given_refusal, length_refusal, unready}
-use Rattle.lpt_c_end.specs.Codes.{node_code, IsAnswer, answer, range, nothing}
-use Rattle.lpt_c_end.specs.Refusals.{open_refusal, part_refusal, plain_refusal, finish_refusal, sent_refusal, expire_refusal, tick_refusal, read_refusal, execute_refusal, ground_refusal, sending_refusal}
+use Rattle.lpt_c_end.specs.Codes.{node_code, clock_end, IsAnswer, answer, range, nothing}
+use Rattle.lpt_c_end.specs.Refusals.{open_refusal, part_refusal, plain_refusal, finish_refusal, sent_refusal, expire_refusal, tick_refusal, ticks_refusal, read_refusal, execute_refusal, ground_refusal, sending_refusal}
 use Rattle.lpt_c_end.specs.Kept.{elsewhere_refusal, here_refusal, memories_refusal}
 use Rattle.lpt_c_end.specs.declared.kept.Kept.{Kept}
 use Rattle.lpt_c_end.specs.declared.kept.Kept.TheVariants.{Nowhere, Here, Elsewhere}
 use Rattle.lpt_c_pair.specs.Answers.{ZeroIsAlwaysDone}
+use Rattle.lpt_events.specs.Counts.{greatest_clock}
 use Rattle.lpt_events.specs.FaultNames.{code_of}
 use Rattle.lpt_events.specs.declared.side.Side.{Side}
 use Rattle.lpt_events.specs.declared.side.Side.TheVariants.{Ground, Craft}
@@ -118,6 +119,9 @@ zero_is_done e = record {
       (of_test (length e.outbox.items == 0) nothing None (λ z. omega arith) (λ z. cc));
   expired = answered (expire_refusal e) (of_node (refusal_expire e.config e.node.at));
   ticked = answered_by (tick_refusal e) (of_node (refusal_tick e.node.at));
+  ticked_many = λ ticks. answered_by (ticks_refusal ticks e)
+      (of_test (nat_lt greatest_clock (e.node.at.clock + ticks)) clock_end None (λ z. omega arith)
+      (λ z. cc));
   read = answered (read_refusal e) (of_memories e.memories (node_code (refusal_claim e.node.at))
       (of_node (refusal_claim e.node.at)));
   executed =

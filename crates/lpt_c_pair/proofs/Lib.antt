@@ -22,5 +22,6 @@ pub mod Resuming
 pub mod Running
 pub mod Servicing
 pub mod Telling
+pub mod Ticking
 pub mod Waiting
 pub mod Withholding

@@ -2,7 +2,7 @@
 use Rattle.std.specs.Prelude.{◌≡◌, ℕ, List, None}
 use Rattle.lpt_c_end.specs.Accesses.{given_refusal}
 use Rattle.lpt_c_end.specs.Codes.{IsAnswer, answer}
-use Rattle.lpt_c_end.specs.Refusals.{open_refusal, part_refusal, plain_refusal, finish_refusal, sent_refusal, expire_refusal, tick_refusal, read_refusal, execute_refusal}
+use Rattle.lpt_c_end.specs.Refusals.{open_refusal, part_refusal, plain_refusal, finish_refusal, sent_refusal, expire_refusal, tick_refusal, ticks_refusal, read_refusal, execute_refusal}
 use Rattle.lpt_c_end.specs.declared.end.End.{End}
 use Rattle.lpt_packet.specs.Names.{Name}
 
@@ -22,6 +22,9 @@ pub record ZeroIsDone (e : End) : Type 0 where
   pub let_go : 0 ≡ answer (sent_refusal e) → sent_refusal e ≡ None
   pub expired : IsAnswer (expire_refusal e) 0 → expire_refusal e ≡ None
   pub ticked : 0 ≡ answer (tick_refusal e) → tick_refusal e ≡ None
+  pub ticked_many : (ticks : ℕ)
+      → 0 ≡ answer (ticks_refusal ticks e)
+      → ticks_refusal ticks e ≡ None
   pub read : IsAnswer (read_refusal e) 0 → read_refusal e ≡ None
   pub executed : IsAnswer (execute_refusal e) 0 → execute_refusal e ≡ None
   pub given : (octets : List ℕ) → IsAnswer (given_refusal octets e) 0

@@ -13,4 +13,5 @@ pub mod Redo
 pub mod Resets
 pub mod Runs
 pub mod Services
+pub mod Ticks
 pub mod Withheld

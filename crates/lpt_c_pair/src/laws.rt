@@ -14,6 +14,7 @@ ghost use Rattle.lpt_c_pair.specs.Redo.{WritesCanBeMadeAgain, WritesCanBeTakenBa
 ghost use Rattle.lpt_c_pair.specs.Resets.{CarefulMachinesMayBeReset, ResetProgramsKeepTheirMemories};
 ghost use Rattle.lpt_c_pair.specs.Runs.{EndsOfCKeepThePromise};
 ghost use Rattle.lpt_c_pair.specs.Services.{DroppedStaysDropped, EndsOfCThatDropServe, GivenStaysDropped};
+ghost use Rattle.lpt_c_pair.specs.Ticks.{ManyTicksAreTicks};
 ghost use Rattle.lpt_c_pair.specs.Withheld.{EndsOfCThatDropWithholdNoRequest, EndsOfCWithholdNothing, ProgramsThatDropWithholdNoRequest, ProgramsWithholdNothing};
 
 /// If two ends behind handles are those of two ends apart, and one of them is called, answers 0,
@@ -93,6 +94,12 @@ pub fn messages_are_handed()
 pub fn executions_are_told()
     ensures in_end { ExecutionsAreTold }
     ensures with_program { GivenExecutionsAreTold }
+{}
+
+/// What `lpt_end_tick_many` leaves of an end if it answers 0, as many calls of `lpt_end_tick` leave
+/// that answer 0. So what is said of any calls is said of those too: n ticks are n calls.
+pub fn many_ticks_are_calls()
+    ensures { ManyTicksAreTicks }
 {}
 
 /// If a call answers 0, its end didn't refuse it: no refusal has the number 0.

@@ -24,7 +24,8 @@ enum { RECEPTIONS = 8, OUTGOING = 4, TIMEOUT = 300 };
 /* The bounds of a cycle: how many datagrams are taken; how many lines, and parts that were asked
    for, are sent; how many parts of each open message; how many closed names are told. */
 enum { MOST_TAKEN = 8, MOST_LINES = 16, MOST_WANTED = 32, MOST_PARTS = 8, MOST_TOLD = 2 };
-/* How many parts are asked for at once, and how often what isn't answered is said. */
+/* How many parts are asked for at once, and after how many cycles without an answer a question is
+   asked again. */
 enum { MOST_MISSING = 16, EACH = 8 };
 
 enum Kind { PACKET = 1, PART, ASKS, MISSING, ENDED, FINISHED, FREED, HOUSEKEEPING };
@@ -74,8 +75,8 @@ typedef struct Node {
     LptName told; /* the closed name that was told last */
 } Node;
 
-/* The words of the command line: FOLDER PORT ITS_PORT STOP. The link goes from the first port to
-   the second, and what is kept is read: whether something was. */
+/* Begins by the words of the command line: FOLDER PORT ITS_PORT STOP. It opens the link from the
+   first port to the second, and reads what was kept: false if nothing was. */
 bool node_begin(Node *it, uint32_t side, char **words);
 
 /* ---- a cycle ---- */
@@ -84,7 +85,8 @@ bool node_begin(Node *it, uint32_t side, char **words);
    for the end. */
 bool node_take(Node *it, Head *head, LptOutcome *outcome, uint8_t *packet, size_t *packet_len);
 
-/* Opens a message to be sent, as one that is new or that the end has opened by itself. */
+/* Lists a message that was opened, by the program or by the end itself, so that its parts are
+   sent. */
 void node_opened(Node *it, const LptName *name);
 
 /* Sets the clock on, and ends at most one reception. */
@@ -97,8 +99,8 @@ void node_keep(Node *it);
    has to be said again. */
 void node_send(Node *it);
 
-/* Writes a line to the journal, with the number of the copy that makes it so: of a name in a
-   direction, with its turn, also octets of a message, and more. */
+/* Write a line to the journal, with the number of the copy by which it holds. The second adds a
+   name with its direction and turn, and, if they are given, the octets of a message, and more. */
 void node_note(Node *it, const char *line);
 void node_note_name(Node *it, const char *what, uint32_t direction, const LptName *name,
                     const uint8_t *octets, size_t len, const char *more);

@@ -2,7 +2,7 @@
  * A spacecraft's task on a bus. Its memory is a mapped file, which it writes by itself: a request
  * is executed first; then the state of the end is kept, in one write with what the request still
  * has to write; then that is written; and only then anything is sent. At a start what was kept last
- * is written again, and the end is made again of its state. So wherever the task is killed, each
+ * is written again, and the end is restored from its state. So wherever the task is killed, each
  * load that was released is whole in the memory, once, and no other.
  *
  *   craft FOLDER PORT ITS_PORT STOP
@@ -21,7 +21,7 @@ enum { HOUSEKEEPING_EACH = 64 };
 static Node node;
 static uint8_t *memory;
 
-/* The end is made again of what a reset left, or anew, and what is owed to the memory is written.
+/* Restores the end from what was kept, or makes a new one, and writes what is owed to the memory.
  */
 static void init(char **words) {
     static const LptConfig config = {APID,     PART_SIZE, TIMEOUT,     RECEPTIONS,
@@ -43,8 +43,8 @@ static void init(char **words) {
     node_note(&node, line);
 }
 
-/* What the oldest request writes is put down, and what it reads is read, behind one another: false
-   if it asks for more than this task does. */
+/* Copies what the oldest request writes to what is kept, and what it reads, area after area, to a
+   buffer: false if it asks for more than this task does. */
 static bool prepare(uint8_t *octets, size_t room, size_t *read) {
     LptAccess access = {0, 0, 0, 0};
     size_t at, len = 0;

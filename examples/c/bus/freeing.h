@@ -33,7 +33,7 @@ typedef struct Turn {
     uint32_t turn;
 } Turn;
 
-/* The turns of an end's names. It is kept with the end's state; all of it zero is a new end's. */
+/* The turns of an end's names. It is kept with the end's state, and is all zeros for a new end. */
 typedef struct Freeing {
     Turn of[FREEING_NAMES];
     uint32_t len;
@@ -42,8 +42,8 @@ typedef struct Freeing {
 /* The turn of a name at this end. */
 uint32_t freeing_turn(const Freeing *it, uint32_t direction, const LptName *name);
 
-/* FINISHED came of a name that this end receives: whether to answer FREED, with the same turn, once
-   this and the end's state are kept. It isn't while a reception of the name is open. */
+/* FINISHED came of a name that this end receives. Returns whether to answer FREED, with the same
+   turn, once this and the end's state are kept: not while a reception of the name is open. */
 bool freeing_finished(Freeing *it, LptEnd *end, uint32_t direction, const LptName *name,
                       uint32_t turn);
 

@@ -48,8 +48,8 @@ void write_pieces(uint8_t *to, const uint8_t *octets, size_t len);
 /* The checksum of octets, of 32 bits. */
 uint32_t sum_of(const uint8_t *octets, size_t len);
 
-/* For a test: the program kills itself at this place, which is behind so many writes and sends; and
-   passes one. */
+/* For a test. The first says after how many writes and sends the program kills itself, never if 0.
+   The second counts one. */
 void stop_at(unsigned at);
 void pass_place(void);
 

@@ -31,7 +31,7 @@ typedef struct LptPool {
    until every end over it was freed. Of fewer than 32 octets it is always full. */
 void lpt_pool_begin(LptPool *pool, void *octets, size_t len);
 
-/* From now on the calls of this thread take memory from this pool; of NULL they find none. */
+/* From now on the calls of this thread take memory from this pool; with NULL they find none. */
 void lpt_pool_use(LptPool *pool);
 
 /* How many octets of a pool are given out, with 16 for the head of each block. */
