@@ -5,10 +5,11 @@ _lpt() {
     local command='' request='' offered='' i
     for ((i = 1; i < COMP_CWORD; i++)); do
         case $command:${COMP_WORDS[i]} in
-        :run | :threads | :shell | :lint | :chart | :decode | :list | :split | :join | :extract | :link | :spacecraft | :verify | :compare | :checksum | :ground | :request | :help)
+        :run | :threads | :shell | :lint | :chart | :decode | :list | :split | :join | :extract | :link | :spacecraft | :verify | :compare | :checksum | :ground | :pass | :request | :help)
             command=${COMP_WORDS[i]}
             ;;
         ground:load | ground:dump | ground:check | ground:help | \
+            pass:load | pass:dump | pass:check | pass:help | \
             request:load | request:dump | request:check | request:help)
             request=${COMP_WORDS[i]}
             break
@@ -30,16 +31,24 @@ _lpt() {
     spacecraft:*) options+=' --mode --memory --save --tick-every --tick --reuse --resync --log --state' ;;
     compare:*) options+=' --quiet' ;;
     checksum:*) options='--from --length --help --version' ;;
-    ground:load) options+=' --ack --verify --count --wait --tries --up --job --quiet' ;;
-    ground:dump) options+=' --to --count --wait --tries --up --job --quiet' ;;
-    ground:check) options+=' --count --wait --tries --up --job --quiet' ;;
+    ground:load | ground:dump | ground:check)
+        options+=' --area --passes --count --wait --tries --up --job --json --quiet'
+        ;;
+    pass:load | pass:dump | pass:check)
+        options+=' --area --passes --count --wait --tries --job --json --quiet'
+        options+=' --memory --save --state --lose --repeat --damage --delay --seed'
+        ;;
     request:load) options+=' --area --each --ack --count' ;;
     request:dump | request:check) options+=' --each --ack --count' ;;
     esac
+    case $command:$request in
+    ground:load | pass:load) options+=' --ack --verify' ;;
+    ground:dump | pass:dump) options+=' --to' ;;
+    esac
     COMPREPLY=()
     case $command:$request:$before:$word in
-    ground:load:--ack:*) offered='8 10' ;;
-    *:*:--config:* | *:*:--layout:* | *:*:--state:* | *:*:--up:* | *:*:--job:* | ground:dump:--to:*)
+    ground:load:--ack:* | pass:load:--ack:*) offered='8 10' ;;
+    *:*:--config:* | *:*:--layout:* | *:*:--state:* | *:*:--up:* | *:*:--job:* | *:*:--passes:* | ground:dump:--to:* | pass:dump:--to:*)
         mapfile -t COMPREPLY < <(compgen -f -- "$word")
         return
         ;;
@@ -53,11 +62,11 @@ _lpt() {
         return
         ;;
     *:*:--mode:*) offered='any strict' ;;
-    :*) offered='run threads shell lint chart decode list split join extract link spacecraft verify compare checksum ground request help --help --version' ;;
-    help::help:*) offered='run threads shell lint chart decode list split join extract link spacecraft verify compare checksum ground request help' ;;
-    help::ground:* | help::request:* | ground:help:help:* | request:help:help:*) offered='load dump check' ;;
-    help:* | ground:help:* | request:help:*) return ;;
-    ground::* | request::*) offered='load dump check help --help --version' ;;
+    :*) offered='run threads shell lint chart decode list split join extract link spacecraft verify compare checksum ground pass request help --help --version' ;;
+    help::help:*) offered='run threads shell lint chart decode list split join extract link spacecraft verify compare checksum ground pass request help' ;;
+    help::ground:* | help::pass:* | help::request:* | ground:help:help:* | pass:help:help:* | request:help:help:*) offered='load dump check' ;;
+    help:* | ground:help:* | pass:help:* | request:help:*) return ;;
+    ground::* | pass::* | request::*) offered='load dump check help --help --version' ;;
     *:*:*:-*) offered=$options ;;
     split::split:* | join::join:*) offered='up down' ;;
     decode:* | shell:* | spacecraft:*) return ;;

@@ -14,11 +14,16 @@ function __lpt_is
     __lpt_at $argv; and test (count (commandline -opc)) -eq (math 1 + (count $argv))
 end
 
+# Whether the words begin with a command below `pass`, other than its help.
+function __lpt_in_pass
+    __lpt_at pass load; or __lpt_at pass dump; or __lpt_at pass check
+end
+
 complete -c lpt -f
 
 # Commands.
 complete -c lpt -n '__lpt_is' -a run -d 'Run a script of the simulator'
-complete -c lpt -n '__lpt_is' -a threads -d 'Run a script, then let ten threads go on with its world'
+complete -c lpt -n '__lpt_is' -a threads -d 'Run a script, then let ten threads send and deliver what is open'
 complete -c lpt -n '__lpt_is' -a shell -d "Run a script's lines as you type them"
 complete -c lpt -n '__lpt_is' -a lint -d "Print which lines of a script can't be read, and why"
 complete -c lpt -n '__lpt_is' -a chart -d "Draw a script's run, or a file of packets, as an SVG picture"
@@ -28,19 +33,25 @@ complete -c lpt -n '__lpt_is' -a split -d "Split a message into parts, and write
 complete -c lpt -n '__lpt_is' -a join -d 'Join the parts that packets carry, and write the message'
 complete -c lpt -n '__lpt_is' -a extract -d 'Extract octets of memory from dump reports'
 complete -c lpt -n '__lpt_is' -a link -d 'Lose, repeat, delay and damage packets, as a link does'
-complete -c lpt -n '__lpt_is' -a spacecraft -d 'Take packets as the spacecraft does, and write its reports'
+complete -c lpt -n '__lpt_is' -a spacecraft -d 'Play the spacecraft: take packets, execute requests, write reports'
 complete -c lpt -n '__lpt_is' -a verify -d 'List requests with what verification reports say about them'
 complete -c lpt -n '__lpt_is' -a compare -d 'Compare a file with the checksums in check reports'
 complete -c lpt -n '__lpt_is' -a checksum -d 'Print the checksum that a check report has for a file'
-complete -c lpt -n '__lpt_is' -a ground -d 'Send requests to a memory again and again, until reports tell their end'
+complete -c lpt -n '__lpt_is' -a ground -d 'Send requests to a memory until reports settle them'
+complete -c lpt -n '__lpt_is' -a pass -d 'Carry requests to a spacecraft over links that lose, all in one process'
 complete -c lpt -n '__lpt_is' -a request -d 'Write telecommands that load, dump or check a memory'
 complete -c lpt -n '__lpt_is' -a help -d 'Print the help of a command'
-complete -c lpt -n '__lpt_is help' -a 'run threads shell lint chart decode list split join extract link spacecraft verify compare checksum ground request help'
-complete -c lpt -n '__lpt_is help ground; or __lpt_is ground help; or __lpt_is help request; or __lpt_is request help' -a 'load dump check'
+complete -c lpt -n '__lpt_is help' -a 'run threads shell lint chart decode list split join extract link spacecraft verify compare checksum ground pass request help'
+for family in ground pass request
+    complete -c lpt -n "__lpt_is help $family; or __lpt_is $family help" -a 'load dump check'
+end
 complete -c lpt -n '__lpt_is ground' -a load -d 'Load a file into a memory, and end once all of it is there'
 complete -c lpt -n '__lpt_is ground' -a dump -d 'Fetch octets of a memory, and write them once all have come'
 complete -c lpt -n '__lpt_is ground' -a check -d 'Compare a file with checksums of a memory'
-complete -c lpt -n '__lpt_is ground' -a help -d 'Print the help of a command'
+complete -c lpt -n '__lpt_is pass' -a load -d 'Load a file into a memory over links that lose'
+complete -c lpt -n '__lpt_is pass' -a dump -d 'Fetch octets of a memory over links that lose'
+complete -c lpt -n '__lpt_is pass' -a check -d 'Compare a file with checksums of a memory over links that lose'
+complete -c lpt -n '__lpt_is ground; or __lpt_is pass' -a help -d 'Print the help of a command'
 complete -c lpt -n '__lpt_is request' -a load -d 'Load octets into a memory'
 complete -c lpt -n '__lpt_is request' -a dump -d 'Ask for octets of a memory'
 complete -c lpt -n '__lpt_is request' -a check -d 'Ask for checksums of a memory'
@@ -53,10 +64,12 @@ complete -c lpt -n '__lpt_at split up; or __lpt_at split down' -F
 complete -c lpt -n '__lpt_at join up; or __lpt_at join down' -F
 complete -c lpt -n '__lpt_at extract; or __lpt_at link; or __lpt_at verify; or __lpt_at compare; or __lpt_at checksum' -F
 complete -c lpt -n '__lpt_at request load; or __lpt_at ground load; or __lpt_at ground check' -F
+complete -c lpt -n '__lpt_at pass load; or __lpt_at pass check' -F
+complete -c lpt -n '__lpt_at ground dump; or __lpt_at pass dump; and __fish_contains_opt area' -F
 
 # Options.
-complete -c lpt -n 'not __lpt_at help; and not __lpt_at ground help; and not __lpt_at request help' -s h -l help -d 'Print help'
-complete -c lpt -n 'not __lpt_at help; and not __lpt_at ground help; and not __lpt_at request help' -s V -l version -d 'Print version'
+complete -c lpt -n 'not __lpt_at help; and not __lpt_at ground help; and not __lpt_at pass help; and not __lpt_at request help' -s h -l help -d 'Print help'
+complete -c lpt -n 'not __lpt_at help; and not __lpt_at ground help; and not __lpt_at pass help; and not __lpt_at request help' -s V -l version -d 'Print version'
 for command in run threads shell chart decode list split join extract spacecraft compare 'request load' 'request dump' 'request check'
     complete -c lpt -n "__lpt_at $command" -l config -r -F -d 'A TOML file with the configuration'
     complete -c lpt -n "__lpt_at $command" -l apid -x -d 'The APID of all packets, 0 to 2046'
@@ -69,7 +82,7 @@ end
 complete -c lpt -n '__lpt_at chart' -l stream -d 'Draw packets instead of a script, a row for each transaction'
 complete -c lpt -n '__lpt_at chart' -l from -x -d 'Begin at this event of the run, or at this octet of the packets'
 complete -c lpt -n '__lpt_at chart' -l to -x -d 'End with this event of the run, or before this octet of the packets'
-complete -c lpt -n '__lpt_at chart' -l refused -d 'Draw refused lines too'
+complete -c lpt -n '__lpt_at chart' -l refused -d 'Draw refused lines too; not with --stream'
 complete -c lpt -n '__lpt_at list; or __lpt_at verify' -l json -d 'Print each line as a JSON object'
 complete -c lpt -n '__lpt_at verify' -l open -d 'Write the packets of requests without a final report, in place of the list'
 complete -c lpt -n '__lpt_at decode' -l more -d 'Also print the areas of a request or report, and which segment a packet is'
@@ -82,15 +95,15 @@ end
 complete -c lpt -n '__lpt_at split' -l parts -x -d 'The parts to write, such as 3,7-9,12-; with --each ID:LIST'
 complete -c lpt -n '__lpt_at split' -l each -d 'Split each packet of the file; the IDs count up from this one'
 complete -c lpt -n '__lpt_at split' -l whole -d 'Write a message that fits in one part as it is, unsplit'
-complete -c lpt -n '__lpt_at split' -l pcap -d 'Write the packets as a pcap capture'
+complete -c lpt -n '__lpt_at split' -l pcap -d 'Write the packets as a pcap capture; not with --each'
 complete -c lpt -n '__lpt_at join' -l id -x -d "The message's ID or SOURCE/ID; needed if parts of several messages came"
 complete -c lpt -n '__lpt_at join' -l first -d 'Write the first message that is whole, whatever comes after it'
 complete -c lpt -n '__lpt_at join' -l any -d 'Write the joined message even if it is no packet'
-complete -c lpt -n '__lpt_at join' -l each -x -a '(__fish_complete_directories)' -d 'Write every message, each to a file of its own in this folder'
+complete -c lpt -n '__lpt_at join' -l each -x -a '(__fish_complete_directories)' -d 'Write each message to a file of its own in this folder; not with --id or --first'
 complete -c lpt -n '__lpt_at extract' -l at -x -d 'Write an image of this memory, each area at its address'
 complete -c lpt -n '__lpt_at extract' -l from -x -d 'The address at which the image begins; 0 if not given'
 complete -c lpt -n '__lpt_at extract' -l fill -x -d 'The octet for addresses that no area covers, 0 to 255; 0 if not given'
-complete -c lpt -n '__lpt_at extract' -l whole -d 'Write the image only if no octet of it is missing'
+complete -c lpt -n '__lpt_at extract' -l whole -d 'Write the image only if nothing of it is missing or was passed over'
 complete -c lpt -n '__lpt_at extract' -l join -d 'Also take dump reports that came in parts'
 complete -c lpt -n '__lpt_at checksum' -l from -x -d 'The place of the first octet'
 complete -c lpt -n '__lpt_at checksum' -l length -x -d 'How many octets; all that follow if not given'
@@ -98,37 +111,45 @@ for command in list join extract link verify compare
     complete -c lpt -n "__lpt_at $command" -l quiet -d 'Report only faults on standard error'
 end
 complete -c lpt -n '__lpt_at request load' -l area -x -d 'Load another file to another address, in the same requests'
-complete -c lpt -n '__lpt_at link' -l lose -x -d "The share of packets that get lost"
-complete -c lpt -n '__lpt_at link' -l repeat -x -d 'The share of packets that are written twice'
-complete -c lpt -n '__lpt_at link' -l damage -x -d 'Of how many of them bits are changed'
-complete -c lpt -n '__lpt_at link' -l delay -x -d 'Delay packets, each by at most N others, 0 to 1000'
-complete -c lpt -n '__lpt_at link' -l seed -x -d 'The random seed; the same seed gives the same run'
-complete -c lpt -n '__lpt_at spacecraft' -l memory -x -d 'The ID of a memory, and the file of its first content, 1 to 1048576 octets'
-complete -c lpt -n '__lpt_at spacecraft' -l save -d 'Write a memory back to its file after each load, and all of them at the end'
-complete -c lpt -n '__lpt_at spacecraft' -l tick-every -x -d 'Set the clock on after each N packets'
-complete -c lpt -n '__lpt_at spacecraft' -l tick -x -d 'Set the clock on every MS milliseconds'
+complete -c lpt -n '__lpt_at link; or __lpt_in_pass' -l lose -x -d "The share of packets that get lost"
+complete -c lpt -n '__lpt_at link; or __lpt_in_pass' -l repeat -x -d 'The share of packets that are written twice'
+complete -c lpt -n '__lpt_at link; or __lpt_in_pass' -l damage -x -d 'The share of packets in which bits change'
+complete -c lpt -n '__lpt_at link; or __lpt_in_pass' -l delay -x -d 'Delay packets, each by at most N others, 0 to 1000'
+complete -c lpt -n '__lpt_at link; or __lpt_in_pass' -l seed -x -d 'The random seed; the same seed gives the same run'
+complete -c lpt -n '__lpt_at spacecraft; or __lpt_in_pass' -l memory -x -d 'The ID of a memory, and the file of its first content, 1 to 1048576 octets'
+complete -c lpt -n '__lpt_at spacecraft; or __lpt_in_pass' -l save -d 'Write a memory back to its file after each load, and all of them at the end'
+complete -c lpt -n '__lpt_at spacecraft' -l tick-every -x -d 'Move the clock on by a tick after every N packets'
+complete -c lpt -n '__lpt_at spacecraft' -l tick -x -d 'Move the clock on by a tick every MS milliseconds'
 complete -c lpt -n '__lpt_at spacecraft' -l reuse -x -d 'Free a name N ticks after its use'
 complete -c lpt -n '__lpt_at spacecraft' -l resync -d 'Go on after octets that are no packet'
 complete -c lpt -n '__lpt_at spacecraft' -l log -d 'Report on standard error what becomes of each packet and request'
-complete -c lpt -n '__lpt_at spacecraft' -l state -r -d 'Keep the state and the memories in this file, and go on from it next time'
+complete -c lpt -n '__lpt_at spacecraft; or __lpt_in_pass' -l state -r -F -d 'Keep the state and the memories in this file, and go on from it next time'
 for command in 'request load' 'request dump' 'request check'
-    complete -c lpt -n "__lpt_at $command" -l each -x -d 'How many octets one request asks for at most'
+    complete -c lpt -n "__lpt_at $command" -l each -x -d 'At most so many octets in a request'
     complete -c lpt -n "__lpt_at $command" -l ack -x -d 'Acknowledgement flags, 0 to 15: 1 acceptance, 2 start, 8 completion, or a sum'
 end
-for command in 'ground load' 'ground dump' 'ground check'
+for command in 'ground load' 'ground dump' 'ground check' 'pass load' 'pass dump' 'pass check'
     complete -c lpt -n "__lpt_at $command" -l config -r -F -d 'A TOML file with the configuration'
     complete -c lpt -n "__lpt_at $command" -l apid -x -d 'The APID of all packets, 0 to 2046'
-    complete -c lpt -n "__lpt_at $command" -l source -x -d "The pass's own source, 1 to 65535, which no pass had before"
+    complete -c lpt -n "__lpt_at $command" -l source -x -d 'A source that no earlier pass had, 1 to 65535; this or --passes must be given'
+    complete -c lpt -n "__lpt_at $command" -l passes -r -F -d 'Take the next source by this file, which keeps the last'
     complete -c lpt -n "__lpt_at $command" -l part-size -x -d 'The size of a part in octets, 4 to 1024'
-    complete -c lpt -n "__lpt_at $command" -l wait -x -d 'How long nothing comes before what is open is sent again'
-    complete -c lpt -n "__lpt_at $command" -l tries -x -d 'After how many such waits in a row that settle nothing it gives up'
-    complete -c lpt -n "__lpt_at $command" -l up -r -F -d 'Where requests are written, in place of standard output'
+    complete -c lpt -n "__lpt_at $command" -l wait -x -d 'Send again what is open if nothing came for so long'
+    complete -c lpt -n "__lpt_at $command" -l tries -x -d 'Give up after so many waits in a row that settled nothing'
     complete -c lpt -n "__lpt_at $command" -l job -r -F -d 'Keep what is settled in this file, so that the same command goes on from it'
+    complete -c lpt -n "__lpt_at $command" -l json -d 'Print each line as a JSON object'
     complete -c lpt -n "__lpt_at $command" -l quiet -d 'Report only faults on standard error'
 end
-complete -c lpt -n '__lpt_at ground load' -l ack -x -a '8 10' -d 'The acknowledgement flags: with 10 a report of start counts as well'
-complete -c lpt -n '__lpt_at ground load' -l verify -d 'Dump the octets after the load, and compare them'
-complete -c lpt -n '__lpt_at ground dump' -l to -r -F -d 'Where the octets are written, once all have come'
-for command in split 'ground load' 'ground dump' 'ground check' 'request load' 'request dump' 'request check'
+for command in 'ground load' 'ground check' 'pass load' 'pass check'
+    complete -c lpt -n "__lpt_at $command" -l area -x -d 'Another file at another address, in the same pass'
+end
+for command in ground pass
+    complete -c lpt -n "__lpt_at $command load" -l ack -x -a '8 10' -d 'The acknowledgement flags: with 10 a report of start counts as well'
+    complete -c lpt -n "__lpt_at $command load" -l verify -d 'Dump the octets after the load, and compare them'
+    complete -c lpt -n "__lpt_at $command dump" -l to -r -F -d 'Where the octets are written once all have come; must be given'
+    complete -c lpt -n "__lpt_at $command dump" -l area -x -d 'Other octets and their file, in the same pass'
+end
+complete -c lpt -n '__lpt_at ground load; or __lpt_at ground dump; or __lpt_at ground check' -l up -r -F -d 'Where requests are written, in place of standard output'
+for command in split 'ground load' 'ground dump' 'ground check' 'pass load' 'pass dump' 'pass check' 'request load' 'request dump' 'request check'
     complete -c lpt -n "__lpt_at $command" -l count -x -d 'The sequence count of the first packet, 0 to 16383'
 end

@@ -1,12 +1,9 @@
 //! What a job's file says is settled, and what standard error is told before each round.
 
-use crate::end::Failure;
-use crate::input::{octets_from, opened};
-use crate::progress::Voice;
-use crate::saving::write_for_good;
+use crate::ground_told::Teller;
 use lpt_ground::Pass;
 use lpt_ground_run::{Asked, Fate, Notes, digest_of, hear_kept, kept_packets};
-use lpt_tool::ToolFault;
+use lpt_io::{Failure, Fault, file_at, octets_from, opened, write_for_good};
 use std::alloc::{AllocError, Global};
 use std::fs;
 use std::io::ErrorKind;
@@ -18,7 +15,7 @@ const FRONT: &str = "lpt ground ";
 #[derive(Drop)]
 pub struct GroundNotes {
     rt: HostRuntime,
-    voice: Voice,
+    teller: Teller,
     // The path of the job's file, and its first line, where there is one.
     job: Option<(String, String)>,
     // Why it couldn't be written, if it couldn't.
@@ -31,19 +28,18 @@ impl GroundNotes {
     /// Errors: `Read` if it can't be read, or is another job's; `Memory`.
     pub fn begin(
         rt: &HostRuntime,
-        voice: Voice,
-        title: Result<String, AllocError>,
+        teller: Teller,
+        title: &str,
         pass: &mut Pass,
         path: Option<&str>,
     ) -> Result<Self, Failure> {
-        let job = match (path, title) {
-            (None, _) => None,
-            (Some(path), Ok(title)) => Some(job_at(rt, title.as_str(), pass, path)?),
-            (Some(_), Err(_)) => return Err(Failure::from(ToolFault::Memory)),
+        let job = match path {
+            None => None,
+            Some(path) => Some(job_at(rt, title, pass, path)?),
         };
         Ok(GroundNotes {
             rt: *rt,
-            voice,
+            teller,
             job,
             failure: None,
         })
@@ -54,9 +50,9 @@ impl GroundNotes {
         self.job = None;
     }
 
-    /// Whether what was done is told.
-    pub fn voice(&self) -> Voice {
-        self.voice
+    /// Who tells what becomes of the pass.
+    pub fn teller(&self) -> Teller {
+        self.teller
     }
 
     /// Why the job's file couldn't be written, if it couldn't.
@@ -71,7 +67,7 @@ impl GroundNotes {
         };
         match octets_of(self.rt.alloc(), line.as_str(), asked) {
             Ok(octets) => write_for_good(&self.rt, path.as_str(), &octets),
-            Err(_) => Err(Failure::from(ToolFault::Memory)),
+            Err(_) => Err(Failure::from(Fault::Memory)),
         }
     }
 }
@@ -82,7 +78,8 @@ impl Notes for GroundNotes {
             .iter()
             .filter(|one| !matches!(one.fate, Fate::Waiting))
             .count();
-        self.voice.tell_round(&self.rt, settled, asked.len(), round);
+        self.teller
+            .tell_round(&self.rt, settled, asked.len(), round);
         match self.write(asked) {
             Ok(()) => true,
             Err(failure) => {
@@ -113,7 +110,7 @@ fn job_at(
         line_of(rt.alloc(), title, pass),
         format!(in rt.alloc(); "{path}"),
     ) else {
-        return Err(Failure::from(ToolFault::Memory));
+        return Err(Failure::from(Fault::Memory));
     };
     if let Err(error) = fs::metadata(rt, path) {
         if error.kind() == ErrorKind::NotFound {
@@ -129,8 +126,32 @@ fn job_at(
     };
     match hear_kept(rt.alloc(), pass, packets) {
         Ok(_) => Ok((name, line)),
-        Err(_) => Err(Failure::from(ToolFault::Memory)),
+        Err(_) => Err(Failure::from(Fault::Memory)),
     }
+}
+
+/// The source of the job whose file stands at this path; none if there is no such file, or it is
+/// no job's.
+///
+/// Errors: `Read` if it can't be read; `Memory`.
+pub fn source_at(rt: &HostRuntime, path: &str) -> Result<Option<u16>, Failure> {
+    if fs::metadata(rt, path).is_err() {
+        return Ok(None);
+    }
+    let octets = file_at(rt, path)?;
+    let line = octets.as_slice().split(|octet| *octet == b'\n').next();
+    let Ok(line) = std::str::from_utf8(line.unwrap_or(&[])) else {
+        return Ok(None);
+    };
+    Ok(source_in(line))
+}
+
+// The source that a job's first line names.
+fn source_in(line: &str) -> Option<u16> {
+    let words = line.strip_prefix(FRONT)?;
+    let (_, behind) = words.split_once(" source ")?;
+    let (number, _) = behind.split_once(' ')?;
+    number.parse().ok()
 }
 
 // The first line of the file of a job of this pass. The only error is out of memory.
@@ -144,7 +165,7 @@ fn line_of(alloc: Global, title: &str, pass: &Pass) -> Result<String, AllocError
 }
 
 // That the file at this path isn't this job's.
-fn foreign(rt: &HostRuntime, path: &str, octets: &[u8]) -> Failure {
+fn foreign(rt: &impl AllocGlobal, path: &str, octets: &[u8]) -> Failure {
     let line = octets.split(|octet| *octet == b'\n').next().unwrap_or(&[]);
     let place = match std::str::from_utf8(line) {
         Ok(line) if line.starts_with(FRONT) => {
@@ -152,5 +173,5 @@ fn foreign(rt: &HostRuntime, path: &str, octets: &[u8]) -> Failure {
         }
         _ => format!(in rt.alloc(); "{path}: it is no file of a job"),
     };
-    Failure::at(ToolFault::Read, place)
+    Failure::at(Fault::Read, place)
 }

@@ -1,189 +1,226 @@
-//! What standard error is told of a pass at its end.
+//! What standard error is told of a pass: of its rounds, and at its end.
 
-use crate::counts::octets_word;
-use crate::end::{Status, tell_text};
 use crate::errands::{Kind, Places};
-use crate::progress::Voice;
-use lpt_command_line::GroundWords;
+use crate::ground_lines::{Became, Stretch, became_line, done_line, round_line};
+use lpt_command_line::{GroundWords, SourceWords};
 use lpt_ground::{Pass, checks_agree};
 use lpt_ground_run::{Asked, Outcome, Run, runs_of};
+use lpt_io::{Voice, tell_text};
 use std::alloc::{AllocError, Global};
 
-/// Tells what became of the requests of a pass at its end, which took so many packets and rounds.
-pub fn tell_end(
-    rt: &HostRuntime,
+/// Who tells on standard error what becomes of a pass.
+#[derive(Clone, Copy)]
+pub struct Teller {
     voice: Voice,
-    words: &GroundWords<'_>,
-    places: &Places,
-    pass: &Pass,
-    counts: (u64, u64),
-) {
-    voice.clear(rt);
-    let alloc = rt.alloc();
-    let Ok(runs) = runs_of(alloc, pass.asked()) else {
-        return;
-    };
-    let mut open = false;
-    let mut from = 0;
-    for run in &runs {
-        if run.outcome != Outcome::Done {
-            open = true;
-            tell_text(rt, run_text(alloc, places, from, run));
-        }
-        from = run.count.saturating_add(from);
+    // Whether each line is an object of JSON.
+    json: bool,
+}
+
+impl Teller {
+    /// One that tells so much, in lines of JSON or for a reader.
+    pub fn new(voice: Voice, json: bool) -> Self {
+        Teller { voice, json }
     }
-    if !open {
-        if voice.tells() {
-            tell_text(rt, done_text(alloc, places, pass.asked().len(), counts));
+
+    /// Tells how many requests are settled before a round.
+    pub fn tell_round(
+        self,
+        rt: &(impl Eprint + AllocGlobal),
+        settled: usize,
+        of: usize,
+        round: u64,
+    ) {
+        if !self.json {
+            self.voice.tell_round(rt, settled, of, round);
+        } else if self.voice.tells() && settled < of {
+            tell_line(rt, round_line(rt.alloc(), settled, of, round));
         }
-        return;
     }
-    tell_text(rt, next_text(alloc, words));
+
+    // Tells what became of some octets.
+    fn tell_became(self, rt: &(impl Eprint + AllocGlobal), became: Became, stretch: Stretch) {
+        let text = became_line(rt.alloc(), self.json, became, stretch);
+        if self.json {
+            tell_line(rt, text);
+        } else {
+            tell_text(rt, text);
+        }
+    }
+
+    /// Tells what became of the requests of a pass at its end, which took so many packets and
+    /// rounds.
+    pub fn tell_end(
+        self,
+        rt: &(impl Eprint + AllocGlobal),
+        words: &GroundWords<'_>,
+        places: &[Places],
+        pass: &Pass,
+        counts: (u64, u64),
+    ) {
+        if !self.json {
+            self.voice.clear(rt);
+        }
+        let mut rest = pass.asked();
+        let mut open = false;
+        for one in places {
+            let (asked, behind) = one.split(rest);
+            open = self.tell_open(rt, one, asked) || open;
+            rest = behind;
+        }
+        if open && !self.json {
+            return tell_text(rt, next_text(rt.alloc(), words));
+        }
+        if self.voice.tells() || open {
+            let noun = noun_of(places);
+            let text = done_line(
+                rt.alloc(),
+                self.json,
+                noun,
+                pass.asked().len(),
+                counts,
+                !open,
+            );
+            if self.json {
+                tell_line(rt, text);
+            } else {
+                tell_text(rt, text);
+            }
+        }
+    }
+
+    // Tells which of these requests weren't completed, and whether there are any.
+    fn tell_open(self, rt: &(impl Eprint + AllocGlobal), places: &Places, asked: &[Asked]) -> bool {
+        let Ok(runs) = runs_of(rt.alloc(), asked) else {
+            return true;
+        };
+        let mut open = false;
+        let mut from = 0;
+        for run in &runs {
+            if let Some(became) = open_as(run) {
+                open = true;
+                self.tell_became(rt, became, stretch_of(places, from, run.count));
+            }
+            from = run.count.saturating_add(from);
+        }
+        open
+    }
+
+    /// Whether the checksums that the reports of checks hold are those of this content. If they
+    /// aren't, it is told of which octets.
+    pub fn compare_checks(
+        self,
+        rt: &(impl Eprint + AllocGlobal),
+        places: &Places,
+        asked: &[Asked],
+        content: &[u8],
+    ) -> bool {
+        if checks_agree(asked, content) {
+            return true;
+        }
+        let mut rest = content;
+        let mut from = 0;
+        for one in asked {
+            let (front, behind) = rest.split_at(one.awaits.checked_len().min(rest.len()));
+            if !one.fate.holds_checksum(front) {
+                self.tell_became(rt, Became::Unlike, behind_of(places, from, front.len()));
+            }
+            from = front.len().saturating_add(from);
+            rest = behind;
+        }
+        false
+    }
+
+    /// Whether these octets of a memory are this content. If they aren't, it is told from which
+    /// one on.
+    pub fn compare_octets(
+        self,
+        rt: &(impl Eprint + AllocGlobal),
+        places: &Places,
+        content: &[u8],
+        octets: &[u8],
+    ) -> bool {
+        let is_unlike = |pair: (&u8, &u8)| pair.0 != pair.1;
+        let Some(first) = content.iter().zip(octets).position(is_unlike) else {
+            return content.len() == octets.len();
+        };
+        let behind = content.len().saturating_sub(first);
+        self.tell_became(rt, Became::Unlike, behind_of(places, first, behind));
+        false
+    }
+}
+
+// Prints a line as it is, unless there was no memory for it.
+fn tell_line(rt: &impl Eprint, text: Result<String, AllocError>) {
+    if let Ok(text) = text {
+        let _ = rt.eprintln(text.as_str());
+    }
+}
+
+// What became of requests, if they weren't completed.
+fn open_as(run: &Run) -> Option<Became> {
+    match run.outcome {
+        Outcome::Done => None,
+        Outcome::Failed(code) => Some(Became::Failed(code)),
+        _ => Some(Became::Open),
+    }
+}
+
+// The octets that so many requests are of, behind so many.
+fn stretch_of(places: &Places, from: u64, count: u64) -> Stretch {
+    let each = u64::from(places.each);
+    let front = from.saturating_mul(each);
+    let octets = count.saturating_mul(each);
+    Stretch {
+        memory: places.memory,
+        address: u64::from(places.address).saturating_add(front),
+        octets: octets.min(u64::from(places.len).saturating_sub(front)),
+    }
+}
+
+// So many octets behind so many others.
+fn behind_of(places: &Places, from: usize, count: usize) -> Stretch {
+    Stretch {
+        memory: places.memory,
+        address: u64::from(places.address).saturating_add(from as u64),
+        octets: count as u64,
+    }
 }
 
 /// What a pass is of, in words. The only error is out of memory.
 pub fn title_of(
     alloc: Global,
     words: &GroundWords<'_>,
-    places: &Places,
+    source: u16,
+    places: &[Places],
 ) -> Result<String, AllocError> {
-    let Places {
-        kind,
-        memory,
-        address,
-        len,
-        ..
-    } = *places;
-    let noun = noun_of(kind);
-    let (source, count) = (words.source, words.count);
-    format!(in alloc;
-        "{noun} memory {memory} address {address} octets {len} source {source} count {count}"
-    )
-}
-
-// What a request is called.
-fn noun_of(kind: Kind) -> &'static str {
-    match kind {
-        Kind::Load => "load",
-        Kind::Dump => "dump",
-        Kind::Check => "check",
+    let noun = noun_of(places);
+    let memory = words.memory;
+    let mut title = format!(in alloc; "{noun} memory {memory}")?;
+    for one in places {
+        let (address, len) = (one.address, one.len);
+        title.write(format_args!(" address {address} octets {len}"))?;
     }
+    let count = words.count;
+    title.write(format_args!(" source {source} count {count}"))?;
+    Ok(title)
 }
 
-// That so many requests were completed.
-fn done_text(
-    alloc: Global,
-    places: &Places,
-    many: usize,
-    counts: (u64, u64),
-) -> Result<String, AllocError> {
-    let noun = noun_of(places.kind);
-    let s = if many == 1 { "" } else { "s" };
-    let (put, rounds) = counts;
-    let packets = if put == 1 { "packet" } else { "packets" };
-    let word = if rounds == 1 { "round" } else { "rounds" };
-    format!(in alloc; "{many} {noun}{s} completed: {put} {packets}, {rounds} {word}")
-}
-
-// What became of these requests, behind so many.
-fn run_text(alloc: Global, places: &Places, from: u64, run: &Run) -> Result<String, AllocError> {
-    let each = u64::from(places.each);
-    let front = from.saturating_mul(each);
-    let octets = run.count.saturating_mul(each);
-    let octets = octets.min(u64::from(places.len).saturating_sub(front));
-    let memory = places.memory;
-    let address = u64::from(places.address).saturating_add(front);
-    let word = octets_word(octets as usize);
-    match run.outcome {
-        Outcome::Failed(code) => {
-            let why = sentence(code);
-            format!(in alloc;
-                "failed {code} {why}: memory {memory} from {address} on, {octets} {word}"
-            )
-        }
-        _ => format!(in alloc; "open: memory {memory} from {address} on, {octets} {word}"),
+// What the requests are called that are of these octets.
+fn noun_of(places: &[Places]) -> &'static str {
+    match places.first().map(|one| one.kind) {
+        Some(Kind::Load) => "load",
+        Some(Kind::Dump) => "dump",
+        _ => "check",
     }
 }
 
 // How it may go on.
 fn next_text(alloc: Global, words: &GroundWords<'_>) -> Result<String, AllocError> {
-    match words.kept {
-        None => format!(in alloc; "the next pass needs another --source"),
-        Some(path) => format!(in alloc; "the same command goes on from {path}"),
-    }
-}
-
-// What a failure code says.
-fn sentence(code: u16) -> &'static str {
-    match code {
-        1 => "unknown service or subtype",
-        2 => "malformed body",
-        3 => "unknown memory",
-        4 => "out of range",
-        5 => "wrong checksum",
-        6 => "reply too long",
-        7 => "no free identifier",
-        8 => "too many open",
-        _ => "unknown code",
-    }
-}
-
-/// Whether the checksums that the reports of checks hold are those of this content. If they
-/// aren't, it is told of which octets.
-pub fn compare_checks(
-    rt: &HostRuntime,
-    places: &Places,
-    asked: &[Asked],
-    content: &[u8],
-) -> Status {
-    if checks_agree(asked, content) {
-        return Status::Done;
-    }
-    let mut rest = content;
-    let mut from = 0;
-    for one in asked {
-        let (front, behind) = rest.split_at(one.awaits.checked_len().min(rest.len()));
-        if !one.fate.holds_checksum(front) {
-            tell_text(rt, unlike_text(rt.alloc(), places, from, front.len()));
+    match (words.kept, words.source) {
+        (None, SourceWords::Given(_)) => {
+            format!(in alloc; "the next pass needs another --source")
         }
-        from = front.len().saturating_add(from);
-        rest = behind;
+        (None, SourceWords::Next(_)) => format!(in alloc; "the same command begins another pass"),
+        (Some(path), _) => format!(in alloc; "the same command goes on from {path}"),
     }
-    Status::Refused
-}
-
-/// Whether these octets of a memory are this content. If they aren't, it is told from which one
-/// on.
-pub fn compare_octets(rt: &HostRuntime, places: &Places, content: &[u8], octets: &[u8]) -> Status {
-    let is_unlike = |pair: (&u8, &u8)| pair.0 != pair.1;
-    let Some(first) = content.iter().zip(octets).position(is_unlike) else {
-        return if content.len() == octets.len() {
-            Status::Done
-        } else {
-            Status::Refused
-        };
-    };
-    tell_text(
-        rt,
-        unlike_text(
-            rt.alloc(),
-            places,
-            first,
-            content.len().saturating_sub(first),
-        ),
-    );
-    Status::Refused
-}
-
-// That so many octets, behind so many others, aren't as they should be.
-fn unlike_text(
-    alloc: Global,
-    places: &Places,
-    from: usize,
-    count: usize,
-) -> Result<String, AllocError> {
-    let memory = places.memory;
-    let address = u64::from(places.address).saturating_add(from as u64);
-    let word = octets_word(count);
-    format!(in alloc; "differs: memory {memory} from {address} on, within {count} {word}")
 }

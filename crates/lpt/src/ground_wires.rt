@@ -1,14 +1,12 @@
 //! What a pass hears and writes.
 
-use crate::end::Failure;
 use crate::ground_notes::GroundNotes;
-use crate::input::{STANDARD, opened};
-use crate::watched::Watched;
 use lpt_ground_run::{HearFault, Hearing};
-use lpt_text::{FromStd, StreamFault, flush_out};
-use lpt_tool::ToolFault;
+use lpt_io::{Failure, Fault, STANDARD, Watched, opened};
+use lpt_text::{FromStd, Source, StreamFault, flush_out};
 use std::fs::{File, OpenOptions};
 use std::io::{self, Printer, Write};
+use std::rt::Files;
 use std::sync::Wait;
 use std::thread::Threads;
 use std::time::Clock;
@@ -29,13 +27,29 @@ pub fn hear<T: Threads + Wait + Clock + Copy + Drop + Send + 'static>(
     wait: u32,
     notes: GroundNotes,
 ) -> Result<Ears<T>, Failure> {
-    let source = opened(rt, STANDARD)?;
+    hear_source(rt, threads, opened(rt, STANDARD)?, wait, notes)
+}
+
+/// The same of what comes from this source.
+///
+/// Errors: as there.
+pub fn hear_source<T, S>(
+    rt: &HostRuntime,
+    threads: &T,
+    source: S,
+    wait: u32,
+    notes: GroundNotes,
+) -> Result<Ears<T>, Failure>
+where
+    T: Threads + Wait + Clock + Copy + Drop + Send + 'static,
+    S: Source + Drop + Send + 'static,
+{
     match Hearing::begin(threads, rt.alloc(), source, wait, notes) {
         Ok(ears) => Ok(ears),
-        Err(HearFault::Memory) => Err(Failure::from(ToolFault::Memory)),
+        Err(HearFault::Memory) => Err(Failure::from(Fault::Memory)),
         Err(HearFault::NoThread) => {
             let place = format!(in rt.alloc(); "no thread could be started");
-            Err(Failure::at(ToolFault::Read, place))
+            Err(Failure::at(Fault::Read, place))
         }
     }
 }
@@ -55,7 +69,7 @@ pub fn fifo_wire(rt: &HostRuntime, path: &str) -> Result<Wire<File>, Failure> {
         Ok(file) => Ok(FromStd::new(Watched::new(file))),
         Err(error) => {
             let place = format!(in rt.alloc(); "{path}: {error}");
-            Err(Failure::at(ToolFault::Write, place))
+            Err(Failure::at(Fault::Write, place))
         }
     }
 }
@@ -63,13 +77,17 @@ pub fn fifo_wire(rt: &HostRuntime, path: &str) -> Result<Wire<File>, Failure> {
 /// Closes what is written to under this name, and gives why a write failed, if one did.
 ///
 /// Errors: `Write`.
-pub fn close<W: Write + Drop>(rt: &HostRuntime, out: Wire<W>, name: &str) -> Result<(), Failure> {
+pub fn close<W: Write + Drop>(
+    rt: &impl AllocGlobal,
+    out: Wire<W>,
+    name: &str,
+) -> Result<(), Failure> {
     let mut out = out;
     let flushed = flush_out(&mut out);
     let failure = match out.inner().error() {
         Some(error) => {
             let place = format!(in rt.alloc(); "{name}: {error}");
-            Some(Failure::at(ToolFault::Write, place))
+            Some(Failure::at(Fault::Write, place))
         }
         None => None,
     };
@@ -77,7 +95,7 @@ pub fn close<W: Write + Drop>(rt: &HostRuntime, out: Wire<W>, name: &str) -> Res
     match (failure, flushed) {
         (Some(failure), _) => Err(failure),
         (None, Ok(())) => Ok(()),
-        (None, Err(StreamFault::Memory)) => Err(Failure::from(ToolFault::Memory)),
-        (None, Err(_)) => Err(Failure::from(ToolFault::Write)),
+        (None, Err(StreamFault::Memory)) => Err(Failure::from(Fault::Memory)),
+        (None, Err(_)) => Err(Failure::from(Fault::Write)),
     }
 }

@@ -3,78 +3,151 @@
 
 ghost use Rattle.lpt_events.specs.Configs.{IsConfig};
 
-use crate::compares::file_at;
-use crate::end::{Failure, Status, tell_text};
-use crate::errands::{Errand, Places, errand_of};
+use crate::errands::{Errand, Places, errand_of, overlap_of};
 use crate::ground_notes::GroundNotes;
-use crate::ground_told::{compare_checks, compare_octets, tell_end, title_of};
+use crate::ground_sources::source_of;
+use crate::ground_told::{Teller, title_of};
 use crate::ground_wires::{Ears, Wire, close, fifo_wire, hear, output_wire};
 use crate::locking::locked;
-use crate::progress::Voice;
-use crate::saving::write_for_good;
-use crate::streams::first_failure;
 use lpt_command_line::{GroundWords, Job};
 use lpt_events::Config;
 use lpt_ground::{End, Pass, dumped_octets};
 use lpt_ground_run::{PlanFault, carry_pass};
+use lpt_io::{Failure, Fault, Status, Voice, file_at, first_failure, tell_text, write_for_good};
 use lpt_packet::Octets;
 use lpt_text::{Sink, StreamFault};
-use lpt_tool::ToolFault;
+use std::fs::File;
 use std::io::Write;
 use std::sync::Wait;
 use std::thread::Threads;
 use std::time::Clock;
 
-/// Carries what is asked of a memory to its end.
+/// Carries what is asked of a memory to its end, as the process of this number.
 ///
 /// Errors: `Read` if a file or standard input can't be read, or the job's file is another
 /// job's; `Write` if the requests or a file can't be written; `Memory`.
 pub fn ground<T: Threads + Wait + Clock + Copy + Drop + Send + 'static>(
     rt: &HostRuntime,
     threads: &T,
+    process: u32,
     voice: Voice,
     config: &Config,
     words: &GroundWords<'_>,
 ) -> Result<Status, Failure>
     requires { IsConfig config.now }
 {
-    let content = content_of(rt, words)?;
-    let errand = match errand_of(rt.alloc(), config, words, content) {
-        Ok(errand) => errand,
-        Err(PlanFault::Memory) => return Err(Failure::from(ToolFault::Memory)),
-        Err(fault) => {
-            tell_text(rt, format!(in rt.alloc(); "{fault}"));
-            return Ok(Status::Refused);
-        }
-    };
-    let Some(path) = words.kept else {
-        return carry_kept(rt, threads, voice, words, errand, None);
-    };
-    let lock = locked(rt, path)?;
-    let ended = carry_kept(rt, threads, voice, words, errand, Some(path));
+    let lock = job_lock(rt, process, words)?;
+    let ended = carry_locked(rt, threads, process, voice, config, words);
     drop(lock);
     ended
 }
 
-// The octets of the file that is loaded, or checked.
-fn content_of(rt: &HostRuntime, words: &GroundWords<'_>) -> Result<Octets, Failure> {
-    match words.job {
-        Job::Dump { .. } => Ok(Octets::from_vec(Vec::new(rt.alloc()))),
-        _ => file_at(rt, words.file),
+// The same, if no other process uses the job's file.
+fn carry_locked<T: Threads + Wait + Clock + Copy + Drop + Send + 'static>(
+    rt: &HostRuntime,
+    threads: &T,
+    process: u32,
+    voice: Voice,
+    config: &Config,
+    words: &GroundWords<'_>,
+) -> Result<Status, Failure>
+    requires { IsConfig config.now }
+{
+    match ready_of(rt, process, config, words)? {
+        Some(ready) => carry_ready(rt, threads, voice, words, ready),
+        None => Ok(Status::Refused),
     }
 }
 
-// Carries an errand out, and keeps in the file at this path what is settled, where there is one.
-fn carry_kept<T: Threads + Wait + Clock + Copy + Drop + Send + 'static>(
+/// The lock of the job's file, if there is one.
+///
+/// Errors: `Write` if another process holds it, or it can't be had.
+pub(crate) fn job_lock(
+    rt: &HostRuntime,
+    process: u32,
+    words: &GroundWords<'_>,
+) -> Result<Option<File>, Failure> {
+    match words.kept {
+        None => Ok(None),
+        Some(path) => Ok(Some(locked(rt, process, path)?)),
+    }
+}
+
+/// What is ready to be carried out: the errand, and its title.
+#[derive(Drop)]
+pub(crate) struct Ready {
+    pub(crate) errand: Errand,
+    pub(crate) title: String,
+}
+
+/// What these words ask to be carried out. None if it can't be, and why was told.
+///
+/// Errors: `Read` if a file can't be read; `Write` if the pass's source can't be noted; `Memory`.
+pub(crate) fn ready_of(
+    rt: &HostRuntime,
+    process: u32,
+    config: &Config,
+    words: &GroundWords<'_>,
+) -> Result<Option<Ready>, Failure>
+    requires { IsConfig config.now }
+{
+    let contents = contents_of(rt, words)?;
+    let Some(source) = source_of(rt, process, words)? else {
+        return Ok(None);
+    };
+    let errand = match errand_of(rt.alloc(), config, words, source, contents) {
+        Ok(errand) => errand,
+        Err(PlanFault::Memory) => return Err(Failure::from(Fault::Memory)),
+        Err(fault) => {
+            tell_text(rt, format!(in rt.alloc(); "{fault}"));
+            return Ok(None);
+        }
+    };
+    if let (Job::Load { .. }, Some((one, other))) = (words.job, overlap_of(&errand.places)) {
+        tell_overlap(rt, &one, &other);
+        return Ok(None);
+    }
+    match title_of(rt.alloc(), words, source, &errand.places) {
+        Ok(title) => Ok(Some(Ready { errand, title })),
+        Err(_) => Err(Failure::from(Fault::Memory)),
+    }
+}
+
+// The octets of the files that are loaded, or checked.
+fn contents_of(rt: &HostRuntime, words: &GroundWords<'_>) -> Result<Vec<Octets>, Failure> {
+    let mut contents = Vec::new(rt.alloc());
+    for area in &words.areas {
+        let octets = match words.job {
+            Job::Dump => Octets::from_vec(Vec::new(rt.alloc())),
+            _ => file_at(rt, area.file)?,
+        };
+        if contents.push(octets).is_err() {
+            return Err(Failure::from(Fault::Memory));
+        }
+    }
+    Ok(contents)
+}
+
+// That two areas share octets, so that it isn't known which of both a memory has then.
+fn tell_overlap(rt: &(impl Eprint + AllocGlobal), one: &Places, other: &Places) {
+    let (one, other) = (one.address, other.address);
+    tell_text(
+        rt,
+        format!(in rt.alloc(); "the areas at {one} and at {other} overlap"),
+    );
+}
+
+// Carries out what is ready, and keeps what is settled, if that is asked for.
+fn carry_ready<T: Threads + Wait + Clock + Copy + Drop + Send + 'static>(
     rt: &HostRuntime,
     threads: &T,
     voice: Voice,
     words: &GroundWords<'_>,
-    mut errand: Errand,
-    path: Option<&str>,
+    ready: Ready,
 ) -> Result<Status, Failure> {
-    let title = title_of(rt.alloc(), words, &errand.places);
-    let notes = GroundNotes::begin(rt, voice, title, &mut errand.first, path)?;
+    let Ready { mut errand, title } = ready;
+    let teller = Teller::new(voice, words.json);
+    let notes = GroundNotes::begin(rt, teller, title.as_str(), &mut errand.first, words.kept)?;
     let mut ears = hear(rt, threads, words.wait, notes)?;
     let ended = match words.up {
         Some(path) => put_to_fifo(rt, &mut ears, words, &mut errand, path),
@@ -102,7 +175,7 @@ fn put_to_fifo<T: Wait + Clock + Drop>(
 
 // Carries an errand out over what has this name, which is closed where it can be, before what comes
 // is heard on.
-fn put_over<T: Wait + Clock + Drop, W: Write + Drop>(
+pub(crate) fn put_over<T: Wait + Clock + Drop, W: Write + Drop>(
     rt: &HostRuntime,
     ears: &mut Ears<T>,
     words: &GroundWords<'_>,
@@ -146,30 +219,48 @@ fn carry_all<T: Wait + Clock + Drop, K: Sink>(
     }
     match words.job {
         Job::Load { .. } => verify_load(rt, ears, words, errand, out),
-        _ => use_answers(rt, words, errand),
+        Job::Dump => write_dumps(rt, words, errand),
+        Job::Check => Ok(status_of(compare_all(rt, ears.notes().teller(), errand))),
     }
 }
 
-// Writes what was dumped, or compares what was checked.
-fn use_answers(
+// Writes the files of what was dumped.
+fn write_dumps(
     rt: &HostRuntime,
     words: &GroundWords<'_>,
     errand: &Errand,
 ) -> Result<Status, Failure> {
-    let first = errand.first.asked();
-    match words.job {
-        Job::Dump { .. } => {
-            let Ok(octets) = dumped_octets(rt.alloc(), first) else {
-                return Err(Failure::from(ToolFault::Memory));
-            };
-            write_for_good(rt, words.file, &octets)?;
-            Ok(Status::Done)
-        }
-        _ => Ok(compare_checks(rt, &errand.places, first, errand.content())),
+    let mut rest = errand.first.asked();
+    for (places, area) in errand.places.iter().zip(&words.areas) {
+        let (asked, behind) = places.split(rest);
+        let Ok(octets) = dumped_octets(rt.alloc(), asked) else {
+            return Err(Failure::from(Fault::Memory));
+        };
+        write_for_good(rt, area.file, &octets)?;
+        rest = behind;
     }
+    Ok(Status::Done)
 }
 
-// Dumps what was loaded, where that is asked for, and compares it.
+// The status where the octets are as they should be, or aren't.
+fn status_of(alike: bool) -> Status {
+    if alike { Status::Done } else { Status::Refused }
+}
+
+// Compares what was checked: whether it is the content.
+fn compare_all(rt: &(impl Eprint + AllocGlobal), teller: Teller, errand: &Errand) -> bool {
+    let mut alike = true;
+    let mut rest = errand.first.asked();
+    for (number, places) in errand.places.iter().enumerate() {
+        let (asked, behind) = places.split(rest);
+        let content = errand.content(number);
+        alike = teller.compare_checks(rt, places, asked, content) && alike;
+        rest = behind;
+    }
+    alike
+}
+
+// Dumps what was loaded, if that is asked for, and compares it.
 fn verify_load<T: Wait + Clock + Drop, K: Sink>(
     rt: &HostRuntime,
     ears: &mut Ears<T>,
@@ -186,10 +277,30 @@ fn verify_load<T: Wait + Clock + Drop, K: Sink>(
     if !is_done(rt, ears, ended)? {
         return Ok(Status::Refused);
     }
-    let Ok(octets) = dumped_octets(rt.alloc(), second.asked()) else {
-        return Err(Failure::from(ToolFault::Memory));
+    compare_dumps(rt, ears.notes().teller(), errand)
+}
+
+// Compares what was dumped with what was loaded.
+fn compare_dumps(
+    rt: &(impl Eprint + AllocGlobal),
+    teller: Teller,
+    errand: &Errand,
+) -> Result<Status, Failure> {
+    let Some((all, second)) = &errand.second else {
+        return Ok(Status::Done);
     };
-    Ok(compare_octets(rt, &errand.places, errand.content(), &octets))
+    let mut alike = true;
+    let mut rest = second.asked();
+    for (number, places) in all.iter().enumerate() {
+        let (asked, behind) = places.split(rest);
+        let Ok(octets) = dumped_octets(rt.alloc(), asked) else {
+            return Err(Failure::from(Fault::Memory));
+        };
+        let content = errand.content(number);
+        alike = teller.compare_octets(rt, places, content, &octets) && alike;
+        rest = behind;
+    }
+    Ok(status_of(alike))
 }
 
 // Tells what became of the requests of a pass.
@@ -197,12 +308,12 @@ fn tell<T: Wait + Clock + Drop>(
     rt: &HostRuntime,
     ears: &mut Ears<T>,
     words: &GroundWords<'_>,
-    places: &Places,
+    places: &[Places],
     pass: &Pass,
 ) {
     let counts = ears.counts();
-    let voice = ears.notes().voice();
-    tell_end(rt, voice, words, places, pass, counts);
+    let teller = ears.notes().teller();
+    teller.tell_end(rt, words, places, pass, counts);
 }
 
 // Whether a pass that ended so is done.
@@ -223,11 +334,11 @@ fn is_done<T: Wait + Clock + Drop>(
 }
 
 // Why a pass couldn't go on.
-fn failure_of(rt: &HostRuntime, fault: StreamFault) -> Failure {
+fn failure_of(rt: &impl AllocGlobal, fault: StreamFault) -> Failure {
     match fault {
         StreamFault::Read => {
             let place = format!(in rt.alloc(); "standard input: a read failed");
-            Failure::at(ToolFault::Read, place)
+            Failure::at(Fault::Read, place)
         }
         fault => Failure::from(fault),
     }

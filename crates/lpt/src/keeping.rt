@@ -2,11 +2,9 @@
 
 ghost use Rattle.std.specs.Prelude.{None};
 
-use crate::end::{Failure, told};
-use crate::saving::write_for_good;
 use lpt_command_line::SpacecraftWords;
+use lpt_io::{Failure, Fault, tell_end, write_for_good};
 use lpt_spacecraft::{KeepFault, KeptFiles, Spacecraft, WholeFile, save_one};
-use lpt_tool::ToolFault;
 
 /// A file of the machine, which is written whole, or not at all, and forced to the disk.
 #[derive(Drop)]
@@ -38,7 +36,7 @@ pub fn kept_files<'a>(
         for (id, path) in &words.memories {
             let file = HostFile { rt, path: *path };
             if saved.push((*id, file)).is_err() {
-                return Err(Failure::from(ToolFault::Memory));
+                return Err(Failure::from(Fault::Memory));
             }
         }
     }
@@ -53,7 +51,7 @@ pub fn kept_files<'a>(
 pub fn keep_failure(files: KeptFiles<HostFile<'_>>) -> Failure {
     match files.into_failure() {
         Some(KeepFault::File(failure)) => failure,
-        _ => Failure::from(ToolFault::Memory),
+        _ => Failure::from(Fault::Memory),
     }
 }
 
@@ -71,7 +69,7 @@ pub fn save_all(
         let mut file = HostFile { rt, path: *path };
         if let Err(failure) = save_one(&mut file, craft, *id) {
             if let Err(before) = saved {
-                told(rt, Err(before));
+                tell_end(rt, Err(before));
             }
             saved = Err(failure);
         }

@@ -1,19 +1,18 @@
 //! A file that no other process uses.
 
-use crate::end::Failure;
-use lpt_tool::ToolFault;
+use lpt_io::{Failure, Fault};
 use std::fs::{File, OpenOptions, TryLockError};
 use std::io::{self, Write};
-use std::process;
 
-/// The lock of the file at this path, which is held until it is dropped. It is one of the file
+/// The lock of the file at this path for the process of this number, which is held until it is
+/// dropped. It is one of the file
 /// beside it whose name ends in `.lock`, which stays, with the number of the process that held it
 /// last. Whatever ends a process, the system gives up its locks.
 ///
 /// Errors: `Write` if another process holds it, or it can't be had.
-pub fn locked(rt: &HostRuntime, path: &str) -> Result<File, Failure> {
+pub fn locked(rt: &HostRuntime, process: u32, path: &str) -> Result<File, Failure> {
     let Ok(name) = format!(in rt.alloc(); "{path}.lock") else {
-        return Err(Failure::from(ToolFault::Memory));
+        return Err(Failure::from(Fault::Memory));
     };
     let mut options = OpenOptions::new();
     options.write(true).create(true);
@@ -31,29 +30,28 @@ pub fn locked(rt: &HostRuntime, path: &str) -> Result<File, Failure> {
             });
         }
     }
-    write_number(rt, &file);
+    write_number(process, &file);
     Ok(file)
 }
 
 // That another process uses the file.
-fn in_use(rt: &HostRuntime, path: &str, name: &str) -> Failure {
+fn in_use(rt: &impl AllocGlobal, path: &str, name: &str) -> Failure {
     let place = format!(in rt.alloc();
         "{path}: another process uses it, the one whose number stands in {name}"
     );
-    Failure::at(ToolFault::Write, place)
+    Failure::at(Fault::Write, place)
 }
 
 // That the lock can't be had.
-fn not_locked(rt: &HostRuntime, name: &str, error: &io::Error) -> Failure {
+fn not_locked(rt: &impl AllocGlobal, name: &str, error: &io::Error) -> Failure {
     let place = format!(in rt.alloc(); "{name}: {error}");
-    Failure::at(ToolFault::Write, place)
+    Failure::at(Fault::Write, place)
 }
 
-// Writes the number of this process into the file of a lock, for who asks who holds it.
-fn write_number(rt: &HostRuntime, file: &File) {
-    let number = process::id(rt.process());
+// Writes the number of a process into the file of a lock, for who asks who holds it.
+fn write_number(process: u32, file: &File) {
     if file.set_len(0).is_ok() {
         let mut file = file;
-        let _ = writeln!(file, "{number}");
+        let _ = writeln!(file, "{process}");
     }
 }

@@ -2,14 +2,14 @@
 
 ghost use Rattle.std.specs.Prelude.{None};
 
-use crate::end::tell_place;
+use lpt_io::tell_place;
 use lpt_spacecraft::{Listener, Told, print_told};
 
 /// Tells on standard error what happens, or only that a source has no free name left, and where
 /// octets are no packet.
 #[derive(Drop)]
-pub struct Log<'a> {
-    rt: &'a HostRuntime,
+pub struct Log<'a, R> {
+    rt: &'a R,
     // The source whose names have no source in them.
     source: u16,
     all: bool,
@@ -17,10 +17,10 @@ pub struct Log<'a> {
     has_skipped: bool,
 }
 
-impl<'a> Log<'a> {
+impl<'a, R: Eprint + AllocGlobal> Log<'a, R> {
     /// A log of all, or only of sources that have no free name left, and of octets that are no
     /// packet.
-    pub fn new(rt: &'a HostRuntime, source: u16, all: bool) -> Self {
+    pub fn new(rt: &'a R, source: u16, all: bool) -> Self {
         Log {
             rt,
             source,
@@ -57,7 +57,7 @@ impl<'a> Log<'a> {
     }
 }
 
-impl Listener for Log<'_> {
+impl<R: Eprint + AllocGlobal> Listener for Log<'_, R> {
     ghost heard = { λ _. None };
 
     fn tell(&mut self, told: Told) {
@@ -71,5 +71,17 @@ impl Listener for Log<'_> {
         } else {
             self.warn(told);
         }
+    }
+}
+
+/// Tells nothing.
+#[derive(Drop)]
+pub struct Silent;
+
+impl Listener for Silent {
+    ghost heard = { λ _. None };
+
+    fn tell(&mut self, told: Told) {
+        let _ = told;
     }
 }

@@ -2,72 +2,54 @@
 //! did, splits messages into packets and joins them, writes requests to a memory, and says what
 //! octets and streams are as packets.
 //!
-//! It reads its words, its files and its input, and prints; what is done with them stands in the
-//! crates below.
+//! The commands of the two ends stand here, since they use threads of the host. The others stand in
+//! the crates below, and take the handles that they use.
 #![tactic(auto)]
 
 ghost use Rattle.lpt_events.specs.Configs.{IsConfig};
 
-mod charting;
-mod checksums;
-mod compares;
-mod configuration;
-mod counts;
-mod decoding;
-mod eaches;
-mod end;
 mod errands;
-mod extract_joins;
-mod extract_notices;
-mod extracts;
-mod filling;
-mod glancing;
+mod ground_lines;
 mod ground_notes;
+mod ground_sources;
 mod ground_told;
 mod ground_wires;
 mod grounds;
-mod input;
-mod joins;
 mod keeping;
-mod layout_eaches;
-mod layout_joins;
-mod layouts;
-mod links;
-mod linting;
-mod lists;
 mod locking;
 mod logging;
 mod memories;
-mod progress;
-mod recalled;
-mod requests;
-mod saving;
-mod shelling;
-mod spacecraft;
-mod split_eaches;
-mod splits;
-mod streams;
+mod passing;
+mod pipe;
+mod serving;
 mod ticker;
-mod verifies;
-mod watched;
-mod work;
 
-use configuration::alone;
-use end::{Failure, Status};
+use grounds::ground;
 use lpt_command_line::{Command, CommandLine, JoinWords, read_words};
 use lpt_events::Config;
-use lpt_tool::ToolFault;
-use progress::Voice;
-use std::process::ExitCode;
+use lpt_io::{Failure, Fault, Machine, Status, Terminals, Voice, config_of, explained, tell_end};
+use lpt_message_commands::{extract, join, join_each, join_layout, split, split_all};
+use lpt_packet_commands::{checksum, compare, decode, glance, link, list, request, verify};
+use lpt_simulator_commands::{RunKind, answer, chart, lint, run};
+use passing::pass;
+use serving::spacecraft;
+use std::io::IsTerminal;
+use std::process::{self, ExitCode};
+use std::rt::Env;
 use std::sync::Wait;
 use std::thread::Threads;
 use std::time::Clock;
 use std::{env, io};
-use work::RunKind;
 
 fn main(rt: HostRuntime) -> ExitCode {
+    let terminals = Terminals {
+        input: rt.stdin().is_terminal(),
+        output: rt.stdout().is_terminal(),
+        errors: rt.stderr().is_terminal(),
+    };
+    let process = process::id(rt.process());
     let status = match given_words(&rt) {
-        Ok(words) => serve(&rt, &rt, words.as_slice()),
+        Ok(words) => serve(&rt, &rt, terminals, process, words.as_slice()),
         Err(status) => status,
     };
     ExitCode::from(status as u8)
@@ -76,11 +58,11 @@ fn main(rt: HostRuntime) -> ExitCode {
 // The words of the command line, the program's name first.
 //
 // Errors: the status by which the program ends, where a word isn't text or memory runs out.
-fn given_words(rt: &HostRuntime) -> Result<Vec<String>, Status> {
+fn given_words(rt: &(impl Env + Eprint + AllocGlobal)) -> Result<Vec<String>, Status> {
     let words = match env::args(rt) {
         Ok(words) => words,
         Err(error) if error.kind() == io::ErrorKind::OutOfMemory => {
-            return Err(end::told(rt, Err(Failure::from(ToolFault::Memory))));
+            return Err(tell_end(rt, Err(Failure::from(Fault::Memory))));
         }
         Err(_) => {
             let _ = rt.eprintln("error: a word of the command line isn't UTF-8");
@@ -89,26 +71,28 @@ fn given_words(rt: &HostRuntime) -> Result<Vec<String>, Status> {
     };
     match words.collect(rt.alloc()) {
         Ok(words) => Ok(words),
-        Err(_) => Err(end::told(rt, Err(Failure::from(ToolFault::Memory)))),
+        Err(_) => Err(tell_end(rt, Err(Failure::from(Fault::Memory)))),
     }
 }
 
-// Does what the words ask for.
+// Does what the words ask for, as the process of this number.
 fn serve<T: Threads + Wait + Clock + Copy + Drop + Send + Sync + 'static>(
     rt: &HostRuntime,
     threads: &T,
+    terminals: Terminals,
+    process: u32,
     words: &[String],
 ) -> Status {
     match read_words(rt.alloc(), words) {
         Ok(asked) => {
-            let voice = Voice::new(rt, asked.quiet);
-            let ended = done(rt, threads, voice, &asked);
+            let voice = Voice::new(terminals, asked.quiet);
+            let ended = done(rt, threads, terminals, process, voice, &asked);
             if ended.is_err() {
                 voice.clear(rt);
             }
-            end::told(rt, ended)
+            tell_end(rt, ended)
         }
-        Err(unasked) => end::explained(rt, rt.alloc(), &unasked),
+        Err(unasked) => explained(rt, rt.alloc(), &unasked),
     }
 }
 
@@ -116,42 +100,52 @@ fn serve<T: Threads + Wait + Clock + Copy + Drop + Send + Sync + 'static>(
 fn done<T: Threads + Wait + Clock + Copy + Drop + Send + Sync + 'static>(
     rt: &HostRuntime,
     threads: &T,
+    terminals: Terminals,
+    process: u32,
     voice: Voice,
     asked: &CommandLine<'_>,
 ) -> Result<Status, Failure> {
     let settings = &asked.settings;
     match &asked.command {
-        Command::Run(script) => work::run(rt, threads, settings, RunKind::Run, script),
-        Command::Threads(script) => work::run(rt, threads, settings, RunKind::Threads, script),
-        Command::Shell => shelling::answer(rt, settings),
-        Command::Chart(words) if words.stream => glancing::glance(
+        Command::Run(script) => run(rt, threads, settings, RunKind::Run, script),
+        Command::Threads(script) => run(rt, threads, settings, RunKind::Threads, script),
+        Command::Shell => answer(rt, terminals.input, settings),
+        Command::Chart(words) if words.stream => glance(
             rt,
             voice,
-            &alone(rt, settings)?,
+            &config_of(rt, settings)?,
             words,
         ),
-        Command::Chart(words) => charting::chart(rt, settings, words),
-        Command::Lint(script) => linting::lint(rt, script),
-        Command::Decode(words) => decoding::decode(rt, alone(rt, settings)?, words),
-        Command::List(words) => lists::list(rt, voice, &alone(rt, settings)?, words),
-        Command::Split(words) => splits::split(rt, &alone(rt, settings)?, words),
-        Command::SplitEach(words) => split_eaches::split_all(rt, &alone(rt, settings)?, words),
-        Command::JoinLayout(words) => layout_joins::join(rt, voice, &alone(rt, settings)?, words),
-        Command::Join(words) => joined(rt, voice, &alone(rt, settings)?, words),
-        Command::Link(words) => links::link(rt, voice, words),
-        Command::Extract(words) => extracts::extract(rt, voice, &alone(rt, settings)?, words),
-        Command::Request(words) => requests::request(rt, &alone(rt, settings)?, words),
-        Command::Ground(words) => grounds::ground(rt, threads, voice, &alone(rt, settings)?, words),
-        Command::Spacecraft(words) => spacecraft::spacecraft(rt, settings, words),
-        Command::Verify(words) => verifies::verify(rt, voice, words),
-        Command::Compare(words) => compares::compare(rt, voice, &alone(rt, settings)?, words),
-        Command::Checksum(words) => checksums::checksum(rt, words),
+        Command::Chart(words) => chart(rt, settings, words),
+        Command::Lint(script) => lint(rt, script),
+        Command::Decode(words) => decode(rt, config_of(rt, settings)?, words),
+        Command::List(words) => list(rt, voice, &config_of(rt, settings)?, words),
+        Command::Split(words) => split(rt, &config_of(rt, settings)?, words),
+        Command::SplitEach(words) => split_all(rt, &config_of(rt, settings)?, words),
+        Command::JoinLayout(words) => join_layout(rt, voice, &config_of(rt, settings)?, words),
+        Command::Join(words) => joined(rt, voice, &config_of(rt, settings)?, words),
+        Command::Link(words) => link(rt, voice, words),
+        Command::Extract(words) => extract(rt, voice, &config_of(rt, settings)?, words),
+        Command::Request(words) => request(rt, &config_of(rt, settings)?, words),
+        Command::Ground(words) => ground(
+            rt,
+            threads,
+            process,
+            voice,
+            &config_of(rt, settings)?,
+            words,
+        ),
+        Command::Pass(words) => pass(rt, threads, process, voice, settings, words),
+        Command::Spacecraft(words) => spacecraft::<T>(rt, process, settings, words),
+        Command::Verify(words) => verify(rt, voice, words),
+        Command::Compare(words) => compare(rt, voice, &config_of(rt, settings)?, words),
+        Command::Checksum(words) => checksum(rt, words),
     }
 }
 
 // Joins one message, or each into a folder.
-fn joined(
-    rt: &HostRuntime,
+fn joined<R: Machine>(
+    rt: &R,
     voice: Voice,
     config: &Config,
     words: &JoinWords<'_>,
@@ -159,7 +153,7 @@ fn joined(
     requires { IsConfig config.now }
 {
     match words.each {
-        Some(folder) => eaches::join_each(rt, voice, config, words, folder),
-        None => joins::join(rt, voice, config, words),
+        Some(folder) => join_each(rt, voice, config, words, folder),
+        None => join(rt, voice, config, words),
     }
 }

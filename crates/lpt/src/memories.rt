@@ -1,11 +1,9 @@
 //! The memories whose first contents are files.
 
-use crate::end::Failure;
-use crate::input::{octets_from, opened};
 use lpt_command_line::SpacecraftWords;
+use lpt_io::{Failure, Fault, octets_from, opened};
 use lpt_memory::{MEMORY_LIMIT, Memories, SIZE_LIMIT};
 use lpt_packet::Octets;
-use lpt_tool::ToolFault;
 use std::fs;
 
 /// The memories whose first contents are the files that the words name.
@@ -18,7 +16,7 @@ pub fn memories_of(rt: &HostRuntime, words: &SpacecraftWords<'_>) -> Result<Memo
         let place = format!(in rt.alloc();
             "--memory: there can be at most {MEMORY_LIMIT} memories, not {count}"
         );
-        return Err(Failure::at(ToolFault::Config, place));
+        return Err(Failure::at(Fault::Config, place));
     }
     let mut list = Vec::new(rt.alloc());
     match read_memories(rt, words, &mut list) {
@@ -30,7 +28,7 @@ pub fn memories_of(rt: &HostRuntime, words: &SpacecraftWords<'_>) -> Result<Memo
     }
     match Memories::new(list) {
         Ok(memories) => Ok(memories),
-        Err(_) => Err(Failure::from(ToolFault::Config)),
+        Err(_) => Err(Failure::from(Fault::Config)),
     }
 }
 
@@ -45,11 +43,11 @@ fn read_memories(
             let place = format!(in rt.alloc();
                 "--memory {id}={file}: there is a memory {id} already"
             );
-            return Err(Failure::at(ToolFault::Config, place));
+            return Err(Failure::at(Fault::Config, place));
         }
         let octets = read_one(rt, file)?;
         if list.push((*id, octets)).is_err() {
-            return Err(Failure::from(ToolFault::Memory));
+            return Err(Failure::from(Fault::Memory));
         }
     }
     Ok(())
@@ -76,11 +74,11 @@ fn read_one(rt: &HostRuntime, file: &str) -> Result<Octets, Failure> {
 }
 
 // That a file of so many octets can't be a memory.
-fn wrong_size(rt: &HostRuntime, file: &str, len: u64) -> Failure {
+fn wrong_size(rt: &impl AllocGlobal, file: &str, len: u64) -> Failure {
     let place = if len == 0 {
         format!(in rt.alloc(); "{file}: it is empty, and a memory has at least one octet")
     } else {
         format!(in rt.alloc(); "{file}: {len} octets, and a memory has at most {SIZE_LIMIT}")
     };
-    Failure::at(ToolFault::Config, place)
+    Failure::at(Fault::Config, place)
 }

@@ -2,26 +2,25 @@
 
 ghost use Rattle.std.specs.Prelude.{None};
 
-use crate::end::Failure;
-use lpt_spacecraft::Clock;
-use lpt_tool::ToolFault;
+use lpt_io::{Failure, Fault};
+use std::rt::Clock;
 use std::time::Instant;
 
 /// Ticks that come every so many milliseconds, as the machine's clock counts them.
 #[derive(Drop)]
-pub struct Ticker {
-    rt: HostRuntime,
+pub struct Ticker<R> {
+    rt: R,
     begun: Instant,
     millis: u64,
     // How many ticks were told of.
     told: u64,
 }
 
-impl Ticker {
+impl<R: Clock + AllocGlobal + Copy> Ticker<R> {
     /// A clock whose ticks come every so many milliseconds from now on; at 0 never.
     ///
     /// Errors: `Read` if the machine has no clock.
-    pub fn new(rt: &HostRuntime, millis: u32) -> Result<Self, Failure> {
+    pub fn new(rt: &R, millis: u32) -> Result<Self, Failure> {
         match Instant::now(rt) {
             Ok(begun) => Ok(Ticker {
                 rt: *rt,
@@ -31,13 +30,13 @@ impl Ticker {
             }),
             Err(error) => {
                 let place = format!(in rt.alloc(); "the clock: {error}");
-                Err(Failure::at(ToolFault::Read, place))
+                Err(Failure::at(Fault::Read, place))
             }
         }
     }
 }
 
-impl Clock for Ticker {
+impl<R: Clock> lpt_spacecraft::Clock for Ticker<R> {
     ghost answers = { λ _. None };
 
     fn due(&mut self) -> u64 {

@@ -1,8 +1,7 @@
 //! The commands that write requests to a memory, and those that say what became of them.
 
 use crate::commands::{COUNT, JSON, QUIET, TEXT, U8};
-use crate::grounds::GROUND;
-use crate::row::{Configured, Family, Named, Need, Row, Word};
+use crate::row::{Configured, Named, Need, Row, Word};
 use clap::ArgAction;
 use clap::builder::ValueParser;
 
@@ -133,55 +132,48 @@ const CHECKSUM: Row = Row {
 /// The commands that look at reports.
 pub(crate) static COMPARISONS: [Row; 3] = [VERIFY, COMPARE, CHECKSUM];
 
-/// The commands with others below them.
-pub(crate) static FAMILIES: [Family; 2] = [
-    GROUND,
-    Family {
-        name: "request",
-        about: "Write telecommands that load, dump or check a memory",
-        below: &[
-            Row {
-                name: "load",
-                about: "Load octets into a memory",
-                words: &[
-                    MEMORY,
-                    ADDRESS,
-                    Word {
-                        name: "FILE",
-                        value: TEXT,
-                        need: Need::Else(&["-"]),
-                        help: "The octets' file, or - for standard input",
-                    },
-                ],
-                named: &[
-                    Named {
-                        name: "area",
-                        value: TEXT,
-                        behind: &["ADDRESS", "FILE"],
-                        action: ArgAction::Append,
-                        other: &[],
-                        help: "Load another file to another address, in the same requests",
-                    },
-                    EACH,
-                    ACK,
-                    COUNT,
-                ],
-                configured: Configured::Packets,
-            },
-            Row {
-                name: "dump",
-                about: "Ask for octets of a memory",
-                words: &[MEMORY, PLACES],
-                named: &[EACH, ACK, COUNT],
-                configured: Configured::Packets,
-            },
-            Row {
-                name: "check",
-                about: "Ask for checksums of a memory",
-                words: &[MEMORY, PLACES],
-                named: &[EACH, ACK, COUNT],
-                configured: Configured::Packets,
+/// The commands below `request`.
+pub(crate) static REQUEST_ROWS: [Row; 3] = [
+    Row {
+        name: "load",
+        about: "Load octets into a memory",
+        words: &[
+            MEMORY,
+            ADDRESS,
+            Word {
+                name: "FILE",
+                value: TEXT,
+                need: Need::Else(&["-"]),
+                help: "The octets' file, or - for standard input",
             },
         ],
+        named: &[
+            Named {
+                name: "area",
+                value: TEXT,
+                behind: &["ADDRESS", "FILE"],
+                action: ArgAction::Append,
+                other: &[],
+                help: "Load another file to another address, in the same requests",
+            },
+            EACH,
+            ACK,
+            COUNT,
+        ],
+        configured: Configured::Packets,
+    },
+    Row {
+        name: "dump",
+        about: "Ask for octets of a memory",
+        words: &[MEMORY, PLACES],
+        named: &[EACH, ACK, COUNT],
+        configured: Configured::Packets,
+    },
+    Row {
+        name: "check",
+        about: "Ask for checksums of a memory",
+        words: &[MEMORY, PLACES],
+        named: &[EACH, ACK, COUNT],
+        configured: Configured::Packets,
     },
 ];

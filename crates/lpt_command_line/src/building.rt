@@ -1,7 +1,8 @@
 //! The program as clap reads it, from the rows of its commands.
 
-use crate::asking::{COMPARISONS, FAMILIES};
+use crate::asking::{COMPARISONS, REQUEST_ROWS};
 use crate::commands::COMMANDS;
+use crate::grounds::{GROUND_ROWS, PASS_ROWS};
 use crate::passes::PASSES;
 use crate::row::{Configured, Family, Named, Row, Word};
 use crate::setting_words::{PASS_SETTINGS, SETTINGS};
@@ -30,11 +31,12 @@ Examples:
 
 Statuses:
   0  everything was done
-  1  an event or a line was refused, a message isn't whole or can't be sent, or octets are no packet
+  1  something was refused, failed, differs or isn't whole, or octets are no packet
   2  the command line, a line of the script, HEX or the configuration can't be read
   3  a file can't be read, the output can't be written, memory ran out, or threads failed
 
-docs/FILES.md has commands by task, docs/SCRIPT.md scripts and configuration; man/lpt.1 is this.";
+docs/FILES.md has commands by task, docs/SCRIPT.md scripts and configuration.
+man/lpt.1 is the manual page.";
 
 /// The program and its commands, or that one alone whose name is asked for, if there is one. The
 /// only error is out of memory.
@@ -58,20 +60,63 @@ fn commands_named<'a>(alloc: Global, name: Option<&str>) -> Result<Vec<Command<'
     let mut commands = commands_of(alloc, name, &COMMANDS)?;
     add_commands(alloc, name, &mut commands, &PASSES)?;
     add_commands(alloc, name, &mut commands, &COMPARISONS)?;
-    add_families(alloc, name, &mut commands)?;
+    add_ground(alloc, name, &mut commands)?;
+    add_pass(alloc, name, &mut commands)?;
+    add_request(alloc, name, &mut commands)?;
     Ok(commands)
 }
 
-// Adds those that have others below them.
-fn add_families<'a>(
+// Adds `ground`.
+fn add_ground<'a>(
     alloc: Global,
-    name: Option<&str>,
+    asked: Option<&str>,
     commands: &mut Vec<Command<'a>>,
 ) -> Result<(), AllocError> {
-    for family in &FAMILIES {
-        if is_meant(name, family.name) {
-            commands.push(family_of(alloc, family)?)?;
-        }
+    let family = Family {
+        name: "ground",
+        about: "Send requests to a memory until reports settle them",
+        below: &GROUND_ROWS,
+    };
+    add_family(alloc, asked, commands, family)
+}
+
+// Adds `pass`.
+fn add_pass<'a>(
+    alloc: Global,
+    asked: Option<&str>,
+    commands: &mut Vec<Command<'a>>,
+) -> Result<(), AllocError> {
+    let family = Family {
+        name: "pass",
+        about: "Carry requests to a spacecraft over links that lose, all in one process",
+        below: &PASS_ROWS,
+    };
+    add_family(alloc, asked, commands, family)
+}
+
+// Adds `request`.
+fn add_request<'a>(
+    alloc: Global,
+    asked: Option<&str>,
+    commands: &mut Vec<Command<'a>>,
+) -> Result<(), AllocError> {
+    let family = Family {
+        name: "request",
+        about: "Write telecommands that load, dump or check a memory",
+        below: &REQUEST_ROWS,
+    };
+    add_family(alloc, asked, commands, family)
+}
+
+// Adds a command with others below it.
+fn add_family<'a>(
+    alloc: Global,
+    asked: Option<&str>,
+    commands: &mut Vec<Command<'a>>,
+    family: Family,
+) -> Result<(), AllocError> {
+    if is_meant(asked, family.name) {
+        commands.push(family_of(alloc, family)?)?;
     }
     Ok(())
 }
@@ -85,7 +130,7 @@ fn is_meant(asked: Option<&str>, name: &str) -> bool {
 }
 
 // A command with those below it.
-fn family_of<'a>(alloc: Global, family: &'a Family) -> Result<Command<'a>, AllocError> {
+fn family_of<'a>(alloc: Global, family: Family) -> Result<Command<'a>, AllocError> {
     let below = commands_of(alloc, None, family.below)?;
     Command::new(alloc, family.name)
         .about(family.about)

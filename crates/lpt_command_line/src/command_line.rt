@@ -7,6 +7,7 @@ use crate::file_words::{JoinWords, ListWords, check_order, join_words, list_word
 use crate::ground_words::{GroundWords, ground_words};
 use crate::layout_words::{DecodeWords, decode_words};
 use crate::link_words::{LinkWords, link_words};
+use crate::pass_words::{PassWords, pass_words};
 use crate::request_words::{RequestWords, request_words};
 use crate::setting_words::{SettingWords, setting_words};
 use crate::spacecraft_words::{SpacecraftWords, spacecraft_words};
@@ -61,6 +62,8 @@ pub enum Command<'a> {
     Request(RequestWords<'a>),
     /// `ground load|dump|check MEMORY ADDRESS ..`.
     Ground(GroundWords<'a>),
+    /// `pass load|dump|check MEMORY ADDRESS ..`.
+    Pass(PassWords<'a>),
     /// `spacecraft`.
     Spacecraft(SpacecraftWords<'a>),
     /// `verify REQUESTS [REPORTS]..`.
@@ -148,7 +151,8 @@ fn command_below<'a>(
     words: &ArgMatches<'a>,
 ) -> Result<Command<'a>, WordFault<'a>> {
     match above {
-        "ground" => Ok(Command::Ground(ground_words(name, words)?)),
+        "ground" => Ok(Command::Ground(ground_words(alloc, name, words)?)),
+        "pass" => Ok(Command::Pass(pass_words(alloc, name, words)?)),
         _ => Ok(Command::Request(request_words(alloc, name, words)?)),
     }
 }

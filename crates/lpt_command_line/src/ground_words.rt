@@ -4,20 +4,19 @@ use crate::file_words::{STANDARD, count_in};
 use crate::request_words::{address_in, length_in};
 use crate::word_fault::WordFault;
 use clap::ArgMatches;
+use std::alloc::Global;
 
 /// What `ground` asks for.
-#[derive(Clone, Copy)]
+#[derive(Drop)]
 pub struct GroundWords<'a> {
     /// The memory's identifier.
     pub memory: u8,
-    /// The address of the first octet.
-    pub address: u32,
     /// What is to be done.
     pub job: Job,
-    /// The file of the octets: what is loaded or compared, or where a dump is written.
-    pub file: &'a str,
-    /// The pass's own source, at least 1.
-    pub source: u16,
+    /// Which octets of the memory, and their files; at least one.
+    pub areas: Vec<AreaWords<'a>>,
+    /// The pass's own source.
+    pub source: SourceWords<'a>,
     /// The first sequence count, 0 to 16,383.
     pub count: u16,
     /// How many milliseconds nothing comes before what is open is sent again.
@@ -28,76 +27,182 @@ pub struct GroundWords<'a> {
     pub up: Option<&'a str>,
     /// The file in which it is kept what is settled.
     pub kept: Option<&'a str>,
+    /// Whether each line on standard error is an object of JSON.
+    pub json: bool,
+}
+
+/// Octets of a memory, and their file.
+#[derive(Clone, Copy)]
+pub struct AreaWords<'a> {
+    /// The address of the first octet.
+    pub address: u32,
+    /// How many octets are dumped, at least one; 0 if the file says how many they are.
+    pub len: u32,
+    /// The file: what is loaded or compared, or where a dump is written.
+    pub file: &'a str,
+}
+
+/// Where a pass has its own source from.
+#[derive(Clone, Copy)]
+pub enum SourceWords<'a> {
+    /// It is this one, at least 1.
+    Given(u16),
+    /// It is the next one by this file, which names the last.
+    Next(&'a str),
 }
 
 /// What is carried to its end.
 #[derive(Clone, Copy)]
 pub enum Job {
-    /// The memory takes the octets of a file.
+    /// The memory takes the octets of files.
     Load {
         /// Whether a report of start counts as one of completion.
         starts: bool,
         /// Whether they are dumped then, and compared.
         verify: bool,
     },
-    /// Octets of the memory become a file.
-    Dump {
-        /// How many octets, at least one.
-        len: u32,
-    },
-    /// The octets of a file are compared with checksums of the memory.
+    /// Octets of the memory become files.
+    Dump,
+    /// The octets of files are compared with checksums of the memory.
     Check,
 }
 
 /// What the words of the command of this name below `ground` ask for.
 ///
-/// Errors: what is wrong with them.
+/// Errors: what is wrong with them, and out of memory.
 pub fn ground_words<'a>(
+    alloc: Global,
     name: &str,
     matches: &ArgMatches<'a>,
 ) -> Result<GroundWords<'a>, WordFault<'a>> {
-    let Some(source) = matches.get_one("source") else {
-        return Err(WordFault::Wanted("--source <N>"));
+    let source = source_in(matches)?;
+    let areas = match name {
+        "dump" => dumped_areas(alloc, matches)?,
+        _ => filed_areas(alloc, matches)?,
     };
-    Ok(GroundWords {
-        memory: matches.get_one("MEMORY").ok_or(WordFault::Missing)?,
-        address: address_in(matches.get_str("ADDRESS").ok_or(WordFault::Missing)?)?,
-        job: job_in(name, matches)?,
-        file: file_in(name, matches)?,
+    ground_with(name, matches, source, areas).ok_or(WordFault::Missing)
+}
+
+// What these words ask for, of these areas.
+fn ground_with<'a>(
+    name: &str,
+    matches: &ArgMatches<'a>,
+    source: SourceWords<'a>,
+    areas: Vec<AreaWords<'a>>,
+) -> Option<GroundWords<'a>> {
+    Some(GroundWords {
+        memory: matches.get_one("MEMORY")?,
+        job: job_in(name, matches),
+        areas,
         source,
-        count: count_in(matches).ok_or(WordFault::Missing)?,
-        wait: matches.get_one("wait").ok_or(WordFault::Missing)?,
-        tries: matches.get_one("tries").ok_or(WordFault::Missing)?,
+        count: count_in(matches)?,
+        wait: matches.get_one("wait")?,
+        tries: matches.get_one("tries")?,
         up: matches.get_str("up"),
         kept: matches.get_str("job"),
+        json: matches.get_flag("json"),
     })
 }
 
-// What the command of this name does.
-fn job_in<'a>(name: &str, matches: &ArgMatches<'a>) -> Result<Job, WordFault<'a>> {
-    match name {
-        "load" => Ok(Job::Load {
-            starts: matches.get_str("ack") == Some("10"),
-            verify: matches.get_flag("verify"),
-        }),
-        "dump" => {
-            let len = length_in(matches.get_str("LENGTH").ok_or(WordFault::Missing)?)?;
-            Ok(Job::Dump { len })
-        }
-        _ => Ok(Job::Check),
+// Where the pass has its own source from.
+fn source_in<'a>(matches: &ArgMatches<'a>) -> Result<SourceWords<'a>, WordFault<'a>> {
+    match (matches.get_one("source"), matches.get_str("passes")) {
+        (Some(_), Some(_)) => Err(WordFault::Beside("--source <N>", "--passes <FILE>")),
+        (Some(source), None) => Ok(SourceWords::Given(source)),
+        (None, Some(path)) => Ok(SourceWords::Next(path)),
+        (None, None) => Err(WordFault::Wanted("--source <N>")),
     }
 }
 
-// The path of the octets; standard input is what comes down.
-fn file_in<'a>(name: &str, matches: &ArgMatches<'a>) -> Result<&'a str, WordFault<'a>> {
-    if name == "dump" {
-        return matches
-            .get_str("to")
-            .ok_or(WordFault::Wanted("--to <FILE>"));
+// What the command of this name does.
+fn job_in(name: &str, matches: &ArgMatches<'_>) -> Job {
+    match name {
+        "load" => Job::Load {
+            starts: matches.get_str("ack") == Some("10"),
+            verify: matches.get_flag("verify"),
+        },
+        "dump" => Job::Dump,
+        _ => Job::Check,
     }
-    match matches.get_str("FILE") {
-        None => Err(WordFault::Missing),
-        Some(STANDARD) => Err(WordFault::Twice),
-        Some(file) => Ok(file),
+}
+
+// The areas whose octets files have.
+fn filed_areas<'a>(
+    alloc: Global,
+    matches: &ArgMatches<'a>,
+) -> Result<Vec<AreaWords<'a>>, WordFault<'a>> {
+    let mut areas = Vec::new(alloc);
+    let (Some(address), Some(file)) = (matches.get_str("ADDRESS"), matches.get_str("FILE")) else {
+        return Err(WordFault::Missing);
+    };
+    add_area(&mut areas, filed_area(address, file)?)?;
+    for pair in matches.get_strs("area").unwrap_or(&[]).chunks(2) {
+        let [address, file] = pair else {
+            return Err(WordFault::Missing);
+        };
+        add_area(&mut areas, filed_area(address, file)?)?;
     }
+    Ok(areas)
+}
+
+fn add_area<'a>(areas: &mut Vec<AreaWords<'a>>, area: AreaWords<'a>) -> Result<(), WordFault<'a>> {
+    match areas.push(area) {
+        Ok(()) => Ok(()),
+        Err(_) => Err(WordFault::Memory),
+    }
+}
+
+// The area of a file at an address; standard input is what comes down.
+fn filed_area<'a>(address: &'a str, file: &'a str) -> Result<AreaWords<'a>, WordFault<'a>> {
+    if file == STANDARD {
+        return Err(WordFault::Twice);
+    }
+    let address = address_in(address)?;
+    Ok(AreaWords {
+        address,
+        len: 0,
+        file,
+    })
+}
+
+// The areas that become files, each one of its own.
+fn dumped_areas<'a>(
+    alloc: Global,
+    matches: &ArgMatches<'a>,
+) -> Result<Vec<AreaWords<'a>>, WordFault<'a>> {
+    let mut areas = Vec::new(alloc);
+    let (Some(address), Some(len)) = (matches.get_str("ADDRESS"), matches.get_str("LENGTH")) else {
+        return Err(WordFault::Missing);
+    };
+    let Some(file) = matches.get_str("to") else {
+        return Err(WordFault::Wanted("--to <FILE>"));
+    };
+    add_area(&mut areas, dumped_area(address, len, file)?)?;
+    for words in matches.get_strs("area").unwrap_or(&[]).chunks(3) {
+        let [address, len, file] = words else {
+            return Err(WordFault::Missing);
+        };
+        let area = dumped_area(address, len, file)?;
+        if areas
+            .iter()
+            .any(|known: &AreaWords| known.file == area.file)
+        {
+            return Err(WordFault::SameFile(area.file));
+        }
+        add_area(&mut areas, area)?;
+    }
+    Ok(areas)
+}
+
+// The area of so many octets at an address that becomes a file.
+fn dumped_area<'a>(
+    address: &'a str,
+    len: &'a str,
+    file: &'a str,
+) -> Result<AreaWords<'a>, WordFault<'a>> {
+    Ok(AreaWords {
+        address: address_in(address)?,
+        len: length_in(len)?,
+        file,
+    })
 }

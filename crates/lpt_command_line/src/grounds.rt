@@ -1,8 +1,9 @@
 //! The commands that carry what is asked of a memory to its end.
 
 use crate::asking::{ADDRESS, MEMORY};
-use crate::commands::{COUNT, QUIET, TEXT};
-use crate::row::{Configured, Family, Named, Need, Row, Word};
+use crate::commands::{COUNT, JSON, QUIET, TEXT};
+use crate::passes::{DAMAGE, DELAY, LOSE, MEMORY as CRAFT_MEMORY, REPEAT, SAVE, SEED, STATE};
+use crate::row::{Configured, Named, Need, Row, Word};
 use clap::ArgAction;
 use clap::builder::ValueParser;
 
@@ -26,7 +27,12 @@ const WAIT: Named = Named {
     behind: &["MS"],
     action: ArgAction::Set,
     other: &["1000"],
-    help: "How long nothing comes before what is open is sent again: longer than a round trip",
+    help: "Send again what is open if nothing came for so long: more than a round trip",
+};
+
+const SHORT_WAIT: Named = Named {
+    other: &["200"],
+    ..WAIT
 };
 
 const TRIES: Named = Named {
@@ -35,7 +41,7 @@ const TRIES: Named = Named {
     behind: &["N"],
     action: ArgAction::Set,
     other: &["10"],
-    help: "After how many such waits in a row that settle nothing it gives up",
+    help: "Give up after so many waits in a row that settled nothing",
 };
 
 const UP: Named = Named {
@@ -54,6 +60,33 @@ const JOB: Named = Named {
     action: ArgAction::Set,
     other: &[],
     help: "Keep what is settled in this file, so that the same command goes on from it",
+};
+
+const PASSES: Named = Named {
+    name: "passes",
+    value: TEXT,
+    behind: &["FILE"],
+    action: ArgAction::Set,
+    other: &[],
+    help: "Take the next source by this file, which keeps the last, in place of --source",
+};
+
+const AREA: Named = Named {
+    name: "area",
+    value: TEXT,
+    behind: &["ADDRESS", "FILE"],
+    action: ArgAction::Append,
+    other: &[],
+    help: "Another file at another address, in the same pass",
+};
+
+const DUMPED_AREA: Named = Named {
+    name: "area",
+    value: TEXT,
+    behind: &["ADDRESS", "LENGTH", "FILE"],
+    action: ArgAction::Append,
+    other: &[],
+    help: "Other octets and their file, in the same pass",
 };
 
 const ACK: Named = Named {
@@ -80,34 +113,122 @@ const TO: Named = Named {
     behind: &["FILE"],
     action: ArgAction::Set,
     other: &[],
-    help: "Where the octets are written, once all have come",
+    help: "Where the octets are written once all have come; must be given",
 };
 
-/// `ground`.
-pub(crate) const GROUND: Family = Family {
-    name: "ground",
-    about: "Send requests to a memory again and again, until reports tell their end",
-    below: &[
-        Row {
-            name: "load",
-            about: "Load a file into a memory, and end once all of it is there",
-            words: &[MEMORY, ADDRESS, FILE],
-            named: &[ACK, VERIFY, COUNT, WAIT, TRIES, UP, JOB, QUIET],
-            configured: Configured::Pass,
-        },
-        Row {
-            name: "dump",
-            about: "Fetch octets of a memory, and write them once all have come",
-            words: &[MEMORY, ADDRESS, LENGTH],
-            named: &[TO, COUNT, WAIT, TRIES, UP, JOB, QUIET],
-            configured: Configured::Pass,
-        },
-        Row {
-            name: "check",
-            about: "Compare a file with checksums of a memory",
-            words: &[MEMORY, ADDRESS, FILE],
-            named: &[COUNT, WAIT, TRIES, UP, JOB, QUIET],
-            configured: Configured::Pass,
-        },
-    ],
-};
+/// The commands below `ground`.
+pub(crate) static GROUND_ROWS: [Row; 3] = [
+    Row {
+        name: "load",
+        about: "Load a file into a memory, and end once all of it is there",
+        words: &[MEMORY, ADDRESS, FILE],
+        named: &[
+            AREA, PASSES, ACK, VERIFY, COUNT, WAIT, TRIES, UP, JOB, JSON, QUIET,
+        ],
+        configured: Configured::Pass,
+    },
+    Row {
+        name: "dump",
+        about: "Fetch octets of a memory, and write them once all have come",
+        words: &[MEMORY, ADDRESS, LENGTH],
+        named: &[
+            TO,
+            DUMPED_AREA,
+            PASSES,
+            COUNT,
+            WAIT,
+            TRIES,
+            UP,
+            JOB,
+            JSON,
+            QUIET,
+        ],
+        configured: Configured::Pass,
+    },
+    Row {
+        name: "check",
+        about: "Compare a file with checksums of a memory",
+        words: &[MEMORY, ADDRESS, FILE],
+        named: &[AREA, PASSES, COUNT, WAIT, TRIES, UP, JOB, JSON, QUIET],
+        configured: Configured::Pass,
+    },
+];
+
+/// The commands below `pass`.
+pub(crate) static PASS_ROWS: [Row; 3] = [
+    Row {
+        name: "load",
+        about: "Load a file into a memory over links that lose",
+        words: &[MEMORY, ADDRESS, FILE],
+        named: &[
+            AREA,
+            PASSES,
+            ACK,
+            VERIFY,
+            COUNT,
+            SHORT_WAIT,
+            TRIES,
+            JOB,
+            JSON,
+            CRAFT_MEMORY,
+            SAVE,
+            STATE,
+            LOSE,
+            REPEAT,
+            DAMAGE,
+            DELAY,
+            SEED,
+            QUIET,
+        ],
+        configured: Configured::Pass,
+    },
+    Row {
+        name: "dump",
+        about: "Fetch octets of a memory over links that lose",
+        words: &[MEMORY, ADDRESS, LENGTH],
+        named: &[
+            TO,
+            DUMPED_AREA,
+            PASSES,
+            COUNT,
+            SHORT_WAIT,
+            TRIES,
+            JOB,
+            JSON,
+            CRAFT_MEMORY,
+            SAVE,
+            STATE,
+            LOSE,
+            REPEAT,
+            DAMAGE,
+            DELAY,
+            SEED,
+            QUIET,
+        ],
+        configured: Configured::Pass,
+    },
+    Row {
+        name: "check",
+        about: "Compare a file with checksums of a memory over links that lose",
+        words: &[MEMORY, ADDRESS, FILE],
+        named: &[
+            AREA,
+            PASSES,
+            COUNT,
+            SHORT_WAIT,
+            TRIES,
+            JOB,
+            JSON,
+            CRAFT_MEMORY,
+            SAVE,
+            STATE,
+            LOSE,
+            REPEAT,
+            DAMAGE,
+            DELAY,
+            SEED,
+            QUIET,
+        ],
+        configured: Configured::Pass,
+    },
+];

@@ -7,11 +7,18 @@ use std::alloc::Global;
 /// So many millionths are one percent.
 const PERCENT: u32 = 10_000;
 
-/// What `link` asks for. The odds are millionths.
+/// What `link` asks for.
 #[derive(Drop)]
 pub struct LinkWords<'a> {
     /// The paths of the packets, one behind the other, or `-` for standard input.
     pub files: Vec<&'a str>,
+    /// What becomes of them.
+    pub odds: OddsWords,
+}
+
+/// What becomes of packets on a link. The odds are millionths.
+#[derive(Clone, Copy)]
+pub struct OddsWords {
     /// How often a packet isn't written.
     pub lose: u32,
     /// How often one is written twice.
@@ -34,6 +41,13 @@ pub fn link_words<'a>(
     let files = matches.get_strs("FILE").ok_or(WordFault::Missing)?;
     Ok(LinkWords {
         files: Vec::from_slice(alloc, files)?,
+        odds: odds_words(matches)?,
+    })
+}
+
+// What is to become of packets on a link.
+pub(crate) fn odds_words<'a>(matches: &ArgMatches<'a>) -> Result<OddsWords, WordFault<'a>> {
+    Ok(OddsWords {
         lose: odds_in(matches, "lose")?,
         repeat: odds_in(matches, "repeat")?,
         damage: odds_in(matches, "damage")?,

@@ -5,54 +5,84 @@ use crate::row::{Configured, Named, Row};
 use clap::ArgAction;
 use clap::builder::ValueParser;
 
+pub(crate) const LOSE: Named = Named {
+    name: "lose",
+    value: TEXT,
+    behind: &["P"],
+    action: ArgAction::Set,
+    other: &["0%"],
+    help: "The share of packets that get lost",
+};
+
+pub(crate) const REPEAT: Named = Named {
+    name: "repeat",
+    value: TEXT,
+    behind: &["P"],
+    action: ArgAction::Set,
+    other: &["0%"],
+    help: "The share of packets that are written twice",
+};
+
+pub(crate) const DAMAGE: Named = Named {
+    name: "damage",
+    value: TEXT,
+    behind: &["P"],
+    action: ArgAction::Set,
+    other: &["0%"],
+    help: "The share of packets in which bits change, so that the checksum is wrong",
+};
+
+pub(crate) const DELAY: Named = Named {
+    name: "delay",
+    value: ValueParser::Signed(0, 1000),
+    behind: &["N"],
+    action: ArgAction::Set,
+    other: &["0"],
+    help: "Delay packets, each by at most N others, 0 to 1000",
+};
+
+pub(crate) const SEED: Named = Named {
+    name: "seed",
+    value: U64,
+    behind: &["S"],
+    action: ArgAction::Set,
+    other: &["0"],
+    help: "The random seed; the same seed gives the same run",
+};
+
+pub(crate) const MEMORY: Named = Named {
+    name: "memory",
+    value: TEXT,
+    behind: &["ID=FILE"],
+    action: ArgAction::Append,
+    other: &[],
+    help: "The ID of a memory, and the file of its first content, 1 to 1048576 octets",
+};
+
+pub(crate) const SAVE: Named = Named {
+    name: "save",
+    value: ValueParser::Bool,
+    behind: &[],
+    action: ArgAction::SetTrue,
+    other: &[],
+    help: "Write a memory back to its file after each load, and all of them at the end",
+};
+
+pub(crate) const STATE: Named = Named {
+    name: "state",
+    value: TEXT,
+    behind: &["FILE"],
+    action: ArgAction::Set,
+    other: &[],
+    help: "Keep the state and the memories in this file, and go on from it next time",
+};
+
 /// `link`.
 const LINK: Row = Row {
     name: "link",
     about: "Lose, repeat, delay and damage packets, as a link does",
     words: &[PACKETS],
-    named: &[
-        Named {
-            name: "lose",
-            value: TEXT,
-            behind: &["P"],
-            action: ArgAction::Set,
-            other: &["0%"],
-            help: "The share of packets that get lost",
-        },
-        Named {
-            name: "repeat",
-            value: TEXT,
-            behind: &["P"],
-            action: ArgAction::Set,
-            other: &["0%"],
-            help: "The share of packets that are written twice",
-        },
-        Named {
-            name: "damage",
-            value: TEXT,
-            behind: &["P"],
-            action: ArgAction::Set,
-            other: &["0%"],
-            help: "The share of packets in which bits change, so that the checksum is wrong",
-        },
-        Named {
-            name: "delay",
-            value: ValueParser::Signed(0, 1000),
-            behind: &["N"],
-            action: ArgAction::Set,
-            other: &["0"],
-            help: "Delay packets, each by at most N others, 0 to 1000",
-        },
-        Named {
-            name: "seed",
-            value: U64,
-            behind: &["S"],
-            action: ArgAction::Set,
-            other: &["0"],
-            help: "The random seed; the same seed gives the same run",
-        },
-        QUIET,
-    ],
+    named: &[LOSE, REPEAT, DAMAGE, DELAY, SEED, QUIET],
     configured: Configured::No,
 };
 
@@ -62,22 +92,8 @@ const SPACECRAFT: Row = Row {
     about: "Play the spacecraft: take packets, execute requests, write reports",
     words: &[],
     named: &[
-        Named {
-            name: "memory",
-            value: TEXT,
-            behind: &["ID=FILE"],
-            action: ArgAction::Append,
-            other: &[],
-            help: "The ID of a memory, and the file of its first content, 1 to 1048576 octets",
-        },
-        Named {
-            name: "save",
-            value: ValueParser::Bool,
-            behind: &[],
-            action: ArgAction::SetTrue,
-            other: &[],
-            help: "Write a memory back to its file after each load, and all of them at the end",
-        },
+        MEMORY,
+        SAVE,
         Named {
             name: "tick-every",
             value: U64,
@@ -118,14 +134,7 @@ const SPACECRAFT: Row = Row {
             other: &[],
             help: "Report on standard error what becomes of each packet and request",
         },
-        Named {
-            name: "state",
-            value: TEXT,
-            behind: &["FILE"],
-            action: ArgAction::Set,
-            other: &[],
-            help: "Keep the state and the memories in this file, and go on from it next time",
-        },
+        STATE,
     ],
     configured: Configured::Nodes,
 };

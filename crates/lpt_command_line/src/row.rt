@@ -32,6 +32,7 @@ pub(crate) enum Configured {
 }
 
 /// A command with commands below it, and without words of its own.
+#[derive(Clone, Copy)]
 pub(crate) struct Family {
     /// Its name.
     pub(crate) name: &'static str,

@@ -81,7 +81,7 @@ pub(crate) static PASS_SETTINGS: [Named; 4] = [
         behind: &["N"],
         action: ArgAction::Set,
         other: &[],
-        help: "The pass's own source, 1 to 65535, which no pass had before",
+        help: "A source that no earlier pass had, 1 to 65535; this or --passes must be given",
     },
     PART_SIZE,
 ];

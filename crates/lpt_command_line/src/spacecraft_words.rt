@@ -37,16 +37,8 @@ pub fn spacecraft_words<'a>(
     if every.is_some() && tick.is_some() {
         return Err(WordFault::Beside("--tick <MS>", "--tick-every <N>"));
     }
-    let mut memories = Vec::new(alloc);
-    if let Some(words) = matches.get_strs("memory") {
-        for word in words {
-            if memories.push(memory_in(word)?).is_err() {
-                return Err(WordFault::Memory);
-            }
-        }
-    }
     Ok(SpacecraftWords {
-        memories,
+        memories: memories_in(alloc, matches)?,
         save: matches.get_flag("save"),
         tick_every: every.unwrap_or(0),
         tick: tick.unwrap_or(0),
@@ -55,6 +47,41 @@ pub fn spacecraft_words<'a>(
         log: matches.get_flag("log"),
         state: matches.get_str("state"),
     })
+}
+
+/// What the words of a pass ask of its spacecraft: it goes on behind damage, and its clock stands.
+///
+/// Errors: `Memory`, and what is wrong with a memory's word.
+pub(crate) fn passed_words<'a>(
+    alloc: Global,
+    matches: &ArgMatches<'a>,
+) -> Result<SpacecraftWords<'a>, WordFault<'a>> {
+    Ok(SpacecraftWords {
+        memories: memories_in(alloc, matches)?,
+        save: matches.get_flag("save"),
+        tick_every: 0,
+        tick: 0,
+        reuse: 0,
+        resync: true,
+        log: false,
+        state: matches.get_str("state"),
+    })
+}
+
+// The memories that words name.
+fn memories_in<'a>(
+    alloc: Global,
+    matches: &ArgMatches<'a>,
+) -> Result<Vec<(u8, &'a str)>, WordFault<'a>> {
+    let mut memories = Vec::new(alloc);
+    if let Some(words) = matches.get_strs("memory") {
+        for word in words {
+            if memories.push(memory_in(word)?).is_err() {
+                return Err(WordFault::Memory);
+            }
+        }
+    }
+    Ok(memories)
 }
 
 // The memory that a word `ID=FILE` names.

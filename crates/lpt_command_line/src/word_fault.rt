@@ -47,6 +47,8 @@ pub enum WordFault<'a> {
     PickedTwice(&'a str),
     /// Standard input is to be read twice.
     Twice,
+    /// Two areas are to become this file.
+    SameFile(&'a str),
     /// Memory runs out.
     Memory,
 }
@@ -96,6 +98,7 @@ impl WordFault<'_> {
                 format!(in alloc; "the ID of '--parts {word}' has a list already")
             }
             WordFault::Twice => format!(in alloc; "'-' stands twice, and can be read only once"),
+            WordFault::SameFile(file) => format!(in alloc; "two areas would become {file}"),
             WordFault::Memory => format!(in alloc; "out of memory"),
         }
     }

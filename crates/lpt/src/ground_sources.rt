@@ -1,0 +1,70 @@
+//! A pass's own source.
+
+use crate::ground_notes::source_at;
+use crate::locking::locked;
+use lpt_command_line::{GroundWords, SourceWords};
+use lpt_io::{Failure, Fault, file_at, tell_text, write_for_good};
+use std::fs;
+use std::io::ErrorKind;
+
+/// The pass's own source: the one that is given, that of the job that goes on, or the next one,
+/// which is noted on the disk before it is used. None if each one had its pass, and that is told.
+///
+/// Errors: `Read` if a file can't be read, or names no source; `Write` if the source can't be
+/// noted, or another process takes one; `Memory`.
+pub fn source_of(
+    rt: &HostRuntime,
+    process: u32,
+    words: &GroundWords<'_>,
+) -> Result<Option<u16>, Failure> {
+    let path = match words.source {
+        SourceWords::Given(source) => return Ok(Some(source)),
+        SourceWords::Next(path) => path,
+    };
+    if let Some(job) = words.kept {
+        if let Some(source) = source_at(rt, job)? {
+            return Ok(Some(source));
+        }
+    }
+    let lock = locked(rt, process, path)?;
+    let taken = next_source(rt, path);
+    drop(lock);
+    taken
+}
+
+// The next source by the file at this path, where it is noted.
+fn next_source(rt: &HostRuntime, path: &str) -> Result<Option<u16>, Failure> {
+    let Some(next) = last_source(rt, path)?.checked_add(1) else {
+        tell_text(
+            rt,
+            format!(in rt.alloc(); "{path}: each source up to 65535 had its pass"),
+        );
+        return Ok(None);
+    };
+    let Ok(text) = format!(in rt.alloc(); "{next}\n") else {
+        return Err(Failure::from(Fault::Memory));
+    };
+    write_for_good(rt, path, text.as_bytes())?;
+    Ok(Some(next))
+}
+
+// The source that the file at this path names, or 0 if there is no such file.
+fn last_source(rt: &HostRuntime, path: &str) -> Result<u16, Failure> {
+    if let Err(error) = fs::metadata(rt, path) {
+        if error.kind() == ErrorKind::NotFound {
+            return Ok(0);
+        }
+    }
+    let octets = file_at(rt, path)?;
+    let number = match std::str::from_utf8(octets.as_slice()) {
+        Ok(text) => text.trim().parse().ok(),
+        Err(_) => None,
+    };
+    match number {
+        Some(last) => Ok(last),
+        None => {
+            let place = format!(in rt.alloc(); "{path}: it holds no source, 0 to 65535");
+            Err(Failure::at(Fault::Read, place))
+        }
+    }
+}

@@ -1,0 +1,196 @@
+//! A pass in one process: ground, a spacecraft, and two links that lose packets between them.
+
+ghost use Rattle.lpt_events.specs.Configs.{IsConfig};
+
+use crate::ground_notes::GroundNotes;
+use crate::ground_told::Teller;
+use crate::ground_wires::hear_source;
+use crate::grounds::{Ready, job_lock, put_over, ready_of};
+use crate::pipe::{PipeReader, PipeWriter, Unread, pipe};
+use crate::serving::{Wires, serve};
+use lpt_command_line::{OddsWords, PassWords, SettingWords};
+use lpt_events::Config;
+use lpt_io::{Failure, Fault, Status, Voice, Watched, config_of};
+use lpt_lossy::{Dice, Odds, lossy_stream};
+use lpt_text::{FromStd, StreamFault};
+use std::alloc::{AllocError, Global};
+use std::sync::Wait;
+use std::thread::{self, JoinHandle, Threads};
+use std::time::Clock;
+
+/// Carries what is asked of a memory to its end, over two links that lose packets and a spacecraft,
+/// as the process of this number.
+///
+/// Errors: as of `ground` and of `spacecraft`; the spacecraft's before ground's.
+pub fn pass<T>(
+    rt: &HostRuntime,
+    threads: &T,
+    process: u32,
+    voice: Voice,
+    settings: &SettingWords<'_>,
+    words: &PassWords<'_>,
+) -> Result<Status, Failure>
+where
+    T: Threads + Wait + Clock + Copy + Drop + Send + Sync + 'static,
+{
+    let config = config_of(rt, settings)?;
+    let lock = job_lock(rt, process, &words.ground)?;
+    let ended = fly_locked(rt, threads, process, voice, settings, words, &config);
+    drop(lock);
+    ended
+}
+
+// The same, if no other process uses the job's file.
+fn fly_locked<T>(
+    rt: &HostRuntime,
+    threads: &T,
+    process: u32,
+    voice: Voice,
+    settings: &SettingWords<'_>,
+    words: &PassWords<'_>,
+    config: &Config,
+) -> Result<Status, Failure>
+where
+    T: Threads + Wait + Clock + Copy + Drop + Send + Sync + 'static,
+    requires { IsConfig config.now }
+{
+    match ready_of(rt, process, config, &words.ground)? {
+        Some(ready) => fly(rt, threads, process, voice, settings, words, ready),
+        None => Ok(Status::Refused),
+    }
+}
+
+// The pipes between ground, the two links and the spacecraft.
+#[derive(Drop)]
+struct Pipes<T: Wait + Drop> {
+    // From ground to the link up, from that to the spacecraft, from there to the link down, and
+    // back to ground.
+    ground_up: (PipeWriter<T>, PipeReader<T>),
+    craft_up: (PipeWriter<T>, PipeReader<T>),
+    craft_down: (PipeWriter<T>, PipeReader<T>),
+    ground_down: (PipeWriter<T>, PipeReader<T>),
+}
+
+// New pipes. Once ground has ended, what still comes down is dropped; once the spacecraft has, what
+// goes up fails.
+fn new_pipes<T: Wait + Copy + Drop>(alloc: Global, waits: &T) -> Result<Pipes<T>, AllocError> {
+    Ok(Pipes {
+        ground_up: pipe(alloc, waits, Unread::Fails)?,
+        craft_up: pipe(alloc, waits, Unread::Fails)?,
+        craft_down: pipe(alloc, waits, Unread::Dropped)?,
+        ground_down: pipe(alloc, waits, Unread::Dropped)?,
+    })
+}
+
+// Carries out what is ready, with a thread for each link and for the spacecraft.
+fn fly<T>(
+    rt: &HostRuntime,
+    threads: &T,
+    process: u32,
+    voice: Voice,
+    settings: &SettingWords<'_>,
+    words: &PassWords<'_>,
+    ready: Ready,
+) -> Result<Status, Failure>
+where
+    T: Threads + Wait + Clock + Copy + Drop + Send + Sync + 'static,
+{
+    let Ok(pipes) = new_pipes(rt.alloc(), threads) else {
+        return Err(Failure::from(Fault::Memory));
+    };
+    let Pipes {
+        ground_up,
+        craft_up,
+        craft_down,
+        ground_down,
+    } = pipes;
+    let (up, from_ground) = ground_up;
+    let (to_craft, at_craft) = craft_up;
+    let (from_craft, at_link) = craft_down;
+    let (to_ground, down) = ground_down;
+    let odds = words.odds;
+    let craft = &words.craft;
+    thread::scope(
+        thread::scope_env(),
+        threads,
+        move |scope| -> Result<Status, Failure> {
+            let wires = Wires::Pipes(at_craft, from_craft);
+            let link_up = scope.spawn(move || carry_link(rt, odds, 0, from_ground, to_craft));
+            let craft = scope.spawn(move || serve(rt, process, settings, craft, wires));
+            let link_down = scope.spawn(move || carry_link(rt, odds, 1, at_link, to_ground));
+            let (Ok(link_up), Ok(craft), Ok(link_down)) = (link_up, craft, link_down) else {
+                let place = format!(in rt.alloc(); "no thread could be started");
+                return Err(Failure::at(Fault::Read, place));
+            };
+            let ended = carry_between(rt, threads, voice, words, ready, (up, down));
+            all_ended(threads, ended, craft, [link_up, link_down])
+        },
+    )
+}
+
+// Carries packets over a link, whose seed is so much more than the one that is given.
+fn carry_link<T: Wait + Drop>(
+    rt: &HostRuntime,
+    words: OddsWords,
+    way: u64,
+    from: PipeReader<T>,
+    to: PipeWriter<T>,
+) -> Result<(), StreamFault> {
+    let odds = Odds {
+        lose: words.lose,
+        repeat: words.repeat,
+        damage: words.damage,
+        delay: words.delay,
+    };
+    let mut dice = Dice::new(odds, words.seed.wrapping_add(way));
+    let mut source = FromStd::new(from);
+    let mut out = FromStd::new(Watched::new(to));
+    let carried = lossy_stream(rt.alloc(), words.delay, &mut dice, &mut source, &mut out);
+    drop(source);
+    drop(out);
+    carried?;
+    Ok(())
+}
+
+// Ground's end over these pipes. The one up is closed before what still comes is heard.
+fn carry_between<T: Threads + Wait + Clock + Copy + Drop + Send + 'static>(
+    rt: &HostRuntime,
+    threads: &T,
+    voice: Voice,
+    words: &PassWords<'_>,
+    ready: Ready,
+    (up, down): (PipeWriter<T>, PipeReader<T>),
+) -> Result<Status, Failure> {
+    let Ready { mut errand, title } = ready;
+    let words = &words.ground;
+    let teller = Teller::new(voice, words.json);
+    let notes = GroundNotes::begin(rt, teller, title.as_str(), &mut errand.first, words.kept)?;
+    let mut ears = hear_source(rt, threads, FromStd::new(down), words.wait, notes)?;
+    let out = FromStd::new(Watched::new(up));
+    let ended = put_over(rt, &mut ears, words, &mut errand, out, "the link up");
+    drop(ears);
+    drop(errand);
+    ended
+}
+
+// How it ended, once all threads have. What the spacecraft fails for comes first: then nobody reads
+// what is written to it.
+fn all_ended<T: Threads>(
+    threads: &T,
+    ground: Result<Status, Failure>,
+    craft: JoinHandle<Result<Status, Failure>>,
+    links: [JoinHandle<Result<(), StreamFault>>; 2],
+) -> Result<Status, Failure> {
+    let [link_up, link_down] = links;
+    let link_up = link_up.join(threads);
+    let craft = craft.join(threads);
+    let link_down = link_down.join(threads);
+    if let Err(failure) = craft {
+        drop(ground);
+        return Err(failure);
+    }
+    let status = ground?;
+    link_up?;
+    link_down?;
+    Ok(status)
+}

@@ -1,0 +1,4 @@
+pub mod Ends
+pub mod Faults
+pub mod Voices
+pub mod Words

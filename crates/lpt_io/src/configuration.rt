@@ -1,0 +1,142 @@
+//! The configuration, the first memories, and their file.
+
+ghost use Rattle.std.specs.Prelude.{IfOk};
+ghost use Rattle.lpt_events.specs.Configs.{IsConfig};
+
+use crate::end::Failure;
+use crate::fault::Fault;
+use crate::watched::Watched;
+use lpt_command_line::SettingWords;
+use lpt_events::{Config, Turns};
+use lpt_memory::Memories;
+use lpt_settings::{SettingsFault, read_config, why_refused};
+use lpt_text::{End, FromStd, read_text};
+use std::alloc::{AllocError, Global};
+use std::fs::File;
+use std::io::{Read, Take};
+use std::rt::Files;
+use std::str;
+
+/// The most octets that the file may have.
+const LONGEST_FILE: usize = 1_048_576;
+
+/// The configuration, the first memories, and how much a run of threads does: those of the file
+/// that the words name, or of an empty one without it. What else the words say wins over it.
+///
+/// Errors: `Read` if the file can't be opened or read; `Config` if it has more than 1,048,576
+/// octets, isn't UTF-8 or is refused; `Memory`.
+pub fn settings_of(
+    rt: &(impl Files + AllocGlobal),
+    words: &SettingWords<'_>,
+) -> Result<(Config, Memories, Turns), Failure>
+    ensures { IfOk result (λ s. IsConfig s.0) }
+{
+    let (config, memories, turns) = read_at(rt, words.file)?;
+    let config = with_words(config, words);
+    if config.fault().is_some() {
+        drop(memories);
+        return Err(Failure::from(Fault::Config));
+    }
+    Ok((config, memories, turns))
+}
+
+// A configuration where the words win over it.
+fn with_words(config: Config, words: &SettingWords<'_>) -> Config {
+    Config {
+        apid: words.apid.unwrap_or(config.apid),
+        source: words.source.unwrap_or(config.source),
+        part_size: words.part_size.unwrap_or(config.part_size),
+        mode: words.mode.unwrap_or(config.mode),
+        ..config
+    }
+}
+
+// What the file at this path says, or an empty one.
+fn read_at(
+    rt: &(impl Files + AllocGlobal),
+    path: Option<&str>,
+) -> Result<(Config, Memories, Turns), Failure> {
+    let Some(path) = path else {
+        return Ok(read_config(rt.alloc(), "")?);
+    };
+    let octets = read_file(rt, path)?;
+    match str::from_utf8(octets.as_slice()) {
+        Ok(text) => match read_config(rt.alloc(), text) {
+            Ok(read) => Ok(read),
+            Err(SettingsFault::Config) => {
+                let place = complaint(rt.alloc(), path, text);
+                Err(Failure::at(Fault::Config, place))
+            }
+            Err(fault) => Err(Failure::from(fault)),
+        },
+        Err(error) => {
+            let octet = error.valid_up_to().saturating_add(1);
+            let place = format!(in rt.alloc(); "{path}: octet {octet} isn't UTF-8");
+            Err(Failure::at(Fault::Config, place))
+        }
+    }
+}
+
+/// The same configuration alone.
+///
+/// Errors: as of `settings_of`.
+pub fn config_of(
+    rt: &(impl Files + AllocGlobal),
+    words: &SettingWords<'_>,
+) -> Result<Config, Failure>
+    ensures { IfOk result (λ c. IsConfig c) }
+{
+    let (config, memories, _) = settings_of(rt, words)?;
+    drop(memories);
+    Ok(config)
+}
+
+// Where the text of the file at this path is refused, and why.
+fn complaint(alloc: Global, path: &str, text: &str) -> Result<String, AllocError> {
+    match why_refused(alloc, text)? {
+        Some(complaint) => match complaint.line() {
+            Some(line) => format!(in alloc; "{path}:{line}: {complaint}"),
+            None => format!(in alloc; "{path}: {complaint}"),
+        },
+        None => format!(in alloc; "{path}: refused"),
+    }
+}
+
+/// The octets of the file at this path.
+///
+/// Errors: `Read` if it can't be opened or read; `Config` if it has more than 1,048,576
+/// octets; `Memory`.
+pub fn read_file(rt: &(impl Files + AllocGlobal), path: &str) -> Result<Vec<u8>, Failure> {
+    let file = match File::open(rt, path) {
+        Ok(file) => file,
+        Err(error) => {
+            let place = format!(in rt.alloc(); "{path}: {error}");
+            return Err(Failure::at(Fault::Read, place));
+        }
+    };
+    let mut source = FromStd::new(Watched::new(file.take(LONGEST_FILE as u64 + 1)));
+    let octets = read_octets(rt.alloc(), path, &mut source);
+    drop(source);
+    octets
+}
+
+// The octets of the file at this path, which was opened.
+fn read_octets<F: Read>(
+    alloc: Global,
+    path: &str,
+    source: &mut FromStd<Watched<Take<F>>>,
+) -> Result<Vec<u8>, Failure> {
+    let (octets, end) = read_text(alloc, source)?;
+    if octets.len() > LONGEST_FILE {
+        let place = format!(in alloc; "{path}: more than {LONGEST_FILE} octets");
+        return Err(Failure::at(Fault::Config, place));
+    }
+    match (end, source.inner().error()) {
+        (End::Failed, Some(error)) => {
+            let place = format!(in alloc; "{path}: {error}");
+            Err(Failure::at(Fault::Read, place))
+        }
+        (End::Failed, None) => Err(Failure::from(Fault::Read)),
+        _ => Ok(octets),
+    }
+}

@@ -1,0 +1,160 @@
+//! What standard error is told beside what is wrong, and how far a reading is.
+
+ghost use Rattle.std.specs.Prelude.{◌≡◌, ◌&&◌, not};
+ghost use Rattle.lpt_io.specs.Voices.{is_apart, is_paced, tells_of};
+
+use crate::machine::Terminals;
+use std::io::{self, Read};
+use std::rt::Clock;
+use std::time::{Duration, Instant};
+
+/// Clears what stands on the terminal's line, from the cursor on.
+const CLEAR: &str = "\x1b[K";
+
+/// What standard error is told beside what is wrong.
+#[derive(Clone, Copy)]
+pub struct Voice {
+    // Whether it is told what happened.
+    tells: bool,
+    // Whether it is told how far a reading is.
+    paced: bool,
+    // Whether it is told so also if the command writes while it reads.
+    apart: bool,
+}
+
+impl Voice {
+    /// That of a command, of which nothing is to be told but what is wrong, or more. How far it is
+    /// is told if standard error is a terminal.
+    pub fn new(terminals: Terminals, quiet: bool) -> Voice
+        ensures tells { tells_of result ≡ not quiet }
+        ensures paced { is_paced result ≡ (not quiet && terminals.errors) }
+        ensures apart { is_apart result ≡ not terminals.output }
+    {
+        Voice {
+            tells: !quiet,
+            paced: !quiet && terminals.errors,
+            apart: !terminals.output,
+        }
+    }
+
+    /// The same of a command that writes while it reads: how far it is isn't told if standard
+    /// output is a terminal too.
+    pub fn beside_output(self) -> Voice
+        ensures tells { tells_of result ≡ tells_of self }
+        ensures paced { is_paced result ≡ (is_paced self && is_apart self) }
+    {
+        Voice {
+            paced: self.paced && self.apart,
+            ..self
+        }
+    }
+
+    /// Whether standard error is told what happened.
+    pub fn tells(self) -> bool
+        ensures { result ≡ tells_of self }
+    {
+        self.tells
+    }
+
+    /// Takes away what was told of how far a reading is.
+    pub fn clear(self, rt: &impl Eprint) {
+        if self.paced {
+            let _ = rt.eprint(CLEAR);
+        }
+    }
+
+    /// Tells how many requests are settled before a round, and leaves the cursor at the line's
+    /// front.
+    pub fn tell_round<R: Eprint + AllocGlobal>(
+        self,
+        rt: &R,
+        settled: usize,
+        of: usize,
+        round: u64,
+    ) {
+        if self.paced {
+            let text = format!(in rt.alloc(); "lpt: {settled} of {of}, round {round}{CLEAR}\r");
+            if let Ok(text) = text {
+                let _ = rt.eprint(text.as_str());
+            }
+        }
+    }
+
+    /// How far a reading of so many octets is, if that is told.
+    pub fn pace<R: Clock + Copy>(self, rt: &R, of: Option<u64>) -> Option<Pace<R>> {
+        if !self.paced {
+            return None;
+        }
+        let last = Instant::now(rt).ok()?;
+        Some(Pace {
+            rt: *rt,
+            last,
+            done: 0,
+            of,
+        })
+    }
+}
+
+/// How far a reading is, which is told once a second.
+#[derive(Drop)]
+pub struct Pace<R> {
+    rt: R,
+    // When it was told last, or when the reading began.
+    last: Instant,
+    done: u64,
+    of: Option<u64>,
+}
+
+impl<R: Clock + Eprint + AllocGlobal> Pace<R> {
+    // Takes a read of so many octets; none at the end.
+    fn note(&mut self, count: usize) {
+        self.done = self.done.saturating_add(count as u64);
+        if count == 0 {
+            let _ = self.rt.eprint(CLEAR);
+            return;
+        }
+        let Ok(now) = Instant::now(&self.rt) else {
+            return;
+        };
+        if now.duration_since(self.last) >= Duration::from_secs(1) {
+            self.last = now;
+            self.tell();
+        }
+    }
+
+    // Tells it, and leaves the cursor at the line's front: what is told next stands over it.
+    fn tell(&self) {
+        let done = self.done;
+        let text = match self.of {
+            Some(of) => format!(in self.rt.alloc(); "lpt: {done} of {of} octets{CLEAR}\r"),
+            None => format!(in self.rt.alloc(); "lpt: {done} octets{CLEAR}\r"),
+        };
+        if let Ok(text) = text {
+            let _ = self.rt.eprint(text.as_str());
+        }
+    }
+}
+
+/// A reader, and how far it is, if that is told.
+#[derive(Drop)]
+pub struct Paced<I, R> {
+    inner: I,
+    pace: Option<Pace<R>>,
+}
+
+impl<I, R> Paced<I, R> {
+    /// A reader of which nothing was read.
+    pub fn new(inner: I, pace: Option<Pace<R>>) -> Self {
+        Paced { inner, pace }
+    }
+}
+
+impl<I: Read, R: Clock + Eprint + AllocGlobal> Read for Paced<I, R> {
+    fn read(&mut self, buf: &mut [u8]) -> io::Result<usize> {
+        let count = self.inner.read(buf)?;
+        if let Some(pace) = &mut self.pace {
+            pace.note(count);
+        }
+        Ok(count)
+    }
+}

@@ -1,0 +1,189 @@
+//! The octets of dump reports, from a file or standard input to standard output.
+
+ghost use Rattle.lpt_events.specs.Configs.{IsConfig};
+
+use crate::extract_joins::extract_parts;
+use crate::extract_notices::Telling;
+use lpt_carried::Layouts;
+use lpt_command_line::ExtractWords;
+use lpt_events::Config;
+use lpt_extract::{ExtractEnd, Extracted, Others, Place, Tally, Wanted, extract_stream};
+use lpt_io::{
+    Failure, Fault, Machine, Packets, Status, Voice, finish, first_failure, layouts_at,
+    opened_packets, output, packets_end, tell_no_packets, tell_place, tell_text,
+};
+use lpt_packet::Direction;
+use lpt_text::StreamFault;
+use std::alloc::{AllocError, Global};
+use std::collections::BTreeMap;
+
+/// Writes the octets that dump reports hold: by the layouts of a file if one is given, else by
+/// the profile.
+///
+/// Errors: `Read` if the packets can't be opened or read, or their capture is wrong; `Config`
+/// if the layouts' file is too long; `Write`; `Memory`, also for an image that would be too
+/// large.
+pub fn extract<R: Machine>(
+    rt: &R,
+    voice: Voice,
+    config: &Config,
+    words: &ExtractWords<'_>,
+) -> Result<Status, Failure>
+    requires { IsConfig config.now }
+{
+    let Ok(at) = place(words) else {
+        tell_place(rt, "--from, --fill and --whole need --at");
+        return Ok(Status::Unreadable);
+    };
+    let voice = voice.beside_output();
+    let layouts = match words.layout {
+        Some(path) => layouts_at(rt, path)?,
+        None => Some(Layouts::own()),
+    };
+    let Some(layouts) = layouts else {
+        return Ok(Status::Unreadable);
+    };
+    let wanted = Wanted {
+        apid: config.apid,
+        layout: layouts.tailored(Direction::Down).packets,
+        at,
+    };
+    let mut source = opened_packets(rt, voice, &words.files, None, None)?;
+    let status = extract_packets(rt, voice, config, &layouts, &wanted, words, &mut source);
+    drop(source);
+    status
+}
+
+// The same of packets that were opened.
+fn extract_packets<R: Machine>(
+    rt: &R,
+    voice: Voice,
+    config: &Config,
+    layouts: &Layouts,
+    wanted: &Wanted,
+    words: &ExtractWords<'_>,
+    source: &mut Packets<R>,
+) -> Result<Status, Failure>
+    requires { IsConfig config.now }
+{
+    let mut out = output(rt)?;
+    let (extracted, lost) = if words.join {
+        extract_parts(rt, voice, config, layouts, wanted, words, source, &mut out)
+    } else {
+        let mut telling = Telling { rt, voice };
+        let extracted = extract_stream(rt.alloc(), wanted, source, &mut out, &mut telling);
+        (extracted, false)
+    };
+    let failed = matches!(extracted, Err(StreamFault::Read));
+    let failure = packets_end(rt, voice, source, &words.files, failed);
+    let finished = first_failure(finish(rt, out), failure);
+    let status = status_of(rt, wanted, finished, &extracted);
+    drop(extracted);
+    match status {
+        Ok(Status::Done) if lost => Ok(Status::Refused),
+        status => status,
+    }
+}
+
+// The status of an extraction that ended so, where its output was finished.
+fn status_of(
+    rt: &(impl Eprint + AllocGlobal),
+    wanted: &Wanted,
+    finished: Result<(), Failure>,
+    extracted: &Result<Extracted, StreamFault>,
+) -> Result<Status, Failure> {
+    finished?;
+    match extracted {
+        Ok(extracted) => extract_status(rt, wanted, extracted),
+        Err(fault) => Err(Failure::from(*fault)),
+    }
+}
+
+// The image that is asked for, where one is.
+//
+// Errors: what is said of an image, where none is asked for.
+fn place(words: &ExtractWords<'_>) -> Result<Option<Place>, ()> {
+    match words.at {
+        Some(memory) => Ok(Some(Place {
+            memory,
+            from: words.from.unwrap_or(0),
+            fill: words.fill.unwrap_or(0),
+            whole: words.whole,
+        })),
+        None if words.from.is_some() || words.fill.is_some() || words.whole => Err(()),
+        None => Ok(None),
+    }
+}
+
+// The status of an extraction that ended so, after it was told why nothing was written, what is
+// missing, and what was no packet.
+fn extract_status(
+    rt: &(impl Eprint + AllocGlobal),
+    wanted: &Wanted,
+    extracted: &Extracted,
+) -> Result<Status, Failure> {
+    match extracted.end {
+        ExtractEnd::Written => tell_gaps(rt, wanted, &extracted.gaps),
+        ExtractEnd::NotWhole => {
+            tell_place(rt, "nothing was written: the image isn't whole");
+            tell_gaps(rt, wanted, &extracted.gaps);
+        }
+        ExtractEnd::Nothing => tell_nothing(rt, wanted, &extracted.tally),
+        ExtractEnd::TooLarge(_) => {}
+    }
+    tell_no_packets(rt, "", extracted.tally.damaged, extracted.tally.stray);
+    match extracted.end {
+        ExtractEnd::TooLarge(size) => {
+            let place = format!(in rt.alloc();
+                "an image of {size} octets isn't written: it has 268435456 at most, see --from"
+            );
+            Err(Failure::at(Fault::Memory, place))
+        }
+        _ => Ok(if extracted.is_clean() {
+            Status::Done
+        } else {
+            Status::Refused
+        }),
+    }
+}
+
+// Tells of which addresses of the image no octets came.
+fn tell_gaps(rt: &(impl Eprint + AllocGlobal), wanted: &Wanted, gaps: &BTreeMap<u64, u64>) {
+    let Some(Place { memory, .. }) = wanted.at else {
+        return;
+    };
+    for (first, last) in gaps {
+        let text = if first == last {
+            format!(in rt.alloc(); "memory {memory}: no octets came for address {first}")
+        } else {
+            format!(in rt.alloc(); "memory {memory}: no octets came for addresses {first}-{last}")
+        };
+        tell_text(rt, text);
+    }
+}
+
+// Tells that nothing was written, and which reports were of others than what is wanted.
+fn tell_nothing(rt: &(impl Eprint + AllocGlobal), wanted: &Wanted, tally: &Tally) {
+    tell_text(rt, nothing_text(rt.alloc(), wanted));
+    for (others, of) in [(tally.apids, "APID"), (tally.memories, "memory")] {
+        let Others { count, first } = others;
+        if let Some(first) = first {
+            let text = format!(in rt.alloc();
+                "dump reports of another {of}: {count}, the first of {first}"
+            );
+            tell_text(rt, text);
+        }
+    }
+}
+
+// Why nothing was written. The only error is out of memory.
+fn nothing_text(alloc: Global, wanted: &Wanted) -> Result<String, AllocError> {
+    match wanted.at {
+        None => format!(in alloc; "no area of a dump report came"),
+        Some(place) => {
+            let memory = place.memory;
+            let from = place.from;
+            format!(in alloc; "memory {memory}: no octets came for address {from} or later ones")
+        }
+    }
+}

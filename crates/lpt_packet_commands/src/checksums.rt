@@ -1,0 +1,53 @@
+//! The checksum that a check report has of a file's octets.
+
+use lpt_command_line::ChecksumWords;
+use lpt_io::{Failure, Fault, Machine, Status, file_at, finish, output, tell_place};
+use lpt_packet::crc16;
+use lpt_text::write_out;
+
+/// Writes the checksum of a file's octets, or of those from a place on.
+///
+/// Errors: `Read` if the file can't be opened or read; `Write`, `Memory`.
+pub fn checksum<R: Machine>(rt: &R, words: &ChecksumWords<'_>) -> Result<Status, Failure> {
+    let octets = file_at(rt, words.file)?;
+    let status = written(rt, words, octets.as_slice());
+    drop(octets);
+    status
+}
+
+// Writes that of the octets that the words name.
+fn written(
+    rt: &(impl Print + Eprint + AllocGlobal),
+    words: &ChecksumWords<'_>,
+    octets: &[u8],
+) -> Result<Status, Failure> {
+    let Some(named) = named_in(words, octets) else {
+        let size = octets.len();
+        let text = match size {
+            1 => format!(in rt.alloc(); "it has only 1 octet"),
+            _ => format!(in rt.alloc(); "it has only {size} octets"),
+        };
+        if let Ok(text) = text {
+            tell_place(rt, text.as_str());
+        }
+        return Ok(Status::Refused);
+    };
+    let checksum = crc16(named);
+    let Ok(line) = format!(in rt.alloc(); "{checksum:04x}\n") else {
+        return Err(Failure::from(Fault::Memory));
+    };
+    let mut out = output(rt)?;
+    let put = write_out(&mut out, line.as_bytes());
+    finish(rt, out)?;
+    put?;
+    Ok(Status::Done)
+}
+
+// The octets that the words name, where they are there.
+fn named_in<'a>(words: &ChecksumWords<'_>, octets: &'a [u8]) -> Option<&'a [u8]> {
+    let behind = octets.get(words.from as usize..)?;
+    match words.len {
+        Some(len) => behind.get(..len as usize),
+        None => Some(behind),
+    }
+}

@@ -1,0 +1,175 @@
+//! A file compared with check reports, from files or standard input to standard output.
+
+ghost use Rattle.lpt_events.specs.Configs.{IsConfig};
+
+use lpt_command_line::CompareWords;
+use lpt_compare::{Checked, Checks, Image, read_checks};
+use lpt_events::Config;
+use lpt_io::{
+    Failure, Machine, Output, Status, Voice, file_at, finish, name_of, opened_packets, output,
+    packets_end, tell_no_packets, tell_place,
+};
+use lpt_text::{StreamFault, write_out};
+use std::alloc::{AllocError, Global};
+
+/// Writes a line for each area of the check reports: whether its checksum is that of the file's
+/// octets there. What is no packet, check reports that can't be read, and parts of messages are
+/// told, and the status says so.
+///
+/// Errors: `Read` if the file or the packets can't be opened or read, or their capture is wrong;
+/// `Write`, `Memory`.
+pub fn compare<R: Machine>(
+    rt: &R,
+    voice: Voice,
+    config: &Config,
+    words: &CompareWords<'_>,
+) -> Result<Status, Failure>
+    requires { IsConfig config.now }
+{
+    let octets = file_at(rt, words.file)?;
+    let checks = checks_at(rt, voice, config.apid, words)?;
+    let status = told(rt, words, octets.as_slice(), checks);
+    drop(octets);
+    status
+}
+
+// The areas of the memory's check reports among the packets.
+fn checks_at<R: Machine>(
+    rt: &R,
+    voice: Voice,
+    apid: u16,
+    words: &CompareWords<'_>,
+) -> Result<Checks, Failure> {
+    let mut source = opened_packets(rt, voice, &words.reports, None, None)?;
+    let read = read_checks(rt.alloc(), apid, words.memory, &mut source);
+    let failed = matches!(read, Err(StreamFault::Read));
+    let failure = packets_end(rt, voice, &source, &words.reports, failed);
+    drop(source);
+    match (read, failure) {
+        (Ok(checks), None) => Ok(checks),
+        (Ok(checks), Some(failure)) => {
+            drop(checks);
+            Err(failure)
+        }
+        (Err(_), Some(failure)) => Err(failure),
+        (Err(fault), None) => Err(Failure::from(fault)),
+    }
+}
+
+// Writes the lines, and gives whether all is as it should be.
+fn told(
+    rt: &(impl Print + Eprint + AllocGlobal),
+    words: &CompareWords<'_>,
+    octets: &[u8],
+    checks: Checks,
+) -> Result<Status, Failure> {
+    let Checks {
+        areas,
+        damaged,
+        stray,
+        unread,
+        parts,
+    } = checks;
+    let image = Image {
+        from: words.address,
+        octets,
+    };
+    let mut out = output(rt)?;
+    let written = write_lines(rt.alloc(), words.memory, &image, &areas, &mut out);
+    finish(rt, out)?;
+    let agree = written?;
+    tell_no_packets(rt, "", damaged, stray);
+    tell_passed(rt, unread, parts);
+    let open = image.first_open(areas);
+    if let Some(text) = lacking(rt.alloc(), words, octets, open) {
+        if let Ok(text) = text {
+            tell_place(rt, text.as_str());
+        }
+    }
+    let sound = damaged == 0 && stray == 0 && unread == 0 && parts == 0;
+    Ok(if agree && sound && open.is_none() && !octets.is_empty() {
+        Status::Done
+    } else {
+        Status::Refused
+    })
+}
+
+// Tells how many check reports can't be read, and how many parts of messages there are.
+fn tell_passed(rt: &(impl Eprint + AllocGlobal), unread: u64, parts: u64) {
+    if unread != 0 {
+        let reports = if unread == 1 { "report" } else { "reports" };
+        if let Ok(text) = format!(in rt.alloc(); "{unread} check {reports} can't be read") {
+            tell_place(rt, text.as_str());
+        }
+    }
+    if parts != 0 {
+        let word = if parts == 1 { "part" } else { "parts" };
+        let text = format!(in rt.alloc();
+            "{parts} {word} of messages: check reports may be among them, so join them first"
+        );
+        if let Ok(text) = text {
+            tell_place(rt, text.as_str());
+        }
+    }
+}
+
+// What is lacking of a comparison, where no report agrees at this address: that, or that the file
+// has no octets to compare.
+fn lacking(
+    alloc: Global,
+    words: &CompareWords<'_>,
+    octets: &[u8],
+    open: Option<u64>,
+) -> Option<Result<String, AllocError>> {
+    if octets.is_empty() {
+        let name = name_of(words.file);
+        return Some(format!(in alloc; "{name}: there are no octets to compare"));
+    }
+    let address = open?;
+    let memory = words.memory;
+    Some(format!(in alloc; "memory {memory}: no agreeing check report came for address {address}"))
+}
+
+// Writes a line for each area, and gives whether all of them agree.
+fn write_lines<R: Print>(
+    alloc: Global,
+    memory: u8,
+    image: &Image<'_>,
+    checks: &[Checked],
+    out: &mut Output<'_, R>,
+) -> Result<bool, StreamFault> {
+    let mut agree = true;
+    for check in checks {
+        let found = image.checksum(check);
+        agree = agree && found == Some(check.checksum);
+        let Ok(line) = line_of(alloc, memory, check, found) else {
+            return Err(StreamFault::Memory);
+        };
+        write_out(out, line.as_bytes())?;
+    }
+    Ok(agree)
+}
+
+// The line of an area, where the file's octets have this checksum there. The only error is out of
+// memory.
+fn line_of(
+    alloc: Global,
+    memory: u8,
+    check: &Checked,
+    found: Option<u16>,
+) -> Result<String, AllocError> {
+    let Checked {
+        address,
+        len,
+        checksum,
+    } = *check;
+    let mut line = format!(in alloc;
+        "memory {memory} address {address} length {len} checksum {checksum:04x}"
+    )?;
+    match found {
+        None => line.push_str(" outside\n")?,
+        Some(found) if found == checksum => line.push_str(" same\n")?,
+        Some(found) => line.write(format_args!(" differs from {found:04x}\n"))?,
+    }
+    Ok(line)
+}

@@ -1,0 +1,291 @@
+//! What octets are as a packet.
+
+ghost use Rattle.std.specs.Prelude.{◌≤◌, length};
+ghost use Rattle.lpt_part.specs.Splitting.{IsPartSize};
+
+use crate::layouts::tell_hint;
+use lpt_command_line::DecodeWords;
+use lpt_events::{Config, part_kind};
+use lpt_io::{
+    Failure, Fault, Incoming, Machine, STANDARD, Status, finish, layouts_at, opened, output,
+    read_failure, status_of, tell_place,
+};
+use lpt_list::{Form, decode_layouts, hint_of, is_read, print_refused};
+use lpt_packet::{Direction, Octets, Packet, PacketFault, PacketKind, Seen, read_packet};
+use lpt_part::{Kind, read_part};
+use lpt_pus::{read_tc, read_tm};
+use lpt_script_text::print_areas;
+use lpt_script_words::read_hex;
+use lpt_text::{End, LONGEST_TEXT, read_text, write_out};
+use std::alloc::AllocError;
+
+/// A packet has at least so many octets.
+const LEAST_PACKET: usize = 7;
+
+/// How many octets of a part's body stand before the part's own.
+const PART_FIELDS: usize = 4;
+
+/// The least part size that can be configured.
+const LEAST_PART_SIZE: u32 = 4;
+
+/// The greatest part size that can be configured.
+const GREATEST_PART_SIZE: u32 = 1024;
+
+// Where hexadecimal digits come from.
+#[derive(Clone, Copy, PartialEq, Eq)]
+enum Given {
+    // A word of the command line.
+    Word,
+    // Standard input.
+    Input,
+}
+
+impl Given {
+    // That the octet at this place, from 1, is no digit. The only error is out of memory.
+    fn no_digit(self, rt: &impl AllocGlobal, place: u64) -> Result<String, AllocError> {
+        match self {
+            Given::Word => format!(in rt.alloc();
+                "HEX: octet {place} of the word isn't a hexadecimal digit"
+            ),
+            Given::Input => format!(in rt.alloc();
+                "standard input: octet {place} isn't a hexadecimal digit"
+            ),
+        }
+    }
+
+    // That there are so many digits. The only error is out of memory.
+    fn odd(self, rt: &impl AllocGlobal, digits: usize) -> Result<String, AllocError> {
+        let name = match self {
+            Given::Word => "HEX",
+            Given::Input => "standard input",
+        };
+        format!(in rt.alloc(); "{name}: {digits} digits, and an octet has two")
+    }
+}
+
+/// Prints what octets are as a packet: those of a word, or of standard input for `-`, where white
+/// space is passed over.
+///
+/// Errors: `Read`, `Write` if a read or a write failed, `Memory`. What stands for no octets is
+/// no error here: it is reported on standard error, and the status says so. If a part isn't read
+/// for the configured part size, a note on standard error says which one fits, if one does. If
+/// more is asked for, the areas that they name are printed too, and which segment they are. If
+/// layouts are given, they are read by these, and the note says by which other one they would be.
+pub fn decode<R: Machine>(
+    rt: &R,
+    config: Config,
+    words: &DecodeWords<'_>,
+) -> Result<Status, Failure>
+    requires { IsPartSize config.part_size }
+{
+    let hex = words.hex;
+    let given = if hex == STANDARD {
+        let text = standard_text(rt)?;
+        octets_in(rt, Given::Input, text.as_slice())
+    } else {
+        octets_in(rt, Given::Word, hex.as_bytes())
+    };
+    let Some(octets) = given? else {
+        return Ok(Status::Unreadable);
+    };
+    let octets = octets.as_slice();
+    match words.layout {
+        Some(path) if octets.len() >= LEAST_PACKET => decode_as(rt, path, octets),
+        Some(path) => decode_short(rt, path, octets, config.part_size),
+        None if words.more => decode_more(rt, octets, config.part_size),
+        None => decode_octets(rt, octets, "", config.part_size),
+    }
+}
+
+// Prints what octets are that are too few for a packet, once the layouts at this path were read.
+fn decode_short<R: Machine>(rt: &R, path: &str, octets: &[u8], p: u32) -> Result<Status, Failure>
+    requires { IsPartSize p }
+{
+    let Some(_layouts) = layouts_at(rt, path)? else {
+        return Ok(Status::Unreadable);
+    };
+    decode_octets(rt, octets, "", p)
+}
+
+// Prints what octets are as a packet of the layouts of the file at this path.
+fn decode_as<R: Machine>(rt: &R, path: &str, octets: &[u8]) -> Result<Status, Failure> {
+    let Some(layouts) = layouts_at(rt, path)? else {
+        return Ok(Status::Unreadable);
+    };
+    let mut out = output(rt)?;
+    let decoded = decode_layouts(rt.alloc(), &layouts, octets, &mut out);
+    finish(rt, out)?;
+    decoded?;
+    tell_hint(rt, hint_of(&layouts, octets));
+    Ok(status_of(!is_read(&layouts, octets)))
+}
+
+// Prints what octets are as a packet, for parts of `p` octets, and behind that these lines.
+fn decode_octets(
+    rt: &(impl Print + Eprint + AllocGlobal),
+    octets: &[u8],
+    behind: &str,
+    p: u32,
+) -> Result<Status, Failure>
+    requires { IsPartSize p }
+{
+    let mut out = output(rt)?;
+    let decoded = lpt_script::decode(rt.alloc(), octets, p, &mut out);
+    let written = match decoded {
+        Ok(_) => write_out(&mut out, behind.as_bytes()),
+        Err(_) => Ok(()),
+    };
+    finish(rt, out)?;
+    let is_faulty = decoded?;
+    written?;
+    tell_size(rt, octets, p);
+    Ok(status_of(is_faulty))
+}
+
+// The same with the areas that they name, or with which segment they are.
+fn decode_more(
+    rt: &(impl Print + Eprint + AllocGlobal),
+    octets: &[u8],
+    p: u32,
+) -> Result<Status, Failure>
+    requires { IsPartSize p }
+{
+    if octets.len() >= LEAST_PACKET && matches!(read_packet(octets), Err(PacketFault::Segmented)) {
+        return decode_segment(rt, octets);
+    }
+    match print_areas(rt.alloc(), octets) {
+        Ok(areas) => decode_octets(rt, octets, areas.as_str(), p),
+        Err(_) => Err(Failure::from(Fault::Memory)),
+    }
+}
+
+// Prints which segment of a message in several packets octets are.
+fn decode_segment(rt: &(impl Print + AllocGlobal), octets: &[u8]) -> Result<Status, Failure>
+    requires { 7 ≤ length octets.now }
+{
+    let fault = PacketFault::Segmented;
+    let Ok(said) = print_refused(rt.alloc(), Form::Text, octets, fault) else {
+        return Err(Failure::from(Fault::Memory));
+    };
+    let said = said.as_str();
+    let Ok(line) = format!(in rt.alloc(); "packet{said}\n") else {
+        return Err(Failure::from(Fault::Memory));
+    };
+    let mut out = output(rt)?;
+    let written = write_out(&mut out, line.as_bytes());
+    finish(rt, out)?;
+    written?;
+    Ok(Status::Refused)
+}
+
+// The text of standard input.
+//
+// Errors: `Read` where it can't be read, or has more than 16,777,216 octets; `Memory`.
+fn standard_text<R: Machine>(rt: &R) -> Result<Vec<u8>, Failure> {
+    let mut source = opened(rt, STANDARD)?;
+    let text = text_of(rt, &mut source);
+    drop(source);
+    text
+}
+
+// The same of a source that was opened.
+fn text_of<R: Machine>(rt: &R, source: &mut Incoming<R>) -> Result<Vec<u8>, Failure> {
+    let (text, end) = read_text(rt.alloc(), source)?;
+    match end {
+        End::Whole => Ok(text),
+        End::Failed => Err(read_failure(rt, source, STANDARD)),
+        End::TooLong => {
+            let place = format!(in rt.alloc(); "standard input: more than {LONGEST_TEXT} octets");
+            Err(Failure::at(Fault::Read, place))
+        }
+    }
+}
+
+// The octets that a text stands for, in hexadecimal digits; none where it stands for none, after
+// standard error was told so. The only error is out of memory.
+fn octets_in(
+    rt: &(impl Eprint + AllocGlobal),
+    given: Given,
+    text: &[u8],
+) -> Result<Option<Octets>, Fault> {
+    let mut digits = Vec::new(rt.alloc());
+    let mut place = 0u64;
+    for octet in text {
+        place = place.saturating_add(1);
+        if octet.is_ascii_hexdigit() {
+            if digits.push(*octet).is_err() {
+                return Err(Fault::Memory);
+            }
+        } else if !(given == Given::Input && octet.is_ascii_whitespace()) {
+            refuse_hex(rt, given.no_digit(rt, place));
+            return Ok(None);
+        }
+    }
+    if digits.is_empty() {
+        return Ok(Some(Octets::from_vec(digits)));
+    }
+    match read_hex(rt.alloc(), digits.as_slice()) {
+        Ok(Some(octets)) => Ok(Some(octets)),
+        Ok(None) => {
+            refuse_hex(rt, given.odd(rt, digits.len()));
+            Ok(None)
+        }
+        Err(_) => Err(Fault::Memory),
+    }
+}
+
+// Says on standard error that a text isn't octets, and where.
+fn refuse_hex(rt: &impl Eprint, place: Result<String, AllocError>) {
+    let _ = rt.eprintln("hex refused");
+    if let Ok(place) = place {
+        tell_place(rt, place.as_str());
+    }
+}
+
+// Says on standard error where octets carry a part that isn't read for parts of `p` octets, but
+// would be for parts of its own length.
+fn tell_size(rt: &(impl Eprint + AllocGlobal), octets: &[u8], p: u32)
+    requires { IsPartSize p }
+{
+    let Ok(Seen::Packet(packet)) = read_packet(octets) else {
+        return;
+    };
+    let Some((kind, body)) = part_body(&packet) else {
+        return;
+    };
+    let Ok(len) = u32::try_from(body.len().saturating_sub(PART_FIELDS)) else {
+        return;
+    };
+    let own = len.max(LEAST_PART_SIZE);
+    if own > GREATEST_PART_SIZE || read_part(kind, body, p).is_ok() {
+        return;
+    }
+    if read_part(kind, body, own).is_ok() {
+        let text = format!(in rt.alloc();
+            "the part isn't read: its {len} octets don't fit part_size = {p}, but part_size = {own}"
+        );
+        if let Ok(text) = text {
+            tell_place(rt, text.as_str());
+        }
+    }
+}
+
+/// The kind of part that a packet carries, and the message's body; none if it carries none.
+pub fn part_body<'a>(packet: &Packet<'a>) -> Option<(Kind, &'a [u8])> {
+    match packet.kind {
+        PacketKind::Tc => match read_tc(packet) {
+            Ok((head, body)) => match part_kind(Direction::Up, head.service, head.subtype) {
+                Some(kind) => Some((kind, body)),
+                None => None,
+            },
+            Err(_) => None,
+        },
+        PacketKind::Tm => match read_tm(packet) {
+            Ok((head, body)) => match part_kind(Direction::Down, head.service, head.subtype) {
+                Some(kind) => Some((kind, body)),
+                None => None,
+            },
+            Err(_) => None,
+        },
+    }
+}

@@ -1,0 +1,82 @@
+//! Packets carried over a link that loses, from files or standard input to standard output.
+
+use lpt_command_line::LinkWords;
+use lpt_io::{
+    Failure, Machine, Packets, Status, Voice, finish, first_failure, opened_packets, output,
+    packets_end, tell_place,
+};
+use lpt_lossy::{Counts, Dice, LossyEnd, Odds, lossy_stream};
+use lpt_text::StreamFault;
+
+/// Carries packets over a link that loses, and tells how many were lost, repeated and so on.
+///
+/// Errors: `Read` if the packets can't be opened or read, or their capture is wrong; `Write`,
+/// `Memory`.
+pub fn link<R: Machine>(rt: &R, voice: Voice, words: &LinkWords<'_>) -> Result<Status, Failure> {
+    let voice = voice.beside_output();
+    let mut source = opened_packets(rt, voice, &words.files, None, None)?;
+    let status = carry_packets(rt, voice, words, &mut source);
+    drop(source);
+    status
+}
+
+// The same of packets that were opened.
+fn carry_packets<R: Machine>(
+    rt: &R,
+    voice: Voice,
+    words: &LinkWords<'_>,
+    source: &mut Packets<R>,
+) -> Result<Status, Failure> {
+    let odds = Odds {
+        lose: words.odds.lose,
+        repeat: words.odds.repeat,
+        damage: words.odds.damage,
+        delay: words.odds.delay,
+    };
+    let mut dice = Dice::new(odds, words.odds.seed);
+    let mut out = output(rt)?;
+    let carried = lossy_stream(rt.alloc(), words.odds.delay, &mut dice, source, &mut out);
+    drop(dice);
+    let failed = matches!(carried, Err(StreamFault::Read));
+    let failure = packets_end(rt, voice, source, &words.files, failed);
+    first_failure(finish(rt, out), failure)?;
+    match carried {
+        Ok(end) => Ok(link_status(rt, voice, end)),
+        Err(fault) => Err(Failure::from(fault)),
+    }
+}
+
+// The status of a run that ended so, once it was told how many packets were lost and so on, and
+// where no packet is.
+fn link_status(rt: &(impl Eprint + AllocGlobal), voice: Voice, end: LossyEnd) -> Status {
+    if voice.tells() {
+        tell_counts(rt, &end.counts);
+    }
+    match end.stray {
+        None => Status::Done,
+        Some(place) => {
+            if let Ok(text) = format!(in rt.alloc();
+                "octet {place}: no packet begins here, so reading ended"
+            ) {
+                tell_place(rt, text.as_str());
+            }
+            Status::Refused
+        }
+    }
+}
+
+// Tells how many packets were lost, repeated and so on.
+fn tell_counts(rt: &(impl Eprint + AllocGlobal), counts: &Counts) {
+    let Counts {
+        lost,
+        repeated,
+        delayed,
+        damaged,
+        passed,
+    } = *counts;
+    if let Ok(text) = format!(in rt.alloc();
+        "lost {lost}, repeated {repeated}, delayed {delayed}, damaged {damaged}, passed {passed}"
+    ) {
+        tell_place(rt, text.as_str());
+    }
+}
