@@ -20,12 +20,13 @@ The modules:
 - kinds: the kinds of things
 - faults: an exception for each fault
 
-Octets are anything with a buffer: `bytes`, `bytearray`, `memoryview`, an array or a mapped file. A
-reader copies what it gives of `bytes`, and gives views of a `memoryview`. Numbers out of their
-range raise `faults.Range`, and arguments of another type TypeError.
+Octets are anything with a buffer: `bytes`, `bytearray`, `memoryview`, an array or a mapped file.
+From a `memoryview` a reader returns views, from anything else copies. Numbers out of their range
+raise `faults.Range`, and arguments of another type TypeError.
 
-The package looks for the libraries in the folder that FORGESILVER_LIB names; else beside itself, as
-./install puts them, or in build of the checkout. It compares their version with its own.
+The package looks for the libraries in the folder that FORGESILVER_LIB names. If that isn't set, it
+looks beside itself, where ./install puts them, and in build of the checkout. It compares the
+version of `liblpt` with its own.
 """
 
 from __future__ import annotations

@@ -81,6 +81,7 @@ _READ, _WRITE = (POINTER, SIZE), (POINTER, SIZE, POINTER)
 _OF_CODECS: dict[str, tuple[Any, ...]] = {
     "lpt_version": (),
     "lpt_crc16": _READ,
+    "lpt_crc16_more": (U16, *_READ),
     "lpt_packet_length": (*_READ, POINTER),
     "lpt_find_piece": (*_READ, U32, U32, POINTER, POINTER),
     "lpt_count_strays": (*_READ, U32, POINTER, SIZE),
@@ -127,6 +128,7 @@ _OF_END: dict[str, tuple[Any, ...]] = {
     "lpt_end_memory": (POINTER, U8, *_WRITE),
     "lpt_end_memory_range": (POINTER, U8, U32, *_READ),
     "lpt_end_tick": (POINTER,),
+    "lpt_end_tick_many": (POINTER, U32),
     "lpt_end_retire": (POINTER, U32, POINTER),
     "lpt_end_name": (POINTER, U32, POINTER, POINTER),
     "lpt_end_closed": (POINTER, U32, POINTER, POINTER),
@@ -150,8 +152,8 @@ _OF_END: dict[str, tuple[Any, ...]] = {
 
 
 def folder() -> pathlib.Path:
-    """The folder of the libraries: that of FORGESILVER_LIB, where it is set; else the first that
-    has them, of the package's own, the `lib` in which it is installed, and `build` of its
+    """The folder of the libraries: that of FORGESILVER_LIB, if it is set; otherwise the first of
+    these that has them: the package's own, the `lib` in which it is installed, and `build` of its
     checkout."""
     here = pathlib.Path(__file__).resolve().parent
     above = list(here.parents)
@@ -182,7 +184,8 @@ def _load() -> tuple[Any, Any]:
     """Both libraries, which are of the package's version."""
     place = folder()
     codecs, end = _loaded(place / CODECS, _OF_CODECS), _loaded(place / END, _OF_END)
-    codecs.lpt_crc16.restype, end.lpt_end_free.restype = U16, None
+    codecs.lpt_crc16.restype = codecs.lpt_crc16_more.restype = U16
+    end.lpt_end_free.restype = None
     found = codecs.lpt_version()
     if found != VERSION_NUMBER:
         raise ImportError(f"forgesilver: {place / CODECS} is of version {_dotted(found)}, and the "

@@ -36,40 +36,44 @@ _ROOM, _NO_JOB, _NOTHING_DUE, _NOTHING = 103, 51, 50, 109
 
 @dataclass(frozen=True)
 class Config:
-    """What is fixed of an end. Both ends of a link have the same, in every value but the clock."""
+    """What is fixed about an end. Both ends of a link have the same values, but for the clock.
 
-    #: Of all packets, 0 to 2046.
+    - apid: of all packets, 0 to 2046
+    - part_size: in octets, 4 to 1,024
+    - timeout: of a reception, in ticks, 1 to 65,535
+    - receptions: how many may be open, 1 to 64
+    - outgoing: how many messages may be open for sending, 1 to 64
+    - clock: its first value, in ticks, 0 to 4,294,967,295
+    - mode: in which order the end takes parts
+    """
+
     apid: int = 100
-    #: In octets, 4 to 1,024.
     part_size: int = 1024
-    #: Of a reception, in ticks, 1 to 65,535.
     timeout: int = 10
-    #: How many receptions may be open, 1 to 64.
     receptions: int = 8
-    #: How many messages may be open to be sent, 1 to 64.
     outgoing: int = 8
-    #: The clock's first value, in ticks.
     clock: int = 0
-    #: In which order parts are taken.
     mode: Mode = Mode.ANY
 
 
 @dataclass(frozen=True)
 class Outcome:
-    """What became of a packet. What its kind doesn't say is None."""
+    """What became of a packet. A field that its kind doesn't use is None.
+
+    - name: the transaction, at KEPT, AGAIN, RELEASED, ABORT_NOTED and BROKEN
+    - part: the part's number, at KEPT and AGAIN
+    - length: of the message that was released; `End.released` copies the message
+    - types: the service type and message subtype of a noted report
+    - reason: why a reception was aborted
+    - why: why the packet was ignored
+    """
 
     kind: OutcomeKind
-    #: Its transaction: of a part that was kept, again or broken, a release, an abortion.
     name: Optional[Name] = None
-    #: The number of a part that was kept, or came again.
     part: Optional[int] = None
-    #: The length of the message that was released; `End.released` gives it.
     length: Optional[int] = None
-    #: Of a report that was noted: its service type and message subtype.
     types: Optional[tuple[int, int]] = None
-    #: Why a reception was aborted.
     reason: Optional[Reason] = None
-    #: Why nothing was made of the packet.
     why: Optional[Why] = None
 
     @property
@@ -80,54 +84,58 @@ class Outcome:
 
 @dataclass(frozen=True)
 class Applied:
-    """What became of a request. What its kind doesn't say is None."""
+    """What became of a request. A field that its kind doesn't use is None.
+
+    - name: under which its report is open, to be sent in parts
+    - failure: why it was refused
+    """
 
     kind: AppliedKind
-    #: The name under which its report is open to be sent in parts.
     name: Optional[Name] = None
-    #: Why it was refused.
     failure: Optional[Failure] = None
 
 
 @dataclass(frozen=True)
 class View:
-    """What an end has to do, in numbers."""
+    """What an end has to do, in numbers.
 
-    #: In ticks.
+    - clock: in ticks
+    - is_due: whether `expire` has a reception to give up
+    - next_due: the clock's value at which the first reception is due; None if none is open
+    - outgoing: packets that wait to be sent
+    - unread: requests that weren't read yet
+    - requests: requests that weren't executed yet, read or not
+    """
+
     clock: int
-    #: Whether `expire` has a reception to give up.
     is_due: bool
-    #: The clock's value from which on it has; None where no reception is open.
     next_due: Optional[int]
-    #: Packets that are to be sent.
     outgoing: int
-    #: Requests that weren't read.
     unread: int
-    #: Requests that weren't executed, read or not.
     requests: int
 
 
 @dataclass(frozen=True)
 class Reception:
-    """A reception that is open."""
+    """A reception that is open.
+
+    - kept: how many parts were kept
+    - last: the number of the last part; None if that hasn't come
+    - due: the clock's value at which it is due, unless a part comes before
+    """
 
     name: Name
-    #: How many parts were kept.
     kept: int
-    #: The number of the last part; None where that hasn't come.
     last: Optional[int]
-    #: The clock's value from which on it is overdue, unless a part comes.
     due: int
 
 
 @dataclass(frozen=True)
 class Sender:
-    """A message that is open to be sent."""
+    """A message that is open for sending: `parts` is how many it has, `length` its octets."""
 
     name: Name
-    #: How many parts it has.
     parts: int
-    #: Its octets.
     length: int
 
 
@@ -187,7 +195,7 @@ class End:
     # ---- its life ----
 
     def close(self) -> None:
-        """Lets the end go, and gives all its memory back. Of a closed end nothing changes."""
+        """Frees the end with all its memory. If it is closed already, nothing changes."""
         if self._at is not None:
             self._call(self._let_go)
 
@@ -277,13 +285,12 @@ class End:
     # ---- receiving ----
 
     def feed(self, octets: Octets) -> Outcome:
-        """Takes a packet that came, and says what became of it. What it released can be copied by
-        `released` until the next is taken. A spacecraft that aborts a reception has a report of it
-        to be sent.
+        """Takes a packet that came, and says what became of it. `released` copies the message that
+        it released, until the next packet is taken. If a spacecraft aborts a reception, a report of
+        that waits to be sent.
 
-        Where packets begin and end is for the link below to say. A packet that is damaged, foreign
-        or late is no fault: its outcome is IGNORED, and says why. Raises `NoNumber` or
-        `Allocation`.
+        The link below tells where packets begin and end. A packet that is damaged, foreign or late
+        is no fault: its outcome is IGNORED, and says why. Raises `NoNumber` or `Allocation`.
         """
         given, out = Given(octets), _library.LptOutcome()
         self._done(_end.lpt_end_packet, given.at, given.len, byref(out))
@@ -292,12 +299,13 @@ class End:
         return outcome
 
     def released(self) -> Optional[bytes]:
-        """A copy of the message that the last packet released; None where it released nothing."""
+        """A copy of the message that the last packet released; None if it released nothing."""
         return self._copied(_end.lpt_end_released, Room(self._length))
 
     def expire(self) -> Optional[Name]:
-        """Gives up the reception that has waited longest without a part, if it is due by the timeout,
-        and returns its name; None if none is due. A spacecraft has a report of it to be sent."""
+        """Gives up the reception that has waited longest without a part, if it is due by the
+        timeout, and returns its name; None if none is due. At a spacecraft a report of it waits to
+        be sent."""
         name = _library.LptName()
         fault = self._call(_end.lpt_end_expire, byref(name))
         if fault == _NOTHING_DUE:
@@ -315,15 +323,15 @@ class End:
         return part_count(given.len, self.config.part_size)
 
     def part(self, name: Named, its_number: int) -> None:
-        """Makes the packet of the part of this number, from 1, of an open message: it goes behind the
-        packets that wait. Raises `NotOpen`, `NoSuchPart` or `Allocation`."""
+        """Makes the packet of the part of this number, from 1, of an open message: it goes behind
+        the packets that wait. Raises `NotOpen`, `NoSuchPart` or `Allocation`."""
         named, its_number = _c_name(name), number(its_number, 0xFFFF, "the part's number")
         self._done(_end.lpt_end_part, byref(named), its_number)
 
     def parts(self, name: Named, numbers: Optional[Iterable[int]] = None) -> Iterator[bytes]:
-        """Makes the packets of an open message's parts, all or those with these numbers, one by one,
-        and gives them as `outgoing` does, with what else waits to be sent. The message stays open
-        until `finish`."""
+        """Makes the packets of an open message's parts, all or those with these numbers, one by
+        one, and gives them as `outgoing` does, with what else waits to be sent. The message stays
+        open until `finish`."""
         its_name = name_of(name)
         for it in range(1, 0x10000) if numbers is None else numbers:
             try:
@@ -338,8 +346,8 @@ class End:
         self, service: int, subtype: int, body: Octets, *, source: int,
         flags: Acknowledge = Acknowledge.NONE,
     ) -> None:
-        """Makes the packet of a plain request: it is to be sent, after those that are. Ground
-        alone makes them. It is executed as often as its packet is delivered. Raises `Range`,
+        """Makes the packet of a plain request: it goes behind the packets that wait. Only ground
+        makes requests. A request is executed as often as its packet is delivered. Raises `Range`,
         `PartRequest`, `LongMessage` or `Allocation`."""
         words = (
             number(source, 0xFFFF, "the source"), number(flags, 15, "the flags"),
@@ -351,28 +359,27 @@ class End:
     def request(
         self, request: Request, *, source: int, flags: Acknowledge = Acknowledge.NONE
     ) -> None:
-        """The same of a request of a memory."""
+        """Makes the packet of a plain request to a memory, as `plain` does."""
         of_kind(request, (Load, Dump, Check))
         self.plain(MEMORY_SERVICE, request.subtype, request.body(), source=source, flags=flags)
 
     def finish(self, name: Named) -> None:
-        """Closes an open message, and lets it go. Raises `NotOpen`."""
+        """Closes an open message, and frees its memory. Raises `NotOpen`."""
         named = _c_name(name)
         self._done(_end.lpt_end_finish, byref(named))
 
     def first(self) -> Optional[bytes]:
-        """A copy of the packet that is to be sent first; None where there is none. It is to be sent
-        still, until `sent`."""
+        """A copy of the next packet to be sent; None if there is none. It stays the next one until
+        `sent`."""
         return self._copied(_end.lpt_end_outgoing, Room(self.config.part_size + 23))
 
     def sent(self) -> None:
-        """Lets the packet go that is to be sent first. Raises `Nothing`."""
+        """Drops the next packet to be sent, because it was sent. Raises `Nothing`."""
         self._done(_end.lpt_end_sent)
 
     def outgoing(self) -> Iterator[bytes]:
-        """The packets that are to be sent, in order. Each is let go once the next is asked for; so
-        where the loop is left, by an exception or `break`, the one that it had is to be sent
-        still."""
+        """The packets that wait to be sent, in order. Each is dropped only when the next one is
+        asked for: if an exception or `break` ends the loop, the packet that it had still waits."""
         room = Room(self.config.part_size + 23)
         while True:
             packet = self._copied(_end.lpt_end_outgoing, room)
@@ -384,14 +391,14 @@ class End:
     # ---- the requests that the spacecraft released ----
 
     def read(self) -> bool:
-        """Reads the oldest request that was released and not read yet; False where there is none,
-        as always on ground. Raises `Allocation`."""
+        """Reads the oldest released request that wasn't read yet; False if there is none, as always
+        on ground. Raises `Allocation`."""
         return not self._unless(_NO_JOB, self._call(_end.lpt_end_read))
 
     def execute(self) -> Optional[Applied]:
-        """Executes the oldest request, which has to be read, and says what became of it; None where
-        there is none. Its reports are to be sent; one that is too long for a packet is opened as a
-        message. Raises `NotRead`, `Unsent` or `Allocation`."""
+        """Executes the oldest request, which must have been read, and says what became of it; None
+        if there is none. Its reports wait to be sent; one that is too long for a packet is opened
+        as a message. Raises `NotRead`, `Unsent` or `Allocation`."""
         out = _library.LptApplied()
         if self._unless(_NO_JOB, self._call(_end.lpt_end_execute, byref(out))):
             return None
@@ -400,8 +407,8 @@ class End:
         return Applied(kind, name, Failure(out.value) if kind is AppliedKind.REFUSED else None)
 
     def asked(self) -> Optional[tuple[int, int]]:
-        """The service type and the message subtype of the oldest request that wasn't read; None
-        where there is none. Raises `Nothing` where it is no telecommand of the end's APID."""
+        """The service type and the message subtype of the oldest request that wasn't read; None if
+        there is none. Raises `Nothing` if it is no telecommand of the end's APID."""
         service, subtype = _library.U8(0), _library.U8(0)
         call = self._call(_end.lpt_end_asked, byref(service), byref(subtype))
         if self._unless(_NO_JOB, call):
@@ -409,9 +416,9 @@ class End:
         return service.value, subtype.value
 
     def asked_areas(self) -> list[tuple[int, Area]]:
-        """Where the areas go of the load that the oldest request asks for that wasn't read: of each,
-        in their order, the memory's identifier, and the area. If `execute` carries it out, they are
-        written just there; if not, nothing is. None of another request."""
+        """Where the oldest request that wasn't read will write: for each area of a load, in order,
+        the memory's identifier, and the area. If `execute` carries it out, they are written just
+        there; if not, nothing is. For another request the list is empty."""
         out = _library.LptArea()
         found: list[tuple[int, Area]] = []
         while True:
@@ -422,14 +429,16 @@ class End:
             found.append((out.memory, Area(out.address, out.len)))
 
     def drop(self) -> bool:
-        """Drops the oldest request that wasn't read, in place of `read`: it is never executed, and
-        `execute` says that it was silent. False where there is none."""
+        """Drops the oldest request that wasn't read, in place of `read`: it is never executed. When
+        its turn comes, `execute` reports it as SILENT. False if there is none."""
         return not self._unless(_NO_JOB, self._call(_end.lpt_end_drop))
 
     def serve(self) -> Iterator[bytes]:
         """Reads and executes all requests that were released, and gives the packets to be sent, as
         `outgoing` does: what waited before, reports, and the parts of reports that are too long for
-        a packet. It finishes these messages; you retire their names at both ends, ground first."""
+        a packet. It finishes these messages, so their lost parts can't be made again: if the
+        network loses packets, call `execute` and `parts` yourself, and `finish` when ground has all
+        parts. You retire the names at both ends, ground first."""
         while self.read():
             pass
         yield from self.outgoing()
@@ -443,12 +452,12 @@ class End:
                 self.finish(applied.name)
 
     def memory(self, identifier: int) -> Optional[bytes]:
-        """A copy of a memory; None where the end has no such memory."""
+        """A copy of a memory; None if the end has no such memory."""
         return self._copied(_end.lpt_end_memory, Room(0), number(identifier, 255, "the identifier"))
 
     def memory_range(self, identifier: int, area: Area) -> Optional[bytes]:
-        """A copy of an area of a memory; None where the end has no such memory. Raises `Range`
-        where the memory ends before."""
+        """A copy of an area of a memory; None if the end has no such memory. Raises `Range` if the
+        area ends past the memory's end."""
         room = Room(number(of_kind(area, Area).length, 1 << 20, "the length"))
         memory = number(identifier, 255, "the identifier")
         start = number(area.start, 0xFFFFFFFF, "the start")
@@ -461,26 +470,26 @@ class End:
     # ---- the clock, names, and a restart ----
 
     def tick(self, ticks: int = 1) -> None:
-        """Sets the clock so many ticks on. Raises `ClockEnd`, where it went as far as it can."""
-        for _ in range(number(ticks, 0xFFFFFFFF, "the ticks")):
-            self._done(_end.lpt_end_tick)
+        """Moves the clock on by so many ticks at once. Raises `ClockEnd` if it would go past its
+        greatest value; it stands then."""
+        self._done(_end.lpt_end_tick_many, number(ticks, 0xFFFFFFFF, "the ticks"))
 
     def retire(self, direction: Direction, name: Named) -> None:
-        """Makes the name of a transaction free at this end. A name is used again only once both
-        ends have freed it, in this order: the sender's message is closed; no part of it will come
-        any more; the receiver's end retires it; the sender's does. Raises `StillOpen`."""
+        """Frees the name of a transaction at this end. A name may be used again only when both ends
+        have freed it, in this order: the sender's message is closed; no part of it can come any
+        more; the receiver's end retires it; the sender's end does. Raises `StillOpen`."""
         named = _c_name(name)
         self._done(_end.lpt_end_retire, int(Direction(direction)), byref(named))
 
     def name_state(self, direction: Direction, name: Named) -> NameState:
-        """The state of a transaction's name at this end: in the direction in which it sends that of
-        its message, in the other that of its reception."""
+        """The state of a transaction's name at this end: of a message in the direction in which the
+        end sends, of a reception in the other."""
         named, state = _c_name(name), U32(0)
         self._done(_end.lpt_end_name, int(Direction(direction)), byref(named), byref(state))
         return NameState(state.value)
 
     def closed_names(self, direction: Direction, start: Named = (0, 0)) -> Iterator[Name]:
-        """The names of a direction from this one on that are closed at this end, in their order."""
+        """The closed names of a direction at this end, from this one on, in order."""
         way, at, found = int(Direction(direction)), _c_name(start), _library.LptName()
         while True:
             call = self._call(_end.lpt_end_closed, way, byref(at), byref(found))
@@ -507,9 +516,9 @@ class End:
         ]
 
     def missing(self, name: Named, start: int = 1) -> Iterator[int]:
-        """The numbers from this one on of parts that are missing of an open reception, one by one.
-        They end before the last part; where that hasn't come, at 65,535. Raises `NotOpen`, also
-        where the reception ends meanwhile."""
+        """The numbers of an open reception's missing parts, from this one on, one by one. They end
+        before the last part, or at 65,535 if that hasn't come. Raises `NotOpen`, also if the
+        reception ends meanwhile."""
         named, found = _c_name(name), U16(0)
         start = number(start, 0xFFFF, "the part's number")
         while start <= 0xFFFF:
@@ -520,7 +529,7 @@ class End:
             start = found.value + 1
 
     def senders(self) -> list[Sender]:
-        """The messages that are open to be sent, in the order of their names."""
+        """The messages that are open for sending, in the order of their names."""
         return [
             Sender(Name(it.name.source, it.name.id), it.parts, it.len)
             for it in self._each(_end.lpt_end_sender, _library.LptSender)
@@ -534,16 +543,17 @@ class End:
             at += 1
 
     def restart(self) -> None:
-        """Restarts the end. Its open messages and receptions are let go, and what it keeps of
-        released requests; it counts its packets from 0. It knows other names, the clock and the
-        memories as before. What was released last, and what is to be sent, stays. Raises
-        `NoNumber`."""
+        """Restarts the end. It closes and frees its open messages, drops its open receptions, whose
+        names are free again, and the released requests that it keeps, and counts its packets from
+        0. Other names, the clock and the memories stay, and so do the message that was released
+        last and the packets that wait to be sent. Raises `NoNumber`."""
         self._done(_end.lpt_end_restart)
 
     def state(self) -> bytes:
-        """What outlasts the end's process, besides the memories: `End(.., state=..)` restores an end
-        from it. If you write it before you act on a call's result or send anything, the promise
-        holds through a stop at any place; docs/C.md says how. The library takes no memory for it."""
+        """What outlasts the end's process, besides the memories: `End(.., state=..)` restores an
+        end from it. If you write it before you act on a call's result or send anything, the promise
+        holds through a stop at any place; docs/C.md says how. The library takes no memory for
+        it."""
         return self._copied(_end.lpt_end_state, Room(57)) or b""
 
     @staticmethod

@@ -1,6 +1,6 @@
 """The faults: an exception for each number of docs/FORMATS.md and docs/C.md, named as there.
 
-`ShortPart` is raised where the libraries answer LPT_E_SHORT_PART, and so on. All are `Fault`, so
+`ShortPart` is raised if the libraries answer LPT_E_SHORT_PART, and so on. All are `Fault`, so
 `except forgesilver.Fault` takes any; `fault.number` is the number. `ValueError` is a base of each,
 but of `Allocation`, which is a `MemoryError`.
 """
@@ -11,13 +11,13 @@ from typing import ClassVar
 
 
 class Fault(Exception):
-    """What a call answers that isn't done: the base of all faults."""
+    """Why a call failed: the base of all faults."""
 
     #: The number by which docs/FORMATS.md and docs/C.md know the fault.
     number: ClassVar[int] = 0
 
     def __init__(self, said: str = "") -> None:
-        """A fault; what is said of it is its class's first line, where nothing else is."""
+        """A fault with this text, by default the first line of its class's docstring."""
         super().__init__(said or (type(self).__doc__ or "").partition("\n")[0].rstrip("."))
 
     def __str__(self) -> str:
@@ -67,7 +67,7 @@ class PusVersion(Fault, ValueError):
 
 
 class WrongType(Fault, ValueError):
-    """Telemetry where a telecommand is read, or the other way round."""
+    """The packet is telemetry and a telecommand was expected, or the other way round."""
 
     number = 12
 
@@ -175,7 +175,7 @@ class NothingDue(Fault, ValueError):
 
 
 class NoJob(Fault, ValueError):
-    """No request is to be read, or executed."""
+    """No request waits to be read, or to be executed."""
 
     number = 51
 
@@ -223,7 +223,7 @@ class ConfigPartSize(Fault, ValueError):
 
 
 class ConfigTimeout(Fault, ValueError):
-    """The time-out isn't 1 to 65,535 ticks."""
+    """The timeout isn't 1 to 65,535 ticks."""
 
     number = 73
 
@@ -283,19 +283,19 @@ class NoNumber(Fault, ValueError):
 
 
 class Nothing(Fault, ValueError):
-    """There is nothing to copy, or to let go."""
+    """There is nothing to copy, or to drop."""
 
     number = 109
 
 
 class Unsent(Fault, ValueError):
-    """Packets are to be sent first."""
+    """Packets that wait must be sent first."""
 
     number = 110
 
 
 class StateShort(Fault, ValueError):
-    """The state is cut short."""
+    """The state has fewer than 57 octets."""
 
     number = 111
 

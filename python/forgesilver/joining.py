@@ -30,18 +30,21 @@ Packets = Union[Octets, BinaryIO, Iterable[Octets]]
 
 @dataclass(frozen=True)
 class Joined:
-    """What was joined of the parts of a message."""
+    """What was joined from the parts of a message.
+
+    - message: the message, or None; then the other fields say why
+    - missing: the missing parts, as the program's `--parts` takes them: `2,4,12-`, where `12-` is
+      part 12 and all after it; empty if none is missing
+    - is_contradicted: whether a part contradicted those that came, as when another message of the
+      name begins
+    - fault: why the joined message is no packet of its direction
+    """
 
     direction: Direction
     name: Name
-    #: The message; None if there is none, and then what follows says why.
     message: Optional[bytes]
-    #: The parts that are missing, as the program's `--parts` takes them: `2,4,12-`, where `12-` is
-    #: part 12 and all after it. Empty if none is.
     missing: str = ""
-    #: Whether another part contradicts those that came, as where another message of the name began.
     is_contradicted: bool = False
-    #: Why the joined message is no packet of its direction.
     fault: Optional[Fault] = field(default=None, compare=False)
 
 
@@ -105,14 +108,14 @@ def _said_of(it: Joined) -> str:
 def join_each(
     packets: Packets, *, part_size: int, apid: Optional[int] = None, any: bool = False
 ) -> Iterator[Joined]:
-    """Each message of these packets, as it becomes whole; what is given up for another one of its
-    name, just then; and at the end, in the order of names, what isn't whole. Packets that are
-    damaged, idle, of another APID or that carry no part are skipped, and so are octets that are no
-    packets.
+    """Each message of these packets, when it becomes whole; parts that are given up for another
+    message of their name, when they are; and at the end, in the order of names, what isn't whole.
+    Damaged and idle packets, those of another APID or without a part, and octets that are no packet
+    are skipped.
 
     If what is joined isn't a packet of its direction, `message` is None and `fault` says why; with
-    `any` anything joined is a message. Raises `Range`; at the end `NotJoined`, if some part doesn't
-    fit the part size and at most last ones do.
+    `any` anything joined is a message. Raises `Range`; and at the end `NotJoined`, if parts don't
+    fit the part size, and all that fit it are last parts.
     """
     joiners: dict[Direction, _Joiner] = {}
     part_size = part_size_of(part_size)

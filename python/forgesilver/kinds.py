@@ -13,7 +13,7 @@ class PacketKind(IntEnum):
 
 
 class Acknowledge(IntFlag):
-    """The acknowledgement flags of a telecommand: which successes are to be reported."""
+    """The acknowledgement flags of a telecommand: which successes the spacecraft reports."""
 
     NONE = 0
     ACCEPTANCE = 1
@@ -31,9 +31,10 @@ class PartKind(IntEnum):
 
 
 class PieceKind(IntEnum):
-    """What the front of a stream is: a packet, in step also an idle one, or one with a right checksum
-    that has no secondary header or is a segment; as many octets as a header says, which are none,
-    with a packet after them or nothing; an octet with which none of these begins."""
+    """The piece in front of a stream. WHOLE: a packet; in step (see `find_piece`) also an idle
+    packet, or one with a right checksum that has no secondary header or is a segment. DAMAGED:
+    octets that are no packet, as many as their header says, with a packet or the end after them.
+    STRAY: an octet with which neither begins."""
 
     WHOLE = 1
     DAMAGED = 2
@@ -41,8 +42,8 @@ class PieceKind(IntEnum):
 
 
 class Reason(IntEnum):
-    """Why a reception was aborted: no part came for as long as the time-out; in strict mode a part
-    came that isn't the next; a part contradicts another."""
+    """Why a reception was aborted. EXPIRED: no part came for as long as the timeout. DISCONTINUITY:
+    in strict mode a part came that isn't the next one. CONFLICT: a part contradicts another."""
 
     EXPIRED = 1
     DISCONTINUITY = 2
@@ -50,7 +51,8 @@ class Reason(IntEnum):
 
 
 class Failure(IntEnum):
-    """Why a request wasn't accepted, the first two; why its execution didn't start, the others."""
+    """The first two say why a request wasn't accepted, the others why its execution didn't
+    start."""
 
     UNKNOWN_TYPE = 1
     BODY = 2
@@ -87,8 +89,8 @@ class Direction(IntEnum):
 
 
 class NameState(IntEnum):
-    """The states of a name at an end: free; in use by a message that is open to be sent, or by a
-    reception; used up."""
+    """The states of a name at an end. OPEN: a message that is open for sending, or a reception,
+    uses it. CLOSED: it was used, and not freed since."""
 
     FREE = 0
     OPEN = 1
@@ -96,14 +98,18 @@ class NameState(IntEnum):
 
 
 class Mode(IntEnum):
-    """In which order parts are taken: in any, or strictly in that of their numbers."""
+    """In which order an end takes parts: in any order, or strictly in the order of their
+    numbers."""
 
     ANY = 0
     STRICT = 1
 
 
 class OutcomeKind(IntEnum):
-    """What became of a packet that an end was given."""
+    """What became of a packet that an end was given. KEPT: a part. AGAIN: a part that was kept
+    before. RELEASED: the last missing part. PLAIN_RELEASED: a telecommand that is no part.
+    REPORT_NOTED: telemetry that is no part. ABORT_NOTED: the report of an abortion. BROKEN: a part
+    that aborted its reception. IGNORED: the packet changed nothing."""
 
     KEPT = 1
     AGAIN = 2
@@ -116,10 +122,10 @@ class OutcomeKind(IntEnum):
 
 
 class Why(IntEnum):
-    """Why nothing was made of a packet: it isn't read, or not as a telecommand at the spacecraft or
-    telemetry on ground; it is idle; it has another APID; it should be a part or a report of an
-    abortion, and its body isn't read; its transaction has ended; as many receptions are open as the
-    limit."""
+    """Why an end ignored a packet. UNREADABLE: it is no packet, or of the wrong kind: the
+    spacecraft takes telecommands, ground telemetry. IDLE: it is idle. FOREIGN_APID: it has another
+    APID. BAD_PART: the body of a part or of an abortion's report can't be read. CLOSED: its
+    transaction has ended. NO_ROOM: as many receptions are open as may be."""
 
     UNREADABLE = 1
     IDLE = 2
@@ -130,8 +136,8 @@ class Why(IntEnum):
 
 
 class AppliedKind(IntEnum):
-    """What became of a request: carried out; carried out, with its report open to be sent in parts; no
-    telecommand of the APID, or dropped: nothing was done; refused."""
+    """What became of a request. OPENED: it was carried out, and its report is open to be sent in
+    parts. SILENT: it is no telecommand of the APID, or was dropped: nothing was done."""
 
     CARRIED_OUT = 1
     OPENED = 2

@@ -1,7 +1,7 @@
 """Requests to load, dump and check a memory, and their reports (ECSS-E-ST-70-41C, service 6).
 
-The library writes and reads their bodies, as docs/FORMATS.md has them; of a load of several areas
-it writes each, and they are put together here.
+The library writes and reads their bodies, as docs/FORMATS.md has them. If a load has several areas,
+the library writes each, and this module puts them together.
 """
 
 from __future__ import annotations
@@ -62,8 +62,8 @@ class _Request:
         flags: Acknowledge = Acknowledge.ACCEPTANCE | Acknowledge.COMPLETION,
     ) -> Telecommand:
         """The request as a telecommand; `write_telecommand` makes its packet, which `End.open`
-        takes where it is longer than a part. Reports name it by APID and count, so choose a count
-        that no other request has."""
+        takes if it is longer than a part. Reports name it by APID and count, so choose a count that
+        no request has whose reports may still come."""
         return Telecommand(apid, count, flags, SERVICE, self.subtype, source, self.body())
 
 
@@ -76,8 +76,8 @@ class Load(_Request):
     subtype: ClassVar[int] = 2
 
     def body(self) -> bytes:
-        """The body of the request's message. Raises `BadArea`, `Range`, or `LongLoad` where its
-        packet would be too long: a load of one area has at most 65,519 octets."""
+        """The body of the request's message. Raises `BadArea`, `Range`, or `LongLoad` if its packet
+        would be too long: a load of one area has at most 65,519 octets."""
         if not 1 <= len(self.areas) <= 255:
             raise BadArea(f"{len(self.areas)} areas")
         areas = [of_kind(it, Loaded) for it in self.areas]
@@ -116,7 +116,7 @@ class _OfAreas(_Request):
 
 @dataclass(frozen=True)
 class Dump(_OfAreas):
-    """A dump: asks for octets of a memory. Of one area, for at most 65,513."""
+    """A dump: asks for octets of a memory, at most 65,513 if it has one area."""
 
     subtype: ClassVar[int] = 5
     _write: ClassVar[Any] = staticmethod(_codecs.lpt_write_dump)
@@ -151,8 +151,9 @@ class CheckReport:
 
 
 def write_load(memory: int, start: int, octets: Octets) -> bytes:
-    """The body of a load of one area, 10 octets more than these: that they go to this memory, from
-    this address on. Raises `Range`, `BadArea` of no octets, or `LongLoad` of more than 65,519.
+    """The body of a load of one area, which writes these octets into this memory, from this address
+    on. It has 10 octets more than these. Raises `Range`, `BadArea` of no octets, or `LongLoad` of
+    more than 65,519.
 
     >>> write_load(1, 16, bytes(2)).hex()
     '010100000010000200001d0f'
@@ -169,8 +170,8 @@ def write_load(memory: int, start: int, octets: Octets) -> bytes:
 
 
 def read_dump(body: Octets) -> DumpReport:
-    """Reads a message's body as the report of a dump. Raises `NoReport`, or `Checksum` where an
-    area's checksum isn't that of its octets."""
+    """Reads a message's body as the report of a dump. Raises `NoReport`, or `Checksum` if an area's
+    checksum isn't that of its octets."""
     given, out = Given(body), _library.LptDumped()
     areas: list[Loaded] = []
     while not areas or len(areas) < out.areas:
@@ -190,8 +191,8 @@ def read_check(body: Octets) -> CheckReport:
 
 
 def read_data_report(telemetry: Telemetry) -> Union[DumpReport, CheckReport]:
-    """Reads telemetry as the report of a dump or a check, whichever it is. Raises `NoReport` of
-    another service or subtype, and what `read_dump` and `read_check` do."""
+    """Reads telemetry as the report of a dump or a check, whichever it is. Raises `NoReport` for
+    another service or subtype, and what `read_dump` and `read_check` raise."""
     of_kind(telemetry, Telemetry)
     if telemetry.service != SERVICE or telemetry.subtype not in (DUMPED, CHECKED):
         raise NoReport(f"service {telemetry.service}, subtype {telemetry.subtype}")

@@ -1,7 +1,7 @@
 """Space packets (CCSDS 133.0-B), and telecommands and telemetry of ECSS-E-ST-70-41C in them.
 
-What a reader gives of `bytes` it copies; of a `memoryview` it gives views of the same octets, which
-are good as long as those stay as they are.
+From a `memoryview` a reader returns views of the same octets, which are good as long as those stay
+as they are; from anything else it returns copies.
 """
 
 from __future__ import annotations
@@ -17,6 +17,7 @@ from ._library import (
 from .faults import More, raise_fault
 from .kinds import Acknowledge, PacketKind, PieceKind
 
+#: The octets of the longest packet, and of the longest message that is sent in parts.
 LONGEST_PACKET = _library.LONGEST_PACKET
 # So many octets of a stream always show which piece is in front.
 _LOOKAHEAD = 2 * LONGEST_PACKET
@@ -75,14 +76,16 @@ class Telemetry:
     status: int = 0
 
 
-def crc16(octets: Octets) -> int:
-    """The packet error control over these octets.
+def crc16(octets: Octets, before: int = 0xFFFF) -> int:
+    """The packet error control over these octets, behind others that have this one.
 
     >>> hex(crc16(b"123456789"))
     '0x29b1'
+    >>> hex(crc16(b"56789", crc16(b"1234")))
+    '0x29b1'
     """
     given = Given(octets)
-    return int(_codecs.lpt_crc16(given.at, given.len))
+    return int(_codecs.lpt_crc16_more(number(before, 0xFFFF, "the checksum"), given.at, given.len))
 
 
 # ---- packets ----
@@ -112,7 +115,7 @@ def write_packet(packet: Packet) -> bytes:
 def packet_length(octets: Octets) -> int:
     """How many octets the packet has that begins here, idle or not, by the first six of them.
 
-    Raises `More` where there are fewer, and `Version` where no packet begins so.
+    Raises `More` if there are fewer, and `Version` if no packet begins so.
     """
     front, length = bytes(view_of(octets)[:6]), SIZE(0)
     _allow_idle(_codecs.lpt_packet_length(front, len(front), byref(length)))
@@ -124,12 +127,12 @@ def packets_of(stream: BinaryIO) -> Iterator[bytes]: ...
 @overload
 def packets_of(stream: Octets) -> Iterator[memoryview]: ...
 def packets_of(stream: Union[Octets, BinaryIO]) -> Iterator[Union[bytes, memoryview]]:
-    """The whole packets of a stream, one after the other, idle ones too: of octets, as views of
-    them, or of a binary file that is open. Where they begin is known from the first on.
+    """The whole packets of a stream, one after the other, idle ones too. The stream is octets, of
+    which the packets are views, or an open binary file. Its first octet begins a packet.
 
-    Raises `Version` where no packet begins, and `More` where the last is cut short: what comes from
-    there on isn't searched for packets, since a message may hold packets that nobody sent.
-    `find_piece` finds them where a stream is damaged, and `join_each` takes what it finds.
+    Raises `Version` at an octet where no packet begins, and `More` if the last packet is cut short.
+    What follows isn't searched for packets, because a message may contain packets that nobody sent.
+    `find_piece` finds the packets of a damaged stream, and `join_each` takes what it finds.
     """
     if not has_octets(stream):
         yield from _packets_of_file(stream)  # type: ignore[arg-type]
@@ -206,10 +209,10 @@ def find_piece(
     octets: Octets, *, in_step: bool = True, is_end: bool = False
 ) -> Optional[tuple[PieceKind, int]]:
     """The piece in front of octets of a stream that may be damaged: what it is, and how many octets
-    it has; None where there are none, or it depends on octets that may still come.
+    it has. None if there are no octets, or if the piece depends on octets that may still come.
 
-    `in_step` says that they begin the stream, or come right after a packet or a damaged one;
-    `is_end` that nothing comes after them.
+    `in_step` says that the octets begin the stream, or come right after a packet or a damaged one,
+    and `is_end` that nothing comes after them.
 
     >>> packet = write_packet(Packet(PacketKind.TC, 100, 0, b" 123"))
     >>> find_piece(packet), find_piece(packet[1:], is_end=True)

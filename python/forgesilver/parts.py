@@ -1,5 +1,5 @@
 """Large messages and their parts (ECSS-E-ST-70-41C, service 13): `split` makes the packets of a
-message; `join`, of the module joining, makes the message of them again."""
+message; `join`, in the module joining, makes the message from them again."""
 
 from __future__ import annotations
 
@@ -22,8 +22,8 @@ _KINDS = {int(it): it for it in PartKind}
 
 
 class Name(NamedTuple):
-    """What names a transaction within its direction: the source ID of telecommands up, which is the
-    destination ID of telemetry down, and the identifier in the parts."""
+    """What names a transaction within its direction: its source, which is the source ID of
+    telecommands up and the destination ID of telemetry down, and the identifier in the parts."""
 
     source: int
     id: int
@@ -67,7 +67,7 @@ def part_size_of(size: int) -> int:
 
 def part_kind(kind: PacketKind, service: int, subtype: int) -> Optional[PartKind]:
     """Which kind of part a message of this service and subtype carries in a packet of this kind;
-    `None` where it carries none. Raises `Range`."""
+    None if it carries none. Raises `Range`."""
     its_kind = number(kind, 1, "the packet's kind")
     types = number(service, 255, "the service"), number(subtype, 255, "the subtype")
     return _KINDS.get(int(_codecs.lpt_part_kind(its_kind, *types)))
@@ -91,7 +91,7 @@ def read_part(kind: PartKind, body: Octets, part_size: int) -> Part:
 
 def write_part(part: Part, part_size: int) -> bytes:
     """The body of a message that carries a part. Raises `Range`; and `ZeroNumber`, `KindNumber` or
-    `PartLength` where there is no such part."""
+    `PartLength` if there is no such part."""
     kind = number(of_kind(part, Part).kind, 3, "the kind", 1)
     size = part_size_of(part_size)
     identifier = number(part.id, 0xFFFF, "the identifier")
@@ -107,8 +107,8 @@ def write_part(part: Part, part_size: int) -> bytes:
 
 
 def part_of(message: Union[Telecommand, Telemetry], part_size: int) -> Optional[Part]:
-    """The part that a telecommand or telemetry carries; nothing where its types are of no part.
-    Raises what `read_part` does."""
+    """The part that a telecommand or telemetry carries; None if its service and subtype are those
+    of no part. Raises what `read_part` does."""
     of_kind(message, (Telecommand, Telemetry))
     kind = message.subtype - (8 if isinstance(message, Telecommand) else 0)
     if message.service != SERVICE or kind not in _KINDS:
@@ -144,10 +144,9 @@ def split(
 ) -> Iterator[bytes]:
     """The packets of a message's parts, in order; or of those with these numbers, from 1.
 
-    Up they are telecommands and down telemetry of this time. The first has this sequence count, and
-    the others count on. Of telemetry the message type counters are 0. Raises `ShortMessage` where
-    the message isn't longer than a part, `LongMessage` above 65,542 octets, `NoSuchPart`, and
-    `Range`.
+    Up they are telecommands, and down telemetry of this time, with message type counters of 0. The
+    first has this sequence count, and the others count on from it. Raises `ShortMessage` if the
+    message isn't longer than a part, `LongMessage` above 65,542 octets, `NoSuchPart`, and `Range`.
 
     >>> packets = split(bytes(20), name=(1, 7), part_size=8, apid=100)
     >>> [len(it) for it in packets]

@@ -44,7 +44,7 @@ def read_report(subtype: int, body: Octets) -> VerificationReport:
 
 
 def write_report(report: VerificationReport) -> bytes:
-    """The body of a report; `report.kind` is the subtype of its message. Raises `Range`, as where
+    """The body of a report; `report.kind` is the subtype of its message. Raises `Range`, also if
     the code of a failure isn't one of `Failure`."""
     kind = number(of_kind(report, VerificationReport).kind, 255, "the kind")
     request = number(report.request_id, 0xFFFFFFFF, "the request ID")
