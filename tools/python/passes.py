@@ -14,7 +14,7 @@ from model.memories import load_body
 from model.packets import Fault as ModelFault
 from model.packets import Name, write_command
 from model import states
-from model.settings import Settings
+from model.settings import LAST_TICK, Settings
 from model.world import World
 
 ENDS = {"up": ("ground", "craft"), "down": ("craft", "ground")}
@@ -209,7 +209,9 @@ class Pass:
 
     def time(self) -> None:
         side, ticks = self.random.choice(["ground", "craft"]), self.random.randrange(1, 4)
-        wanted = self.modelled(self.world.tick, side, ticks)
+        # An end refuses ticks that its clock doesn't have; a line of the world goes as far as it can.
+        has_ended = self.world.nodes[side].clock + ticks > LAST_TICK
+        wanted = 56 if has_ended else self.modelled(self.world.tick, side, ticks)
         self.same("tick", self.called(self.ends[side].tick, ticks), wanted)
 
     def expire(self) -> None:
