@@ -254,7 +254,7 @@ bool node_take(Node *it, Head *head, LptOutcome *outcome, uint8_t *packet, size_
 void node_opened(Node *it, const LptName *name) {
     LptSender sender = {{0, 0}, 0, 0};
     size_t k;
-    must(it->sendings_len < OUTGOING, "too many are open");
+    must(it->sendings_len < 2U * OUTGOING, "too many are open");
     for (k = 0; lpt_end_sender(it->end, k, &sender) == LPT_DONE; k++) {
         if (sender.name.source == name->source && sender.name.id == name->id) {
             Sending *of = &it->sendings[it->sendings_len++];

@@ -66,7 +66,8 @@ typedef struct Node {
     int link;
     int journal;
     uint32_t cycles;
-    Sending sendings[OUTGOING];
+    /* a message that was broken off stands here until the next cycle, beside those that are open */
+    Sending sendings[2 * OUTGOING];
     uint32_t sendings_len;
     Head lines[MOST_LINES]; /* to be sent once this cycle is kept */
     uint32_t lines_len;
