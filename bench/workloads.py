@@ -19,7 +19,7 @@ size = 1048576
 # The smallest parts that there can be, of which a message has the most.
 SMALLEST_PARTS = "part_size = 4\n"
 
-# As many open receptions as there can be, and a time-out that doesn't come.
+# As many open receptions as there can be, and a timeout that doesn't come.
 MANY_RECEPTIONS = """receptions = 64
 outgoing = 64
 timeout = 65535

@@ -8,7 +8,7 @@ from .packets import Fault, Name, hexadecimal, number_of, read_headers, read_pac
 from .parts import ABORT_SUBTYPE, PART_SUBTYPES, read_part
 from .settings import LAST_TICK
 
-# Why a reception is broken off that took no part for as long as the time-out.
+# Why a reception is broken off that took no part for as long as the timeout.
 EXPIRED = 1
 
 # The octets of telemetry with a part, beside the part's own.

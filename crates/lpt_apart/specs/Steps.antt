@@ -41,7 +41,7 @@ use Rattle.lpt_apart.specs.Facts.{Opened, Asked, Released, Aborted, Executed, Re
 -- claims a request, or hands its reading in; the spacecraft executes its oldest request; both nodes
 -- free a name; the node of a side is restarted.
 --
--- Assumed: Memories, names and clocks outlast a restart, and no restart falls within a call.
+-- Assumed: Memories, names and clocks survive a restart, and no restart falls within a call.
 pub data Step : Type 0 where
   Open : Direction → Name → (message : List ℕ) → Step
   Send : Direction → Name → (k : ℕ) → Step

@@ -1,4 +1,4 @@
--- The state of an end as octets, and an end that is made again of them.
+-- The state of an end as octets, and an end that is restored from them.
 use Rattle.std.specs.Prelude.{◌≡◌, ℕ, ◌+◌, ◌<◌, ◌^◌, nat_lt, ◌||◌, if◌then◌else◌, List, [], Option, Some, None, Result, Ok, Err}
 use Rattle.lpt_events.specs.Configs.{config_fault}
 use Rattle.lpt_events.specs.declared.config.Config.{Config}

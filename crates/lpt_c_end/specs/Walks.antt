@@ -32,7 +32,7 @@ reception_refusal number e = none_refusal (reception_name number e)
 abbrev pub number_in : ℕ → Option ℕ
 number_in n = if n == 0 then None else Some n
 
--- this is said of a reception of this name and time-out: how many parts were kept, which is the
+-- this is said of a reception of this name and timeout: how many parts were kept, which is the
 -- last one, and from which tick on it is overdue
 pub record IsReception (timeout : ℕ) (name : Name) (entry : TableEntry) (said : LptReception)
     : Type 0 where

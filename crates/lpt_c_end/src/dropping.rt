@@ -38,8 +38,8 @@ pub fn lpt_end_asked(alloc: Global, end: &mut LptEnd, service: &mut u8, subtype:
 }
 
 /// Drops the oldest request that was released and not read yet, in place of `lpt_end_read`: it is
-/// never executed. What stands in its place asks nothing, and `lpt_end_execute` lets it go in its
-/// turn, with no report.
+/// never executed. What stands in its place asks nothing, and `lpt_end_execute` discards it
+/// in its turn, with no report.
 ///
 /// 0; 106 if the handle is empty; 51 if there is none, as always on ground; 58 when out of
 /// memory. Then nothing has changed.

@@ -1,4 +1,4 @@
-//! The state of an end as octets, and an end that is made again of them.
+//! The state of an end as octets, and an end that is restored from them.
 
 ghost use Rattle.std.specs.Prelude.{◌≡◌, None, IfOk, IfErr, Ok, OnOk};
 ghost use Rattle.lpt_events.specs.Configs.{IsConfig};

@@ -4,7 +4,7 @@
 //!
 //! Each call is total. It answers 0, or the number of the first fault that applies, and then the
 //! end is as it was; if nothing else refuses it, a call that takes memory may answer that there
-//! is none. What a node makes to be sent stands in the end's outbox until the caller lets it go.
+//! is none. What a node makes to be sent stands in the end's outbox until the caller has sent it.
 //! Memory comes from the three allocator functions of the kit, which the caller's program has.
 //!
 //! C has the address of a handle, an `LptEnd` in the library's memory, and declares that type

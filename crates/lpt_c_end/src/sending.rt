@@ -55,7 +55,7 @@ pub fn lpt_end_part(alloc: Global, end: &mut LptEnd, name: &LptName, number: u16
     code
 }
 
-/// Closes an open message, and lets it go.
+/// Closes an open message, and frees its memory.
 ///
 /// 0; 106 if the handle is empty; 45 if no message of this name is open: nothing has changed
 /// then.

@@ -28,7 +28,7 @@ pub struct LptConfig {
     pub apid: u16,
     /// The part size in octets, 4 to 1024.
     pub part_size: u32,
-    /// The time-out of a reception in ticks, 1 to 65,535.
+    /// The timeout of a reception in ticks, 1 to 65,535.
     pub timeout: u32,
     /// How many receptions may be open, 1 to 64.
     pub receptions: u32,

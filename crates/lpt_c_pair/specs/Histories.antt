@@ -34,7 +34,7 @@ pub record History : Type 0 where
 
 -- A call answered 0, and a reset deletes it where its end wasn't kept since; or no reset does;
 -- the program of a side keeps its end's state, and the spacecraft's with it the memories; or a
--- machine is reset, and its end is made again of a state and memories.
+-- machine is reset, and its end is restored from a state and memories.
 pub data Deed : Type 0 where
   Makes : Turn → Deed
   Stays : Turn → Deed
@@ -172,7 +172,7 @@ but_other h Craft = h.but_ground
 
 -- A call can be made after what is left, and also after that but for what the other end's program
 -- made and didn't keep: so that is handed over only once it was kept. Then a machine can be reset
--- at any time, and its end is made again of what was kept of it.
+-- at any time, and its end is restored from what was kept of it.
 abbrev pub IsCareful : Config → (start : Standing) → History → Deed → Type 0
 IsCareful c start h (Makes t) =
     CanTurnBy c (stood c start h.calls) t.side t.call t.new

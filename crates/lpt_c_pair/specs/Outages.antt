@@ -84,7 +84,7 @@ pub record Lived : Type 0 where
 
 -- A program does something, which a reset deletes where its end wasn't kept since; or what no reset
 -- deletes; the program of a side keeps its end's state, the spacecraft's with what it owes; or a
--- machine is reset, and its end is made again of a state. These are the spacecraft's memories then:
+-- machine is reset, and its end is restored from a state. These are the spacecraft's memories then:
 -- as they were, or with what its program put back or wrote again at its start.
 pub data Event : Type 0 where
   Acts : Act → Event

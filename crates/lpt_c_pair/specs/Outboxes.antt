@@ -1,4 +1,4 @@
--- What waits in an end's outbox, until the program has copied it and lets it go.
+-- What waits in an end's outbox, until the program has copied it and says that it is sent.
 use Rattle.std.specs.Prelude.{◌≡◌, ℕ, false, List, [], ◌∷◌, ⊤}
 use Rattle.lpt_apart.specs.Ends.{Ends, is_part}
 use Rattle.lpt_apart.specs.Steps.{IsOnTheWay}

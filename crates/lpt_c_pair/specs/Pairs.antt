@@ -72,7 +72,7 @@ pub record AreEndsOf (c : Config) (p : Pair) (on_ground on_craft : End) : Type 0
 -- ---- calls
 
 -- A call of an end, as `include/lpt_end.h` has them; a name is freed in a direction, by its number,
--- also one that is free. An end is made again of its state, in place of the one that its program
+-- also one that is free. An end is restored from its state, in place of the one that its program
 -- had.
 --
 -- Assumed: A C program drops no request.
@@ -150,7 +150,7 @@ moves side (ResumeSized config state sizes) = Do (step.Restart side) ∷ []
 -- what was kept of an end is this state, which reads as its restart, and these memories, in
 -- whatever order they are told; nothing happened at it since, and a number is left for a start
 --
--- Assumed: Memories, names and clocks outlast a restart, and no restart falls within a call.
+-- Assumed: Memories, names and clocks survive a restart, and no restart falls within a call.
 pub record IsKept (c : Config) (e : End) (config : Config) (state : List ℕ)
     (kept : Kept) : Type 0 where
   pub ticks : ℕ
@@ -169,7 +169,7 @@ end_of Craft g k = k
 -- other end and may come still, or are no part and no request. Octets that a request is given are
 -- those that the program's memories have where it reads. A name is freed at its receiver
 -- where it is over, and at its sender after that, and none of its parts waits at its sender; or it
--- is free there as `lpt_end_name` tells it. An end is made again of what was kept of it, in a
+-- is free there as `lpt_end_name` tells it. An end is restored from what was kept of it, in a
 -- configuration that is the same but for the clock. What an end did and wasn't kept is no call:
 -- nothing of it was acted on or sent.
 abbrev pub Promises : Config → Pair → (on_ground on_craft : End) → Side → Call → Type 0

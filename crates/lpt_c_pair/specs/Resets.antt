@@ -75,7 +75,7 @@ pub record Lived : Type 0 where
 
 -- A program does something, which a reset deletes where its end wasn't kept since; or what no reset
 -- deletes; the program of a side keeps its end's state, the spacecraft's with what it owes; or a
--- machine is reset, and its end is made again of a state. These are the spacecraft's memories then:
+-- machine is reset, and its end is restored from a state. These are the spacecraft's memories then:
 -- as they were, or with what its program put back or wrote again at its start.
 pub data Deed : Type 0 where
   Does : Act → Deed
@@ -214,7 +214,7 @@ but_other l Ground = l.but_craft
 but_other l Craft = l.but_ground
 
 -- An act can be done after what is left, and also after that but for what the other end's program
--- did and didn't keep. Then a machine can be reset at any time: its end is made again of what was
+-- did and didn't keep. Then a machine can be reset at any time: its end is restored from what was
 -- kept of it, and what was owed then makes the same of the memories.
 abbrev pub IsCareful : Config → (start : Program) → Lived → Deed → Type 0
 IsCareful c start l (Does x) =

@@ -109,8 +109,8 @@ pub fn zero_is_done()
 
 /// A request that is dropped is never executed. Its drop puts a message of no octets in the place
 /// of the oldest request that waited, and changes nothing else. If that is the oldest of all,
-/// executing it lets it go: no memory changes, and no packet is made. So it is after whatever calls
-/// of ends that drop requests, once its place comes to the front.
+/// executing it discards it: no memory changes, and no packet is made. So it is after whatever
+/// calls of ends that drop requests, once its place comes to the front.
 pub fn dropped_is_never_executed()
     ensures drop { DropsOldest }
     ensures execute { DroppedIsPassedOver }

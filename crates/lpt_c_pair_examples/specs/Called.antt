@@ -24,7 +24,7 @@ abbrev pub loaded_content : List ℕ
 loaded_content = replicate 16 0 ++ 171 ∷ 205 ∷ 239 ∷ 1 ∷ replicate 236 0
 
 -- Ground asks for a load, and its packet is handed to the spacecraft. That reads the request,
--- executes it, and is made again of its state. The newest stands first; these are the ends that
+-- executes it, and is restored from its state. The newest stands first; these are the ends that
 -- came of it.
 abbrev pub calls_made : (asked taken read done again : End) → List Turn
 calls_made asked taken read done again =

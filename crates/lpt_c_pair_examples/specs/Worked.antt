@@ -27,7 +27,7 @@ load_told = record {
 }
 
 -- Ground asks for a load, and its packet is handed to the spacecraft. That reads the request and
--- executes it, with its write owed; writes it; and is made again of its state. The newest stands
+-- executes it, with its write owed; writes it; and is restored from its state. The newest stands
 -- first; these are the ends that came of it.
 abbrev pub worked : (asked taken read given again : End) → List Act
 worked asked taken read given again =
@@ -74,7 +74,7 @@ torn = (1, replicate 16 0 ++ 171 ∷ 205 ∷ replicate 238 0) ∷ []
 
 -- The same, but that ground's end is kept before its packet is handed over, and the spacecraft's
 -- behind the execution, with the write that is owed; the machine is reset in the middle of that
--- write; and once the end was made again of what was kept, the write is made again. The newest
+-- write; and once the end was restored from what was kept, the write is made again. The newest
 -- stands first.
 abbrev pub torn_and_redone : (asked taken read given again : End) → List Deed
 torn_and_redone asked taken read given again =

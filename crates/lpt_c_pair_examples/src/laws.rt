@@ -7,7 +7,7 @@ ghost use Rattle.lpt_c_pair_examples.specs.TakenBack.{WrittenCanBeTakenBack};
 ghost use Rattle.lpt_c_pair_examples.specs.Worked.{TornCanBeRedone, WorkedCanBe, WrittenCanBePutBack};
 
 /// Of whatever two new ends, of which the spacecraft's has its memory: ground asks for a load; the
-/// spacecraft takes its packet, reads and executes it, and is made again of its state. All of it
+/// spacecraft takes its packet, reads and executes it, and is restored from its state. All of it
 /// can be done; the load was released and executed, and stands in the memory. So it is if the
 /// machine is reset after that, when the packet has come once more.
 pub fn calls_can_be()
@@ -30,7 +30,7 @@ pub fn torn_can_be_redone()
 {}
 
 /// The end is kept before the load is written, and the machine is reset before the request is
-/// executed: what stood there is put back, and the end is made again of what was kept.
+/// executed: what stood there is put back, and the end is restored from what was kept.
 pub fn written_can_be_put_back()
     ensures { WrittenCanBePutBack }
 {}

@@ -1,4 +1,4 @@
-//! Worked rows: what comes of parts that are offered under a limit and a time-out.
+//! Worked rows: what comes of parts that are offered under a limit and a timeout.
 
 ghost use Rattle.std.specs.Prelude.{◌≡◌, None, IsSomeAnd};
 
@@ -153,7 +153,7 @@ fn check_rows(rt: &impl Abort, table: &mut Table, rows: &[Row])
     }
 }
 
-// The same of a new table of so many receptions, whose time-out is 10 ticks.
+// The same of a new table of so many receptions, whose timeout is 10 ticks.
 fn check(rt: &impl Abort, alloc: Global, limit: u32, mode: Mode, rows: &[Row]) -> Result<(), Fail> {
     assert!(rt; 1 <= limit && limit <= 64);
     let mut table = Table::new(alloc, limit, 10, 4, mode)?;

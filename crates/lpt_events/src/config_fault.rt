@@ -14,8 +14,8 @@ pub enum ConfigFault {
     /// The part size isn't 4 to 1024 octets.
     #[error("the part size isn't 4 to 1024 octets")]
     PartSize,
-    /// The time-out isn't 1 to 65,535 ticks.
-    #[error("the time-out isn't 1 to 65,535 ticks")]
+    /// The timeout isn't 1 to 65,535 ticks.
+    #[error("the timeout isn't 1 to 65,535 ticks")]
     Timeout,
     /// The limit of receptions isn't 1 to 64.
     #[error("the limit of receptions isn't 1 to 64")]

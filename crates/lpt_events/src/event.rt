@@ -32,7 +32,7 @@ pub enum Event {
     /// Sets the clock of the node on this side one tick on.
     Tick(Side),
     /// Ends the reception at the node on this side that is due: of those that took no part for as
-    /// long as the time-out, the one that has waited longest, and of equal ones that of the least
+    /// long as the timeout, the one that has waited longest, and of equal ones that of the least
     /// name. The spacecraft puts a report of it on the link.
     Expire(Side),
     /// Gives a worker that has none the oldest released request that no worker has claimed.

@@ -126,7 +126,7 @@ impl StepFault {
             StepFault::NotHeld => "the link holds no such packet in the lane's direction",
             StepFault::HandFull => "the lane has a packet in its hand, or the worker a job",
             StepFault::HandEmpty => "the lane has no packet in its hand, or the worker no job",
-            StepFault::NothingDue => "no reception of the node has waited for the time-out",
+            StepFault::NothingDue => "no reception of the node has waited for the timeout",
             StepFault::NoJob => "no job waits",
             StepFault::NotReady => "the oldest job wasn't committed yet",
             StepFault::NotClear => {

@@ -8,7 +8,7 @@ use Rattle.lpt_events.specs.Sides.{receiver_side}
 use Rattle.lpt_journal.specs.Journal.{History}
 use Rattle.lpt_journal.specs.Receivers.{open_names, clock, last_tick}
 
--- whether the receiver took no part of the transaction for as long as the time-out
+-- whether the receiver took no part of the transaction for as long as the timeout
 abbrev pub is_overdue : Config → History → Direction → Name → Bool
 is_overdue c h d name = nat_le (last_tick c h d name + c.timeout) (clock c h (receiver_side d))
 

@@ -139,7 +139,7 @@ strict_pass es h = record {
   legal = legal strict (reverse es) h;
 }
 
--- or of that with a time-out of one tick
+-- or of that with a timeout of one tick
 pub impatient_pass : (es : List Event) → passes impatient (reverse es) ≡ true → IsPass impatient es
 impatient_pass es h = record {
   configured = usual_with 1 (omega arith) (omega arith);

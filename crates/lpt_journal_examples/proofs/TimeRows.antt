@@ -33,7 +33,7 @@ pub ticks-given : (played (record usual { clock = 4294967293 }) ticks).given ≡
     ∷ gives (Clock 4294967295) ∷ Refuses ClockEnd ∷ []
 ticks-given = ap (λ p. p.given) (played_is (record usual { clock = 4294967293 }) ticks)
 
--- ---- a reception that takes no part for as long as the time-out
+-- ---- a reception that takes no part for as long as the timeout
 
 abbrev nine_ticks : List Event
 nine_ticks =

@@ -131,7 +131,7 @@ in_order =
 
 -- ---- two receptions with one last tick
 
--- a time-out of one tick
+-- a timeout of one tick
 abbrev pub impatient : Config
 impatient = record usual { timeout = 1 }
 

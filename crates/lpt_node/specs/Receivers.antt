@@ -23,7 +23,7 @@ use Rattle.lpt_node.specs.declared.receipt.Receipt.{Receipt}
 use Rattle.lpt_packet.specs.Sizes.{longest_packet}
 use Rattle.lpt_node.specs.declared.receipt.Receipt.TheVariants as receipt
 
--- how many receptions may be open, the time-out in ticks, the part size, the state of each name,
+-- how many receptions may be open, the timeout in ticks, the part size, the state of each name,
 -- and the open receptions
 pub record ReceiverState : Type 0 where
   pub limit : ℕ

@@ -46,10 +46,10 @@ impl Node {
         }
     }
 
-    /// Restarts the node. Its open outgoing transactions are closed and their messages let go,
-    /// and its open receptions and its jobs are dropped. Sequence counts, message type counters and
-    /// numbers of jobs begin at 0 again, and it has one boot more. What it knows of other names
-    /// stays, and so does the clock. It takes no memory.
+    /// Restarts the node. Its open outgoing transactions are closed and their messages dropped, and
+    /// so are its open receptions and its jobs. Sequence counts, message type counters and numbers
+    /// of jobs begin at 0 again, and it has one boot more. What it knows of other names stays, and
+    /// so does the clock. It takes no memory.
     pub fn restart(&mut self)
         requires { self.old.at.boot + 1 < 2 ^ 64 }
         ensures at { self.new.at ≡ restarted self.old.at }

@@ -28,7 +28,7 @@ impl Node {
         Ok(())
     }
 
-    /// Gives the reception up that is due: of those that took no part for as long as the time-out,
+    /// Gives the reception up that is due: of those that took no part for as long as the timeout,
     /// the one that has waited longest, and of equal ones the one with the least name. The
     /// spacecraft makes a report of it.
     ///

@@ -1,5 +1,5 @@
 pub mod AnswerLemmas
+pub mod DoneLemmas
 pub mod KeyLemmas
 pub mod OpenLemmas
-pub mod SettleLemmas
 pub mod TakeLemmas

@@ -10,7 +10,7 @@ use Rattle.lpt_list.specs.Lists.{closing}
 use Rattle.lpt_outcomes.specs.declared.asked.Asked.{Asked}
 use Rattle.lpt_outcomes.specs.declared.outcome.Outcome.{Outcome}
 use Rattle.lpt_outcomes.specs.Keys.{Key, key_of, same_key}
-use Rattle.lpt_outcomes.specs.Settled.{is_acknowledged}
+use Rattle.lpt_outcomes.specs.Done.{is_acknowledged}
 
 -- ---- what is asked
 

@@ -7,7 +7,7 @@ use Rattle.lpt_outcomes.specs.declared.asked.Asked.{Asked}
 use Rattle.lpt_outcomes.specs.declared.passed.Beside.{Beside}
 use Rattle.lpt_outcomes.specs.Passing.{in_piece}
 use Rattle.lpt_outcomes.specs.Requests.{request_in}
-use Rattle.lpt_outcomes.specs.Settled.{has_last}
+use Rattle.lpt_outcomes.specs.Done.{has_last}
 
 -- whether no report tells the end of a request: neither that it failed, nor the last success that
 -- it asks for

@@ -1,7 +1,7 @@
-//! Requests, and whether they are settled.
+//! Requests, and whether they are done.
 
 ghost use Rattle.std.specs.Prelude.{◌↔◌, IsTrue, All};
-ghost use Rattle.lpt_outcomes.specs.Settled.{is_settled, AreSettled};
+ghost use Rattle.lpt_outcomes.specs.Done.{is_done, AreDone};
 
 use crate::key::Key;
 use crate::{Outcome, Passed};
@@ -38,7 +38,7 @@ impl Asked {
     ghost use Rattle.lpt_outcomes.specs.Answers.{answered_by};
     ghost use Rattle.lpt_outcomes.specs.Keys.{key_of};
     ghost use Rattle.lpt_outcomes.specs.Opened.{is_open};
-    ghost use Rattle.lpt_outcomes.specs.Settled.{is_acknowledged, is_settled};
+    ghost use Rattle.lpt_outcomes.specs.Done.{is_acknowledged, is_done};
 
     // What names it.
     pub(crate) fn key(&self) -> Key
@@ -67,8 +67,8 @@ impl Asked {
     }
 
     // Whether it didn't fail, and the last report of success that it asks for has come.
-    pub(crate) fn is_settled(&self) -> bool
-        ensures { result ≡ is_settled self.now }
+    pub(crate) fn is_done(&self) -> bool
+        ensures { result ≡ is_done self.now }
     {
         self.outcome.failure.is_none() && self.outcome.has_last(self.flags)
     }
@@ -81,24 +81,24 @@ impl Asked {
     }
 }
 
-/// Whether nothing is open: there are requests, all of them are settled, and nothing is to be told
+/// Whether nothing is open: there are requests, all of them are done, and nothing is to be told
 /// that was passed over among them or among the reports.
 ///
-/// A request is settled if it didn't fail, and the last report of success has come that its
+/// A request is done if it didn't fail, and the last report of success has come that its
 /// acknowledgement flags ask for, of acceptance, start and completion; no report of progress is
-/// waited for. One that asks for none of these is settled by nothing.
-pub fn are_settled(requests: &[Asked], of_requests: &Passed, of_reports: &Passed) -> bool
-    ensures { IsTrue result ↔ AreSettled requests.now of_requests.now of_reports.now }
+/// waited for. One that asks for none of these is never done.
+pub fn are_done(requests: &[Asked], of_requests: &Passed, of_reports: &Passed) -> bool
+    ensures { IsTrue result ↔ AreDone requests.now of_requests.now of_reports.now }
 {
     !requests.is_empty()
-        && all_settled(requests)
+        && all_done(requests)
         && of_requests.is_nothing()
         && of_reports.is_nothing()
 }
 
-// Whether each of these is settled.
-fn all_settled(requests: &[Asked]) -> bool
-    ensures { IsTrue result ↔ All (λ a. IsTrue (is_settled a)) requests.now }
+// Whether each of these is done.
+fn all_done(requests: &[Asked]) -> bool
+    ensures { IsTrue result ↔ All (λ a. IsTrue (is_done a)) requests.now }
 {
-    requests.iter().all(|asked| asked.is_settled())
+    requests.iter().all(|asked| asked.is_done())
 }

@@ -3,13 +3,13 @@
 ghost use Rattle.std.specs.Prelude.{◌≡◌, ℕ, ◌<◌, ◌^◌, ◌∷◌, ◌&&◌, [], map, not, is_some, Option, IfSome};
 ghost use Rattle.lpt_outcomes.specs.declared.asked.Asked.{Asked};
 ghost use Rattle.lpt_outcomes.specs.Requests.{nothing_told};
-ghost use Rattle.lpt_outcomes.specs.Settled.{answered, is_acknowledged, is_settled};
+ghost use Rattle.lpt_outcomes.specs.Done.{answered, is_acknowledged, is_done};
 
-/// Once all reports on a request have come that are sent on it, it is settled exactly if it asks
+/// Once all reports on a request have come that are sent on it, it is done exactly if it asks
 /// for a report of success and was carried out: if it failed, with whatever code, it isn't.
-pub fn answered_is_settled()
+pub fn answered_is_done()
     ensures { (a : Asked) (code : Option ℕ) → a.request.value < 2 ^ 32
         → IfSome code (λ c. c < 2 ^ 16) → a.outcome ≡ nothing_told
-        → map is_settled (answered a.source a.request.value a.flags code (a ∷ []))
+        → map is_done (answered a.source a.request.value a.flags code (a ∷ []))
         ≡ (not (is_some code) && is_acknowledged a.flags) ∷ [] }
 {}

@@ -22,7 +22,7 @@ impl Outcome {
     ghost use Rattle.lpt_outcomes.specs.Reports.{told};
     ghost use Rattle.lpt_outcomes.specs.Answers.{joined};
     ghost use Rattle.lpt_outcomes.specs.Lines.{is_told};
-    ghost use Rattle.lpt_outcomes.specs.Settled.{has_last};
+    ghost use Rattle.lpt_outcomes.specs.Done.{has_last};
 
     // Before any report.
     pub(crate) fn new() -> Outcome

@@ -7,7 +7,7 @@ use lpt_io::{
 };
 use lpt_list::Form;
 use lpt_outcomes::{
-    Asked, Passed, Requests, are_settled, read_reports, read_requests, write_open, write_outcomes,
+    Asked, Passed, Requests, are_done, read_reports, read_requests, write_open, write_outcomes,
 };
 use lpt_text::StreamFault;
 use std::alloc::{AllocError, Global};
@@ -117,7 +117,7 @@ fn told_beside(
 ) -> Status {
     tell_among_requests(rt, words.requests, requests);
     tell_among_reports(rt, of_reports);
-    if are_settled(&requests.asked, &requests.passed, of_reports) {
+    if are_done(&requests.asked, &requests.passed, of_reports) {
         Status::Done
     } else {
         Status::Refused

@@ -6,7 +6,7 @@ ghost use Rattle.lpt_part.specs.Aborts.{reason_code};
 /// Why the receiver of a large message has aborted its reception.
 #[derive(Clone, Copy, Debug, PartialEq, Eq)]
 pub enum Reason {
-    /// No part came for as long as the time-out.
+    /// No part came for as long as the timeout.
     Expired,
     /// A part came out of sequence.
     Discontinuity,

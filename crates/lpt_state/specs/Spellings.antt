@@ -31,7 +31,7 @@ mode_octet Any = 0
 mode_octet Strict = 1
 
 -- the configuration, but for the first clock, which matters no more: APID 16 bits, source 16, part
--- size 32, time-out 32, receptions 32, outgoing transactions 32, mode 8
+-- size 32, timeout 32, receptions 32, outgoing transactions 32, mode 8
 abbrev pub config_octets : Config → List ℕ
 config_octets c =
     be c.apid 2 ++ be c.source 2 ++ be c.part_size 4 ++ be c.timeout 4 ++ be c.receptions 4

@@ -83,7 +83,7 @@ module _ (s : Slab Received) (x : Place) (xs : List Place)
         name_before-less x.name q (earlier_name x.last f.last (name_cmp x.name q) w same)
   ]
 
--- the receptions at these places, under this time-out
+-- the receptions at these places, under this timeout
 abbrev at_places : ℕ → Slab Received → List Place → TableState
 at_places timeout s xs =
     record { limit = 0; timeout = timeout; p = 0; mode = Any; entries = map_of s xs; out = None }

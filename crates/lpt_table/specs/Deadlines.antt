@@ -5,7 +5,7 @@ use Rattle.std.specs.FinMap as map
 use Rattle.lpt_packet.specs.Names.{Name, name_before}
 use Rattle.lpt_table.specs.Tables.{TableEntry, TableState}
 
--- the reception took no part for as long as the time-out
+-- the reception took no part for as long as the timeout
 abbrev pub IsOverdue : TableState → ℕ → TableEntry → Type 0
 IsOverdue t now e = e.last + t.timeout ≤ now
 

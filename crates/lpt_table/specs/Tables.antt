@@ -8,7 +8,7 @@ use Rattle.lpt_part.specs.declared.mode.Mode.{Mode}
 use Rattle.lpt_reception.specs.Codes.{coded_kept, coded_mode}
 use Rattle.lpt_reception.specs.Received.{Parts}
 
--- so many receptions may be open, a time-out has so many ticks, and parts have so many octets
+-- so many receptions may be open, a timeout has so many ticks, and parts have so many octets
 pub record IsTableSize (limit timeout p : ℕ) : Type 0 where
   pub some_receptions : 1 ≤ limit
   pub receptions_fit : limit ≤ 64
@@ -25,8 +25,8 @@ pub record TableEntry : Type 0 where
 abbrev pub Entries : Type 0
 Entries = map.FinMap name_cmp TableEntry
 
--- how many receptions may be open, the time-out in ticks, the part size, the order in which parts are
--- taken, the open receptions, and the name and last tick of the reception that is out
+-- how many receptions may be open, the timeout in ticks, the part size, the order in which parts
+-- are taken, the open receptions, and the name and last tick of the reception that is out
 pub record TableState : Type 0 where
   pub limit : ℕ
   pub timeout : ℕ

@@ -1,5 +1,5 @@
 //! The receptions that are open at one end, and when each last took a part (ECSS-E-ST-70-41C, large
-//! packet transfer). One that took no part for as long as the time-out is overdue. A table is seen
+//! packet transfer). One that took no part for as long as the timeout is overdue. A table is seen
 //! as a finite map from names to the parts that were kept and the tick of the last one.
 //!
 //! The main types are `Table` and `Offer`, what becomes of a part. The first calls are `Table::new`

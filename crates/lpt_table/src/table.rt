@@ -246,7 +246,7 @@ impl Table {
     /// The name of the overdue reception with the least last tick, and of equal ones the least
     /// name, or `None` if none is overdue.
     ///
-    /// A reception is overdue when its last tick and the time-out add up to at most `now`.
+    /// A reception is overdue when its last tick and the timeout add up to at most `now`.
     pub fn due(&self, now: u32) -> Option<Name>
         requires settled { self.now.out ≡ None }
         ensures due { IsDue self.now now result }

@@ -98,7 +98,7 @@ fn refuses_for_the_first_reason(rt: HostRuntime) {
     assert!(rt; !walk(&rt, rt.alloc(), &PATHS));
 }
 
-/// An APID, a part size, a time-out and limits, and the number of the fault.
+/// An APID, a part size, a timeout and limits, and the number of the fault.
 type Limits = ((u16, u32, u32, u32, u32), Option<u16>);
 
 static LIMITS: [Limits; 11] = [

@@ -1,4 +1,4 @@
--- When a request is settled.
+-- When a request is done.
 use Rattle.std.specs.Prelude.{ℕ, ◌&&◌, ◌||◌, ◌<◌, not, is_some, Bool, false, if◌then◌else◌, IsTrue, All, List, length, Option}
 use Rattle.std.specs.List.{filter_map}
 use Rattle.std.specs.Option.{option_map}
@@ -17,7 +17,7 @@ abbrev pub is_acknowledged : (flags : ℕ) → Bool
 is_acknowledged flags = asks flags 1 || asks flags 2 || asks flags 8
 
 -- whether the last report of success that they ask for has come: of completion, of start or of
--- acceptance. Where they ask for none, nothing tells that it is settled
+-- acceptance. If they ask for none, no report says that it is done
 abbrev pub has_last : (flags : ℕ) → Outcome → Bool
 has_last flags o =
     if asks flags 8 then o.completed
@@ -26,13 +26,13 @@ has_last flags o =
     else false
 
 -- whether a request didn't fail, and the last that it asks for has come
-abbrev pub is_settled : Asked → Bool
-is_settled a = not (is_some a.outcome.failure) && has_last a.flags a.outcome
+abbrev pub is_done : Asked → Bool
+is_done a = not (is_some a.outcome.failure) && has_last a.flags a.outcome
 
--- nothing is open: there are requests, each is settled, and of both streams nothing was passed over
-pub record AreSettled (requests : List Asked) (of_requests of_reports : Passed) : Type 0 where
+-- nothing is open: there are requests, each is done, and of both streams nothing was passed over
+pub record AreDone (requests : List Asked) (of_requests of_reports : Passed) : Type 0 where
   pub some : 0 < length requests
-  pub settled : All (λ a. IsTrue (is_settled a)) requests
+  pub done : All (λ a. IsTrue (is_done a)) requests
   pub all_read : IsTrue (is_nothing of_requests)
   pub all_heard : IsTrue (is_nothing of_reports)
 

@@ -1,4 +1,4 @@
--- What is sent on a request settles it.
+-- When a request is done by what is sent on it.
 use Rattle.std.proofs.Common.{◌≡◌, ◌∙◌, ap, sym, refl, ℕ, ◌<◌, ◌^◌, nat_le, Bool, true, false, if◌then◌else◌, List, [], ◌∷◌, ◌++◌, map, Option, Some, None, IfSome, append-nil}
 use Rattle.std.specs.Prelude.{not, is_some, ◌&&◌, ◌||◌}
 use Rattle.std.specs.List.{filter_map}
@@ -16,7 +16,7 @@ use Rattle.lpt_outcomes.specs.declared.outcome.Outcome.{Outcome}
 use Rattle.lpt_outcomes.specs.Keys.{key_of}
 use Rattle.lpt_outcomes.specs.Requests.{nothing_told}
 use Rattle.lpt_outcomes.specs.Reports.{all_heard, heard, news, told_by}
-use Rattle.lpt_outcomes.specs.Settled.{answered, has_last, is_acknowledged, is_settled, news_sent}
+use Rattle.lpt_outcomes.specs.Done.{answered, has_last, is_acknowledged, is_done, news_sent}
 use Rattle.lpt_outcomes.proofs.KeyLemmas.{same-self}
 
 -- ---- one report
@@ -124,7 +124,7 @@ told_is false false false = refl
 
 -- of a request that was carried out
 carried_out : (a : Asked) → a.request.value < 2 ^ 32 → a.outcome ≡ nothing_told
-    → map is_settled (answered a.source a.request.value a.flags None (a ∷ []))
+    → map is_done (answered a.source a.request.value a.flags None (a ∷ []))
     ≡ is_acknowledged a.flags ∷ []
 carried_out a fits before =
     let s = a.source in
@@ -147,14 +147,14 @@ carried_out a fits before =
     ∙ ap (λ rs. sent s rs (success_if z v 7)) second ∙ third in
     let is : three.outcome ≡ all_told x y z =
     ap (λ (o : Outcome). told (told (told o x 1) y 3) z 7) before ∙ told_is x y z in
-    ap (map is_settled) all
+    ap (map is_done) all
     ∙ ap (λ (o : Outcome). (not (is_some o.failure) && has_last a.flags o) ∷ []) is
     ∙ ap (λ b. b ∷ []) (last_told x y z)
 
--- a failure isn't settled
-unsettled : (a : Asked) (k code : ℕ) → a.outcome.failure ≡ None
-    → is_settled (record a { outcome = told_by a.outcome k (Some code) }) ≡ false
-unsettled a k code none = rw none refl
+-- a failure isn't done
+undone : (a : Asked) (k code : ℕ) → a.outcome.failure ≡ None
+    → is_done (record a { outcome = told_by a.outcome k (Some code) }) ≡ false
+undone a k code none = rw none refl
 
 -- a success tells of none
 none_yet : (o : Outcome) (x : Bool) → o.failure ≡ None
@@ -165,7 +165,7 @@ none_yet o false h = h
 -- of a request that failed
 failed : (a : Asked) (code : ℕ) → a.request.value < 2 ^ 32 → code < 2 ^ 16
     → a.outcome ≡ nothing_told
-    → map is_settled (answered a.source a.request.value a.flags (Some code) (a ∷ [])) ≡ false ∷ []
+    → map is_done (answered a.source a.request.value a.flags (Some code) (a ∷ [])) ≡ false ∷ []
 failed a code fits code_fits before = go (nat_le code 2) where
   none : a.outcome.failure ≡ None
   none = ap (λ (o : Outcome). o.failure) before
@@ -177,29 +177,29 @@ failed a code fits code_fits before = go (nat_le code 2) where
   v = a.request.value
 
   go : (early : Bool)
-      → map is_settled (sent s (a ∷ [])
+      → map is_done (sent s (a ∷ [])
       ((if early then failure v 2 code ∷ []
       else success_if (asks a.flags 1) v 1 ++ failure v 4 code ∷ []) ++ []))
       ≡ false ∷ []
   go true =
-      ap (map is_settled) (by_failure a 2 code fits code_fits refl)
-      ∙ ap (λ b. b ∷ []) (unsettled a 2 code none)
+      ap (map is_done) (by_failure a 2 code fits code_fits refl)
+      ∙ ap (λ b. b ∷ []) (undone a 2 code none)
   go false =
       let x = asks a.flags 1 in
       let first : Outcome = if x then told_by a.outcome 1 None else a.outcome in
       let one : Asked = record a { outcome = first } in
-      ap (λ es. map is_settled (sent s (a ∷ []) es))
+      ap (λ es. map is_done (sent s (a ∷ []) es))
       (append-nil (success_if x v 1 ++ failure v 4 code ∷ []))
-      ∙ ap (map is_settled) (sent-append s (a ∷ []) (success_if x v 1) (failure v 4 code ∷ []))
-      ∙ ap (λ rs. map is_settled (sent s rs (failure v 4 code ∷ []))) (by_success a x 1 fits refl)
-      ∙ ap (map is_settled) (by_failure one 4 code fits code_fits refl)
-      ∙ ap (λ b. b ∷ []) (unsettled one 4 code (none_yet a.outcome x none))
+      ∙ ap (map is_done) (sent-append s (a ∷ []) (success_if x v 1) (failure v 4 code ∷ []))
+      ∙ ap (λ rs. map is_done (sent s rs (failure v 4 code ∷ []))) (by_success a x 1 fits refl)
+      ∙ ap (map is_done) (by_failure one 4 code fits code_fits refl)
+      ∙ ap (λ b. b ∷ []) (undone one 4 code (none_yet a.outcome x none))
 
-pub answered-settled : (a : Asked) (code : Option ℕ)
+pub answered-done : (a : Asked) (code : Option ℕ)
     → a.request.value < 2 ^ 32
     → IfSome code (λ c. c < 2 ^ 16)
     → a.outcome ≡ nothing_told
-    → map is_settled (answered a.source a.request.value a.flags code (a ∷ []))
+    → map is_done (answered a.source a.request.value a.flags code (a ∷ []))
     ≡ (not (is_some code) && is_acknowledged a.flags) ∷ []
-answered-settled a None fits code_fits before = carried_out a fits before
-answered-settled a (Some code) fits code_fits before = failed a code fits code_fits before
+answered-done a None fits code_fits before = carried_out a fits before
+answered-done a (Some code) fits code_fits before = failed a code fits code_fits before
