@@ -3,6 +3,12 @@ pub mod FitLemmas
 pub mod HeldsLemmas
 mod LeftLemmas
 mod OrderLemmas
+mod OwnCourseLemmas
+mod OwnEachLemmas
+mod OwnHeldLemmas
+mod OwnRunLemmas
+mod OwnTurnLemmas
+mod OwnWholeLemmas
 mod RunLemmas
 mod SoundLemmas
 mod StepLemmas

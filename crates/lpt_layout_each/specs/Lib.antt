@@ -3,6 +3,7 @@ pub mod Hearing
 pub mod Helds
 pub mod Laws
 pub mod News
+pub mod Own
 pub mod Passing
 pub mod Streams
 pub mod Tellers

@@ -1,13 +1,28 @@
 //! What is given out of a stream, proved of all streams: functions with empty bodies.
 
 ghost use Rattle.std.specs.Prelude.{◌≡◌, [], ◌∷◌, ◌++◌, ℕ, Bool, false, List};
+ghost use Rattle.std.specs.List.{AllByRecursion};
+ghost use Rattle.lpt_packet.specs.Names as own_names;
+ghost use Rattle.lpt_packet.specs.Numbers.{IsOctets};
 ghost use Rattle.lpt_carried.specs.declared.name.Name.{Name};
 ghost use Rattle.lpt_carried.specs.declared.reading.Reading.{Reading};
+ghost use Rattle.lpt_join.specs.declared.transaction.Transaction.{Transaction};
+ghost use Rattle.lpt_join.specs.Wide.{wide};
+ghost use Rattle.lpt_layout_join.specs.Counts.{nothing_counted};
 ghost use Rattle.lpt_layout_join.specs.InOrder.{IsInOrder};
-ghost use Rattle.lpt_layout_each.specs.Eaches.{counts_of, held, news_from};
+ghost use Rattle.lpt_layout_join.specs.Own.{own_reading};
+ghost use Rattle.lpt_each.specs.Eaches as profile;
+ghost use Rattle.lpt_each.specs.News as profile_news;
+ghost use Rattle.lpt_each.specs.Streams as profile_streams;
+ghost use Rattle.lpt_layout_each.specs.Eaches.{counts_of, held, news_from, nothing};
 ghost use Rattle.lpt_layout_each.specs.Laws.{InOrder, IsGood};
 ghost use Rattle.lpt_layout_each.specs.News.{Event, News, messages_in, messages_of};
-ghost use Rattle.lpt_layout_each.specs.Streams.{events};
+ghost use Rattle.lpt_layout_each.specs.Own.{AreOwnEvents};
+ghost use Rattle.lpt_layout_each.specs.Streams.{events, left_of};
+
+use lpt_carried::laws::the_own_parts;
+use lpt_layout::laws::the_own_layouts;
+use lpt_reception::laws::whole_is_split;
 
 /// Each message that is given out is joined of parts of its name that stand among the packets,
 /// whatever these are, and a packet of its direction, if not any will do.
@@ -41,3 +56,24 @@ pub fn in_order_is_given()
         (front ++ last ∷ []))
         ≡ earlier ++ m ∷ later) }
 {}
+
+/// At the profile's own layouts what is told of a stream's packets is what the profile tells, of
+/// whatever packets: as they come, and of what is left of each name. So the same messages are given
+/// out.
+pub fn the_own_eaches()
+    ensures events { (t : Transaction) (any : Bool) (packets : List (List ℕ))
+        → AllByRecursion IsOctets packets
+        → AreOwnEvents (events (own_reading t) any packets) (profile_streams.events t any packets) }
+    ensures left { (t : Transaction) (any : Bool) (packets : List (List ℕ)) (n : own_names.Name)
+        → AllByRecursion IsOctets packets
+        → AreOwnEvents (left_of (own_reading t) any packets (wide n))
+        (profile_streams.left_of t any packets n) }
+    ensures messages { (t : Transaction) (any : Bool) (packets : List (List ℕ))
+        → AllByRecursion IsOctets packets
+        → messages_in (news_from (own_reading t) any (wide t.name) nothing_counted nothing packets)
+        ≡ profile_news.messages_in (profile.news_from t any profile.nothing packets) }
+{
+    the_own_layouts();
+    the_own_parts();
+    whole_is_split();
+}

@@ -61,7 +61,7 @@ pub octets-kept : (qs : List Piece) (q : Piece) (n : ℕ) (x : List ℕ)
 octets-kept qs q n x e =
     first_told-more (octets_told n) qs q ∙ ap (λ o. option_or o (octets_told n q)) e
 
-bytes_eq-refl : (b : List ℕ) → bytes_eq b b ≡ true
+pub bytes_eq-refl : (b : List ℕ) → bytes_eq b b ≡ true
 bytes_eq-refl [] = refl
 bytes_eq-refl (x ∷ b) =
     let here : (x == x) ≡ true = grind (arith, nat_tests) in
@@ -69,7 +69,7 @@ bytes_eq-refl (x ∷ b) =
     rw here rest
 
 -- a length that fits passes its test
-length_test-fits : (kind : Kind) (n len p : ℕ)
+pub length_test-fits : (kind : Kind) (n len p : ℕ)
     → LengthFits kind n len p
     → length_test kind n len p ≡ true
 length_test-fits kind n len p h = grind (arith, nat_tests, common_steps)

@@ -9,5 +9,6 @@ pub mod InOrder
 pub mod Laws
 pub mod Names
 pub mod Orders
+pub mod Own
 pub mod Readers
 pub mod Writes

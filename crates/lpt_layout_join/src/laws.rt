@@ -1,24 +1,37 @@
 //! What the definitions say of the parts of one message: functions with empty bodies.
 
 ghost use Rattle.std.specs.Prelude.{◌≡◌, ◌⊎◌, ◌≤◌, ℕ, Bool, false, List, Option, Some, None, Ok, length};
+ghost use Rattle.std.specs.List.{AllByRecursion};
 ghost use Rattle.lpt_events.specs.Arrivals.{part_subtype};
 ghost use Rattle.lpt_layout.specs.Messages.{Said, HeadFits};
 ghost use Rattle.lpt_layout.specs.Parts.{PieceFits, body_as};
 ghost use Rattle.lpt_layout.specs.Writes.{octets_as};
+ghost use Rattle.lpt_packet.specs.Numbers.{IsOctets};
 ghost use Rattle.lpt_packet.specs.Sizes.{longest_packet};
 ghost use Rattle.lpt_part.specs.Parts.{nth_part};
 ghost use Rattle.lpt_part.specs.Splitting.{kind_at, part_count};
 ghost use Rattle.lpt_carried.specs.declared.name.Name.{Name};
 ghost use Rattle.lpt_carried.specs.declared.reading.Reading.{Reading};
+ghost use Rattle.lpt_stream.specs.declared.cut.Cut.TheVariants.{Sealed};
+ghost use Rattle.lpt_stream.specs.Pieces.{Piece};
+ghost use Rattle.lpt_join.specs.declared.transaction.Transaction.{Transaction};
+ghost use Rattle.lpt_join.specs.Contradictions as contradictions;
+ghost use Rattle.lpt_join.specs.Joins.{joined};
+ghost use Rattle.lpt_join.specs.Laws as profile;
+ghost use Rattle.lpt_join.specs.Several as several;
+ghost use Rattle.lpt_join.specs.Wide.{wide};
 ghost use Rattle.lpt_layout_join.specs.Came.{message_of, octets_of};
-ghost use Rattle.lpt_carried.specs.Carried.{carried, kind_to, same_name};
-ghost use Rattle.lpt_layout_join.specs.Gathered.{carry, gathered};
+ghost use Rattle.lpt_carried.specs.Carried.{carried, cut, kind_to, same_name};
+ghost use Rattle.lpt_layout_join.specs.Gathered.{came, carry, ended, first_against, gathered};
+ghost use Rattle.lpt_layout_join.specs.Own.{message_in, own_end, own_reading};
 ghost use Rattle.lpt_layout_join.specs.declared.ending.JoinEnd.TheVariants.{Written};
 ghost use Rattle.lpt_layout_join.specs.InOrder.{IsInOrder};
 ghost use Rattle.lpt_layout_join.specs.Laws.{AreOneOrOther, EachIsAmong, HasItsLength, IsAsked, IsSplit, part_named};
 ghost use Rattle.lpt_layout_join.specs.Writes.{end_of, end_whole, unfit};
 
-use lpt_layout::laws::written_is_read;
+use lpt_carried::laws::the_own_parts;
+use lpt_layout::laws::{the_own_layouts, written_is_read};
+use lpt_reception::laws::whole_is_split;
 
 /// The packets of a message's parts, in any order and with repeats, and others in between, are
 /// joined to that message once each part is among them, byte for byte. If no transaction was
@@ -65,4 +78,31 @@ pub fn made_is_carried()
         → carried r (octets_as r.layout (kind_to r.direction) s) ≡ Ok (part_named n p m k) }
 {
     written_is_read();
+}
+
+/// At the profile's own layouts a join tells what the profile's does, of whatever packets: how it
+/// ends, with which message, which parts came, of which transactions, and where the first part
+/// stands that contradicts those before it. Its streams are cut by checksums.
+pub fn the_own_joins()
+    ensures cut { (t : Transaction) → cut (own_reading t) ≡ Sealed }
+    ensures end { (t : Transaction) (any : Bool) (bs : List (List ℕ)) → AllByRecursion IsOctets bs
+        → end_of (own_reading t) any (gathered (own_reading t) (wide t.name) bs)
+        ≡ own_end t.direction any (joined t bs) }
+    ensures message { (t : Transaction) (bs : List (List ℕ)) → AllByRecursion IsOctets bs
+        → message_of (gathered (own_reading t) (wide t.name) bs).came.parts
+        ≡ message_in (joined t bs) }
+    ensures numbers { (t : Transaction) (k : ℕ) (bs : List (List ℕ)) → AllByRecursion IsOctets bs
+        → came (own_reading t) (wide t.name) k bs ≡ profile.came t k bs }
+    ensures ended { (t : Transaction) (bs : List (List ℕ)) → AllByRecursion IsOctets bs
+        → ended (own_reading t) (wide t.name) bs ≡ profile.ended t bs }
+    ensures carry { (t : Transaction) (bs : List (List ℕ)) → AllByRecursion IsOctets bs
+        → carry (own_reading t) (wide t.name) bs ≡ several.carried t bs }
+    ensures against { (t : Transaction) (pieces : List Piece)
+        → AllByRecursion (λ (p : Piece). IsOctets p.octets) pieces
+        → first_against (own_reading t) (wide t.name) pieces
+        ≡ contradictions.first_against t pieces }
+{
+    the_own_layouts();
+    the_own_parts();
+    whole_is_split();
 }

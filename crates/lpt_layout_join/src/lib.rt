@@ -2,8 +2,8 @@
 //! their message. The packets may come in any order, more than once, and with others in between;
 //! parts may have any size, which is found if it isn't known.
 //!
-//! The stream is cut by the lengths that its packets' headers say, and by nothing else, since
-//! packets of a layout may have no checksum.
+//! The stream is cut by checksums; if packets of the layout have none, by the lengths that their
+//! headers say.
 //!
 //! The main types are lpt_carried's `Reading`, how parts are read, `CameAs`, what came of a
 //! transaction, and `JoinedAs`, what became of a join. The first call is `join_as`, from a source
