@@ -1,6 +1,7 @@
 //! The commands that write requests to a memory, and those that say what became of them.
 
 use crate::commands::{COUNT, JSON, QUIET, TEXT, U8};
+use crate::layout_words::LAYOUT;
 use crate::row::{Configured, Named, Need, Row, Word};
 use clap::ArgAction;
 use clap::builder::ValueParser;
@@ -74,6 +75,7 @@ const VERIFY: Row = Row {
             other: &[],
             help: "Write the packets of requests without a final report, in place of the list",
         },
+        LAYOUT,
         QUIET,
     ],
     configured: Configured::No,
@@ -94,7 +96,7 @@ const COMPARE: Row = Row {
         },
         REPORTS,
     ],
-    named: &[QUIET],
+    named: &[LAYOUT, QUIET],
     configured: Configured::Packets,
 };
 

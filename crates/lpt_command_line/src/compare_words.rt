@@ -1,6 +1,7 @@
 //! The words of the commands that compare a file with check reports.
 
 use crate::file_words::{STANDARD, paths_in};
+use crate::layout_words::layout_in;
 use crate::number_words::number_in;
 use crate::request_words::{address_in, length_in};
 use crate::word_fault::WordFault;
@@ -18,6 +19,8 @@ pub struct CompareWords<'a> {
     pub file: &'a str,
     /// The paths of the reports, one behind the other, or `-` for standard input.
     pub reports: Vec<&'a str>,
+    /// The path of the layouts, if one is given.
+    pub layout: Option<&'a str>,
 }
 
 /// What `checksum` asks for.
@@ -50,6 +53,7 @@ pub fn compare_words<'a>(
         address,
         file,
         reports,
+        layout: layout_in(matches),
     })
 }
 

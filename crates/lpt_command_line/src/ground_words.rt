@@ -9,12 +9,12 @@ use std::alloc::Global;
 /// What `ground` asks for.
 #[derive(Drop)]
 pub struct GroundWords<'a> {
-    /// The memory's identifier.
-    pub memory: u8,
     /// What is to be done.
     pub job: Job,
-    /// Which octets of the memory, and their files; at least one.
+    /// Which octets of a memory, and their files; none if a list has them.
     pub areas: Vec<AreaWords<'a>>,
+    /// The list that says what is loaded, if one does.
+    pub list: Option<&'a str>,
     /// The pass's own source.
     pub source: SourceWords<'a>,
     /// The first sequence count, 0 to 16,383.
@@ -34,6 +34,8 @@ pub struct GroundWords<'a> {
 /// Octets of a memory, and their file.
 #[derive(Clone, Copy)]
 pub struct AreaWords<'a> {
+    /// The memory's identifier.
+    pub memory: u8,
     /// The address of the first octet.
     pub address: u32,
     /// How many octets are dumped, at least one; 0 if the file says how many they are.
@@ -77,6 +79,7 @@ pub fn ground_words<'a>(
 ) -> Result<GroundWords<'a>, WordFault<'a>> {
     let source = source_in(matches)?;
     let areas = match name {
+        "patch" => Vec::new(alloc),
         "dump" => dumped_areas(alloc, matches)?,
         _ => filed_areas(alloc, matches)?,
     };
@@ -91,9 +94,9 @@ fn ground_with<'a>(
     areas: Vec<AreaWords<'a>>,
 ) -> Option<GroundWords<'a>> {
     Some(GroundWords {
-        memory: matches.get_one("MEMORY")?,
         job: job_in(name, matches),
         areas,
+        list: matches.get_str("LIST"),
         source,
         count: count_in(matches)?,
         wait: matches.get_one("wait")?,
@@ -117,7 +120,7 @@ fn source_in<'a>(matches: &ArgMatches<'a>) -> Result<SourceWords<'a>, WordFault<
 // What the command of this name does.
 fn job_in(name: &str, matches: &ArgMatches<'_>) -> Job {
     match name {
-        "load" => Job::Load {
+        "load" | "patch" => Job::Load {
             starts: matches.get_str("ack") == Some("10"),
             verify: matches.get_flag("verify"),
         },
@@ -135,12 +138,13 @@ fn filed_areas<'a>(
     let (Some(address), Some(file)) = (matches.get_str("ADDRESS"), matches.get_str("FILE")) else {
         return Err(WordFault::Missing);
     };
-    add_area(&mut areas, filed_area(address, file)?)?;
+    let memory = matches.get_one("MEMORY").ok_or(WordFault::Missing)?;
+    add_area(&mut areas, filed_area(memory, address, file)?)?;
     for pair in matches.get_strs("area").unwrap_or(&[]).chunks(2) {
         let [address, file] = pair else {
             return Err(WordFault::Missing);
         };
-        add_area(&mut areas, filed_area(address, file)?)?;
+        add_area(&mut areas, filed_area(memory, address, file)?)?;
     }
     Ok(areas)
 }
@@ -152,13 +156,18 @@ fn add_area<'a>(areas: &mut Vec<AreaWords<'a>>, area: AreaWords<'a>) -> Result<(
     }
 }
 
-// The area of a file at an address; standard input is what comes down.
-fn filed_area<'a>(address: &'a str, file: &'a str) -> Result<AreaWords<'a>, WordFault<'a>> {
+// The area of a file at an address; standard input can't be it, since it is what comes down.
+fn filed_area<'a>(
+    memory: u8,
+    address: &'a str,
+    file: &'a str,
+) -> Result<AreaWords<'a>, WordFault<'a>> {
     if file == STANDARD {
-        return Err(WordFault::Twice);
+        return Err(WordFault::NoInput);
     }
     let address = address_in(address)?;
     Ok(AreaWords {
+        memory,
         address,
         len: 0,
         file,
@@ -177,12 +186,13 @@ fn dumped_areas<'a>(
     let Some(file) = matches.get_str("to") else {
         return Err(WordFault::Wanted("--to <FILE>"));
     };
-    add_area(&mut areas, dumped_area(address, len, file)?)?;
+    let memory = matches.get_one("MEMORY").ok_or(WordFault::Missing)?;
+    add_area(&mut areas, dumped_area(memory, address, len, file)?)?;
     for words in matches.get_strs("area").unwrap_or(&[]).chunks(3) {
         let [address, len, file] = words else {
             return Err(WordFault::Missing);
         };
-        let area = dumped_area(address, len, file)?;
+        let area = dumped_area(memory, address, len, file)?;
         if areas
             .iter()
             .any(|known: &AreaWords| known.file == area.file)
@@ -196,11 +206,13 @@ fn dumped_areas<'a>(
 
 // The area of so many octets at an address that becomes a file.
 fn dumped_area<'a>(
+    memory: u8,
     address: &'a str,
     len: &'a str,
     file: &'a str,
 ) -> Result<AreaWords<'a>, WordFault<'a>> {
     Ok(AreaWords {
+        memory,
         address: address_in(address)?,
         len: length_in(len)?,
         file,

@@ -1,6 +1,7 @@
 //! The words of the command that matches requests with reports.
 
 use crate::file_words::{STANDARD, paths_in};
+use crate::layout_words::layout_in;
 use crate::word_fault::WordFault;
 use clap::ArgMatches;
 use std::alloc::Global;
@@ -16,6 +17,8 @@ pub struct VerifyWords<'a> {
     pub json: bool,
     /// Whether the packets of what is open are written, and no line.
     pub open: bool,
+    /// The path of the layouts, if one is given.
+    pub layout: Option<&'a str>,
 }
 
 /// What the words of `verify` ask for.
@@ -42,5 +45,6 @@ pub fn verify_words<'a>(
         reports,
         json,
         open,
+        layout: layout_in(matches),
     })
 }

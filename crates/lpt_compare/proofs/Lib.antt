@@ -1,2 +1,3 @@
 mod CheckLemmas
+pub mod OwnLemmas
 pub mod ReachLemmas

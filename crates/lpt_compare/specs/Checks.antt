@@ -2,9 +2,12 @@
 use Rattle.std.specs.Prelude.{ℕ, ◌==◌, ◌&&◌, nat_le, Bool, if◌then◌else◌, List, [], Option, Some, None, Result, Ok, Err}
 use Rattle.std.specs.List.{flat_map}
 use Rattle.lpt_packet.specs.declared.fault.PacketFault.{PacketFault}
-use Rattle.lpt_packet.specs.Packets.{Sight, IdlePacket, APacket, verdict}
+use Rattle.lpt_packet.specs.declared.packet.PacketKind.TheVariants.{Tm}
+use Rattle.lpt_packet.specs.Packets.{Sight, IdlePacket, APacket}
 use Rattle.lpt_pus.specs.declared.fault.PusFault.{PusFault}
-use Rattle.lpt_pus.specs.Telemetry.{Telemetry, tm_verdict}
+use Rattle.lpt_layout.specs.declared.layout.Layout.{Layout}
+use Rattle.lpt_layout.specs.Messages.{Said, message_verdict}
+use Rattle.lpt_layout.specs.Packets.{verdict_as}
 use Rattle.lpt_memory.specs.Fields.{◌>>=◌, front_word}
 use Rattle.lpt_memory.specs.Requests.{Request, front_range, request_in}
 use Rattle.lpt_stream.specs.declared.piece_kind.PieceKind.{PieceKind}
@@ -48,34 +51,34 @@ in_body m body = areas_of m (request_in one_area body)
 -- ---- a packet
 
 -- whether telemetry is a check report
-abbrev pub is_report : Telemetry → Bool
-is_report t = (t.service == 6) && (t.subtype == 10)
+abbrev pub is_report : Said → Bool
+is_report s = (s.service == 6) && (s.subtype == 10)
 
 -- whether it carries a part of a message
-abbrev pub is_part : Telemetry → Bool
-is_part t = (t.service == 13) && (nat_le 1 t.subtype && nat_le t.subtype 3)
+abbrev pub is_part : Said → Bool
+is_part s = (s.service == 13) && (nat_le 1 s.subtype && nat_le s.subtype 3)
 
 -- telemetry of this APID; that of others is none of these
-abbrev pub said_of : (apid memory : ℕ) → Telemetry → Saying
-said_of apid m t =
-    if t.apid == apid
-    then (if is_report t then in_body m t.body else if is_part t then APart else Other)
+abbrev pub said_of : (apid memory : ℕ) → Said → Saying
+said_of apid m s =
+    if s.apid == apid
+    then (if is_report s then in_body m s.body else if is_part s then APart else Other)
     else Other
 
 -- a packet that is read as telemetry, or isn't
-abbrev pub said_by : (apid memory : ℕ) → Result Telemetry PusFault → Saying
-said_by apid m (Ok t) = said_of apid m t
+abbrev pub said_by : (apid memory : ℕ) → Result Said PusFault → Saying
+said_by apid m (Ok s) = said_of apid m s
 said_by apid m (Err e) = Other
 
 -- octets of this verdict
-abbrev pub said_as : (apid memory : ℕ) → Result Sight PacketFault → Saying
-said_as apid m (Ok IdlePacket) = Other
-said_as apid m (Ok (APacket f)) = said_by apid m (tm_verdict f)
-said_as apid m (Err e) = Other
+abbrev pub said_as : Layout → (apid memory : ℕ) → Result Sight PacketFault → Saying
+said_as l apid m (Ok IdlePacket) = Other
+said_as l apid m (Ok (APacket f)) = said_by apid m (message_verdict l Tm f)
+said_as l apid m (Err e) = Other
 
--- what octets are that are a packet
-unfoldable pub said_in : (apid memory : ℕ) → List ℕ → Saying
-said_in apid m b = said_as apid m (verdict b)
+-- what octets are that are a packet, by this layout
+unfoldable pub said_in : Layout → (apid memory : ℕ) → List ℕ → Saying
+said_in l apid m b = said_as l apid m (verdict_as l.has_checksum b)
 
 -- the areas that are said
 abbrev pub areas_in : Saying → List Checked
@@ -85,17 +88,17 @@ areas_in APart = []
 areas_in Other = []
 
 -- what octets say
-abbrev pub checks_in : (apid memory : ℕ) → List ℕ → List Checked
-checks_in apid m b = areas_in (said_in apid m b)
+abbrev pub checks_in : Layout → (apid memory : ℕ) → List ℕ → List Checked
+checks_in l apid m b = areas_in (said_in l apid m b)
 
 -- ---- a stream
 
 -- what the octets of a piece are
-abbrev pub piece_said : (apid memory : ℕ) → PieceKind → List ℕ → Saying
-piece_said apid m Whole b = said_in apid m b
-piece_said apid m Damaged b = Other
-piece_said apid m Stray b = Other
+abbrev pub piece_said : Layout → (apid memory : ℕ) → PieceKind → List ℕ → Saying
+piece_said l apid m Whole b = said_in l apid m b
+piece_said l apid m Damaged b = Other
+piece_said l apid m Stray b = Other
 
 -- what a stream of these pieces says, in its order
-abbrev pub checks_of : (apid memory : ℕ) → List Piece → List Checked
-checks_of apid m pieces = flat_map (checks_in apid m) (packets_of pieces)
+abbrev pub checks_of : Layout → (apid memory : ℕ) → List Piece → List Checked
+checks_of l apid m pieces = flat_map (checks_in l apid m) (packets_of pieces)

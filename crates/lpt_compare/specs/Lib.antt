@@ -1,5 +1,6 @@
 pub mod Checks
 pub mod ChecksInside
 pub mod Images
+pub mod Own
 pub mod Read
 pub mod Sayings

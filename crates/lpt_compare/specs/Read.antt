@@ -3,6 +3,7 @@ use Rattle.std.specs.Prelude.{◌≡◌, ℕ, Bool, true, false, List, count_by}
 use Rattle.lpt_stream.specs.declared.piece_kind.PieceKind.{PieceKind}
 use Rattle.lpt_stream.specs.declared.piece_kind.PieceKind.TheVariants.{Damaged, Stray}
 use Rattle.lpt_stream.specs.Pieces.{Piece, up_to_limit}
+use Rattle.lpt_layout.specs.declared.layout.Layout.{Layout}
 use Rattle.lpt_compare.specs.Checks.{Saying, Unread, APart, checks_of, piece_said}
 use Rattle.lpt_compare.specs.declared.checks.Checks.{Checks}
 
@@ -32,17 +33,20 @@ is_part APart = true
 is_part _ = false
 
 -- of so many check reports that aren't read, and parts, there are among these
-pub record ArePassed (apid memory : ℕ) (pieces : List Piece) (c : Checks) : Type 0 where
-  pub unread_are : c.unread
-      ≡ up_to_limit (count_by (λ (p : Piece). is_unread (piece_said apid memory p.kind p.octets))
-      pieces)
-  pub parts_are : c.parts
-      ≡ up_to_limit (count_by (λ (p : Piece). is_part (piece_said apid memory p.kind p.octets))
-      pieces)
+pub record ArePassed (l : Layout) (apid memory : ℕ) (pieces : List Piece) (c : Checks) : Type 0
+  where
+    pub unread_are : c.unread
+        ≡ up_to_limit (count_by
+        (λ (p : Piece). is_unread (piece_said l apid memory p.kind p.octets))
+        pieces)
+    pub parts_are : c.parts
+        ≡ up_to_limit (count_by (λ (p : Piece). is_part (piece_said l apid memory p.kind p.octets))
+        pieces)
 
 -- what the pieces of a stream say of a memory, and how many of them are no packet, check reports
 -- that aren't read, and parts
-pub record AreChecks (apid memory : ℕ) (pieces : List Piece) (c : Checks) : Type 0 where
-  pub areas_are : c.areas.items ≡ checks_of apid memory pieces
-  pub counted : AreCounted pieces c
-  pub passed : ArePassed apid memory pieces c
+pub record AreChecks (l : Layout) (apid memory : ℕ) (pieces : List Piece) (c : Checks) : Type 0
+  where
+    pub areas_are : c.areas.items ≡ checks_of l apid memory pieces
+    pub counted : AreCounted pieces c
+    pub passed : ArePassed l apid memory pieces c

@@ -1,14 +1,16 @@
 //! The check reports of a stream.
 
-ghost use Rattle.std.specs.Prelude.{◌≡◌, ◌⊎◌, IfErr, IfOk};
+ghost use Rattle.std.specs.Prelude.{◌≡◌, ◌⊎◌, true, IfErr, IfOk};
 ghost use Rattle.lpt_text.specs.Streams.{ReadEnds};
-ghost use Rattle.lpt_stream.specs.Reads.{IsEndless, ReadsPieces};
+ghost use Rattle.lpt_carried.specs.Carried.{cut_for};
+ghost use Rattle.lpt_stream.specs.Reads.{IsEndlessBy};
+ghost use Rattle.lpt_stream.specs.Takes.{ReadsBy};
 ghost use Rattle.lpt_compare.specs.Read.{AreChecks};
 
-use crate::Checked;
-use crate::reading::{Said, said_in_piece};
-use lpt_stream::{PieceKind, PieceTaker, each_piece};
-use lpt_text::{Source, StreamFault};
+use crate::reading::{Said, cut_for, said_in_piece};
+use crate::{Checked, Layout};
+use lpt_stream::{Cut, PieceKind, Taker, take_pieces};
+use lpt_text::{FromStd, Sink, Source, StreamFault};
 use std::alloc::{AllocError, Global};
 
 /// What the check reports of a stream say of a memory, and how much of the stream is no packet.
@@ -27,25 +29,29 @@ pub struct Checks {
     pub parts: u64,
 }
 
-/// The areas of the check reports among the packets of a stream that are of this APID and of this
-/// memory. Other packets are passed over; check reports that aren't read, parts of messages, and
-/// what is no packet are counted.
+/// The areas of the check reports of this layout among the packets of a stream that are of this
+/// APID and of this memory. Other packets are passed over; check reports that aren't read, parts of
+/// messages, and what is no packet are counted.
 ///
 /// Errors: `Read` if a read failed, or if 2^64 - 1 pieces came; `Memory`.
 pub fn read_checks<S: Source>(
     alloc: Global,
+    layout: &Layout,
     apid: u16,
     memory: u8,
     source: &mut S,
 ) -> Result<Checks, StreamFault>
     // The stream is read to its end.
-    ensures checks { IfOk result (λ r. ReadsPieces (S.remaining source.old) (S.remaining source.new)
-        (λ pieces. AreChecks apid memory pieces r)) }
-    ensures reader { ReadEnds (IsEndless (S.remaining source.old) (S.remaining source.new)) result
+    ensures checks { IfOk result (λ r. ReadsBy (cut_for layout.now.has_checksum)
+        (S.remaining source.old) (S.remaining source.new) true
+        (λ pieces. AreChecks layout.now apid memory pieces r)) }
+    ensures reader { ReadEnds (IsEndlessBy (cut_for layout.now.has_checksum)
+        (S.remaining source.old) (S.remaining source.new)) result
         (S.failed source.old) (S.failed source.new) }
     ensures fault { IfErr result (λ e. (e ≡ StreamFault.Read) ⊎ (e ≡ StreamFault.Memory)) }
 {
     let first = CheckTaker {
+        layout: *layout,
         apid,
         memory,
         checks: Checks {
@@ -56,12 +62,18 @@ pub fn read_checks<S: Source>(
             parts: 0,
         },
     };
-    let last = each_piece(alloc, source, first, &mut ())?;
-    Ok(last.checks)
+    let mut out = FromStd::new(Vec::new(alloc));
+    match take_pieces(alloc, 0, source, first, &mut out, &mut ()) {
+        Ok(last) => Ok(last.checks),
+        Err(StreamFault::Read) => Err(StreamFault::Read),
+        // Nothing is written, so no write fails.
+        Err(StreamFault::Write | StreamFault::Memory) => Err(StreamFault::Memory),
+    }
 }
 
 impl Checks {
     ghost use Rattle.std.specs.Prelude.{◌≡◌, ◌++◌, ◌∷◌, ℕ, List, [], OnOk};
+    ghost use Rattle.lpt_layout.specs.declared.layout.Layout.{Layout};
     ghost use Rattle.lpt_stream.specs.Pieces.{Piece};
     ghost use Rattle.lpt_compare.specs.Checks.{areas_in, piece_said};
     ghost use Rattle.lpt_compare.specs.Read.{AreCounted, ArePassed};
@@ -87,10 +99,10 @@ impl Checks {
         ensures areas { self.new.areas ≡ self.old.areas }
         ensures damaged { self.new.damaged ≡ self.old.damaged }
         ensures stray { self.new.stray ≡ self.old.stray }
-        ensures passed { (apid memory : ℕ) (ps : List Piece) (p : Piece)
-            → saying_of said.now ≡ piece_said apid memory p.kind p.octets
-            → ArePassed apid memory ps self.old
-            → ArePassed apid memory (ps ++ p ∷ []) self.new }
+        ensures passed { (l : Layout) (apid memory : ℕ) (ps : List Piece) (p : Piece)
+            → saying_of said.now ≡ piece_said l apid memory p.kind p.octets
+            → ArePassed l apid memory ps self.old
+            → ArePassed l apid memory (ps ++ p ∷ []) self.new }
     {
         match said {
             Said::Areas(_) => {}
@@ -119,43 +131,61 @@ impl Checks {
 // What has been said so far.
 #[derive(Drop)]
 struct CheckTaker {
+    layout: Layout,
     apid: u16,
     memory: u8,
     checks: Checks,
 }
 
-impl PieceTaker<()> for CheckTaker {
-    ghost use Rattle.std.specs.Prelude.{◌≡◌, ⊤};
-    ghost use Rattle.lpt_text.specs.declared.fault.StreamFault.TheVariants as faults;
+impl<K: Sink> Taker<K, ()> for CheckTaker {
+    ghost use Rattle.std.specs.Prelude.{[], true, ⊤};
+    ghost use Rattle.lpt_carried.specs.Carried.{cut_for};
     ghost use Rattle.lpt_compare.specs.ChecksInside.{IsTaken};
 
-    ghost takes = { λ first now old new pieces. IsTaken first now pieces };
+    ghost cut = { λ t. cut_for t.layout.has_checksum };
 
-    ghost leaves = { λ first old new pieces. ⊤ };
+    ghost is_open = { λ _. true };
 
-    ghost fails = { λ e. e ≡ faults.Memory };
+    ghost takes = { λ from first now old new pieces. IsTaken first now pieces };
+
+    ghost leaves = { λ from first old new pieces. ⊤ };
+
+    ghost writes = { λ from first pieces. [] };
+
+    ghost others = { λ e. ⊤ };
+
+    fn cut(&self) -> Cut {
+        cut_for(&self.layout)
+    }
+
+    fn is_open(&self) -> bool {
+        true
+    }
 
     fn take(
         self,
         alloc: Global,
+        _out: &mut K,
         _lent: &mut (),
         _place: u64,
         kind: PieceKind,
         octets: &[u8],
     ) -> Result<CheckTaker, StreamFault> {
         let CheckTaker {
+            layout,
             apid,
             memory,
             mut checks,
         } = self;
         checks.count(kind);
-        let said = match said_in_piece(alloc, apid, memory, kind, octets) {
+        let said = match said_in_piece(alloc, &layout, apid, memory, kind, octets) {
             Ok(said) => said,
             Err(_) => return Err(StreamFault::Memory),
         };
         checks.pass(&said);
         match checks.keep(&said) {
             Ok(()) => Ok(CheckTaker {
+                layout,
                 apid,
                 memory,
                 checks,

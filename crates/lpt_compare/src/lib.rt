@@ -9,9 +9,11 @@
 mod checked;
 mod checks;
 mod image;
+pub mod laws;
 mod reading;
 
 pub use checked::Checked;
 pub use checks::{Checks, read_checks};
 pub use image::Image;
+pub use lpt_carried::Layout;
 pub use lpt_text::{Source, StreamFault};

@@ -1,18 +1,21 @@
 //! Check reports, read.
 
-ghost use Rattle.std.specs.Prelude.{◌≡◌, ◌≢◌, map, option_map, Err, IfOk};
+ghost use Rattle.std.specs.Prelude.{◌≡◌, ◌≢◌, map, option_map, true, Err, IfOk, Ok};
 ghost use Rattle.lpt_packet.specs.declared.fault.PacketFault.TheVariants.{Checksum};
+ghost use Rattle.lpt_packet.specs.declared.packet.PacketKind.TheVariants.{Tm};
 ghost use Rattle.lpt_packet.specs.Packets.{verdict};
 ghost use Rattle.lpt_memory.specs.Fields.{all_areas};
-ghost use Rattle.lpt_stream.specs.Pieces.{IsSealed};
-ghost use Rattle.lpt_compare.specs.Checks.{in_body, one_area, piece_said, said_in};
+ghost use Rattle.lpt_carried.specs.Carried.{cut_for};
+ghost use Rattle.lpt_layout.specs.Messages.{message_verdict, said};
+ghost use Rattle.lpt_layout.specs.Packets.{fields};
+ghost use Rattle.lpt_stream.specs.Pieces.{IsSealedBy};
+ghost use Rattle.lpt_compare.specs.Checks.{in_body, one_area, piece_said, said_by, said_in};
 ghost use Rattle.lpt_compare.specs.Sayings.{saying_of};
 
-use crate::Checked;
+use crate::{Checked, Layout};
+use lpt_layout::{Message, PacketAs, SeenAs, read_sealed_as, read_tm_as};
 use lpt_memory::fields;
-use lpt_packet::{Seen, read_sealed};
-use lpt_pus::read_tm;
-use lpt_stream::PieceKind;
+use lpt_stream::{Cut, PieceKind};
 use std::alloc::{AllocError, Global};
 
 /// The service type of memory management.
@@ -41,20 +44,32 @@ pub(crate) enum Said {
     Other,
 }
 
-// What a piece of this kind is, to who looks for check reports of this APID and memory. The only
-// error is out of memory.
+// How a stream of packets of this layout is cut: by checksums, if they have one.
+pub(crate) fn cut_for(layout: &Layout) -> Cut
+    ensures { result ≡ cut_for layout.now.has_checksum }
+{
+    if layout.has_checksum {
+        Cut::Sealed
+    } else {
+        Cut::Framed
+    }
+}
+
+// What a piece of this kind is by this layout, to who looks for check reports of this APID and
+// memory. The only error is out of memory.
 pub(crate) fn said_in_piece(
     alloc: Global,
+    layout: &Layout,
     apid: u16,
     memory: u8,
     kind: PieceKind,
     octets: &[u8],
 ) -> Result<Said, AllocError>
-    requires { IsSealed kind octets.now }
-    ensures { IfOk result (λ r. saying_of r ≡ piece_said apid memory kind octets.now) }
+    requires { IsSealedBy (cut_for layout.now.has_checksum) kind octets.now }
+    ensures { IfOk result (λ r. saying_of r ≡ piece_said layout.now apid memory kind octets.now) }
 {
     match kind {
-        PieceKind::Whole => said_in(alloc, apid, memory, octets),
+        PieceKind::Whole => said_in(alloc, layout, apid, memory, octets),
         PieceKind::Damaged => Ok(Said::Other),
         PieceKind::Stray => Ok(Said::Other),
     }
@@ -62,21 +77,53 @@ pub(crate) fn said_in_piece(
 
 // What the octets of a whole piece are. The only error is out of memory.
 #[tactic(auto, unfolding(crate::specs::Checks::said_in))]
-fn said_in(alloc: Global, apid: u16, memory: u8, octets: &[u8]) -> Result<Said, AllocError>
-    requires { verdict octets.now ≢ Err Checksum }
-    ensures { IfOk result (λ r. saying_of r ≡ said_in apid memory octets.now) }
+fn said_in(
+    alloc: Global,
+    layout: &Layout,
+    apid: u16,
+    memory: u8,
+    octets: &[u8],
+) -> Result<Said, AllocError>
+    requires { layout.now.has_checksum ≡ true → verdict octets.now ≢ Err Checksum }
+    ensures { IfOk result (λ r. saying_of r ≡ said_in layout.now apid memory octets.now) }
 {
-    let Ok(Seen::Packet(packet)) = read_sealed(octets) else {
-        return Ok(Said::Other);
-    };
-    let Ok((head, body)) = read_tm(&packet) else {
-        return Ok(Said::Other);
-    };
-    if head.apid != apid {
+    match read_sealed_as(layout, octets) {
+        Ok(SeenAs::Packet(packet)) => in_packet(alloc, layout, apid, memory, &packet),
+        Ok(SeenAs::Idle) | Err(_) => Ok(Said::Other),
+    }
+}
+
+// What a packet is. The only error is out of memory.
+fn in_packet(
+    alloc: Global,
+    layout: &Layout,
+    apid: u16,
+    memory: u8,
+    packet: &PacketAs<'_>,
+) -> Result<Said, AllocError>
+    ensures { IfOk result (λ r. saying_of r
+        ≡ said_by apid memory (message_verdict layout.now Tm (fields packet.now))) }
+{
+    match read_tm_as(layout, packet) {
+        Ok(message) => in_message(alloc, apid, memory, &message),
+        Err(_) => Ok(Said::Other),
+    }
+}
+
+// What telemetry is. The only error is out of memory.
+fn in_message(
+    alloc: Global,
+    apid: u16,
+    memory: u8,
+    message: &Message<'_>,
+) -> Result<Said, AllocError>
+    ensures { IfOk result (λ r. saying_of r ≡ said_by apid memory (Ok (said message.now))) }
+{
+    if message.apid != apid {
         return Ok(Said::Other);
     }
-    match (head.service, head.subtype) {
-        (MEMORY, CHECK_REPORT) => in_body(alloc, memory, body),
+    match (message.service, message.subtype) {
+        (MEMORY, CHECK_REPORT) => in_body(alloc, memory, message.body),
         (LARGE_PACKETS, FIRST_PART..=LAST_PART) => Ok(Said::Part),
         _ => Ok(Said::Other),
     }

@@ -36,10 +36,10 @@ fn no_packets_text(alloc: Global, damaged: u64, stray: u64) -> Result<String, Al
         "octets that are"
     };
     if stray == 0 {
-        return format!(in alloc; "{damaged} {packets} with a fault");
+        return format!(in alloc; "{damaged} damaged {packets}");
     }
     if damaged == 0 {
         return format!(in alloc; "{stray} {octets} no packet");
     }
-    format!(in alloc; "{damaged} {packets} with a fault, {stray} {octets} no packet")
+    format!(in alloc; "{damaged} damaged {packets}, {stray} {octets} no packet")
 }

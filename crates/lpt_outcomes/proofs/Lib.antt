@@ -2,4 +2,5 @@ pub mod AnswerLemmas
 pub mod DoneLemmas
 pub mod KeyLemmas
 pub mod OpenLemmas
+pub mod OwnLemmas
 pub mod TakeLemmas

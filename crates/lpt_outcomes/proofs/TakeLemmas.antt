@@ -4,6 +4,7 @@ use Rattle.std.specs.List.{filter_map, cons_option}
 use Rattle.std.specs.Result.{result_ok, result_err}
 use Rattle.std.proofs.lemmas.List.{map-append}
 use Rattle.std.proofs.lemmas.List.Elements.{filter_map-append}
+use Rattle.lpt_layout.specs.declared.layout.Layout.{Layout}
 use Rattle.lpt_stream.specs.Pieces.{Piece}
 use Rattle.lpt_outcomes.specs.declared.news.News.{News}
 use Rattle.lpt_outcomes.specs.declared.outcome.Outcome.{Outcome}
@@ -80,20 +81,21 @@ passed-more read ps p b t is h =
 -- ---- reports
 
 -- a piece that is none
-pub unheard : (k : Key) (first now : Option Outcome) (ps : List Piece) (p : Piece) (b : Beside)
-    → now ≡ told_at k (news_of ps) first
-    → in_piece news_in p.kind p.octets ≡ Err b
-    → now ≡ told_at k (news_of (ps ++ p ∷ [])) first
-unheard k first now ps p b h is =
-    h ∙ ap (λ ns. told_at k ns first) (sym (found-same news_in ps p b is))
+pub unheard : (l : Layout) (k : Key) (first now : Option Outcome) (ps : List Piece) (p : Piece)
+    → (b : Beside)
+    → now ≡ told_at k (news_of l ps) first
+    → in_piece (news_in l) p.kind p.octets ≡ Err b
+    → now ≡ told_at k (news_of l (ps ++ p ∷ [])) first
+unheard l k first now ps p b h is =
+    h ∙ ap (λ ns. told_at k ns first) (sym (found-same (news_in l) ps p b is))
 
 -- and one that is
-pub heard_more : (k : Key) (first now more : Option Outcome) (ps : List Piece) (p : Piece)
-    → (n : News)
-    → now ≡ told_at k (news_of ps) first
-    → in_piece news_in p.kind p.octets ≡ Ok n
+pub heard_more : (l : Layout) (k : Key) (first now more : Option Outcome) (ps : List Piece)
+    → (p : Piece) (n : News)
+    → now ≡ told_at k (news_of l ps) first
+    → in_piece (news_in l) p.kind p.octets ≡ Ok n
     → more ≡ heard_at k n now
-    → more ≡ told_at k (news_of (ps ++ p ∷ [])) first
-heard_more k first now more ps p n h is e =
-    e ∙ ap (heard_at k n) h ∙ sym (told_at-next k (news_of ps) n first)
-    ∙ ap (λ ns. told_at k ns first) (sym (found-more news_in ps p n is))
+    → more ≡ told_at k (news_of l (ps ++ p ∷ [])) first
+heard_more l k first now more ps p n h is e =
+    e ∙ ap (heard_at k n) h ∙ sym (told_at-next k (news_of l ps) n first)
+    ∙ ap (λ ns. told_at k ns first) (sym (found-more (news_in l) ps p n is))

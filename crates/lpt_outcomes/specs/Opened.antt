@@ -2,6 +2,7 @@
 use Rattle.std.specs.Prelude.{◌≡◌, ◌&&◌, Bool, not, is_some, if◌then◌else◌, List, [], ◌∷◌, ◌++◌, length, drop, slice_get, ℕ, Option, Some, None, Result, Ok, Err}
 use Rattle.std.specs.Io.KnownBytes.{Appends}
 use Rattle.lpt_stream.specs.declared.piece_kind.PieceKind.{PieceKind}
+use Rattle.lpt_layout.specs.declared.layout.Layout.{Layout}
 use Rattle.lpt_stream.specs.Pieces.{Piece}
 use Rattle.lpt_outcomes.specs.declared.asked.Asked.{Asked}
 use Rattle.lpt_outcomes.specs.declared.passed.Beside.{Beside}
@@ -20,9 +21,10 @@ left_by asked (Ok r) = drop 1 asked
 left_by asked (Err beside) = asked
 
 -- and behind several
-abbrev pub left_behind : List Asked → List Piece → List Asked
-left_behind asked [] = asked
-left_behind asked (p ∷ ps) = left_behind (left_by asked (in_piece request_in p.kind p.octets)) ps
+abbrev pub left_behind : Layout → List Asked → List Piece → List Asked
+left_behind l asked [] = asked
+left_behind l asked (p ∷ ps) =
+    left_behind l (left_by asked (in_piece (request_in l) p.kind p.octets)) ps
 
 -- the octets of a request, if it is open
 abbrev pub octets_open : Option Asked → List ℕ → List ℕ
@@ -35,14 +37,14 @@ open_in asked (Ok r) octets = octets_open (slice_get asked 0) octets
 open_in asked (Err beside) octets = []
 
 -- those of all pieces, one behind the other
-abbrev pub open_octets : List Asked → List Piece → List ℕ
-open_octets asked [] = []
-open_octets asked (p ∷ ps) =
-    open_in asked (in_piece request_in p.kind p.octets) p.octets
-    ++ open_octets (left_by asked (in_piece request_in p.kind p.octets)) ps
+abbrev pub open_octets : Layout → List Asked → List Piece → List ℕ
+open_octets l asked [] = []
+open_octets l asked (p ∷ ps) =
+    open_in asked (in_piece (request_in l) p.kind p.octets) p.octets
+    ++ open_octets l (left_by asked (in_piece (request_in l) p.kind p.octets)) ps
 
 -- those of these pieces were written, and so many requests are in none of them
-pub record IsOpened (asked : List Asked) (old new : Option (List ℕ)) (left : ℕ)
+pub record IsOpened (l : Layout) (asked : List Asked) (old new : Option (List ℕ)) (left : ℕ)
     (pieces : List Piece) : Type 0 where
-  pub wrote : Appends old new (open_octets asked pieces)
-  pub left_is : left ≡ length (left_behind asked pieces)
+  pub wrote : Appends old new (open_octets l asked pieces)
+  pub left_is : left ≡ length (left_behind l asked pieces)

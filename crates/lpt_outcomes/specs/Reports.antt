@@ -2,9 +2,12 @@
 use Rattle.std.specs.Prelude.{ℕ, ◌==◌, if◌then◌else◌, true, List, [], ◌∷◌, map, Option, Some, None, Result, Ok, Err}
 use Rattle.std.specs.Option.{option_map_or, option_or}
 use Rattle.lpt_packet.specs.declared.fault.PacketFault.{PacketFault}
-use Rattle.lpt_packet.specs.Packets.{Sight, IdlePacket, APacket, verdict}
+use Rattle.lpt_packet.specs.declared.packet.PacketKind.TheVariants.{Tm}
+use Rattle.lpt_packet.specs.Packets.{Sight, IdlePacket, APacket}
 use Rattle.lpt_pus.specs.declared.fault.PusFault.{PusFault}
-use Rattle.lpt_pus.specs.Telemetry.{Telemetry, tm_verdict}
+use Rattle.lpt_layout.specs.declared.layout.Layout.{Layout}
+use Rattle.lpt_layout.specs.Messages.{Said, message_verdict}
+use Rattle.lpt_layout.specs.Packets.{verdict_as}
 use Rattle.lpt_verify.specs.declared.report.Report.{Report}
 use Rattle.lpt_verify.specs.Reading.{report_in}
 use Rattle.lpt_stream.specs.Pieces.{Piece}
@@ -30,23 +33,23 @@ news_of_body destination subtype body =
     (if subtype == 5 then Err Quiet else Err Unread)
 
 -- a packet that is read as telemetry, or isn't
-abbrev pub news_by : Result Telemetry PusFault → Result News Beside
-news_by (Ok t) = if t.service == 1 then news_of_body t.destination t.subtype t.body else Err Quiet
+abbrev pub news_by : Result Said PusFault → Result News Beside
+news_by (Ok s) = if s.service == 1 then news_of_body s.user s.subtype s.body else Err Quiet
 news_by (Err e) = Err Foreign
 
 -- octets of this verdict: of a packet without a secondary header there is nothing to tell
-abbrev pub news_as : Result Sight PacketFault → Result News Beside
-news_as (Ok IdlePacket) = Err Quiet
-news_as (Ok (APacket f)) = news_by (tm_verdict f)
-news_as (Err e) = Err Quiet
+abbrev pub news_as : Layout → Result Sight PacketFault → Result News Beside
+news_as l (Ok IdlePacket) = Err Quiet
+news_as l (Ok (APacket f)) = news_by (message_verdict l Tm f)
+news_as l (Err e) = Err Quiet
 
--- what a packet's octets tell of a request, or what they are beside
-unfoldable pub news_in : List ℕ → Result News Beside
-news_in b = news_as (verdict b)
+-- what a packet's octets tell of a request by this layout, or what they are beside
+unfoldable pub news_in : Layout → List ℕ → Result News Beside
+news_in l b = news_as l (verdict_as l.has_checksum b)
 
 -- what a stream of these pieces tells
-abbrev pub news_of : List Piece → List News
-news_of pieces = found news_in pieces
+abbrev pub news_of : Layout → List Piece → List News
+news_of l pieces = found (news_in l) pieces
 
 -- ---- what it tells
 

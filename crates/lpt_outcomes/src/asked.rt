@@ -12,8 +12,8 @@ use std::collections::BTreeMap;
 /// A telecommand of a stream, and what reports have told of it.
 #[derive(Clone, Copy)]
 pub struct Asked {
-    /// The source ID, the destination of reports on it.
-    pub source: u16,
+    /// The source ID, the destination of reports on it; 0 if the layout has none.
+    pub source: u32,
     /// Its request ID.
     pub request: RequestId,
     /// The application process identifier, 0 to 2046.

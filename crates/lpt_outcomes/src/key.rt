@@ -3,6 +3,6 @@
 /// What names a request: reports on it go to its source, and say its request ID.
 #[derive(Clone, Copy, PartialEq, Eq, PartialOrd, Ord)]
 pub(crate) struct Key {
-    pub(crate) source: u16,
+    pub(crate) source: u32,
     pub(crate) id: u32,
 }

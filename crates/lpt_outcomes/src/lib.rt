@@ -10,7 +10,7 @@
 //!
 //! The main types are `Asked`, a request, and `Outcome`, what reports have told of it; `Passed` is
 //! how much of a stream was passed over. The first calls are `read_requests` and `read_reports`,
-//! each with a source, and then `write_outcomes` and `are_done`.
+//! each with a layout and a source, and then `write_outcomes` and `are_done`.
 #![tactic(auto)]
 
 mod answers;
@@ -29,6 +29,7 @@ mod writing;
 
 pub use asked::{Asked, are_done};
 pub use lpt_areas::Areas;
+pub use lpt_carried::Layout;
 pub use lpt_list::Form;
 pub use lpt_pus::RequestId;
 pub use lpt_text::{Sink, Source, StreamFault};

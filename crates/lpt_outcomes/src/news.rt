@@ -6,7 +6,7 @@ use lpt_verify::Report;
 /// A verification report: its destination, its message subtype, and what its body says.
 #[derive(Clone, Copy)]
 pub(crate) struct News {
-    pub(crate) destination: u16,
+    pub(crate) destination: u32,
     pub(crate) subtype: u8,
     pub(crate) report: Report,
 }

@@ -2,6 +2,8 @@
 
 ghost use Rattle.lpt_events.specs.Configs.{IsConfig};
 
+use crate::layouts::own_or_given;
+use lpt_carried::Layout;
 use lpt_command_line::CompareWords;
 use lpt_compare::{Checked, Checks, Image, read_checks};
 use lpt_events::Config;
@@ -14,10 +16,11 @@ use std::alloc::{AllocError, Global};
 
 /// Writes a line for each area of the check reports: whether its checksum is that of the file's
 /// octets there. What is no packet, check reports that can't be read, and parts of messages are
-/// told, and the status says so.
+/// told, and the status says so. The reports are read by the layouts of a file if one is given,
+/// else by the profile.
 ///
-/// Errors: `Read` if the file or the packets can't be opened or read, or their capture is wrong;
-/// `Write`, `Memory`.
+/// Errors: `Read` if a file can't be opened or read, or a capture is wrong; `Config` if the
+/// layouts' file is too long; `Write`, `Memory`.
 pub fn compare<R: Machine>(
     rt: &R,
     voice: Voice,
@@ -26,22 +29,26 @@ pub fn compare<R: Machine>(
 ) -> Result<Status, Failure>
     requires { IsConfig config.now }
 {
+    let Some(layouts) = own_or_given(rt, words.layout)? else {
+        return Ok(Status::Unreadable);
+    };
     let octets = file_at(rt, words.file)?;
-    let checks = checks_at(rt, voice, config.apid, words)?;
+    let checks = checks_at(rt, voice, &layouts.telemetry.packets, config.apid, words)?;
     let status = told(rt, words, octets.as_slice(), checks);
     drop(octets);
     status
 }
 
-// The areas of the memory's check reports among the packets.
+// The areas of the memory's check reports of this layout among the packets.
 fn checks_at<R: Machine>(
     rt: &R,
     voice: Voice,
+    layout: &Layout,
     apid: u16,
     words: &CompareWords<'_>,
 ) -> Result<Checks, Failure> {
     let mut source = opened_packets(rt, voice, &words.reports, None, None)?;
-    let read = read_checks(rt.alloc(), apid, words.memory, &mut source);
+    let read = read_checks(rt.alloc(), layout, apid, words.memory, &mut source);
     let failed = matches!(read, Err(StreamFault::Read));
     let failure = packets_end(rt, voice, &source, &words.reports, failed);
     drop(source);
@@ -105,7 +112,7 @@ fn tell_passed(rt: &(impl Eprint + AllocGlobal), unread: u64, parts: u64) {
     if parts != 0 {
         let word = if parts == 1 { "part" } else { "parts" };
         let text = format!(in rt.alloc();
-            "{parts} {word} of messages: check reports may be among them, so join them first"
+            "{parts} {word} of messages: lpt join down --each DIR joins what may be check reports"
         );
         if let Ok(text) = text {
             tell_place(rt, text.as_str());

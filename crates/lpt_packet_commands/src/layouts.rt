@@ -4,14 +4,29 @@ ghost use Rattle.lpt_carried.specs.Layouts.{SizesFit};
 
 use lpt_carried::Layouts;
 use lpt_events::part_kind;
-use lpt_io::tell_place;
+use lpt_io::{Failure, layouts_at, tell_place};
 use lpt_list::{Hint, Told, told_in};
 use lpt_packet::Direction;
 use lpt_part::Kind;
 use lpt_pus::{TC_HEADER, TM_HEADER};
+use std::rt::Files;
 
 /// The octets of a part's identifier and number.
 pub const PART_FIELDS: usize = 4;
+
+/// The layouts of the file at this path; or, if none is given, the profile's; none if the file's
+/// are refused, after standard error was told so.
+///
+/// Errors: `Read` if the file can't be opened or read; `Config` if it is too long; `Memory`.
+pub fn own_or_given(
+    rt: &(impl Files + Eprint + AllocGlobal),
+    path: Option<&str>,
+) -> Result<Option<Layouts>, Failure> {
+    match path {
+        Some(path) => layouts_at(rt, path),
+        None => Ok(Some(Layouts::own())),
+    }
+}
 
 /// Says on standard error by which other layout a part would be read, if there is one.
 pub fn tell_hint(rt: &(impl Eprint + AllocGlobal), hint: Option<Hint>) {

@@ -1,5 +1,7 @@
 //! Requests matched with the reports on them, from files or standard input to standard output.
 
+use crate::layouts::own_or_given;
+use lpt_carried::{Layout, Layouts};
 use lpt_command_line::VerifyWords;
 use lpt_io::{
     Failure, Fault, Machine, Status, Voice, finish, first_failure, name_of, opened_packets, output,
@@ -13,29 +15,49 @@ use lpt_text::StreamFault;
 use std::alloc::{AllocError, Global};
 
 /// Says what became of each request, by the reports on it, or writes the packets of those that are
-/// open, and then says what of requests and reports was passed over.
+/// open, and then says what of requests and reports was passed over. Both are read by the layouts
+/// of a file if one is given, else by the profile.
 ///
-/// Errors: `Read` if requests or reports can't be opened or read, or their capture is wrong;
-/// `Write`, `Memory`.
+/// Errors: `Read` if a file can't be opened or read, or a capture is wrong; `Config` if the
+/// layouts' file is too long; `Write`, `Memory`.
 pub fn verify<R: Machine>(
     rt: &R,
     voice: Voice,
     words: &VerifyWords<'_>,
 ) -> Result<Status, Failure> {
-    let mut requests = requests_at(rt, voice, words.requests)?;
-    let of_reports = reported(rt, voice, &mut requests.asked, &words.reports)?;
+    match own_or_given(rt, words.layout)? {
+        Some(layouts) => verify_by(rt, voice, &layouts, words),
+        None => Ok(Status::Unreadable),
+    }
+}
+
+// The same by these layouts.
+fn verify_by<R: Machine>(
+    rt: &R,
+    voice: Voice,
+    layouts: &Layouts,
+    words: &VerifyWords<'_>,
+) -> Result<Status, Failure> {
+    let (up, down) = (&layouts.telecommands.packets, &layouts.telemetry.packets);
+    let mut requests = requests_at(rt, voice, up, words.requests)?;
+    let of_reports = reported(rt, voice, down, &mut requests.asked, &words.reports)?;
     if words.open {
-        put_open(rt, voice, words.requests, &requests.asked)?;
+        put_open(rt, voice, up, words.requests, &requests.asked)?;
         return Ok(told_beside(rt, words, &requests, &of_reports));
     }
     told(rt, words, &requests, &of_reports)
 }
 
-// The requests of the packets at this path.
-fn requests_at<R: Machine>(rt: &R, voice: Voice, path: &str) -> Result<Requests, Failure> {
+// The requests of this layout among the packets at this path.
+fn requests_at<R: Machine>(
+    rt: &R,
+    voice: Voice,
+    layout: &Layout,
+    path: &str,
+) -> Result<Requests, Failure> {
     let paths = [path];
     let mut source = opened_packets(rt, voice, &paths, None, None)?;
-    let read = read_requests(rt.alloc(), &mut source);
+    let read = read_requests(rt.alloc(), layout, &mut source);
     let failed = matches!(read, Err(StreamFault::Read));
     let failure = packets_end(rt, voice, &source, &paths, failed);
     drop(source);
@@ -50,16 +72,17 @@ fn requests_at<R: Machine>(rt: &R, voice: Voice, path: &str) -> Result<Requests,
     }
 }
 
-// Tells these requests of the reports among the packets at these paths. What was passed over of
-// those.
+// Tells these requests of the reports of this layout among the packets at these paths. What was
+// passed over of those.
 fn reported<R: Machine>(
     rt: &R,
     voice: Voice,
+    layout: &Layout,
     requests: &mut [Asked],
     paths: &[&str],
 ) -> Result<Passed, Failure> {
     let mut source = opened_packets(rt, voice, paths, None, None)?;
-    let read = read_reports(rt.alloc(), requests, &mut source);
+    let read = read_reports(rt.alloc(), layout, requests, &mut source);
     let failed = matches!(read, Err(StreamFault::Read));
     let failure = packets_end(rt, voice, &source, paths, failed);
     drop(source);
@@ -84,12 +107,18 @@ fn told(
     Ok(told_beside(rt, words, requests, of_reports))
 }
 
-// Writes the packets of those requests at this path that are open.
-fn put_open<R: Machine>(rt: &R, voice: Voice, path: &str, asked: &[Asked]) -> Result<(), Failure> {
+// Writes the packets of those requests of this layout at this path that are open.
+fn put_open<R: Machine>(
+    rt: &R,
+    voice: Voice,
+    layout: &Layout,
+    path: &str,
+    asked: &[Asked],
+) -> Result<(), Failure> {
     let paths = [path];
     let mut source = opened_packets(rt, voice, &paths, None, None)?;
     let mut out = output(rt)?;
-    let written = write_open(rt.alloc(), asked, &mut source, &mut out);
+    let written = write_open(rt.alloc(), layout, asked, &mut source, &mut out);
     let failure = match written {
         Ok(0) => None,
         Ok(_) => Some(read_once(rt, path)),

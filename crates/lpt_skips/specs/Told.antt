@@ -29,7 +29,7 @@ words_of_one NoNumber = codes " part has number 0"
 words_of_one Unread = codes " part doesn't fit part_size = "
 words_of_one OtherName = codes " part of another message was skipped, of "
 words_of_one NoPart = codes " packet carries no part"
-words_of_one Damaged = codes " packet with a fault was skipped"
+words_of_one Damaged = codes " damaged packet was skipped"
 words_of_one Stray = codes " octet is no packet"
 
 -- what is said of several
@@ -40,8 +40,8 @@ words_of_many NoNumber = codes " parts have number 0"
 words_of_many Unread = codes " parts don't fit part_size = "
 words_of_many OtherName = codes " parts of other messages were skipped, the first of "
 words_of_many NoPart = codes " packets carry no part"
-words_of_many Damaged = codes " packets with a fault were skipped"
-words_of_many Stray = codes " octets are no packets"
+words_of_many Damaged = codes " damaged packets were skipped"
+words_of_many Stray = codes " octets are no packet"
 
 -- the part size, or where that isn't known, those that there are; and behind it the one by which
 -- parts would be read, where one is known

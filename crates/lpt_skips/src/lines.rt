@@ -151,7 +151,7 @@ fn words_of_one(topic: Topic) -> &'static str
         Topic::Unread => " part doesn't fit part_size = ",
         Topic::OtherName => " part of another message was skipped, of ",
         Topic::NoPart => " packet carries no part",
-        Topic::Damaged => " packet with a fault was skipped",
+        Topic::Damaged => " damaged packet was skipped",
         Topic::Stray => " octet is no packet",
     }
 }
@@ -167,7 +167,7 @@ fn words_of_many(topic: Topic) -> &'static str
         Topic::Unread => " parts don't fit part_size = ",
         Topic::OtherName => " parts of other messages were skipped, the first of ",
         Topic::NoPart => " packets carry no part",
-        Topic::Damaged => " packets with a fault were skipped",
-        Topic::Stray => " octets are no packets",
+        Topic::Damaged => " damaged packets were skipped",
+        Topic::Stray => " octets are no packet",
     }
 }

@@ -8,20 +8,25 @@ use Rattle.lpt_outcomes.specs.Requests.{nothing_told}
 use Rattle.lpt_outcomes.proofs.AnswerLemmas.{answered-heard}
 use Rattle.lpt_outcomes.proofs.reports.read_reports.Goals as goal
 
-pub returns-clause-heard : goal.returns-clause-heard
-returns-clause-heard g c =
-    let read = c.in_ok-last.ensures.taken in
-    let m = c.in_ok-last.last.outcomes in (
-      read.0,
-      read.1,
-      read.2,
-      read.3,
-      read.4,
-      (
+pub returns-in-Ok-clause-heard : goal.returns-in-Ok-clause-heard
+returns-in-Ok-clause-heard g c =
+    let read = c.in-Ok.ensures.taken in
+    let m = c.in-Ok.last.outcomes in
+    let ps = read.pieces in
+    let taken = read.gives.0 in
+    record {
+      stream = read.stream;
+      pieces = ps;
+      in_step = read.in_step;
+      rest = read.rest;
+      consumed = read.consumed;
+      leads = read.leads;
+      ends = read.ends;
+      gives = (
         c.answer.ensures
-            ∙ answered-heard (get key_cmp m) c.args.requests.now (news_of read.1)
-            (λ k some. read.5.0 k ∙ ap (told_at k (news_of read.1))
+            ∙ answered-heard (get key_cmp m) c.args.requests.now (news_of c.args.layout.now ps)
+            (λ k some. taken.1 k ∙ ap (told_at k (news_of c.args.layout.now ps))
             (c.in_ok-untold.ensures k ∙ ap (λ b. if b then Some nothing_told else None) some)),
-        read.5.1,
-      ),
-    )
+        taken.2,
+      );
+    }
