@@ -1,3 +1,4 @@
 pub mod ListedSteps
+pub mod Repeating
 pub mod RunRows
 pub mod Swapped

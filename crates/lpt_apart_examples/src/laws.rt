@@ -1,4 +1,4 @@
-//! A run of two ends apart, and what comes of it: a function with an empty body.
+//! Runs of two ends apart, and what comes of them: functions with empty bodies.
 
 ghost use Rattle.std.specs.Prelude.{◌≡◌, reverse};
 ghost use Rattle.lpt_events.specs.Configs.{IsConfig};
@@ -6,7 +6,9 @@ ghost use Rattle.lpt_packet.specs.declared.direction.Direction.TheVariants.{Up};
 ghost use Rattle.lpt_apart.specs.Moves.{came_to, CanMoveAll};
 ghost use Rattle.lpt_apart.specs.Whole.{came_in, CameWhole};
 ghost use Rattle.lpt_journal_examples.specs.Passes.{own, m9, usual, usual_memories, loaded_memories};
+ghost use Rattle.lpt_apart_examples.specs.Late.{before_late, late_acts, late_moves, start, FreesTooEarly};
 ghost use Rattle.lpt_apart_examples.specs.Runs.{worked, worked_log};
+ghost use Rattle.lpt_freeing.specs.Freeing.{with_acts, CanActAll};
 
 /// Ground asks for a load, which is executed; its packet comes again, and is released again. A
 /// message comes up in three parts. One of them is lost and sent again; they are handed over in
@@ -20,4 +22,16 @@ pub fn forged_and_reused_can_be()
     ensures log { (came_to usual usual_memories (reverse worked)).ends.log ≡ reverse worked_log }
     ensures left { (came_to usual usual_memories (reverse worked)).ends.memories ≡ loaded_memories }
     ensures whole { CameWhole usual (came_in usual usual_memories (reverse worked) Up (own 7)) m9 }
+{}
+
+/// Ends free a name by lines. Ground opens a message, and sends a part of it, which is late. It is
+/// restarted, says that it is finished with the name, and that is heard twice: the spacecraft frees
+/// the name once. It says so, and that is heard twice: ground frees the name once. Then ground
+/// opens another message under the name, and sends a part of it. The part of the first message and
+/// both lines come once more, and change nothing; the part of the second is handed over. Were there
+/// no turns, the spacecraft would free the name again, which may not be while its message is open.
+pub fn late_lines_change_nothing()
+    ensures can { CanActAll usual start (reverse late_acts) }
+    ensures moves { (with_acts usual start (reverse late_acts)).moves ≡ late_moves }
+    ensures turns { FreesTooEarly before_late }
 {}

@@ -1,4 +1,5 @@
 pub mod Deleting
 pub mod Finishing
+pub mod GroundReports
 pub mod Local
 pub mod Readings

@@ -83,8 +83,8 @@ pub fn lpt_end_access_octets(
 /// octets that they have in what it reads, those of one access behind those of the other, and none
 /// if it reads nothing. Says what became of it. Its reports are to be sent.
 ///
-/// 0; 106 if the handle is empty; 51 if there is no request, as always on ground; 119 if
-/// the memories are in the end; 52 if the oldest wasn't read; 120 if it reads more octets, or
+/// 0; 106 if the handle is empty; 119 if the memories are in the end; 51 if there is no
+/// request, as always on ground; 52 if the oldest wasn't read; 120 if it reads more octets, or
 /// fewer; 110 if packets are to be sent first; 58 when out of memory. Then nothing has changed.
 pub fn lpt_end_execute_given(
     alloc: Global,

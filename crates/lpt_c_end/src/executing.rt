@@ -41,8 +41,8 @@ pub fn lpt_end_read(alloc: Global, end: &mut LptEnd) -> u32
 /// Executes the oldest request, which has been read: does what it asks of a memory, and says what
 /// became of it. Its reports are to be sent.
 ///
-/// 0; 106 if the handle is empty; 51 if there is no request, as always on ground; 119 if
-/// the memories are with the caller; 52 if the oldest wasn't read; 110 if packets are to be
+/// 0; 106 if the handle is empty; 119 if the memories are with the caller; 51 if there is no
+/// request, as always on ground; 52 if the oldest wasn't read; 110 if packets are to be
 /// sent first; 58 when out of memory. Then nothing has changed.
 pub fn lpt_end_execute(alloc: Global, end: &mut LptEnd, applied: &mut LptApplied) -> u32
     ensures code { IsAnswer (refusal_by execute_refusal end.old.held.value) result }

@@ -6,7 +6,6 @@ pub mod Deleting
 pub mod Dropping
 pub mod Fronting
 pub mod GivenLemmas
-mod GroundReports
 pub mod Handing
 pub mod Histories
 pub mod Keeping

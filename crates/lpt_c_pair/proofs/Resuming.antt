@@ -1,4 +1,4 @@
--- An end that is made again of what was kept of it has the node that a restart leaves.
+-- An end that is restored from what was kept of it has the node that a restart leaves.
 use Rattle.std.proofs.Common.{◌≡◌, ◌∙◌, ap, sym, refl, ℕ, List, Result, Ok, Err}
 use Rattle.lpt_apart.specs.Clocks.{later}
 use Rattle.lpt_c_end.specs.Keeping.{IsResumedWith}

@@ -108,7 +108,7 @@ left_without h Ground = h.but_ground
 left_without h Craft = h.but_craft
 
 -- A call can be made as before, after what is left. An end can be kept at any time. A machine can
--- be reset where what is left can be done without what is deleted, and its end is made again of
+-- be reset where what is left can be done without what is deleted, and its end is restored from
 -- what was kept.
 abbrev pub CanGoOn : Config → (start : Standing) → History → Deed → Type 0
 CanGoOn c start h (Makes t) = CanStand c start (t ∷ h.calls)
@@ -200,7 +200,7 @@ CarefulProgramsMayBeReset =
 
 -- ---- what stays
 
--- these leave an end's state as it is, so that a reset needn't delete them: it is made again of
+-- these leave an end's state as it is, so that a reset needn't delete them: it is restored from
 -- what was kept before
 abbrev pub SendingsLeaveTheState : Type 0
 SendingsLeaveTheState =

@@ -29,7 +29,7 @@ pub record Past : Type 0 where
   pub but_both : List Deed
 
 -- A program did something; the program of a side keeps its end's state, and the spacecraft's with
--- it the memories; or a machine is reset, and its end is made again of a state and memories.
+-- it the memories; or a machine is reset, and its end is restored from a state and memories.
 pub data Event : Type 0 where
   Does : Deed → Event
   Keeps : Side → Event
@@ -81,7 +81,7 @@ left_without p Ground = p.but_ground
 left_without p Craft = p.but_craft
 
 -- Something can be done as before, after what is left. An end can be kept at any time. A machine
--- can be reset where what is left can be done without what is deleted, and its end is made again of
+-- can be reset where what is left can be done without what is deleted, and its end is restored from
 -- what was kept.
 abbrev pub CanGo : Config → (start : Serving) → Past → Event → Type 0
 CanGo c start p (Does x) = CanServeAll c start (x ∷ p.deeds)

@@ -135,7 +135,7 @@ module _ (k : End) (new_k : IsNew Craft usual memory content k) where
 
   -- ---- a start
 
-  -- an end with the load is made again of its state
+  -- an end with the load is restored from its state
   pub resumes_it : (first : ℕ)
       → let e = behind first [] none_read in
       IsDone (Resume e.config (spelled e.node) memory loaded_content) e

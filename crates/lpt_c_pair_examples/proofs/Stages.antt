@@ -121,7 +121,7 @@ module _ (kept : Kept) (has : sizes_in kept ≡ Some one)
       (is_ready (record k.node { at = with_jobs first jobs }) kept
       (ap (λ (n : NodeView). n.config) new_k.node) has all))
 
-  -- made again of what was kept of that
+  -- restored from what was kept of that
   abbrev pub again_end : (first : ℕ) (jobs : List Job) → AreRead jobs → End
   again_end first jobs all =
       made k (restarted (with_jobs first jobs)) None [] (omega arith)
@@ -247,7 +247,7 @@ module _ (e : End) (first : ℕ) (jobs : List Job) (node : e.node.at ≡ with_jo
       subst (λ (d : NodeData). d.boot + 1 < 2 ^ 64) (sym node)
       (let left : 0 + 1 < 2 ^ 64 = omega arith in left)
 
-  -- it is made again of its state
+  -- it is restored from its state
   pub resumes : (new : End) (kept : Kept)
       → e.side ≡ Craft
       → new.side ≡ Craft

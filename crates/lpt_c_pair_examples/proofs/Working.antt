@@ -90,7 +90,7 @@ module _ (k : End) (new_k : IsNewSized usual sizes k) where
       → written_by 1 (Some (craft first (Committed source ∷ []) one_done)) ≡ Err nothing
   no_more first = ap (λ (m : Meaning). text_or_nothing (slice_get (written m) 1)) means
 
-  -- it is made again of its state
+  -- it is restored from its state
   pub resumes_it : (first : ℕ) (jobs : List Job) (all : AreRead jobs)
       → let e = craft first jobs all in
       IsDone (ResumeSized e.config (spelled e.node) sizes) e (craft_again first jobs all)

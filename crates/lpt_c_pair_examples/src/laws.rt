@@ -23,7 +23,7 @@ pub fn worked_can_be()
 {}
 
 /// The same, if both ends are kept before anything that depends on it is handed over, and the
-/// spacecraft's machine is reset while half of the load is written: its end is made again of what
+/// spacecraft's machine is reset while half of the load is written: its end is restored from what
 /// was kept behind the execution, and the write that is owed is made again.
 pub fn torn_can_be_redone()
     ensures { TornCanBeRedone }

@@ -6,8 +6,8 @@
  * state of the end, in the same write. Each packet of a part goes with its name and the turn of its
  * sender, and the receiver hands it to its end only if that is its own turn too. Then:
  *
- *   1. The sender has kept its message's opening, and closed it. It says FINISHED, with its turn,
- *      again and again.
+ *   1. The sender has kept its message's opening, and closed it; if a report of an abortion or a
+ *      restart closed it, that is kept, too. It says FINISHED, with its turn, again and again.
  *   2. The receiver, at that turn, frees the name and goes on to the next turn. It keeps both in
  *      one write, and only then answers FREED with the turn that was said. To a line of an earlier
  *      turn it answers the same, since its answer may be lost, and frees nothing.
@@ -18,6 +18,10 @@
  * Why a turn: without it a late FINISHED frees the name of the next message. Its parts that come
  * again are then joined to a message that is released twice; and a late part of the former message
  * is joined to the next one.
+ *
+ * It is proved of two nodes that go by these three steps, whatever the link does and whenever they
+ * are killed, that they free names in the order of docs/C.md, and keep the promise:
+ * lines_free_through_resets, in crates/lpt_freeing.
  */
 #ifndef BUS_FREEING_H
 #define BUS_FREEING_H

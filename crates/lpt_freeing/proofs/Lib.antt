@@ -1,0 +1,10 @@
+pub mod Before
+pub mod Holding
+pub mod Lists
+pub mod Loose
+pub mod Resetting
+pub mod Sides
+pub mod Talked
+pub mod Talking
+pub mod Turns
+pub mod Ways

@@ -1,0 +1,3 @@
+pub mod Freeing
+pub mod Lines
+pub mod Resets
