@@ -1,5 +1,5 @@
 -- A pass that goes on, answer by answer.
-use Rattle.std.proofs.Common.{◌≡◌, ◌∙◌, refl, sym, ap, subst, ℕ, zero, suc, Bool, true, false, List, [], ◌∷◌, ◌++◌, ◌⊎◌, inl, inr, Option, Some, None, append_assoc, append-nil, if◌then◌else◌, ◌+◌, ◌==◌, drop}
+use Rattle.std.proofs.Common.{◌≡◌, ◌∙◌, refl, sym, ap, subst, ℕ, zero, suc, Bool, true, false, List, [], ◌∷◌, ◌++◌, ◌⊎◌, inl, inr, Option, Some, None, append_assoc, append-nil, if◌then◌else◌, ◌==◌, drop}
 use Rattle.std.specs.Prelude.{position}
 use Rattle.std.specs.List.{slice_get, list_all}
 use Rattle.std.proofs.KnownBytes.{Appends-nil, Appends-trans}
@@ -7,7 +7,6 @@ use Rattle.std.specs.Io.KnownBytes.{Appends}
 use Rattle.std.proofs.lemmas.Bool.{and_parts, false≢true}
 use Rattle.lpt_pus.specs.Telemetry.{Telemetry}
 use Rattle.lpt_ground.specs.declared.asked.Asked.{Asked}
-use Rattle.lpt_ground.specs.declared.asked.Fate.{Fate}
 use Rattle.lpt_ground.specs.declared.asked.Fate.TheVariants.{Waiting, Done, Failed}
 use Rattle.lpt_ground.specs.declared.asked.Terms.{Terms}
 use Rattle.lpt_ground.specs.declared.pass.End.{End}
@@ -16,10 +15,10 @@ use Rattle.lpt_ground.specs.declared.pass.Step.{Step}
 use Rattle.lpt_ground.specs.declared.pass.Step.TheVariants.{Put, Listen, Stop}
 use Rattle.lpt_ground.specs.declared.telling.Said.{Said}
 use Rattle.lpt_ground.specs.declared.telling.Said.TheVariants as said
-use Rattle.lpt_ground.specs.Carrying.{Answer, Nothing, Came, Quiet, Over, AllTold, Hears, Stepped, Tells, WasTold, Went, answered, come_to, moved, packets_of, paced, written_at}
-use Rattle.lpt_ground.specs.Passes.{State, end_of, has_come, heard, is_done, next_step, put, put_from, step_from}
-use Rattle.lpt_ground.specs.Telling.{fate_by, is_waiting, report_of, said_of, waits}
-use Rattle.lpt_ground.proofs.ToldLemmas.{IsTold, WasHeard, heard-fares}
+use Rattle.lpt_ground.specs.Carrying.{Answer, Nothing, Came, Quiet, Over, AllTold, Hears, Stepped, WasTold, Went, answered, come_to, moved, packets_of, paced, written_at}
+use Rattle.lpt_ground.specs.Passes.{State, has_come, heard, is_done, next_step, put_from, step_from}
+use Rattle.lpt_ground.specs.Telling.{fate_by, is_waiting, report_of, said_of}
+use Rattle.lpt_ground.proofs.ToldLemmas.{heard-fares}
 
 -- ---- answers, one after the other
 

@@ -1,2 +1,4 @@
 pub mod CarryLemmas
+pub mod PlaceLemmas
 mod ToldLemmas
+pub mod WaitingLemmas

@@ -1,17 +1,14 @@
 -- What settled a request was heard.
-use Rattle.std.proofs.Common.{◌≡◌, ◌∙◌, refl, sym, ap, subst, ℕ, zero, suc, Bool, true, false, List, [], ◌∷◌, ◌⊎◌, inl, inr, Option, Some, None, set, get_or}
+use Rattle.std.proofs.Common.{◌≡◌, ◌∙◌, refl, sym, ap, subst, ℕ, zero, suc, Bool, true, List, [], ◌∷◌, ◌⊎◌, inl, inr, Option, Some, None, set}
 use Rattle.std.specs.Prelude.{position, option_map}
-use Rattle.std.specs.List.{slice_get, list_all}
-use Rattle.std.proofs.lemmas.Bool.{and_parts, cases_eq, false≢true}
+use Rattle.std.specs.List.{slice_get}
+use Rattle.std.proofs.lemmas.Bool.{and_parts, cases_eq}
 use Rattle.std.proofs.lemmas.List.Quantifiers.{position-Some}
 use Rattle.std.proofs.lemmas.Option.{get_or_from_slice_get}
 use Rattle.lpt_pus.specs.Telemetry.{Telemetry}
 use Rattle.lpt_ground.specs.declared.asked.Asked.{Asked}
-use Rattle.lpt_ground.specs.declared.asked.Fate.{Fate}
-use Rattle.lpt_ground.specs.declared.asked.Fate.TheVariants.{Waiting, Done, Failed}
 use Rattle.lpt_ground.specs.declared.asked.Terms.{Terms}
 use Rattle.lpt_ground.specs.declared.telling.Said.{Said}
-use Rattle.lpt_ground.specs.declared.telling.Said.TheVariants as said
 use Rattle.lpt_ground.specs.Passes.{State, heard}
 use Rattle.lpt_ground.specs.Telling.{fate_by, fated, is_waiting, report_of, said_at, said_first, said_in, said_of, said_there, settles, told}
 

@@ -1,12 +1,13 @@
 //! Requests found by what became of them.
 
-ghost use Rattle.std.specs.Prelude.{◌≡◌, ◌<◌, length, position, slice_get, IfSome};
-ghost use Rattle.std.specs.List.{list_all};
+ghost use Rattle.std.specs.Prelude.{◌≡◌, ◌<◌, ◌≤◌, length, position, slice_get, IfSome};
+ghost use Rattle.std.specs.List.{list_all, position_or_len};
 ghost use Rattle.lpt_pus.specs.Telemetry.{telemetry};
 ghost use Rattle.lpt_ground.specs.Passes.{is_done};
-ghost use Rattle.lpt_ground.specs.Telling.{fated, is_waiting, settles};
+ghost use Rattle.lpt_ground.specs.Telling.{fate_by, fated, is_waiting, settles};
 
-use crate::{Asked, Fate};
+use crate::{Asked, Fate, Said};
+use lpt_packet::Octets;
 use lpt_pus::TmHead;
 
 // The first that waits.
@@ -17,14 +18,42 @@ pub(crate) fn first_waiting(asked: &[Asked]) -> Option<usize>
     asked.iter().position(|asked| asked.fate.waits())
 }
 
-// The first that telemetry settles.
+// The place of the first that waits, of which none before this place does; how many they are, where
+// none waits.
+pub(crate) fn first_from(asked: &[Asked], from: usize) -> usize
+    requires within { from ≤ length asked.now }
+    requires front { from ≤ position_or_len is_waiting asked.now }
+    ensures first { result ≡ position_or_len is_waiting asked.now }
+    ensures within { result ≤ length asked.now }
+{
+    match first_waiting(&asked[from..]) {
+        Some(k) => from + k,
+        None => asked.len(),
+    }
+}
+
+// The first that telemetry settles, where none before this place waits.
 pub(crate) fn first_settled(
     asked: &[Asked],
+    from: usize,
     starts: bool,
     head: &TmHead,
     body: &[u8],
 ) -> Option<usize>
+    requires within { from ≤ length asked.now }
+    requires front { from ≤ position_or_len is_waiting asked.now }
     ensures { result ≡ position (settles starts (telemetry head.now body.now)) asked.now }
+{
+    match settled_in(&asked[from..], starts, head, body) {
+        Some(k) => Some(from + k),
+        None => None,
+    }
+}
+
+// The first that telemetry settles.
+fn settled_in(asked: &[Asked], starts: bool, head: &TmHead, body: &[u8]) -> Option<usize>
+    ensures first { result ≡ position (settles starts (telemetry head.now body.now)) asked.now }
+    ensures within { IfSome result (λ k. k < length asked.now) }
 {
     asked
         .iter()
@@ -38,9 +67,28 @@ pub(crate) fn are_done(asked: &[Asked]) -> bool
     asked.iter().all(|asked| asked.fate.has_come())
 }
 
+// The request at this place has the fate that octets say from now on, if there is one; gives the
+// place of the first that waits then, where this was the first before.
+pub(crate) fn settle(
+    asked: &mut [Asked],
+    first: usize,
+    k: usize,
+    said: Said,
+    octets: Octets,
+) -> usize
+    requires first { first ≡ position_or_len is_waiting asked.old }
+    requires within { first ≤ length asked.old }
+    ensures asked { asked.new ≡ fated asked.old k (fate_by said octets) (slice_get asked.old k) }
+    ensures first { result ≡ position_or_len is_waiting asked.new }
+    ensures within { result ≤ length asked.new }
+{
+    set_fate(asked, k, said.fate(octets));
+    first_from(asked, first)
+}
+
 // The request at this place has this fate from now on, if there is one.
 #[tactic(auto, using(std::proofs::lemmas::Option::slice_get_read, std::proofs::lemmas::Option::slice_get_past))]
-pub(crate) fn set_fate(asked: &mut [Asked], k: usize, fate: Fate)
+fn set_fate(asked: &mut [Asked], k: usize, fate: Fate)
     ensures { asked.new ≡ fated asked.old k fate (slice_get asked.old k) }
 {
     if k < asked.len() {

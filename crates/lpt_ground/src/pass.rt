@@ -1,8 +1,10 @@
 //! A pass: what it does next, by what it heard.
 
-ghost use Rattle.std.specs.Prelude.{◌≤◌, length};
+ghost use Rattle.std.specs.Prelude.{◌≡◌, ◌≤◌, length};
+ghost use Rattle.std.specs.List.{position_or_len};
+ghost use Rattle.lpt_ground.specs.Telling.{is_waiting};
 
-use crate::finding::{are_done, first_settled, first_waiting, set_fate};
+use crate::finding::{are_done, first_from, first_settled, first_waiting, settle};
 use crate::telling::Said;
 use crate::{Asked, Terms};
 use lpt_packet::Octets;
@@ -44,6 +46,8 @@ pub enum Step {
 pub struct Pass {
     terms: Terms,
     asked: Vec<Asked>,
+    // The place of the first that waits; how many they are, if none waits.
+    first: usize,
     // The place behind the request that was put last in this round.
     at: usize,
     // How many are still to be put in this round at least.
@@ -54,24 +58,28 @@ pub struct Pass {
     news: bool,
     // Whether nothing more will be heard.
     ended: bool,
+    ghost is_first: { first ≡ position_or_len is_waiting asked.items },
+    ghost first_within: { first ≤ length asked.items },
     ghost within: { at ≤ length asked.items },
 }
 
 impl Pass {
-    ghost use Rattle.std.specs.Prelude.{◌≡◌, ◌<◌, ℕ, drop, position, slice_get};
+    ghost use Rattle.std.specs.Prelude.{◌<◌, ℕ, drop, position, slice_get};
     ghost use Rattle.lpt_packet.specs.Numbers.{IsOctets};
     ghost use Rattle.lpt_ground.specs.Carrying.{octets_of};
     ghost use Rattle.lpt_ground.specs.Passes.{begun, closed, end_of, heard, next_step, put, put_from, state_of, waited};
-    ghost use Rattle.lpt_ground.specs.Telling.{is_waiting, said_in};
+    ghost use Rattle.lpt_ground.specs.Telling.{said_in};
 
     /// A pass of these requests that begins.
     pub fn new(terms: Terms, asked: Vec<Asked>) -> Pass
         ensures state { state_of result ≡ begun terms asked.items }
         ensures terms { result.terms ≡ terms }
     {
+        let first = first_from(&asked, 0);
         Pass {
             terms,
             asked,
+            first,
             at: 0,
             owed: 0,
             left: terms.tries,
@@ -103,16 +111,16 @@ impl Pass {
         ensures step { result ≡ next_step (state_of self.now) }
         ensures within { (k : ℕ) → result ≡ Step.Put k → k < length self.now.asked.items }
     {
-        let Some(first) = first_waiting(&self.asked) else {
+        if self.first >= self.asked.len() {
             return Step::Stop(self.end());
-        };
+        }
         if self.ended {
             return Step::Stop(End::Ended);
         }
         if self.left == 0 {
             return Step::Stop(End::Given);
         }
-        self.put_from(first)
+        self.put_from(self.first)
     }
 
     // How a pass ends of which none waits.
@@ -159,7 +167,7 @@ impl Pass {
         let Some((k, said)) = self.said_in(octets.as_slice()) else {
             return;
         };
-        set_fate(&mut self.asked, k, said.fate(octets));
+        self.first = settle(&mut self.asked, self.first, k, said, octets);
         self.news = true;
     }
 
@@ -171,7 +179,7 @@ impl Pass {
     {
         let (head, body) = self.terms.report_of(octets)?;
         let starts = self.terms.starts;
-        let k = first_settled(&self.asked, starts, &head, body)?;
+        let k = first_settled(&self.asked, self.first, starts, &head, body)?;
         let said = self.asked.get(k)?.said(starts, &head, body)?;
         Some((k, said))
     }

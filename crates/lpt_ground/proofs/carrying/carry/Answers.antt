@@ -1,5 +1,5 @@
 -- Answer by answer, until the pass is at its end.
-use Rattle.std.proofs.Common.{◌≡◌, ◌∙◌, ap, refl, sym}
+use Rattle.std.proofs.Common.{◌∙◌, ap, refl, sym}
 use Rattle.lpt_ground.specs.declared.pass.Step.TheVariants.{Stop}
 use Rattle.lpt_ground.specs.Passes.{next_step, state_of}
 use Rattle.lpt_ground.proofs.CarryLemmas.{done-told, went-next, went-none}
