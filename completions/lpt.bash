@@ -8,8 +8,8 @@ _lpt() {
         :run | :threads | :shell | :lint | :chart | :decode | :list | :split | :join | :extract | :link | :spacecraft | :verify | :compare | :checksum | :ground | :pass | :request | :help)
             command=${COMP_WORDS[i]}
             ;;
-        ground:load | ground:dump | ground:check | ground:help | \
-            pass:load | pass:dump | pass:check | pass:help | \
+        ground:load | ground:dump | ground:check | ground:patch | ground:help | \
+            pass:load | pass:dump | pass:check | pass:patch | pass:help | \
             request:load | request:dump | request:check | request:help)
             request=${COMP_WORDS[i]}
             break
@@ -27,27 +27,29 @@ _lpt() {
     join:*) options+=' --id --first --any --each --from --to --layout --quiet' ;;
     extract:*) options+=' --at --from --fill --whole --join --layout --quiet' ;;
     link:*) options='--lose --repeat --damage --delay --seed --quiet --help --version' ;;
-    verify:*) options='--json --open --quiet --help --version' ;;
+    verify:*) options='--json --open --layout --quiet --help --version' ;;
     spacecraft:*) options+=' --mode --memory --save --tick-every --tick --reuse --resync --log --state' ;;
-    compare:*) options+=' --quiet' ;;
+    compare:*) options+=' --layout --quiet' ;;
     checksum:*) options='--from --length --help --version' ;;
-    ground:load | ground:dump | ground:check)
-        options+=' --area --passes --count --wait --tries --up --job --json --quiet'
+    ground:load | ground:dump | ground:check | ground:patch)
+        options+=' --passes --count --wait --tries --up --job --json --quiet'
         ;;
-    pass:load | pass:dump | pass:check)
-        options+=' --area --passes --count --wait --tries --job --json --quiet'
+    pass:load | pass:dump | pass:check | pass:patch)
+        options+=' --passes --count --wait --tries --job --json --quiet'
         options+=' --memory --save --state --lose --repeat --damage --delay --seed'
         ;;
     request:load) options+=' --area --each --ack --count' ;;
     request:dump | request:check) options+=' --each --ack --count' ;;
     esac
     case $command:$request in
-    ground:load | pass:load) options+=' --ack --verify' ;;
-    ground:dump | pass:dump) options+=' --to' ;;
+    ground:load | pass:load) options+=' --area --ack --verify' ;;
+    ground:patch | pass:patch) options+=' --ack --verify' ;;
+    ground:dump | pass:dump) options+=' --area --to' ;;
+    ground:check | pass:check) options+=' --area' ;;
     esac
     COMPREPLY=()
     case $command:$request:$before:$word in
-    ground:load:--ack:* | pass:load:--ack:*) offered='8 10' ;;
+    ground:load:--ack:* | pass:load:--ack:* | ground:patch:--ack:* | pass:patch:--ack:*) offered='8 10' ;;
     *:*:--config:* | *:*:--layout:* | *:*:--state:* | *:*:--up:* | *:*:--job:* | *:*:--passes:* | ground:dump:--to:* | pass:dump:--to:*)
         mapfile -t COMPREPLY < <(compgen -f -- "$word")
         return
@@ -64,9 +66,11 @@ _lpt() {
     *:*:--mode:*) offered='any strict' ;;
     :*) offered='run threads shell lint chart decode list split join extract link spacecraft verify compare checksum ground pass request help --help --version' ;;
     help::help:*) offered='run threads shell lint chart decode list split join extract link spacecraft verify compare checksum ground pass request help' ;;
-    help::ground:* | help::pass:* | help::request:* | ground:help:help:* | pass:help:help:* | request:help:help:*) offered='load dump check' ;;
+    help::ground:* | help::pass:* | ground:help:help:* | pass:help:help:*) offered='load dump check patch' ;;
+    help::request:* | request:help:help:*) offered='load dump check' ;;
     help:* | ground:help:* | pass:help:* | request:help:*) return ;;
-    ground::* | pass::* | request::*) offered='load dump check help --help --version' ;;
+    ground::* | pass::*) offered='load dump check patch help --help --version' ;;
+    request::*) offered='load dump check help --help --version' ;;
     *:*:*:-*) offered=$options ;;
     split::split:* | join::join:*) offered='up down' ;;
     decode:* | shell:* | spacecraft:*) return ;;

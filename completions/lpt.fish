@@ -16,7 +16,7 @@ end
 
 # Whether the words begin with a command below `pass`, other than its help.
 function __lpt_in_pass
-    __lpt_at pass load; or __lpt_at pass dump; or __lpt_at pass check
+    __lpt_at pass load; or __lpt_at pass dump; or __lpt_at pass check; or __lpt_at pass patch
 end
 
 complete -c lpt -f
@@ -45,12 +45,17 @@ complete -c lpt -n '__lpt_is help' -a 'run threads shell lint chart decode list 
 for family in ground pass request
     complete -c lpt -n "__lpt_is help $family; or __lpt_is $family help" -a 'load dump check'
 end
+for family in ground pass
+    complete -c lpt -n "__lpt_is help $family; or __lpt_is $family help" -a 'patch'
+end
 complete -c lpt -n '__lpt_is ground' -a load -d 'Load a file into a memory, and end once all of it is there'
 complete -c lpt -n '__lpt_is ground' -a dump -d 'Fetch octets of a memory, and write them once all have come'
 complete -c lpt -n '__lpt_is ground' -a check -d 'Compare a file with checksums of a memory'
+complete -c lpt -n '__lpt_is ground' -a patch -d 'Load the files of a list into memories, and end once all of them are there'
 complete -c lpt -n '__lpt_is pass' -a load -d 'Load a file into a memory over links that lose'
 complete -c lpt -n '__lpt_is pass' -a dump -d 'Fetch octets of a memory over links that lose'
 complete -c lpt -n '__lpt_is pass' -a check -d 'Compare a file with checksums of a memory over links that lose'
+complete -c lpt -n '__lpt_is pass' -a patch -d 'Load the files of a list into memories over links that lose'
 complete -c lpt -n '__lpt_is ground; or __lpt_is pass' -a help -d 'Print the help of a command'
 complete -c lpt -n '__lpt_is request' -a load -d 'Load octets into a memory'
 complete -c lpt -n '__lpt_is request' -a dump -d 'Ask for octets of a memory'
@@ -65,6 +70,7 @@ complete -c lpt -n '__lpt_at join up; or __lpt_at join down' -F
 complete -c lpt -n '__lpt_at extract; or __lpt_at link; or __lpt_at verify; or __lpt_at compare; or __lpt_at checksum' -F
 complete -c lpt -n '__lpt_at request load; or __lpt_at ground load; or __lpt_at ground check' -F
 complete -c lpt -n '__lpt_at pass load; or __lpt_at pass check' -F
+complete -c lpt -n '__lpt_at ground patch; or __lpt_at pass patch' -F
 complete -c lpt -n '__lpt_at ground dump; or __lpt_at pass dump; and __fish_contains_opt area' -F
 
 # Options.
@@ -86,7 +92,7 @@ complete -c lpt -n '__lpt_at chart' -l refused -d 'Draw refused lines too; not w
 complete -c lpt -n '__lpt_at list; or __lpt_at verify' -l json -d 'Print each line as a JSON object'
 complete -c lpt -n '__lpt_at verify' -l open -d 'Write the packets of requests without a final report, in place of the list'
 complete -c lpt -n '__lpt_at decode' -l more -d 'Also print the areas of a request or report, and which segment a packet is'
-complete -c lpt -n '__lpt_at decode; or __lpt_at list; or __lpt_at split; or __lpt_at join; or __lpt_at extract' -l layout -r -F -d "A TOML file with the mission's layouts of headers and parts"
+complete -c lpt -n '__lpt_at decode; or __lpt_at list; or __lpt_at split; or __lpt_at join; or __lpt_at extract; or __lpt_at verify; or __lpt_at compare' -l layout -r -F -d "A TOML file with the mission's layouts of headers and parts"
 complete -c lpt -n '__lpt_at list' -l strict -d 'Stop at the first octet where no packet begins'
 for command in list join
     complete -c lpt -n "__lpt_at $command" -l from -x -d 'Read from this place on, the number of an octet as list prints it'
@@ -128,7 +134,7 @@ for command in 'request load' 'request dump' 'request check'
     complete -c lpt -n "__lpt_at $command" -l each -x -d 'At most so many octets in a request'
     complete -c lpt -n "__lpt_at $command" -l ack -x -d 'Acknowledgement flags, 0 to 15: 1 acceptance, 2 start, 8 completion, or a sum'
 end
-for command in 'ground load' 'ground dump' 'ground check' 'pass load' 'pass dump' 'pass check'
+for command in 'ground load' 'ground dump' 'ground check' 'ground patch' 'pass load' 'pass dump' 'pass check' 'pass patch'
     complete -c lpt -n "__lpt_at $command" -l config -r -F -d 'A TOML file with the configuration'
     complete -c lpt -n "__lpt_at $command" -l apid -x -d 'The APID of all packets, 0 to 2046'
     complete -c lpt -n "__lpt_at $command" -l source -x -d 'A source that no earlier pass had, 1 to 65535; this or --passes must be given'
@@ -144,12 +150,12 @@ for command in 'ground load' 'ground check' 'pass load' 'pass check'
     complete -c lpt -n "__lpt_at $command" -l area -x -d 'Another file at another address, in the same pass'
 end
 for command in ground pass
-    complete -c lpt -n "__lpt_at $command load" -l ack -x -a '8 10' -d 'The acknowledgement flags: with 10 a report of start counts as well'
-    complete -c lpt -n "__lpt_at $command load" -l verify -d 'Dump the octets after the load, and compare them'
+    complete -c lpt -n "__lpt_at $command load; or __lpt_at $command patch" -l ack -x -a '8 10' -d 'The acknowledgement flags: with 10 a report of start counts as well'
+    complete -c lpt -n "__lpt_at $command load; or __lpt_at $command patch" -l verify -d 'Dump the octets after the load, and compare them'
     complete -c lpt -n "__lpt_at $command dump" -l to -r -F -d 'Where the octets are written once all have come; must be given'
     complete -c lpt -n "__lpt_at $command dump" -l area -x -d 'Other octets and their file, in the same pass'
 end
-complete -c lpt -n '__lpt_at ground load; or __lpt_at ground dump; or __lpt_at ground check' -l up -r -F -d 'Where requests are written, in place of standard output'
-for command in split 'ground load' 'ground dump' 'ground check' 'pass load' 'pass dump' 'pass check' 'request load' 'request dump' 'request check'
+complete -c lpt -n '__lpt_at ground load; or __lpt_at ground dump; or __lpt_at ground check; or __lpt_at ground patch' -l up -r -F -d 'Where requests are written, in place of standard output'
+for command in split 'ground load' 'ground dump' 'ground check' 'ground patch' 'pass load' 'pass dump' 'pass check' 'pass patch' 'request load' 'request dump' 'request check'
     complete -c lpt -n "__lpt_at $command" -l count -x -d 'The sequence count of the first packet, 0 to 16383'
 end

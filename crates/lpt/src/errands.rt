@@ -2,14 +2,14 @@
 
 ghost use Rattle.lpt_events.specs.Configs.{IsConfig};
 
-use lpt_command_line::{AckFlags, AreaWords, GroundWords, Job};
+use crate::pieces::Piece;
+use lpt_command_line::{AckFlags, GroundWords, Job};
 use lpt_events::Config;
 use lpt_ground::{MOST, Pass, Terms};
 use lpt_ground_run::{
     Area, Asked, Heads, Place, PlanFault, Read, dump_each, plan_loads, plan_reads,
 };
-use lpt_packet::Octets;
-use std::alloc::{AllocError, Global};
+use std::alloc::Global;
 
 /// How many octets one check is of at most: of so many a checksum shows any three wrong bits.
 const CHECK_EACH: u16 = 4_000;
@@ -36,6 +36,8 @@ pub enum Kind {
 /// Which octets requests are of, one behind the other.
 #[derive(Clone, Copy)]
 pub struct Places {
+    /// The number of the area, from 0 on.
+    pub area: usize,
     /// What each of the requests is.
     pub kind: Kind,
     /// The memory's identifier.
@@ -51,10 +53,13 @@ pub struct Places {
 impl Places {
     /// The requests that are of these octets, of those that begin with them; and those behind.
     pub fn split<'a>(&self, asked: &'a [Asked]) -> (&'a [Asked], &'a [Asked]) {
-        let each = u64::from(self.each.max(1));
-        let many = u64::from(self.len).div_ceil(each);
-        let many = usize::try_from(many).unwrap_or(usize::MAX);
+        let many = usize::try_from(self.many()).unwrap_or(usize::MAX);
         asked.split_at(many.min(asked.len()))
+    }
+
+    // How many requests are of these octets.
+    fn many(&self) -> u64 {
+        u64::from(self.len).div_ceil(u64::from(self.each.max(1)))
     }
 
     // The address behind the last of these octets.
@@ -64,7 +69,9 @@ impl Places {
 
     // Whether some octet is one of these and of others.
     fn overlaps(&self, other: &Places) -> bool {
-        u64::from(self.address) < other.end() && u64::from(other.address) < self.end()
+        self.memory == other.memory
+            && u64::from(self.address) < other.end()
+            && u64::from(other.address) < self.end()
     }
 }
 
@@ -91,7 +98,7 @@ impl Errand {
     }
 }
 
-/// What these words ask to be carried to its end under this source, of these contents.
+/// What these words ask to be carried to its end under this source, of these areas.
 ///
 /// Errors: as of `plan_loads` and `dump_each`.
 pub fn errand_of(
@@ -99,7 +106,7 @@ pub fn errand_of(
     config: &Config,
     words: &GroundWords<'_>,
     source: u16,
-    contents: Vec<Octets>,
+    pieces: Vec<Piece>,
 ) -> Result<Errand, PlanFault>
     requires { IsConfig config.now }
 {
@@ -110,15 +117,11 @@ pub fn errand_of(
         flags: flags_of(words.job).ok_or(PlanFault::Memory)?,
     };
     let part = u16::try_from(config.part_size).unwrap_or(u16::MAX);
-    let places = all_places(alloc, words, part, &contents)?;
-    let areas = areas_of(alloc, words, contents).map_err(|_| PlanFault::Memory)?;
-    let asked = asked_of(alloc, &heads, words, &places, &areas)?;
-    let second = match words.job {
-        Job::Load { verify: true, .. } => {
-            Some(verifying(alloc, &heads, words, &places, part, asked.len())?)
-        }
-        _ => None,
-    };
+    let places = all_places(alloc, words, part, &pieces)?;
+    let verified = verified_places(alloc, words, part, &places, &pieces)?;
+    let areas = areas_of(alloc, pieces)?;
+    let asked = all_asked(alloc, &heads, &places, &areas)?;
+    let second = verifying(alloc, &heads, words, verified, asked.len())?;
     let first = Pass::new(terms_of(&heads, words), asked);
     Ok(Errand {
         places,
@@ -140,19 +143,73 @@ pub fn overlap_of(places: &[Places]) -> Option<(Places, Places)> {
     None
 }
 
-// The requests of a pass.
-fn asked_of(
+// The requests that are of these octets, one behind the other, of areas with these contents.
+fn all_asked(
     alloc: Global,
     heads: &Heads,
-    words: &GroundWords<'_>,
     places: &[Places],
     areas: &[Area],
 ) -> Result<Vec<Asked>, PlanFault> {
-    let each = places.first().map_or(1, |one| one.each.max(1));
-    match words.job {
-        Job::Load { .. } => plan_loads(alloc, heads, words.memory, areas, each),
-        Job::Dump => reads(alloc, heads, Read::Dump, words.memory, places, each),
-        Job::Check => reads(alloc, heads, Read::Check, words.memory, places, each),
+    let mut total: u64 = 0;
+    for one in places {
+        total = total.saturating_add(one.many());
+    }
+    let mut asked = Vec::new(alloc);
+    for one in places {
+        let heads = heads_at(heads, asked.len());
+        let planned = asked_of(alloc, &heads, one, areas);
+        for request in planned.map_err(|fault| of_all(fault, total))? {
+            if asked.push(request).is_err() {
+                return Err(PlanFault::Memory);
+            }
+        }
+    }
+    if asked.len() > MOST {
+        return Err(PlanFault::TooMany(total));
+    }
+    Ok(asked)
+}
+
+// The fault of an area, of which all together take so many requests.
+fn of_all(fault: PlanFault, total: u64) -> PlanFault {
+    match fault {
+        PlanFault::TooMany(_) => PlanFault::TooMany(total),
+        fault => fault,
+    }
+}
+
+// The heads of requests behind so many of these, with the same flags.
+fn heads_at(heads: &Heads, many: usize) -> Heads {
+    let Heads { count, .. } = heads.behind(many as u64);
+    Heads {
+        apid: heads.apid,
+        source: heads.source,
+        count,
+        flags: heads.flags,
+    }
+}
+
+// The requests that are of these octets, of areas with these contents.
+fn asked_of(
+    alloc: Global,
+    heads: &Heads,
+    places: &Places,
+    areas: &[Area],
+) -> Result<Vec<Asked>, PlanFault> {
+    let range = Place {
+        address: places.address,
+        len: places.len,
+    };
+    let each = places.each.max(1);
+    let memory = places.memory;
+    match places.kind {
+        Kind::Load => {
+            let areas = areas.get(places.area..).unwrap_or(&[]);
+            let (areas, _) = areas.split_at(areas.len().min(1));
+            plan_loads(alloc, heads, memory, areas, each)
+        }
+        Kind::Dump => plan_reads(alloc, heads, Read::Dump, memory, &[range], each),
+        Kind::Check => plan_reads(alloc, heads, Read::Check, memory, &[range], each),
     }
 }
 
@@ -170,14 +227,11 @@ fn all_places(
     alloc: Global,
     words: &GroundWords<'_>,
     part: u16,
-    contents: &[Octets],
+    pieces: &[Piece],
 ) -> Result<Vec<Places>, PlanFault> {
     let mut places = Vec::new(alloc);
-    for (number, area) in words.areas.iter().enumerate() {
-        let len = contents
-            .get(number)
-            .map_or(0, |octets| octets.as_slice().len());
-        let one = places_of(words, area, part, len)?;
+    for (area, piece) in pieces.iter().enumerate() {
+        let one = places_of(words.job, area, piece, part)?;
         if places.push(one).is_err() {
             return Err(PlanFault::Memory);
         }
@@ -185,96 +239,87 @@ fn all_places(
     Ok(places)
 }
 
-// The octets of an area, where a part has so many, and the content so many.
-fn places_of(
-    words: &GroundWords<'_>,
-    area: &AreaWords<'_>,
-    part: u16,
-    len: usize,
-) -> Result<Places, PlanFault> {
-    let Ok(of_content) = u32::try_from(len) else {
+// The octets of the area of this number, where a part has so many.
+fn places_of(job: Job, area: usize, piece: &Piece, part: u16) -> Result<Places, PlanFault> {
+    let Ok(of_content) = u32::try_from(piece.octets.as_slice().len()) else {
         return Err(PlanFault::PastEnd);
     };
-    let (kind, each, len) = match words.job {
+    let (kind, each, len) = match job {
         Job::Load { .. } => (Kind::Load, part, of_content),
-        Job::Dump => (Kind::Dump, dump_each(part)?, area.len),
+        Job::Dump => (Kind::Dump, dump_each(part)?, piece.len),
         Job::Check => (Kind::Check, CHECK_EACH, of_content),
     };
     Ok(Places {
+        area,
         kind,
-        memory: words.memory,
-        address: area.address,
+        memory: piece.memory,
+        address: piece.address,
         len,
         each,
     })
 }
 
-// The contents, each with its address. The only error is out of memory.
-fn areas_of(
+// The octets that are dumped once they are loaded.
+fn verified_places(
     alloc: Global,
     words: &GroundWords<'_>,
-    contents: Vec<Octets>,
-) -> Result<Vec<Area>, AllocError> {
+    part: u16,
+    places: &[Places],
+    pieces: &[Piece],
+) -> Result<Vec<Places>, PlanFault> {
+    let mut verified = Vec::new(alloc);
+    let Job::Load { verify, .. } = words.job else {
+        return Ok(verified);
+    };
+    for (one, piece) in places.iter().zip(pieces) {
+        if verify || piece.verify {
+            let dumped = Places {
+                kind: Kind::Dump,
+                each: dump_each(part)?,
+                ..*one
+            };
+            if verified.push(dumped).is_err() {
+                return Err(PlanFault::Memory);
+            }
+        }
+    }
+    Ok(verified)
+}
+
+// The contents, each with its address. The only error is out of memory.
+fn areas_of(alloc: Global, pieces: Vec<Piece>) -> Result<Vec<Area>, PlanFault> {
     let mut areas = Vec::new(alloc);
-    for (area, octets) in words.areas.iter().zip(contents) {
-        areas.push(Area {
-            address: area.address,
+    for piece in pieces {
+        let Piece {
+            address,
             octets,
-        })?;
+            ..
+        } = piece;
+        if areas.push(Area { address, octets }).is_err() {
+            return Err(PlanFault::Memory);
+        }
     }
     Ok(areas)
 }
 
-// The pass that dumps what so many loads were of.
+// The pass that dumps these octets behind so many loads, if there are any.
 fn verifying(
     alloc: Global,
     heads: &Heads,
     words: &GroundWords<'_>,
-    loaded: &[Places],
-    part: u16,
+    places: Vec<Places>,
     loads: usize,
-) -> Result<(Vec<Places>, Pass), PlanFault> {
-    let each = dump_each(part)?;
-    let mut places = Vec::new(alloc);
-    for one in loaded {
-        let dumped = Places {
-            kind: Kind::Dump,
-            each,
-            ..*one
-        };
-        if places.push(dumped).is_err() {
-            return Err(PlanFault::Memory);
-        }
+) -> Result<Option<(Vec<Places>, Pass)>, PlanFault> {
+    if places.is_empty() {
+        return Ok(None);
     }
     let heads = heads.behind(loads as u64);
-    let asked = reads(alloc, &heads, Read::Dump, words.memory, &places, each)?;
+    let asked = all_asked(alloc, &heads, &places, &[])?;
     let many = loads.saturating_add(asked.len());
     if many > MOST {
         return Err(PlanFault::TooMany(many as u64));
     }
-    Ok((places, Pass::new(terms_of(&heads, words), asked)))
-}
-
-// The dumps or the checks of these octets.
-fn reads(
-    alloc: Global,
-    heads: &Heads,
-    what: Read,
-    memory: u8,
-    places: &[Places],
-    each: u16,
-) -> Result<Vec<Asked>, PlanFault> {
-    let mut ranges = Vec::new(alloc);
-    for one in places {
-        let range = Place {
-            address: one.address,
-            len: one.len,
-        };
-        if ranges.push(range).is_err() {
-            return Err(PlanFault::Memory);
-        }
-    }
-    plan_reads(alloc, heads, what, memory, &ranges, each.max(1))
+    Ok(Some((places, Pass::new(terms_of(&heads, words), asked))))
 }
 
 // Whose reports count, and when a pass is given up.

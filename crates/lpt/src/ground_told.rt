@@ -194,10 +194,14 @@ pub fn title_of(
     places: &[Places],
 ) -> Result<String, AllocError> {
     let noun = noun_of(places);
-    let memory = words.memory;
-    let mut title = format!(in alloc; "{noun} memory {memory}")?;
+    let mut title = format!(in alloc; "{noun}")?;
+    let mut last = None;
     for one in places {
-        let (address, len) = (one.address, one.len);
+        let (memory, address, len) = (one.memory, one.address, one.len);
+        if last != Some(memory) {
+            title.write(format_args!(" memory {memory}"))?;
+        }
+        last = Some(memory);
         title.write(format_args!(" address {address} octets {len}"))?;
     }
     let count = words.count;

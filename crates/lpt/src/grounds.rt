@@ -9,12 +9,12 @@ use crate::ground_sources::source_of;
 use crate::ground_told::{Teller, title_of};
 use crate::ground_wires::{Ears, Wire, close, fifo_wire, hear, output_wire};
 use crate::locking::locked;
+use crate::pieces::{Piece, pieces_of};
 use lpt_command_line::{GroundWords, Job};
 use lpt_events::Config;
 use lpt_ground::{End, Pass, dumped_octets};
 use lpt_ground_run::{PlanFault, carry_pass};
-use lpt_io::{Failure, Fault, Status, Voice, file_at, first_failure, tell_text, write_for_good};
-use lpt_packet::Octets;
+use lpt_io::{Failure, Fault, Status, Voice, first_failure, tell_text, write_for_good};
 use lpt_text::{Sink, StreamFault};
 use std::fs::File;
 use std::io::Write;
@@ -53,7 +53,10 @@ fn carry_locked<T: Threads + Wait + Clock + Copy + Drop + Send + 'static>(
 ) -> Result<Status, Failure>
     requires { IsConfig config.now }
 {
-    match ready_of(rt, process, config, words)? {
+    let Some(pieces) = pieces_of(rt, words)? else {
+        return Ok(Status::Unreadable);
+    };
+    match ready_of(rt, process, config, words, pieces)? {
         Some(ready) => carry_ready(rt, threads, voice, words, ready),
         None => Ok(Status::Refused),
     }
@@ -80,7 +83,7 @@ pub(crate) struct Ready {
     pub(crate) title: String,
 }
 
-/// What these words ask to be carried out. None if it can't be, and why was told.
+/// What these words ask to be carried out of these areas. None if it can't be, and why was told.
 ///
 /// Errors: `Read` if a file can't be read; `Write` if the pass's source can't be noted; `Memory`.
 pub(crate) fn ready_of(
@@ -88,14 +91,14 @@ pub(crate) fn ready_of(
     process: u32,
     config: &Config,
     words: &GroundWords<'_>,
+    pieces: Vec<Piece>,
 ) -> Result<Option<Ready>, Failure>
     requires { IsConfig config.now }
 {
-    let contents = contents_of(rt, words)?;
     let Some(source) = source_of(rt, process, words)? else {
         return Ok(None);
     };
-    let errand = match errand_of(rt.alloc(), config, words, source, contents) {
+    let errand = match errand_of(rt.alloc(), config, words, source, pieces) {
         Ok(errand) => errand,
         Err(PlanFault::Memory) => return Err(Failure::from(Fault::Memory)),
         Err(fault) => {
@@ -111,21 +114,6 @@ pub(crate) fn ready_of(
         Ok(title) => Ok(Some(Ready { errand, title })),
         Err(_) => Err(Failure::from(Fault::Memory)),
     }
-}
-
-// The octets of the files that are loaded, or checked.
-fn contents_of(rt: &HostRuntime, words: &GroundWords<'_>) -> Result<Vec<Octets>, Failure> {
-    let mut contents = Vec::new(rt.alloc());
-    for area in &words.areas {
-        let octets = match words.job {
-            Job::Dump => Octets::from_vec(Vec::new(rt.alloc())),
-            _ => file_at(rt, area.file)?,
-        };
-        if contents.push(octets).is_err() {
-            return Err(Failure::from(Fault::Memory));
-        }
-    }
-    Ok(contents)
 }
 
 // That two areas share octets, so that it isn't known which of both a memory has then.
@@ -251,9 +239,9 @@ fn status_of(alike: bool) -> Status {
 fn compare_all(rt: &(impl Eprint + AllocGlobal), teller: Teller, errand: &Errand) -> bool {
     let mut alike = true;
     let mut rest = errand.first.asked();
-    for (number, places) in errand.places.iter().enumerate() {
+    for places in &errand.places {
         let (asked, behind) = places.split(rest);
-        let content = errand.content(number);
+        let content = errand.content(places.area);
         alike = teller.compare_checks(rt, places, asked, content) && alike;
         rest = behind;
     }
@@ -291,12 +279,12 @@ fn compare_dumps(
     };
     let mut alike = true;
     let mut rest = second.asked();
-    for (number, places) in all.iter().enumerate() {
+    for places in all {
         let (asked, behind) = places.split(rest);
         let Ok(octets) = dumped_octets(rt.alloc(), asked) else {
             return Err(Failure::from(Fault::Memory));
         };
-        let content = errand.content(number);
+        let content = errand.content(places.area);
         alike = teller.compare_octets(rt, places, content, &octets) && alike;
         rest = behind;
     }

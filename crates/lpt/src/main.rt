@@ -20,6 +20,8 @@ mod locking;
 mod logging;
 mod memories;
 mod passing;
+mod patches;
+mod pieces;
 mod pipe;
 mod serving;
 mod ticker;

@@ -2,15 +2,18 @@
 
 ghost use Rattle.lpt_events.specs.Configs.{IsConfig};
 
+use crate::errands::{Errand, Kind, Places};
 use crate::ground_notes::GroundNotes;
 use crate::ground_told::Teller;
 use crate::ground_wires::hear_source;
 use crate::grounds::{Ready, job_lock, put_over, ready_of};
+use crate::pieces::{Piece, pieces_of};
 use crate::pipe::{PipeReader, PipeWriter, Unread, pipe};
-use crate::serving::{Wires, serve};
-use lpt_command_line::{OddsWords, PassWords, SettingWords};
+use crate::serving::{Begun, Wires, begun_craft, serve};
+use lpt_command_line::{Job, OddsWords, PassWords, SettingWords, WordFault};
 use lpt_events::Config;
-use lpt_io::{Failure, Fault, Status, Voice, Watched, config_of};
+use lpt_ground_run::{Asked, Fate};
+use lpt_io::{Failure, Fault, Status, Voice, Watched, config_of, word_refused};
 use lpt_lossy::{Dice, Odds, lossy_stream};
 use lpt_text::{FromStd, StreamFault};
 use std::alloc::{AllocError, Global};
@@ -33,9 +36,14 @@ pub fn pass<T>(
 where
     T: Threads + Wait + Clock + Copy + Drop + Send + Sync + 'static,
 {
-    let config = config_of(rt, settings)?;
+    // The pass's own source is none of the spacecraft's: its state goes on from pass to pass.
+    let settings = SettingWords {
+        source: None,
+        ..*settings
+    };
+    let config = config_of(rt, &settings)?;
     let lock = job_lock(rt, process, &words.ground)?;
-    let ended = fly_locked(rt, threads, process, voice, settings, words, &config);
+    let ended = fly_locked(rt, threads, process, voice, &settings, words, &config);
     drop(lock);
     ended
 }
@@ -54,10 +62,101 @@ where
     T: Threads + Wait + Clock + Copy + Drop + Send + Sync + 'static,
     requires { IsConfig config.now }
 {
-    match ready_of(rt, process, config, &words.ground)? {
-        Some(ready) => fly(rt, threads, process, voice, settings, words, ready),
+    let Some(pieces) = pieces_of(rt, &words.ground)? else {
+        return Ok(Status::Unreadable);
+    };
+    if !is_kept(words, &pieces) {
+        return Ok(word_refused(rt, rt.alloc(), &WordFault::Unkept));
+    }
+    let craft = begun_craft(rt, process, settings, &words.craft)?;
+    match ready_of(rt, process, config, &words.ground, pieces)? {
+        Some(ready) => fly_noted(rt, threads, voice, words, craft, ready),
         None => Ok(Status::Refused),
     }
+}
+
+// Whether what these areas load outlasts the process, if the job's file does: otherwise another
+// process would go on from that with a spacecraft that has forgotten it.
+fn is_kept(words: &PassWords<'_>, pieces: &[Piece]) -> bool {
+    let craft = &words.craft;
+    let (Some(_), Job::Load { .. }) = (words.ground.kept, words.ground.job) else {
+        return true;
+    };
+    if craft.state.is_some() {
+        return true;
+    }
+    for piece in pieces {
+        let memory = piece.memory;
+        if !craft.save || !craft.memories.iter().any(|(id, _)| *id == memory) {
+            return false;
+        }
+    }
+    true
+}
+
+// Carries out what is ready with this spacecraft, from the job's file on, if there is one.
+fn fly_noted<T>(
+    rt: &HostRuntime,
+    threads: &T,
+    voice: Voice,
+    words: &PassWords<'_>,
+    craft: Begun,
+    ready: Ready,
+) -> Result<Status, Failure>
+where
+    T: Threads + Wait + Clock + Copy + Drop + Send + Sync + 'static,
+{
+    let Ready { mut errand, title } = ready;
+    let teller = Teller::new(voice, words.ground.json);
+    let path = words.ground.kept;
+    let notes = GroundNotes::begin(rt, teller, title.as_str(), &mut errand.first, path)?;
+    if let (Some(path), Some(lost)) = (path, lost_of(&errand, &craft)) {
+        return Err(memory_lost(rt, path, &lost));
+    }
+    fly(rt, threads, words, craft, errand, notes)
+}
+
+// The first area of which the job's file says that octets were loaded, and the spacecraft has
+// others there.
+fn lost_of(errand: &Errand, craft: &Begun) -> Option<Places> {
+    let mut rest = errand.first.asked();
+    for places in &errand.places {
+        let (asked, behind) = places.split(rest);
+        let held = craft.content(places.memory).unwrap_or(&[]);
+        let held = held.get(places.address as usize..).unwrap_or(&[]);
+        let is_load = matches!(places.kind, Kind::Load);
+        if is_load && !stands(places, asked, errand.content(places.area), held) {
+            return Some(*places);
+        }
+        rest = behind;
+    }
+    None
+}
+
+// Whether a memory that has these octets from the area's first on has what was loaded of its
+// content.
+fn stands(places: &Places, asked: &[Asked], content: &[u8], held: &[u8]) -> bool {
+    let each = usize::from(places.each.max(1));
+    let (mut content, mut held) = (content, held);
+    for one in asked {
+        let (piece, behind) = content.split_at(each.min(content.len()));
+        if matches!(one.fate, Fate::Done(_)) && !held.starts_with(piece) {
+            return false;
+        }
+        content = behind;
+        held = held.get(piece.len()..).unwrap_or(&[]);
+    }
+    true
+}
+
+// That the spacecraft has other octets there than the job's file says.
+fn memory_lost(rt: &impl AllocGlobal, path: &str, places: &Places) -> Failure {
+    let (memory, address) = (places.memory, places.address);
+    let place = format!(in rt.alloc();
+        "{path}: memory {memory} doesn't have what was loaded from {address} on: give the \
+         spacecraft that this job was flown with, or begin another job"
+    );
+    Failure::at(Fault::Read, place)
 }
 
 // The pipes between ground, the two links and the spacecraft.
@@ -86,11 +185,10 @@ fn new_pipes<T: Wait + Copy + Drop>(alloc: Global, waits: &T) -> Result<Pipes<T>
 fn fly<T>(
     rt: &HostRuntime,
     threads: &T,
-    process: u32,
-    voice: Voice,
-    settings: &SettingWords<'_>,
     words: &PassWords<'_>,
-    ready: Ready,
+    begun: Begun,
+    errand: Errand,
+    notes: GroundNotes,
 ) -> Result<Status, Failure>
 where
     T: Threads + Wait + Clock + Copy + Drop + Send + Sync + 'static,
@@ -116,13 +214,13 @@ where
         move |scope| -> Result<Status, Failure> {
             let wires = Wires::Pipes(at_craft, from_craft);
             let link_up = scope.spawn(move || carry_link(rt, odds, 0, from_ground, to_craft));
-            let craft = scope.spawn(move || serve(rt, process, settings, craft, wires));
+            let craft = scope.spawn(move || serve(rt, begun, craft, wires));
             let link_down = scope.spawn(move || carry_link(rt, odds, 1, at_link, to_ground));
             let (Ok(link_up), Ok(craft), Ok(link_down)) = (link_up, craft, link_down) else {
                 let place = format!(in rt.alloc(); "no thread could be started");
                 return Err(Failure::at(Fault::Read, place));
             };
-            let ended = carry_between(rt, threads, voice, words, ready, (up, down));
+            let ended = carry_between(rt, threads, words, errand, notes, (up, down));
             all_ended(threads, ended, craft, [link_up, link_down])
         },
     )
@@ -156,15 +254,13 @@ fn carry_link<T: Wait + Drop>(
 fn carry_between<T: Threads + Wait + Clock + Copy + Drop + Send + 'static>(
     rt: &HostRuntime,
     threads: &T,
-    voice: Voice,
     words: &PassWords<'_>,
-    ready: Ready,
+    errand: Errand,
+    notes: GroundNotes,
     (up, down): (PipeWriter<T>, PipeReader<T>),
 ) -> Result<Status, Failure> {
-    let Ready { mut errand, title } = ready;
+    let mut errand = errand;
     let words = &words.ground;
-    let teller = Teller::new(voice, words.json);
-    let notes = GroundNotes::begin(rt, teller, title.as_str(), &mut errand.first, words.kept)?;
     let mut ears = hear_source(rt, threads, FromStd::new(down), words.wait, notes)?;
     let out = FromStd::new(Watched::new(up));
     let ended = put_over(rt, &mut ears, words, &mut errand, out, "the link up");

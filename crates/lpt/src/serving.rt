@@ -49,19 +49,36 @@ pub fn spacecraft<T: Wait + Drop>(
     settings: &SettingWords<'_>,
     words: &SpacecraftWords<'_>,
 ) -> Result<Status, Failure> {
-    serve::<T>(rt, process, settings, words, Wires::Standard)
+    let begun = begun_craft(rt, process, settings, words)?;
+    serve::<T>(rt, begun, words, Wires::Standard)
 }
 
-/// The same over these wires.
+/// A spacecraft that serves next.
+#[derive(Drop)]
+pub(crate) struct Begun {
+    craft: Spacecraft,
+    // The path of the file in which it is kept, if it is, and the lock of that.
+    state: Option<(String, File)>,
+    ghost idle: { IsIdle craft },
+}
+
+impl Begun {
+    /// The octets of a memory, or `None` if there is no such memory.
+    pub(crate) fn content(&self, id: u8) -> Option<&[u8]> {
+        self.craft.content(id)
+    }
+}
+
+/// The spacecraft of these words: the one that was kept, or a new one.
 ///
-/// Errors: as there.
-pub(crate) fn serve<T: Wait + Drop>(
+/// Errors: `Read` if a file can't be read, or isn't what was kept; `Config` if the files make no
+/// memories; `Write` if another process uses the file of the state; `Memory`.
+pub(crate) fn begun_craft(
     rt: &HostRuntime,
     process: u32,
     settings: &SettingWords<'_>,
     words: &SpacecraftWords<'_>,
-    wires: Wires<T>,
-) -> Result<Status, Failure> {
+) -> Result<Begun, Failure> {
     let (config, usual, _) = settings_of(rt, settings)?;
     let memories = if words.memories.is_empty() {
         usual
@@ -70,10 +87,8 @@ pub(crate) fn serve<T: Wait + Drop>(
         memories_of(rt, words)?
     };
     let Some(path) = words.state else {
-        let mut craft = new_craft(rt, &config, memories)?;
-        let ended = serve_saved(rt, &mut craft, words, None, wires);
-        drop(craft);
-        return ended;
+        let craft = new_craft(rt, &config, memories)?;
+        return Ok(Begun { craft, state: None });
     };
     let (path, lock) = match state_file(rt, process, path) {
         Ok(both) => both,
@@ -82,9 +97,41 @@ pub(crate) fn serve<T: Wait + Drop>(
             return Err(failure);
         }
     };
-    let ended = serve_begun(rt, &config, memories, words, path.as_str(), wires);
-    drop(lock);
-    ended
+    match craft_begun(rt, &config, memories, path.as_str()) {
+        Ok(craft) => Ok(Begun {
+            craft,
+            state: Some((path, lock)),
+        }),
+        Err(failure) => {
+            drop(lock);
+            Err(failure)
+        }
+    }
+}
+
+/// Serves with a spacecraft over these wires.
+///
+/// Errors: as of `spacecraft`.
+pub(crate) fn serve<T: Wait + Drop>(
+    rt: &HostRuntime,
+    begun: Begun,
+    words: &SpacecraftWords<'_>,
+    wires: Wires<T>,
+) -> Result<Status, Failure> {
+    let Begun { mut craft, state } = begun;
+    match state {
+        None => {
+            let ended = serve_saved(rt, &mut craft, words, None, wires);
+            drop(craft);
+            ended
+        }
+        Some((path, lock)) => {
+            let ended = serve_saved(rt, &mut craft, words, Some(path.as_str()), wires);
+            drop(craft);
+            drop(lock);
+            ended
+        }
+    }
 }
 
 // The file of the state to which this path leads, and its lock: no other process serves with it
@@ -99,24 +146,6 @@ fn state_file(rt: &HostRuntime, process: u32, path: &str) -> Result<(String, Fil
     };
     let lock = locked(rt, process, path.as_str())?;
     Ok((path, lock))
-}
-
-// Serves with the spacecraft that was kept in the file at this path, or a new one with these
-// memories.
-fn serve_begun<T: Wait + Drop>(
-    rt: &HostRuntime,
-    config: &Config,
-    memories: Memories,
-    words: &SpacecraftWords<'_>,
-    path: &str,
-    wires: Wires<T>,
-) -> Result<Status, Failure>
-    requires { IsConfig config.now }
-{
-    let mut craft = begun(rt, config, memories, path)?;
-    let ended = serve_saved(rt, &mut craft, words, Some(path), wires);
-    drop(craft);
-    ended
 }
 
 // Serves over these wires, keeps the state at this path, if there is one, and saves the memories if
@@ -159,7 +188,7 @@ fn new_craft(
 }
 
 // The spacecraft that was kept in this file, or a new one where there is no such file.
-fn begun(
+fn craft_begun(
     rt: &HostRuntime,
     config: &Config,
     memories: Memories,

@@ -60,9 +60,9 @@ pub enum Command<'a> {
     Extract(ExtractWords<'a>),
     /// `request load|dump|check MEMORY ..`.
     Request(RequestWords<'a>),
-    /// `ground load|dump|check MEMORY ADDRESS ..`.
+    /// `ground load|dump|check MEMORY ADDRESS ..`, `ground patch LIST`.
     Ground(GroundWords<'a>),
-    /// `pass load|dump|check MEMORY ADDRESS ..`.
+    /// `pass load|dump|check MEMORY ADDRESS ..`, `pass patch LIST`.
     Pass(PassWords<'a>),
     /// `spacecraft`.
     Spacecraft(SpacecraftWords<'a>),

@@ -14,6 +14,13 @@ const FILE: Word = Word {
     help: "The octets' path",
 };
 
+const LIST: Word = Word {
+    name: "LIST",
+    value: TEXT,
+    need: Need::One,
+    help: "A TOML file, in which each [[patch]] has memory, address, file and, if wanted, verify",
+};
+
 const LENGTH: Word = Word {
     name: "LENGTH",
     value: TEXT,
@@ -117,7 +124,7 @@ const TO: Named = Named {
 };
 
 /// The commands below `ground`.
-pub(crate) static GROUND_ROWS: [Row; 3] = [
+pub(crate) static GROUND_ROWS: [Row; 4] = [
     Row {
         name: "load",
         about: "Load a file into a memory, and end once all of it is there",
@@ -152,10 +159,19 @@ pub(crate) static GROUND_ROWS: [Row; 3] = [
         named: &[AREA, PASSES, COUNT, WAIT, TRIES, UP, JOB, JSON, QUIET],
         configured: Configured::Pass,
     },
+    Row {
+        name: "patch",
+        about: "Load the files of a list into memories, and end once all of them are there",
+        words: &[LIST],
+        named: &[
+            PASSES, ACK, VERIFY, COUNT, WAIT, TRIES, UP, JOB, JSON, QUIET,
+        ],
+        configured: Configured::Pass,
+    },
 ];
 
 /// The commands below `pass`.
-pub(crate) static PASS_ROWS: [Row; 3] = [
+pub(crate) static PASS_ROWS: [Row; 4] = [
     Row {
         name: "load",
         about: "Load a file into a memory over links that lose",
@@ -214,6 +230,31 @@ pub(crate) static PASS_ROWS: [Row; 3] = [
         named: &[
             AREA,
             PASSES,
+            COUNT,
+            SHORT_WAIT,
+            TRIES,
+            JOB,
+            JSON,
+            CRAFT_MEMORY,
+            SAVE,
+            STATE,
+            LOSE,
+            REPEAT,
+            DAMAGE,
+            DELAY,
+            SEED,
+            QUIET,
+        ],
+        configured: Configured::Pass,
+    },
+    Row {
+        name: "patch",
+        about: "Load the files of a list into memories over links that lose",
+        words: &[LIST],
+        named: &[
+            PASSES,
+            ACK,
+            VERIFY,
             COUNT,
             SHORT_WAIT,
             TRIES,

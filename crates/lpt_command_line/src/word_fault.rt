@@ -47,8 +47,12 @@ pub enum WordFault<'a> {
     PickedTwice(&'a str),
     /// Standard input is to be read twice.
     Twice,
+    /// Standard input is to be a file of octets.
+    NoInput,
     /// Two areas are to become this file.
     SameFile(&'a str),
+    /// What is settled of a load is to be kept, but not what was loaded.
+    Unkept,
     /// Memory runs out.
     Memory,
 }
@@ -77,11 +81,7 @@ impl WordFault<'_> {
                 format!(in alloc; "a '<LENGTH>' is missing after the '<ADDRESS>' {word}")
             }
             WordFault::Each { each, limit } => too_many(alloc, *each, *limit),
-            WordFault::Odds(word) => {
-                format!(in alloc;
-                    "invalid value '{word}' for '<P>': not a percentage from 0% to 100%"
-                )
-            }
+            WordFault::Odds(word) => no_odds(alloc, word),
             WordFault::Beside(one, other) => {
                 format!(in alloc; "the argument '{one}' cannot be used with '{other}'")
             }
@@ -98,7 +98,9 @@ impl WordFault<'_> {
                 format!(in alloc; "the ID of '--parts {word}' has a list already")
             }
             WordFault::Twice => format!(in alloc; "'-' stands twice, and can be read only once"),
+            WordFault::NoInput => no_input(alloc),
             WordFault::SameFile(file) => format!(in alloc; "two areas would become {file}"),
+            WordFault::Unkept => unkept(alloc),
             WordFault::Memory => format!(in alloc; "out of memory"),
         }
     }
@@ -126,6 +128,25 @@ fn no_name(
 fn no_pick(alloc: Global, word: &str, most: u32) -> Result<String, AllocError> {
     format!(in alloc;
         "invalid value '{word}' for '--parts <LIST>': not ID:LIST with an ID up to {most}"
+    )
+}
+
+// What is reported of a word that is no percentage.
+fn no_odds(alloc: Global, word: &str) -> Result<String, AllocError> {
+    format!(in alloc; "invalid value '{word}' for '<P>': not a percentage from 0% to 100%")
+}
+
+// What is reported where standard input is to be a file of octets.
+fn no_input(alloc: Global) -> Result<String, AllocError> {
+    format!(in alloc; "'-' can't be read here: give the octets' path")
+}
+
+// What is reported of a job's file beside a spacecraft that forgets what was loaded.
+fn unkept(alloc: Global) -> Result<String, AllocError> {
+    format!(in alloc;
+        "the argument '--job <FILE>' needs '--state <FILE>', or '--save' and a \
+         '--memory <ID=FILE>' for each memory: otherwise the next run's spacecraft has forgotten \
+         what was loaded"
     )
 }
 

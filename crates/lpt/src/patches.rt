@@ -1,0 +1,201 @@
+//! A list of files that are loaded, each to an address of a memory.
+
+use crate::pieces::Piece;
+use lpt_io::{Failure, Fault, STANDARD, file_at, read_file, tell_text};
+use lpt_settings::{Reason, Wrong, complain_of_toml, has_only, number, unknown_key};
+use std::alloc::{AllocError, Global};
+use std::str;
+use toml::{Table, Value};
+
+/// The keys of a list, and of each patch in it.
+const KEYS: [&str; 1] = ["patch"];
+
+const PATCH_KEYS: [&str; 4] = ["memory", "address", "file", "verify"];
+
+// Why a list is refused.
+#[derive(Clone, Copy)]
+enum Why {
+    // What is wrong with a table.
+    Of(Reason),
+    // It names no patch.
+    Empty,
+    // The value is no path of a file.
+    NoPath,
+}
+
+// At which key it is, the empty text for a patch as a whole, and why.
+#[derive(Clone, Copy)]
+struct Flaw<'t> {
+    key: &'t str,
+    why: Why,
+}
+
+impl<'t> From<Wrong<'t>> for Flaw<'t> {
+    fn from(wrong: Wrong<'t>) -> Self {
+        Flaw {
+            key: wrong.key,
+            why: Why::Of(wrong.reason),
+        }
+    }
+}
+
+// What a patch says.
+#[derive(Clone, Copy)]
+struct Patch<'t> {
+    memory: u8,
+    address: u32,
+    file: &'t str,
+    verify: bool,
+}
+
+/// What the list at this path has loaded. None if it is refused, after standard error was told
+/// where and why.
+///
+/// Errors: `Read` if the list or one of its files can't be read; `Config` if the list has more than
+/// 1,048,576 octets; `Memory`.
+pub fn patches_at(rt: &HostRuntime, path: &str) -> Result<Option<Vec<Piece>>, Failure> {
+    let octets = read_file(rt, path)?;
+    let text = match str::from_utf8(octets.as_slice()) {
+        Ok(text) => text,
+        Err(error) => {
+            let octet = error.valid_up_to().saturating_add(1);
+            let place = format!(in rt.alloc(); "{path}: octet {octet} isn't UTF-8");
+            return Ok(refuse(rt, place));
+        }
+    };
+    match toml::table_from_str(rt.alloc(), text) {
+        Ok(table) => patches_in(rt, path, &table),
+        Err(error) => {
+            let Ok(complaint) = complain_of_toml(rt.alloc(), text, &error) else {
+                return Err(Failure::from(Fault::Memory));
+            };
+            let line = complaint.line().unwrap_or(1);
+            let place = format!(in rt.alloc(); "{path}:{line}: {complaint}");
+            Ok(refuse(rt, place))
+        }
+    }
+}
+
+// What the list with this table has loaded.
+fn patches_in(rt: &HostRuntime, path: &str, table: &Table) -> Result<Option<Vec<Piece>>, Failure> {
+    let values = match values_in(table) {
+        Ok(values) => values,
+        Err(flaw) => return Ok(refuse(rt, place_of(rt.alloc(), path, None, flaw))),
+    };
+    let mut pieces = Vec::new(rt.alloc());
+    for (number, value) in values.iter().enumerate() {
+        let patch = match patch_of(value) {
+            Ok(patch) => patch,
+            Err(flaw) => return Ok(refuse(rt, place_of(rt.alloc(), path, Some(number), flaw))),
+        };
+        if pieces.push(piece_of(rt, patch)?).is_err() {
+            return Err(Failure::from(Fault::Memory));
+        }
+    }
+    Ok(Some(pieces))
+}
+
+// Tells that a list is refused, and where and why.
+fn refuse(
+    rt: &(impl Eprint + AllocGlobal),
+    place: Result<String, AllocError>,
+) -> Option<Vec<Piece>> {
+    let _ = rt.eprintln("list refused");
+    tell_text(rt, place);
+    None
+}
+
+// What is wrong with a list, or with the patch of this number from 0 on.
+fn place_of(
+    alloc: Global,
+    path: &str,
+    number: Option<usize>,
+    flaw: Flaw<'_>,
+) -> Result<String, AllocError> {
+    let mut text = format!(in alloc; "{path}: ")?;
+    if let Some(number) = number {
+        let number = number.saturating_add(1);
+        text.write(format_args!("patch {number}: "))?;
+    }
+    let key = flaw.key;
+    if !key.is_empty() {
+        text.write(format_args!("{key}: "))?;
+    }
+    match flaw.why {
+        Why::Of(reason) => text.write(format_args!("{reason}"))?,
+        Why::Empty => text.push_str("there is none")?,
+        Why::NoPath => text.push_str("not the path of a file")?,
+    }
+    Ok(text)
+}
+
+// The patches of a list, of which there is one at least.
+fn values_in(table: &Table) -> Result<&[Value], Flaw<'_>> {
+    if !has_only(table, &KEYS) {
+        return Err(flaw_at(unknown_key(table, &KEYS), Why::Of(Reason::Unknown)));
+    }
+    let Some(value) = table.get("patch") else {
+        return Err(flaw_at("patch", Why::Empty));
+    };
+    match value.as_array() {
+        Some(values) if !values.is_empty() => Ok(values),
+        Some(_) => Err(flaw_at("patch", Why::Empty)),
+        None => Err(flaw_at("patch", Why::Of(Reason::NotArray))),
+    }
+}
+
+// That this is wrong at a key.
+fn flaw_at(key: &str, why: Why) -> Flaw<'_> {
+    Flaw { key, why }
+}
+
+// What a patch says, whose file isn't standard input.
+fn patch_of(value: &Value) -> Result<Patch<'_>, Flaw<'_>> {
+    let Some(table) = value.as_table() else {
+        return Err(flaw_at("", Why::Of(Reason::NotTable)));
+    };
+    if !has_only(table, &PATCH_KEYS) {
+        return Err(flaw_at(unknown_key(table, &PATCH_KEYS), Why::Of(Reason::Unknown)));
+    }
+    let memory = number(table, "memory", 0, 255, None)?;
+    Ok(Patch {
+        memory: memory as u8,
+        address: number(table, "address", 0, u32::MAX, None)?,
+        file: file_in(table)?,
+        verify: verify_in(table)?,
+    })
+}
+
+// The path of a patch's file.
+fn file_in(table: &Table) -> Result<&str, Flaw<'_>> {
+    let Some(value) = table.get("file") else {
+        return Err(flaw_at("file", Why::Of(Reason::Missing)));
+    };
+    match value.as_str() {
+        Some(file) if file != STANDARD && !file.is_empty() => Ok(file),
+        _ => Err(flaw_at("file", Why::NoPath)),
+    }
+}
+
+// Whether a patch is dumped once it is loaded.
+fn verify_in(table: &Table) -> Result<bool, Flaw<'_>> {
+    match table.get("verify") {
+        None => Ok(false),
+        Some(value) => match value.as_bool() {
+            Some(verify) => Ok(verify),
+            None => Err(flaw_at("verify", Why::Of(Reason::NotFlag))),
+        },
+    }
+}
+
+// A patch with the octets of its file.
+fn piece_of(rt: &HostRuntime, patch: Patch<'_>) -> Result<Piece, Failure> {
+    let octets = file_at(rt, patch.file)?;
+    Ok(Piece {
+        memory: patch.memory,
+        address: patch.address,
+        len: 0,
+        verify: patch.verify,
+        octets,
+    })
+}

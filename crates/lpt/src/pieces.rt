@@ -1,0 +1,53 @@
+//! What a job is of, area by area.
+
+use crate::patches::patches_at;
+use lpt_command_line::{AreaWords, GroundWords, Job};
+use lpt_io::{Failure, Fault, file_at};
+use lpt_packet::Octets;
+
+/// An area of a job.
+#[derive(Drop)]
+pub struct Piece {
+    /// The memory's identifier.
+    pub memory: u8,
+    /// The address of the first octet.
+    pub address: u32,
+    /// How many octets are dumped; 0 of a load or a check.
+    pub len: u32,
+    /// Whether it is dumped once it is loaded, and compared.
+    pub verify: bool,
+    /// What is loaded or checked; nothing of a dump.
+    pub octets: Octets,
+}
+
+/// The areas of the job that these words ask for. None if the list that has them is refused, and
+/// that was told.
+///
+/// Errors: as of `patches_at`.
+pub fn pieces_of(rt: &HostRuntime, words: &GroundWords<'_>) -> Result<Option<Vec<Piece>>, Failure> {
+    if let Some(path) = words.list {
+        return patches_at(rt, path);
+    }
+    let mut pieces = Vec::new(rt.alloc());
+    for area in &words.areas {
+        if pieces.push(piece_of(rt, words.job, area)?).is_err() {
+            return Err(Failure::from(Fault::Memory));
+        }
+    }
+    Ok(Some(pieces))
+}
+
+// The area of these words.
+fn piece_of(rt: &HostRuntime, job: Job, area: &AreaWords<'_>) -> Result<Piece, Failure> {
+    let octets = match job {
+        Job::Dump => Octets::from_vec(Vec::new(rt.alloc())),
+        _ => file_at(rt, area.file)?,
+    };
+    Ok(Piece {
+        memory: area.memory,
+        address: area.address,
+        len: area.len,
+        verify: false,
+        octets,
+    })
+}
