@@ -74,7 +74,7 @@ enum LptFault {
     LPT_E_NO_SECONDARY = 5,
     LPT_E_CHECKSUM = 6,
 
-    /* A packet that isn't the message that is read, in the order 12, 13, 11. */
+    /* A packet that isn't a message of the kind that is read; tested in the order 12, 13, 11. */
     LPT_E_PUS_VERSION = 11,
     LPT_E_WRONG_TYPE = 12,
     LPT_E_SHORT_HEADER = 13,
@@ -92,14 +92,15 @@ enum LptFault {
     /* Of an end: the memories aren't as lpt_end_new or lpt_end_new_sized says. */
     LPT_E_MEMORIES = 25,
 
-    /* A request to a memory: the load's packet would have more than 65,542 octets; no area, more
-       than 255, or one without octets. */
+    /* A request to a memory: 27, the load's packet would have more than 65,542 octets; 28, it has
+       no area, more than 255, or one without octets. A job: 28, it has no place, or one without
+       octets or with some behind the last address. */
     LPT_E_LONG_LOAD = 27,
     LPT_E_BAD_AREA = 28,
 
     /* Of an end: the transaction's name isn't free. */
     LPT_E_IN_USE = 41,
-    /* A message that isn't longer than a part; or one of more than 65,542 octets, or a plain
+    /* 42, a message that isn't longer than a part; 43, one of more than 65,542 octets, or a plain
        request that is longer than the link takes. */
     LPT_E_SHORT_MESSAGE = 42,
     LPT_E_LONG_MESSAGE = 43,
@@ -108,14 +109,14 @@ enum LptFault {
     LPT_E_NOT_OPEN = 45,
     /* The message has no part of that number. */
     LPT_E_NO_SUCH_PART = 46,
-    /* Of an end: no reception is due; no request is to be read, or executed; the oldest wasn't
-       read; the transaction is open; the clock is at its greatest value. */
+    /* Of an end: 50, no reception is due; 51, no request is to be read, or executed; 52, the oldest
+       wasn't read; 55, the transaction is open; 56, the clock would pass its greatest value. */
     LPT_E_NOTHING_DUE = 50,
     LPT_E_NO_JOB = 51,
     LPT_E_NOT_READ = 52,
     LPT_E_STILL_OPEN = 55,
     LPT_E_CLOCK_END = 56,
-    /* Of an end: an allocation was refused. */
+    /* Of an end or a pass: an allocation was refused. */
     LPT_E_ALLOCATION = 58,
     /* Of an end: the types of a request are those of a part. */
     LPT_E_PART_REQUEST = 60,
@@ -137,12 +138,12 @@ enum LptFault {
     LPT_E_MORE = 104,
     /* The body is no such report. */
     LPT_E_NO_REPORT = 105,
-    /* Of an end: nothing is left of it, as after a longjmp out of a memory function; in Python:
-       it was closed. */
+    /* Of an end or a pass: nothing is left of it, as after a longjmp out of a memory function; in
+       Python: it was closed. */
     LPT_E_EMPTY = 106,
     /* Of an end: no number is left for a job, or for a restart. */
     LPT_E_NO_NUMBER = 108,
-    /* Of an end: there is nothing to copy, or to drop. */
+    /* Of an end or a pass: there is nothing to copy, to send, to drop or to tell. */
     LPT_E_NOTHING = 109,
     /* Of an end: packets that wait must be sent first. */
     LPT_E_UNSENT = 110,
@@ -163,7 +164,9 @@ enum LptFault {
        them, or the other way round. */
     LPT_E_ELSEWHERE = 119,
     /* Of an end: these are more or fewer octets than the request reads. */
-    LPT_E_READ_LENGTH = 120
+    LPT_E_READ_LENGTH = 120,
+    /* A job takes more requests than a pass may have, 16,384. */
+    LPT_E_LONG_JOB = 121
 };
 
 /* The name of what a call answered, as docs/C.md has it; "unknown" of another number. */
@@ -281,6 +284,8 @@ static inline const char *lpt_fault_name(uint32_t fault) {
         return "elsewhere";
     case LPT_E_READ_LENGTH:
         return "read length";
+    case LPT_E_LONG_JOB:
+        return "long job";
     default:
         return "unknown";
     }
@@ -303,7 +308,7 @@ enum LptPartKind {
    WHOLE too, and so is one with a right checksum that has no secondary header or is a segment; of
    these lpt_read_packet returns LPT_E_IDLE, LPT_E_NO_SECONDARY or LPT_E_SEGMENTED. DAMAGED: octets
    that are no packet, as many as their header says, with a packet or the end after them. STRAY: an
-   octet with which neither begins. */
+   octet with which no such piece begins. */
 enum LptPieceKind { LPT_PIECE_WHOLE = 1, LPT_PIECE_DAMAGED = 2, LPT_PIECE_STRAY = 3 };
 
 /* Why a reception was aborted: no part came for as long as the timeout; in strict mode a part came
@@ -371,8 +376,8 @@ enum { LPT_LONGEST_PACKET = 65542, LPT_LOOKAHEAD = 131084, LPT_STRAY_ROOM = 2049
 LPT_MUST_USE
 uint16_t lpt_crc16(const uint8_t *octets, size_t octets_len);
 
-/* The packet error control of octets that come in pieces: that of the octets before is `crc`, and
-   these follow. Of no octets it is 0xffff. */
+/* The packet error control of octets that come in pieces: `crc` is what the pieces before this one
+   gave, or 0xffff before the first. */
 LPT_MUST_USE
 uint16_t lpt_crc16_more(uint16_t crc, const uint8_t *octets, size_t octets_len);
 
@@ -386,8 +391,8 @@ uint32_t lpt_packet_length(const uint8_t *octets, size_t octets_len, size_t *len
 
 /*
  * Finds the piece in front of octets of a stream that may be damaged. `in_step` is 1 if the
- * octets begin the stream, or come right after a packet or a damaged one, and 0 after an octet
- * that is none; `is_end` is 1 if nothing comes after them, and 0 if that isn't known. Any
+ * octets begin the stream, or come right after a packet or a damaged one, and 0 after a stray
+ * octet; `is_end` is 1 if nothing comes after them, and 0 if that isn't known. Any
  * number but 0 is taken as 1.
  *
  * LPT_DONE, and *kind (LPT_PIECE_WHOLE, LPT_PIECE_DAMAGED or LPT_PIECE_STRAY) and *size, its
@@ -400,8 +405,8 @@ uint32_t lpt_find_piece(const uint8_t *octets, size_t octets_len, uint32_t in_st
                         uint32_t *kind, size_t *size);
 
 /*
- * Counts the octets in front of a stream that are part of no packet, right after an octet that is
- * none: lpt_find_piece with `in_step` 0 would report LPT_PIECE_STRAY that many times in a row. A
+ * Counts the stray octets in front of octets that come right after a stray one: lpt_find_piece with
+ * `in_step` 0 would report LPT_PIECE_STRAY that many times in a row. A
  * call counts at most LPT_LONGEST_PACKET, and returns 0 if lpt_find_piece would report something
  * else. If headers among them announce long packets, this is much quicker: what it works out is
  * kept in `room` during the call. With LPT_STRAY_ROOM numbers there each octet takes a bounded
@@ -536,14 +541,14 @@ uint32_t lpt_build_tm(const LptTmHead *head, size_t body_len, uint8_t *out, size
 LPT_MUST_USE
 uint32_t lpt_part_kind(uint32_t packet_kind, uint8_t service, uint8_t subtype);
 
-/* How many parts of this size a message has; 0 if the size isn't 4 to 1,024 octets, or the
-   message has more than 65,542. */
+/* How many parts of this size a message has; 1 also if it fits in one, although it isn't sent in
+   parts then; 0 if it is empty or has more than 65,542 octets, or the size isn't 4 to 1,024. */
 LPT_MUST_USE
 uint32_t lpt_part_count(size_t message_len, uint32_t part_size);
 
 /*
- * Writes the body of the message that carries the part of this number, from 1, of a message, to the
- * front of a buffer, and leaves the rest of it as it was. LPT_DONE; LPT_E_RANGE for a part size
+ * Writes the body that carries one part of a message, by the part's number from 1, to the front of
+ * a buffer, and leaves the rest of it as it was. LPT_DONE; LPT_E_RANGE for a part size
  * that isn't 4 to 1,024 octets; LPT_E_SHORT_MESSAGE; LPT_E_LONG_MESSAGE; LPT_E_NO_SUCH_PART;
  * LPT_E_ROOM. At LPT_DONE and LPT_E_ROOM *needed is the body's length, and *kind the part's kind:
  * the message's subtype is 8 + *kind in a telecommand, and *kind in telemetry.

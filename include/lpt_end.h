@@ -16,8 +16,8 @@
  *     thread if a lock, or the start or end of a thread, stands between. Calls of different ends
  *     may run at once only if the three functions that give memory may;
  *   - if octets that are handed to lpt_end_packet read as a part, or as a plain request, the other
- *     end has put them out since the name was last freed at this end: nobody forges packets, and
- *     no damage passes the checksum;
+ *     end has put them out, a part since its name was last freed at this end: nobody forges
+ *     packets, and no damage passes the checksum;
  *   - the rules at lpt_end_new, lpt_end_packet and lpt_end_retire, for the two ends of a link;
  *   - a program that has the memories itself reads them as lpt_end_access says, before
  *     lpt_end_execute_given, and writes them before that call, or after it and before the next
@@ -101,7 +101,7 @@ void lpt_end_free(LptEnd *end);
 /* ---- receiving ---- */
 
 /* What became of a packet. If it says 'named', `name` is its transaction. After the colon is what
-   `first` says, and after a comma what `second` says. */
+   `first` says, and of LPT_OUTCOME_REPORT_NOTED, after a comma, what `second` says. */
 enum LptOutcomeKind {
     LPT_OUTCOME_KEPT = 1,           /* a part, named: its number */
     LPT_OUTCOME_AGAIN = 2,          /* a part that was kept before, named: its number */
@@ -308,8 +308,8 @@ typedef struct LptArea {
  * Tells where a load will write: the area with this number, from 0, of the oldest released request
  * that wasn't read yet. If lpt_end_execute reports LPT_APPLIED_CARRIED_OUT of it, its areas were
  * written exactly there, in their order; otherwise none was. LPT_DONE, and *area is written;
- * LPT_E_NO_JOB, as always on ground; LPT_E_NOTHING if the request is no load, or has no such area
- * with the checksum of its octets.
+ * LPT_E_NO_JOB, as always on ground; LPT_E_NOTHING if the request is no load, has no such area,
+ * or the area's checksum is wrong.
  */
 LPT_MUST_USE
 uint32_t lpt_end_asked_area(LptEnd *end, size_t number, LptArea *area);
@@ -328,8 +328,8 @@ uint32_t lpt_end_drop(LptEnd *end);
  * Executes the oldest request, which must have been read: does what it asks of a memory, and tells
  * what became of it. Its reports wait to be sent. A report that is too long for a packet is opened
  * as a message.
- * LPT_DONE, and *applied is written; LPT_E_NO_JOB, as always on ground; LPT_E_ELSEWHERE if the
- * caller has the memories; LPT_E_NOT_READ; LPT_E_UNSENT; LPT_E_ALLOCATION.
+ * LPT_DONE, and *applied is written; LPT_E_ELSEWHERE if the caller has the memories; LPT_E_NO_JOB,
+ * as always on ground; LPT_E_NOT_READ; LPT_E_UNSENT; LPT_E_ALLOCATION.
  */
 LPT_MUST_USE
 uint32_t lpt_end_execute(LptEnd *end, LptApplied *applied);
@@ -412,8 +412,8 @@ uint32_t lpt_end_access_octets(LptEnd *end, size_t number, uint8_t *out, size_t 
  * behind those of the one before; none if it reads nothing. What the request writes, the caller
  * either has written before this call, or has copied and writes before it executes another request:
  * docs/C.md says how either survives a reset. Its reports wait to be sent, as with lpt_end_execute.
- * LPT_DONE, and *applied is written; LPT_E_NO_JOB, as always on ground; LPT_E_ELSEWHERE if the end
- * has the memories; LPT_E_NOT_READ; LPT_E_READ_LENGTH if the request reads more octets than these,
+ * LPT_DONE, and *applied is written; LPT_E_ELSEWHERE if the end has the memories; LPT_E_NO_JOB, as
+ * always on ground; LPT_E_NOT_READ; LPT_E_READ_LENGTH if the request reads more octets than these,
  * or fewer; LPT_E_UNSENT; LPT_E_ALLOCATION.
  */
 LPT_MUST_USE
@@ -435,7 +435,7 @@ uint32_t lpt_end_drop_read(LptEnd *end);
 LPT_MUST_USE
 uint32_t lpt_end_tick(LptEnd *end);
 
-/* Moves the clock on by as many ticks at once, in the time of one call of lpt_end_tick, and leaves
+/* Moves the clock on by several ticks at once, in the time of one call of lpt_end_tick, and leaves
    what that many calls would. Nothing expires meanwhile, so call lpt_end_expire afterwards.
    LPT_DONE, also for 0 ticks; LPT_E_CLOCK_END if the clock would go past 4,294,967,295. */
 LPT_MUST_USE

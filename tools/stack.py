@@ -22,7 +22,7 @@ from typing import Iterator, NamedTuple
 
 TOP = pathlib.Path(__file__).resolve().parent.parent
 KEPT = TOP / "bench/results/c-bounds.csv"
-ARCHIVES = ["liblpt.a", "liblpt_end.a"]
+ARCHIVES = ["liblpt.a", "liblpt_end.a", "liblpt_ground.a"]
 HEAD = ["Call", "Processor", "Stack", "Code", "Calls itself"]
 # The functions that call themselves, once for each level of a tree, and one more than the kit's MAX_HEIGHT.
 OF_TREES, LEVELS = "std_collections::btree::", 12

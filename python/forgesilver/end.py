@@ -4,18 +4,16 @@ gives a reception up. Ends that keep to the rules of docs/C.md keep the promise 
 from __future__ import annotations
 
 import operator
-import sys
-import threading
-import warnings
 from collections.abc import Mapping
 from ctypes import addressof, byref
 from dataclasses import dataclass
-from types import FrameType, TracebackType
 from typing import Any, Iterable, Iterator, Optional
 
 from . import _library
+from ._handle import NOTHING as _NOTHING
+from ._handle import Handle
 from ._library import U16, U32, Given, Octets, Room, number, of_kind
-from .faults import Empty, NoSuchPart, raise_fault
+from .faults import NoSuchPart, raise_fault
 from .kinds import (
     Acknowledge, AppliedKind, Direction, Failure, Mode, NameState, OutcomeKind, Reason, Side, Why,
 )
@@ -31,7 +29,7 @@ _NAMED = frozenset(
         OutcomeKind.BROKEN,
     )
 )
-_ROOM, _NO_JOB, _NOTHING_DUE, _NOTHING = 103, 51, 50, 109
+_NO_JOB, _NOTHING_DUE = 51, 50
 
 
 @dataclass(frozen=True)
@@ -139,12 +137,7 @@ class Sender:
     length: int
 
 
-class WrongThread(RuntimeError):
-    """An end is used by another thread than the one that made it, or within another of its
-    calls."""
-
-
-class End:
+class End(Handle):
     """An end of the link. It is a context manager, and frees all its memory when it is closed.
 
     >>> with End(Side.GROUND, Config(part_size=8)) as ground:
@@ -158,7 +151,8 @@ class End:
     Arguments of another type raise TypeError.
     """
 
-    __slots__ = ("config", "side", "_at", "_is_called", "_length", "_thread", "__weakref__")
+    __slots__ = ("config", "side", "_length")
+    _noun, _free = "the end", staticmethod(_end.lpt_end_free)
 
     def __init__(
         self,
@@ -175,9 +169,8 @@ class End:
         restored, as a restart would have left that end. Raises `Range`, `ConfigApid` to
         `ConfigOutgoing`, or `Memories`; of a state `StateShort` to `StateOrder`, or `NoNumber`.
         """
-        self._at: Optional[int] = None
+        super().__init__()
         self._length, place = 0, _library.POINTER()
-        self._is_called, self._thread = False, threading.get_ident()
         self.side, self.config = Side(side), of_kind(Config() if config is None else config, Config)
         made = _config_of(self.config)
         memories = {} if memories is None else memories
@@ -192,95 +185,9 @@ class End:
             raise_fault(_end.lpt_end_resume(*ours, kept.at, kept.len, *begun))
         self._at = place.value
 
-    # ---- its life ----
-
-    def close(self) -> None:
-        """Frees the end with all its memory. If it is closed already, nothing changes."""
-        if self._at is not None:
-            self._call(self._let_go)
-
-    def _let_go(self, at: int) -> None:
-        """Gives the end's memory back."""
-        self._at = None
-        _end.lpt_end_free(at)
-
-    @property
-    def is_closed(self) -> bool:
-        """Whether the end was closed."""
-        return self._at is None
-
-    def __enter__(self) -> End:
-        if self.is_closed:
-            raise Empty
-        return self
-
-    def __exit__(
-        self,
-        kind: Optional[type[BaseException]],
-        error: Optional[BaseException],
-        trace: Optional[TracebackType],
-    ) -> None:
-        self.close()
-
-    def __del__(self) -> None:
-        if getattr(self, "_at", None) is None:
-            return
-        try:
-            warnings.warn(f"{self!r} wasn't closed", ResourceWarning, stacklevel=2, source=self)
-        finally:
-            # Another thread leaves it alone, and so its memory isn't given back.
-            if threading.get_ident() == self._thread:
-                self.close()
-
-    def __reduce__(self) -> Any:
-        raise TypeError("an end is neither copied nor pickled")
-
     def __repr__(self) -> str:
         closed = ", closed" if self.is_closed else ""
         return f"<End of {self.side.name.lower()}{closed}>"
-
-    def _call(self, function: Any, *words: Any) -> int:
-        """Calls a function of the library, on this end: its answer, or that the end was closed."""
-        if threading.get_ident() != self._thread:
-            raise WrongThread("the end is of another thread")
-        if self._is_called and self._is_under_way():
-            raise WrongThread("a call of the end is under way")
-        # A mark, and no lock that an interrupt, as by Ctrl-C, might leave taken.
-        self._is_called = True
-        try:
-            if self._at is None:
-                return Empty.number
-            return function(self._at, *words)  # type: ignore[no-any-return]
-        finally:
-            self._is_called = False
-
-    def _is_under_way(self) -> bool:
-        """Whether this call came within another. Else the mark was left by an interrupt: Python 3.9
-        lets one in as a call ends."""
-        frame: Optional[FrameType] = sys._getframe(2)
-        while frame is not None:
-            if frame.f_code is End._call.__code__ and frame.f_locals.get("self") is self:
-                return True
-            frame = frame.f_back
-        return False
-
-    def _done(self, function: Any, *words: Any) -> None:
-        """The same of a call that has to end well."""
-        fault = self._call(function, *words)
-        if fault:
-            raise_fault(fault)
-
-    def _copied(self, function: Any, room: Room, *words: int) -> Optional[bytes]:
-        """The octets that a call copies, by way of this room or of a longer one; None where there
-        are none."""
-        fault = self._call(function, *words, room.at, room.len, room.needs)
-        if fault == _ROOM:
-            room = Room(room.needed.value)
-            fault = self._call(function, *words, room.at, room.len, room.needs)
-        if fault == _NOTHING:
-            return None
-        raise_fault(fault)
-        return room.octets()
 
     # ---- receiving ----
 

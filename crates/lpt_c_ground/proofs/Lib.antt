@@ -1,0 +1,4 @@
+pub mod AsAddress
+pub mod AsBox
+mod CallLemmas
+mod ManyLemmas

@@ -1,0 +1,238 @@
+/*
+ * Ground's end of a pass for large packet transfer (ECSS-E-ST-70-41C): it carries a job of loads,
+ * dumps or checks of a memory (service 6) to its end. Each request is one packet, and is sent again,
+ * by rounds, until a report has settled it.
+ *
+ * A program holds a pass by its address, an LptGround *. lpt_ground_new gives one, and
+ * lpt_ground_free takes it back. Between them the program asks what is next, and does it:
+ *
+ *   - LPT_STEP_SEND: it copies the packet by lpt_ground_outgoing, sends it, and says so by
+ *     lpt_ground_sent. If a packet has come meanwhile, it hands that over first, by
+ *     lpt_ground_packet;
+ *   - LPT_STEP_LISTEN: it waits for a packet, and hands it over; if none comes for so long that none
+ *     can be on its way any more, for example for a second, it says so by lpt_ground_quiet, and a
+ *     new round begins;
+ *   - else the pass is at its end.
+ *
+ * Each call returns LPT_DONE, or the number of the first thing that is wrong, in the order of its
+ * comment. If it isn't LPT_DONE, the pass is as it was, and the call has written nothing through a
+ * pointer but what its comment says. LPT_E_ALLOCATION (out of memory) comes last. The caller
+ * promises what include/lpt_end.h says of addresses, threads and memory. docs/C.md says what is
+ * proved of a pass that ends with LPT_STEP_COMPLETED, and what is assumed.
+ */
+#ifndef LPT_GROUND_H
+#define LPT_GROUND_H
+
+#include "lpt_end.h"
+
+#ifdef __cplusplus
+extern "C" {
+#endif
+
+/* ---- a pass ---- */
+
+/* A pass. */
+typedef struct LptGround LptGround;
+
+/* What is asked of a memory: that it takes octets, that it tells them, that it tells their
+   checksums. */
+enum LptJobKind { LPT_JOB_LOAD = 1, LPT_JOB_DUMP = 2, LPT_JOB_CHECK = 3 };
+
+/* A job: what is asked, and in which packets. */
+typedef struct LptJob {
+    uint32_t kind;      /* an LptJobKind */
+    uint8_t memory;     /* the memory's identifier */
+    uint8_t flags;      /* acknowledgement flags of the requests: of loads 8, so that completion is
+                           reported, or 10, so that a report of the start settles a load too; of
+                           dumps and checks 0. Other flags up to 15 may be added */
+    uint16_t apid;      /* of all packets, 0 to 2046 */
+    uint16_t source;    /* the pass's own: reports go to it, and no pass before had it */
+    uint16_t count;     /* the first request's sequence count, 0 to 16,383 */
+    uint32_t part_size; /* of the link, 4 to 1024 octets, of dumps 7 to 1024: a load has as many
+                           octets at most, a dump 6 less, and a check 4,000. Give checks 6 or
+                           more: with fewer their reports come in parts, and settle nothing */
+    uint32_t tries;     /* after so many waits in a row that settled nothing it is given up */
+} LptJob;
+
+/* Octets of a memory. */
+typedef struct LptPlace {
+    uint32_t address; /* of the first */
+    uint32_t len;     /* at least 1 */
+} LptPlace;
+
+/*
+ * Makes the pass of a job of these places. The octets of a load stand in `content`, those of one
+ * place behind those of the place before, and are copied; a dump and a check look at no content.
+ * Each place is cut into requests of as many octets as LptJob says at part_size, and its last one
+ * has the rest. Requests are numbered from 0 through all places.
+ * LPT_DONE, and *pass is its address; LPT_E_RANGE for a number of the job that is out of its range,
+ * and for flags of a load without 8; LPT_E_BAD_AREA for no place, and for one without octets or
+ * with some behind the last address; LPT_E_LONG_JOB for more than 16,384 requests; LPT_E_RANGE if
+ * the content of a load isn't as long as its places together; LPT_E_ALLOCATION.
+ */
+LPT_MUST_USE
+uint32_t lpt_ground_new(LptGround **pass, const LptJob *job, const LptPlace *places,
+                        size_t places_len, const uint8_t *content, size_t content_len);
+
+/* Frees a pass with all its memory. Its address may not be used any more. NULL does nothing. */
+void lpt_ground_free(LptGround *pass);
+
+/* ---- what it does next ---- */
+
+/* What a pass does next. From 3 on it is at its end. */
+enum LptStep {
+    LPT_STEP_SEND = 1,      /* it sends a packet */
+    LPT_STEP_LISTEN = 2,    /* it listens */
+    LPT_STEP_COMPLETED = 3, /* each request was carried out, and a dump and a check answered */
+    LPT_STEP_FAILED = 4,    /* each request is settled, and some failed */
+    LPT_STEP_GIVEN_UP = 5,  /* some requests are open, and as many waits in a row as `tries` says
+                               settled nothing */
+    LPT_STEP_CUT_OFF = 6    /* some requests are open, and lpt_ground_close was called */
+};
+
+/* The name of a step, as docs/C.md has it; "unknown" of another number. */
+static inline const char *lpt_step_name(uint32_t step) {
+    switch (step) {
+    case LPT_STEP_SEND:
+        return "send";
+    case LPT_STEP_LISTEN:
+        return "listen";
+    case LPT_STEP_COMPLETED:
+        return "completed";
+    case LPT_STEP_FAILED:
+        return "failed";
+    case LPT_STEP_GIVEN_UP:
+        return "given up";
+    case LPT_STEP_CUT_OFF:
+        return "cut off";
+    default:
+        return "unknown";
+    }
+}
+
+/* Tells what the pass does next, and changes nothing. It returns LPT_DONE, and *step is an LptStep. */
+LPT_MUST_USE
+uint32_t lpt_ground_next(LptGround *pass, uint32_t *step);
+
+/*
+ * Copies the packet that is to be sent next to the front of a buffer, and leaves the rest of the
+ * buffer as it was. LPT_DONE; LPT_E_NOTHING if the next step isn't LPT_STEP_SEND; LPT_E_ROOM. At
+ * LPT_DONE and LPT_E_ROOM *needed is the packet's length, at most part_size and 23. The packet stays
+ * the next one until lpt_ground_sent, or until a packet settles its request.
+ */
+LPT_MUST_USE
+uint32_t lpt_ground_outgoing(LptGround *pass, uint8_t *out, size_t out_len, size_t *needed);
+
+/* Notes that the packet that was to be sent next was sent. LPT_DONE; LPT_E_NOTHING if the next step
+   isn't LPT_STEP_SEND. */
+LPT_MUST_USE
+uint32_t lpt_ground_sent(LptGround *pass);
+
+/* ---- what it hears ---- */
+
+/*
+ * Takes a packet that came. A report to the job's source settles an open request if it says that the
+ * request failed, or that the load was carried out, or if it has the octets or the checksum that the
+ * dump or the check asked for. Anything else is passed over. LPT_DONE; LPT_E_ALLOCATION.
+ */
+LPT_MUST_USE
+uint32_t lpt_ground_packet(LptGround *pass, const uint8_t *octets, size_t octets_len);
+
+/* Notes that no packet came for as long as the program waits: a new round begins, in which each
+   open request is sent again, in turn until at least 8 packets are sent. It returns LPT_DONE. */
+LPT_MUST_USE
+uint32_t lpt_ground_quiet(LptGround *pass);
+
+/* Notes that no packet will come any more: the pass is at its end. It returns LPT_DONE. */
+LPT_MUST_USE
+uint32_t lpt_ground_close(LptGround *pass);
+
+/* ---- what became of its requests; nothing changes ---- */
+
+/* How many requests a pass has, and what became of them. */
+typedef struct LptProgress {
+    size_t requests;  /* all of them */
+    size_t completed; /* were carried out, and dumps and checks answered */
+    size_t failed;
+    size_t left; /* are open: nothing is known of them */
+} LptProgress;
+
+/* Tells how far the pass is. It returns LPT_DONE, and *progress is written. */
+LPT_MUST_USE
+uint32_t lpt_ground_progress(LptGround *pass, LptProgress *progress);
+
+/* What is known of a request. */
+enum LptFateState { LPT_FATE_OPEN = 0, LPT_FATE_COMPLETED = 1, LPT_FATE_FAILED = 2 };
+
+/* What became of a request. */
+typedef struct LptFate {
+    uint32_t state; /* an LptFateState */
+    uint32_t code;  /* why it failed, an LptFailure; 0 if it didn't */
+} LptFate;
+
+/* Tells what became of a request, by its number from 0. LPT_DONE, and *fate is written;
+   LPT_E_NOTHING if there is no such request. */
+LPT_MUST_USE
+uint32_t lpt_ground_fate(LptGround *pass, size_t number, LptFate *fate);
+
+/*
+ * Copies the packet that settled a request, by the request's number, to the front of a buffer, and
+ * leaves the rest of the buffer as it was. A program that keeps these packets may hand them to the
+ * same job's pass after a restart, under the same source, and goes on where it was.
+ * LPT_DONE; LPT_E_NOTHING if there is no such request, or it is open or failed; LPT_E_ROOM. At
+ * LPT_DONE and LPT_E_ROOM *needed is the packet's length.
+ */
+LPT_MUST_USE
+uint32_t lpt_ground_report(LptGround *pass, size_t number, uint8_t *out, size_t out_len,
+                           size_t *needed);
+
+/*
+ * Copies the octets of memory that a dump got, by its number, to the front of a buffer, and leaves
+ * the rest of the buffer as it was. LPT_DONE; LPT_E_NOTHING if there is no such request, or it is
+ * open or failed; LPT_E_ROOM. At LPT_DONE and LPT_E_ROOM *needed is how many octets there are: none
+ * of a load or a check.
+ */
+LPT_MUST_USE
+uint32_t lpt_ground_dumped(LptGround *pass, size_t number, uint8_t *out, size_t out_len,
+                           size_t *needed);
+
+/*
+ * Tells whether the checksums that checks got are those of this content: the octets of the places,
+ * one place behind the other, and nothing more. It returns LPT_DONE, and *agrees is 1 if they are,
+ * otherwise 0, and also 0 while a check is open. One differing area in 65,536 is taken for the same.
+ */
+LPT_MUST_USE
+uint32_t lpt_ground_agrees(LptGround *pass, const uint8_t *content, size_t content_len,
+                           uint32_t *agrees);
+
+/* ---- the structures as the archive has them: size, alignment, offsets ---- */
+
+LPT_LAYOUT(LptJob, 20, 4);
+LPT_FIELD(LptJob, kind, 0);
+LPT_FIELD(LptJob, memory, 4);
+LPT_FIELD(LptJob, flags, 5);
+LPT_FIELD(LptJob, apid, 6);
+LPT_FIELD(LptJob, source, 8);
+LPT_FIELD(LptJob, count, 10);
+LPT_FIELD(LptJob, part_size, 12);
+LPT_FIELD(LptJob, tries, 16);
+
+LPT_LAYOUT(LptPlace, 8, 4);
+LPT_FIELD(LptPlace, address, 0);
+LPT_FIELD(LptPlace, len, 4);
+
+LPT_LAYOUT(LptProgress, 32, 8);
+LPT_FIELD(LptProgress, requests, 0);
+LPT_FIELD(LptProgress, completed, 8);
+LPT_FIELD(LptProgress, failed, 16);
+LPT_FIELD(LptProgress, left, 24);
+
+LPT_LAYOUT(LptFate, 8, 4);
+LPT_FIELD(LptFate, state, 0);
+LPT_FIELD(LptFate, code, 4);
+
+#ifdef __cplusplus
+}
+#endif
+
+#endif

@@ -1,0 +1,204 @@
+"""A job that ground carries to its end: a load, a dump or a check of a memory. Its requests are sent
+again, by rounds, until a report has settled each; docs/C.md says what is proved of the end."""
+
+from __future__ import annotations
+
+from ctypes import addressof, byref
+from dataclasses import dataclass
+from typing import Iterator, Optional, Union
+
+from . import _library
+from ._handle import NOTHING, Handle
+from ._library import U32, Given, Octets, Room, number, of_kind
+from .faults import raise_fault
+from .kinds import Acknowledge, Failure, FateState, JobKind, Step
+from .memory import Area, Check, Dump, Load, Loaded, Request
+
+_ground = _library.ground
+_KINDS = {Load: JobKind.LOAD, Dump: JobKind.DUMP, Check: JobKind.CHECK}
+
+
+@dataclass(frozen=True)
+class Progress:
+    """How many requests a job has, and how many of them were carried out, failed, and are open."""
+
+    requests: int
+    completed: int
+    failed: int
+    left: int
+
+
+@dataclass(frozen=True)
+class Fate:
+    """What became of a request. `code` is why it failed, else None: a `Failure`, or a number that is
+    none."""
+
+    state: FateState
+    code: Union[Failure, int, None] = None
+
+
+class Job(Handle):
+    """A job, and the pass that carries it to its end. It is a context manager, and frees all its
+    memory when it is closed.
+
+    >>> with Job(Load(1, [Loaded(16, b"octets")]), source=7, apid=100, part_size=64) as job:
+    ...     for packet in job.outgoing():
+    ...         packet.hex()
+    ...     job.next()
+    '1864c0000016280602000701010000001000066f63746574731173ae1b'
+    <Step.LISTEN: 2>
+
+    While `next` is SEND, send what `outgoing` gives. While it is LISTEN, wait for a packet and `feed`
+    it; if none comes for so long that none is on its way, call `quiet`. A job stays on the thread that
+    made it, and is neither copied nor pickled. A call raises the first fault that applies, and leaves
+    the job as it was; on a closed job it raises `Empty`.
+    """
+
+    __slots__ = ("request", "_lengths", "_most")
+    _noun, _free = "the job", staticmethod(_ground.lpt_ground_free)
+
+    def __init__(
+        self, request: Request, *, source: int, apid: int = 100, part_size: int = 1024,
+        count: int = 0, tries: int = 10, starts: bool = False,
+    ) -> None:
+        """Makes a job of a request, whose areas may have any length: they are cut into requests of
+        one packet each.
+
+        - source: the job's own, 0 to 65,535: reports go to it, and no job before had it
+        - part_size: of the link, 4 to 1,024, of a dump 7 to 1,024
+        - count: the first request's sequence count, 0 to 16,383
+        - tries: after so many waits in a row that settled nothing it is given up
+        - starts: whether a report of the start settles a load too
+
+        Raises `Range`, `BadArea`, `LongJob` or `Allocation`.
+        """
+        super().__init__()
+        of_kind(request, (Load, Dump, Check))
+        kind, place = _KINDS[type(request)], _library.POINTER()
+        self.request, self._most = request, number(part_size, 0xFFFFFFFF, "the part size") + 23
+        flags = Acknowledge.NONE
+        if kind is JobKind.LOAD:
+            flags = Acknowledge.COMPLETION | (Acknowledge.START if starts else Acknowledge.NONE)
+        words = _library.LptJob(
+            int(kind), number(request.memory, 255, "the memory"), int(flags),
+            number(apid, 0xFFFF, "the APID"), number(source, 0xFFFF, "the source"),
+            number(count, 0xFFFF, "the count"), part_size, number(tries, 0xFFFFFFFF, "the tries"),
+        )
+        places = [_place_of(it) for it in request.areas]
+        self._lengths = [it[1] for it in places]
+        listed = (_library.LptPlace * (len(places) or 1))(*places)
+        given = Given(b"".join(it.octets for it in request.areas) if isinstance(request, Load) else b"")
+        made = byref(place), byref(words), addressof(listed), len(places), given.at, given.len
+        raise_fault(_ground.lpt_ground_new(*made))
+        self._at = place.value
+
+    def __repr__(self) -> str:
+        closed = ", closed" if self.is_closed else ""
+        return f"<Job of a {type(self.request).__name__.lower()}{closed}>"
+
+    # ---- what it does next ----
+
+    def next(self) -> Step:
+        """What it does next; nothing changes."""
+        step = U32(0)
+        self._done(_ground.lpt_ground_next, byref(step))
+        return Step(step.value)
+
+    def first(self) -> Optional[bytes]:
+        """A copy of the packet that is to be sent next; None if none is. It stays the next one until
+        `sent`, or until a packet settles its request."""
+        return self._copied(_ground.lpt_ground_outgoing, Room(self._most))
+
+    def sent(self) -> None:
+        """Notes that the packet that was to be sent next was sent. Raises `Nothing` if none was."""
+        self._done(_ground.lpt_ground_sent)
+
+    def outgoing(self) -> Iterator[bytes]:
+        """The packets that are to be sent now, one by one. Each is noted as sent as it is given; one
+        that isn't sent then is as one that the link loses. So feed what comes between two of them."""
+        while True:
+            packet = self.first()
+            if packet is None:
+                return
+            self.sent()
+            yield packet
+
+    # ---- what it hears ----
+
+    def feed(self, octets: Octets) -> None:
+        """Takes a packet that came. If it is a report to the job's source that settles an open
+        request, that is settled; anything else is passed over. Raises `Allocation`."""
+        given = Given(octets)
+        self._done(_ground.lpt_ground_packet, given.at, given.len)
+
+    def quiet(self) -> None:
+        """Notes that no packet came for as long as the program waits: a new round begins."""
+        self._done(_ground.lpt_ground_quiet)
+
+    def cut_off(self) -> None:
+        """Notes that no packet will come any more: the job is at its end."""
+        self._done(_ground.lpt_ground_close)
+
+    # ---- what became of it; nothing changes ----
+
+    @property
+    def progress(self) -> Progress:
+        """How far it is."""
+        told = _library.LptProgress()
+        self._done(_ground.lpt_ground_progress, byref(told))
+        return Progress(told.requests, told.completed, told.failed, told.left)
+
+    def fates(self) -> Iterator[Fate]:
+        """What became of each request, in the order of the areas and of their octets."""
+        told, at = _library.LptFate(), 0
+        while True:
+            fault = self._call(_ground.lpt_ground_fate, at, byref(told))
+            if fault == NOTHING:
+                return
+            raise_fault(fault)
+            state = FateState(told.state)
+            yield Fate(state, _failure_of(told.code) if state is FateState.FAILED else None)
+            at += 1
+
+    def reports(self) -> Iterator[bytes]:
+        """The packets that settled requests. A program that keeps them may feed them to the same job
+        after a restart, with the same source and count, which then goes on where it was."""
+        room = Room(self._most)
+        for at in range(self.progress.requests):
+            packet = self._copied(_ground.lpt_ground_report, room, at)
+            if packet is not None:
+                yield packet
+
+    def dumped(self) -> Optional[list[Loaded]]:
+        """The areas of a dump with their octets; None if not all have come. Of another job each area
+        has no octets."""
+        if self.next() is not Step.COMPLETED:
+            return None
+        room = Room(self._most)
+        requests = range(self.progress.requests)
+        pieces = (self._copied(_ground.lpt_ground_dumped, room, it) or b"" for it in requests)
+        octets, at = b"".join(pieces), 0
+        found: list[Loaded] = []
+        for area, length in zip(self.request.areas, self._lengths):
+            found.append(Loaded(area.start, octets[at : at + length]))
+            at += length
+        return found
+
+    def agrees(self, octets: Octets) -> bool:
+        """Whether the checksums that a check got are those of these octets, those of one area behind
+        those of the area before. One differing area in 65,536 is taken for the same."""
+        given, told = Given(octets), U32(0)
+        self._done(_ground.lpt_ground_agrees, given.at, given.len, byref(told))
+        return bool(told.value)
+
+
+def _place_of(area: Union[Area, Loaded]) -> tuple[int, int]:
+    """An area's address and length."""
+    of_kind(area, (Area, Loaded))
+    length = area.length if isinstance(area, Area) else memoryview(area.octets).nbytes
+    return number(area.start, 0xFFFFFFFF, "the address"), number(length, 0xFFFFFFFF, "the length")
+
+
+def _failure_of(code: int) -> Union[Failure, int]:
+    """A failure code, as the failure that it is of, if it is of one."""
+    return Failure(code) if code in set(Failure) else code
