@@ -14,9 +14,12 @@ The modules:
 - packets: packets, telecommands and telemetry, and the packets of a stream
 - parts: the parts of large messages, and `split`
 - joining: `join`, and `join_each` of an archive
+- images: `read_image` of an archive's dump reports
+- distributed: both of many files, on the workers of Dask
 - memory: requests to load, dump and check a memory, and their reports
 - reports: verification reports
 - end: one end of a link, with a spacecraft's memories
+- job: a load, dump or check that ground carries to its end
 - kinds: the kinds of things
 - faults: an exception for each fault
 
@@ -32,13 +35,16 @@ version of `liblpt` with its own.
 from __future__ import annotations
 
 from . import faults
+from ._handle import WrongThread
 from ._library import VERSION as __version__
-from .end import Applied, Config, End, Outcome, Reception, Sender, View, WrongThread
+from .end import Applied, Config, End, Outcome, Reception, Sender, View
 from .faults import Fault
+from .images import Image, read_image
+from .job import Fate, Job, Progress
 from .joining import Joined, NotJoined, join, join_each
 from .kinds import (
-    Acknowledge, AppliedKind, Direction, Failure, Mode, NameState, OutcomeKind, PacketKind,
-    PartKind, PieceKind, Reason, ReportKind, Side, Why,
+    Acknowledge, AppliedKind, Direction, Failure, FateState, JobKind, Mode, NameState, OutcomeKind,
+    PacketKind, PartKind, PieceKind, Reason, ReportKind, Side, Step, Why,
 )
 from .memory import (
     Area, Check, Checked, CheckReport, Dump, DumpReport, Load, Loaded, read_check, read_data_report,
@@ -57,15 +63,17 @@ from .reports import VerificationReport, read_report, verification_of, write_rep
 
 __all__ = [
     "AbortReport", "Acknowledge", "Applied", "AppliedKind", "Area", "Check", "CheckReport",
-    "Checked", "Config", "Direction", "Dump", "DumpReport", "End", "Failure", "Fault", "Joined",
+    "Checked", "Config", "Direction", "Dump", "DumpReport", "End", "Failure", "Fate",
+    "FateState", "Fault", "Image", "Job", "JobKind", "Joined",
     "LONGEST_PACKET", "Load", "Loaded", "Mode", "Name", "NameState", "NotJoined", "Outcome",
     "OutcomeKind",
-    "Packet", "PacketKind", "Part", "PartKind", "PieceKind", "Reason", "Reception", "ReportKind", "Sender", "Side",
+    "Packet", "PacketKind", "Part", "PartKind", "PieceKind", "Progress", "Reason", "Reception",
+    "ReportKind", "Sender", "Side", "Step",
     "Telecommand",
     "Telemetry", "VerificationReport", "View", "Why", "WrongThread", "crc16", "faults",
     "find_piece", "join", "join_each",
     "packet_length", "packets_of", "part_count", "part_kind", "part_of", "read_abort", "read_check",
-    "read_data_report", "read_dump",
+    "read_data_report", "read_dump", "read_image",
     "read_message", "read_packet", "read_part", "read_report", "read_telecommand",
     "read_telemetry", "split", "verification_of", "write_abort", "write_load", "write_packet",
     "write_part",

@@ -26,7 +26,7 @@ else:
 
 VERSION = "0.1.0"
 VERSION_NUMBER = 1000
-CODECS, END = "liblpt.so.0", "liblpt_end.so.0"
+CODECS, END, GROUND = "liblpt.so.0", "liblpt_end.so.0", "liblpt_ground.so.0"
 
 U8, U16, U32, U64 = ctypes.c_uint8, ctypes.c_uint16, ctypes.c_uint32, ctypes.c_uint64
 SIZE, POINTER = ctypes.c_size_t, ctypes.c_void_p
@@ -75,6 +75,14 @@ LptView = _structure(
 )
 LptReception = _structure("LptReception", name=LptName, kept=U32, last=U32, due=U64)
 LptSender = _structure("LptSender", name=LptName, parts=U32, len=SIZE)
+
+LptJob = _structure(
+    "LptJob", kind=U32, memory=U8, flags=U8, apid=U16, source=U16, count=U16, part_size=U32,
+    tries=U32,
+)
+LptPlace = _structure("LptPlace", address=U32, len=U32)
+LptProgress = _structure("LptProgress", requests=SIZE, completed=SIZE, failed=SIZE, left=SIZE)
+LptFate = _structure("LptFate", state=U32, code=U32)
 
 # What the calls take. A pointer is octets or an address, and in front of its length.
 _READ, _WRITE = (POINTER, SIZE), (POINTER, SIZE, POINTER)
@@ -149,6 +157,21 @@ _OF_END: dict[str, tuple[Any, ...]] = {
     "lpt_end_execute_given": (POINTER, *_READ, POINTER),
     "lpt_end_drop_read": (POINTER,),
 }
+_OF_GROUND: dict[str, tuple[Any, ...]] = {
+    "lpt_ground_new": (POINTER, POINTER, POINTER, SIZE, *_READ),
+    "lpt_ground_free": (POINTER,),
+    "lpt_ground_next": (POINTER, POINTER),
+    "lpt_ground_outgoing": (POINTER, *_WRITE),
+    "lpt_ground_sent": (POINTER,),
+    "lpt_ground_packet": (POINTER, *_READ),
+    "lpt_ground_quiet": (POINTER,),
+    "lpt_ground_close": (POINTER,),
+    "lpt_ground_progress": (POINTER, POINTER),
+    "lpt_ground_fate": (POINTER, SIZE, POINTER),
+    "lpt_ground_report": (POINTER, SIZE, *_WRITE),
+    "lpt_ground_dumped": (POINTER, SIZE, *_WRITE),
+    "lpt_ground_agrees": (POINTER, *_READ, POINTER),
+}
 
 
 def folder() -> pathlib.Path:
@@ -161,11 +184,11 @@ def folder() -> pathlib.Path:
     if os.environ.get("FORGESILVER_LIB"):
         places = [pathlib.Path(os.environ["FORGESILVER_LIB"]).resolve()]
     for place in places:
-        if all((place / it).is_file() for it in (CODECS, END)):
+        if all((place / it).is_file() for it in (CODECS, END, GROUND)):
             return place
     said = ", ".join(map(str, places))
-    raise ImportError(f"forgesilver: {CODECS} and {END} aren't in {said}: run ./build-c, or name "
-                      "their folder in FORGESILVER_LIB")
+    raise ImportError(f"forgesilver: {CODECS}, {END} and {GROUND} aren't in {said}: run ./build-c, or "
+                      "name their folder in FORGESILVER_LIB")
 
 
 def _loaded(path: pathlib.Path, calls: dict[str, tuple[Any, ...]]) -> Any:
@@ -180,17 +203,18 @@ def _loaded(path: pathlib.Path, calls: dict[str, tuple[Any, ...]]) -> Any:
     return library
 
 
-def _load() -> tuple[Any, Any]:
-    """Both libraries, which are of the package's version."""
+def _load() -> tuple[Any, Any, Any]:
+    """The libraries, which are of the package's version."""
     place = folder()
     codecs, end = _loaded(place / CODECS, _OF_CODECS), _loaded(place / END, _OF_END)
+    ground = _loaded(place / GROUND, _OF_GROUND)
     codecs.lpt_crc16.restype = codecs.lpt_crc16_more.restype = U16
-    end.lpt_end_free.restype = None
+    end.lpt_end_free.restype = ground.lpt_ground_free.restype = None
     found = codecs.lpt_version()
     if found != VERSION_NUMBER:
         raise ImportError(f"forgesilver: {place / CODECS} is of version {_dotted(found)}, and the "
                           f"package of {VERSION}")
-    return codecs, end
+    return codecs, end, ground
 
 
 def _dotted(number: int) -> str:
@@ -198,7 +222,7 @@ def _dotted(number: int) -> str:
     return f"{number // 1000000}.{number // 1000 % 1000}.{number % 1000}"
 
 
-codecs, end = _load()
+codecs, end, ground = _load()
 
 # ---- octets in ----
 

@@ -355,6 +355,12 @@ class ReadLength(Fault, ValueError):
     number = 120
 
 
+class LongJob(Fault, ValueError):
+    """The job takes more requests than a pass has, 16,384."""
+
+    number = 121
+
+
 #: Each fault by its number.
 BY_NUMBER: dict[int, type[Fault]] = {it.number: it for it in Fault.__subclasses__()}
 

@@ -6,8 +6,9 @@ then, and what is said to be missing, is what `lpt join --each` writes and says.
 
 from __future__ import annotations
 
+import functools
 from dataclasses import dataclass, field
-from typing import BinaryIO, Iterable, Iterator, Optional, Union
+from typing import BinaryIO, Callable, Iterable, Iterator, Optional, Union
 
 from ._course import Course, Kept, News, Parts
 from ._library import Octets, has_octets, number, view_of
@@ -26,6 +27,8 @@ _MOST_TOLD = 4
 
 #: Packets: octets or a binary file in which they stand one after the other; or one by one.
 Packets = Union[Octets, BinaryIO, Iterable[Octets]]
+#: Whether a message, or None, is given beside what is joined.
+Wanted = Callable[[object], bool]
 
 
 @dataclass(frozen=True)
@@ -117,29 +120,54 @@ def join_each(
     `any` anything joined is a message. Raises `Range`; and at the end `NotJoined`, if parts don't
     fit the part size, and all that fit it are last parts.
     """
-    joiners: dict[Direction, _Joiner] = {}
     part_size = part_size_of(part_size)
     apid = None if apid is None else number(apid, GREATEST_APID, "the APID")
+    for it in _given(packets, part_size, apid, bool(any)):
+        if isinstance(it, Joined):
+            yield it
+
+
+def _given(
+    packets: Packets,
+    part_size: int,
+    apid: Optional[int],
+    any: bool,
+    is_wanted: Optional[Wanted] = None,
+) -> Iterator[Union[Joined, bytes]]:
+    """What `join_each` gives; and, where they come, other packets whose messages are wanted."""
+    joiners: dict[Direction, _Joiner] = {}
     for packet in _packets_in(packets):
         direction = _direction_of(packet)
-        message = None if direction is None else _message_of(packet)
+        message = None if direction is None and is_wanted is None else _message_of(packet)
+        if direction is None and is_wanted is not None and is_wanted(message):
+            yield bytes(packet)
         if direction is None or message is None:
             continue
         apid = message.apid if apid is None else apid
         if message.apid == apid:
             if direction not in joiners:
-                joiners[direction] = _Joiner(direction, part_size, bool(any))
+                joiners[direction] = _Joiner(direction, part_size, any)
             yield from joiners[direction].take(message)
     rest = [it for joiner in joiners.values() for it in joiner.rest()]
-    _refuse_size(joiners.values(), part_size, rest)
+    _refuse_size([it.counts for it in joiners.values()], part_size, rest)
     yield from rest
 
 
-def _refuse_size(joiners: Iterable[_Joiner], part_size: int, found: list[Joined]) -> None:
+@dataclass
+class _Counts:
+    """How many parts came that aren't last ones, and how many that aren't read; and the part size
+    by which the first of these would be."""
+
+    fitting: int = 0
+    unread: int = 0
+    size: Optional[int] = None
+
+
+def _refuse_size(counts: Iterable[_Counts], part_size: int, found: list[Joined]) -> None:
     """Raises `NotJoined` if parts came, and none fits this size but last ones."""
-    unread = sum(it.unread for it in joiners)
-    if unread and not sum(it.fitting for it in joiners):
-        sizes = {it.size for it in joiners if it.size is not None}
+    unread = sum(it.unread for it in counts)
+    if unread and not sum(it.fitting for it in counts):
+        sizes = {it.size for it in counts if it.size is not None}
         other = f", but part_size={min(sizes)}" if sizes else ""
         raise NotJoined(f"{unread} parts don't fit part_size={part_size}{other}", found)
 
@@ -173,6 +201,17 @@ def _other_end(message: Union[Telecommand, Telemetry]) -> int:
     return message.source if isinstance(message, Telecommand) else message.destination
 
 
+def _fault_of(direction: Direction, any: bool, message: bytes) -> Optional[Fault]:
+    """Why what was joined isn't a packet of its direction; None if it is, or needn't be."""
+    if any:
+        return None
+    try:
+        is_fit = read_packet(message).kind is _KINDS[direction]
+    except Fault as fault:
+        return fault.with_traceback(None)
+    return None if is_fit else WrongType()
+
+
 class _Joiner:
     """The parts of a direction, by their names."""
 
@@ -181,25 +220,33 @@ class _Joiner:
         self.part_size = part_size
         self.any = any
         self.courses: dict[Name, Course] = {}
-        # How many parts came that aren't last ones, and how many that aren't read; and the part
-        # size by which the first of these would be.
-        self.fitting = self.unread = 0
-        self.size: Optional[int] = None
+        self.counts = _Counts()
 
     def take(self, message: Union[Telecommand, Telemetry]) -> Iterator[Joined]:
         """Takes a message that should be a part: what comes of it."""
+        part = self.part_in(message)
+        if part is not None:
+            yield from self.add(*part)
+
+    def part_in(self, message: Union[Telecommand, Telemetry]) -> Optional[tuple[Name, Kept]]:
+        """The part of a message that should be one, with its name; None if it isn't read."""
         try:
             part = part_of(message, self.part_size)
         except Fault:
             self._note_unread(message)
-            return
+            return None
         assert part is not None
         is_last = part.kind is PartKind.LAST
-        self.fitting += not is_last
+        self.counts.fitting += not is_last
         name = Name(_other_end(message), part.id)
+        return name, Kept(part.number, is_last, bytes(part.octets))
+
+    def add(self, name: Name, part: Kept) -> Iterator[Joined]:
+        """Takes a part of this name: what comes of it."""
         if name not in self.courses:
-            self.courses[name] = Course(self.part_size, self._fault_of)
-        news = self.courses[name].take(Kept(part.number, is_last, bytes(part.octets)))
+            judge = functools.partial(_fault_of, self.direction, self.any)
+            self.courses[name] = Course(self.part_size, judge)
+        news = self.courses[name].take(part)
         if news is not None:
             yield from self._told(name, news)
 
@@ -222,20 +269,10 @@ class _Joiner:
         """Parts of a message that isn't whole."""
         return Joined(self.direction, name, None, parts.missing(), is_contradicted)
 
-    def _fault_of(self, message: bytes) -> Optional[Fault]:
-        """Why what was joined isn't a packet of its direction; None if it is, or needn't be."""
-        if self.any:
-            return None
-        try:
-            is_fit = read_packet(message).kind is _KINDS[self.direction]
-        except Fault as fault:
-            return fault.with_traceback(None)
-        return None if is_fit else WrongType()
-
     def _note_unread(self, message: Union[Telecommand, Telemetry]) -> None:
         """Notes a part that isn't read for the part size."""
-        self.unread += 1
+        self.counts.unread += 1
         size = len(message.body) - 4
         is_first = message.subtype == _SUBTYPES[self.direction][0]
-        if self.size is None and is_first and 4 <= size <= 1024:
-            self.size = size
+        if self.counts.size is None and is_first and 4 <= size <= 1024:
+            self.counts.size = size

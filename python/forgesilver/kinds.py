@@ -143,3 +143,39 @@ class AppliedKind(IntEnum):
     OPENED = 2
     SILENT = 3
     REFUSED = 4
+
+
+class JobKind(IntEnum):
+    """What a job asks of a memory."""
+
+    LOAD = 1
+    DUMP = 2
+    CHECK = 3
+
+
+class Step(IntEnum):
+    """What a job does next. From COMPLETED on it is at its end. COMPLETED: each request was carried
+    out, and a dump and a check answered. FAILED: each request is settled, and some failed.
+    GIVEN_UP: some are open, and as many waits in a row as `tries` says settled nothing. CUT_OFF:
+    some are open, and nothing more will come."""
+
+    SEND = 1
+    LISTEN = 2
+    COMPLETED = 3
+    FAILED = 4
+    GIVEN_UP = 5
+    CUT_OFF = 6
+
+    @property
+    def is_end(self) -> bool:
+        """Whether the job is at its end."""
+        return self >= Step.COMPLETED
+
+
+class FateState(IntEnum):
+    """What is known of a job's request. COMPLETED: it was carried out, and a dump and a check
+    answered."""
+
+    OPEN = 0
+    COMPLETED = 1
+    FAILED = 2

@@ -147,141 +147,423 @@ local function behind(layout)
     return layout.checksum and 2 or 0
 end
 
-local DAYS = {31, 29, 31, 30, 31, 30, 31, 31, 30, 31, 30, 31}
+-- TOML, the language of a layout's file. A value is {kind, value}, of the kinds below; a table has its values by
+-- their keys, and how it was made, which says who may add to it.
 
-local function is_day(value)
-    local year, month, day = tostring(value):match("^(%d%d%d%d)%-(%d%d)%-(%d%d)$")
+local FLAG, INTEGER, TEXT, DAY, TABLE, OTHER = "flag", "integer", "text", "day", "table", "other"
+local DAYS = {31, 29, 31, 30, 31, 30, 31, 31, 30, 31, 30, 31}
+local ESCAPES = {b = "\b", t = "\t", n = "\n", f = "\f", r = "\r", e = "\27", ['"'] = '"', ["\\"] = "\\"}
+local WIDTHS = {x = 2, u = 4, U = 8}
+
+local function is_day(text)
+    local year, month, day = text:match("^(%d%d%d%d)%-(%d%d)%-(%d%d)$")
     year, month, day = tonumber(year), tonumber(month), tonumber(day)
-    if not year or year < 1900 or not DAYS[month] or day < 1 or day > DAYS[month] then return false end
+    if not year or not DAYS[month] or day < 1 or day > DAYS[month] then return false end
     local is_leap = year % 4 == 0 and (year % 100 ~= 0 or year % 400 == 0)
     return is_leap or month ~= 2 or day < 29
 end
 
--- The octets of a time, and whether a code is named.
-local function time_size(value)
-    if type(value) == "number" and value >= 0 and value <= 16 then return value, false end
-    if type(value) ~= "string" then return end
-    local code, preamble = value:match("^(.-)( ?p?)$")
-    if preamble ~= " p" then code, preamble = value, "" end
-    local front = preamble == "" and 0 or 1
-    local coarse, fine = code:match("^cuc ([1-4]) ([0-3])$")
-    if coarse then return front + coarse + fine, true end
-    local bits, unit = code:match("^cds (%d%d)( ?%l*)$")
-    local octets = ({[""] = 0, [" us"] = 2, [" ps"] = 4})[unit]
-    if not octets or bits ~= "16" and bits ~= "24" then return end
-    return front + bits / 8 + 4 + octets, true
+local function is_time(text)
+    local hour, minute, rest = text:match("^(%d%d):(%d%d)(.*)$")
+    if not hour or tonumber(hour) > 23 or tonumber(minute) > 59 then return false end
+    local second, parts = rest:match("^:(%d%d)(.*)$")
+    return rest == "" or second and tonumber(second) <= 60 and (parts == "" or parts:match("^%.%d+$") ~= nil)
 end
 
-local function one_of(...)
+local function is_moment(text)
+    local day, time = text:match("^([%d-]+)[Tt ](.+)$")
+    if not day then return is_time(text) end
+    local hours, minutes = time:match("[+-](%d%d):(%d%d)$")
+    if hours and (tonumber(hours) > 23 or tonumber(minutes) > 59) then return false end
+    return is_day(day) and is_time((time:gsub("[Zz]$", ""):gsub("[+-]%d%d:%d%d$", "")))
+end
+
+-- These digits, of which two may have an underscore between them, without underscores and zeros in front.
+local function digits_of(word, allowed)
+    if ("_" .. word):gsub("_" .. allowed, ""):gsub(allowed, "") ~= "" then return end
+    return (word:gsub("_", ""):gsub("^0+(.)", "%1"))
+end
+
+-- Digits by the letter of their radix: which there are, the radix, and the greatest of 63 bits.
+local RADIXES = {
+    x = {"%x", 16, "7" .. ("f"):rep(15)}, o = {"[0-7]", 8, ("7"):rep(21)}, b = {"[01]", 2, ("1"):rep(63)},
+    d = {"%d", 10, "9223372036854775807"},
+}
+
+local function integer_of(word)
+    local mark, sign, rest = word:match("^0([xob])(.+)$"), "", word:sub(3)
+    if not mark then
+        mark, sign, rest = "d", word:match("^([+-]?)(%d[%d_]*)$")
+        if not rest or rest:match("^0.") then return end
+    end
+    local allowed, radix, greatest = RADIXES[mark][1], RADIXES[mark][2], RADIXES[mark][3]
+    local digits = digits_of(rest, allowed)
+    if not digits or #digits > #greatest then return end
+    if #digits == #greatest and digits:lower() > greatest and sign .. digits ~= "-9223372036854775808" then return end
+    return tonumber(digits, radix) * (sign == "-" and -1 or 1)
+end
+
+local function is_float(word)
+    if word:match("^[+-]?inf$") or word:match("^[+-]?nan$") then return true end
+    local whole, rest = word:match("^[+-]?(%d[%d_]*)(.+)$")
+    if not whole or whole:match("^0.") or not digits_of(whole, "%d") then return false end
+    local fraction, power = rest:match("^%.([%d_]+)(.*)$")
+    if fraction and not digits_of(fraction, "%d") then return false end
+    power = (fraction and power or rest):match("^[eE][+-]?([%d_]+)$")
+    return (power ~= nil and digits_of(power, "%d") ~= nil) or (fraction ~= nil and rest == "." .. fraction)
+end
+
+local function plain_value(word)
+    if word == "true" or word == "false" then return {FLAG, word == "true"} end
+    local number = integer_of(word)
+    if number then return {INTEGER, number} end
+    if is_day(word) then return {DAY, word} end
+    if is_float(word) or is_moment(word) then return {OTHER} end
+end
+
+-- A reader of this text, at a place that it moves on; what it can't read is an error of that place.
+local function toml_reader(text)
+    local it = {at = 1}
+
+    function it.refuse() error({at = it.at}, 0) end
+
+    -- What stands here by a pattern, which is passed.
+    function it.take(pattern)
+        local from, to, found = text:find("^" .. pattern, it.at)
+        if not from then return end
+        it.at = to + 1
+        return found or text:sub(from, to)
+    end
+
+    function it.sees(pattern) return text:find("^" .. pattern, it.at) ~= nil end
+
+    function it.need(pattern) return it.take(pattern) or it.refuse() end
+
+    function it.is_end() return it.at > #text end
+
+    function it.blanks() it.take("[ \t]*") end
+
+    -- What may stand at a line's end, and the end.
+    function it.line_end()
+        it.blanks()
+        it.take("#[^\n\r%z\1-\8\11\12\14-\31\127]*")
+        if not it.is_end() and not it.take("\r?\n") then it.refuse() end
+    end
+
+    -- Blanks, comments and ends of lines.
+    function it.gap()
+        it.blanks()
+        while it.sees("[#\r\n]") do
+            it.line_end()
+            it.blanks()
+        end
+    end
+
+    return it
+end
+
+-- The character of an escape behind its backslash; those beyond ASCII are all one, as none is in a word that is known.
+local function escaped(it)
+    local mark = it.need("([btnfre\"\\xuU])")
+    if ESCAPES[mark] then return ESCAPES[mark] end
+    local number = tonumber(it.need("(" .. ("%x"):rep(WIDTHS[mark]) .. ")"), 16)
+    if number > 0x10FFFF or number >= 0xD800 and number < 0xE000 then it.refuse() end
+    return number < 128 and string.char(number) or "?"
+end
+
+-- A text of one line, or of several.
+local function text_in(it)
+    local mark = it.take('"""') or it.take("'''")
+    local is_long = mark ~= nil
+    mark = mark or it.take('"') or it.take("'")
+    if not mark then return end
+    local quote, found = mark:sub(1, 1), {}
+    if is_long then it.take("\r?\n") end
+    while true do
+        if is_long then
+            local marks = it.take(quote:rep(3) .. quote .. "?" .. quote .. "?")
+            if marks then
+                found[#found + 1] = marks:sub(4)
+                return table.concat(found)
+            end
+        elseif it.take(quote) then
+            return table.concat(found)
+        end
+        if quote == '"' and it.take("\\") then
+            if not (is_long and it.take("[ \t]*\r?\n[ \t\r\n]*")) then found[#found + 1] = escaped(it) end
+        else
+            found[#found + 1] = is_long and it.take("\r?\n") or it.need("([^\n\r%z\1-\8\11\12\14-\31\127])")
+        end
+    end
+end
+
+-- The names of a key, as `telemetry.time`.
+local function names_in(it)
+    local names = {}
+    repeat
+        it.blanks()
+        if it.sees('"""') or it.sees("'''") then it.refuse() end
+        names[#names + 1] = text_in(it) or it.need("[%w_-]+")
+        it.blanks()
+    until not it.take("%.")
+    return names
+end
+
+-- The table of this name within another, made if there is none.
+local function table_in(it, within, name, made)
+    local found = within.values[name]
+    if not found then
+        found = {TABLE, values = {}, made = made}
+        within.values[name] = found
+    end
+    if found.items and made == "implied" then found = found.items[#found.items] end
+    if found[1] ~= TABLE or found.made == "closed" then it.refuse() end
+    return found
+end
+
+local value_in
+
+-- Sets the key that stands here in this table to the value behind it.
+local function pair_in(it, within)
+    local at = it.at
+    local names = names_in(it)
+    it.need("=")
+    it.blanks()
+    local value, after = value_in(it), it.at
+    it.at = at
+    for number = 1, #names - 1 do
+        within = table_in(it, within, names[number], "dotted")
+        if within.made ~= "dotted" then it.refuse() end
+    end
+    if within.values[names[#names]] then it.refuse() end
+    it.at = after
+    within.values[names[#names]] = value
+end
+
+local function closed(value)
+    for _, it in pairs(value.values or {}) do closed(it) end
+    value.made = "closed"
+    return value
+end
+
+-- Reads what is between brackets, with commas between them, up to the one that closes.
+local function each_in(it, close, read)
+    it.gap()
+    while not it.take(close) do
+        read()
+        it.gap()
+        if not it.take(",") and not it.sees(close) then it.refuse() end
+        it.gap()
+    end
+end
+
+function value_in(it)
+    local text = text_in(it)
+    if text then return {TEXT, text} end
+    if it.take("%[") then
+        each_in(it, "%]", function() value_in(it) end)
+        return {OTHER}
+    end
+    if it.take("{") then
+        local found = {TABLE, values = {}}
+        each_in(it, "}", function() pair_in(it, found) end)
+        return closed(found)
+    end
+    local at = it.at
+    local word = it.take("%d%d%d%d%-%d%d%-%d%d %d%d:[%w+:.-]*") or it.need("[%w+_:.-]+")
+    local value = plain_value(word)
+    if not value then
+        it.at = at
+        it.refuse()
+    end
+    return value
+end
+
+-- The table that a header names, which no other header named.
+local function header_in(it, root)
+    local is_item = it.take("%[") ~= nil
+    local names, within = names_in(it), root
+    it.need(is_item and "%]%]" or "%]")
+    for at = 1, #names - 1 do
+        within = table_in(it, within, names[at], "implied")
+    end
+    local name = names[#names]
+    local found = within.values[name]
+    if is_item then
+        if found and not found.items then it.refuse() end
+        found = found or {OTHER, items = {}}
+        within.values[name] = found
+        found.items[#found.items + 1] = {TABLE, values = {}, made = "named"}
+        return found.items[#found.items]
+    end
+    if found and found.made ~= "implied" then it.refuse() end
+    found = found or {TABLE, values = {}}
+    found.made, within.values[name] = "named", found
+    return found
+end
+
+-- The table of a text.
+local function toml_in(it)
+    local root = {TABLE, values = {}, made = "named"}
+    local now = root
+    it.take("\239\187\191")
+    while not it.is_end() do
+        it.blanks()
+        if it.take("%[") then
+            now = header_in(it, root)
+        elseif not it.is_end() and not it.sees("[#\r\n]") then
+            pair_in(it, now)
+        end
+        it.line_end()
+    end
+    return root
+end
+
+-- What the values of keys are: an error's words, or the value. Each takes a value of TOML.
+
+local function bits_of(words, ...)
     local known = {...}
     return function(value)
         for _, it in ipairs(known) do
-            if it == value then return value end
+            if value[1] == INTEGER and value[2] == it then return it end
         end
+        return nil, words
     end
 end
 
 local function from_to(least, most)
     return function(value)
-        return type(value) == "number" and value >= least and value <= most and value or nil
+        if value[1] ~= INTEGER then return nil, "not an integer" end
+        if value[2] >= least and value[2] <= most then return value[2] end
+        return nil, "not from " .. least .. " to " .. most
     end
 end
 
--- What a key may be, what its values are, where it isn't one of them, and which field of a layout it is.
-local HEADER_BITS, PART_BITS = {one_of(0, 8, 16), "not 0, 8 or 16"}, {one_of(16, 32), "neither 16 nor 32"}
+local function flag_of(value)
+    if value[1] == FLAG then return value[2] end
+    return nil, "neither true nor false"
+end
+
+-- The octets of a time, and whether a code is named.
+local function time_size(value)
+    if value[1] == INTEGER and value[2] >= 0 and value[2] <= 16 then return value[2], false end
+    local code, preamble = (value[1] == TEXT and value[2] or ""):match("^(.-)( ?p?)$")
+    if preamble ~= " p" then code, preamble = value[1] == TEXT and value[2] or "", "" end
+    local front = preamble == "" and 0 or 1
+    local coarse, fine = code:match("^cuc ([1-4]) ([0-3])$")
+    if coarse then return front + coarse + fine, true end
+    local bits, unit = code:match("^cds (%d%d)(.*)$")
+    local octets = ({[""] = 0, [" us"] = 2, [" ps"] = 4})[unit]
+    if octets and (bits == "16" or bits == "24") then return front + bits / 8 + 4 + octets, true end
+    return nil, 'neither 0 to 16 octets nor a code such as "cuc 4 3"'
+end
+
+local function day_of(value)
+    if (value[1] == DAY or value[1] == TEXT) and is_day(value[2]) and value[2] >= "1900" then return value[2] end
+    return nil, "not a day from 1900-01-01 to 9999-12-31"
+end
+
+-- The keys of each table in the order in which they are judged: what their values are, and which field of a layout.
+local HEADER_BITS, PART_BITS = bits_of("not 0, 8 or 16", 0, 8, 16), bits_of("neither 16 nor 32", 16, 32)
+local COMMON = {
+    {"spare", from_to(0, 255), "spare"}, {"transaction_id", PART_BITS, "id"}, {"part_number", PART_BITS, "number"},
+    {"part_size", from_to(1, 65535), "part_size"},
+}
 local KEYS = {
-    {"checksum", one_of(true, false), "neither true nor false", "checksum"},
-    {"version", from_to(1, 2), "not from 1 to 2", "version"},
-    {"counter", HEADER_BITS[1], HEADER_BITS[2], "counter", 0}, {"destination", HEADER_BITS[1], HEADER_BITS[2], "user", 0},
-    {"source", HEADER_BITS[1], HEADER_BITS[2], "user", 1},
-    {"time", time_size, 'neither 0 to 16 octets nor a code such as "cuc 4 3"', "time", 0},
-    {"epoch", function(value) return is_day(value) and value or nil end, "not a day from 1900-01-01 to 9999-12-31", "epoch", 0},
-    {"spare", from_to(0, 255), "not from 0 to 255", "spare"},
-    {"transaction_id", PART_BITS[1], PART_BITS[2], "id"}, {"part_number", PART_BITS[1], PART_BITS[2], "number"},
-    {"part_size", from_to(1, 65535), "not from 1 to 65535", "part_size"},
+    [0] = {
+        {"checksum", flag_of, "checksum"}, {"version", from_to(1, 2), "version"},
+        {"counter", HEADER_BITS, "counter"}, {"destination", HEADER_BITS, "user"}, {"time", time_size, "time"},
+        {"epoch", day_of, "epoch"}, (table.unpack or unpack)(COMMON),
+    },
+    {
+        {"checksum", flag_of, "checksum"}, {"version", from_to(1, 2), "version"}, {"source", HEADER_BITS, "user"},
+        (table.unpack or unpack)(COMMON),
+    },
 }
 
--- The value that a text is, and what stands behind it. A day stays a text.
-local function value_in(text)
-    local found, rest = text:match('^"([^"\\%c]*)"(.*)$')
-    if not found then found, rest = text:match("^'([^'%c]*)'(.*)$") end
-    if found then return found, rest end
-    found, rest = text:match("^([^%s#]+)(.*)$")
-    if not found then return end
-    if found == "true" or found == "false" then return found == "true", rest end
-    if found:match("^%d%d%d%d%-%d%d%-%d%d$") then return found, rest end
-    local digits = found:gsub("(%x)_(%x)", "%1%2"):gsub("(%x)_(%x)", "%1%2")
-    local sign, whole = digits:match("^([+-]?)(%d+)$")
-    if whole and (whole == "0" or not whole:match("^0")) then return tonumber(sign:gsub("+", "") .. whole), rest end
-    local radix, others = digits:match("^0([xob])(%x+)$")
-    if radix then return tonumber(others, ({x = 16, o = 8, b = 2})[radix]), rest end
-    -- Another number, or a date with a time: of no key's type.
-    if found:match("^[+-]?%d[%d:.eETZ+-]*$") then return {}, rest end
-end
-
--- A line of a layout file: the parts of the key's name, and its value. Nothing of a line that isn't read here.
-local function pair_in(line)
-    local key, text = line:match("^%s*([%w_.%-\"' ]-)%s*=%s*(.-)%s*$")
-    if not key then return end
-    local names = {}
-    for name in (key .. "."):gmatch("%s*(.-)%s*%.") do
-        names[#names + 1] = name:match('^"([%w_-]+)"$') or name:match("^'([%w_-]+)'$") or name:match("^[%w_-]+$")
-    end
-    local value, rest = value_in(text)
-    if value == nil or not rest:match("^%s*$") and not rest:match("^%s*#") then return end
-    return names, value
-end
-
-local TABLES = {telemetry = 0, telecommands = 1}
-
--- The values of a layout file's tables, each with its line; or why they aren't read.
-local function tables_in(text)
-    local found, lines, table_now, number = {}, {}, nil, 0
-    for line in (text .. "\n"):gmatch("(.-)\r?\n") do
+-- The line with which a key of this table begins, or the table; of the whole file, if no table is given.
+local function line_of(text, name, key)
+    local number, found, is_top = 0, nil, true
+    for line in text:gmatch("([^\n]*)\n?") do
         number = number + 1
-        local name = line:match("^%s*%[%s*([%w_-]+)%s*%]%s*$") or line:match("^%s*%[%s*([%w_-]+)%s*%]%s*#")
-        local names, value
-        if name then
-            if found[name] then return nil, number .. ": " .. name .. " is there already" end
-            if not TABLES[name] then return nil, number .. ": " .. name .. ": no such key" end
-            found[name], lines[name], table_now = {}, {}, name
-        elseif not line:match("^%s*$") and not line:match("^%s*#") then
-            names, value = pair_in(line)
-            if not names then return nil, number .. ": not a key with a value, as this reader takes them" end
-            if table_now then table.insert(names, 1, table_now) end
-            local place, key = names[1], names[2]
-            if not TABLES[place] then return nil, number .. ": " .. tostring(place) .. ": no such key" end
-            if #names ~= 2 then return nil, number .. ": " .. place .. ": not a table" end
-            found[place], lines[place] = found[place] or {}, lines[place] or {}
-            if found[place][key] ~= nil then return nil, number .. ": " .. key .. " is there already" end
-            found[place][key], lines[place][key] = value, number
+        local is_header, first = line:match("^[ \t]*%[") ~= nil, line:match("^[ \t%[\"']*([%w_-]*)")
+        is_top = is_top and not is_header
+        if not name then
+            if (is_top or is_header) and first == key then return number end
+        elseif is_header then
+            if found then return found end
+            if first == name then found = number end
+        elseif found and first == key or not found and first == name then
+            return number
         end
     end
-    return found, lines
+    return found
 end
 
--- The layouts that a text says, or why it is refused, with the line.
+-- The first key, in the order of names, that is none of these.
+local function unknown_in(values, known)
+    local names, first = {}, nil
+    for _, it in ipairs(known) do names[it[1]] = true end
+    for name in pairs(values) do
+        if not names[name] and (not first or name < first) then first = name end
+    end
+    return first
+end
+
+-- Reads the table of a direction into its layout: the key that is wrong and why, if one is.
+local function layout_in(values, way, layout)
+    local unknown = unknown_in(values, KEYS[way])
+    if unknown then return unknown, "no such key" end
+    for _, it in ipairs(KEYS[way]) do
+        local key, read, field = it[1], it[2], it[3]
+        if values[key] then
+            if key == "epoch" and not layout.is_code then return key, "means something only where time names a code" end
+            local value, more = read(values[key])
+            if value == nil then return key, more end
+            layout[field] = value
+            if key == "time" then layout.is_code = more end
+        end
+    end
+end
+
+local TABLES = {{"telemetry", 0}, {"telecommands", 1}}
+
+-- The first octet of a text that isn't UTF-8.
+local SEQUENCES = {
+    "[%z\1-\127]+", "[\194-\223][\128-\191]", "\224[\160-\191][\128-\191]", "\237[\128-\159][\128-\191]",
+    "[\225-\236\238\239][\128-\191][\128-\191]", "\240[\144-\191][\128-\191][\128-\191]",
+    "[\241-\243][\128-\191][\128-\191][\128-\191]", "\244[\128-\143][\128-\191][\128-\191]",
+}
+
+local function octet_refused(text)
+    local at = 1
+    while at <= #text do
+        local to
+        for _, it in ipairs(SEQUENCES) do to = to or select(2, text:find("^" .. it, at)) end
+        if not to then return at end
+        at = to + 1
+    end
+end
+
+-- The layouts that a text says; or the line for which it is refused, if one begins with what is wrong, and why.
 local function layouts_in(text)
-    local found, lines = tables_in(text)
-    if not found then return nil, lines end
-    local made = own_layouts()
-    for name, values in pairs(found) do
-        local way, left = TABLES[name], {}
-        for key in pairs(values) do left[key] = true end
-        for _, it in ipairs(KEYS) do
-            local key, read, why, field, only = it[1], it[2], it[3], it[4], it[5]
-            if values[key] ~= nil and (only == nil or only == way) then
-                local value, is_code = read(values[key])
-                if value == nil then return nil, lines[name][key] .. ": " .. name .. ": " .. key .. ": " .. why end
-                made[way][field], left[key] = value, nil
-                if key == "time" then made[way].is_code = is_code end
-            end
-        end
-        local key = next(left)
-        if key then return nil, lines[name][key] .. ": " .. name .. ": " .. key .. ": no such key" end
-        if made[way].epoch and not made[way].is_code then
-            return nil, lines[name].epoch .. ": " .. name .. ": epoch: means something only where time names a code"
-        end
+    local octet = octet_refused(text)
+    if octet then return nil, nil, "octet " .. octet .. " isn't UTF-8" end
+    local reader, made = toml_reader(text), own_layouts()
+    local is_read, root = pcall(toml_in, reader)
+    if not is_read then
+        local at = type(root) == "table" and root.at or error(root, 0)
+        local _, lines = text:sub(1, at - 1):gsub("\n", "")
+        return nil, lines + 1, "not TOML"
+    end
+    local unknown = unknown_in(root.values, TABLES)
+    if unknown then return nil, line_of(text, nil, unknown), (unknown ~= "" and unknown .. ": " or "") .. "no such key" end
+    for _, it in ipairs(TABLES) do
+        local name, way = it[1], it[2]
+        local found = root.values[name]
+        if found and found[1] ~= TABLE then return nil, line_of(text, nil, name), name .. ": not a table" end
+        local key, why = layout_in(found and found.values or {}, way, made[way])
+        if key then return nil, line_of(text, name, key), name .. ": " .. (key ~= "" and key .. ": " or "") .. why end
     end
     made.is_tailored = true
     return made
@@ -292,15 +574,15 @@ local function read_layouts()
     local path = pus.prefs.layout
     layouts, refusal = own_layouts(), nil
     if path == "" then return end
-    local file, why = io.open(path, "rb")
+    local file, fault = io.open(path, "rb")
     local text = file and file:read("*a")
     if file then file:close() end
     if not text then
-        refusal = path .. ": " .. (why or "not read")
+        refusal = path .. ": " .. (fault or "not read")
         return
     end
-    local made, fault = layouts_in(text)
-    if made then layouts = made else refusal = path .. ":" .. fault end
+    local made, line, why = layouts_in(text)
+    if made then layouts = made else refusal = path .. (line and ":" .. line or "") .. ": " .. why end
 end
 
 -- The checksum: a register of 16 ones, into which octets are shifted by x^16 + x^12 + x^5 + 1.
@@ -325,13 +607,17 @@ local function checksum_of(octets)
     return register
 end
 
+local function is_idle(octets)
+    return octets:byte(1) % 8 * 256 + octets:byte(2) == IDLE_APID
+end
+
 -- The first test that these octets fail as a packet.
 local function fault_of(octets)
     if #octets < 7 then return SHORT end
-    local one, two, three, _, five, six = octets:byte(1, 6)
+    local one, _, three, _, five, six = octets:byte(1, 6)
     if one >= 0x20 then return VERSION end
     if #octets ~= 7 + five * 256 + six then return LENGTH end
-    if one % 8 * 256 + two == IDLE_APID then return end
+    if is_idle(octets) then return end
     if three < 0xC0 then return SEGMENTED end
     if one % 16 < 8 then return NO_SECONDARY end
     if not layouts[math.floor(one / 16) % 2].checksum then return end
@@ -339,20 +625,88 @@ local function fault_of(octets)
     if #octets < 8 or checksum_of(octets:sub(1, -3)) ~= high * 256 + low then return CHECKSUM end
 end
 
--- The octets of the packet that begins here, and the first test that they fail.
-local function front(rest)
-    local length = rest:len() < 7 and rest:len() or 7 + rest(4, 2):uint()
-    local octets = length < rest:len() and rest(0, length) or rest
-    return octets, fault_of(octets:raw())
+-- How a record is cut into packets, as `lpt list` cuts a stream. A cut has the record's octets, and what a search
+-- for a packet keeps of them.
+
+-- The octets of the packet that begins here, as its header says; nothing if as many aren't there.
+local function framed(cut, at)
+    local octets = cut.octets
+    if #octets < at + 6 then return end
+    local high, low = octets:byte(at + 4, at + 5)
+    local last = at + 6 + high * 256 + low
+    return last <= #octets and octets:sub(at, last) or nil
+end
+
+-- Two registers multiplied, as what a register is of so many zeros by X is that of one.
+local function times(one, other)
+    local product = 0
+    for _ = 1, 16 do
+        product = product * 2
+        product = product < 0x10000 and product or xor(product, 0x11021)
+        if one >= 0x8000 then product = xor(product, other) end
+        one = one * 2 % 0x10000
+    end
+    return product
+end
+
+-- For each number of octets the register of all so far, and the power of x by which a register is moved over them.
+local function registers_of(octets)
+    local registers, powers, register, power = {[0] = 0xFFFF}, {[0] = 1}, 0xFFFF, 1
+    for at = 1, #octets do
+        register = xor(register % 256 * 256, SHIFTED[xor(math.floor(register / 256), octets:byte(at))])
+        power = xor(power % 256 * 256, SHIFTED[math.floor(power / 256)])
+        registers[at], powers[at] = register, power
+    end
+    return registers, powers
+end
+
+-- Whether a packet with a right checksum and a secondary header begins here. The checksums of a record take
+-- so no longer than its octets, whatever they are.
+local function is_sealed_at(cut, at)
+    local octets = cut.octets
+    if #octets < at + 7 then return false end
+    local one, two, three, _, high, low = octets:byte(at, at + 5)
+    local last = at + 6 + high * 256 + low
+    local is_fit = one < 0x20 and one % 16 >= 8 and three >= 0xC0 and one % 8 * 256 + two ~= IDLE_APID
+    if not is_fit or last > #octets or last < at + 7 then return false end
+    if not cut.registers then cut.registers, cut.powers = registers_of(octets) end
+    local before = xor(cut.registers[at - 1], 0xFFFF)
+    return times(before, cut.powers[last - at + 1]) == cut.registers[last]
+end
+
+-- Whether octets in step that fail this test are a packet all the same: its flags alone are why.
+local function is_of_flags(octets, fault)
+    if fault ~= SEGMENTED and fault ~= NO_SECONDARY or #octets < 8 then return false end
+    local high, low = octets:byte(-2, -1)
+    return checksum_of(octets:sub(1, -3)) == high * 256 + low
+end
+
+-- Where the next packet begins behind octets that are none, or the record ends.
+local function next_sealed(cut, at)
+    if not cut.is_sealed then return #cut.octets + 1 end
+    repeat at = at + 1 until at > #cut.octets or is_sealed_at(cut, at)
+    return at
+end
+
+-- The place behind the piece that begins here, the first test that it fails as a packet, and whether it is what a
+-- header says is one, or octets up to the next packet.
+local function piece(cut, at)
+    local octets = framed(cut, at)
+    local fault = fault_of(octets or cut.octets:sub(at))
+    if not fault then return at + #octets, nil, true end
+    local after = at + #(octets or "")
+    local is_piece = octets and (cut.is_sealed and (is_of_flags(octets, fault) or after > #cut.octets
+        or is_sealed_at(cut, after)) or not cut.is_sealed and fault ~= VERSION)
+    return is_piece and after or next_sealed(cut, at), fault, is_piece
 end
 
 -- Why joined octets are no packet of their direction; nothing of one that is.
 local function misfit(octets, is_up)
     local fault = fault_of(octets)
     if fault then return "no packet: fault " .. fault .. " " .. FAULTS[fault] end
-    local one, two = octets:byte(1, 2)
+    local one = octets:byte(1)
     local is_other = (math.floor(one / 16) % 2 == 1) ~= is_up
-    if is_other or one % 8 * 256 + two == IDLE_APID then return "no packet of its direction" end
+    if is_other or is_idle(octets) then return "no packet of its direction" end
 end
 
 -- Parts of one message, by their numbers.
@@ -599,11 +953,12 @@ local function part_fault(kind, body, layout)
     if body:len() < start then return SHORT_PART end
     local number, length = body(at, width):uint(), body:len() - start
     local size = layouts.is_tailored and (layout.part_size or 0) or lpt.prefs.part_size
+    -- A part of any size is taken as the one of its message.
+    if size == 0 then size = length end
     if number == 0 then return ZERO end
     if (kind == 1) ~= (number == 1) then return KIND_NUMBER end
-    local is_size = size == 0 or length == size or kind == LAST and length < size
-    local before = (number - 1) * (kind == LAST and size or length)
-    if length == 0 or not is_size or before + length > LONGEST then return PART_LENGTH end
+    local is_size = length == size or kind == LAST and length < size
+    if length == 0 or not is_size or (number - 1) * size + length > LONGEST then return PART_LENGTH end
 end
 
 -- What bodies are. Each function shows one, and says it in a few words.
@@ -732,6 +1087,17 @@ local BODIES = {
     ["TM[13,16]"] = abort_body,
 }
 
+-- A body of these that has no octets isn't read.
+local function show_no_body(title, tree)
+    local fault = title == "TM[13,16]" and ABORT_BODY or title:match("%[13,") and SHORT_PART
+    if fault then
+        tree:add(m.fault, fault):set_generated()
+        tree:add_proto_expert_info(x.unread, "There is no body: " .. FAULTS[fault])
+    else
+        tree:add_proto_expert_info(e.unread, "There is no body")
+    end
+end
+
 -- Headers.
 
 local function primary_header(octets, tree)
@@ -789,7 +1155,10 @@ local function data_field(field, head, tree, at)
     local title = string.format("%s[%d,%d]", is_command and "TC" or "TM", field(1, 1):uint(), field(2, 1):uint())
     tree:append_text(", " .. title)
     local read = BODIES[title]
-    if field:len() == size then return title .. (read and ", no body" or "") end
+    if field:len() == size then
+        if read and not head.fault then show_no_body(title, tree) end
+        return title .. (read and ", no body" or "")
+    end
     local body = field(size)
     if not read then
         tree:add(p.body, body)
@@ -799,13 +1168,14 @@ local function data_field(field, head, tree, at)
 end
 
 -- Shows a packet, or octets that fail this test of one, and says what they are. `at` is where they stand: the
--- frame, the root of its tree and the packet's number there; or a message that was joined.
+-- frame, the root of its tree and the packet's number there, and whether its header says where it ends; or a message
+-- that was joined.
 function packet(octets, fault, at)
     local tree = at.root:add(pus, octets)
     if at.is_joined then tree:append_text(", joined") end
     tree:add(p.length, octets:len()):set_generated()
     local head = octets:len() >= 7 and primary_header(octets, tree)
-    if fault and fault ~= CHECKSUM then return show_fault(fault, tree) end
+    if fault and (fault ~= CHECKSUM or not at.is_piece) then return show_fault(fault, tree) end
     if head.apid == IDLE_APID then
         tree:add(p.idle, true):set_generated()
         return "idle packet"
@@ -829,16 +1199,18 @@ end
 -- The packets of a record or of a datagram.
 function pus.dissector(tvb, pinfo, root)
     pinfo.cols.protocol = "PUS"
-    local rest, said = tvb:len() > 0 and tvb() or nil, {}
+    local said, at = {}, 1
+    local cut = {octets = tvb:raw(), is_sealed = layouts[0].checksum and layouts[1].checksum}
     if refusal then
         root:add(pus, tvb()):add_proto_expert_info(e.layout, "The layout isn't read: " .. refusal)
         pinfo.cols.info = "layout refused: " .. refusal
         return tvb:len()
     end
-    while rest do
-        local octets, fault = front(rest)
-        said[#said + 1] = packet(octets, fault, {pinfo = pinfo, root = root, number = #said})
-        rest = octets:len() < rest:len() and rest(octets:len()) or nil
+    while at <= #cut.octets do
+        local after, fault, is_piece = piece(cut, at)
+        local where = {pinfo = pinfo, root = root, number = #said, is_piece = is_piece}
+        said[#said + 1] = packet(tvb(at - 1, after - at), fault, where)
+        at = after
     end
     pinfo.cols.info = table.concat(said, "; ")
     return tvb:len()
