@@ -16,10 +16,12 @@ from typing import NamedTuple
 TOP = pathlib.Path(__file__).resolve().parent.parent
 HELPS = TOP / "docs/help"
 PAGE = TOP / "man/lpt.1"
-# What helps don't say: which options a command needs, which may be given again, and which exclude each other.
+# What helps don't say: which options a command needs, which may be given again, which exclude each other, and of
+# which of these one is needed.
 NEEDED = {"ground dump": ["to"], "pass dump": ["to"]}
 REPEATED = ["parts", "memory", "area"]
-EITHER = [("json", "open"), ("tick-every", "tick"), ("source", "passes")]
+EITHER = [("json", "open"), ("tick-every", "tick")]
+ONE_OF = [("source", "passes")]
 VALUES = r"\[possible values: ([^]]*)\]"
 ROW = re.compile(r"^ +(?:-\w, )?--([a-z-]+)((?: <[^>]+>)*)(?:  +(.*))?$", re.MULTILINE)
 SYNOPSIS = re.compile(r"(?<=^\.SH SYNOPSIS\n).*?(?=^\.SH )", re.MULTILINE | re.DOTALL)
@@ -89,6 +91,9 @@ def lines_of(name):
     options = options_of(name)
     for needed in NEEDED.get(name, []):
         yield options.pop(needed).marked()
+    for pair in ONE_OF:
+        if all(one in options for one in pair):
+            yield "{" + " | ".join(options.pop(one).marked() for one in pair) + "}"
     pairs = [it for it in EITHER if all(one in options for one in it)]
     others = {one: options.pop(other) for one, other in pairs}
     for one, option in options.items():
