@@ -1,6 +1,6 @@
 #!/usr/bin/env python3
-"""What the theorems assume that README's promise cites, as one list: `tools/assumptions.py` prints each
-assumption with the definition where it stands.
+"""What the theorems assume that README's promise cites, as one list, and what some other laws assume
+besides: `tools/assumptions.py` prints each assumption with the definition where it stands.
 
 An assumption stands in the comment above the definition that states it, behind `Assumed:`, as one
 sentence. Those of a theorem are the ones above the definitions that its premises reach."""
@@ -18,6 +18,12 @@ THEOREMS = [
     ("lpt_c_pair", "Programs", "ProgramsKeepTheirMemories"),
     ("lpt_c_pair", "Withheld", "EndsOfCWithholdNothing"),
     ("lpt_c_pair", "Withheld", "ProgramsWithholdNothing"),
+]
+
+# Those of laws that assume more.
+OTHERS = [
+    ("lpt_ground_moves", "Chains", "DoneLeavesTheImage"),
+    ("lpt_spacecraft_moves", "Lives", "GroundAndSpacecraftKeepThePromise"),
 ]
 
 HEAD = re.compile(r"^(?:abbrev |unfoldable )?pub (?:record |data )?([\w◌-]+)")
@@ -87,10 +93,10 @@ def assumed(comment):
     return re.findall(rf"{ASSUMED}([^.]*\.)", comment)
 
 
-def assumptions():
+def assumptions(theorems=THEOREMS):
     """Each assumption, with the definitions where it stands and the theorems whose it is."""
     found = {}
-    for theorem in THEOREMS:
+    for theorem in theorems:
         crate, path, name = theorem
         file = file_of(crate, path)
         waiting = list(file.reached((crate, path), premises(file.definitions[name][1])))
@@ -110,8 +116,19 @@ def assumptions():
     return found
 
 
+def besides():
+    """The assumptions of the other laws that README's theorems don't have, in the same form."""
+    known = assumptions()
+    return {sentence: it for sentence, it in assumptions(OTHERS).items() if sentence not in known}
+
+
+def law(name):
+    """The function whose contract is the statement of this name."""
+    return re.sub(r"(?<=.)(?=[A-Z])", "_", name).lower()
+
+
 if __name__ == "__main__":
-    for sentence, (places, whose) in assumptions().items():
+    for sentence, (places, whose) in (assumptions() | besides()).items():
         print(f"- {sentence}")
         for crate, path, name in places:
             print(f"    {crate}/specs/{path}: {name}")

@@ -71,8 +71,8 @@ moved c p (Free d name) = freed_by p d name
 -- A step can happen as before, but a name is retired where its receiver has freed it. A receiver
 -- frees a name where it is over.
 --
--- Assumed: A name is freed once its message is closed, no reception of it is open and no part of it
--- comes any more: first at its receiver, then at its sender.
+-- Assumed: A name is freed only when its message is closed, no reception of it is open and no part
+-- of it comes any more: first at its receiver, then at its sender.
 abbrev pub CanMove : Config → Pair → Move → Type 0
 CanMove c p (Do (Retire d name)) = IsEvent (event.Retire d name) × (p.freed d name ≡ true)
 CanMove c p (Do x) = CanHappen c p.ends x

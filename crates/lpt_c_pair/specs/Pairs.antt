@@ -75,7 +75,7 @@ pub record AreEndsOf (c : Config) (p : Pair) (on_ground on_craft : End) : Type 0
 -- also one that is free. An end is restored from its state, in place of the one that its program
 -- had.
 --
--- Assumed: A C program drops no request.
+-- Assumed: A C program drops no request, by `lpt_end_drop` or `lpt_end_drop_read`.
 pub data Call : Type 0 where
   Open : Name → (message : List ℕ) → Call
   Part : Name → (k : ℕ) → Call
@@ -150,7 +150,8 @@ moves side (ResumeSized config state sizes) = Do (step.Restart side) ∷ []
 -- what was kept of an end is this state, which reads as its restart, and these memories, in
 -- whatever order they are told; nothing happened at it since, and a number is left for a start
 --
--- Assumed: Memories, names and clocks survive a restart, and no restart falls within a call.
+-- Assumed: Memories, names and clocks survive a restart, and a call that a restart cuts short
+-- counts as not made.
 pub record IsKept (c : Config) (e : End) (config : Config) (state : List ℕ)
     (kept : Kept) : Type 0 where
   pub ticks : ℕ
