@@ -19,36 +19,36 @@ grounds_later x log m (inl a) = inl (suc a.0, a.1)
 grounds_later x log m (inr o) = inr (suc o.0, o.1, o.2)
 
 -- an awaited message was opened
-awaited_opened : (log : Log) (name : Name) (m : List ℕ)
-    → awaited log Up name ≡ Some m
-    → (k : ℕ) × (name : Name) × (slice_get log k ≡ Some (Opened Up name m))
-awaited_opened [] name m e = absurd cc
-awaited_opened (x ∷ log) name m e = go x refl e (awaited_opened log name m) where
-  later : (k : ℕ) × (name : Name) × (slice_get log k ≡ Some (Opened Up name m))
-      → (k : ℕ) × (name : Name) × (slice_get (x ∷ log) k ≡ Some (Opened Up name m))
+pub awaited_opened : (to : Direction) (log : Log) (name : Name) (m : List ℕ)
+    → awaited log to name ≡ Some m
+    → (k : ℕ) × (name : Name) × (slice_get log k ≡ Some (Opened to name m))
+awaited_opened to [] name m e = absurd cc
+awaited_opened to (x ∷ log) name m e = go x refl e (awaited_opened to log name m) where
+  later : (k : ℕ) × (name : Name) × (slice_get log k ≡ Some (Opened to name m))
+      → (k : ℕ) × (name : Name) × (slice_get (x ∷ log) k ≡ Some (Opened to name m))
   later it = (suc it.0, it.1, it.2)
 
   kept : (b : Bool)
-      → ◌≡◌ {A = Option (List ℕ)} (if b then None else awaited log Up name) (Some m)
-      → awaited log Up name ≡ Some m
+      → ◌≡◌ {A = Option (List ℕ)} (if b then None else awaited log to name) (Some m)
+      → awaited log to name ≡ Some m
   kept true k = absurd cc
   kept false k = k
 
   go : (y : Fact)
       → x ≡ y
-      → ◌≡◌ {A = Option (List ℕ)} (awaited (y ∷ log) Up name) (Some m)
-      → (awaited log Up name ≡ Some m
-      → (k : ℕ) × (name : Name) × (slice_get log k ≡ Some (Opened Up name m)))
-      → (k : ℕ) × (name : Name) × (slice_get (x ∷ log) k ≡ Some (Opened Up name m))
-  go (Opened d i n) is k rest = at (is_same d i Up name) refl k where
+      → ◌≡◌ {A = Option (List ℕ)} (awaited (y ∷ log) to name) (Some m)
+      → (awaited log to name ≡ Some m
+      → (k : ℕ) × (name : Name) × (slice_get log k ≡ Some (Opened to name m)))
+      → (k : ℕ) × (name : Name) × (slice_get (x ∷ log) k ≡ Some (Opened to name m))
+  go (Opened d i n) is k rest = at (is_same d i to name) refl k where
     at : (b : Bool)
-        → is_same d i Up name ≡ b
-        → ◌≡◌ {A = Option (List ℕ)} (if b then Some n else awaited log Up name) (Some m)
-        → (k : ℕ) × (name : Name) × (slice_get (x ∷ log) k ≡ Some (Opened Up name m))
+        → is_same d i to name ≡ b
+        → ◌≡◌ {A = Option (List ℕ)} (if b then Some n else awaited log to name) (Some m)
+        → (k : ℕ) × (name : Name) × (slice_get (x ∷ log) k ≡ Some (Opened to name m))
     at true t k =
         let same : n ≡ m = cc in
-        let way : d ≡ Up =
-        same_direction-true d Up (and_left (same_direction d Up) (same_name i name) t) in
+        let way : d ≡ to =
+        same_direction-true d to (and_left (same_direction d to) (same_name i name) t) in
         (0, i, ap Some is ∙ (λ j. Some (Opened (way j) i (same j))))
     at false t k = later (rest k)
   go (Asked b) is k rest = later (rest k)
@@ -66,7 +66,7 @@ released_grounds : (of : Option (Direction × Name)) (m : List ℕ) (log : Log)
 released_grounds None m log up due = inl (place_in log (Asked m) due)
 released_grounds (Some t) m log up due =
     let way : t.0 ≡ Up = same_direction-true t.0 Up up in
-    inr (awaited_opened log t.1 m (ap (λ d. awaited log d t.1) (sym way) ∙ due))
+    inr (awaited_opened Up log t.1 m (ap (λ d. awaited log d t.1) (sym way) ∙ due))
 
 -- ---- lists
 

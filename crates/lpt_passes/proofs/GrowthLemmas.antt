@@ -94,7 +94,8 @@ apply_grows e x =
     λ k m f. one_more Executed (with_report e.log x.0.1.opened) k m
     (report_grows e.log x.0.1.opened k m f)
 
-move_grows : (c : Config) (p : Pair) (x : Move) → Grows p.ends.log (moved c p x).ends.log
+-- whatever move comes
+pub move_grows : (c : Config) (p : Pair) (x : Move) → Grows p.ends.log (moved c p x).ends.log
 move_grows c p (Do (Open d name m)) = one_more (Opened d name m) p.ends.log
 move_grows c p (Do (Send Up name k)) = same p.ends.log
 move_grows c p (Do (Send Down name k)) = same p.ends.log

@@ -1,3 +1,4 @@
 pub mod AskedLemmas
+pub mod DumpLemmas
 pub mod GrowthLemmas
 pub mod PassLemmas

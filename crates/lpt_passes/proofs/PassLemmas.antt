@@ -26,12 +26,13 @@ use Rattle.lpt_apart.proofs.Moving.{apart, ends_apart_keep_the_promise}
 use Rattle.lpt_apart.proofs.Queues.{executed_told}
 use Rattle.lpt_reported.specs.Alone.{IsNamed}
 use Rattle.lpt_reported.specs.Images.{Stands}
+use Rattle.lpt_reported.specs.Reported.{WasDumped}
 use Rattle.lpt_reported.proofs.CarriedLemmas.{completed_was_executed, dumped_is_memory}
 use Rattle.lpt_reported.proofs.ImageLemmas.{pass_leaves_the_image, sizes_left}
 use Rattle.lpt_passes.specs.Asked.{IsOfGroundIn}
 use Rattle.lpt_passes.proofs.AskedLemmas.{executed_was_asked}
 use Rattle.lpt_passes.proofs.GrowthLemmas.{moves_grow, could_move}
-use Rattle.lpt_passes.specs.Passes.{IsExecutedIn, WasHeard, IsAloneIn, HeardDumpIsMemory, HeardWasExecuted, PassesLeaveTheImage}
+use Rattle.lpt_passes.specs.Passes.{IsDumpedIn, IsExecutedIn, WasHeard, IsAloneIn, HeardDumpIsMemory, HeardWasExecuted, PassesLeaveTheImage}
 
 -- what a list of functions of elements has at a place
 mapped : {A B : Type 0} (f : A → B) (xs : List A) (k : ℕ) (y : A)
@@ -107,24 +108,24 @@ mapped_front f zero xs = refl
 mapped_front f (suc n) [] = refl
 mapped_front f (suc n) (x ∷ xs) = ap (λ ys. f x ∷ ys) (mapped_front f n xs)
 
-pub heard_dump_is_memory : HeardDumpIsMemory
-heard_dump_is_memory c first xs to body good can hears =
-    let w = was_put c first xs hears.octets good can hears.on_the_way in
-    let h : History = recorded c first w.events in
-    let done = dumped_is_memory c first w.events w.number _ to body good w.legal w.put hears.is in
+-- what a world's journal has of a dump, a log that has the same executed has
+pub of_journal : (c : Config) (first : Contents) (h : History) (log : Log) (to : ℕ) (body : List ℕ)
+    → executed log ≡ map (λ r. r.message) (was_executed c h)
+    → WasDumped c first h to body
+    → IsDumpedIn c first log to body
+of_journal c first h log to body told done =
     let run = done.execution in
     let messages : List Release → List (List ℕ) = map (λ r. r.message) in
     let before : List Release = was_executed c (drop (suc run.number) h) in
-    let log : Log = (came_to c first xs).ends.log in
     let same : messages before ≡ take run.place (executed log) =
     ap messages run.so_far
     ∙ mapped_front (λ (r : Release). r.message) run.place (was_executed c h)
-    ∙ ap (λ ms. take run.place ms) (sym w.told) in
+    ∙ ap (λ ms. take run.place ms) (sym told) in
     record {
       place = run.place;
       message = done.release.message;
       is_executed =
-          ap (λ ms. slice_get ms run.place) w.told
+          ap (λ ms. slice_get ms run.place) told
           ∙ mapped (λ (r : Release). r.message) (was_executed c h) run.place done.release
           run.is_executed;
       of_source = done.of_source;
@@ -138,6 +139,12 @@ heard_dump_is_memory c first xs to body good can hears =
           done.is_body
           ∙ ap (λ ms. dump_body done.memory done.ranges (left_by c.apid ms first)) same;
     }
+
+pub heard_dump_is_memory : HeardDumpIsMemory
+heard_dump_is_memory c first xs to body good can hears =
+    let w = was_put c first xs hears.octets good can hears.on_the_way in
+    of_journal c first (recorded c first w.events) (came_to c first xs).ends.log to body w.told
+    (dumped_is_memory c first w.events w.number _ to body good w.legal w.put hears.is)
 
 -- what stands behind a place stands there in the rest
 behind : {A : Type 0} (n : ℕ) (xs : List A) (k : ℕ) (y : A)

@@ -12,9 +12,9 @@ use Rattle.lpt_events.specs.Configs.{IsConfig}
 use Rattle.lpt_events.specs.declared.config.Config.{Config}
 use Rattle.lpt_execution.specs.Reporting.{request_source}
 use Rattle.lpt_journal.specs.Jobs.{left_by}
-use Rattle.lpt_apart.specs.Facts.{Log, Opened, Asked, executed}
-use Rattle.lpt_apart.specs.Moves.{Pair, Move, came_to, CanMoveAll}
-use Rattle.lpt_apart.specs.Steps.{IsOnTheWay}
+use Rattle.lpt_apart.specs.Facts.{Log, Opened, Asked, Released, executed}
+use Rattle.lpt_apart.specs.Moves.{Pair, Move, Do, came_to, CanMoveAll}
+use Rattle.lpt_apart.specs.Steps.{Open, IsOnTheWay}
 use Rattle.lpt_reported.specs.Alone.{IsNamed}
 use Rattle.lpt_reported.specs.Images.{Image, AreTrueTo, IsLoaded, Stands}
 use Rattle.lpt_reported.specs.Reported.{IsTelemetryDown, IsVerification}
@@ -72,6 +72,34 @@ HeardWasExecuted =
     → MayHear c (came_to c first xs) to subtype said
     → (subtype ≡ 3) ⊎ (subtype ≡ 7)
     → IsExecutedIn c (came_to c first xs).ends.log to said.request.value
+
+-- ---- dumps in parts
+
+-- no large message that the spacecraft's program itself opened in these moves reads as a dump
+-- report to this destination
+abbrev pub OpensNoDump : Config → List Move → (to : ℕ) → Type 0
+OpensNoDump c xs to =
+    (k : ℕ) (name : Name) (m body : List ℕ)
+    → slice_get xs k ≡ Some (Do (Open Down name m))
+    → IsTelemetryDown c (record { direction = Down; octets = m }) to 6 6 body
+    → ⊥
+
+-- a large message was released to ground, joined of its parts
+pub record CameDown (log : Log) (m : List ℕ) : Type 0 where
+  pub place : ℕ
+  pub name : Name
+  pub is_there : slice_get log place ≡ Some (Released (Some (Down, name)) m)
+
+-- whatever else two ends did
+abbrev pub JoinedDumpIsMemory : Type 0
+JoinedDumpIsMemory =
+    (c : Config) (first : Contents) (xs : List Move) (to : ℕ) (m body : List ℕ)
+    → IsConfig c
+    → CanMoveAll c first xs
+    → OpensNoDump c xs to
+    → CameDown (came_to c first xs).ends.log m
+    → IsTelemetryDown c (record { direction = Down; octets = m }) to 6 6 body
+    → IsDumpedIn c first (came_to c first xs).ends.log to body
 
 -- ---- a pass
 

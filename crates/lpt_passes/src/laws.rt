@@ -1,7 +1,7 @@
 //! What is proved of two ends apart: functions with empty bodies.
 
 ghost use Rattle.lpt_passes.specs.Asked.{ExecutedWasAsked};
-ghost use Rattle.lpt_passes.specs.Passes.{HeardDumpIsMemory, HeardWasExecuted, PassesLeaveTheImage};
+ghost use Rattle.lpt_passes.specs.Passes.{HeardDumpIsMemory, HeardWasExecuted, JoinedDumpIsMemory, PassesLeaveTheImage};
 
 /// Whatever two ends did, a report of start or completion that is on its way down tells of a
 /// request that the log has as executed, of the source that it goes to and with its request ID.
@@ -13,6 +13,12 @@ pub fn heard_was_executed()
 /// the dump was executed: those that the requests executed before it leave.
 pub fn heard_dump_is_memory()
     ensures { HeardDumpIsMemory }
+{}
+
+/// So does one that came down in parts, and was released to ground: if the spacecraft's program
+/// opened no dump report to this source by itself.
+pub fn joined_dump_is_memory()
+    ensures { JoinedDumpIsMemory }
 {}
 
 /// Each request that the log has as executed is one that ground asked for by a plain request, or

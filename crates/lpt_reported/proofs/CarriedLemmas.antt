@@ -23,17 +23,18 @@ use Rattle.lpt_execution.specs.declared.ending.Report.{Report}
 use Rattle.lpt_execution.specs.Endings.{reply_fault, replied, ending}
 use Rattle.lpt_journal.specs.Executions.{effect_of}
 use Rattle.lpt_journal.specs.Jobs.{front_job, applied, executed, executed_by, memories}
-use Rattle.lpt_journal.specs.Journal.{SentPacket}
+use Rattle.lpt_journal.specs.Journal.{SentPacket, History}
 use Rattle.lpt_journal.specs.Legal.{Legal}
 use Rattle.lpt_journal.specs.Link.{sent}
 use Rattle.lpt_journal.specs.Replies.{entry, recorded}
 use Rattle.lpt_journal.proofs.HeadlineLemmas.{every}
 use Rattle.lpt_journal.proofs.NewJobs.{new_executed}
 use Rattle.lpt_journal.proofs.TestLemmas.{IsOldOrNew, with_all_cases, no_place}
-use Rattle.lpt_reported.specs.Reported.{WasExecuted, IsVerification, IsReportOf, ReportsAreOfExecutions, CompletedWasExecuted, FailedChangedNothing, DumpedIsMemory}
+use Rattle.lpt_reported.specs.Reported.{WasExecuted, WasDumped, IsVerification, IsReportOf, ReportsAreOfExecutions, OpenedReportsAreOfExecutions, CompletedWasExecuted, FailedChangedNothing, DumpedIsMemory, OpenedDumpIsMemory}
 use Rattle.lpt_reported.proofs.ReportLemmas.{at_place}
 use Rattle.lpt_reported.proofs.SaidLemmas.{Tells, IsTold, IsOfData, IsTheData, message_told, message_data, of_data_only}
 use Rattle.lpt_reported.proofs.HereLemmas.{all_reported, fault_leaves}
+use Rattle.lpt_reported.proofs.OpenedLemmas.{all_opened}
 
 -- ---- the laws
 
@@ -163,10 +164,11 @@ dump_answered (Check id ranges) ms p free room r at e =
         let no : ◌≡◌ {A = ℕ} 10 6 = ap (λ (x : Report). subtype_of x.kind) same ∙ at in
         omega (arith, no)
 
-pub dumped_is_memory : DumpedIsMemory
-dumped_is_memory c first es n p to body good legal f is =
-    let h = recorded c first es in
-    let it = all_reported c first es n p to 6 6 body good legal f refl is in
+-- what a report of service 6 and message subtype 6 says of its execution
+of_dump : (c : Config) (first : Contents) (h : History) (to : ℕ) (body : List ℕ)
+    → IsReportOf c first h to 6 6 body
+    → WasDumped c first h to body
+of_dump c first h to body it =
     let m = it.release.message in
     let end : it.end ≡ Carried (Some it.report) =
     at_place (IsTheData it.end) _ it.number it.report (message_data c.apid m it.end) it.is_report
@@ -186,3 +188,19 @@ dumped_is_memory c first es n p to body good legal f is =
       is_dump = was.2;
       is_body = sym it.of_body ∙ was.3;
     }
+
+pub dumped_is_memory : DumpedIsMemory
+dumped_is_memory c first es n p to body good legal f is =
+    of_dump c first (recorded c first es) to body
+    (all_reported c first es n p to 6 6 body good legal f refl is)
+
+-- ---- reports in parts
+
+pub opened_reports_are_of_executions : OpenedReportsAreOfExecutions
+opened_reports_are_of_executions c first es m to service subtype body good legal was is =
+    all_opened c first es m to service subtype body good legal was is
+
+pub opened_dump_is_memory : OpenedDumpIsMemory
+opened_dump_is_memory c first es m to body good legal was is =
+    of_dump c first (recorded c first es) to body
+    (all_opened c first es m to 6 6 body good legal was is)

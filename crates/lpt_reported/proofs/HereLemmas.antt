@@ -1,7 +1,7 @@
 -- Each report on the link of a legal journal is of an execution.
 use Rattle.std.proofs.Common.{◌≡◌, ◌∙◌, ap, sym, refl, ℕ, zero, suc, ◌+◌, ◌==◌, nat_lt, Bool, false, inl, inr, List, [], ◌∷◌, ◌++◌, length, map, take, Option, Some, None, arith}
 use Rattle.std.proofs.lemmas.List.{map-append}
-use Rattle.std.specs.List.{slice_get}
+use Rattle.std.specs.List.{slice_get, AllByRecursion}
 use Rattle.std.specs.Option.{is_some, option_map_or}
 use Rattle.lpt_packet.specs.declared.direction.Direction.TheVariants.{Up, Down}
 use Rattle.lpt_packet.specs.Names.{Name, IsName}
@@ -126,7 +126,8 @@ executed_later c first h x r end a = record {
   left = a.left;
 }
 
-report_later : (c : Config) (first : Contents) (h : History) (x : Recorded) (to service subtype : ℕ)
+pub report_later : (c : Config) (first : Contents) (h : History) (x : Recorded)
+    (to service subtype : ℕ)
     (body : List ℕ)
     → IsReportOf c first h to service subtype body
     → IsReportOf c first (x ∷ h) to service subtype body
@@ -170,6 +171,59 @@ executed_here c first h r e =
 
 -- ---- the reports of an execution
 
+-- what is read of one of the oldest request's reports is read of its execution
+pub report_here : (c : Config) (first : Contents) (h : History) (r : Release) (p : SentPacket)
+    (to service subtype : ℕ) (body : List ℕ)
+    → IsTelemetryDown c p to service subtype body
+    → front_job c h ≡ Some r
+    → (x : Report × List ℕ)
+    → IsReadWith c (request_source c.apid r.message)
+    (IsOneOf (message_reports c.apid r.message (ending_of c first h r.message))) x
+    → p.octets ≡ x.1
+    → IsReportOf c first (entry c first h Apply ∷ h) to service subtype body
+report_here c first h r p to service subtype body is e x read same =
+    let t = is.telemetry in
+    let u = read.1 in
+    let one : u.telemetry ≡ t =
+    let both : Some u.telemetry ≡ Some t =
+    sym u.is_read ∙ ap (λ b. telemetry_in c.apid b) (sym same) ∙ is.is_read in cc in
+    record {
+      release = r;
+      end = ending_of c first h r.message;
+      execution = executed_here c first h r e;
+      number = read.0.0;
+      report = x.0;
+      is_report = read.0.1;
+      of_source = sym u.goes_to ∙ ap (λ (v : Telemetry). v.destination) one ∙ is.goes_to;
+      of_service = sym u.of_service ∙ ap (λ (v : Telemetry). v.service) one ∙ is.of_service;
+      of_subtype = sym u.of_subtype ∙ ap (λ (v : Telemetry). v.subtype) one ∙ is.of_subtype;
+      of_body = sym u.of_body ∙ ap (λ (v : Telemetry). v.body) one ∙ is.of_body;
+    }
+
+-- the packets that the spacecraft makes of them are read as they are
+pub packets_here : (c : Config) (first : Contents) (h : History) (r : Release)
+    → IsConfig c
+    → IsSound c h
+    → AreUpOctets c h
+    → front_job c h ≡ Some r
+    → AllByRecursion (IsReadWith c (request_source c.apid r.message)
+    (IsOneOf (message_reports c.apid r.message (ending_of c first h r.message))))
+    (executions.reports_after c (request_source c.apid r.message) (made h Down) (clock c h Craft)
+    (message_reports c.apid r.message (ending_of c first h r.message)))
+packets_here c first h r good sound up e =
+    let m = r.message in
+    let octets : IsOctets m = up.requests (applied h) r e in
+    let reports = message_reports c.apid m (ending_of c first h m) in
+    let free = is_some (least_free h Down (request_source c.apid m)) in
+    let room = nat_lt (open_count h Down) c.outgoing in
+    all_read c (IsOneOf reports) (request_source c.apid m)
+    (made h Down) (clock c h Craft) reports
+    good (source_fits c.apid m octets) (sound.clocks Craft)
+    (message_sendable c.apid m (ending_of c first h m)
+    (ending_fits c.part_size free room (effect_of c (memories c first h) m)
+    (answer_fits c.apid (memories c first h) m octets)))
+    (each_is_one reports)
+
 reports_here : (c : Config) (first : Contents) (h : History) (k : ℕ) (p : SentPacket)
     (to service subtype : ℕ) (body : List ℕ)
     → IsConfig c
@@ -180,32 +234,6 @@ reports_here : (c : Config) (first : Contents) (h : History) (k : ℕ) (p : Sent
     → IsReportOf c first (entry c first h Apply ∷ h) to service subtype body
 reports_here c first h k p to service subtype body good sound up f is =
     go (front_job c h) refl f where
-      of_front : (r : Release)
-          → front_job c h ≡ Some r
-          → (x : Report × List ℕ)
-          → IsReadWith c (request_source c.apid r.message)
-          (IsOneOf (message_reports c.apid r.message (ending_of c first h r.message))) x
-          → p.octets ≡ x.1
-          → IsReportOf c first (entry c first h Apply ∷ h) to service subtype body
-      of_front r e x read same =
-          let t = is.telemetry in
-          let u = read.1 in
-          let one : u.telemetry ≡ t =
-          let both : Some u.telemetry ≡ Some t =
-          sym u.is_read ∙ ap (λ b. telemetry_in c.apid b) (sym same) ∙ is.is_read in cc in
-          record {
-            release = r;
-            end = ending_of c first h r.message;
-            execution = executed_here c first h r e;
-            number = read.0.0;
-            report = x.0;
-            is_report = read.0.1;
-            of_source = sym u.goes_to ∙ ap (λ (v : Telemetry). v.destination) one ∙ is.goes_to;
-            of_service = sym u.of_service ∙ ap (λ (v : Telemetry). v.service) one ∙ is.of_service;
-            of_subtype = sym u.of_subtype ∙ ap (λ (v : Telemetry). v.subtype) one ∙ is.of_subtype;
-            of_body = sym u.of_body ∙ ap (λ (v : Telemetry). v.body) one ∙ is.of_body;
-          }
-
       go : (o : Option Release)
           → front_job c h ≡ o
           → slice_get (map (λ b. record { direction = Down; octets = b })
@@ -218,25 +246,14 @@ reports_here c first h k p to service subtype body good sound up f is =
       go None e f = absurd (no_place k p f)
       go (Some r) e f =
           let m = r.message in
-          let octets : IsOctets m = up.requests (applied h) r e in
-          let end = ending_of c first h m in
-          let reports = message_reports c.apid m end in
-          let free = is_some (least_free h Down (request_source c.apid m)) in
-          let room = nat_lt (open_count h Down) c.outgoing in
+          let reports = message_reports c.apid m (ending_of c first h m) in
           let xs =
           executions.reports_after c (request_source c.apid m) (made h Down)
           (clock c h Craft) reports in
-          let all =
-          all_read c (IsOneOf reports) (request_source c.apid m)
-          (made h Down) (clock c h Craft) reports
-          good (source_fits c.apid m octets) (sound.clocks Craft)
-          (message_sendable c.apid m end
-          (ending_fits c.part_size free room (effect_of c (memories c first h) m)
-          (answer_fits c.apid (memories c first h) m octets)))
-          (each_is_one reports) in
           let it = on_link
-          (IsReadWith c (request_source c.apid m) (IsOneOf reports)) c.part_size xs all k p f in
-          of_front r e it.0 it.1 it.2
+          (IsReadWith c (request_source c.apid m) (IsOneOf reports)) c.part_size xs
+          (packets_here c first h r good sound up e) k p f in
+          report_here c first h r p to service subtype body is e it.0 it.1 it.2
 
 -- ---- each event
 

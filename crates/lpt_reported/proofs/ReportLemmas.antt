@@ -1,9 +1,10 @@
 -- The packets of an execution's reports are read as those reports.
-use Rattle.std.proofs.Common.{◌≡◌, ◌∙◌, ap, sym, subst, refl, ℕ, zero, suc, ◌+◌, ◌^◌, ◌<◌, ◌≤◌, ◌==◌, ◌&&◌, Bool, true, false, if◌then◌else◌, List, [], ◌∷◌, length, map, Option, Some, None, arith}
+use Rattle.std.proofs.Common.{◌≡◌, ◌∙◌, ap, sym, subst, refl, ℕ, zero, suc, ◌+◌, ◌^◌, ◌<◌, ◌≤◌, ◌==◌, ◌&&◌, Bool, true, false, not, if◌then◌else◌, List, [], ◌∷◌, length, map, Option, Some, None, arith}
 use Rattle.std.specs.List.{slice_get, filter, AllByRecursion}
 use Rattle.std.specs.Option.{option_map_or}
 use Rattle.std.specs.Result.{result_ok}
 use Rattle.lpt_packet.specs.declared.direction.Direction.TheVariants.{Down}
+use Rattle.lpt_packet.specs.Names.{Name}
 use Rattle.lpt_packet.proofs.Readings.{eq_true}
 use Rattle.lpt_packet.proofs.SightLemmas.{seen_again}
 use Rattle.lpt_pus.specs.Telemetry.{Telemetry, TelemetryFits, tm_packet_of, telemetry_in}
@@ -19,7 +20,7 @@ use Rattle.lpt_events.specs.MadePackets.{telemetry_made}
 use Rattle.lpt_events.specs.TelemetryKinds.{service_of, subtype_of}
 use Rattle.lpt_execution.specs.declared.ending.Report.{Report}
 use Rattle.lpt_execution.specs.Endings.{is_small}
-use Rattle.lpt_execution.specs.Reporting.{link_packets}
+use Rattle.lpt_execution.specs.Reporting.{link_packets, large_packets, opened_of}
 use Rattle.lpt_journal.specs.Executions.{report_after}
 use Rattle.lpt_journal.specs.Executions as executions
 use Rattle.lpt_journal.specs.Journal.{SentPacket, with_all}
@@ -184,3 +185,26 @@ on_link Q size (x ∷ xs) all k p f =
         (x, all.0, ap (λ (y : SentPacket). y.octets) (sym same))
     go true (suc k) f others = others k p f
     go false k f others = others k p f
+
+-- what is opened of them is too
+pub too_long : (Q : Report × List ℕ → Type 0) (size : ℕ) (xs : List (Report × List ℕ))
+    → AllByRecursion Q xs
+    → (free : Option Name) (y : Name × List ℕ)
+    → opened_of free (large_packets size xs) ≡ Some y
+    → (x : Report × List ℕ) × Q x × (y.1 ≡ x.1)
+too_long Q size xs all None y e = absurd cc
+too_long Q size [] all (Some name) y e = absurd cc
+too_long Q size (x ∷ xs) all (Some name) y e =
+    go (is_small size (length x.0.body)) e (too_long Q size xs all.1 (Some name) y)
+  where
+    go : (b : Bool)
+        → opened_of (Some name)
+        (map (λ x. x.1) (if not b then x ∷ filter (λ x. not (is_small size (length x.0.body))) xs
+        else filter (λ x. not (is_small size (length x.0.body))) xs)) ≡ Some y
+        → (opened_of (Some name) (large_packets size xs) ≡ Some y
+        → (x : Report × List ℕ) × Q x × (y.1 ≡ x.1))
+        → (x : Report × List ℕ) × Q x × (y.1 ≡ x.1)
+    go true e others = others e
+    go false e others =
+        let same : (name, x.1) ≡ y = cc in
+        (x, all.0, ap (λ (z : Name × List ℕ). z.1) (sym same))

@@ -13,6 +13,7 @@ use Rattle.lpt_verify.specs.declared.report.Report.{Report as Verification}
 use Rattle.lpt_verify.specs.Reading.{report_in}
 use Rattle.lpt_events.specs.Configs.{IsConfig}
 use Rattle.lpt_events.specs.declared.config.Config.{Config}
+use Rattle.lpt_events.specs.declared.entry.Opening.{Opening}
 use Rattle.lpt_events.specs.declared.entry.Release.{Release}
 use Rattle.lpt_events.specs.declared.event.Event.{Event}
 use Rattle.lpt_events.specs.declared.event.Event.TheVariants.{Apply}
@@ -108,6 +109,18 @@ pub record IsReportOf (c : Config) (first : Contents) (h : History) (to service 
   pub of_subtype : subtype_of report.kind ≡ subtype
   pub of_body : report.body ≡ body
 
+-- The message was opened by an entry that executed a request: a report that is too long for the
+-- link goes down in parts.
+pub record WasOpened (c : Config) (first : Contents) (es : List Event) (m : List ℕ) : Type 0 where
+  pub number : ℕ
+  pub entry : Recorded
+  pub is_there : slice_get (recorded c first es) number ≡ Some entry
+  pub applies : entry.event ≡ Apply
+  pub place : ℕ
+  pub opening : Opening
+  pub opens : slice_get entry.opens place ≡ Some opening
+  pub is : opening.message ≡ m
+
 -- a dump of this source was executed, and this is what it says of the memories as they were then
 pub record WasDumped (c : Config) (first : Contents) (h : History) (from : ℕ)
     (body : List ℕ) : Type 0 where
@@ -137,6 +150,17 @@ ReportsAreOfExecutions =
     → service ≢ 13
     → IsReportOf c first (recorded c first es) to service subtype body
 
+-- what goes down in parts, as it was opened by an execution
+abbrev pub OpenedReportsAreOfExecutions : Type 0
+OpenedReportsAreOfExecutions =
+    (c : Config) (first : Contents) (es : List Event) (m : List ℕ) (to service subtype : ℕ)
+    (body : List ℕ)
+    → IsConfig c
+    → Legal c first es
+    → WasOpened c first es m
+    → IsTelemetryDown c (record { direction = Down; octets = m }) to service subtype body
+    → IsReportOf c first (recorded c first es) to service subtype body
+
 -- what a report of a dump says
 abbrev pub DumpedIsMemory : Type 0
 DumpedIsMemory =
@@ -146,6 +170,16 @@ DumpedIsMemory =
     → Legal c first es
     → slice_get (sent (recorded c first es)) n ≡ Some p
     → IsTelemetryDown c p to 6 6 body
+    → WasDumped c first (recorded c first es) to body
+
+-- the same of one that goes down in parts
+abbrev pub OpenedDumpIsMemory : Type 0
+OpenedDumpIsMemory =
+    (c : Config) (first : Contents) (es : List Event) (m : List ℕ) (to : ℕ) (body : List ℕ)
+    → IsConfig c
+    → Legal c first es
+    → WasOpened c first es m
+    → IsTelemetryDown c (record { direction = Down; octets = m }) to 6 6 body
     → WasDumped c first (recorded c first es) to body
 
 -- what a report of start or of completion says was carried out

@@ -2,13 +2,18 @@
 
 ghost use Rattle.lpt_reported.specs.Alone.{CarriedOutIsAlone};
 ghost use Rattle.lpt_reported.specs.Images.{LoadsLeaveTheImage, PassLeavesTheImage, RangeStays};
-ghost use Rattle.lpt_reported.specs.Reported.{CompletedWasExecuted, DumpedIsMemory, FailedChangedNothing, ReportsAreOfExecutions};
+ghost use Rattle.lpt_reported.specs.Reported.{CompletedWasExecuted, DumpedIsMemory, FailedChangedNothing, OpenedDumpIsMemory, OpenedReportsAreOfExecutions, ReportsAreOfExecutions};
 
 /// Over every legal journal, telemetry that was put on the link and is of no part and no abortion
 /// is a report of a request that was executed, one of those that its message and its end ask for.
 /// What the link's noise left is none.
 pub fn reports_are_of_executions()
     ensures { ReportsAreOfExecutions }
+{}
+
+/// So is telemetry that an execution opened as a large message, since it is too long for the link.
+pub fn opened_reports_are_of_executions()
+    ensures { OpenedReportsAreOfExecutions }
 {}
 
 /// Over every legal journal, a report of start or completion that stands on the link, of whatever
@@ -35,6 +40,11 @@ pub fn failed_changed_nothing()
 /// octets that the memories had when the dump was executed.
 pub fn dumped_is_memory()
     ensures { DumpedIsMemory }
+{}
+
+/// So does a report of a dump that the execution opened as a large message.
+pub fn opened_dump_is_memory()
+    ensures { OpenedDumpIsMemory }
 {}
 
 /// Let each of the requests that are executed load nothing but the image's octets into a range of a
