@@ -1,157 +1,160 @@
--- The packets of a stream, one after the other.
-use Rattle.std.proofs.Common.{◌≡◌, ◌∙◌, ◌⊎◌, inl, inr, ap, sym, subst, refl, ℕ, ◌+◌, Bool, List, [], ◌∷◌, ◌++◌, length, take, drop, Option, length-append}
-use Rattle.std.specs.Io.KnownBytes.{Consumes}
-use Rattle.std.proofs.KnownBytes.{Consumes-nil, Consumes-trans}
-use Rattle.lpt_text.specs.Streams.{failed_write}
-use Rattle.lpt_text.specs.declared.fault.StreamFault.{StreamFault}
-use Rattle.lpt_text.specs.declared.fault.StreamFault.TheVariants as faults
-use Rattle.lpt_frames.specs.Frames.{IsCut, IsFrame}
-use Rattle.lpt_frames.proofs.FrameLemmas.{cut-more, cut-next, cut-none}
-use Rattle.lpt_layout_each.specs.declared.left.LeftAs.{LeftAs}
+-- The pieces of a stream, one after the other.
+use Rattle.std.proofs.Common.{◌≡◌, ◌∙◌, ap, sym, subst, refl, inl, inr, Bool, true, false, List, ℕ, [], ◌∷◌, ◌++◌, Option, None, Ok, Err, Result, append-nil}
+use Rattle.std.specs.Prelude.{IfOk}
+use Rattle.lpt_skips.specs.declared.skips.Skips.{Skips}
+use Rattle.lpt_skips.specs.declared.wanted.Wanted.{Wanted}
+use Rattle.lpt_skips.specs.Tallies.{noted, nothing_noted, skips_of}
+use Rattle.lpt_skips.proofs.TallyLemmas.{noted-append}
+use Rattle.lpt_stream.specs.declared.piece_kind.PieceKind.{PieceKind}
+use Rattle.lpt_stream.specs.declared.piece_kind.PieceKind.TheVariants.{Whole, Damaged, Stray}
+use Rattle.lpt_stream.specs.declared.cut.Cut.{Cut}
+use Rattle.lpt_stream.specs.Pieces.{LeadsBy, Piece, packets_of}
+use Rattle.lpt_stream.specs.Takes.{ReadsBy}
+use Rattle.lpt_stream.proofs.CutLemmas.{packets-next}
+use Rattle.lpt_carried.specs.declared.name.Name.{Name}
 use Rattle.lpt_carried.specs.declared.reading.Reading.{Reading}
 use Rattle.lpt_carried.specs.Carried.{carried}
-use Rattle.lpt_layout_each.specs.Hearing as hearing
-use Rattle.lpt_layout_each.specs.Hearing.{IsEndless, Leaves}
+use Rattle.lpt_layout_join.specs.Gatherings.{is_wanted}
+use Rattle.lpt_layout_join.specs.Writes.{ReadsCut}
+use Rattle.lpt_layout_each.specs.declared.each.Teller.{Teller}
 use Rattle.lpt_layout_each.specs.declared.helds.HeldsAs.{HeldsAs}
-use Rattle.lpt_layout_each.specs.declared.passing.PassedAs.{PassedAs}
 use Rattle.lpt_layout_each.specs.Helds.{HoldsEach}
-use Rattle.lpt_layout_each.specs.News.{Event, Hears}
-use Rattle.lpt_layout_each.specs.Passing.{nothing_passed, passed_from, passed_with}
-use Rattle.lpt_layout_each.specs.Streams.{Leaves as LeavesEach, Tells, events, told_by}
+use Rattle.lpt_layout_each.specs.News.{Event, Hears, HearsPart}
+use Rattle.lpt_layout_each.specs.Streams.{Leaves, Tells, events, told_by}
 use Rattle.lpt_layout_each.specs.Tellers.{IsTold}
-use Rattle.lpt_layout_each.proofs.TellLemmas.{events-next, hears-more, hears-nothing}
+use Rattle.lpt_layout_each.proofs.TellLemmas.{events-next, hears-more, part-more}
 
--- so many packets came, of which this holds, and these octets are held behind them
-pub record IsReading (a b : Option (List ℕ)) (held : List ℕ) (count : ℕ)
-    (P : List (List ℕ) → Type 0) : Type 0 where
-  pub stream : List ℕ
-  pub packets : List (List ℕ)
-  pub consumed : Consumes a b stream
-  pub cut : IsCut stream packets held
-  pub so : P packets
-  pub count_is : length packets ≡ count
+open_still : ◌≡◌ true false → ⊥
+open_still h = cc
 
--- none came
-pub reading-none : (a : Option (List ℕ)) (held : List ℕ) (P : List (List ℕ) → Type 0)
-    → held ≡ []
-    → P []
-    → IsReading a a held 0 P
-reading-none a held P none so = record {
-  stream = [];
-  packets = [];
-  consumed = Consumes-nil a;
-  cut = cut-none held none;
-  so = so;
-  count_is = refl;
-}
-
--- with more read behind
-pub reading-more : (a b d : Option (List ℕ)) (held now read : List ℕ) (count : ℕ)
-    (P Q : List (List ℕ) → Type 0)
-    → IsReading a b held count P
-    → Consumes b d read
-    → now ≡ held ++ read
-    → ((bs : List (List ℕ)) → P bs → Q bs)
-    → IsReading a d now count Q
-reading-more a b d held now read count P Q h more is f = record {
-  stream = h.stream ++ read;
-  packets = h.packets;
-  consumed = Consumes-trans a b d h.stream read h.consumed more;
-  cut = cut-more h.stream h.packets held read now h.cut is;
-  so = f h.packets h.so;
-  count_is = h.count_is;
-}
-
--- and with the packet in front taken
-pub reading-next : (a b : Option (List ℕ)) (held now : List ℕ) (count len : ℕ)
-    (P Q : List (List ℕ) → Type 0)
-    → IsReading a b held count P
-    → IsFrame (take len held)
-    → now ≡ drop len held
-    → ((bs : List (List ℕ)) → P bs → Q (bs ++ take len held ∷ []))
-    → IsReading a b now (count + 1) Q
-reading-next a b held now count len P Q h front left f = record {
-  stream = h.stream;
-  packets = h.packets ++ take len held ∷ [];
-  consumed = h.consumed;
-  cut = cut-next h.stream h.packets held now len h.cut front left;
-  so = f h.packets h.so;
-  count_is = length-append h.packets (take len held ∷ []) ∙ ap (λ (n : ℕ). n + 1) h.count_is;
-}
-
--- it stopped there
-pub reading-stop : (a b : Option (List ℕ)) (held : List ℕ) (count : ℕ) (left : LeftAs)
-    (P : List (List ℕ) → Type 0)
-    → IsReading a b held count P
-    → Leaves left held b
-    → hearing.Hears a b left P
-reading-stop a b held count left P h at =
-    (h.stream, h.packets, held, h.consumed, h.cut, at, h.so)
-
--- too many came
-pub reading-endless : (a b : Option (List ℕ)) (held : List ℕ) (count : ℕ)
-    (P : List (List ℕ) → Type 0)
-    → IsReading a b held count P
-    → count ≡ 18446744073709551615
-    → IsEndless a b
-reading-endless a b held count P h is =
-    (h.stream, h.packets, held, h.consumed, h.cut, h.count_is ∙ is)
-
--- ---- what is told of them
-
-passed-next : (r : Reading) (p : PassedAs) (bs : List (List ℕ)) (b : List ℕ)
-    → passed_from r p (bs ++ b ∷ [])
-    ≡ passed_with (carried r b) (length b) (passed_from r p bs)
-passed-next r p [] b = refl
-passed-next r p (c ∷ bs) b = passed-next r (passed_with (carried r c) (length c) p) bs b
-
-module _ (r : Reading) (any : Bool) where
-  -- of none
-  pub told-nothing : (g : HeldsAs) (p : PassedAs) (heard : Option (List Event))
-      → HoldsEach r any [] g
-      → p ≡ nothing_passed
-      → IsTold r any g p heard heard []
-  told-nothing g p heard h is = record {
-    held = h;
-    told = hears-nothing heard;
-    passed_is = is;
-  }
-
-  -- of one more
-  pub told-next : (old new : HeldsAs) (p q : PassedAs) (heard hear hears : Option (List Event))
-      (bs : List (List ℕ)) (b : List ℕ)
-      → (HoldsEach r any bs old → HoldsEach r any (bs ++ b ∷ []) new)
-      → (HoldsEach r any bs old → Hears hear hears (told_by r any bs b (carried r b)))
-      → q ≡ passed_with (carried r b) (length b) p
-      → IsTold r any old p heard hear bs
-      → IsTold r any new q heard hears (bs ++ b ∷ [])
-  told-next old new p q heard hear hears bs b held told passed h = record {
-    held = held h.held;
-    told = subst (Hears heard hears) (sym (events-next r any [] bs b))
-        (hears-more heard hear hears (events r any bs) _ h.told (told h.held));
-    passed_is =
-        passed ∙ ap (passed_with (carried r b) (length b)) h.passed_is
-        ∙ sym (passed-next r nothing_passed bs b);
-  }
-
-  -- and at the end
-  pub told-all : (heard hear hears : Option (List Event)) (bs : List (List ℕ))
-      → Hears heard hear (events r any bs)
-      → (es : List Event) × LeavesEach r any bs es × Hears hear hears es
-      → Tells r any bs heard hears
-  told-all heard hear hears bs was left = (
-    left.0,
-    left.1,
-    hears-more heard hear hears (events r any bs) left.0 was left.2,
+-- a taker that always takes more has taken all
+pub reads-cut : (cut : Cut) (a b : Option (List ℕ)) (P : List Piece → Type 0)
+    → ReadsBy cut a b true P
+    → ReadsCut cut a b P
+reads-cut cut a b P h = elim h.ends [
+  | inl e ↦ (
+    h.stream,
+    h.pieces,
+    h.consumed,
+    e.1,
+    (h.in_step, subst (LeadsBy cut true h.stream h.pieces h.in_step) e.0 h.leads),
+    h.gives,
   )
+  | inr e ↦ absurd (open_still e)
+]
 
--- ---- the writer
+-- of a stream that begins at 0
+pub from-zero : {A E : Type 0} (from : ℕ) (P : A → Type 0) (r : Result A E)
+    → from ≡ 0
+    → IfOk r P
+    → IfOk r (λ x. (from ≡ 0) × P x)
+from-zero from P (Ok x) h k = (h, k)
+from-zero from P (Err e) h k = tt
 
--- where the taker failed in its place
-pub taker-failed : (e : StreamFault) (first now : Bool)
-    → (e ≡ faults.Write) ⊎ (e ≡ faults.Memory)
-    → now ≡ first
-    → (e ≡ faults.Write) ⊎ (now ≡ failed_write e first)
-taker-failed e first now (inl h) same = inl h
-taker-failed e first now (inr h) same =
-    inr (subst (λ (f : StreamFault). now ≡ failed_write f first) (sym h) same)
+-- at the end
+pub told-all : (r : Reading) (any : Bool) (heard hear hears : Option (List Event))
+    (bs : List (List ℕ))
+    → Hears heard hear (events r any bs)
+    → (es : List Event) × Leaves r any bs es × Hears hear hears es
+    → Tells r any bs heard hears
+told-all r any heard hear hears bs was left = (
+  left.0,
+  left.1,
+  hears-more heard hear hears (events r any bs) left.0 was left.2,
+)
+
+-- where any name is wanted each is
+pub all-wanted : (w : Option Name) (n : Name) → w ≡ None → is_wanted w n ≡ true
+all-wanted w n e = ap (λ (w : Option Name). is_wanted w n) e
+
+-- what was told is of the reading with which it began
+pub told-first : (first now : Teller) (heard hears : Option (List Event)) (ps : List Piece)
+    → IsTold first now heard hears ps
+    → Hears heard hears (events first.wanted.reading first.any (packets_of ps))
+told-first first now heard hears ps h =
+    subst (λ (w : Wanted). Hears heard hears (events w.reading first.any (packets_of ps))) h.same
+    (subst (λ (any : Bool). Hears heard hears (events now.wanted.reading any (packets_of ps)))
+    h.same_any h.told)
+
+-- ---- a piece further
+
+module _ (first was : Teller) (heard hear : Option (List Event)) (ps : List Piece)
+    (h : IsTold first was heard hear ps) where
+  abbrev w : Wanted
+  w = was.wanted
+
+  abbrev r : Reading
+  r = w.reading
+
+  abbrev bs : List (List ℕ)
+  bs = packets_of ps
+
+  abbrev whole : List ℕ → Piece
+  whole b = record { kind = Whole; octets = b }
+
+  skips-next : (p : Piece) (s : Skips) → s ≡ noted w was.skips p → s ≡ skips_of w (ps ++ p ∷ [])
+  skips-next p s notes =
+      notes ∙ ap (λ (k : Skips). noted w k p) h.skips_are
+      ∙ sym (noted-append w nothing_noted ps (p ∷ []))
+
+  events-packet : (b : List ℕ)
+      → events r was.any (packets_of (ps ++ whole b ∷ []))
+      ≡ events r was.any bs ++ told_by r was.any bs b (carried r b)
+  events-packet b =
+      ap (events r was.any) (packets-next ps (whole b)) ∙ events-next r was.any [] bs b
+
+  -- a packet
+  pub told-packet : (b : List ℕ) (g : HeldsAs) (s : Skips) (hears : Option (List Event))
+      → HoldsEach r was.any (bs ++ b ∷ []) g
+      → Hears hear hears (told_by r was.any bs b (carried r b))
+      → s ≡ noted w was.skips (whole b)
+      → IsTold first (record { wanted = w; any = was.any; helds = g; skips = s }) heard hears
+      (ps ++ whole b ∷ [])
+  told-packet b g s hears held told notes = record {
+    same = h.same;
+    same_any = h.same_any;
+    all = h.all;
+    held = subst (λ (bs : List (List ℕ)). HoldsEach r was.any bs g)
+        (sym (packets-next ps (whole b))) held;
+    told = subst (Hears heard hears) (sym (events-packet b))
+        (hears-more heard hear hears (events r was.any bs) _ h.told told);
+    skips_are = skips-next (whole b) s notes;
+  }
+
+  -- of which a front part was told
+  pub part-packet : (b : List ℕ) (hears : Option (List Event))
+      → HearsPart hear hears (told_by r was.any bs b (carried r b))
+      → HearsPart heard hears
+      (events first.wanted.reading first.any (packets_of (ps ++ whole b ∷ [])))
+  part-packet b hears told =
+      let all = packets_of (ps ++ whole b ∷ []) in
+      subst (λ (w : Wanted). HearsPart heard hears (events w.reading first.any all)) h.same
+      (subst (λ (any : Bool). HearsPart heard hears (events r any all)) h.same_any
+      (subst (HearsPart heard hears) (sym (events-packet b))
+      (part-more heard hear hears (events r was.any bs) _ h.told told)))
+
+  -- another piece
+  none-more : (k : PieceKind) (b : List ℕ)
+      → (k ≡ Whole → ⊥)
+      → packets_of (ps ++ record { kind = k; octets = b } ∷ []) ≡ bs
+  none-more Whole b other = absurd (other refl)
+  none-more Damaged b other =
+      packets-next ps (record { kind = Damaged; octets = b }) ∙ append-nil bs
+  none-more Stray b other =
+      packets-next ps (record { kind = Stray; octets = b }) ∙ append-nil bs
+
+  pub told-other : (k : PieceKind) (b : List ℕ) (s : Skips)
+      → (k ≡ Whole → ⊥)
+      → s ≡ noted w was.skips (record { kind = k; octets = b })
+      → IsTold first (record { wanted = w; any = was.any; helds = was.helds; skips = s }) heard
+      hear (ps ++ record { kind = k; octets = b } ∷ [])
+  told-other k b s other notes =
+      let same = sym (none-more k b other) in
+      record {
+        same = h.same;
+        same_any = h.same_any;
+        all = h.all;
+        held = subst (λ (bs : List (List ℕ)). HoldsEach r was.any bs was.helds) same h.held;
+        told = subst (λ (bs : List (List ℕ)). Hears heard hear (events r was.any bs)) same h.told;
+        skips_are = skips-next (record { kind = k; octets = b }) s notes;
+      }

@@ -81,7 +81,7 @@ message-alike (Overtaken c l m) (profile_news.Given w) h = absurd h
 message-alike (Overtaken c l m) (profile_news.Dropped d e) h = absurd h
 message-alike (Overtaken c l m) (profile_news.Unfit f) h = absurd h
 
-messages-alike : (ws : List News) (vs : List profile_news.News)
+pub messages-alike : (ws : List News) (vs : List profile_news.News)
     → AreOwnNews ws vs
     → messages_in ws ≡ profile_news.messages_in vs
 messages-alike [] [] h = refl

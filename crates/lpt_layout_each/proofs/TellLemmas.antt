@@ -1,7 +1,6 @@
 -- What was told, and what is told further.
 use Rattle.std.proofs.Common.{◌≡◌, ◌≢◌, ◌∙◌, ap, sym, subst, refl, ℕ, Bool, true, false, cond, ◌||◌, ◌==◌, List, [], ◌∷◌, ◌++◌, Option, Some, None, append-nil, append_assoc}
 use Rattle.std.specs.List.{flat_map, list_any}
-use Rattle.std.specs.List.Sorted.{IsStrictlySortedBy}
 use Rattle.std.specs.BTreeMap.{BTreeMap, get, is_at, keys}
 use Rattle.std.specs.Map.{keys_of, lookup}
 use Rattle.std.specs.Ordering.{is_eq}
@@ -15,7 +14,7 @@ use Rattle.lpt_layout_each.specs.declared.helds.HeldsAs.{HeldsAs}
 use Rattle.lpt_layout_each.specs.Eaches.{Course, held, left, nothing}
 use Rattle.lpt_layout_each.specs.Helds.{Follows, HoldsEach, IsHeld}
 use Rattle.lpt_layout_join.specs.Names.{name_cmp}
-use Rattle.lpt_layout_each.specs.News.{Event, Hears, News, dropped}
+use Rattle.lpt_layout_each.specs.News.{Event, Hears, HearsPart, News, dropped}
 use Rattle.lpt_layout_each.specs.Streams.{Leaves, events_from, left_of, of, told_by}
 use Rattle.lpt_layout_join.proofs.NameLemmas.{name_tied}
 
@@ -34,6 +33,41 @@ hears-more (Some us) None c xs ys h k = absurd h
 hears-more (Some us) (Some vs) None xs ys h k = absurd k
 hears-more (Some us) (Some vs) (Some ws) xs ys h k =
     k ∙ ap (λ l. l ++ ys) h ∙ append_assoc us xs ys
+
+-- nothing of these was
+pub part-none : (a : Option (List Event)) (es : List Event) → HearsPart a a es
+part-none None es = tt
+part-none (Some xs) es = ([], es, refl, sym (append-nil xs))
+
+-- all of them were
+pub part-all : (a b : Option (List Event)) (es : List Event) → Hears a b es → HearsPart a b es
+part-all None b es h = tt
+part-all (Some xs) None es h = absurd h
+part-all (Some xs) (Some ys) es h = (es, [], sym (append-nil es), h)
+
+-- those before them were, and a front part of these
+pub part-more : (a b c : Option (List Event)) (xs ys : List Event)
+    → Hears a b xs
+    → HearsPart b c ys
+    → HearsPart a c (xs ++ ys)
+part-more None b c xs ys h k = tt
+part-more (Some us) None c xs ys h k = absurd h
+part-more (Some us) (Some vs) None xs ys h k = absurd k
+part-more (Some us) (Some vs) (Some ws) xs ys h k = (
+  xs ++ k.0,
+  k.1,
+  ap (λ l. xs ++ l) k.2 ∙ sym (append_assoc xs k.0 k.1),
+  k.3 ∙ ap (λ l. l ++ k.0) h ∙ append_assoc us xs k.0,
+)
+
+-- with others behind them
+pub part-front : (a b : Option (List Event)) (xs ys : List Event)
+    → HearsPart a b xs
+    → HearsPart a b (xs ++ ys)
+part-front None b xs ys h = tt
+part-front (Some us) None xs ys h = absurd h
+part-front (Some us) (Some vs) xs ys h =
+    (h.0, h.1 ++ ys, ap (λ l. l ++ ys) h.2 ∙ append_assoc h.0 h.1 ys, h.3)
 
 -- ---- a packet more
 
@@ -127,6 +161,27 @@ left-next r any bs first old new n g heard hear hears h pops gets told = record 
   still q k true e = absurd (no_some k e)
   still q k false e = e
 
+-- what is left of the names at which something is kept is what is left of each
+leaves-kept : (r : Reading) (any : Bool) (bs : List (List ℕ)) (g : HeldsAs)
+    → HoldsEach r any bs g
+    → Leaves r any bs (flat_map (left_of r any bs) (keys g.kept))
+leaves-kept r any bs g each = record {
+  names = keys g.kept;
+  in_order = each.in_order;
+  all = λ n some. among n some (get name_cmp g.kept n) refl;
+  are = refl;
+} where
+  among : (n : Name)
+      → left_of r any bs n ≢ []
+      → (o : Option CourseAs)
+      → get name_cmp g.kept n ≡ o
+      → list_any (same_name n) (keys g.kept) ≡ true
+  among n some None is =
+      let nothing_came = subst (λ (o : Option CourseAs). IsHeld (held r any n bs) o) is
+      (each.each n) in
+      absurd (some (ap (λ (k : Course). of n (left k)) nothing_came ∙ ap (of n) left-nothing))
+  among n some (Some k) is = key-there n g.kept.entries k is
+
 pub left-all : (r : Reading) (any : Bool) (bs : List (List ℕ)) (g : HeldsAs)
     (now : BTreeMap Name CourseAs) (heard hears : Option (List Event))
     → HoldsEach r any bs g
@@ -137,26 +192,32 @@ left-all r any bs g now heard hears each h none =
     let all : keys g.kept ≡ h.names =
     h.keys_are ∙ ap (λ (es : List (Name × CourseAs)). h.names ++ keys_of es) none
     ∙ append-nil h.names in (
-      flat_map (left_of r any bs) h.names,
-      record {
-        names = h.names;
-        in_order = subst (IsStrictlySortedBy name_cmp) all each.in_order;
-        all = λ n some. subst (λ (ns : List Name). list_any (same_name n) ns ≡ true) all
-            (among n some (get name_cmp g.kept n) refl);
-        are = refl;
-      },
-      h.told,
-    ) where
-      among : (n : Name)
-          → left_of r any bs n ≢ []
-          → (o : Option CourseAs)
-          → get name_cmp g.kept n ≡ o
-          → list_any (same_name n) (keys g.kept) ≡ true
-      among n some None is =
-          let nothing_came = subst (λ (o : Option CourseAs). IsHeld (held r any n bs) o) is
-          (each.each n) in
-          absurd (some (ap (λ (k : Course). of n (left k)) nothing_came ∙ ap (of n) left-nothing))
-      among n some (Some k) is = key-there n g.kept.entries k is
+      flat_map (left_of r any bs) (keys g.kept),
+      leaves-kept r any bs g each,
+      subst (λ (ns : List Name). Hears heard hears (flat_map (left_of r any bs) ns)) (sym all)
+          h.told,
+    )
+
+-- and where a front part was told of what is left of the next name
+pub left-part : (r : Reading) (any : Bool) (bs : List (List ℕ)) (g : HeldsAs)
+    (old new : BTreeMap Name CourseAs) (n : Name) (x : CourseAs)
+    (heard hear hears : Option (List Event))
+    → HoldsEach r any bs g
+    → IsLeft r any bs g.kept old heard hear
+    → old.entries ≡ (n, x) ∷ new.entries
+    → HearsPart hear hears (left_of r any bs n)
+    → (es : List Event) × Leaves r any bs es × HearsPart heard hears es
+left-part r any bs g old new n x heard hear hears each h pops told =
+    let left = left_of r any bs in
+    let all : keys g.kept ≡ h.names ++ n ∷ keys new =
+    h.keys_are ∙ ap (λ (es : List (Name × CourseAs)). h.names ++ keys_of es) pops in (
+      flat_map left (keys g.kept),
+      leaves-kept r any bs g each,
+      subst (λ (es : List Event). HearsPart heard hears es)
+          (sym (ap (flat_map left) all ∙ flat_map-append left h.names (n ∷ keys new)))
+          (part-more heard hear hears (flat_map left h.names) _ h.told
+          (part-front hear hears (left n) (flat_map left (keys new)) told)),
+    )
 
 -- what is left of a name is told
 pub left-told : (n : Name) (w : News) (h : Course)

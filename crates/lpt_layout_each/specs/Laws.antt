@@ -1,13 +1,14 @@
 -- What is given out of any packets.
 use Rattle.std.specs.Prelude.{◌≡◌, ◌⊎◌, ℕ, ◌+◌, ◌≤◌, Bool, true, false, nat_lt, if◌then◌else◌, List, [], ◌∷◌, Some, None, is_some}
-use Rattle.std.specs.List.{AllByRecursion}
+use Rattle.std.specs.List.{AllByRecursion, flat_map}
 use Rattle.lpt_part.specs.Parts.{Piece}
 use Rattle.lpt_carried.specs.declared.name.Name.{Name}
 use Rattle.lpt_carried.specs.declared.reading.Reading.{Reading}
 use Rattle.lpt_layout_join.specs.Came.{Came, message_of, nothing_came}
-use Rattle.lpt_carried.specs.Carried.{carried, part_of}
+use Rattle.lpt_carried.specs.Carried.{carried, part_of, same_name}
 use Rattle.lpt_layout_join.specs.Writes.{unfit}
 use Rattle.lpt_layout_each.specs.Eaches.{more}
+use Rattle.lpt_layout_each.specs.News.{Event, News}
 
 -- one of these packets carries this part of a name
 abbrev pub IsThere : Reading → Name → List (List ℕ) → Piece → Type 0
@@ -64,3 +65,7 @@ pub record InOrder (r : Reading) (any : Bool) (n : Name) (m : List ℕ)
   pub next : final.number ≤ number + 1
   pub agrees : is_some (more came final).against ≡ false
   pub joined : message_of (more came final).parts ≡ Some m
+
+-- the news of one name among those of all
+abbrev pub news_of_name : Name → List Event → List News
+news_of_name n es = flat_map (λ e. if same_name e.0 n then e.1 ∷ [] else []) es

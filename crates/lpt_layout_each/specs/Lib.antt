@@ -1,10 +1,8 @@
 pub mod Eaches
-pub mod Hearing
 pub mod Helds
 pub mod Laws
 pub mod News
 pub mod Own
-pub mod Passing
 pub mod Streams
 pub mod Tellers
 pub mod Told

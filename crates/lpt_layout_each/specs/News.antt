@@ -43,3 +43,10 @@ abbrev pub Hears : (old new : Option (List Event)) → List Event → Type 0
 Hears None new es = ⊤
 Hears (Some xs) None es = ⊥
 Hears (Some xs) (Some ys) es = ys ≡ xs ++ es
+
+-- by a front part of these
+abbrev pub HearsPart : (old new : Option (List Event)) → List Event → Type 0
+HearsPart None new es = ⊤
+HearsPart (Some xs) None es = ⊥
+HearsPart (Some xs) (Some ys) es =
+    (front : List Event) × (rest : List Event) × (es ≡ front ++ rest) × (ys ≡ xs ++ front)

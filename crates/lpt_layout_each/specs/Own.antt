@@ -1,8 +1,11 @@
 -- What is told at the profile's own layouts, in the profile's words.
-use Rattle.std.specs.Prelude.{◌≡◌, ℕ, ◌+◌, Bool, false, List, [], ◌∷◌, Option, is_some}
+use Rattle.std.specs.Prelude.{◌≡◌, ℕ, ◌+◌, Bool, false, List, [], ◌∷◌, ◌++◌, Option, is_some}
+use Rattle.lpt_join.specs.declared.transaction.Transaction.{Transaction}
 use Rattle.lpt_join.specs.Wide.{wide}
-use Rattle.lpt_layout_join.specs.Own.{misfit_as}
+use Rattle.lpt_layout_join.specs.Counts.{nothing_counted}
+use Rattle.lpt_layout_join.specs.Own.{misfit_as, own_reading}
 use Rattle.lpt_each.specs.News as profile
+use Rattle.lpt_layout_each.specs.Eaches.{held, left, news_from, nothing}
 use Rattle.lpt_layout_each.specs.News.{Event, News, Given, Dropped, Unfit, Overtaken}
 
 -- these are the numbers of the parts that came, of which part n + 1 has these octets
@@ -19,6 +22,12 @@ IsOwnNews (Unfit e) (profile.Unfit why) = e ≡ misfit_as why
 IsOwnNews (Overtaken parts last m) (profile.Overtaken came ended w) =
     AreNumbers parts came × (is_some last ≡ ended) × (m ≡ w)
 IsOwnNews _ _ = ⊥
+
+-- what is told of the name of a transaction
+abbrev pub own_news : Transaction → (any : Bool) → List (List ℕ) → List News
+own_news t any bs =
+    news_from (own_reading t) any (wide t.name) nothing_counted nothing bs
+    ++ left (held (own_reading t) any (wide t.name) bs)
 
 -- and each of these
 abbrev pub AreOwnNews : List News → List profile.News → Type 0

@@ -1,14 +1,15 @@
 -- The news of all names, as the packets of a stream come.
-use Rattle.std.specs.Prelude.{◌≡◌, ◌≢◌, ℕ, Bool, true, List, [], ◌∷◌, ◌++◌, map, Option, Result, Ok, Err}
+use Rattle.std.specs.Prelude.{◌≡◌, ◌≢◌, ◌⊎◌, ℕ, Bool, true, List, [], ◌∷◌, ◌++◌, map, None, Option, Result, Ok, Err}
 use Rattle.std.specs.List.{flat_map, list_any}
 use Rattle.std.specs.List.Sorted.{IsStrictlySortedBy}
 use Rattle.lpt_carried.specs.declared.name.Name.{Name}
 use Rattle.lpt_carried.specs.declared.reading.Reading.{Reading}
 use Rattle.lpt_carried.specs.declared.skip.Skip.{Skip}
+use Rattle.lpt_skips.specs.declared.wanted.Wanted.{Wanted}
 use Rattle.lpt_carried.specs.Carried.{Named, carried, name_of, part_of, same_name}
 use Rattle.lpt_layout_each.specs.Eaches.{counts_of, held, left, listed, missing_at, step_of}
 use Rattle.lpt_layout_join.specs.Names.{name_cmp}
-use Rattle.lpt_layout_each.specs.News.{Event, Hears, News}
+use Rattle.lpt_layout_each.specs.News.{Event, Hears, HearsPart, News}
 
 -- news of one name
 abbrev pub of : Name → List News → List Event
@@ -53,3 +54,14 @@ abbrev pub Tells :
     Reading → (any : Bool) → List (List ℕ) → (heard hears : Option (List Event)) → Type 0
 Tells r any bs heard hears =
     (es : List Event) × Leaves r any bs es × Hears heard hears (events r any bs ++ es)
+
+-- a front part of what packets tell was told; or all of it, and a front part of what is left
+abbrev pub TellsPart :
+    Reading → (any : Bool) → List (List ℕ) → (heard hears : Option (List Event)) → Type 0
+TellsPart r any bs heard hears =
+    HearsPart heard hears (events r any bs)
+    ⊎ ((es : List Event) × Leaves r any bs es × HearsPart heard hears (events r any bs ++ es))
+
+-- parts of any name are wanted
+abbrev pub any_of : Reading → Wanted
+any_of r = record { reading = r; name = None }

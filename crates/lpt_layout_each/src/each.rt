@@ -1,160 +1,231 @@
 //! The messages of a stream, each of every name, as its packets come.
 
-ghost use Rattle.std.specs.Prelude.{◌≡◌, ◌≤◌, ◌⊎◌, ◌∷◌, ◌++◌, ℕ, List, [], length, IfErr, IfOk, Ok, OnOk};
-ghost use Rattle.std.specs.Io.KnownBytes.{Keeps};
-ghost use Rattle.lpt_text.specs.Streams.{failed_write, ReadEnds};
+ghost use Rattle.std.specs.Prelude.{◌≡◌, ◌≤◌, ◌⊎◌, ◌∷◌, ◌++◌, ℕ, List, [], length, None, Ok, Err, IfErr, IfOk, OnOk};
+ghost use Rattle.lpt_text.specs.Streams.{ReadEnds};
 ghost use Rattle.lpt_packet.specs.Sizes.{longest_packet};
-ghost use Rattle.lpt_carried.specs.Carried.{carried, named};
-ghost use Rattle.lpt_layout_each.specs.Hearing as hearing;
-ghost use Rattle.lpt_layout_each.specs.Hearing.{IsEndless};
+ghost use Rattle.lpt_stream.specs.Pieces.{packets_of};
+ghost use Rattle.lpt_stream.specs.Reads.{IsEndlessBy};
+ghost use Rattle.lpt_stream.specs.Takes.{LeavesBy, TakenAll};
+ghost use Rattle.lpt_carried.specs.Carried.{carried, cut, named};
+ghost use Rattle.lpt_skips.specs.Tallies.{skips_of};
+ghost use Rattle.lpt_layout_join.specs.Writes.{ReadsCut};
 ghost use Rattle.lpt_layout_each.specs.Helds.{HoldsEach};
-ghost use Rattle.lpt_layout_each.specs.News.{Hears};
-ghost use Rattle.lpt_layout_each.specs.Passing.{passed_of, passed_with};
-ghost use Rattle.lpt_layout_each.specs.Streams.{Tells, told_by};
-ghost use Rattle.lpt_layout_each.specs.Tellers.{IsTold};
+ghost use Rattle.lpt_layout_each.specs.News.{Hears, HearsPart};
+ghost use Rattle.lpt_layout_each.specs.Streams.{Tells, TellsPart, any_of, events, told_by};
 
 use crate::TakerAs;
 use crate::helds::HeldsAs;
 use crate::leaving::leave_as;
-use crate::left::{LeftAs, left_at};
-use crate::passing::PassedAs;
-use lpt_carried::{CarriedPart, Reading, carried};
-use lpt_frames::{FrameBuffer, Front};
-use lpt_text::{Sink, Source, StreamFault};
+use lpt_carried::{CarriedPart, Reading, carried_in};
+use lpt_layout_join::Nowhere;
+use lpt_skips::{Skips, Wanted};
+use lpt_stream::{Cut, PieceKind, Taker, take_pieces};
+use lpt_text::{Source, StreamFault};
 use std::alloc::Global;
 
-/// What a stream gave besides the messages.
-#[derive(Clone, Copy)]
-pub struct EachedAs {
-    /// What was passed over.
-    pub passed: PassedAs,
-    /// What is left behind the packets.
-    pub left: LeftAs,
-}
-
-/// Reads a stream of packets up to its end, or to octets with which no packet begins, and tells the
-/// taker of each message of every name, in the order in which they become whole, and of what is
-/// given up. At the end it is told what is left of each name, in the order of names. Before each
-/// read `out` passes on what it has kept back; nothing else is done with it.
+/// Reads a stream of packets to its end, and tells the taker of each message of every name, in the
+/// order in which they become whole, and of what is given up. At the end it is told what is left
+/// of each name, in the order of names. The answer counts what was passed over, by its reasons.
 ///
 /// A message is given out if it is a packet of the layout and the direction, or with `any`
 /// whatever it is; by a layout without a checksum, but with `any`, only if its parts came in
 /// their order, and few sequence counts are missing between them.
 ///
-/// Errors: `Read` if a read failed, or if 2^64 - 1 packets came; `Write` if `out` failed;
-/// `Memory`; those of the taker. What was told before stays told.
-pub fn each_as<S: Source, K: Sink, T: TakerAs>(
+/// Errors: `Read` if a read failed, or if 2^64 - 1 pieces came; `Memory`; those of the taker.
+/// A front part of what was to be told stays told.
+pub fn each_as<S: Source, T: TakerAs>(
     alloc: Global,
     reading: &Reading,
     any: bool,
     source: &mut S,
-    out: &mut K,
     taker: &mut T,
-) -> Result<EachedAs, StreamFault>
-    ensures told { IfOk result (λ e. hearing.Hears (S.remaining source.old)
-        (S.remaining source.new) e.left (λ packets. Tells reading.now any packets
-        (T.heard taker.old) (T.heard taker.new) × (e.passed ≡ passed_of reading.now packets))) }
-    ensures same { Keeps (K.contents out.old) (K.contents out.new) }
-    ensures reader { ReadEnds (IsEndless (S.remaining source.old) (S.remaining source.new)) result
-        (S.failed source.old) (S.failed source.new) }
+) -> Result<Skips, StreamFault>
+    ensures told { IfOk result (λ skips. ReadsCut (cut reading.now) (S.remaining source.old)
+        (S.remaining source.new) (λ pieces. Tells reading.now any (packets_of pieces)
+        (T.heard taker.old) (T.heard taker.new)
+        × (skips ≡ skips_of (any_of reading.now) pieces))) }
 
-    // Of a fault of a write it may be the taker that failed.
-    ensures writer { OnOk result (K.failed out.new ≡ K.failed out.old) }
-    ensures failed { IfErr result (λ e. (e ≡ StreamFault.Write)
-        ⊎ (K.failed out.new ≡ failed_write e (K.failed out.old))) }
+    // What a fault leaves: a front part of what the packets before it tell was told.
+    ensures leaves { IfErr result (λ _. LeavesBy (cut reading.now) (S.remaining source.old)
+        (S.remaining source.new) (λ pieces. TellsPart reading.now any (packets_of pieces)
+        (T.heard taker.old) (T.heard taker.new))) }
+
+    // Where a read fails, just what the packets tell that what was read before it shows.
+    ensures settled { result ≡ Err StreamFault.Read → TakenAll (cut reading.now)
+        (S.remaining source.old) (S.remaining source.new) (λ pieces.
+        Hears (T.heard taker.old) (T.heard taker.new)
+        (events reading.now any (packets_of pieces)))
+        ⊎ IsEndlessBy (cut reading.now) (S.remaining source.old) (S.remaining source.new) }
+    ensures reader { ReadEnds (IsEndlessBy (cut reading.now) (S.remaining source.old)
+        (S.remaining source.new)) result (S.failed source.old) (S.failed source.new) }
 {
-    let (heard, left) = hear_each(alloc, reading, any, source, out, taker)?;
-    let Hearing { helds, passed } = heard;
-    leave_as(helds, taker)?;
-    Ok(EachedAs { passed, left })
-}
-
-// What a stream's packets have given.
-#[derive(Drop)]
-struct Hearing {
-    helds: HeldsAs,
-    passed: PassedAs,
-}
-
-// Takes packet after packet, until none is left.
-fn hear_each<S: Source, K: Sink, T: TakerAs>(
-    alloc: Global,
-    reading: &Reading,
-    any: bool,
-    source: &mut S,
-    out: &mut K,
-    taker: &mut T,
-) -> Result<(Hearing, LeftAs), StreamFault>
-    ensures told { IfOk result (λ h. hearing.Hears (S.remaining source.old)
-        (S.remaining source.new) h.1 (λ packets. IsTold reading.now any h.0.helds h.0.passed
-        (T.heard taker.old) (T.heard taker.new) packets)) }
-    ensures same { Keeps (K.contents out.old) (K.contents out.new) }
-    ensures reader { ReadEnds (IsEndless (S.remaining source.old) (S.remaining source.new)) result
-        (S.failed source.old) (S.failed source.new) }
-    ensures writer { OnOk result (K.failed out.new ≡ K.failed out.old) }
-    ensures failed { IfErr result (λ e. (e ≡ StreamFault.Write)
-        ⊎ (K.failed out.new ≡ failed_write e (K.failed out.old))) }
-{
-    let mut buffer = FrameBuffer::new(alloc);
-    let mut heard = Hearing {
+    let first = Teller {
+        wanted: Wanted {
+            reading: *reading,
+            name: None,
+        },
+        any,
         helds: HeldsAs::new(alloc),
-        passed: PassedAs::new(),
+        skips: Skips::new(),
     };
-    for count in 0..u64::MAX {
-        let len = match buffer.find_frame(source, out)? {
-            Front::Frame(len) => len,
-            Front::Stray => return Ok((heard, LeftAs::Stray)),
-            Front::End => {
-                let left = left_at(buffer.held());
-                return Ok((heard, left));
+    let mut out = Nowhere { failed: false };
+    let last = take_pieces(alloc, 0, source, first, &mut out, taker)?;
+    leave_as(last.helds, taker)?;
+    Ok(last.skips)
+}
+
+// What a stream's pieces have given of each name so far, while the taker is told.
+#[derive(Drop)]
+struct Teller {
+    // How parts are read; those of any name are wanted.
+    wanted: Wanted,
+    any: bool,
+    helds: HeldsAs,
+    // What was passed over.
+    skips: Skips,
+}
+
+impl Teller {
+    ghost use Rattle.std.specs.Prelude.{◌≢◌, Option};
+    ghost use Rattle.lpt_stream.specs.declared.piece_kind.PieceKind.TheVariants.{Whole};
+    ghost use Rattle.lpt_stream.specs.Pieces.{Piece, IsSealedBy};
+    ghost use Rattle.lpt_layout_each.specs.News.{Event};
+    ghost use Rattle.lpt_layout_each.specs.Tellers.{IsTold};
+
+    // Takes the next piece.
+    fn add<T: TakerAs>(
+        self,
+        alloc: Global,
+        place: u64,
+        kind: PieceKind,
+        octets: &[u8],
+        taker: &mut T,
+    ) -> Result<Teller, StreamFault>
+        requires sealed { IsSealedBy (cut self.wanted.reading) kind octets.now }
+        ensures same { IfOk result (λ t. t.wanted ≡ self.wanted) }
+        ensures told { (first : Teller) (heard : Option (List Event)) (ps : List Piece)
+            → IsTold first self heard (T.heard taker.old) ps → IfOk result (λ t.
+            IsTold first t heard (T.heard taker.new)
+            (ps ++ record { kind = kind; octets = octets.now } ∷ [])) }
+        ensures left { (first : Teller) (heard : Option (List Event)) (ps : List Piece)
+            → IsTold first self heard (T.heard taker.old) ps → IfErr result (λ _.
+            HearsPart heard (T.heard taker.new) (events first.wanted.reading first.any
+            (packets_of (ps ++ record { kind = kind; octets = octets.now } ∷ [])))) }
+        ensures fault { IfErr result (λ e. (e ≡ StreamFault.Write) ⊎ (e ≡ StreamFault.Memory)) }
+    {
+        match kind {
+            PieceKind::Whole => self.add_packet(alloc, place, octets, taker),
+            PieceKind::Damaged => Ok(self.pass(PieceKind::Damaged, octets)),
+            PieceKind::Stray => Ok(self.pass(PieceKind::Stray, octets)),
+        }
+    }
+
+    // Passes over the next piece, which is no packet.
+    fn pass(self, kind: PieceKind, octets: &[u8]) -> Teller
+        requires other { kind ≢ Whole }
+        requires sealed { IsSealedBy (cut self.wanted.reading) kind octets.now }
+        ensures same { result.wanted ≡ self.wanted }
+        ensures told { (first : Teller) (heard hears : Option (List Event)) (ps : List Piece)
+            → IsTold first self heard hears ps → IsTold first result heard hears
+            (ps ++ record { kind = kind; octets = octets.now } ∷ []) }
+    {
+        let mut teller = self;
+        let wanted = teller.wanted;
+        teller.skips.note(&wanted, kind, octets);
+        teller
+    }
+
+    // Takes the next piece, which is a packet.
+    fn add_packet<T: TakerAs>(
+        self,
+        alloc: Global,
+        place: u64,
+        octets: &[u8],
+        taker: &mut T,
+    ) -> Result<Teller, StreamFault>
+        requires sealed { IsSealedBy (cut self.wanted.reading) Whole octets.now }
+        ensures same { IfOk result (λ t. t.wanted ≡ self.wanted) }
+        ensures told { (first : Teller) (heard : Option (List Event)) (ps : List Piece)
+            → IsTold first self heard (T.heard taker.old) ps → IfOk result (λ t.
+            IsTold first t heard (T.heard taker.new)
+            (ps ++ record { kind = Whole; octets = octets.now } ∷ [])) }
+        ensures left { (first : Teller) (heard : Option (List Event)) (ps : List Piece)
+            → IsTold first self heard (T.heard taker.old) ps → IfErr result (λ _.
+            HearsPart heard (T.heard taker.new) (events first.wanted.reading first.any
+            (packets_of (ps ++ record { kind = Whole; octets = octets.now } ∷ [])))) }
+        ensures fault { IfErr result (λ e. (e ≡ StreamFault.Write) ⊎ (e ≡ StreamFault.Memory)) }
+    {
+        let Teller {
+            wanted,
+            any,
+            helds,
+            mut skips,
+        } = self;
+        let part = match carried_in(&wanted.reading, PieceKind::Whole, octets) {
+            Ok(part) => part,
+            Err(_) => {
+                skips.note(&wanted, PieceKind::Whole, octets);
+                let helds = helds.pass_over(&wanted.reading, octets)?;
+                return Ok(Teller {
+                    wanted,
+                    any,
+                    helds,
+                    skips,
+                });
             }
         };
-        let octets = &buffer.held()[..len];
-        heard = take_packet(alloc, reading, any, octets, heard, taker)?;
-        buffer.skip(len);
+        let reading = &wanted.reading;
+        let helds = take_part(alloc, reading, any, place, octets, &part, helds, taker)?;
+        Ok(Teller {
+            wanted,
+            any,
+            helds,
+            skips,
+        })
     }
-    Err(StreamFault::Read)
 }
 
-// Takes the packet that comes next.
-fn take_packet<T: TakerAs>(
-    alloc: Global,
-    reading: &Reading,
-    any: bool,
-    octets: &[u8],
-    heard: Hearing,
-    taker: &mut T,
-) -> Result<Hearing, StreamFault>
-    ensures held { (bs : List (List ℕ)) → HoldsEach reading.now any bs heard.helds
-        → IfOk result (λ h. HoldsEach reading.now any (bs ++ octets.now ∷ []) h.helds) }
-    ensures told { (bs : List (List ℕ)) → HoldsEach reading.now any bs heard.helds
-        → OnOk result (Hears (T.heard taker.old) (T.heard taker.new)
-        (told_by reading.now any bs octets.now (carried reading.now octets.now))) }
-    ensures passed { IfOk result (λ h. h.passed
-        ≡ passed_with (carried reading.now octets.now) (length octets.now) heard.passed) }
-    ensures fault { IfErr result (λ e. (e ≡ StreamFault.Write) ⊎ (e ≡ StreamFault.Memory)) }
-{
-    let Hearing { helds, passed } = heard;
-    match carried(reading, octets) {
-        Ok(part) => {
-            let helds = take_part(
-                alloc,
-                reading,
-                any,
-                passed.place,
-                octets,
-                &part,
-                helds,
-                taker,
-            )?;
-            let passed = passed.further(octets.len());
-            Ok(Hearing { helds, passed })
-        }
-        Err(skip) => {
-            let helds = helds.pass_over(reading, octets)?;
-            let passed = passed.skipping(skip, octets.len());
-            Ok(Hearing { helds, passed })
-        }
+impl<T: TakerAs> Taker<Nowhere, T> for Teller {
+    ghost use Rattle.std.specs.Prelude.{◌≡◌, ◌⊎◌, [], None, true};
+    ghost use Rattle.lpt_text.specs.declared.fault.StreamFault.TheVariants as faults;
+    ghost use Rattle.lpt_stream.specs.Pieces.{packets_of};
+    ghost use Rattle.lpt_carried.specs.Carried as carried;
+    ghost use Rattle.lpt_layout_each.specs.News.{HearsPart};
+    ghost use Rattle.lpt_layout_each.specs.Streams.{events};
+    ghost use Rattle.lpt_layout_each.specs.Tellers.{IsTold};
+
+    ghost cut = { λ t. carried.cut t.wanted.reading };
+
+    ghost is_open = { λ _. true };
+
+    ghost takes = { λ from first now old new pieces. (from ≡ 0)
+        × IsTold first now (T.heard old) (T.heard new) pieces };
+
+    ghost leaves = { λ from first old new pieces. HearsPart (T.heard old) (T.heard new)
+        (events first.wanted.reading first.any (packets_of pieces)) };
+
+    ghost writes = { λ from first pieces. [] };
+
+    ghost others = { λ e. (e ≡ faults.Write) ⊎ (e ≡ faults.Memory) };
+
+    fn cut(&self) -> Cut {
+        self.wanted.reading.cut()
+    }
+
+    fn is_open(&self) -> bool {
+        true
+    }
+
+    fn take(
+        self,
+        alloc: Global,
+        _out: &mut Nowhere,
+        lent: &mut T,
+        place: u64,
+        kind: PieceKind,
+        octets: &[u8],
+    ) -> Result<Teller, StreamFault> {
+        self.add(alloc, place, kind, octets, lent)
     }
 }
 
@@ -177,6 +248,10 @@ fn take_part<T: TakerAs>(
     ensures told { (bs : List (List ℕ)) → HoldsEach reading.now any bs helds
         → carried reading.now octets.now ≡ Ok (named part.now)
         → OnOk result (Hears (T.heard taker.old) (T.heard taker.new)
+        (told_by reading.now any bs octets.now (carried reading.now octets.now))) }
+    ensures left { (bs : List (List ℕ)) → HoldsEach reading.now any bs helds
+        → carried reading.now octets.now ≡ Ok (named part.now)
+        → IfErr result (λ _. HearsPart (T.heard taker.old) (T.heard taker.new)
         (told_by reading.now any bs octets.now (carried reading.now octets.now))) }
     ensures fault { IfErr result (λ e. (e ≡ StreamFault.Write) ⊎ (e ≡ StreamFault.Memory)) }
 {

@@ -4,7 +4,7 @@ ghost use Rattle.std.specs.Prelude.{◌≡◌, ◌⊎◌, ℕ, Bool, List, IfErr
 ghost use Rattle.lpt_carried.specs.declared.reading.Reading.{Reading};
 ghost use Rattle.lpt_layout_each.specs.Eaches as each;
 ghost use Rattle.lpt_layout_each.specs.Helds.{Follows, HoldsEach};
-ghost use Rattle.lpt_layout_each.specs.News.{Event, Hears};
+ghost use Rattle.lpt_layout_each.specs.News.{Event, Hears, HearsPart};
 ghost use Rattle.lpt_layout_each.specs.Streams.{Leaves, of};
 
 use crate::course::CourseAs;
@@ -20,6 +20,9 @@ pub fn leave_as<T: TakerAs>(helds: HeldsAs, taker: &mut T) -> Result<(), StreamF
     ensures told { (r : Reading) (any : Bool) (bs : List (List ℕ)) → HoldsEach r any bs helds
         → OnOk result ((es : List Event) × Leaves r any bs es
         × Hears (T.heard taker.old) (T.heard taker.new) es) }
+    ensures left { (r : Reading) (any : Bool) (bs : List (List ℕ)) → HoldsEach r any bs helds
+        → IfErr result (λ _. (es : List Event) × Leaves r any bs es
+        × HearsPart (T.heard taker.old) (T.heard taker.new) es) }
     ensures fault { IfErr result (λ e. (e ≡ StreamFault.Write) ⊎ (e ≡ StreamFault.Memory)) }
 {
     let mut kept = helds.kept;
@@ -33,6 +36,8 @@ pub fn leave_as<T: TakerAs>(helds: HeldsAs, taker: &mut T) -> Result<(), StreamF
 fn tell_left<T: TakerAs>(name: Name, held: CourseAs, taker: &mut T) -> Result<(), StreamFault>
     ensures told { (c : each.Course) → Follows c held → OnOk result
         (Hears (T.heard taker.old) (T.heard taker.new) (of name (each.left c))) }
+    ensures left { (c : each.Course) → Follows c held → IfErr result
+        (λ _. HearsPart (T.heard taker.old) (T.heard taker.new) (of name (each.left c))) }
     ensures fault { IfErr result (λ e. (e ≡ StreamFault.Write) ⊎ (e ≡ StreamFault.Memory)) }
 {
     if held.is_empty() {

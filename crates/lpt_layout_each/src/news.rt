@@ -23,7 +23,7 @@ pub enum NewsAs {
 pub trait TakerAs {
     ghost use Rattle.std.specs.Prelude.{◌≡◌, ◌⊎◌, ◌∷◌, [], List, Option, IfErr, OnOk};
     ghost use Rattle.lpt_layout_each.specs.Told.{news_of};
-    ghost use Rattle.lpt_layout_each.specs.News.{Event, Hears};
+    ghost use Rattle.lpt_layout_each.specs.News.{Event, Hears, HearsPart};
 
     // What was told so far, where that is known.
     ghost heard: { Self → Option (List Event) };
@@ -33,6 +33,8 @@ pub trait TakerAs {
     /// Errors: `Write` if it couldn't be written; `Memory`.
     fn take(&mut self, name: Name, news: &NewsAs) -> Result<(), StreamFault>
         ensures heard { OnOk result (Hears (heard self.old) (heard self.new)
+            ((name, news_of news.now) ∷ [])) }
+        ensures left { IfErr result (λ _. HearsPart (heard self.old) (heard self.new)
             ((name, news_of news.now) ∷ [])) }
         ensures fault { IfErr result (λ e. (e ≡ StreamFault.Write) ⊎ (e ≡ StreamFault.Memory)) };
 }

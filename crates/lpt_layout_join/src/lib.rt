@@ -37,6 +37,7 @@ pub use lpt_part::PartFault;
 pub use lpt_pus::PusFault;
 pub use lpt_skips::{Skips, Wanted};
 pub use lpt_text::{Sink, Source, StreamFault};
+pub use nowhere::Nowhere;
 pub use order::Order;
 pub use several::gather_stream;
 pub use writing::{end_of, join_as, unfit};

@@ -2,11 +2,11 @@
 
 use lpt_text::Sink;
 
-// A sink that keeps nothing, for takers that write nothing.
+/// A sink that keeps nothing, for takers that write nothing.
 #[derive(Drop)]
-pub(crate) struct Nowhere {
-    // Whether a write has taken nothing.
-    pub(crate) failed: bool,
+pub struct Nowhere {
+    /// Whether a write has taken nothing.
+    pub failed: bool,
 }
 
 impl Sink for Nowhere {

@@ -4,17 +4,14 @@ ghost use Rattle.std.specs.Prelude.{◌≡◌, IfErr};
 
 use crate::eaches::write_new;
 use crate::joins::tell;
-use crate::layout_joins::{unfit_text, who};
-use lpt_carried::{Name, Reading, Skip};
+use crate::layout_joins::{tell_skips, unfit_text, who};
+use lpt_carried::{Name, Reading};
 use lpt_command_line::JoinLayoutWords;
-use lpt_io::{
-    Failure, Fault, Machine, Packets, Status, Voice, finish, first_failure, output, packets_end,
-    tell_place,
-};
+use lpt_io::{Failure, Fault, Machine, Packets, Status, Voice, packets_end};
 use lpt_join::{PartNumbers, missing_list};
-use lpt_layout_each::{CameAs, EachedAs, LeftAs, NewsAs, TakerAs, each_as};
-use lpt_packet::Direction;
+use lpt_layout_each::{CameAs, NewsAs, TakerAs, each_as};
 use lpt_part::Kind;
+use lpt_skips::{Skips, Wanted};
 use lpt_text::StreamFault;
 use std::alloc::{AllocError, Global};
 use std::collections::BTreeMap;
@@ -123,7 +120,7 @@ pub fn tell_lost(
     match news {
         NewsAs::Given(_) => Ok(()),
         NewsAs::Dropped(came) | NewsAs::Overtaken(came, _) => {
-            tell(rt, missing_text(rt.alloc(), &who, Some(name), came, from))
+            tell(rt, missing_text(rt.alloc(), &who, name, came, from))
         }
         NewsAs::Unfit(misfit) => tell(rt, unfit_text(rt.alloc(), &who, *misfit)),
     }
@@ -159,15 +156,7 @@ pub fn join_each<'a, R: Machine>(
         lost: false,
         failure: None,
     };
-    let mut out = output(rt)?;
-    let ended = each_as(
-        rt.alloc(),
-        reading,
-        words.any,
-        source,
-        &mut out,
-        &mut folder,
-    );
+    let ended = each_as(rt.alloc(), reading, words.any, source, &mut folder);
     let failed = matches!(ended, Err(StreamFault::Read));
     let failure = match packets_end(rt, voice, source, &words.files, failed) {
         Some(failure) => Some(failure),
@@ -175,9 +164,23 @@ pub fn join_each<'a, R: Machine>(
     };
     let (came, lost) = (folder.came, folder.lost);
     drop(folder);
-    first_failure(finish(rt, out), failure)?;
+    match failure {
+        Some(failure) => Err(failure),
+        None => status_of(rt, user, reading, came, lost, ended),
+    }
+}
+
+// The status of a join that ended so.
+fn status_of(
+    rt: &(impl Eprint + AllocGlobal),
+    user: u32,
+    reading: &Reading,
+    came: bool,
+    lost: bool,
+    ended: Result<Skips, StreamFault>,
+) -> Result<Status, Failure> {
     match ended {
-        Ok(ended) => match told(rt, reading, words, came, lost, &ended) {
+        Ok(skips) => match told(rt, user, reading, came, lost, &skips) {
             Ok(status) => Ok(status),
             Err(_) => Err(Failure::from(Fault::Memory)),
         },
@@ -185,54 +188,51 @@ pub fn join_each<'a, R: Machine>(
     }
 }
 
-// The status of a join whose stream was read so far, after it was told where no part came, and what
-// was passed over where not all is well. The only error is out of memory.
+// The status of a join whose stream was read to its end, after it was told where no part came, and
+// where not all is well, what was passed over. The only error is out of memory.
 fn told(
     rt: &(impl Eprint + AllocGlobal),
+    user: u32,
     reading: &Reading,
-    words: &JoinLayoutWords<'_>,
     came: bool,
     lost: bool,
-    ended: &EachedAs,
+    skips: &Skips,
 ) -> Result<Status, AllocError> {
-    let (direction, from) = (reading.direction, words.span.from.unwrap_or(0));
-    let passed = ended.passed;
+    if came && !lost {
+        return Ok(Status::Done);
+    }
     if !came {
-        let word = direction.word();
-        tell(
-            rt,
-            format!(in rt.alloc(); "{word}: no part of a message came"),
-        )?;
+        let direction = reading.direction.word();
+        let text = format!(in rt.alloc(); "{direction}: no part of a message came");
+        tell(rt, text)?;
     }
-    if !came || lost {
-        tell_skips(rt, direction, from, passed.skipped, passed.skips)?;
-    }
-    let left = tell_left(rt, passed.place.saturating_add(from), ended.left)?;
-    Ok(if came && !lost { left } else { Status::Refused })
+    let wanted = Wanted {
+        reading: *reading,
+        name: None,
+    };
+    tell_skips(rt, user, &wanted, skips)?;
+    Ok(Status::Refused)
 }
 
-// That no part came, or which are missing, and where the first stands that came, where that is
-// known.
+// Which parts of a message are missing, as a list for `split --each`, and from where on others of
+// it came, where that is known. The only error is out of memory.
 fn missing_text(
     alloc: Global,
     who: &str,
-    name: Option<Name>,
+    name: Name,
     came: &CameAs,
     from: u64,
 ) -> Result<String, AllocError> {
-    if name.is_none() {
-        return format!(in alloc; "{who}: no part of a message came");
-    }
     let numbers = numbers_of(alloc, came)?;
     let list = missing_list(alloc, &numbers);
     drop(numbers);
-    let list = list?;
+    let (id, list) = (name.id, list?);
     match came.began() {
         Some(began) => {
             let place = began.saturating_add(from);
-            format!(in alloc; "{who}: from octet {place} on, missing parts: {list}")
+            format!(in alloc; "{who}: from octet {place} on, missing parts: {id}:{list}")
         }
-        None => format!(in alloc; "{who}: missing parts: {list}"),
+        None => format!(in alloc; "{who}: missing parts: {id}:{list}"),
     }
 }
 
@@ -255,63 +255,4 @@ fn numbers_of(alloc: Global, came: &CameAs) -> Result<PartNumbers, AllocError> {
         }
     }
     Ok(numbers)
-}
-
-// Says how many packets carried no part, and why the first didn't. The only error is out of
-// memory.
-fn tell_skips(
-    rt: &(impl Eprint + AllocGlobal),
-    direction: Direction,
-    from: u64,
-    skipped: Option<(u64, Skip)>,
-    skips: u64,
-) -> Result<(), AllocError> {
-    let Some((behind, skip)) = skipped else {
-        return Ok(());
-    };
-    let alloc = rt.alloc();
-    let direction = direction.word();
-    let place = behind.saturating_add(from);
-    let why = skip_text(alloc, skip)?;
-    tell(
-        rt,
-        format!(in alloc;
-            "{direction}: packets that carry no part: {skips}, the first at octet {place}: {why}"
-        ),
-    )
-}
-
-// Why a packet carries no part.
-fn skip_text(alloc: Global, skip: Skip) -> Result<String, AllocError> {
-    let (code, name) = match skip {
-        Skip::Idle => return format!(in alloc; "it is idle"),
-        Skip::OtherApid(apid) => return format!(in alloc; "its APID is {apid}"),
-        Skip::OtherType { service, subtype } => {
-            return format!(in alloc; "it has service {service} and subtype {subtype}");
-        }
-        Skip::Stray(len) => return format!(in alloc; "{len} octets are no packet"),
-        Skip::NoPacket(fault) => (fault.code(), fault.name()),
-        Skip::NoMessage(fault) => (fault.code(), fault.name()),
-        Skip::NoPart(fault) => (fault.code(), fault.name()),
-    };
-    format!(in alloc; "fault {code} {name}")
-}
-
-// Says that the packets end at this place, where something is left behind them, and gives the
-// status of that. The only error is out of memory.
-fn tell_left(
-    rt: &(impl Eprint + AllocGlobal),
-    place: u64,
-    left: LeftAs,
-) -> Result<Status, AllocError> {
-    let text = match left {
-        LeftAs::Nothing => return Ok(Status::Done),
-        LeftAs::Unfinished => format!(in rt.alloc(); "octet {place}: less than a packet"),
-        LeftAs::Stray => format!(in rt.alloc();
-            "octet {place}: no packet begins here, so reading ended"
-        ),
-    };
-    let text = text?;
-    tell_place(rt, text.as_str());
-    Ok(Status::Refused)
 }

@@ -13,7 +13,7 @@ use lpt_join::{PartNumbers, missing_list};
 use lpt_layout::Width;
 use lpt_layout_join::{Gathering, JoinEnd, JoinReport, MisfitAs, end_of, join_as};
 use lpt_packet::Direction;
-use lpt_skips::{Wanted, name_text};
+use lpt_skips::{Skips, Wanted, name_text};
 use lpt_split::greatest;
 use lpt_text::StreamFault;
 use std::alloc::{AllocError, Global};
@@ -162,12 +162,23 @@ fn told(
         }
     };
     if !matches!(report.end, Some(JoinEnd::Written(_))) {
-        let alone = source_of(source, reading);
-        for line in report.skips.lines(rt.alloc(), wanted, alone)? {
-            tell_place(rt, line.as_str());
-        }
+        tell_skips(rt, source, wanted, &report.skips)?;
     }
     Ok(status)
+}
+
+/// Says on standard error what was passed over, and why, if these parts were wanted and this source
+/// is configured. The only error is out of memory.
+pub fn tell_skips(
+    rt: &(impl Eprint + AllocGlobal),
+    source: u32,
+    wanted: &Wanted,
+    skips: &Skips,
+) -> Result<(), AllocError> {
+    for line in skips.lines(rt.alloc(), wanted, source_of(source, &wanted.reading))? {
+        tell_place(rt, line.as_str());
+    }
+    Ok(())
 }
 
 // Says of each transaction what isn't whole. The only error is out of memory.

@@ -1,7 +1,8 @@
 -- Name after name, until none is left.
 use Rattle.std.proofs.Common.{◌≡◌, refl, ◌<◌, true, false, List, [], ◌∷◌, length, arith}
+use Rattle.lpt_stream.proofs.EndLemmas.{any-err}
 use Rattle.lpt_layout_each.specs.Eaches.{held}
-use Rattle.lpt_layout_each.proofs.TellLemmas.{left-all, left-first, left-next}
+use Rattle.lpt_layout_each.proofs.TellLemmas.{left-all, left-first, left-next, left-part}
 use Rattle.lpt_layout_each.proofs.leaving.leave_as.Goals as goal
 
 no_true : false ≡ true → ⊥
@@ -32,3 +33,14 @@ returns-clause-told g c = λ r any bs h.
     left-all r any bs c.args.helds c.loop-name.kept (g.T.TakerAs.heard c.args.taker.now)
     (g.T.TakerAs.heard c.loop-name.taker) h (c.loop-name.invariant r any bs h)
     (none_left c.loop-name.kept.entries c.in_default.ensures.variant.1)
+
+pub returns-in_err-tell_left-clause-left : goal.returns-in_err-tell_left-clause-left
+returns-in_err-tell_left-clause-left g c = λ r any bs h.
+    let was = c.loop-name.invariant r any bs h in
+    let name = c.in-Some.name in
+    any-err _ c.from_residual.result
+    (left-part r any bs c.args.helds c.loop-name.kept c.pop_first.new.self name c.in-Some.held
+    (g.T.TakerAs.heard c.args.taker.now) (g.T.TakerAs.heard c.loop-name.taker)
+    (g.T.TakerAs.heard c.tell_left.new.taker) h was c.in-Some.ensures.removal
+    (c.in_err-tell_left.ensures.left (held r any name bs)
+    (was.holds name c.in-Some.held c.in-Some.ensures.value)))

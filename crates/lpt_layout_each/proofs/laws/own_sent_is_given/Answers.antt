@@ -1,0 +1,14 @@
+-- The profile's law, of the same news.
+use Rattle.lpt_layout_each.proofs.OwnLawLemmas.{all-given, own-news}
+use Rattle.lpt_layout_each.proofs.laws.own_sent_is_given.Goals as goal
+
+pub returns : goal.returns
+returns c = λ t any messages packets octets sends.
+    all-given (λ m. m) messages _ _
+    (own-news t
+    (λ p s size fit agree whole. (
+      c.whole_is_split.ensures.message p s size fit agree whole,
+      c.whole_is_split.ensures.split p s size fit agree whole,
+    ))
+    c.the_own_layouts.ensures.packet c.the_own_parts.ensures any packets octets)
+    (c.sent_is_given.ensures t any messages packets sends)
