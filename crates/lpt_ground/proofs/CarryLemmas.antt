@@ -35,7 +35,7 @@ paced-append terms s (x ∷ xs) ys =
     ∙ sym (append_assoc (written_at s x) (paced terms (answered terms s x) xs)
     (paced terms (come_to terms (answered terms s x) xs) ys))
 
-hears-more : (had has more : Option (List Answer)) (xs ys : List Answer)
+pub hears-more : (had has more : Option (List Answer)) (xs ys : List Answer)
     → Hears had has xs
     → Hears has more ys
     → Hears had more (xs ++ ys)
@@ -45,7 +45,7 @@ hears-more (Some old) (Some mid) None xs ys h k = absurd k
 hears-more (Some old) (Some mid) (Some new) xs ys h k =
     k ∙ ap (λ (front : List Answer). front ++ ys) h ∙ append_assoc old xs ys
 
-hears-none : (had has : Option (List Answer)) → has ≡ had → Hears had has []
+pub hears-none : (had has : Option (List Answer)) → has ≡ had → Hears had has []
 hears-none None has same = tt
 hears-none (Some old) has same =
     subst (λ (o : Option (List Answer)). Hears (Some old) o []) (sym same) (sym (append-nil old))

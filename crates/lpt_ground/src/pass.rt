@@ -88,6 +88,14 @@ impl Pass {
         }
     }
 
+    /// Whose reports count, and when it is given up.
+    pub fn terms(&self) -> Terms
+        ensures { result ≡ self.now.terms }
+    {
+        let Pass { terms, .. } = self;
+        *terms
+    }
+
     /// The requests, with what became of them.
     pub fn asked(&self) -> &[Asked]
         ensures { result.now ≡ self.now.asked.items }

@@ -54,9 +54,9 @@ impl Said {
 }
 
 impl Terms {
-    // The report of the pass that octets are.
+    /// The report of the pass that octets are: what its head says, and its body.
     #[tactic(auto, unfolding(crate::specs::Telling::report_of, lpt_pus::specs::Telemetry::telemetry_in))]
-    pub(crate) fn report_of<'a>(&self, octets: &'a [u8]) -> Option<(TmHead, &'a [u8])>
+    pub fn report_of<'a>(&self, octets: &'a [u8]) -> Option<(TmHead, &'a [u8])>
         requires { IsOctets octets.now }
         ensures { option_map (λ x. telemetry x.0 x.1.now) result ≡ report_of self.now octets.now }
     {

@@ -17,6 +17,9 @@ use Rattle.lpt_ground.specs.declared.pass.End.TheVariants.{Done}
 use Rattle.lpt_ground.specs.declared.pass.Step.TheVariants.{Stop}
 use Rattle.lpt_ground.specs.Carrying.{Answer, come_to, packets_of}
 use Rattle.lpt_ground.specs.Passes.{State, next_step}
+use Rattle.lpt_ground_large.specs.declared.large.Large.{Large}
+use Rattle.lpt_ground_large.specs.Carrying as large
+use Rattle.lpt_ground_large.specs.Uplinks.{Way, next_way}
 
 -- a request waits, awaits the report of its completion, and is known by its first four octets
 pub record IsLoad (a : Asked) : Type 0 where
@@ -71,4 +74,21 @@ DoneLeavesTheImage =
     → IsPass c first (came_to c first xs).ends.log x terms.source place (messages_of s.asked)
     → WerePutOut c first xs (packets_of answers)
     → next_step (come_to terms s answers) ≡ Stop Done
+    → Stands x (came_to c first xs).ends.memories
+
+-- the same of a load that goes up as a large message, under whatever names
+abbrev pub LargeLeavesTheImage : Type 0
+LargeLeavesTheImage =
+    (c : Config) (first : Contents) (xs : List Move) (x : Image) (content : List ℕ) (place : ℕ)
+    (l : Large) (terms : Terms) (w : Way) (answers : List Answer)
+    → IsConfig c
+    → CanMoveAll c first xs
+    → content_of x.memory first ≡ Some content
+    → x.address + length x.octets ≤ length content
+    → terms.apid ≡ c.apid
+    → AreLoads w.of_request.asked
+    → IsPass c first (came_to c first xs).ends.log x terms.source place
+    (messages_of w.of_request.asked)
+    → WerePutOut c first xs (packets_of answers)
+    → next_way l (large.come_to l terms w answers) ≡ Stop Done
     → Stands x (came_to c first xs).ends.memories

@@ -1,6 +1,6 @@
 //! What is proved of a pass that is done, whatever two ends did: functions with empty bodies.
 
-ghost use Rattle.lpt_ground_moves.specs.Chains.{DoneLeavesTheImage, DoneWasHeard};
+ghost use Rattle.lpt_ground_moves.specs.Chains.{DoneLeavesTheImage, DoneWasHeard, LargeLeavesTheImage};
 
 /// If a pass of loads is done, and each packet that it heard was put out by the spacecraft, of
 /// each of its loads a report of start or completion could be heard that goes to its source.
@@ -12,4 +12,10 @@ pub fn done_was_heard()
 /// else the two ends did.
 pub fn done_leaves_the_image()
     ensures { DoneLeavesTheImage }
+{}
+
+/// The same of a load that goes up in parts, all or nothing, under one name or several: if it is
+/// done, the memory has the image there.
+pub fn large_leaves_the_image()
+    ensures { LargeLeavesTheImage }
 {}
