@@ -9,11 +9,12 @@ use Rattle.lpt_c_ground.specs.declared.jobs.LptJob.{LptJob}
 abbrev pub kind_from : ℕ → Kind
 kind_from kind = if kind == 1 then Load else if kind == 2 then Dump else Check
 
--- how few octets a part may have: a dump's report has 6 more than the load of as many
+-- how few octets a part may have: a dump's report has 6 more than the load of as many, and a
+-- check's as many as the load of 6
 abbrev pub least_part : Kind → ℕ
 least_part Load = 4
 least_part Dump = 7
-least_part Check = 4
+least_part Check = 6
 
 -- how many octets a request is of at most, by the part size
 abbrev pub each_of : Kind → (part_size : ℕ) → ℕ
@@ -31,7 +32,7 @@ flags_fit Check flags = nat_le flags 15
 abbrev pub numbers_fit : Kind → LptJob → Bool
 numbers_fit kind j =
     nat_le j.apid 2046 && nat_le j.count 16383 && flags_fit kind j.flags
-    && nat_le (least_part kind) j.part_size && nat_le j.part_size 1024
+    && nat_le (least_part kind) j.part_size && nat_le j.part_size 1024 && nat_le 1 j.tries
 
 -- the same of a job
 abbrev pub is_job : LptJob → Bool

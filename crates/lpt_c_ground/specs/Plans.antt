@@ -100,9 +100,11 @@ AreOf Dump each memory places content requests =
 AreOf Check each memory places content requests =
     AreReads reads.Check each memory (map place_of places) requests
 
--- a job's pass that begins: of its requests, no more than have a request ID of their own
+-- the pass of a job that isn't refused, as it begins: of its requests, no more than have a request
+-- ID of their own
 pub record IsNew (j : LptJob) (places : List LptPlace) (content : List ℕ)
     (g : Ground) : Type 0 where
+  pub unrefused : new_refusal j places content ≡ None
   pub requests : List Request
   pub are : AreOf (kind_from j.kind) (each_of (kind_from j.kind) j.part_size) j.memory places
       content requests

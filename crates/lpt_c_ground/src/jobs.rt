@@ -23,7 +23,7 @@ pub struct LptJob {
     pub count: u16,
     /// The part size of the link in octets.
     pub part_size: u32,
-    /// After so many waits in a row that settled nothing the pass is given up.
+    /// After so many waits in a row that settled nothing the pass is given up, at least 1.
     pub tries: u32,
 }
 
@@ -51,7 +51,8 @@ pub(crate) enum Kind {
 /// How many octets a check is of at most: of so many a checksum shows any three wrong bits.
 const CHECK_EACH: u16 = 4_000;
 
-/// So many octets more than the load of as many has, the report of a dump has.
+/// So many octets more than the load of as many has, the report of a dump has; and the report of a
+/// check has as many as the load of so many.
 const LESS: u32 = 6;
 
 /// The greatest APID, sequence count, acknowledgement flags and part size.
@@ -74,7 +75,7 @@ impl Kind {
         match self {
             Kind::Load => 4,
             Kind::Dump => 7,
-            Kind::Check => 4,
+            Kind::Check => LESS,
         }
     }
 
@@ -133,6 +134,7 @@ impl LptJob {
             && kind.takes(self.flags)
             && kind.least_part() <= self.part_size
             && self.part_size <= GREATEST_PART
+            && 1 <= self.tries
     }
 
     // How many octets a request is of at most.

@@ -9,8 +9,39 @@ use Rattle.lpt_ground.specs.declared.pass.Step.TheVariants.{Stop}
 use Rattle.lpt_ground.specs.Carrying.{Answer, Came, Went, answered, come_to, paced}
 use Rattle.lpt_ground.specs.Passes.{State, next_step}
 use Rattle.lpt_ground.proofs.CarryLemmas.{done-told}
-use Rattle.lpt_ground_run.specs.Carried.{CameTo}
+use Rattle.lpt_ground_large.specs.declared.large.Large.{Large}
+use Rattle.lpt_ground_large.specs.Carrying as large
+use Rattle.lpt_ground_large.specs.Uplinks.{Way, next_way}
+use Rattle.lpt_ground_large.proofs.UplinkLemmas.{done-is-told}
+use Rattle.lpt_ground_run.specs.Carried.{CameTo, CameUp}
 use Rattle.lpt_ground_run.specs.Laws.{KeptRunsAreOnePass}
+
+-- what holds of how it ended holds of what it ended as, once the notes were told
+pub by-end : (P : End → Type 0) (ended r : Result End StreamFault)
+    → IfOk r (λ e. ended ≡ Ok e)
+    → IfOk ended P
+    → IfOk r P
+by-end P ended (Err e) is p = tt
+by-end P (Err f) (Ok e) is p = absurd cc
+by-end P (Ok f) (Ok e) is p = subst P (let same : f ≡ e = cc in same) p
+
+pub came-up : (l m : Large) (terms : Terms) (w v : Way) (had has : Option (List Answer))
+    (old new : Option (List ℕ)) (r : Result End StreamFault)
+    → m ≡ l
+    → IfOk r (λ e. next_way m v ≡ Stop e)
+    → OnOk r (large.Went l terms w v had has old new)
+    → IfOk r (CameUp l terms w v old new)
+came-up l m terms w v had has old new (Err e) same stop went = tt
+came-up l m terms w v had has old new (Ok e) same stop went =
+    let ends : next_way l v ≡ Stop e = ap (λ (k : Large). next_way k v) (sym same) ∙ stop in
+    record {
+      answers = went.answers;
+      came = went.came;
+      ends = ends;
+      written = went.written;
+      told = λ is. done-is-told l terms w went.answers
+          (ap (next_way l) (sym went.came) ∙ ends ∙ ap Stop is);
+    }
 
 pub came-to : (terms : Terms) (s t : State) (had has : Option (List Answer))
     (old new : Option (List ℕ)) (r : Result End StreamFault)

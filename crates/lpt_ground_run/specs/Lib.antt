@@ -4,3 +4,4 @@ pub mod Keeping
 pub mod Laws
 pub mod Planning
 pub mod Runs
+pub mod Uplinks

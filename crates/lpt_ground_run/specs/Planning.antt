@@ -1,5 +1,5 @@
 -- The requests of a pass.
-use Rattle.std.specs.Prelude.{◌≡◌, ◌≤◌, ℕ, ◌+◌, ◌-◌, ◌%◌, nat_le, if◌then◌else◌, List, length, map, Result, Ok, Err}
+use Rattle.std.specs.Prelude.{◌≡◌, ◌≤◌, ℕ, ◌+◌, ◌-◌, ◌%◌, nat_le, nat_lt, if◌then◌else◌, List, length, map, Result, Ok, Err}
 use Rattle.lpt_requests.specs.declared.request.Request.{Request}
 use Rattle.lpt_requests.specs.declared.cut_fault.CutFault.{CutFault}
 use Rattle.lpt_requests.specs.declared.cut_fault.CutFault.TheVariants as cuts
@@ -9,7 +9,7 @@ use Rattle.lpt_ground.specs.declared.asked.Asked.{Asked}
 use Rattle.lpt_ground.specs.Plans.{planned}
 use Rattle.lpt_ground_run.specs.declared.heads.Heads.{Heads}
 use Rattle.lpt_ground_run.specs.declared.planning.PlanFault.{PlanFault}
-use Rattle.lpt_ground_run.specs.declared.planning.PlanFault.TheVariants.{Empty, PastEnd, Narrow, Memory}
+use Rattle.lpt_ground_run.specs.declared.planning.PlanFault.TheVariants.{Empty, PastEnd, Narrow, NarrowCheck, Memory}
 
 -- why what is asked can't be cut
 abbrev pub fault_of : CutFault → PlanFault
@@ -20,6 +20,11 @@ fault_of cuts.Memory = Memory
 -- how many octets a dump is of at most where a part has so many, 6 of which its report takes up
 abbrev pub dump_each : (part_size : ℕ) → Result ℕ PlanFault
 dump_each p = if nat_le p 6 then Err Narrow else Ok (p - 6)
+
+-- how many octets a check is of at most where a part has so many: its report is as long as the load
+-- of 6 octets
+abbrev pub check_each : (part_size : ℕ) → Result ℕ PlanFault
+check_each p = if nat_lt p 6 then Err NarrowCheck else Ok 4000
 
 -- the heads of requests behind so many, which ask for no report of success
 pub record IsBehind (h : Heads) (many : ℕ) (next : Heads) : Type 0 where

@@ -1,12 +1,15 @@
 //! A pass carried by what another thread hands over.
 
-ghost use Rattle.std.specs.Prelude.{◌≡◌, IfOk};
+ghost use Rattle.std.specs.Prelude.{◌≡◌, Ok, IfOk};
 ghost use Rattle.lpt_ground.specs.Passes.{state_of};
-ghost use Rattle.lpt_ground_run.specs.Carried.{CameTo};
+ghost use Rattle.lpt_ground_large.specs.Uplinks.{way_of};
+ghost use Rattle.lpt_ground_run.specs.Carried.{CameTo, CameUp};
 
 use crate::hearing::{Hearing, Notes};
 use lpt_ground::{End, Pass, carry};
+use lpt_ground_large::{Uplink, carry_large};
 use lpt_text::{Sink, StreamFault};
+use std::alloc::Global;
 use std::sync::Wait;
 use std::time::Clock;
 
@@ -27,6 +30,40 @@ pub fn carry_pass<R: Wait + Clock + Drop, N: Notes + Drop, K: Sink>(
     ensures terms { pass.new.terms ≡ pass.old.terms }
 {
     let ended = carry(pass, hearing, out);
+    ended_by(pass, hearing, ended)
+}
+
+/// Carries a large message to its end, beside the pass of its request, by what is heard of another
+/// thread. The notes are told as there.
+///
+/// Errors: as there; `Memory` also if memory ran out for a packet. What became of the request
+/// stays.
+pub fn carry_uplink<R: Wait + Clock + Drop, N: Notes + Drop, K: Sink>(
+    alloc: Global,
+    uplink: &mut Uplink,
+    pass: &mut Pass,
+    hearing: &mut Hearing<R, N>,
+    out: &mut K,
+) -> Result<End, StreamFault>
+    // Where it is done, the request was told so by a packet that came.
+    ensures carried { IfOk result (CameUp uplink.old.large pass.old.terms
+        (way_of uplink.old (state_of pass.old)) (way_of uplink.new (state_of pass.new))
+        (K.contents out.old) (K.contents out.new)) }
+    ensures large { uplink.new.large ≡ uplink.old.large }
+    ensures terms { pass.new.terms ≡ pass.old.terms }
+{
+    let ended = carry_large(alloc, uplink, pass, hearing, out);
+    ended_by(pass, hearing, ended)
+}
+
+// How a pass ended that came to this end, once the notes were told of it.
+fn ended_by<R: Wait + Clock + Drop, N: Notes + Drop>(
+    pass: &Pass,
+    hearing: &mut Hearing<R, N>,
+    ended: Result<End, StreamFault>,
+) -> Result<End, StreamFault>
+    ensures { IfOk result (λ e. ended ≡ Ok e) }
+{
     if !hearing.tell_end(pass.asked()) {
         return Err(StreamFault::Write);
     }

@@ -4,8 +4,9 @@
 //!
 //! The main type is `Hearing`, an ear at a channel. The first call is `Hearing::begin`, with where
 //! octets come from and with `Notes`, which are told before each round what became of the requests,
-//! and then `carry_pass`. `runs_of` says what became of them in few words; `kept_packets` and
-//! `hear_kept` take a pass from one process to the next.
+//! and then `carry_pass`, or `carry_uplink` with what `plan_uplink` gives. `runs_of` says what
+//! became of them in few words; `kept_packets` and `hear_kept` take a pass from one process to the
+//! next.
 #![tactic(auto)]
 
 mod carrying;
@@ -16,16 +17,19 @@ mod keeping;
 pub mod laws;
 mod planning;
 mod runs;
+mod uplinks;
 
-pub use carrying::carry_pass;
+pub use carrying::{carry_pass, carry_uplink};
 pub use cutting::{Outlet, hand_packets};
 pub use heads::Heads;
 pub use hearing::{HearFault, Hearing, Notes};
 pub use keeping::{digest_of, hear_kept, kept_packets};
 pub use lpt_ground::{Asked, End, Fate, Pass};
+pub use lpt_ground_large::{Large, Names, Uplink};
 pub use lpt_packet::Octets;
 pub use lpt_pus::AckFlags;
 pub use lpt_requests::{Area, CutFault, Place, Read};
 pub use lpt_text::{Sink, Source, StreamFault};
-pub use planning::{PlanFault, dump_each, plan_loads, plan_reads};
+pub use planning::{PlanFault, check_each, dump_each, plan_loads, plan_reads};
 pub use runs::{Outcome, Run, runs_of};
+pub use uplinks::plan_uplink;

@@ -4,7 +4,7 @@ ghost use Rattle.std.specs.Prelude.{◌≡◌, ◌<◌, ◌≤◌, List, Err, If
 ghost use Rattle.lpt_memory.specs.declared.request.Area.{Area};
 ghost use Rattle.lpt_memory.specs.declared.request.AreaRange.{AreaRange};
 ghost use Rattle.lpt_requests.specs.Cuts.{AreasCut, ArePlacesCut, areas_fault, as_load, as_read, places_fault, view};
-ghost use Rattle.lpt_ground_run.specs.Planning.{dump_each, fault_of, ArePlanned, IsBehind};
+ghost use Rattle.lpt_ground_run.specs.Planning.{check_each, dump_each, fault_of, ArePlanned, IsBehind};
 
 use crate::Heads;
 use lpt_ground::{Asked, MOST, MemoryFault, Request, plan_requests};
@@ -13,8 +13,12 @@ use lpt_requests::{Area, CutFault, Place, Read, load_requests, read_requests};
 use std::alloc::Global;
 use thiserror::Error;
 
-/// So many octets more than the load of as many has, the report of a dump has.
+/// So many octets more than the load of as many has, the report of a dump has; and the report of a
+/// check has as many as the load of so many.
 const LESS: u16 = 6;
+
+/// How many octets a check is of at most: of so many a checksum shows any three wrong bits.
+const CHECK_EACH: u16 = 4_000;
 
 /// How many sequence counts there are.
 const COUNTS: u64 = 16_384;
@@ -34,6 +38,9 @@ pub enum PlanFault {
     /// A dump's report would be longer than a packet of parts of so few octets.
     #[error("a dump's report has more octets than a packet of these parts: give more to a part")]
     Narrow,
+    /// The same of a check's report.
+    #[error("a check's report has more octets than a packet of these parts: a part needs 6 octets")]
+    NarrowCheck,
     /// A request's packet would be too long.
     #[error("a packet has no more than 65542 octets")]
     TooLong,
@@ -54,6 +61,20 @@ pub fn dump_each(part_size: u16) -> Result<u16, PlanFault>
         return Err(PlanFault::Narrow);
     }
     Ok(part_size - LESS)
+}
+
+/// How many octets a check is of at most. Its report is as long at most as the load of a part of so
+/// many octets.
+///
+/// Errors: `NarrowCheck`.
+pub fn check_each(part_size: u16) -> Result<u16, PlanFault>
+    ensures value { result ≡ check_each part_size }
+    ensures some { IfOk result (λ n. 0 < n) }
+{
+    if part_size < LESS {
+        return Err(PlanFault::NarrowCheck);
+    }
+    Ok(CHECK_EACH)
 }
 
 impl Heads {

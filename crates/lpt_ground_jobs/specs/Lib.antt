@@ -1,0 +1,4 @@
+pub mod Alone
+pub mod Areas
+pub mod Places
+pub mod Worked
