@@ -7,6 +7,8 @@ pub mod KeepingLemmas
 pub mod KeptLemmas
 pub mod NoiseLemmas
 pub mod ReaderLemmas
+pub mod RelayLemmas
 pub mod ServingLemmas
 pub mod StreamLemmas
+pub mod TurnLemmas
 pub mod WritingLemmas

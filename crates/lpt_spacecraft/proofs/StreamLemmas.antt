@@ -247,7 +247,7 @@ endless pace s t q e held count place h most =
     )
 
 -- what was read behind the rest of a stream was read behind the stream
-grown : (stream held read front : List ℕ)
+pub grown : (stream held read front : List ℕ)
     → stream ≡ front ++ held
     → 18446744073709551615 ≤ length (held ++ read)
     → 18446744073709551615 ≤ length (stream ++ read)

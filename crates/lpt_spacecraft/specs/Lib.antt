@@ -7,3 +7,4 @@ pub mod Serving
 pub mod Streams
 pub mod Telling
 pub mod Uses
+pub mod Waiting

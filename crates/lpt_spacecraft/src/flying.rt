@@ -49,7 +49,7 @@ pub(crate) fn serve_one<K: Sink>(
 }
 
 // Ticks so many times, and adds what there is to tell.
-fn tick_all<K: Sink>(
+pub(crate) fn tick_all<K: Sink>(
     craft: &mut Spacecraft,
     course: &mut Course,
     due: u64,

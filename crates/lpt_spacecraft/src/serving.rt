@@ -97,7 +97,7 @@ pub fn serve_stream<P: Peer, C: Clock, H: Keeper, L: Listener, K: Sink>(
 
 // Ticks as often as is due, takes a packet, and ticks behind it where that is due. What they make
 // is written once the spacecraft is kept, and then what there is to tell is told.
-fn serve_packet<H: Keeper, L: Listener, K: Outlet>(
+pub(crate) fn serve_packet<H: Keeper, L: Listener, K: Outlet>(
     craft: &mut Spacecraft,
     course: &mut Course,
     due: u64,
@@ -147,7 +147,7 @@ fn serve_packet<H: Keeper, L: Listener, K: Outlet>(
 }
 
 // Tells each of these.
-fn tell_all<L: Listener>(listener: &mut L, told: &[Told])
+pub(crate) fn tell_all<L: Listener>(listener: &mut L, told: &[Told])
     ensures { Hears (L.heard listener.old) (L.heard listener.new) told.now }
 {
     for one in told {
@@ -156,7 +156,7 @@ fn tell_all<L: Listener>(listener: &mut L, told: &[Told])
 }
 
 // The end of a stream with these octets left behind its packets, at this place.
-fn end_at(place: u64, left: &[u8]) -> Stop
+pub(crate) fn end_at(place: u64, left: &[u8]) -> Stop
     ensures { result ≡ end_at place left.now }
 {
     if left.is_empty() {

@@ -7,4 +7,6 @@ mod kept;
 #[cfg(test)]
 mod streams;
 #[cfg(test)]
+mod waiting;
+#[cfg(test)]
 mod worked;

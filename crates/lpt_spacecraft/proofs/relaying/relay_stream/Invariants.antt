@@ -1,0 +1,12 @@
+use Rattle.std.proofs.Common.{◌≡◌}
+use Rattle.lpt_frames.specs.Buffers.{held}
+use Rattle.lpt_spacecraft.proofs.RelayLemmas.{IsRelayed}
+use Rattle.lpt_spacecraft.proofs.relaying.relay_stream.Given as goal
+
+-- the stretches that came were handed over
+abbrev pub invariant-loop-count : goal.invariant-loop-count
+invariant-loop-count g l = record {
+  handed : IsRelayed l.fn.passing (g.P.Peer.remaining l.fn.peer) (g.P.Peer.remaining l.peer)
+      (g.R.Relay.handed l.fn.relay) (g.R.Relay.handed l.relay) (held l.buffer) l.count l.place;
+  reader : g.P.Peer.failed l.peer ≡ g.P.Peer.failed l.fn.peer;
+}

@@ -1,0 +1,86 @@
+//! A stream of packets, handed over to a spacecraft that waits.
+
+ghost use Rattle.std.specs.Prelude.{◌≡◌, ◌⊎◌, false, None, IfErr, IfOk};
+ghost use Rattle.lpt_text.specs.Streams.{ReadEnds};
+ghost use Rattle.lpt_spacecraft.specs.Waiting.{unwritten_fault, HandsOver, IsUnending};
+
+use crate::Stop;
+use crate::inlet::{Happening, Relay};
+use crate::serving::end_at;
+use lpt_frames::{FrameBuffer, Front};
+use lpt_packet::Octets;
+use lpt_stream::Peer;
+use lpt_text::{FromStd, StreamFault};
+use std::alloc::Global;
+
+/// Reads a stream of packets to its end, or up to octets with which no packet can begin, or until
+/// no more is taken, and hands over each packet. It is cut as `serve_stream` cuts it: if `passing`
+/// says so, such octets are passed over, and what is handed over says where and how many they are.
+///
+/// It answers where it stopped, or none if no more is taken. Errors: `Read` if a read failed, or if
+/// 2^64 - 1 packets and runs of such octets came, or so many octets are passed over; `Memory`, with
+/// which some octets of the stream are lost. A front part was handed over.
+pub fn relay_stream<P: Peer, R: Relay>(
+    alloc: Global,
+    passing: bool,
+    peer: &mut P,
+    relay: &mut R,
+) -> Result<Option<Stop>, StreamFault>
+    ensures hands { HandsOver passing result (P.remaining peer.old) (P.remaining peer.new)
+        (R.handed relay.old) (R.handed relay.new) }
+
+    // If it answers none, no more is taken.
+    ensures closed { IfOk result (λ stop. stop ≡ None → R.is_open relay.new ≡ false) }
+    ensures fault { IfErr result (λ e. (e ≡ StreamFault.Read) ⊎ (e ≡ StreamFault.Memory)) }
+    ensures reader { ReadEnds (IsUnending passing (P.remaining peer.old) (P.remaining peer.new))
+        result (P.failed peer.old) (P.failed peer.new) }
+{
+    // Nothing is written here.
+    let mut out = FromStd::new(Vec::new(alloc));
+    let mut buffer = FrameBuffer::new(alloc);
+    let mut place: u64 = 0;
+    for count in 0..u64::MAX {
+        let len = match buffer.find_frame(peer, &mut out) {
+            Ok(Front::Frame(len)) => len,
+            Ok(Front::Stray) => {
+                if !passing {
+                    return Ok(Some(Stop::Stray(place)));
+                }
+                let run = match buffer.find_again(peer, &mut out) {
+                    Ok(run) => run,
+                    Err(fault) => return Err(unwritten_fault(fault)),
+                };
+                let len = run.len;
+                if !relay.hand(Happening::Skipped { place, len }) {
+                    return Ok(None);
+                }
+                place = place.saturating_add(run.len);
+                if run.is_end {
+                    return Ok(Some(end_at(place, buffer.held())));
+                }
+                continue;
+            }
+            Ok(Front::End) => return Ok(Some(end_at(place, buffer.held()))),
+            Err(fault) => return Err(unwritten_fault(fault)),
+        };
+        let Ok(octets) = Vec::from_slice(alloc, &buffer.held()[..len]) else {
+            return Err(StreamFault::Memory);
+        };
+        if !relay.hand(Happening::Packet(Octets::from_vec(octets))) {
+            return Ok(None);
+        }
+        place = place.saturating_add(len as u64);
+        buffer.skip(len);
+    }
+    Err(StreamFault::Read)
+}
+
+// The same fault if nothing is written: no write ever fails then.
+fn unwritten_fault(fault: StreamFault) -> StreamFault
+    ensures { result ≡ unwritten_fault fault }
+{
+    match fault {
+        StreamFault::Write => StreamFault::Memory,
+        fault => fault,
+    }
+}
