@@ -42,7 +42,7 @@ _lpt() {
     request:dump | request:check) options+=' --each --ack --count' ;;
     esac
     case $command:$request in
-    ground:load | pass:load) options+=' --area --ack --verify' ;;
+    ground:load | pass:load) options+=' --area --large --name --names --ack --verify' ;;
     ground:patch | pass:patch) options+=' --ack --verify' ;;
     ground:dump | pass:dump) options+=' --area --to' ;;
     ground:check | pass:check) options+=' --area' ;;
@@ -59,7 +59,7 @@ _lpt() {
         return
         ;;
     *:*:--from:* | *:*:--to:* | *:*:--at:* | *:*:--fill:* | *:*:--length:* | *:*:--parts:* | *:*:--id:* | *:*:--ack:* | *:*:--count:* | *:*:--area:* | *:*:--each:* | \
-        *:*:--wait:* | *:*:--tries:* | *:*:--lose:* | *:*:--repeat:* | *:*:--damage:* | *:*:--delay:* | *:*:--seed:* | *:*:--memory:* | *:*:--tick-every:* | *:*:--reuse:* | \
+        *:*:--wait:* | *:*:--tries:* | *:*:--name:* | *:*:--names:* | *:*:--lose:* | *:*:--repeat:* | *:*:--damage:* | *:*:--delay:* | *:*:--seed:* | *:*:--memory:* | *:*:--tick-every:* | *:*:--reuse:* | \
         *:*:--apid:* | *:*:--source:* | *:*:--part-size:*)
         return
         ;;

@@ -138,7 +138,7 @@ for command in 'ground load' 'ground dump' 'ground check' 'ground patch' 'pass l
     complete -c lpt -n "__lpt_at $command" -l config -r -F -d 'A TOML file with the configuration'
     complete -c lpt -n "__lpt_at $command" -l apid -x -d 'The APID of all packets, 0 to 2046'
     complete -c lpt -n "__lpt_at $command" -l source -x -d 'A source that no earlier pass had, 1 to 65535; this or --passes must be given'
-    complete -c lpt -n "__lpt_at $command" -l passes -r -F -d 'Take the next source by this file, which keeps the last'
+    complete -c lpt -n "__lpt_at $command" -l passes -r -F -d 'Take the source after the one in this file, and write it there'
     complete -c lpt -n "__lpt_at $command" -l part-size -x -d 'The size of a part in octets, 4 to 1024'
     complete -c lpt -n "__lpt_at $command" -l wait -x -d 'Send again what is open if nothing came for so long'
     complete -c lpt -n "__lpt_at $command" -l tries -x -d 'Give up after so many waits in a row that settled nothing'
@@ -151,6 +151,9 @@ for command in 'ground load' 'ground check' 'pass load' 'pass check'
 end
 for command in ground pass
     complete -c lpt -n "__lpt_at $command load; or __lpt_at $command patch" -l ack -x -a '8 10' -d 'The acknowledgement flags: with 10 a report of start counts as well'
+    complete -c lpt -n "__lpt_at $command load" -l large -d 'Load the file in one step, all or nothing: by one request, as a large message'
+    complete -c lpt -n "__lpt_at $command load" -l name -x -d 'The transaction ID under which a large message goes first'
+    complete -c lpt -n "__lpt_at $command load" -l names -x -d 'Give a large message up after so many IDs'
     complete -c lpt -n "__lpt_at $command load; or __lpt_at $command patch" -l verify -d 'Dump the octets after the load, and compare them'
     complete -c lpt -n "__lpt_at $command dump" -l to -r -F -d 'Where the octets are written once all have come; must be given'
     complete -c lpt -n "__lpt_at $command dump" -l area -x -d 'Other octets and their file, in the same pass'

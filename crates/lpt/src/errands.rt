@@ -3,16 +3,15 @@
 ghost use Rattle.lpt_events.specs.Configs.{IsConfig};
 
 use crate::pieces::Piece;
+use crate::uplinks::{LONGEST_LOAD, uplink_in};
 use lpt_command_line::{AckFlags, GroundWords, Job};
 use lpt_events::Config;
 use lpt_ground::{MOST, Pass, Terms};
 use lpt_ground_run::{
-    Area, Asked, Heads, Place, PlanFault, Read, dump_each, plan_loads, plan_reads,
+    Area, Asked, Heads, Place, PlanFault, Read, Uplink, check_each, dump_each, plan_loads,
+    plan_reads,
 };
 use std::alloc::Global;
-
-/// How many octets one check is of at most: of so many a checksum shows any three wrong bits.
-const CHECK_EACH: u16 = 4_000;
 
 /// The last sequence count.
 const LAST_COUNT: u16 = 16_383;
@@ -82,6 +81,8 @@ pub struct Errand {
     pub places: Vec<Places>,
     /// The first pass.
     pub first: Pass,
+    /// How its one request goes up, if that goes as a large message.
+    pub uplink: Option<Uplink>,
     /// The dumps by which loads are verified.
     pub second: Option<(Vec<Places>, Pass)>,
     // The content that is loaded or checked, area by area.
@@ -100,7 +101,7 @@ impl Errand {
 
 /// What these words ask to be carried to its end under this source, of these areas.
 ///
-/// Errors: as of `plan_loads` and `dump_each`.
+/// Errors: as of `plan_loads`, `dump_each` and `check_each`.
 pub fn errand_of(
     alloc: Global,
     config: &Config,
@@ -122,10 +123,16 @@ pub fn errand_of(
     let areas = areas_of(alloc, pieces)?;
     let asked = all_asked(alloc, &heads, &places, &areas)?;
     let second = verifying(alloc, &heads, words, verified, asked.len())?;
-    let first = Pass::new(terms_of(&heads, words), asked);
+    let uplink = uplink_in(alloc, config, words, &heads, &asked)?;
+    let tries = match words.large {
+        Some(large) => large.tries,
+        None => words.tries,
+    };
+    let first = Pass::new(terms_of(&heads, tries), asked);
     Ok(Errand {
         places,
         first,
+        uplink,
         second,
         areas,
     })
@@ -231,7 +238,7 @@ fn all_places(
 ) -> Result<Vec<Places>, PlanFault> {
     let mut places = Vec::new(alloc);
     for (area, piece) in pieces.iter().enumerate() {
-        let one = places_of(words.job, area, piece, part)?;
+        let one = places_of(words, area, piece, part)?;
         if places.push(one).is_err() {
             return Err(PlanFault::Memory);
         }
@@ -240,14 +247,24 @@ fn all_places(
 }
 
 // The octets of the area of this number, where a part has so many.
-fn places_of(job: Job, area: usize, piece: &Piece, part: u16) -> Result<Places, PlanFault> {
+fn places_of(
+    words: &GroundWords<'_>,
+    area: usize,
+    piece: &Piece,
+    part: u16,
+) -> Result<Places, PlanFault> {
     let Ok(of_content) = u32::try_from(piece.octets.as_slice().len()) else {
         return Err(PlanFault::PastEnd);
     };
-    let (kind, each, len) = match job {
-        Job::Load { .. } => (Kind::Load, part, of_content),
+    let loaded = match words.large {
+        Some(_) if of_content > u32::from(LONGEST_LOAD) => return Err(PlanFault::TooLong),
+        Some(_) => LONGEST_LOAD,
+        None => part,
+    };
+    let (kind, each, len) = match words.job {
+        Job::Load { .. } => (Kind::Load, loaded, of_content),
         Job::Dump => (Kind::Dump, dump_each(part)?, piece.len),
-        Job::Check => (Kind::Check, CHECK_EACH, of_content),
+        Job::Check => (Kind::Check, check_each(part)?, of_content),
     };
     Ok(Places {
         area,
@@ -319,15 +336,15 @@ fn verifying(
     if many > MOST {
         return Err(PlanFault::TooMany(many as u64));
     }
-    Ok(Some((places, Pass::new(terms_of(&heads, words), asked))))
+    Ok(Some((places, Pass::new(terms_of(&heads, words.tries), asked))))
 }
 
 // Whose reports count, and when a pass is given up.
-fn terms_of(heads: &Heads, words: &GroundWords<'_>) -> Terms {
+fn terms_of(heads: &Heads, tries: u32) -> Terms {
     Terms {
         apid: heads.apid,
         source: heads.source,
         starts: heads.flags.bits() & START != 0,
-        tries: words.tries,
+        tries,
     }
 }

@@ -10,10 +10,11 @@ use crate::ground_told::{Teller, title_of};
 use crate::ground_wires::{Ears, Wire, close, fifo_wire, hear, output_wire};
 use crate::locking::locked;
 use crate::pieces::{Piece, pieces_of};
+use crate::uplinks::LONGEST_LOAD;
 use lpt_command_line::{GroundWords, Job};
 use lpt_events::Config;
 use lpt_ground::{End, Pass, dumped_octets};
-use lpt_ground_run::{PlanFault, carry_pass};
+use lpt_ground_run::{PlanFault, carry_pass, carry_uplink};
 use lpt_io::{Failure, Fault, Status, Voice, first_failure, tell_text, write_for_good};
 use lpt_text::{Sink, StreamFault};
 use std::fs::File;
@@ -102,7 +103,7 @@ pub(crate) fn ready_of(
         Ok(errand) => errand,
         Err(PlanFault::Memory) => return Err(Failure::from(Fault::Memory)),
         Err(fault) => {
-            tell_text(rt, format!(in rt.alloc(); "{fault}"));
+            tell_fault(rt, words, fault);
             return Ok(None);
         }
     };
@@ -114,6 +115,17 @@ pub(crate) fn ready_of(
         Ok(title) => Ok(Some(Ready { errand, title })),
         Err(_) => Err(Failure::from(Fault::Memory)),
     }
+}
+
+// Why what is asked can't be carried out.
+fn tell_fault(rt: &(impl Eprint + AllocGlobal), words: &GroundWords<'_>, fault: PlanFault) {
+    let text = match fault {
+        PlanFault::TooLong if words.large.is_some() => {
+            format!(in rt.alloc(); "one step loads no more than {LONGEST_LOAD} octets")
+        }
+        fault => format!(in rt.alloc(); "{fault}"),
+    };
+    tell_text(rt, text);
 }
 
 // That two areas share octets, so that it isn't known which of both a memory has then.
@@ -200,7 +212,10 @@ fn carry_all<T: Wait + Clock + Drop, K: Sink>(
     errand: &mut Errand,
     out: &mut K,
 ) -> Result<Status, Failure> {
-    let ended = carry_pass(&mut errand.first, ears, out);
+    let ended = match &mut errand.uplink {
+        Some(uplink) => carry_uplink(rt.alloc(), uplink, &mut errand.first, ears, out),
+        None => carry_pass(&mut errand.first, ears, out),
+    };
     tell(rt, ears, words, &errand.places, &errand.first);
     if !is_done(rt, ears, ended)? {
         return Ok(Status::Refused);

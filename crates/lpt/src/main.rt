@@ -15,6 +15,7 @@ mod ground_sources;
 mod ground_told;
 mod ground_wires;
 mod grounds;
+mod inbox;
 mod keeping;
 mod locking;
 mod logging;
@@ -25,6 +26,8 @@ mod pieces;
 mod pipe;
 mod serving;
 mod ticker;
+mod uplinks;
+mod wires;
 
 use grounds::ground;
 use lpt_command_line::{Command, CommandLine, JoinWords, read_words};
@@ -138,7 +141,7 @@ fn done<T: Threads + Wait + Clock + Copy + Drop + Send + Sync + 'static>(
             words,
         ),
         Command::Pass(words) => pass(rt, threads, process, voice, settings, words),
-        Command::Spacecraft(words) => spacecraft::<T>(rt, process, settings, words),
+        Command::Spacecraft(words) => spacecraft(rt, threads, process, settings, words),
         Command::Verify(words) => verify(rt, voice, words),
         Command::Compare(words) => compare(rt, voice, &config_of(rt, settings)?, words),
         Command::Checksum(words) => checksum(rt, words),

@@ -9,7 +9,8 @@ use crate::ground_wires::hear_source;
 use crate::grounds::{Ready, job_lock, put_over, ready_of};
 use crate::pieces::{Piece, pieces_of};
 use crate::pipe::{PipeReader, PipeWriter, Unread, pipe};
-use crate::serving::{Begun, Wires, begun_craft, serve};
+use crate::serving::{Begun, begun_craft, serve};
+use crate::wires::Wires;
 use lpt_command_line::{Job, OddsWords, PassWords, SettingWords, WordFault};
 use lpt_events::Config;
 use lpt_ground_run::{Asked, Fate};
@@ -214,7 +215,7 @@ where
         move |scope| -> Result<Status, Failure> {
             let wires = Wires::Pipes(at_craft, from_craft);
             let link_up = scope.spawn(move || carry_link(rt, odds, 0, from_ground, to_craft));
-            let craft = scope.spawn(move || serve(rt, begun, craft, wires));
+            let craft = scope.spawn(move || serve(rt, threads, begun, craft, wires));
             let link_down = scope.spawn(move || carry_link(rt, odds, 1, at_link, to_ground));
             let (Ok(link_up), Ok(craft), Ok(link_down)) = (link_up, craft, link_down) else {
                 let place = format!(in rt.alloc(); "no thread could be started");

@@ -12,22 +12,31 @@ const KEYS: [&str; 1] = ["patch"];
 
 const PATCH_KEYS: [&str; 4] = ["memory", "address", "file", "verify"];
 
+/// How many addresses there are.
+const ADDRESSES: u64 = 1 << 32;
+
 // Why a list is refused.
 #[derive(Clone, Copy)]
-enum Why {
+enum Why<'t> {
     // What is wrong with a table.
     Of(Reason),
     // It names no patch.
     Empty,
     // The value is no path of a file.
     NoPath,
+    // The file has no octets.
+    NoOctets(&'t str),
+    // The file doesn't end within the addresses that there are.
+    PastEnd(&'t str),
+    // The file shares octets with that of a patch before, of this number from 0 on.
+    Overlap(&'t str, usize, &'t str),
 }
 
 // At which key it is, the empty text for a patch as a whole, and why.
 #[derive(Clone, Copy)]
 struct Flaw<'t> {
     key: &'t str,
-    why: Why,
+    why: Why<'t>,
 }
 
 impl<'t> From<Wrong<'t>> for Flaw<'t> {
@@ -83,16 +92,55 @@ fn patches_in(rt: &HostRuntime, path: &str, table: &Table) -> Result<Option<Vec<
         Err(flaw) => return Ok(refuse(rt, place_of(rt.alloc(), path, None, flaw))),
     };
     let mut pieces = Vec::new(rt.alloc());
+    let mut files = Vec::new(rt.alloc());
     for (number, value) in values.iter().enumerate() {
         let patch = match patch_of(value) {
             Ok(patch) => patch,
             Err(flaw) => return Ok(refuse(rt, place_of(rt.alloc(), path, Some(number), flaw))),
         };
-        if pieces.push(piece_of(rt, patch)?).is_err() {
+        let piece = piece_of(rt, patch)?;
+        if let Some(why) = fault_of(patch.file, &piece, &files, &pieces) {
+            let flaw = flaw_at("file", why);
+            return Ok(refuse(rt, place_of(rt.alloc(), path, Some(number), flaw)));
+        }
+        if pieces.push(piece).is_err() || files.push(patch.file).is_err() {
             return Err(Failure::from(Fault::Memory));
         }
     }
     Ok(Some(pieces))
+}
+
+// Why a file can't be loaded behind others, if it can't.
+fn fault_of<'t>(
+    file: &'t str,
+    piece: &Piece,
+    files: &[&'t str],
+    pieces: &[Piece],
+) -> Option<Why<'t>> {
+    if piece.octets.as_slice().is_empty() {
+        return Some(Why::NoOctets(file));
+    }
+    if end_of(piece) > ADDRESSES {
+        return Some(Why::PastEnd(file));
+    }
+    for (number, (other, name)) in pieces.iter().zip(files).enumerate() {
+        if overlap(piece, other) {
+            return Some(Why::Overlap(file, number, *name));
+        }
+    }
+    None
+}
+
+// The address behind the last octet.
+fn end_of(piece: &Piece) -> u64 {
+    u64::from(piece.address).saturating_add(piece.octets.as_slice().len() as u64)
+}
+
+// Whether two files share an octet of a memory.
+fn overlap(one: &Piece, other: &Piece) -> bool {
+    one.memory == other.memory
+        && u64::from(one.address) < end_of(other)
+        && u64::from(other.address) < end_of(one)
 }
 
 // Tells that a list is refused, and where and why.
@@ -125,6 +173,14 @@ fn place_of(
         Why::Of(reason) => text.write(format_args!("{reason}"))?,
         Why::Empty => text.push_str("there is none")?,
         Why::NoPath => text.push_str("not the path of a file")?,
+        Why::NoOctets(file) => text.write(format_args!("{file} has no octets"))?,
+        Why::PastEnd(file) => {
+            text.write(format_args!("{file} ends after the last address, 4294967295"))?
+        }
+        Why::Overlap(file, number, other) => {
+            let number = number.saturating_add(1);
+            text.write(format_args!("{file} overlaps {other} of patch {number}"))?
+        }
     }
     Ok(text)
 }
@@ -145,7 +201,7 @@ fn values_in(table: &Table) -> Result<&[Value], Flaw<'_>> {
 }
 
 // That this is wrong at a key.
-fn flaw_at(key: &str, why: Why) -> Flaw<'_> {
+fn flaw_at<'t>(key: &'t str, why: Why<'t>) -> Flaw<'t> {
     Flaw { key, why }
 }
 

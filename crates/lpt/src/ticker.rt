@@ -4,10 +4,10 @@ ghost use Rattle.std.specs.Prelude.{None};
 
 use lpt_io::{Failure, Fault};
 use std::rt::Clock;
-use std::time::Instant;
+use std::time::{Duration, Instant};
 
 /// Ticks that come every so many milliseconds, as the machine's clock counts them.
-#[derive(Drop)]
+#[derive(Clone, Copy)]
 pub struct Ticker<R> {
     rt: R,
     begun: Instant,
@@ -36,18 +36,46 @@ impl<R: Clock + AllocGlobal + Copy> Ticker<R> {
     }
 }
 
-impl<R: Clock> lpt_spacecraft::Clock for Ticker<R> {
-    ghost answers = { λ _. None };
+impl<R: Clock> Ticker<R> {
+    /// How long it is from now to the next tick, at least a millisecond; a day if none comes.
+    pub fn until_next(&self) -> Duration {
+        let passed = self.millis_passed();
+        let left = match passed.checked_rem(self.millis) {
+            Some(rest) => self.millis.saturating_sub(rest),
+            None => 86_400_000,
+        };
+        Duration::from_millis(left)
+    }
 
-    fn due(&mut self) -> u64 {
+    // How many milliseconds have passed since it was made.
+    fn millis_passed(&self) -> u64 {
         let Ok(now) = Instant::now(&self.rt) else {
             return 0;
         };
         let passed = now.duration_since(self.begun).as_millis();
-        let passed = u64::try_from(passed).unwrap_or(u64::MAX);
-        let ticks = passed.checked_div(self.millis).unwrap_or(0);
+        u64::try_from(passed).unwrap_or(u64::MAX)
+    }
+}
+
+impl<R: Clock> lpt_spacecraft::Clock for Ticker<R> {
+    ghost answers = { λ _. None };
+
+    fn due(&mut self) -> u64 {
+        let ticks = self.millis_passed().checked_div(self.millis).unwrap_or(0);
         let due = ticks.saturating_sub(self.told);
         self.told = self.told.saturating_add(due);
         due
+    }
+}
+
+/// A clock by which no tick comes.
+#[derive(Drop)]
+pub struct Stopped;
+
+impl lpt_spacecraft::Clock for Stopped {
+    ghost answers = { λ _. None };
+
+    fn due(&mut self) -> u64 {
+        0
     }
 }

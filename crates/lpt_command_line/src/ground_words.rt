@@ -6,6 +6,12 @@ use crate::word_fault::WordFault;
 use clap::ArgMatches;
 use std::alloc::Global;
 
+/// After how many waits in a row that settle nothing a pass is given up, if nothing else is said.
+const TRIES: u32 = 10;
+
+/// Under how many names a large message goes at most, if nothing else is said.
+const NAMES: u32 = 6;
+
 /// What `ground` asks for.
 #[derive(Drop)]
 pub struct GroundWords<'a> {
@@ -15,6 +21,8 @@ pub struct GroundWords<'a> {
     pub areas: Vec<AreaWords<'a>>,
     /// The list that says what is loaded, if one does.
     pub list: Option<&'a str>,
+    /// Under which names what is loaded goes as one large message, if it does.
+    pub large: Option<LargeWords>,
     /// The pass's own source.
     pub source: SourceWords<'a>,
     /// The first sequence count, 0 to 16,383.
@@ -42,6 +50,17 @@ pub struct AreaWords<'a> {
     pub len: u32,
     /// The file: what is loaded or compared, or where a dump is written.
     pub file: &'a str,
+}
+
+/// Under which names a large message goes.
+#[derive(Clone, Copy)]
+pub struct LargeWords {
+    /// The transaction identifier of the first.
+    pub first: u16,
+    /// How many they are at most, 1 to 65,536.
+    pub many: u32,
+    /// After how many waits it is given up, if its names aren't used up before.
+    pub tries: u32,
 }
 
 /// Where a pass has its own source from.
@@ -83,7 +102,11 @@ pub fn ground_words<'a>(
         "dump" => dumped_areas(alloc, matches)?,
         _ => filed_areas(alloc, matches)?,
     };
-    ground_with(name, matches, source, areas).ok_or(WordFault::Missing)
+    let large = match name {
+        "load" => large_in(matches)?,
+        _ => None,
+    };
+    ground_with(name, matches, source, areas, large).ok_or(WordFault::Missing)
 }
 
 // What these words ask for, of these areas.
@@ -92,19 +115,45 @@ fn ground_with<'a>(
     matches: &ArgMatches<'a>,
     source: SourceWords<'a>,
     areas: Vec<AreaWords<'a>>,
+    large: Option<LargeWords>,
 ) -> Option<GroundWords<'a>> {
     Some(GroundWords {
         job: job_in(name, matches),
         areas,
         list: matches.get_str("LIST"),
+        large,
         source,
         count: count_in(matches)?,
         wait: matches.get_one("wait")?,
-        tries: matches.get_one("tries")?,
+        tries: matches.get_one("tries").unwrap_or(TRIES),
         up: matches.get_str("up"),
         kept: matches.get_str("job"),
         json: matches.get_flag("json"),
     })
+}
+
+// Under which names what is loaded goes as one large message, if it does: then it is one file's,
+// and no job's file keeps it.
+fn large_in<'a>(matches: &ArgMatches<'a>) -> Result<Option<LargeWords>, WordFault<'a>> {
+    let first = matches.get_one("name");
+    let many = matches.get_one("names");
+    if !matches.get_flag("large") {
+        if first.is_some() || many.is_some() {
+            return Err(WordFault::Wanted("--large"));
+        }
+        return Ok(None);
+    }
+    if matches.get_strs("area").is_some() {
+        return Err(WordFault::Beside("--large", "--area <ADDRESS> <FILE>"));
+    }
+    if matches.get_str("job").is_some() {
+        return Err(WordFault::Beside("--large", "--job <FILE>"));
+    }
+    Ok(Some(LargeWords {
+        first: first.unwrap_or(0),
+        many: many.unwrap_or(NAMES),
+        tries: matches.get_one("tries").unwrap_or(u32::MAX),
+    }))
 }
 
 // Where the pass has its own source from.

@@ -51,6 +51,39 @@ const TRIES: Named = Named {
     help: "Give up after so many waits in a row that settled nothing",
 };
 
+const LOAD_TRIES: Named = Named {
+    other: &[],
+    help: "Give up after so many waits in a row that settled nothing [default: 10]",
+    ..TRIES
+};
+
+const LARGE: Named = Named {
+    name: "large",
+    value: ValueParser::Bool,
+    behind: &[],
+    action: ArgAction::SetTrue,
+    other: &[],
+    help: "Load the file in one step, all or nothing: by one request, as a large message",
+};
+
+const NAME: Named = Named {
+    name: "name",
+    value: ValueParser::Signed(0, 65_535),
+    behind: &["ID"],
+    action: ArgAction::Set,
+    other: &[],
+    help: "The transaction ID under which a large message goes first [default: 0]",
+};
+
+const NAMES: Named = Named {
+    name: "names",
+    value: ValueParser::Signed(1, 65_536),
+    behind: &["N"],
+    action: ArgAction::Set,
+    other: &[],
+    help: "Give a large message up after so many IDs: 4 waits, 8, and so on [default: 6]",
+};
+
 const UP: Named = Named {
     name: "up",
     value: TEXT,
@@ -75,7 +108,7 @@ const PASSES: Named = Named {
     behind: &["FILE"],
     action: ArgAction::Set,
     other: &[],
-    help: "Take the next source by this file, which keeps the last, in place of --source",
+    help: "Take the source after the one in this file, and write it there, in place of --source",
 };
 
 const AREA: Named = Named {
@@ -130,7 +163,8 @@ pub(crate) static GROUND_ROWS: [Row; 4] = [
         about: "Load a file into a memory, and end once all of it is there",
         words: &[MEMORY, ADDRESS, FILE],
         named: &[
-            AREA, PASSES, ACK, VERIFY, COUNT, WAIT, TRIES, UP, JOB, JSON, QUIET,
+            AREA, LARGE, NAME, NAMES, PASSES, ACK, VERIFY, COUNT, WAIT, LOAD_TRIES, UP, JOB, JSON,
+            QUIET,
         ],
         configured: Configured::Pass,
     },
@@ -178,12 +212,15 @@ pub(crate) static PASS_ROWS: [Row; 4] = [
         words: &[MEMORY, ADDRESS, FILE],
         named: &[
             AREA,
+            LARGE,
+            NAME,
+            NAMES,
             PASSES,
             ACK,
             VERIFY,
             COUNT,
             SHORT_WAIT,
-            TRIES,
+            LOAD_TRIES,
             JOB,
             JSON,
             CRAFT_MEMORY,

@@ -36,7 +36,7 @@ pub use command_line::{ChartWords, Command, CommandLine, NoCommand, read_words};
 pub use compare_words::{ChecksumWords, CompareWords};
 pub use extract_words::ExtractWords;
 pub use file_words::{GivenName, JoinWords, ListWords, Span};
-pub use ground_words::{AreaWords, GroundWords, Job, SourceWords};
+pub use ground_words::{AreaWords, GroundWords, Job, LargeWords, SourceWords};
 pub use layout_words::DecodeWords;
 pub use link_words::{LinkWords, OddsWords};
 pub use lpt_packet::{Direction, Name};

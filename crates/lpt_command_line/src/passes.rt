@@ -108,7 +108,7 @@ const SPACECRAFT: Row = Row {
             behind: &["MS"],
             action: ArgAction::Set,
             other: &[],
-            help: "Tick every MS milliseconds; all due ticks happen as the next packet comes",
+            help: "Tick every MS milliseconds of the machine's clock, also while nothing comes",
         },
         Named {
             name: "reuse",

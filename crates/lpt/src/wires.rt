@@ -1,0 +1,251 @@
+//! A spacecraft over the wires on which it hears and writes.
+
+ghost use Rattle.lpt_spacecraft.specs.Keeping.{IsKeptAs};
+ghost use Rattle.lpt_spacecraft.specs.Streams.{IsIdle};
+
+use crate::inbox::Inbox;
+use crate::keeping::{keep_failure, kept_files};
+use crate::logging::{Log, Silent};
+use crate::pipe::{PipeReader, PipeWriter};
+use crate::ticker::{Stopped, Ticker};
+use lpt_command_line::SpacecraftWords;
+use lpt_io::{
+    Failure, Fault, STANDARD, Status, Watched, finish, first_failure, opened, output, read_failure,
+    tell_place,
+};
+use lpt_spacecraft::{Keeper, Pace, Spacecraft, Stop, serve_stream, serve_waiting};
+use lpt_text::{FromStd, StreamFault};
+use std::sync::Wait;
+use std::thread::Threads;
+use std::time::Clock;
+
+/// What a spacecraft hears and writes over.
+#[derive(Drop)]
+pub(crate) enum Wires<T: Wait + Drop> {
+    /// Standard input and output.
+    Standard,
+    /// Pipes to other threads.
+    Pipes(PipeReader<T>, PipeWriter<T>),
+}
+
+/// Serves over these wires, and keeps the spacecraft if that is asked for.
+///
+/// Errors: as of `spacecraft`.
+pub(crate) fn serve_kept<T>(
+    rt: &HostRuntime,
+    threads: &T,
+    craft: &mut Spacecraft,
+    words: &SpacecraftWords<'_>,
+    state: Option<&str>,
+    wires: Wires<T>,
+) -> Result<Status, Failure>
+where
+    T: Threads + Wait + Clock + Copy + Drop + Send + 'static,
+    requires { IsIdle craft.old }
+{
+    let mut keeper = kept_files(rt, words, state)?;
+    if !keeper.keep(craft, &[]) {
+        return Err(keep_failure(keeper));
+    }
+    let ended = match wires {
+        Wires::Standard => serve_standard(rt, threads, craft, words, &mut keeper),
+        Wires::Pipes(source, out) => {
+            serve_pipes(rt, threads, craft, words, &mut keeper, (source, out))
+        }
+    };
+    if keeper.has_failed() {
+        drop(ended);
+        return Err(keep_failure(keeper));
+    }
+    drop(keeper);
+    ended
+}
+
+// Serves standard input, and says where it stopped.
+fn serve_standard<T, H: Keeper>(
+    rt: &HostRuntime,
+    threads: &T,
+    craft: &mut Spacecraft,
+    words: &SpacecraftWords<'_>,
+    keeper: &mut H,
+) -> Result<Status, Failure>
+where
+    T: Threads + Wait + Clock + Copy + Drop + Send + 'static,
+    requires idle { IsIdle craft.old }
+    requires kept { IsKeptAs (H.kept keeper.old) craft.old }
+{
+    if words.tick == 0 {
+        return serve_input(rt, craft, words, keeper);
+    }
+    wait_for_input(rt, threads, craft, words, keeper)
+}
+
+// Serves it if no clock ticks.
+fn serve_input<H: Keeper>(
+    rt: &HostRuntime,
+    craft: &mut Spacecraft,
+    words: &SpacecraftWords<'_>,
+    keeper: &mut H,
+) -> Result<Status, Failure>
+    requires idle { IsIdle craft.old }
+    requires kept { IsKeptAs (H.kept keeper.old) craft.old }
+{
+    let mut source = opened(rt, STANDARD)?;
+    let mut out = output(rt)?;
+    let pace = pace_of(words);
+    let mut log = Log::new(rt, craft.source(), words.log);
+    let ended = serve_stream(
+        craft,
+        pace,
+        &mut source,
+        &mut Stopped,
+        keeper,
+        &mut log,
+        &mut out,
+    );
+    let failure = match ended {
+        Err(StreamFault::Read) => Some(read_failure(rt, &source, STANDARD)),
+        _ => None,
+    };
+    drop(source);
+    first_failure(finish(rt, out), failure)?;
+    match ended {
+        Ok(stop) => Ok(status_at(rt, stop, log.has_skipped())),
+        Err(fault) => Err(Failure::from(fault)),
+    }
+}
+
+// Serves it, and ticks by the machine's clock also while nothing comes.
+fn wait_for_input<T, H: Keeper>(
+    rt: &HostRuntime,
+    threads: &T,
+    craft: &mut Spacecraft,
+    words: &SpacecraftWords<'_>,
+    keeper: &mut H,
+) -> Result<Status, Failure>
+where
+    T: Threads + Wait + Clock + Copy + Drop + Send + 'static,
+    requires idle { IsIdle craft.old }
+    requires kept { IsKeptAs (H.kept keeper.old) craft.old }
+{
+    let mut clock = Ticker::new(rt, words.tick)?;
+    let source = opened(rt, STANDARD)?;
+    let mut inbox = Inbox::begin(rt, threads, source, words.resync, clock)?;
+    let mut out = output(rt)?;
+    let pace = pace_of(words);
+    let mut log = Log::new(rt, craft.source(), words.log);
+    let ended = serve_waiting(
+        craft, pace, &mut inbox, &mut clock, keeper, &mut log, &mut out,
+    );
+    drop(inbox);
+    let failure = match ended {
+        Err(StreamFault::Read) => Some(input_failure(rt)),
+        _ => None,
+    };
+    first_failure(finish(rt, out), failure)?;
+    match ended {
+        Ok(stop) => Ok(status_at(rt, stop, log.has_skipped())),
+        Err(fault) => Err(Failure::from(fault)),
+    }
+}
+
+// Serves what comes through a pipe, and writes to another. What is no packet was damaged on the
+// link, so it isn't told.
+fn serve_pipes<T, H: Keeper>(
+    rt: &HostRuntime,
+    threads: &T,
+    craft: &mut Spacecraft,
+    words: &SpacecraftWords<'_>,
+    keeper: &mut H,
+    pipes: (PipeReader<T>, PipeWriter<T>),
+) -> Result<Status, Failure>
+where
+    T: Threads + Wait + Clock + Copy + Drop + Send + 'static,
+    requires idle { IsIdle craft.old }
+    requires kept { IsKeptAs (H.kept keeper.old) craft.old }
+{
+    if words.tick == 0 {
+        return serve_still(craft, words, keeper, pipes);
+    }
+    let (source, out) = pipes;
+    let mut clock = Ticker::new(rt, words.tick)?;
+    let source = FromStd::new(source);
+    let mut inbox = Inbox::begin(rt, threads, source, words.resync, clock)?;
+    let mut out = FromStd::new(Watched::new(out));
+    let pace = pace_of(words);
+    let ended = serve_waiting(
+        craft,
+        pace,
+        &mut inbox,
+        &mut clock,
+        keeper,
+        &mut Silent,
+        &mut out,
+    );
+    drop(inbox);
+    drop(out);
+    match ended {
+        Ok(_) => Ok(Status::Done),
+        Err(fault) => Err(Failure::from(fault)),
+    }
+}
+
+// The same if no clock ticks.
+fn serve_still<T: Wait + Drop, H: Keeper>(
+    craft: &mut Spacecraft,
+    words: &SpacecraftWords<'_>,
+    keeper: &mut H,
+    pipes: (PipeReader<T>, PipeWriter<T>),
+) -> Result<Status, Failure>
+    requires idle { IsIdle craft.old }
+    requires kept { IsKeptAs (H.kept keeper.old) craft.old }
+{
+    let (source, out) = pipes;
+    let mut source = FromStd::new(source);
+    let mut out = FromStd::new(Watched::new(out));
+    let ended = serve_stream(
+        craft,
+        pace_of(words),
+        &mut source,
+        &mut Stopped,
+        keeper,
+        &mut Silent,
+        &mut out,
+    );
+    drop(source);
+    drop(out);
+    match ended {
+        Ok(_) => Ok(Status::Done),
+        Err(fault) => Err(Failure::from(fault)),
+    }
+}
+
+// That a thread couldn't read standard input on.
+fn input_failure(rt: &impl AllocGlobal) -> Failure {
+    let place = format!(in rt.alloc(); "standard input: a read failed");
+    Failure::at(Fault::Read, place)
+}
+
+// How its clock goes, and whether it goes on behind octets that are no packet.
+fn pace_of(words: &SpacecraftWords<'_>) -> Pace {
+    Pace {
+        every: words.tick_every,
+        clocked: false,
+        reuse: words.reuse,
+        passing: words.resync,
+    }
+}
+
+// The status of work that stopped there, which is told, and that passed over octets or didn't.
+fn status_at(rt: &(impl Eprint + AllocGlobal), stop: Stop, has_skipped: bool) -> Status {
+    let text = match stop {
+        Stop::End if has_skipped => return Status::Refused,
+        Stop::End => return Status::Done,
+        Stop::Cut(place) => format!(in rt.alloc(); "octet {place}: the last packet isn't whole"),
+        Stop::Stray(place) => format!(in rt.alloc(); "octet {place}: no packet begins there"),
+    };
+    if let Ok(text) = text {
+        tell_place(rt, text.as_str());
+    }
+    Status::Refused
+}
