@@ -14,7 +14,8 @@
  *     nothing else writes there, or to what it reads, while it runs. For octets that already stand
  *     in their place there are the calls lpt_build_..
  *
- * Calls over different buffers may run at once, on whatever threads.
+ * Calls over different buffers may run at once, on any threads, and in interrupts or signal
+ * handlers.
  */
 #ifndef LPT_H
 #define LPT_H
@@ -116,7 +117,7 @@ enum LptFault {
     LPT_E_NOT_READ = 52,
     LPT_E_STILL_OPEN = 55,
     LPT_E_CLOCK_END = 56,
-    /* Of an end or a pass: an allocation was refused. */
+    /* Of an end, a pass or a reader: an allocation was refused. */
     LPT_E_ALLOCATION = 58,
     /* Of an end: the types of a request are those of a part. */
     LPT_E_PART_REQUEST = 60,
@@ -166,7 +167,10 @@ enum LptFault {
     /* Of an end: these are more or fewer octets than the request reads. */
     LPT_E_READ_LENGTH = 120,
     /* A job takes more requests than a pass may have, 16,384. */
-    LPT_E_LONG_JOB = 121
+    LPT_E_LONG_JOB = 121,
+    /* Of a reader: the text is no layout; the archive has ended. */
+    LPT_E_LAYOUT = 122,
+    LPT_E_ENDED = 123
 };
 
 /* The name of what a call answered, as docs/C.md has it; "unknown" of another number. */
@@ -286,6 +290,10 @@ static inline const char *lpt_fault_name(uint32_t fault) {
         return "read length";
     case LPT_E_LONG_JOB:
         return "long job";
+    case LPT_E_LAYOUT:
+        return "layout";
+    case LPT_E_ENDED:
+        return "ended";
     default:
         return "unknown";
     }
@@ -306,9 +314,9 @@ enum LptPartKind {
 
 /* The piece in front of a stream. WHOLE: a packet. In step (see lpt_find_piece) an idle packet is
    WHOLE too, and so is one with a right checksum that has no secondary header or is a segment; of
-   these lpt_read_packet returns LPT_E_IDLE, LPT_E_NO_SECONDARY or LPT_E_SEGMENTED. DAMAGED: octets
-   that are no packet, as many as their header says, with a packet or the end after them. STRAY: an
-   octet with which no such piece begins. */
+   these lpt_read_packet returns LPT_E_IDLE, LPT_E_NO_SECONDARY or LPT_E_SEGMENTED. DAMAGED, only in
+   step: octets that are no packet, as many as their header says, with a packet or the end after
+   them. STRAY: an octet with which no such piece begins. */
 enum LptPieceKind { LPT_PIECE_WHOLE = 1, LPT_PIECE_DAMAGED = 2, LPT_PIECE_STRAY = 3 };
 
 /* Why a reception was aborted: no part came for as long as the timeout; in strict mode a part came
@@ -408,8 +416,8 @@ uint32_t lpt_find_piece(const uint8_t *octets, size_t octets_len, uint32_t in_st
  * Counts the stray octets in front of octets that come right after a stray one: lpt_find_piece with
  * `in_step` 0 would report LPT_PIECE_STRAY that many times in a row. A
  * call counts at most LPT_LONGEST_PACKET, and returns 0 if lpt_find_piece would report something
- * else. If headers among them announce long packets, this is much quicker: what it works out is
- * kept in `room` during the call. With LPT_STRAY_ROOM numbers there each octet takes a bounded
+ * else. It is quicker than lpt_find_piece if headers among them announce long packets: `room`
+ * keeps what it works out. With LPT_STRAY_ROOM numbers there each octet takes a bounded
  * time; with fewer, or with none, the answer is the same. `room` needn't be set before, nor kept.
  */
 LPT_MUST_USE

@@ -12,12 +12,12 @@
  *
  *   - what include/lpt.h says of lengths, pointers and overlaps;
  *   - the address of an end was given by a call, and lpt_end_free hasn't taken it back;
- *   - only one call at a time uses an end, and no signal handler calls. An end may go to another
- *     thread if a lock, or the start or end of a thread, stands between. Calls of different ends
- *     may run at once only if the three functions that give memory may;
+ *   - only one call at a time uses an end, and none is made in an interrupt or a signal handler.
+ *     An end may go to another thread if a lock, or the start or end of a thread, stands between.
+ *     Calls of different ends may run at once only if the three functions that give memory may;
  *   - if octets that are handed to lpt_end_packet read as a part, or as a plain request, the other
- *     end has put them out, a part since its name was last freed at this end: nobody forges
- *     packets, and no damage passes the checksum;
+ *     end (or in its place a pass of lpt_ground.h) has put them out, a part since its name was last
+ *     freed at this end: nobody forges packets, and no damage passes the checksum;
  *   - the rules at lpt_end_new, lpt_end_packet and lpt_end_retire, for the two ends of a link;
  *   - a program that has the memories itself reads them as lpt_end_access says, before
  *     lpt_end_execute_given, and writes them before that call, or after it and before the next
@@ -100,17 +100,18 @@ void lpt_end_free(LptEnd *end);
 
 /* ---- receiving ---- */
 
-/* What became of a packet. If it says 'named', `name` is its transaction. After the colon is what
-   `first` says, and of LPT_OUTCOME_REPORT_NOTED, after a comma, what `second` says. */
+/* What became of a packet, and which fields of LptOutcome are used. `name` is its transaction. */
 enum LptOutcomeKind {
-    LPT_OUTCOME_KEPT = 1,           /* a part, named: its number */
-    LPT_OUTCOME_AGAIN = 2,          /* a part that was kept before, named: its number */
-    LPT_OUTCOME_RELEASED = 3,       /* the last missing part, named: the message's length */
-    LPT_OUTCOME_PLAIN_RELEASED = 4, /* a telecommand that is no part: its length */
-    LPT_OUTCOME_REPORT_NOTED = 5,   /* telemetry that is no part: service type, message subtype */
-    LPT_OUTCOME_ABORT_NOTED = 6,    /* the report of an abortion, named: the LptReason */
-    LPT_OUTCOME_BROKEN = 7,         /* a part that aborted its reception, named: the LptReason */
-    LPT_OUTCOME_IGNORED = 8         /* the packet changed nothing: the LptWhy */
+    LPT_OUTCOME_KEPT = 1,           /* a part: name; first is its number */
+    LPT_OUTCOME_AGAIN = 2,          /* a part that was kept before: name; first is its number */
+    LPT_OUTCOME_RELEASED = 3,       /* the last missing part: name; first is the message's length */
+    LPT_OUTCOME_PLAIN_RELEASED = 4, /* a telecommand that is no part: first is its length */
+    LPT_OUTCOME_REPORT_NOTED = 5,   /* telemetry that is no part: first is its service type, second
+                                       its message subtype */
+    LPT_OUTCOME_ABORT_NOTED = 6,    /* the report of an abortion: name; first is the LptReason */
+    LPT_OUTCOME_BROKEN = 7,         /* a part that aborted its reception: name; first is the
+                                       LptReason */
+    LPT_OUTCOME_IGNORED = 8         /* the packet changed nothing: first is the LptWhy */
 };
 
 /* The name of an outcome's kind, as docs/C.md has it; "unknown" of another number. */
@@ -316,8 +317,8 @@ uint32_t lpt_end_asked_area(LptEnd *end, size_t number, LptArea *area);
 
 /*
  * Drops the oldest released request that wasn't read yet, in place of lpt_end_read: it is never
- * executed. An empty request takes its place. When its turn comes, lpt_end_execute reports it as
- * LPT_APPLIED_SILENT, and makes no report for ground. lpt_end_drop_read drops a request that was
+ * executed. An empty request takes its place. When its turn comes, its execution, by either call,
+ * is LPT_APPLIED_SILENT, and makes no report for ground. lpt_end_drop_read drops a request that was
  * read. Less is proved of ends that drop requests: docs/C.md says what.
  * LPT_DONE; LPT_E_NO_JOB, as always on ground; LPT_E_ALLOCATION.
  */
@@ -450,7 +451,8 @@ uint32_t lpt_end_tick_many(LptEnd *end, uint32_t ticks);
  *   3. This call returns LPT_DONE at the receiver's end.
  *   4. It returns LPT_DONE at the sender's end.
  * The call looks only at the names of its own end, not at the other end or at packets that wait to
- * be sent.
+ * be sent. A late report of an abortion of the old message closes the next one of its name at the
+ * sender.
  * LPT_DONE, also if the name is free already; LPT_E_RANGE for another direction; LPT_E_STILL_OPEN
  * if a message or a reception of this name is open in this direction.
  */

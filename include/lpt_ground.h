@@ -7,8 +7,8 @@
  * lpt_ground_free takes it back. Between them the program asks what is next, and does it:
  *
  *   - LPT_STEP_SEND: it copies the packet by lpt_ground_outgoing, sends it, and says so by
- *     lpt_ground_sent. If a packet has come meanwhile, it hands that over first, by
- *     lpt_ground_packet;
+ *     lpt_ground_sent, with no other call of the pass in between. Before it asks what is next, it
+ *     hands over by lpt_ground_packet what came;
  *   - LPT_STEP_LISTEN: it waits for a packet, and hands it over; if none comes for so long that none
  *     can be on its way any more, for example for a second, it says so by lpt_ground_quiet, and a
  *     new round begins;
@@ -46,12 +46,13 @@ typedef struct LptJob {
                            reported, or 10, so that a report of the start settles a load too; of
                            dumps and checks 0. Other flags up to 15 may be added */
     uint16_t apid;      /* of all packets, 0 to 2046 */
-    uint16_t source;    /* the pass's own: reports go to it, and no pass before had it */
+    uint16_t source;    /* the job's own: reports go to it, and no job before had it */
     uint16_t count;     /* the first request's sequence count, 0 to 16,383 */
-    uint32_t part_size; /* of the link, 4 to 1024 octets, of dumps 7 to 1024: a load has as many
-                           octets at most, a dump 6 less, and a check 4,000. Give checks 6 or
-                           more: with fewer their reports come in parts, and settle nothing */
-    uint32_t tries;     /* after so many waits in a row that settled nothing it is given up */
+    uint32_t part_size; /* of the link, 4 to 1024 octets, of dumps 7 to 1024, of checks 6 to 1024:
+                           a load has as many octets at most, a dump 6 less, and a check 4,000.
+                           Below 7 or 6 a report comes in parts, and settles nothing */
+    uint32_t tries;     /* after so many waits in a row that settled nothing it is given up, at
+                           least 1 */
 } LptJob;
 
 /* Octets of a memory. */
@@ -83,7 +84,7 @@ void lpt_ground_free(LptGround *pass);
 enum LptStep {
     LPT_STEP_SEND = 1,      /* it sends a packet */
     LPT_STEP_LISTEN = 2,    /* it listens */
-    LPT_STEP_COMPLETED = 3, /* each request was carried out, and a dump and a check answered */
+    LPT_STEP_COMPLETED = 3, /* each load was carried out, each dump or check answered */
     LPT_STEP_FAILED = 4,    /* each request is settled, and some failed */
     LPT_STEP_GIVEN_UP = 5,  /* some requests are open, and as many waits in a row as `tries` says
                                settled nothing */
@@ -138,8 +139,8 @@ uint32_t lpt_ground_sent(LptGround *pass);
 LPT_MUST_USE
 uint32_t lpt_ground_packet(LptGround *pass, const uint8_t *octets, size_t octets_len);
 
-/* Notes that no packet came for as long as the program waits: a new round begins, in which each
-   open request is sent again, in turn until at least 8 packets are sent. It returns LPT_DONE. */
+/* Notes that no packet came for as long as the program waits: a new round begins. It sends all open
+   requests, and all of them again until it has sent at least 8 packets. It returns LPT_DONE. */
 LPT_MUST_USE
 uint32_t lpt_ground_quiet(LptGround *pass);
 

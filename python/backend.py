@@ -17,7 +17,7 @@ import zipfile
 
 HERE = pathlib.Path(__file__).resolve().parent
 TOP = HERE.parent
-LIBRARIES = ["liblpt.so.0", "liblpt_end.so.0", "liblpt_ground.so.0"]
+LIBRARIES = ["liblpt.so.0", "liblpt_end.so.0", "liblpt_ground.so.0", "liblpt_reader.so.0"]
 
 
 def _project() -> dict[str, str]:
@@ -44,7 +44,7 @@ def _built() -> list[pathlib.Path]:
     words = [sys.executable, str(TOP / "tools/archive.py"), "is_built", str(TOP)]
     if subprocess.run(words, check=False).returncode != 0:
         sys.exit("forgesilver: the libraries aren't built, or a source has changed since: run ./build-c in "
-                 f"{TOP} first")
+                 f"{TOP} first (unproved ones aren't installed)")
     return [TOP / "build" / it for it in LIBRARIES]
 
 

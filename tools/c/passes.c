@@ -291,6 +291,15 @@ static void refusals(void) {
     job = DUMP;
     job.part_size = 6;
     EXPECT(refusal(&job, THREE, 0) == LPT_E_RANGE);
+    job = CHECK;
+    job.part_size = 5;
+    EXPECT(refusal(&job, TWO, 0) == LPT_E_RANGE);
+    job.part_size = 6;
+    DONE(refusal(&job, TWO, 0));
+    job.tries = 0;
+    EXPECT(refusal(&job, TWO, 0) == LPT_E_RANGE);
+    job.tries = 1;
+    DONE(refusal(&job, TWO, 0));
     EXPECT(refusal(&DUMP, none, 0) == LPT_E_BAD_AREA);
     EXPECT(refusal(&DUMP, past, 0) == LPT_E_BAD_AREA);
     DONE(refusal(&DUMP, last, 0));

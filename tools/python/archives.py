@@ -6,7 +6,9 @@ by `join --each` and `join`, and say what it says.
 
 from __future__ import annotations
 
+import dataclasses
 import io
+import itertools
 import os
 import pathlib
 import random
@@ -14,6 +16,7 @@ import re
 import subprocess
 import sys
 import tempfile
+import warnings
 from typing import Iterator, NamedTuple
 
 import forgesilver
@@ -24,6 +27,8 @@ SIZE, APID = 8, 100
 WORDS = ["--part-size", str(SIZE)]
 LOST = re.compile(r"lpt: \w+ (?:(\d+)/)?(\d+): (?:from octet \d+ on, )?missing parts: \d+:(\S+)")
 UNFIT = re.compile(r"lpt: \w+ (?:(\d+)/)?(\d+): the joined message is no packet(?: of its direction|: fault (\d+) \w+)")
+FITTING = re.compile(r"lpt: \w+: (\d+) parts don't fit part_size = \d+, but part_size = (\d+)")
+OTHERS = re.compile(r"lpt: \w+: (\d+ packets? of another APID .*APID )(\d+)$")
 # What the program calls no packet of its direction.
 OTHER_KINDS = (faults.WrongType.number, faults.Idle.number)
 
@@ -117,7 +122,9 @@ def used_again(want, driver) -> None:
         packets = stream_of(r, direction)
         octets = b"".join(packets)
         wanted = by_program(driver, octets, direction, any)
-        for form in (packets, octets, io.BytesIO(octets)):
+        files = [io.BytesIO(b"".join(it)) for it in (packets[: seed % 9], packets[seed % 9 :])]
+        one_by_one = itertools.chain.from_iterable(map(forgesilver.sound_packets_of, files))
+        for form in (packets, octets, io.BytesIO(octets), one_by_one):
             found = list(forgesilver.join_each(form, part_size=SIZE, apid=APID, any=any))
             want(f"stream {seed}, any {any}", by_package(found), wanted)
 
@@ -148,18 +155,96 @@ def joined(packets, **words):
         return NotJoined
 
 
+def raised(call, *words, **named) -> str:
+    """What the exception says that a call raises because it joined nothing."""
+    try:
+        return f"joined: {call(*words, **named)!r}"
+    except NotJoined as error:
+        return str(error)
+
+
+def all_joined(packets, **words) -> list[Joined]:
+    """All that `join_each` gives."""
+    return list(forgesilver.join_each(packets, **words))
+
+
 def sizes(want, driver) -> None:
-    """A part size that no part fits but last ones is told as that."""
-    octets = b"".join(forgesilver.split(bytes(90), name=(1, 7), part_size=SIZE, apid=APID))
+    """A part size that no part fits but last ones is told as that, and so are parts of number 0."""
+    made = list(forgesilver.split(bytes(90), name=(1, 7), part_size=SIZE, apid=APID))
     for size in (4, 16):
-        _, _, said = driver.run(["join", "up", "--part-size", str(size)], octets)
-        count = next(it.split()[2] for it in said if "fit part_size" in it)
-        for call in (forgesilver.join, lambda *a, **b: list(forgesilver.join_each(*a, **b))):
-            try:
-                got = call(octets, part_size=size)
-            except NotJoined as error:
-                got = str(error)
-            want(f"part_size={size}", got, f"{count} parts don't fit part_size={size}, but part_size=8")
+        _, _, said = driver.run(["join", "up", "--part-size", str(size)], b"".join(made))
+        count, fitting = next(FITTING.match(it).groups() for it in said if "fit part_size" in it)
+        for call in (forgesilver.join, all_joined):
+            wanted = f"{count} parts don't fit part_size={size}: try part_size={fitting}"
+            want(f"part_size={size}", raised(call, b"".join(made), part_size=size), wanted)
+    f, zeros = forgesilver, []
+    for packet in made:
+        it = f.read_telecommand(packet)
+        zeros.append(f.write_telecommand(dataclasses.replace(it, body=it.body[:2] + bytes(2) + it.body[4:])))
+    # The first of these has as many octets as a part, and no size helps.
+    for octets, count in ((b"".join(zeros), len(zeros)), (zeros[0], 1)):
+        _, _, said = driver.run(["join", "up", *WORDS], octets)
+        its = f"{count} part{'s have' if count > 1 else ' has'} number 0"
+        want("number 0, by the program", said[1:], [f"lpt: up: {its}"])
+        for call in (forgesilver.join, all_joined):
+            want("number 0", raised(call, octets, part_size=SIZE), f"{its}: the packets may have another layout")
+    first = f.write_telecommand(dataclasses.replace(f.read_telecommand(made[0]), body=bytes.fromhex("00070002") + bytes(16)))
+    _, _, said = driver.run(["join", "up", *WORDS], first)
+    want("a first part of number 2, by the program", said[1:], ["lpt: up: 1 part doesn't fit part_size = 8"])
+    want("a first part of number 2", raised(forgesilver.join, first, part_size=SIZE), "1 part doesn't fit part_size=8")
+
+
+def apids(want, driver) -> None:
+    """Parts of other APIDs than the first part's: a warning says how many were skipped, as the program does of
+    packets; and what is joined of each APID is what its own packets give."""
+    f = forgesilver
+    for seed in range(STREAMS // 5):
+        r = random.Random(seed)
+        own = stream_of(r, Direction.UP)
+        others = r.sample([1, 99, 101, 2046], r.randrange(3))
+        packets = own[:1]
+        rest = [own[1:], *([f.write_telecommand(dataclasses.replace(f.read_telecommand(it), apid=apid)) for it in own] for apid in others)]
+        while any(rest):
+            packets.append(r.choice([it for it in rest if it]).pop(0))
+        octets = b"".join(packets)
+        with tempfile.TemporaryDirectory(prefix="lpt-archives-") as folder:
+            status, _, said = driver.run(["join", "up", "--each", f"{folder}/out", *WORDS], octets)
+        told = [OTHERS.match(it).groups() for it in said if OTHERS.match(it)]
+        strange = [it for it in (f.read_telecommand(it).apid for it in packets) if it != APID]
+        if strange and status == 0:
+            # Of what it passed over the program speaks only if something isn't whole.
+            many = f"{len(strange)} packets of another APID were skipped, the first of APID "
+            told = [*told, (many, str(strange[0]))]
+        for form in (packets, octets):
+            with warnings.catch_warnings(record=True) as warned:
+                warnings.simplefilter("always")
+                found = all_joined(form, part_size=SIZE)
+                want(f"APIDs {seed}: chosen", all_joined(form, part_size=SIZE, apid=APID), all_joined(own, part_size=SIZE))
+            want(f"APIDs {seed}", found, all_joined(own, part_size=SIZE))
+            wanted = [(f.SkippedWarning, f"{it[0].replace('packet', 'part')}{it[1]}: apid={it[1]} takes it") for it in told]
+            want(f"APIDs {seed}: warned", [(it.category, str(it.message)) for it in warned], wanted)
+            want(f"APIDs {seed}: where", {it.filename for it in warned} <= {__file__}, True)
+    made = [*f.split(bytes(20), name=(1, 7), part_size=SIZE, apid=APID), *f.split(bytes(20), name=(1, 5), part_size=SIZE, apid=101)]
+    skipped = "3 parts of another APID were skipped, the first of APID 101"
+    for words, wanted in (
+        ({"name": (1, 5)}, f"no part of 8 octets came of APID 100, name 1/5; {skipped}"),
+        ({"direction": Direction.DOWN}, f"no part of 8 octets came of APID 100, direction down; {skipped}"),
+        ({"apid": 7}, "no part of 8 octets came of APID 7; 6 parts of another APID were skipped, the first of APID 100"),
+        ({"part_size": 4}, f"2 parts don't fit part_size=4: try part_size=8; {skipped}"),
+    ):
+        want(f"{words}", raised(forgesilver.join, made, **{"part_size": SIZE, **words}), wanted)
+    want("no packets", raised(forgesilver.join, b"", part_size=SIZE), "no part of 8 octets came")
+
+
+def nothing_came(want, driver) -> None:
+    """An archive that has a dump report without its last part gives no octets of the memory, and no place of these is
+    missing; the program writes nothing."""
+    report = message_of(bytes(40), Direction.DOWN, 0)
+    packets = list(forgesilver.split(report, name=(1, 7), part_size=SIZE, apid=APID, direction=Direction.DOWN))[:-1]
+    image = forgesilver.read_image(packets, memory=1, part_size=SIZE, apid=APID)
+    want("an image of nothing", image, forgesilver.Image(1, 0, b"", (), 1))
+    status, written, _ = driver.run(["extract", "--join", "--at", "1", *WORDS], b"".join(packets))
+    want("an image of nothing, by the program", (status, written), (1, b""))
 
 
 # Joins 150 messages of 64,000 octets beside one that stays incomplete, and says by how many KiB that grew.
@@ -188,6 +273,6 @@ def beside_incomplete(want) -> None:
 
 def all_of(want, driver) -> None:
     """All of them."""
-    for cases in (used_again, damaged, sizes):
+    for cases in (used_again, damaged, sizes, apids, nothing_came):
         cases(want, driver)
     beside_incomplete(want)

@@ -9,6 +9,7 @@ import copy
 import dataclasses
 import gc
 import inspect
+import io
 import pickle
 import random
 import signal
@@ -211,6 +212,8 @@ def each_fault(want) -> None:
     want("a memory 256", raised(End, Side.SPACECRAFT, CONFIG, {256: b"1"}), e.Range)
     want("a side", raised(End, 2, CONFIG), ValueError)
     load = f.write_telecommand(f.Load(1, [f.Loaded(0, b"1")]).telecommand(apid=100, count=0, source=1))
+    with End(Side.GROUND, Config(clock=0xFFFFFFFA)) as late:
+        want("ticks", (raised(late.tick, 10), late.view().clock), (e.ClockEnd, 0xFFFFFFFA))
     with End(Side.GROUND, big) as ground, spacecraft(big) as craft:
         want("open", ground.open(NAME, bytes(20)), 3)
         rows = [
@@ -229,6 +232,8 @@ def each_fault(want) -> None:
         want("sent", raised(ground.sent), e.Nothing)
         want("a part's types", raised(ground.plain, 13, 9, b"", source=1), e.PartRequest)
         want("a long request", raised(ground.plain, 6, 5, bytes(19), source=1), e.LongMessage)
+        ground.plain(6, 5, bytes(18), source=1)
+        want("the longest", [len(it) for it in ground.outgoing()], [8 + 23])
         want("flags", raised(ground.plain, 6, 5, b"", source=1, flags=16), e.Range)
         want("at the spacecraft", raised(craft.plain, 6, 5, b"", source=1), e.Range)
         nothing = (ground.released(), ground.expire(), ground.first(), ground.read(), ground.execute(), ground.memory(1))
@@ -272,6 +277,22 @@ def codec_faults(want) -> None:
     ]
     for call, words, fault in rows:
         want(f"{call.__qualname__} {words!r:.60}", raised(call, *words), fault)
+    whole = f.write_telecommand(tc)
+    front = f.write_telecommand(dataclasses.replace(tc, body=b"1234")) + whole
+    damaged = front + whole[:4] + b"\xff" + whole[5:] + whole
+    cut = "the packet at octet 30 isn't whole: the stream is cut, or a length is damaged"
+    for octets, fault, text in (
+        (front + whole[:-1], e.More, cut), (front + whole[:4], e.More, cut), (damaged, e.More, cut),
+        (front + b"\xff" * 9, e.Version, "no packet begins at octet 30"),
+    ):
+        for form in (octets, io.BytesIO(octets), io.BufferedReader(io.BytesIO(octets), 9)):
+            packets = f.packets_of(form)
+            want("the first packets", bytes(next(packets)) + bytes(next(packets)), front)
+            try:
+                want("what follows", next(packets), text)
+            except fault as error:
+                want("what follows", str(error), f"{fault.number}: {text}")
+    want("sound packets", b"".join(f.sound_packets_of(io.BytesIO(damaged))), front + whole)
     tm = f.Telemetry(100, 0, 6, 5, 1)
     limits = {"apid": 2046, "count": 16383, "flags": 15, "status": 15, "time": (1 << 32) - 1}
     limits.update({it: 255 for it in ("service", "subtype")})

@@ -1,0 +1,3 @@
+pub mod AsAddress
+pub mod AsBox
+mod MakingLemmas

@@ -1,0 +1,10 @@
+pub mod AddressCodes
+pub mod Addresses
+pub mod Calls
+pub mod Codes
+pub mod Copies
+pub mod HandleCodes
+pub mod Held
+pub mod Items
+pub mod Laws
+pub mod LayoutTexts

@@ -1,0 +1,34 @@
+//! A reader of an archive of packets for C: octets as they come, and packet after packet, by the
+//! text of a layout file or by the profile, behind a handle. The types are those of
+//! `include/lpt_reader.h`; the first calls are `lpt_reader_new`, `lpt_reader_feed` and
+//! `lpt_reader_next`, and docs/C.md has the rest. `tools/archive.py` makes a static library of
+//! these calls.
+//!
+//! Each call is total. It answers 0, or the number of the first fault that applies, and then the
+//! reader is as it was. Memory comes from the three allocator functions of the kit, which the
+//! caller's program has.
+//!
+//! What is told of a packet is what `lpt list` says of it: the contracts cite its definitions.
+//!
+//! C has the address of a handle, an `LptReader` in the library's memory, as it has that of an
+//! `LptGround`: lpt_c_ground says how such handles are held.
+#![tactic(auto)]
+
+mod address;
+mod archives;
+mod box_fields;
+mod choice;
+mod codes;
+mod copying;
+mod handle;
+mod items;
+pub mod laws;
+mod making;
+mod reading;
+mod telling;
+
+pub use address::LptReaderAddress;
+pub use handle::{LptReader, LptReaderHeld};
+pub use items::LptItem;
+pub use making::{lpt_reader_free, lpt_reader_new};
+pub use reading::{lpt_reader_end, lpt_reader_feed, lpt_reader_next, lpt_reader_octets};

@@ -1,0 +1,3 @@
+pub mod FrontLemmas
+pub mod ToldLemmas
+pub mod StrayLemmas

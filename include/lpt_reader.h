@@ -1,0 +1,147 @@
+/*
+ * A reader of archives of packets: octets as they come, however they are cut, and packet after
+ * packet, each with its place and what its headers and its part say. Packets are laid out by this
+ * project's profile, or as the text of a layout file says (docs/FILES.md). Octets that are no packet
+ * are passed over, as `lpt list` does.
+ *
+ * A program holds a reader by its address, an LptReader *. lpt_reader_new gives one, and
+ * lpt_reader_free takes it back. Between them the program hands over octets by lpt_reader_feed, and
+ * then calls lpt_reader_next until that returns LPT_E_MORE; behind the last octets it calls
+ * lpt_reader_end, and then lpt_reader_next until it tells LPT_ITEM_END. What is told doesn't depend
+ * on how the archive was cut. Between calls with all told, a reader holds fewer octets than
+ * LPT_LOOKAHEAD and the last call's together, in a buffer that doubles: a pool needs four times
+ * that.
+ *
+ * Each call returns LPT_DONE, or the number of the first thing that is wrong, in the order of its
+ * comment. If it isn't LPT_DONE, the call has written nothing through a pointer but what its comment
+ * says. LPT_E_ALLOCATION (out of memory) comes last, and nothing has changed then. The caller
+ * promises what include/lpt_end.h says of addresses, threads and memory.
+ */
+#ifndef LPT_READER_H
+#define LPT_READER_H
+
+#include "lpt_end.h"
+
+#ifdef __cplusplus
+extern "C" {
+#endif
+
+/* ---- a reader ---- */
+
+/* A reader. */
+typedef struct LptReader LptReader;
+
+/*
+ * Makes a reader of an archive that begins. Its packets are laid out as the text of a layout file
+ * says; if `layout_len` is 0, by the profile, with parts of `part_size` octets, 4 to 1024. The part
+ * size isn't looked at if there is a text: that has its own. White space alone is a text, of a layout
+ * like the profile's with parts of any size.
+ * LPT_DONE, and *reader is its address; without a text LPT_E_RANGE for another part size; with one
+ * LPT_E_LAYOUT if it isn't UTF-8, or not what `lpt list --layout` takes; LPT_E_ALLOCATION.
+ */
+LPT_MUST_USE
+uint32_t lpt_reader_new(LptReader **reader, uint32_t part_size, const uint8_t *layout,
+                        size_t layout_len);
+
+/* Frees a reader with all its memory. Its address may not be used any more. NULL does nothing. */
+void lpt_reader_free(LptReader *reader);
+
+/* ---- octets ---- */
+
+/* Takes octets of the archive, which come behind those that were taken before, and copies them.
+   LPT_DONE; LPT_E_ENDED after lpt_reader_end; LPT_E_ALLOCATION. */
+LPT_MUST_USE
+uint32_t lpt_reader_feed(LptReader *reader, const uint8_t *octets, size_t octets_len);
+
+/* Notes that the archive ends behind what was taken. It returns LPT_DONE. */
+LPT_MUST_USE
+uint32_t lpt_reader_end(LptReader *reader);
+
+/* ---- what stands in them ---- */
+
+/* What an item is: the archive's end; a packet with a secondary header of the layout; an idle packet;
+   a piece in step (lpt_find_piece) that fails a test: LptItem says which. */
+enum LptItemKind {
+    LPT_ITEM_END = 0,
+    LPT_ITEM_PACKET = 1,
+    LPT_ITEM_IDLE = 2,
+    LPT_ITEM_FAULTY = 3
+};
+
+/* A body that should be a part's, and can't be read as one with the part size; the others are those
+   of LptPartKind. */
+enum { LPT_PART_UNREAD = 4 };
+
+/* What stands next. What its kind doesn't have is 0. */
+typedef struct LptItem {
+    uint64_t place;   /* how many octets of the archive stand in front of it; 2^64 - 1 if more do */
+    uint64_t stray;   /* how many of them, right in front of it, are no packet */
+    size_t length;    /* its octets; the end has none */
+    size_t time_at;   /* where the time stands, or would */
+    size_t body_at;   /* where what is behind the secondary header stands */
+    size_t body_len;  /* how many octets that has, without a checksum */
+    size_t part_len;  /* how many octets the part has, at the body's end */
+    uint32_t kind;    /* an LptItemKind */
+    uint32_t fault;   /* of LPT_ITEM_FAULTY, an LptFault: LPT_E_SHORT to LPT_E_CHECKSUM, or
+                         LPT_E_PUS_VERSION or LPT_E_SHORT_HEADER, whose packet, apid and count are
+                         told too */
+    uint32_t packet;  /* LPT_PACKET_TM or LPT_PACKET_TC */
+    uint32_t counter; /* the message type counter */
+    uint32_t user;    /* the source ID of a telecommand, the destination ID of telemetry */
+    uint32_t part;    /* an LptPartKind, or LPT_PART_UNREAD */
+    uint32_t id;      /* the part's transaction identifier */
+    uint32_t number;  /* the part's sequence number */
+    uint16_t apid;
+    uint16_t count;   /* the packet sequence count */
+    uint8_t flags;    /* acknowledgement flags of a telecommand, time reference status of telemetry */
+    uint8_t service;  /* the service type */
+    uint8_t subtype;  /* the message subtype */
+    uint8_t time_len; /* how many octets the time has */
+} LptItem;
+
+/*
+ * Tells what stands next in the archive, and goes on behind it. LPT_DONE, and *item is written;
+ * LPT_E_MORE if it depends on octets that haven't been taken yet, and *item is as it was. At the end
+ * LPT_ITEM_END is told again and again.
+ */
+LPT_MUST_USE
+uint32_t lpt_reader_next(LptReader *reader, LptItem *item);
+
+/*
+ * Copies the octets of the item that lpt_reader_next told last to the front of a buffer, and leaves
+ * the rest of the buffer as it was. LPT_DONE; LPT_E_NOTHING if it told none, or the end, or octets were
+ * taken since; LPT_E_ROOM. At LPT_DONE and LPT_E_ROOM *needed is how many they are, as LptItem's length.
+ */
+LPT_MUST_USE
+uint32_t lpt_reader_octets(LptReader *reader, uint8_t *out, size_t out_len, size_t *needed);
+
+/* ---- the structure as the archive has it: size, alignment, offsets ---- */
+
+LPT_LAYOUT(LptItem, 96, 8);
+LPT_FIELD(LptItem, place, 0);
+LPT_FIELD(LptItem, stray, 8);
+LPT_FIELD(LptItem, length, 16);
+LPT_FIELD(LptItem, time_at, 24);
+LPT_FIELD(LptItem, body_at, 32);
+LPT_FIELD(LptItem, body_len, 40);
+LPT_FIELD(LptItem, part_len, 48);
+LPT_FIELD(LptItem, kind, 56);
+LPT_FIELD(LptItem, fault, 60);
+LPT_FIELD(LptItem, packet, 64);
+LPT_FIELD(LptItem, counter, 68);
+LPT_FIELD(LptItem, user, 72);
+LPT_FIELD(LptItem, part, 76);
+LPT_FIELD(LptItem, id, 80);
+LPT_FIELD(LptItem, number, 84);
+LPT_FIELD(LptItem, apid, 88);
+LPT_FIELD(LptItem, count, 90);
+LPT_FIELD(LptItem, flags, 92);
+LPT_FIELD(LptItem, service, 93);
+LPT_FIELD(LptItem, subtype, 94);
+LPT_FIELD(LptItem, time_len, 95);
+
+#ifdef __cplusplus
+}
+#endif
+
+#endif

@@ -1,0 +1,291 @@
+/*
+ * Calls each function of lpt_reader.h from C: an archive that comes octet by octet, one of a layout
+ * without checksums, and every fault once, against octets that were written by hand, and each request
+ * for memory refused in turn.
+ *
+ * It prints how many cases passed and failed. tests/c compiles it as C11 and as C++, and with
+ * sanitizers. The functions that give memory are its own.
+ */
+#include "lpt_reader.h"
+
+#include <stdio.h>
+#include <stdlib.h>
+#include <string.h>
+
+static unsigned passed, failed;
+
+static void look(int is_right, int line, const char *what) {
+    if (is_right) {
+        passed++;
+        return;
+    }
+    failed++;
+    printf("readers.c:%d: %s\n", line, what);
+}
+
+#define EXPECT(what) look((what), __LINE__, #what)
+#define DONE(call) EXPECT((call) == LPT_DONE)
+
+/* ---- memory: the request of this number from now on is refused; none where it is negative ---- */
+
+static long refused_at = -1;
+static size_t given;
+
+static int refuses(void) {
+    if (refused_at < 0) {
+        return 0;
+    }
+    return refused_at-- == 0;
+}
+
+LptTried rattle_alloc(size_t n, size_t align) {
+    LptTried tried = {false, &given};
+    void *at = refuses() ? NULL : malloc(n > 0 ? n : 1);
+    (void)align;
+    if (at != NULL) {
+        given++;
+        tried.ok = true;
+        tried.at = at;
+    }
+    return tried;
+}
+
+LptTried rattle_realloc(void *block, size_t kept, size_t n, size_t align) {
+    LptTried tried = {false, &given};
+    void *at = refuses() ? NULL : realloc(block, n > 0 ? n : 1);
+    (void)kept;
+    (void)align;
+    if (at != NULL) {
+        tried.ok = true;
+        tried.at = at;
+    }
+    return tried;
+}
+
+void rattle_dealloc(void *block) {
+    given--;
+    free(block);
+}
+
+/* ---- octets, written by hand, their checksums computed elsewhere ---- */
+
+/* Telecommands: the first part of message 5, of 8 octets, and the last, of 2; the first with a wrong
+   bit. An idle packet; a report that a telecommand was completed; octets of no packet. */
+static const uint8_t FIRST[] = {0x18, 0x64, 0xc0, 0x00, 0x00, 0x12, 0x20, 0x0d, 0x09,
+                                0x00, 0x07, 0x00, 0x05, 0x00, 0x01, 0x61, 0x62, 0x63,
+                                0x64, 0x65, 0x66, 0x67, 0x68, 0x56, 0x99};
+static const uint8_t LAST[] = {0x18, 0x64, 0xc0, 0x01, 0x00, 0x0c, 0x20, 0x0d, 0x0b, 0x00,
+                               0x07, 0x00, 0x05, 0x00, 0x02, 0x69, 0x6a, 0x09, 0xc2};
+static const uint8_t DAMAGED[] = {0x18, 0x64, 0xc0, 0x00, 0x00, 0x12, 0x20, 0x0d, 0x09,
+                                  0x00, 0x07, 0x00, 0x05, 0x00, 0x01, 0x61, 0x63, 0x63,
+                                  0x64, 0x65, 0x66, 0x67, 0x68, 0x56, 0x99};
+static const uint8_t IDLE[] = {0x07, 0xff, 0xc0, 0x00, 0x00, 0x03, 0x00, 0x00, 0x00, 0x00};
+static const uint8_t REPORT[] = {0x08, 0x64, 0xc0, 0x00, 0x00, 0x10, 0x20, 0x01,
+                                 0x07, 0x00, 0x00, 0x00, 0x07, 0x00, 0x00, 0x00,
+                                 0x00, 0x18, 0x64, 0xff, 0xff, 0x6c, 0x09};
+static const uint8_t STRAY[] = {0xff, 0xee, 0xdd};
+/* Of a layout without checksums, with sources of 8 bits and identifiers and numbers of 32: an
+   intermediate part of 3 octets. */
+static const char LAYOUT[] = "[telecommands]\nchecksum = false\nsource = 8\n"
+                             "transaction_id = 32\npart_number = 32\n"
+                             "[telemetry]\nchecksum = false\n";
+static const uint8_t BARE[] = {0x18, 0x64, 0xc0, 0x02, 0x00, 0x0e, 0x21, 0x0d, 0x0a, 0x09, 0x00,
+                               0x00, 0x00, 0x05, 0x00, 0x00, 0x00, 0x02, 0x78, 0x79, 0x7a};
+
+static const LptItem NONE = {0, 0, 0, 0, 0, 0, 0, 0, 0, 0, 0, 0, 0, 0, 0, 0, 0, 0, 0, 0, 0};
+
+/* A reader by the text of a layout, or with parts of 8 octets. */
+static LptReader *reader_of(const char *layout) {
+    LptReader *reader = NULL;
+    DONE(lpt_reader_new(&reader, 8, (const uint8_t *)layout, strlen(layout)));
+    return reader;
+}
+
+/* Whether an item of these octets was told last: at this place, behind so many octets of no packet. */
+static int is(LptReader *reader, const LptItem *item, uint64_t place, uint64_t stray,
+              const uint8_t *octets, size_t len) {
+    uint8_t copy[64] = {0};
+    size_t needed = 0;
+    return item->place == place && item->stray == stray && item->length == len &&
+           lpt_reader_octets(reader, copy, len - 1, &needed) == LPT_E_ROOM && needed == len &&
+           lpt_reader_octets(reader, copy, sizeof copy, &needed) == LPT_DONE && needed == len &&
+           memcmp(copy, octets, len) == 0 && copy[len] == 0;
+}
+
+/* Whether a part is in it, of this kind, number and length. */
+static int has(const LptItem *item, uint32_t part, uint32_t id, uint32_t number, size_t len) {
+    return item->kind == LPT_ITEM_PACKET && item->part == part && item->id == id &&
+           item->number == number && item->part_len == len;
+}
+
+/* Whether its numbers are these. */
+static int says(const LptItem *item, uint32_t packet, uint8_t service, uint8_t subtype,
+                uint16_t count, uint32_t user) {
+    return item->packet == packet && item->service == service && item->subtype == subtype &&
+           item->count == count && item->user == user && item->apid == 100 && item->fault == 0;
+}
+
+/* An archive that comes octet by octet. */
+static void each_octet(void) {
+    uint8_t archive[128];
+    size_t len = 0, at;
+    unsigned told = 0;
+    LptReader *reader = reader_of("");
+    LptItem item = NONE;
+    size_t needed = 7;
+    const struct {
+        const uint8_t *octets;
+        size_t len;
+    } pieces[] = {{FIRST, sizeof FIRST},  {REPORT, sizeof REPORT}, {IDLE, sizeof IDLE},
+                  {DAMAGED, sizeof DAMAGED}, {LAST, sizeof LAST}};
+    for (at = 0; at < 5; at++) {
+        memcpy(archive + len, pieces[at].octets, pieces[at].len);
+        len += pieces[at].len;
+    }
+    memcpy(archive + len, STRAY, sizeof STRAY);
+    len += sizeof STRAY;
+    EXPECT(lpt_reader_next(reader, &item) == LPT_E_MORE);
+    EXPECT(lpt_reader_octets(reader, archive, 0, &needed) == LPT_E_NOTHING && needed == 7);
+    for (at = 0; at < len; at++) {
+        DONE(lpt_reader_feed(reader, archive + at, 1));
+        EXPECT(lpt_reader_octets(reader, archive, 0, &needed) == LPT_E_NOTHING);
+        while (lpt_reader_next(reader, &item) == LPT_DONE) {
+            told++;
+            if (told == 1) {
+                EXPECT(is(reader, &item, 0, 0, FIRST, sizeof FIRST) && at == sizeof FIRST - 1);
+                EXPECT(has(&item, LPT_PART_FIRST, 5, 1, 8));
+                EXPECT(says(&item, LPT_PACKET_TC, 13, 9, 0, 7));
+                EXPECT(item.body_at == 11 && item.body_len == 12 && item.flags == 0);
+            } else if (told == 2) {
+                EXPECT(is(reader, &item, 25, 0, REPORT, sizeof REPORT));
+                EXPECT(has(&item, LPT_PART_NONE, 0, 0, 0));
+                EXPECT(says(&item, LPT_PACKET_TM, 1, 7, 0, 7));
+                EXPECT(item.time_at == 13 && item.time_len == 4 && item.body_at == 17);
+            } else if (told == 3) {
+                EXPECT(is(reader, &item, 48, 0, IDLE, sizeof IDLE) && item.kind == LPT_ITEM_IDLE);
+            } else if (told == 4) {
+                EXPECT(is(reader, &item, 58, 0, DAMAGED, sizeof DAMAGED));
+                EXPECT(item.kind == LPT_ITEM_FAULTY && item.fault == LPT_E_CHECKSUM);
+                EXPECT(item.service == 0 && item.part == LPT_PART_NONE);
+            } else {
+                EXPECT(told == 5 && is(reader, &item, 83, 0, LAST, sizeof LAST));
+                EXPECT(has(&item, LPT_PART_LAST, 5, 2, 2) && item.count == 1);
+            }
+        }
+    }
+    EXPECT(told == 5);
+    DONE(lpt_reader_end(reader));
+    DONE(lpt_reader_end(reader));
+    EXPECT(lpt_reader_feed(reader, STRAY, 1) == LPT_E_ENDED);
+    for (at = 0; at < 2; at++) {
+        item.kind = 9;
+        DONE(lpt_reader_next(reader, &item));
+        EXPECT(item.kind == LPT_ITEM_END && item.place == 105 && item.stray == 3);
+        EXPECT(item.length == 0 && item.service == 0);
+        EXPECT(lpt_reader_octets(reader, archive, 99, &needed) == LPT_E_NOTHING);
+    }
+    lpt_reader_free(reader);
+    EXPECT(given == 0);
+}
+
+/* Octets of no packet are counted, and the next packet is found behind them: at the end, since what
+   is in front says that it is longer than what came. */
+static void strays(void) {
+    LptReader *reader = reader_of("");
+    LptItem item = NONE;
+    DONE(lpt_reader_feed(reader, STRAY, sizeof STRAY));
+    EXPECT(lpt_reader_next(reader, &item) == LPT_E_MORE && item.kind == 0);
+    DONE(lpt_reader_feed(reader, FIRST, sizeof FIRST));
+    EXPECT(lpt_reader_next(reader, &item) == LPT_E_MORE);
+    DONE(lpt_reader_end(reader));
+    DONE(lpt_reader_next(reader, &item));
+    EXPECT(is(reader, &item, 3, 3, FIRST, sizeof FIRST) && has(&item, LPT_PART_FIRST, 5, 1, 8));
+    lpt_reader_free(reader);
+}
+
+/* A layout of another mission; parts of a wrong size; what isn't its version. */
+static void layouts(void) {
+    LptReader *reader = reader_of(LAYOUT);
+    LptItem item = NONE;
+    uint8_t other[sizeof BARE];
+    DONE(lpt_reader_feed(reader, BARE, sizeof BARE));
+    DONE(lpt_reader_next(reader, &item));
+    EXPECT(is(reader, &item, 0, 0, BARE, sizeof BARE));
+    EXPECT(has(&item, LPT_PART_INTERMEDIATE, 5, 2, 3));
+    EXPECT(says(&item, LPT_PACKET_TC, 13, 10, 2, 9) && item.flags == 1 && item.body_at == 10);
+    memcpy(other, BARE, sizeof BARE);
+    other[6] = 0x11;
+    DONE(lpt_reader_feed(reader, other, sizeof other));
+    DONE(lpt_reader_next(reader, &item));
+    EXPECT(item.kind == LPT_ITEM_FAULTY && item.fault == LPT_E_PUS_VERSION && item.apid == 100);
+    EXPECT(item.place == sizeof BARE && item.count == 2 && item.service == 0);
+    DONE(lpt_reader_feed(reader, STRAY, sizeof STRAY));
+    DONE(lpt_reader_feed(reader, BARE, sizeof BARE));
+    EXPECT(lpt_reader_next(reader, &item) == LPT_E_MORE);
+    DONE(lpt_reader_end(reader));
+    DONE(lpt_reader_next(reader, &item));
+    EXPECT(item.kind == LPT_ITEM_END && item.place == 66 && item.stray == 24);
+    lpt_reader_free(reader);
+
+    reader = NULL;
+    DONE(lpt_reader_new(&reader, 4, STRAY, 0));
+    DONE(lpt_reader_feed(reader, FIRST, sizeof FIRST));
+    DONE(lpt_reader_next(reader, &item));
+    EXPECT(has(&item, LPT_PART_UNREAD, 0, 0, 0) && item.service == 13);
+    lpt_reader_free(reader);
+    EXPECT(given == 0);
+}
+
+/* Why there is no reader. */
+static void refusals(void) {
+    static const char *const wrong[] = {"x", "[telemetry]\ncolour = 1\n", "[telemetry]\ntime = 17\n",
+                                        "telemetry = 1\n"};
+    LptReader *reader = NULL;
+    size_t at;
+    EXPECT(lpt_reader_new(&reader, 3, NULL, 0) == LPT_E_RANGE);
+    EXPECT(lpt_reader_new(&reader, 1025, NULL, 0) == LPT_E_RANGE);
+    EXPECT(lpt_reader_new(&reader, 8, STRAY, sizeof STRAY) == LPT_E_LAYOUT);
+    for (at = 0; at < sizeof wrong / sizeof wrong[0]; at++) {
+        const uint8_t *text = (const uint8_t *)wrong[at];
+        EXPECT(lpt_reader_new(&reader, 8, text, strlen(wrong[at])) == LPT_E_LAYOUT);
+    }
+    EXPECT(reader == NULL && given == 0);
+    DONE(lpt_reader_new(&reader, 0, (const uint8_t *)"\n", 1));
+    lpt_reader_free(reader);
+    lpt_reader_free(NULL);
+    EXPECT(strcmp(lpt_fault_name(LPT_E_LAYOUT), "layout") == 0);
+}
+
+/* Each request for memory is refused in turn, until none is. */
+static void scarce(void) {
+    LptReader *reader = NULL;
+    LptItem item = NONE;
+    long at;
+    uint32_t fault = LPT_E_ALLOCATION;
+    for (at = 0; fault == LPT_E_ALLOCATION && at < 1000; at++) {
+        refused_at = at;
+        fault = lpt_reader_new(&reader, 8, (const uint8_t *)LAYOUT, strlen(LAYOUT));
+        EXPECT((reader != NULL) == (fault == LPT_DONE));
+        EXPECT(reader != NULL || given == 0);
+    }
+    EXPECT(fault == LPT_DONE && at > 5);
+    refused_at = 0;
+    EXPECT(lpt_reader_feed(reader, BARE, sizeof BARE) == LPT_E_ALLOCATION);
+    refused_at = -1;
+    EXPECT(lpt_reader_next(reader, &item) == LPT_E_MORE);
+    DONE(lpt_reader_feed(reader, BARE, sizeof BARE));
+    DONE(lpt_reader_next(reader, &item));
+    EXPECT(is(reader, &item, 0, 0, BARE, sizeof BARE));
+    lpt_reader_free(reader);
+    EXPECT(given == 0);
+}
+
+int main(void) {
+    each_octet();
+    strays();
+    layouts();
+    refusals();
+    scarce();
+    printf("%u passed, %u failed\n", passed, failed);
+    return failed != 0;
+}
