@@ -13,6 +13,7 @@ The modules:
 
 - packets: packets, telecommands and telemetry, and the packets of a stream
 - parts: the parts of large messages, and `split`
+- archive: the packets of an archive as they come, by any layout
 - joining: `join`, and `join_each` of an archive
 - images: `read_image` of an archive's dump reports
 - distributed: both of many files, on the workers of Dask
@@ -29,7 +30,7 @@ raise `faults.Range`, and arguments of another type TypeError.
 
 The package looks for the libraries in the folder that FORGESILVER_LIB names. If that isn't set, it
 looks beside itself, where ./install puts them, and in build of the checkout. It compares the
-version of `liblpt` with its own.
+version of `liblpt` with its own; `version` says whether they are proved.
 """
 
 from __future__ import annotations
@@ -37,13 +38,15 @@ from __future__ import annotations
 from . import faults
 from ._handle import WrongThread
 from ._library import VERSION as __version__
+from ._library import version
+from .archive import Archive, Listed
 from .end import Applied, Config, End, Outcome, Reception, Sender, View
 from .faults import Fault
 from .images import Image, read_image
 from .job import Fate, Job, Progress
-from .joining import Joined, NotJoined, join, join_each
+from .joining import Joined, NotJoined, SkippedWarning, join, join_each
 from .kinds import (
-    Acknowledge, AppliedKind, Direction, Failure, FateState, JobKind, Mode, NameState, OutcomeKind,
+    Acknowledge, AppliedKind, Direction, Failure, FateState, ItemKind, JobKind, Mode, NameState, OutcomeKind,
     PacketKind, PartKind, PieceKind, Reason, ReportKind, Side, Step, Why,
 )
 from .memory import (
@@ -52,8 +55,8 @@ from .memory import (
 )
 from .packets import (
     LONGEST_PACKET, Packet, Telecommand, Telemetry, crc16, find_piece, packet_length, packets_of,
-    read_message, read_packet, read_telecommand, read_telemetry, write_packet, write_telecommand,
-    write_telemetry,
+    read_message, read_packet, read_telecommand, read_telemetry, sound_packets_of, write_packet,
+    write_telecommand, write_telemetry,
 )
 from .parts import (
     AbortReport, Name, Part, part_count, part_kind, part_of, read_abort, read_part, split,
@@ -62,20 +65,21 @@ from .parts import (
 from .reports import VerificationReport, read_report, verification_of, write_report
 
 __all__ = [
-    "AbortReport", "Acknowledge", "Applied", "AppliedKind", "Area", "Check", "CheckReport",
+    "AbortReport", "Acknowledge", "Applied", "AppliedKind", "Archive", "Area", "Check", "CheckReport",
     "Checked", "Config", "Direction", "Dump", "DumpReport", "End", "Failure", "Fate",
-    "FateState", "Fault", "Image", "Job", "JobKind", "Joined",
-    "LONGEST_PACKET", "Load", "Loaded", "Mode", "Name", "NameState", "NotJoined", "Outcome",
+    "FateState", "Fault", "Image", "ItemKind", "Job", "JobKind", "Joined",
+    "LONGEST_PACKET", "Listed", "Load", "Loaded", "Mode", "Name", "NameState", "NotJoined", "Outcome",
     "OutcomeKind",
     "Packet", "PacketKind", "Part", "PartKind", "PieceKind", "Progress", "Reason", "Reception",
-    "ReportKind", "Sender", "Side", "Step",
+    "ReportKind", "Sender", "Side", "SkippedWarning", "Step",
     "Telecommand",
     "Telemetry", "VerificationReport", "View", "Why", "WrongThread", "crc16", "faults",
     "find_piece", "join", "join_each",
     "packet_length", "packets_of", "part_count", "part_kind", "part_of", "read_abort", "read_check",
     "read_data_report", "read_dump", "read_image",
     "read_message", "read_packet", "read_part", "read_report", "read_telecommand",
-    "read_telemetry", "split", "verification_of", "write_abort", "write_load", "write_packet",
+    "read_telemetry", "sound_packets_of", "split", "verification_of", "version", "write_abort",
+    "write_load", "write_packet",
     "write_part",
     "write_report", "write_telecommand", "write_telemetry",
 ]

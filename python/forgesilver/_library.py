@@ -27,6 +27,7 @@ else:
 VERSION = "0.1.0"
 VERSION_NUMBER = 1000
 CODECS, END, GROUND = "liblpt.so.0", "liblpt_end.so.0", "liblpt_ground.so.0"
+READER = "liblpt_reader.so.0"
 
 U8, U16, U32, U64 = ctypes.c_uint8, ctypes.c_uint16, ctypes.c_uint32, ctypes.c_uint64
 SIZE, POINTER = ctypes.c_size_t, ctypes.c_void_p
@@ -48,6 +49,11 @@ LptTmHead = _structure(
 )
 LptTm = _structure("LptTm", head=LptTmHead, at=SIZE, len=SIZE)
 LptPart = _structure("LptPart", id=U16, number=U16, kind=U32, at=SIZE, len=SIZE)
+LptItem = _structure(
+    "LptItem", place=U64, stray=U64, length=SIZE, time_at=SIZE, body_at=SIZE, body_len=SIZE,
+    part_len=SIZE, kind=U32, fault=U32, packet=U32, counter=U32, user=U32, part=U32, id=U32,
+    number=U32, apid=U16, count=U16, flags=U8, service=U8, subtype=U8, time_len=U8,
+)
 LptAbort = _structure("LptAbort", id=U16, reason=U16)
 LptReport = _structure("LptReport", request=U32, failed=U16, code=U16)
 LptRange = _structure("LptRange", address=U32, len=U16)
@@ -172,6 +178,14 @@ _OF_GROUND: dict[str, tuple[Any, ...]] = {
     "lpt_ground_dumped": (POINTER, SIZE, *_WRITE),
     "lpt_ground_agrees": (POINTER, *_READ, POINTER),
 }
+_OF_READER: dict[str, tuple[Any, ...]] = {
+    "lpt_reader_new": (POINTER, U32, *_READ),
+    "lpt_reader_free": (POINTER,),
+    "lpt_reader_feed": (POINTER, *_READ),
+    "lpt_reader_end": (POINTER,),
+    "lpt_reader_next": (POINTER, POINTER),
+    "lpt_reader_octets": (POINTER, *_WRITE),
+}
 
 
 def folder() -> pathlib.Path:
@@ -184,11 +198,23 @@ def folder() -> pathlib.Path:
     if os.environ.get("FORGESILVER_LIB"):
         places = [pathlib.Path(os.environ["FORGESILVER_LIB"]).resolve()]
     for place in places:
-        if all((place / it).is_file() for it in (CODECS, END, GROUND)):
+        if all((place / it).is_file() for it in (CODECS, END, GROUND, READER)):
             return place
     said = ", ".join(map(str, places))
-    raise ImportError(f"forgesilver: {CODECS}, {END} and {GROUND} aren't in {said}: run ./build-c, or "
-                      "name their folder in FORGESILVER_LIB")
+    raise ImportError(f"forgesilver: {CODECS}, {END}, {GROUND} and {READER} aren't in {said}: run "
+                      "./build-c, or name their folder in FORGESILVER_LIB")
+
+
+# The files of the libraries that were loaded.
+_LOADED: list[pathlib.Path] = []
+
+
+def version() -> str:
+    """The version of the libraries that are loaded. It ends in `+unproved` if one of them is of
+    `./build-c --unproved`: so says its file, in the section .comment, unless that was stripped."""
+    mark = f"forgesilver {VERSION}+unproved".encode()
+    is_unproved = any(mark in it.read_bytes() for it in _LOADED)
+    return f"{VERSION}+unproved" if is_unproved else VERSION
 
 
 def _loaded(path: pathlib.Path, calls: dict[str, tuple[Any, ...]]) -> Any:
@@ -200,21 +226,23 @@ def _loaded(path: pathlib.Path, calls: dict[str, tuple[Any, ...]]) -> Any:
             call.argtypes, call.restype = words, U32
     except (OSError, AttributeError) as error:
         raise ImportError(f"forgesilver: {path}: {error}") from error
+    _LOADED.append(path)
     return library
 
 
-def _load() -> tuple[Any, Any, Any]:
+def _load() -> tuple[Any, Any, Any, Any]:
     """The libraries, which are of the package's version."""
     place = folder()
     codecs, end = _loaded(place / CODECS, _OF_CODECS), _loaded(place / END, _OF_END)
-    ground = _loaded(place / GROUND, _OF_GROUND)
+    ground, reader = _loaded(place / GROUND, _OF_GROUND), _loaded(place / READER, _OF_READER)
     codecs.lpt_crc16.restype = codecs.lpt_crc16_more.restype = U16
     end.lpt_end_free.restype = ground.lpt_ground_free.restype = None
+    reader.lpt_reader_free.restype = None
     found = codecs.lpt_version()
     if found != VERSION_NUMBER:
         raise ImportError(f"forgesilver: {place / CODECS} is of version {_dotted(found)}, and the "
                           f"package of {VERSION}")
-    return codecs, end, ground
+    return codecs, end, ground, reader
 
 
 def _dotted(number: int) -> str:
@@ -222,7 +250,7 @@ def _dotted(number: int) -> str:
     return f"{number // 1000000}.{number // 1000 % 1000}.{number % 1000}"
 
 
-codecs, end, ground = _load()
+codecs, end, ground, reader = _load()
 
 # ---- octets in ----
 

@@ -31,7 +31,8 @@ from ._course import Course, Kept
 from ._library import Octets, number
 from .images import Image, image_of, is_dump
 from .joining import (
-    Joined, Wanted, _Counts, _direction_of, _Joiner, _message_of, _refuse_size,
+    Choice, Joined, Wanted, _Counts, _direction_of, _Joiner, _message_of, _refuse_size, choice_of,
+    joined_of,
 )
 from .kinds import Direction, PieceKind
 from .packets import _LOOKAHEAD, GREATEST_APID, _count_strays, find_piece
@@ -81,11 +82,12 @@ class _Stream(NamedTuple):
 
 
 class _State(NamedTuple):
-    """Where the next piece of a cut begins, whether in step, and the APID, once it is known."""
+    """Where the next piece of a cut begins, whether in step, and the APID, once it is known, with
+    the parts of others."""
 
     place: int
     in_step: bool
-    apid: Optional[int]
+    choice: Choice
 
 
 class _Row(NamedTuple):
@@ -151,16 +153,16 @@ def join_files(
     partitions: int = _PARTITIONS,
 ) -> Iterator[Joined]:
     """What `join_each` gives of the octets of these files, one file behind the other, in the same
-    order, and with the same exceptions.
+    order, and with the same exceptions and warnings.
 
     Pieces of `piece` octets are read side by side. The names that came are kept in so many
     partitions; for each name at most five messages of the greatest length are in memory.
     """
     part_size = part_size_of(part_size)
-    apid = None if apid is None else number(apid, GREATEST_APID, "the APID")
+    choice = choice_of(apid)
     piece, partitions = _sizes(piece, partitions)
     run = _Run(client, _stream_of(files), piece, _How(part_size, bool(any), partitions, None))
-    return (it for it in run.given(apid) if isinstance(it, Joined))
+    return run.joined(choice)
 
 
 def read_image_of_files(
@@ -181,7 +183,7 @@ def read_image_of_files(
     wanted = functools.partial(is_dump, apid)
     how = _How(part_size_of(part_size), False, partitions, wanted)
     run = _Run(client, _stream_of(files), piece, how)
-    return image_of(run.given(apid), memory, apid, start, fill)
+    return image_of(run.given(choice_of(apid)), memory, apid, start, fill)
 
 
 def _sizes(piece: int, partitions: int) -> tuple[int, int]:
@@ -205,16 +207,24 @@ class _Run:
     def __init__(self, client: Client, stream: _Stream, piece: int, how: _How) -> None:
         self.client, self.stream, self.piece, self.how = client, stream, piece, how
         self.counts: dict[Direction, _Counts] = {}
+        self.choice = Choice(None)
 
     def submit(self, function: Any, *words: Any) -> Any:
         """A task of its own, though another has the same arguments."""
         return self.client.submit(function, *words, pure=False)
 
-    def given(self, apid: Optional[int]) -> Iterator[Union[Joined, bytes]]:
+    def joined(self, choice: Choice) -> Iterator[Joined]:
+        """What is joined; and a warning, if no APID was given and parts of another came."""
+        is_given = choice.apid is not None
+        yield from joined_of(self.given(choice))
+        if not is_given:
+            self.choice.warn(3)
+
+    def given(self, choice: Choice) -> Iterator[Union[Joined, bytes]]:
         """What the stream gives, piece by piece."""
         size = self.stream.ends[-1] if self.stream.ends else 0
         batch = self.piece * _PIECES_AHEAD * max(len(self.client.nthreads()), 1)
-        state = _State(0, True, apid)
+        state = _State(0, True, choice)
         steps: list[Optional[_Step]] = [None] * self.how.partitions
         cuts = self._cuts(0, min(batch, size))
         for start in range(0, size, batch):
@@ -224,7 +234,8 @@ class _Run:
         rest = [it for step in steps if step is not None for it in _rest(step)]
         order = {way: number for number, way in enumerate(self.counts)}
         rest.sort(key=lambda it: (order[it.direction], it.name))
-        _refuse_size(self.counts.values(), self.how.part_size, rest)
+        self.choice = state.choice
+        _refuse_size(self.counts.values(), self.how.part_size, rest, self.choice)
         yield from rest
 
     def _cuts(self, start: int, stop: int) -> list[tuple[int, Any]]:
@@ -288,12 +299,13 @@ def _mended(stream: _Stream, cut: _Cut, stop: int, state: _State, how: _How) -> 
         rows.extend(_row_of(place, octets, how))
     else:
         end = walk.place, walk.in_step
-    apid = state.apid if state.apid is not None or not rows else rows[0].apid
-    found = _Mended([[] for _ in range(how.partitions)], _State(*end, apid))
+    choice = copy.copy(state.choice)
+    found = _Mended([[] for _ in range(how.partitions)], _State(*end, choice))
     for row in rows:
-        if row.packet is None and row.apid == apid:
+        is_taken = row.packet is not None or choice.takes(row.apid)
+        if row.packet is None and is_taken:
             _add(found.counts.setdefault(row.direction, _Counts()), row.counts)
-        if row.packet is not None or row.apid == apid and row.name is not None:
+        if is_taken and (row.packet is not None or row.name is not None):
             found.rows[_partition_of(row, how.partitions)].append(row)
     return found
 
@@ -355,6 +367,7 @@ def _partition_of(row: _Row, partitions: int) -> int:
 def _add(counts: _Counts, more: _Counts) -> None:
     """Counts more, which came behind."""
     counts.fitting += more.fitting
+    counts.zeros += more.zeros
     counts.unread += more.unread
     counts.size = more.size if counts.size is None else counts.size
 

@@ -13,7 +13,7 @@ from . import _library
 from ._handle import NOTHING as _NOTHING
 from ._handle import Handle
 from ._library import U16, U32, Given, Octets, Room, number, of_kind
-from .faults import NoSuchPart, raise_fault
+from .faults import NoSuchPart, Range, raise_fault
 from .kinds import (
     Acknowledge, AppliedKind, Direction, Failure, Mode, NameState, OutcomeKind, Reason, Side, Why,
 )
@@ -151,7 +151,7 @@ class End(Handle):
     Arguments of another type raise TypeError.
     """
 
-    __slots__ = ("config", "side", "_length")
+    __slots__ = ("config", "side", "_length", "_report")
     _noun, _free = "the end", staticmethod(_end.lpt_end_free)
 
     def __init__(
@@ -165,12 +165,14 @@ class End(Handle):
         16, of 1 to 1,048,576 octets each. Ground's has none.
 
         A new end is no restart of an old one: it doesn't know which names were used. So make the
-        other end anew too, and let no older packet come. From a state of `End.state` it is
-        restored, as a restart would have left that end. Raises `Range`, `ConfigApid` to
+        other end anew too, and let no older packet come. A state of `End.state` restores one as a restart would, but
+        nothing waits to be sent. Raises `Range`, `ConfigApid` to
         `ConfigOutgoing`, or `Memories`; of a state `StateShort` to `StateOrder`, or `NoNumber`.
         """
         super().__init__()
         self._length, place = 0, _library.POINTER()
+        # The report that `serve` sends in parts, and the next part.
+        self._report: Optional[tuple[Name, int]] = None
         self.side, self.config = Side(side), of_kind(Config() if config is None else config, Config)
         made = _config_of(self.config)
         memories = {} if memories is None else memories
@@ -253,9 +255,10 @@ class End(Handle):
         self, service: int, subtype: int, body: Octets, *, source: int,
         flags: Acknowledge = Acknowledge.NONE,
     ) -> None:
-        """Makes the packet of a plain request: it goes behind the packets that wait. Only ground
-        makes requests. A request is executed as often as its packet is delivered. Raises `Range`,
-        `PartRequest`, `LongMessage` or `Allocation`."""
+        """Makes the packet of a plain request: it goes behind the packets that wait. It has at most
+        part_size + 23 octets; `open` takes a longer one. Only ground makes requests. A request is
+        executed as often as its packet is delivered. Raises `Range`, `PartRequest`, `LongMessage`
+        or `Allocation`."""
         words = (
             number(source, 0xFFFF, "the source"), number(flags, 15, "the flags"),
             number(service, 255, "the service"), number(subtype, 255, "the subtype"),
@@ -274,6 +277,8 @@ class End(Handle):
         """Closes an open message, and frees its memory. Raises `NotOpen`."""
         named = _c_name(name)
         self._done(_end.lpt_end_finish, byref(named))
+        if self._report is not None and self._report[0] == name_of(name):
+            self._report = None
 
     def first(self) -> Optional[bytes]:
         """A copy of the next packet to be sent; None if there is none. It stays the next one until
@@ -343,20 +348,37 @@ class End(Handle):
     def serve(self) -> Iterator[bytes]:
         """Reads and executes all requests that were released, and gives the packets to be sent, as
         `outgoing` does: what waited before, reports, and the parts of reports that are too long for
-        a packet. It finishes these messages, so their lost parts can't be made again: if the
-        network loses packets, call `execute` and `parts` yourself, and `finish` when ground has all
-        parts. You retire the names at both ends, ground first."""
+        a packet. If an exception or `break` ends the loop, another `serve` goes on from its packet.
+
+        It finishes these messages, so their lost parts can't be made again: if the network loses
+        packets, call `read`, `execute`, `outgoing` and `parts` yourself, and `finish` when ground has all parts. You
+        retire the names at both ends, ground first.
+
+        To keep the state, take all packets before you send one: `packets = list(end.serve())`. Then
+        write the state and the memories in one write, and send the packets."""
         while self.read():
             pass
         yield from self.outgoing()
         while True:
+            yield from self._report_parts()
             applied = self.execute()
             if applied is None:
                 return
-            yield from self.outgoing()
             if applied.name is not None:
-                yield from self.parts(applied.name)
-                self.finish(applied.name)
+                self._report = applied.name, 1
+            yield from self.outgoing()
+
+    def _report_parts(self) -> Iterator[bytes]:
+        """The parts of the report that `serve` sends, from the next one on. Then it finishes it."""
+        while self._report is not None:
+            name, its_number = self._report
+            try:
+                self.part(name, its_number)
+            except NoSuchPart:
+                self.finish(name)
+                return
+            self._report = name, its_number + 1
+            yield from self.outgoing()
 
     def memory(self, identifier: int) -> Optional[bytes]:
         """A copy of a memory; None if the end has no such memory."""
@@ -369,6 +391,9 @@ class End(Handle):
         memory = number(identifier, 255, "the identifier")
         start = number(area.start, 0xFFFFFFFF, "the start")
         call = self._call(_end.lpt_end_memory_range, memory, start, room.at, room.len)
+        if call == Range.number:
+            size = len(self.memory(memory) or b"")
+            raise Range(f"the area ends at {start + room.len}, and the memory has {size} octets")
         if self._unless(_NOTHING, call):
             return None
         room.needed.value = area.length
@@ -377,8 +402,8 @@ class End(Handle):
     # ---- the clock, names, and a restart ----
 
     def tick(self, ticks: int = 1) -> None:
-        """Moves the clock on by so many ticks at once. Raises `ClockEnd` if it would go past its
-        greatest value; it stands then."""
+        """Moves the clock on by so many ticks at once. Raises `ClockEnd`, and leaves the clock, if
+        it would go past its greatest value."""
         self._done(_end.lpt_end_tick_many, number(ticks, 0xFFFFFFFF, "the ticks"))
 
     def retire(self, direction: Direction, name: Named) -> None:
@@ -450,17 +475,19 @@ class End(Handle):
             at += 1
 
     def restart(self) -> None:
-        """Restarts the end. It closes and frees its open messages, drops its open receptions, whose
-        names are free again, and the released requests that it keeps, and counts its packets from
+        """Restarts the end. It closes open messages and their names, drops its open receptions, whose names are free
+        again, and the released requests that it keeps, and counts its packets from
         0. Other names, the clock and the memories stay, and so do the message that was released
         last and the packets that wait to be sent. Raises `NoNumber`."""
         self._done(_end.lpt_end_restart)
+        self._report = None
 
     def state(self) -> bytes:
         """What outlasts the end's process, besides the memories: `End(.., state=..)` restores an
-        end from it. If you write it before you act on a call's result or send anything, the promise
-        holds through a stop at any place; docs/C.md says how. The library takes no memory for
-        it."""
+        end from it. Write it before you act on a call's result or send anything; a spacecraft in
+        one write with the memories, and not while a request is released and not executed (`serve`
+        says how). Then the promise holds through a stop at any place. For each call docs/C.md says
+        whether a write is needed, under "Saving the state". The library takes no memory for it."""
         return self._copied(_end.lpt_end_state, Room(57)) or b""
 
     @staticmethod

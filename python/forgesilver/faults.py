@@ -1,4 +1,4 @@
-"""The faults: an exception for each number of docs/FORMATS.md and docs/C.md, named as there.
+"""The faults: an exception for each number of `LptFault` in docs/C.md, named as there.
 
 `ShortPart` is raised if the libraries answer LPT_E_SHORT_PART, and so on. All are `Fault`, so
 `except forgesilver.Fault` takes any; `fault.number` is the number. `ValueError` is a base of each,
@@ -13,7 +13,7 @@ from typing import ClassVar
 class Fault(Exception):
     """Why a call failed: the base of all faults."""
 
-    #: The number by which docs/FORMATS.md and docs/C.md know the fault.
+    #: The number by which docs/C.md knows the fault.
     number: ClassVar[int] = 0
 
     def __init__(self, said: str = "") -> None:
@@ -145,7 +145,9 @@ class ShortMessage(Fault, ValueError):
 
 
 class LongMessage(Fault, ValueError):
-    """A message of more than 65,542 octets, or a plain request that is too long for a packet."""
+    """A message of more than 65,542 octets, or a plain request of more than part_size + 23.
+
+    Such a request is opened as a message, and sent in parts."""
 
     number = 43
 
@@ -193,7 +195,7 @@ class StillOpen(Fault, ValueError):
 
 
 class ClockEnd(Fault, ValueError):
-    """The clock is at its greatest value."""
+    """The clock would go past its greatest value, 4,294,967,295."""
 
     number = 56
 
@@ -359,6 +361,18 @@ class LongJob(Fault, ValueError):
     """The job takes more requests than a pass has, 16,384."""
 
     number = 121
+
+
+class Layout(Fault, ValueError):
+    """The text is no layout."""
+
+    number = 122
+
+
+class Ended(Fault, ValueError):
+    """The archive has ended."""
+
+    number = 123
 
 
 #: Each fault by its number.

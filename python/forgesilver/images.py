@@ -7,8 +7,7 @@ from dataclasses import dataclass
 from typing import Iterable, Iterator, Optional, Union
 
 from ._library import Octets, number
-from .faults import Fault
-from .joining import Joined, Packets, _given
+from .joining import Joined, Packets, _given, choice_of
 from .kinds import Direction
 from .memory import DUMPED, SERVICE, Loaded
 from .packets import GREATEST_APID, Telemetry, crc16, read_message
@@ -22,8 +21,10 @@ class Image:
     """The octets of a memory, as dump reports have them.
 
     - start: the address of the first octet
-    - octets: up to the last address that came; of areas that overlap the later one wins
-    - missing: the addresses for which no octets came, as pairs of the first and the last
+    - octets: up to the last address that came, and none if none came; of areas that overlap the
+      later one wins
+    - missing: the addresses among these for which no octets came, as pairs of the first and the
+      last; what is missing behind them isn't here
     - passed_over: how many reports or areas weren't taken: they can't be read, have a wrong
       checksum, or end past the last address; and how many reports in parts aren't whole
     """
@@ -49,7 +50,8 @@ def read_image(
     (b'\\x00\\x00ab', ((0, 1),))
     """
     apid = number(apid, GREATEST_APID, "the APID")
-    given = _given(packets, part_size_of(part_size), apid, False, functools.partial(is_dump, apid))
+    is_wanted = functools.partial(is_dump, apid)
+    given = _given(packets, part_size_of(part_size), choice_of(apid), False, is_wanted)
     return image_of(given, memory, apid, start, fill)
 
 

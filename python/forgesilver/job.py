@@ -1,5 +1,6 @@
 """A job that ground carries to its end: a load, a dump or a check of a memory. Its requests are sent
-again, by rounds, until a report has settled each; docs/C.md says what is proved of the end."""
+again, by rounds, until a report has settled each; docs/C.md says what is proved of a job that ended
+as COMPLETED."""
 
 from __future__ import annotations
 
@@ -13,6 +14,7 @@ from ._library import U32, Given, Octets, Room, number, of_kind
 from .faults import raise_fault
 from .kinds import Acknowledge, Failure, FateState, JobKind, Step
 from .memory import Area, Check, Dump, Load, Loaded, Request
+from .packets import GREATEST_APID
 
 _ground = _library.ground
 _KINDS = {Load: JobKind.LOAD, Dump: JobKind.DUMP, Check: JobKind.CHECK}
@@ -30,8 +32,7 @@ class Progress:
 
 @dataclass(frozen=True)
 class Fate:
-    """What became of a request. `code` is why it failed, else None: a `Failure`, or a number that is
-    none."""
+    """What became of a request. `code` is why it failed, a `Failure` or another number; else None."""
 
     state: FateState
     code: Union[Failure, int, None] = None
@@ -65,9 +66,9 @@ class Job(Handle):
         one packet each.
 
         - source: the job's own, 0 to 65,535: reports go to it, and no job before had it
-        - part_size: of the link, 4 to 1,024, of a dump 7 to 1,024
+        - part_size: of the link, 4 to 1,024, of a dump 7 to 1,024, of a check 6 to 1,024
         - count: the first request's sequence count, 0 to 16,383
-        - tries: after so many waits in a row that settled nothing it is given up
+        - tries: after so many waits in a row that settled nothing it is given up, at least 1
         - starts: whether a report of the start settles a load too
 
         Raises `Range`, `BadArea`, `LongJob` or `Allocation`.
@@ -75,14 +76,15 @@ class Job(Handle):
         super().__init__()
         of_kind(request, (Load, Dump, Check))
         kind, place = _KINDS[type(request)], _library.POINTER()
-        self.request, self._most = request, number(part_size, 0xFFFFFFFF, "the part size") + 23
+        what, least = f"the part size of a {kind.name.lower()}", 7 if kind is JobKind.DUMP else 4
+        self.request, self._most = request, number(part_size, 1024, what, least) + 23
         flags = Acknowledge.NONE
         if kind is JobKind.LOAD:
             flags = Acknowledge.COMPLETION | (Acknowledge.START if starts else Acknowledge.NONE)
         words = _library.LptJob(
             int(kind), number(request.memory, 255, "the memory"), int(flags),
-            number(apid, 0xFFFF, "the APID"), number(source, 0xFFFF, "the source"),
-            number(count, 0xFFFF, "the count"), part_size, number(tries, 0xFFFFFFFF, "the tries"),
+            number(apid, GREATEST_APID, "the APID"), number(source, 0xFFFF, "the source"),
+            number(count, 16383, "the count"), part_size, number(tries, 0xFFFFFFFF, "the tries"),
         )
         places = [_place_of(it) for it in request.areas]
         self._lengths = [it[1] for it in places]
@@ -185,8 +187,7 @@ class Job(Handle):
         return found
 
     def agrees(self, octets: Octets) -> bool:
-        """Whether the checksums that a check got are those of these octets, those of one area behind
-        those of the area before. One differing area in 65,536 is taken for the same."""
+        """Whether a check got the checksums of these octets, which are its areas' octets one after the other. One differing area in 65,536 is taken for the same."""
         given, told = Given(octets), U32(0)
         self._done(_ground.lpt_ground_agrees, given.at, given.len, byref(told))
         return bool(told.value)

@@ -7,17 +7,18 @@ then, and what is said to be missing, is what `lpt join --each` writes and says.
 from __future__ import annotations
 
 import functools
+import warnings
 from dataclasses import dataclass, field
 from typing import BinaryIO, Callable, Iterable, Iterator, Optional, Union
 
 from ._course import Course, Kept, News, Parts
 from ._library import Octets, has_octets, number, view_of
-from .faults import Fault, WrongType
+from .faults import Fault, WrongType, ZeroNumber
 from .kinds import Direction, PacketKind, PartKind
 from .packets import (
     GREATEST_APID, Telecommand, Telemetry, read_message, read_packet, sound_packets_of,
 )
-from .parts import SERVICE, Name, Named, name_of, part_of, part_size_of
+from .parts import SERVICE, Name, Named, name_of, part_of, part_size_of, read_part
 
 _SUBTYPES = {Direction.UP: (9, 10, 11), Direction.DOWN: (1, 2, 3)}
 _KINDS = {Direction.UP: PacketKind.TC, Direction.DOWN: PacketKind.TM}
@@ -59,6 +60,10 @@ class NotJoined(ValueError):
         self.found = tuple(found)
 
 
+class SkippedWarning(UserWarning):
+    """Parts of another APID than that of the first part were skipped, and no APID was given."""
+
+
 def join(
     packets: Packets,
     *,
@@ -72,8 +77,8 @@ def join(
 
     With a name, a direction or an APID no other packets count; the APID is by default that of the
     first packet with a part. A message is a packet of its direction, or with `any` whatever is
-    joined. Raises `NotJoined` if there is none, or several, or parts of others; `join_each` gives
-    those.
+    joined. Raises `NotJoined` if there is none, or several, or parts of others of this APID;
+    `join_each` gives those.
 
     >>> from forgesilver import Load, Loaded, split, write_telecommand
     >>> load = Load(1, [Loaded(0, b"0123456789")]).telecommand(apid=100, count=7, source=1)
@@ -83,8 +88,10 @@ def join(
     True
     """
     wanted = name_of(name) if name is not None else None
+    direction = None if direction is None else Direction(direction)
+    part_size, choice = part_size_of(part_size), choice_of(apid)
     found: list[Joined] = []
-    for it in join_each(packets, part_size=part_size, apid=apid, any=any):
+    for it in joined_of(_given(packets, part_size, choice, bool(any))):
         is_wanted = wanted in (None, it.name) and direction in (None, it.direction)
         # A message that came twice is one.
         if is_wanted and (it.message is None or it not in found):
@@ -94,7 +101,13 @@ def join(
     said = [_said_of(it) for it in found[:_MOST_TOLD]]
     if len(found) > _MOST_TOLD:
         said.append(f"and {len(found) - _MOST_TOLD} more")
-    raise NotJoined("; ".join(said) or f"no part of {part_size} octets of it came", found)
+    if not said:
+        asked = [f"APID {choice.apid}"] if choice.apid is not None else []
+        asked += [f"direction {direction.name.lower()}"] if direction is not None else []
+        asked += [f"name {wanted.source}/{wanted.id}"] if wanted is not None else []
+        of = f" of {', '.join(asked)}" if asked else ""
+        said = [f"no part of {part_size} octets came{of}", *choice.said()]
+    raise NotJoined("; ".join(said), found)
 
 
 def _said_of(it: Joined) -> str:
@@ -111,26 +124,66 @@ def _said_of(it: Joined) -> str:
 def join_each(
     packets: Packets, *, part_size: int, apid: Optional[int] = None, any: bool = False
 ) -> Iterator[Joined]:
-    """Each message of these packets, when it becomes whole; parts that are given up for another
-    message of their name, when they are; and at the end, in the order of names, what isn't whole.
-    Damaged and idle packets, those of another APID or without a part, and octets that are no packet
-    are skipped.
+    """Each message of these packets, once it is whole; parts, once they are given up for another message of their
+    name; and at the end, in the order of names, what isn't whole.
+    Damaged and idle packets, those without a part of this APID and size, and octets that are no packet are skipped. Without an APID it is that of the first packet with a part; if parts of another
+    came, a `SkippedWarning` says so at the end.
 
     If what is joined isn't a packet of its direction, `message` is None and `fault` says why; with
     `any` anything joined is a message. Raises `Range`; and at the end `NotJoined`, if parts don't
     fit the part size, and all that fit it are last parts.
     """
-    part_size = part_size_of(part_size)
-    apid = None if apid is None else number(apid, GREATEST_APID, "the APID")
-    for it in _given(packets, part_size, apid, bool(any)):
-        if isinstance(it, Joined):
-            yield it
+    part_size, choice = part_size_of(part_size), choice_of(apid)
+    yield from joined_of(_given(packets, part_size, choice, bool(any)))
+    if apid is None:
+        choice.warn(3)
+
+
+def joined_of(given: Iterable[Union[Joined, bytes]]) -> Iterator[Joined]:
+    """What was joined among these."""
+    return (it for it in given if isinstance(it, Joined))
+
+
+@dataclass
+class Choice:
+    """The APID whose parts are joined: a given one, or that of the first part. Of the parts of
+    others: how many came, and the APID of the first."""
+
+    apid: Optional[int]
+    others: int = 0
+    other: Optional[int] = None
+
+    def takes(self, apid: int) -> bool:
+        """Whether a part of this APID is taken; one that isn't is counted."""
+        self.apid = apid if self.apid is None else self.apid
+        if apid != self.apid:
+            self.others += 1
+            self.other = apid if self.other is None else self.other
+        return apid == self.apid
+
+    def said(self) -> list[str]:
+        """What is said of the parts that weren't taken; nothing if all were."""
+        if self.others < 2:
+            one = f"1 part of another APID was skipped, of APID {self.other}"
+            return [one] if self.others else []
+        first = f"the first of APID {self.other}"
+        return [f"{self.others} parts of another APID were skipped, {first}"]
+
+    def warn(self, level: int) -> None:
+        """Warns the caller, so many calls above, of what wasn't taken."""
+        for said in self.said():
+            warnings.warn(f"{said}: apid={self.other} takes it", SkippedWarning, level)
+
+
+def choice_of(apid: Optional[int]) -> Choice:
+    """The APID whose parts are joined, if one is given."""
+    return Choice(None if apid is None else number(apid, GREATEST_APID, "the APID"))
 
 
 def _given(
     packets: Packets,
     part_size: int,
-    apid: Optional[int],
+    choice: Choice,
     any: bool,
     is_wanted: Optional[Wanted] = None,
 ) -> Iterator[Union[Joined, bytes]]:
@@ -143,33 +196,43 @@ def _given(
             yield bytes(packet)
         if direction is None or message is None:
             continue
-        apid = message.apid if apid is None else apid
-        if message.apid == apid:
+        if choice.takes(message.apid):
             if direction not in joiners:
                 joiners[direction] = _Joiner(direction, part_size, any)
             yield from joiners[direction].take(message)
     rest = [it for joiner in joiners.values() for it in joiner.rest()]
-    _refuse_size([it.counts for it in joiners.values()], part_size, rest)
+    _refuse_size([it.counts for it in joiners.values()], part_size, rest, choice)
     yield from rest
 
 
 @dataclass
 class _Counts:
-    """How many parts came that aren't last ones, and how many that aren't read; and the part size
-    by which the first of these would be."""
+    """How many parts came that aren't last ones; how many that have number 0, or aren't read for
+    the part size; and the part size by which the first of these would be."""
 
     fitting: int = 0
+    zeros: int = 0
     unread: int = 0
     size: Optional[int] = None
 
 
-def _refuse_size(counts: Iterable[_Counts], part_size: int, found: list[Joined]) -> None:
+def _refuse_size(
+    counts: Iterable[_Counts], part_size: int, found: list[Joined], choice: Choice
+) -> None:
     """Raises `NotJoined` if parts came, and none fits this size but last ones."""
-    unread = sum(it.unread for it in counts)
-    if unread and not sum(it.fitting for it in counts):
+    zeros, unread = sum(it.zeros for it in counts), sum(it.unread for it in counts)
+    if not zeros + unread or sum(it.fitting for it in counts):
+        return
+    said = []
+    if zeros:
+        has = "part has" if zeros == 1 else "parts have"
+        said.append(f"{zeros} {has} number 0: the packets may have another layout")
+    if unread:
         sizes = {it.size for it in counts if it.size is not None}
-        other = f", but part_size={min(sizes)}" if sizes else ""
-        raise NotJoined(f"{unread} parts don't fit part_size={part_size}{other}", found)
+        fits = "part doesn't fit" if unread == 1 else "parts don't fit"
+        other = f": try part_size={min(sizes)}" if sizes else ""
+        said.append(f"{unread} {fits} part_size={part_size}{other}")
+    raise NotJoined("; ".join(said + choice.said()), found)
 
 
 def _packets_in(packets: Packets) -> Iterable[Octets]:
@@ -232,6 +295,9 @@ class _Joiner:
         """The part of a message that should be one, with its name; None if it isn't read."""
         try:
             part = part_of(message, self.part_size)
+        except ZeroNumber:
+            self.counts.zeros += 1
+            return None
         except Fault:
             self._note_unread(message)
             return None
@@ -272,7 +338,15 @@ class _Joiner:
     def _note_unread(self, message: Union[Telecommand, Telemetry]) -> None:
         """Notes a part that isn't read for the part size."""
         self.counts.unread += 1
-        size = len(message.body) - 4
-        is_first = message.subtype == _SUBTYPES[self.direction][0]
-        if self.counts.size is None and is_first and 4 <= size <= 1024:
-            self.counts.size = size
+        if self.counts.size is None and message.subtype == _SUBTYPES[self.direction][0]:
+            self.counts.size = _size_shown(message.body)
+
+
+def _size_shown(body: Octets) -> Optional[int]:
+    """The part size by which this body is read as a first part."""
+    size = len(view_of(body)) - 4
+    try:
+        read_part(PartKind.FIRST, body, size)
+    except Fault:
+        return None
+    return size

@@ -31,7 +31,7 @@ class PartKind(IntEnum):
 
 
 class PieceKind(IntEnum):
-    """The piece in front of a stream. WHOLE: a packet; in step (see `find_piece`) also an idle
+    """The first piece of a stream. WHOLE: a packet; in step (see `find_piece`) also an idle
     packet, or one with a right checksum that has no secondary header or is a segment. DAMAGED:
     octets that are no packet, as many as their header says, with a packet or the end after them.
     STRAY: an octet with which neither begins."""
@@ -39,6 +39,16 @@ class PieceKind(IntEnum):
     WHOLE = 1
     DAMAGED = 2
     STRAY = 3
+
+
+class ItemKind(IntEnum):
+    """What stands in an archive: its end; a packet with a secondary header of the layout; an idle
+    packet; as many octets as a header says, which are damaged or a packet of another kind."""
+
+    END = 0
+    PACKET = 1
+    IDLE = 2
+    FAULTY = 3
 
 
 class Reason(IntEnum):
@@ -154,8 +164,8 @@ class JobKind(IntEnum):
 
 
 class Step(IntEnum):
-    """What a job does next. From COMPLETED on it is at its end. COMPLETED: each request was carried
-    out, and a dump and a check answered. FAILED: each request is settled, and some failed.
+    """What a job does next. From COMPLETED on it is at its end. COMPLETED: each load was carried out, and each dump
+    or check answered. FAILED: each request is settled, and some failed.
     GIVEN_UP: some are open, and as many waits in a row as `tries` says settled nothing. CUT_OFF:
     some are open, and nothing more will come."""
 
@@ -173,7 +183,7 @@ class Step(IntEnum):
 
 
 class FateState(IntEnum):
-    """What is known of a job's request. COMPLETED: it was carried out, and a dump and a check
+    """What is known of a job's request. COMPLETED: it was carried out, or a dump or check was
     answered."""
 
     OPEN = 0

@@ -14,12 +14,12 @@ from . import _library
 from ._library import (
     SIZE, U16, U32, Given, Held, Octets, Room, has_octets, number, of_kind, piece_of, view_of,
 )
-from .faults import More, raise_fault
+from .faults import More, Version, raise_fault
 from .kinds import Acknowledge, PacketKind, PieceKind
 
 #: The octets of the longest packet, and of the longest message that is sent in parts.
 LONGEST_PACKET = _library.LONGEST_PACKET
-# So many octets of a stream always show which piece is in front.
+# So many octets of a stream always show which piece is the first.
 _LOOKAHEAD = 2 * LONGEST_PACKET
 # With so many numbers of room stray octets are counted quickly.
 _STRAY_ROOM = 2049
@@ -130,18 +130,19 @@ def packets_of(stream: Union[Octets, BinaryIO]) -> Iterator[Union[bytes, memoryv
     """The whole packets of a stream, one after the other, idle ones too. The stream is octets, of
     which the packets are views, or an open binary file. Its first octet begins a packet.
 
-    Raises `Version` at an octet where no packet begins, and `More` if the last packet is cut short.
-    What follows isn't searched for packets, because a message may contain packets that nobody sent.
-    `find_piece` finds the packets of a damaged stream, and `join_each` takes what it finds.
+    Raises `Version` if no packet begins behind another, and `More` if the stream ends within one:
+    it was cut, or a length is damaged. Each says at which octet. What follows isn't searched for
+    packets, because a message may contain packets that nobody sent. `sound_packets_of` gives the
+    packets of a damaged stream, and `join_each` takes those.
     """
     if not has_octets(stream):
         yield from _packets_of_file(stream)  # type: ignore[arg-type]
         return
     view, at = view_of(stream), 0  # type: ignore[arg-type]
     while at < len(view):
-        end = at + packet_length(view[at : at + 6])
+        end = at + _length_at(at, view[at : at + 6])
         if end > len(view):
-            raise More(f"the packet at octet {at} isn't whole")
+            raise _cut_at(at)
         yield view[at:end]
         at = end
 
@@ -149,15 +150,32 @@ def packets_of(stream: Union[Octets, BinaryIO]) -> Iterator[Union[bytes, memoryv
 def _packets_of_file(file: BinaryIO) -> Iterator[bytes]:
     """The packets of a file."""
     _reader_of(file)
+    at = 0
     while True:
         front = _read_all(file, 6)
         if not front:
             return
-        size = packet_length(front)
+        size = _length_at(at, front)
         octets = front + _read_all(file, size - 6)
         if len(octets) < size:
-            raise More("the last packet isn't whole")
+            raise _cut_at(at)
         yield octets
+        at += size
+
+
+def _length_at(at: int, front: Octets) -> int:
+    """The length of the packet that begins at this octet of a stream with these."""
+    try:
+        return packet_length(front)
+    except Version:
+        raise Version(f"no packet begins at octet {at}") from None
+    except More:
+        raise _cut_at(at) from None
+
+
+def _cut_at(at: int) -> More:
+    """What is raised of a packet that a stream has the front of."""
+    return More(f"the packet at octet {at} isn't whole: the stream is cut, or a length is damaged")
 
 
 def _read_all(file: BinaryIO, size: int) -> bytes:
@@ -208,8 +226,8 @@ def sound_packets_of(stream: Union[Octets, BinaryIO]) -> Iterator[memoryview]:
 def find_piece(
     octets: Octets, *, in_step: bool = True, is_end: bool = False
 ) -> Optional[tuple[PieceKind, int]]:
-    """The piece in front of octets of a stream that may be damaged: what it is, and how many octets
-    it has. None if there are no octets, or if the piece depends on octets that may still come.
+    """The first piece of these octets, which are of a stream that may be damaged: its kind and its
+    length. None if there are no octets, or if the piece depends on octets that may still come.
 
     `in_step` says that the octets begin the stream, or come right after a packet or a damaged one,
     and `is_end` that nothing comes after them.
