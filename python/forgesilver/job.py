@@ -18,6 +18,8 @@ from .packets import GREATEST_APID
 
 _ground = _library.ground
 _KINDS = {Load: JobKind.LOAD, Dump: JobKind.DUMP, Check: JobKind.CHECK}
+# The least part size of each: the report of a dump or a check has to go in one packet.
+_LEAST = {JobKind.LOAD: 4, JobKind.DUMP: 7, JobKind.CHECK: 6}
 
 
 @dataclass(frozen=True)
@@ -76,7 +78,7 @@ class Job(Handle):
         super().__init__()
         of_kind(request, (Load, Dump, Check))
         kind, place = _KINDS[type(request)], _library.POINTER()
-        what, least = f"the part size of a {kind.name.lower()}", 7 if kind is JobKind.DUMP else 4
+        what, least = f"the part size of a {kind.name.lower()}", _LEAST[kind]
         self.request, self._most = request, number(part_size, 1024, what, least) + 23
         flags = Acknowledge.NONE
         if kind is JobKind.LOAD:
@@ -84,7 +86,7 @@ class Job(Handle):
         words = _library.LptJob(
             int(kind), number(request.memory, 255, "the memory"), int(flags),
             number(apid, GREATEST_APID, "the APID"), number(source, 0xFFFF, "the source"),
-            number(count, 16383, "the count"), part_size, number(tries, 0xFFFFFFFF, "the tries"),
+            number(count, 16383, "the count"), part_size, number(tries, 0xFFFFFFFF, "the tries", 1),
         )
         places = [_place_of(it) for it in request.areas]
         self._lengths = [it[1] for it in places]
