@@ -41,8 +41,8 @@ use Rattle.lpt_apart.specs.Facts.{Opened, Asked, Released, Aborted, Executed, Re
 -- claims a request, or hands its reading in; the spacecraft executes its oldest request; both nodes
 -- free a name; the node of a side is restarted.
 --
--- Assumed: Memories, names and clocks survive a restart, and a call that a restart cuts short
--- counts as not made.
+-- Assumed: Memories, names and clocks survive a restart: what a call changes is saved before its
+-- packets are sent, and a call that wasn't saved counts as not made.
 pub data Step : Type 0 where
   Open : Direction → Name → (message : List ℕ) → Step
   Send : Direction → Name → (k : ℕ) → Step
@@ -81,7 +81,8 @@ is_harmless (AnAbort name reason) = true
 -- the network may hand octets to the node that receives in this direction
 --
 -- Assumed: What reads as a plain request was sent by the other end, and what reads as a part since
--- its name was last freed: damage never passes the 16-bit checksum, nobody forges.
+-- its name was last freed: damage never passes the 16-bit checksum, no packet's content is taken
+-- for a packet, nobody forges.
 abbrev pub MayCome : Config → Ends → Direction → List ℕ → Type 0
 MayCome c e d b = IsOnTheWay e d b ⊎ (is_harmless (arrival_in c d b) ≡ true)
 

@@ -150,8 +150,8 @@ moves side (ResumeSized config state sizes) = Do (step.Restart side) ∷ []
 -- what was kept of an end is this state, which reads as its restart, and these memories, in
 -- whatever order they are told; nothing happened at it since, and a number is left for a start
 --
--- Assumed: Memories, names and clocks survive a restart, and a call that a restart cuts short
--- counts as not made.
+-- Assumed: Memories, names and clocks survive a restart: what a call changes is saved before its
+-- packets are sent, and a call that wasn't saved counts as not made.
 pub record IsKept (c : Config) (e : End) (config : Config) (state : List ℕ)
     (kept : Kept) : Type 0 where
   pub ticks : ℕ

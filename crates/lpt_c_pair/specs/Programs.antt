@@ -102,7 +102,8 @@ pub record IsGiven (p : Program) (octets : List ℕ) (owed : List Told) : Type 0
 -- next, and nothing while it owes something. While it does, its memories change only where all
 -- that is owed makes the same of them.
 --
--- Assumed: A C program that has the memories itself writes them in one of two orders.
+-- Assumed: A C program that has the memories itself writes them in one of two orders, and nothing
+-- else writes there.
 abbrev pub CanAct : Config → Program → Act → Type 0
 CanAct c p (Calls t) = CanTurnBy c p.ends t.side t.call t.new × MayCall p t.side t.call
 CanAct c p (Writes t) = (p.owed ≡ []) × IsTold (length p.ahead) t p.ends.on_craft

@@ -118,6 +118,9 @@ pub record IsAloneIn (c : Config) (log : Log) (from request : ℕ) (m : List ℕ
 -- Ground's requests of a pass, all of one source, which load an image, each octet of it. None of
 -- that source was executed before the place, and from there on nothing else is loaded into the
 -- range.
+--
+-- Assumed: The source of a pass is new, each of its request IDs names one request, and nothing else
+-- is loaded into the image's range since the pass began.
 pub record IsPass (c : Config) (first : Contents) (log : Log) (x : Image) (from place : ℕ)
     (requests : List (List ℕ)) : Type 0 where
   pub loaded : (i : ℕ)

@@ -109,6 +109,8 @@ CanDoAll c j (x ∷ xs) = CanDoAll c j xs × CanDo c (done_all c j xs) x
 -- ---- the law
 
 -- two new ends, of which ground's clock began so many ticks later
+--
+-- Assumed: Ground's clock begins at no smaller number than the spacecraft's.
 abbrev pub joined_new : Config → Contents → (ticks reuse : ℕ) → Joined
 joined_new c first ticks reuse = record {
   pair = no_pair_later c first ticks 0;
