@@ -139,8 +139,8 @@ enum LptFault {
     LPT_E_MORE = 104,
     /* The body is no such report. */
     LPT_E_NO_REPORT = 105,
-    /* Of an end or a pass: nothing is left of it, as after a longjmp out of a memory function; in
-       Python: it was closed. */
+    /* Of an end, a pass or a reader: nothing is left of it, as after a longjmp out of a memory
+       function; in Python: it was closed. */
     LPT_E_EMPTY = 106,
     /* Of an end: no number is left for a job, or for a restart. */
     LPT_E_NO_NUMBER = 108,

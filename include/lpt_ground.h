@@ -46,7 +46,8 @@ typedef struct LptJob {
                            reported, or 10, so that a report of the start settles a load too; of
                            dumps and checks 0. Other flags up to 15 may be added */
     uint16_t apid;      /* of all packets, 0 to 2046 */
-    uint16_t source;    /* the job's own: reports go to it, and no job before had it */
+    uint16_t source;    /* the job's own: reports go to it, and no packet can come any more of an
+                           earlier job that had it */
     uint16_t count;     /* the first request's sequence count, 0 to 16,383 */
     uint32_t part_size; /* of the link, 4 to 1024 octets, of dumps 7 to 1024, of checks 6 to 1024:
                            a load has as many octets at most, a dump 6 less, and a check 4,000.
@@ -80,7 +81,8 @@ void lpt_ground_free(LptGround *pass);
 
 /* ---- what it does next ---- */
 
-/* What a pass does next. From 3 on it is at its end. */
+/* What a pass does next. From 3 on it is at its end; if a packet that comes later settles a request,
+   it may be completed, and after LPT_STEP_GIVEN_UP the next lpt_ground_quiet begins a round. */
 enum LptStep {
     LPT_STEP_SEND = 1,      /* it sends a packet */
     LPT_STEP_LISTEN = 2,    /* it listens */

@@ -80,9 +80,9 @@ is_harmless (AnAbort name reason) = true
 
 -- the network may hand octets to the node that receives in this direction
 --
--- Assumed: What reads as a plain request was sent by the other end, and what reads as a part since
--- its name was last freed: damage never passes the 16-bit checksum, no packet's content is taken
--- for a packet, nobody forges.
+-- Assumed: What reads as a plain request or a part was sent by the other end, a part since its
+-- receiver last freed its name: damage never passes the 16-bit checksum, no packet's content is
+-- taken for a packet, nobody forges.
 abbrev pub MayCome : Config → Ends → Direction → List ℕ → Type 0
 MayCome c e d b = IsOnTheWay e d b ⊎ (is_harmless (arrival_in c d b) ≡ true)
 
