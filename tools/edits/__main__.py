@@ -1,13 +1,14 @@
 """Tries the must-fail edits of crates, and prints a verdict on each.
 
-edits [--anew | --beside LOG] ROOM [CRATE..]
+edits [--anew | --note] [--beside LOG] ROOM [CRATE..]
                                 ROOM is a copy of the repository in which `rt ci` has proved every crate and
                                 built every library. Sources and libraries are the copy's; the edits are
                                 read here, those of all crates if none is named. --anew goes by no line
-                                'goal:' of an edit, and writes it. With --beside `rt ci` is still at work there
-                                and writes to LOG: a crate's edits begin once LOG says that it is proved, or
-                                once the file LOG.ended is there. What an earlier run on this machine refused
-                                isn't tried again (kept.py), but with --anew.
+                                'goal:' of an edit, and writes it; --note writes those that don't fit any
+                                more. With --beside `rt ci` is still at work there and writes to LOG: a
+                                crate's edits begin once LOG says that it is proved, or once the file
+                                LOG.ended is there. What an earlier run on this machine refused isn't tried
+                                again (kept.py), but with --anew.
 
 A line for each edit, how many were tried and how many are kept, and last 'edits: N passed, M failed'. How they
 are tried is told in __init__.py.
@@ -31,7 +32,7 @@ from crates import libraries  # noqa: E402: it stands beside this package
 from edits.crate import Crate  # noqa: E402
 from edits.kept import shrink, store  # noqa: E402
 from edits.report import Verdict  # noqa: E402
-from edits.trial import verdicts  # noqa: E402
+from edits.trial import How, verdicts  # noqa: E402
 from lanes import GIB_AN_EDIT, free_gib, lanes  # noqa: E402
 
 STANDS = re.compile(r"^rt: (\w+) (?:proved$|is kept:)", re.MULTILINE)
@@ -83,7 +84,7 @@ def tried(order: list[str], ready: Ready, trial: Callable[[str], Verdicts]) -> I
                 yield from it.result()
 
 
-def main(room: pathlib.Path, names: list[str], is_anew: bool, log: Optional[pathlib.Path]) -> int:
+def main(room: pathlib.Path, names: list[str], how: How, log: Optional[pathlib.Path]) -> int:
     """Tries the edits of these crates, or of all, those with most edits first."""
     known, place = libraries(room), store()
     folders = {it: TOOLS.parent / "crates" / it / "must-fail" for it in names or known}
@@ -92,7 +93,7 @@ def main(room: pathlib.Path, names: list[str], is_anew: bool, log: Optional[path
     passed = failed = kept = 0
 
     def trial(name: str) -> Verdicts:
-        return verdicts(Crate(room, name, known), folders[name], is_anew, place)
+        return verdicts(Crate(room, name, known), folders[name], how, place)
 
     for name, verdict in tried(order, Ready(log), trial):
         print(f"must-fail {name}: {verdict.reason}{' (kept)' if verdict.is_kept else ''}", flush=True)
@@ -105,12 +106,11 @@ def main(room: pathlib.Path, names: list[str], is_anew: bool, log: Optional[path
 
 
 if __name__ == "__main__":
-    words, log = sys.argv[1:], None
-    is_anew = words[:1] == ["--anew"]
-    if words[:1] == ["--beside"]:
-        log = pathlib.Path(words[1]).resolve() if words[1:] else None
-        words = words[1:] if log else []
-    words = words[is_anew or log is not None :]
-    if not words:
+    words, how, log = sys.argv[1:], How.AS_NOTED, None
+    if words[:1] in (["--anew"], ["--note"]):
+        how, words = How(words[0]), words[1:]
+    if words[:1] == ["--beside"] and words[1:]:
+        log, words = pathlib.Path(words[1]).resolve(), words[2:]
+    if not words or words[0].startswith("-"):
         sys.exit(__doc__)
-    sys.exit(main(pathlib.Path(words[0]).resolve(), words[1:], is_anew, log))
+    sys.exit(main(pathlib.Path(words[0]).resolve(), words[1:], how, log))

@@ -18,7 +18,7 @@ from .crate import Crate
 from .kept import Kept
 from .mutant import Mutant
 from .report import Report
-from .trial import verdicts
+from .trial import How, verdicts
 
 CRATE = "lpt_packet"
 REFUSED, LET_THROUGH = "refused, as it must be", "NOT REFUSED"
@@ -193,6 +193,10 @@ def wrongly_kept(crate: Crate, folder: pathlib.Path, store: pathlib.Path) -> lis
     kept.keep(said, "as is kept")
     if [it.reason for _, it in verdicts(crate, one, store=store)] != ["as is kept"]:
         wrong.append("what is kept isn't taken")
+    edit.write_text(f"{said[1]}goal: stale 00000000\n", encoding="utf-8")
+    verdicts(crate, one, How.NOTE, store)
+    if not Mutant.of(crate, edit).noted:
+        wrong.append("a line that doesn't fit stands")
     return wrong
 
 

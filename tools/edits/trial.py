@@ -2,6 +2,7 @@
 
 from __future__ import annotations
 
+import enum
 import pathlib
 import tempfile
 from typing import Optional
@@ -14,15 +15,29 @@ from .prover import Prover
 from .report import Verdict
 
 
+class How(enum.Enum):
+    """Which edits are tried, and whether the goals that were open are written down."""
+
+    # What is kept isn't tried, and of the rest the goals of their lines 'goal:' that fit alone.
+    AS_NOTED = "--as-noted"
+    # The same, but what has no line that fits is tried even if it is kept, and the line is written.
+    NOTE = "--note"
+    # All of them, by all their goals, and each line is written.
+    ANEW = "--anew"
+
+    @property
+    def writes(self) -> bool:
+        """Whether lines 'goal:' are written."""
+        return self is not How.AS_NOTED
+
+
 def verdicts(
-    crate: Crate, folder: pathlib.Path, is_anew: bool = False, store: Optional[pathlib.Path] = None
+    crate: Crate, folder: pathlib.Path, how: How = How.AS_NOTED, store: Optional[pathlib.Path] = None
 ) -> list[tuple[str, Verdict]]:
     """Tries the edits of a crate that stand in a folder: the name of each, and the verdict on it. Which were
-    refused is kept in a store, if there is one, and what is kept there isn't tried again, unless it is anew."""
+    refused is kept in a store, if there is one, and what is kept there isn't tried again."""
     kept = Kept(crate, store)
-    left, told = mutants_of(crate, folder, None if is_anew else kept)
-    for mutant in left if is_anew else []:
-        mutant.noted = None
+    left, told = mutants_of(crate, folder, kept, how)
     prover = Prover(crate)
     with tempfile.TemporaryDirectory(prefix="lpt-edits-") as work:
         while left:
@@ -31,7 +46,7 @@ def verdicts(
             for mutant in mutants:
                 verdict = report.verdict(mutant, len(mutants) > 1)
                 if verdict:
-                    if is_anew and verdict.is_refused:
+                    if how.writes and verdict.is_refused and mutant.open:
                         mutant.note()
                     if verdict.is_refused:
                         kept.keep(mutant.text, verdict.reason)
@@ -41,18 +56,20 @@ def verdicts(
 
 
 def mutants_of(
-    crate: Crate, folder: pathlib.Path, kept: Optional[Kept]
+    crate: Crate, folder: pathlib.Path, kept: Kept, how: How
 ) -> tuple[list[Mutant], list[tuple[str, Verdict]]]:
     """The mutants that the edits of a folder make, and the verdicts on those that are kept or can't be tried."""
     mutants, told = [], []
     for file in sorted(folder.iterdir()):
         name = f"{crate.name}/{file.name}"
         try:
-            reason = kept and kept.reason((file.name, file.read_text(encoding="utf-8")))
-            if reason:
+            reason = kept.reason((file.name, file.read_text(encoding="utf-8"))) if how is not How.ANEW else None
+            mutant = None if reason and not how.writes else Mutant.of(crate, file)
+            if reason and (not mutant or mutant.noted):
                 told.append((name, Verdict(True, reason, True)))
-            else:
-                mutants.append(Mutant.of(crate, file))
+            elif mutant:
+                mutant.noted = None if how is How.ANEW else mutant.noted
+                mutants.append(mutant)
         except (BadEdit, OSError, ValueError) as error:
             told.append((name, Verdict(False, f"BAD EDIT: {error}")))
     return mutants, told
