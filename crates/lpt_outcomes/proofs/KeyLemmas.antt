@@ -3,7 +3,7 @@ use Rattle.std.proofs.Common.{arith, ◌≡◌, ◌∙◌, ap, sym, refl, ℕ, �
 use Rattle.std.proofs.lemmas.Bool.{and_parts}
 use Rattle.std.proofs.lemmas.List.Folds.{list_any_more}
 use Rattle.std.proofs.lemmas.List.Sums.{sum_by_more}
-use Rattle.std.specs.Prelude.{get_or, option_map, unwrap_or}
+use Rattle.std.specs.Prelude.{count_by, get_or, option_map, unwrap_or}
 use Rattle.std.specs.declared.cmp.Ordering.{Ordering}
 use Rattle.std.specs.BTreeMap.{is_at}
 use Rattle.std.specs.Cmp.{unsigned_tied}
@@ -108,3 +108,22 @@ module _ (requests : List Asked) (i : ℕ) (d : Asked) (j k : Key) where
           → unwrap_or (cond b (Some (count_at at j + 1)) (at k)) 0 ≡ count_at at k + cond b 1 0
       go true e = ap (λ q. count_at at q + 1) (same-equal j k e)
       go false e = omega arith
+
+-- one request more that is counted where this holds of it
+pub count-more : (f : Asked → Bool) (requests : List Asked) (i : ℕ) (d : Asked) (n : ℕ) (b : Bool)
+    → i < length requests
+    → f (get_or requests i d) ≡ b
+    → n ≡ count_by f (take i requests)
+    → n + cond b 1 0 ≡ count_by f (take (i + 1) requests)
+count-more f requests i d n b lt is before =
+    (λ t. before t + cond (sym is t) 1 0)
+    ∙ sym (sum_by_more (λ a. cond (f a) 1 0) requests i d lt)
+
+pub count-same : (f : Asked → Bool) (requests : List Asked) (i : ℕ) (d : Asked) (n : ℕ)
+    → i < length requests
+    → f (get_or requests i d) ≡ false
+    → n ≡ count_by f (take i requests)
+    → n ≡ count_by f (take (i + 1) requests)
+count-same f requests i d n lt is before =
+    let none : n ≡ n + 0 = omega arith in
+    none ∙ count-more f requests i d n false lt is before

@@ -7,3 +7,4 @@ pub mod Own
 pub mod Passing
 pub mod Reports
 pub mod Requests
+pub mod Shared

@@ -6,6 +6,7 @@ ghost use Rattle.std.specs.Map.{count_at};
 ghost use Rattle.lpt_outcomes.specs.Answers.{answered_by, heard_at, untold};
 ghost use Rattle.lpt_outcomes.specs.Keys.{Key, key_cmp, key_of};
 ghost use Rattle.lpt_outcomes.specs.Lines.{with_key};
+ghost use Rattle.lpt_outcomes.specs.Shared.{shared_in};
 
 use crate::key::Key;
 use crate::news::News;
@@ -59,6 +60,21 @@ pub(crate) fn count_sharers(
         counts.insert(asked.key(), count + 1)?;
     }
     Ok(counts)
+}
+
+/// How many of these requests have the source and the request ID of another one, so that no report
+/// tells which of them it is on: it is told of each. The only error is out of memory.
+pub fn count_shared(alloc: Global, requests: &[Asked]) -> Result<usize, AllocError>
+    ensures { IfOk result (λ n. n ≡ shared_in requests.now) }
+{
+    let counts = count_sharers(alloc, requests)?;
+    let mut shared = 0;
+    for asked in requests {
+        if sharers(&counts, asked) > 1 {
+            shared += 1;
+        }
+    }
+    Ok(shared)
 }
 
 // How many of the requests that were counted have the key of this one.

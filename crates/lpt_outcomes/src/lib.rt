@@ -6,7 +6,8 @@
 //! are given as they were written, before they were split.
 //!
 //! A count comes again behind 16,384 requests, and then two requests of a source have one request
-//! ID: a report on it is told of both, and the lines of both say that they share it.
+//! ID: a report on it is told of both, the lines of both say that they share it, and `count_shared`
+//! counts them.
 //!
 //! The main types are `Asked`, a request, and `Outcome`, what reports have told of it; `Passed` is
 //! how much of a stream was passed over. The first calls are `read_requests` and `read_reports`,
@@ -27,6 +28,7 @@ mod reports;
 mod requests;
 mod writing;
 
+pub use answers::count_shared;
 pub use asked::{Asked, are_done};
 pub use lpt_areas::Areas;
 pub use lpt_carried::Layout;

@@ -5,11 +5,12 @@ use lpt_carried::{Layout, Layouts};
 use lpt_command_line::VerifyWords;
 use lpt_io::{
     Failure, Fault, Machine, Status, Voice, finish, first_failure, name_of, opened_packets, output,
-    packets_end, tell_no_packets, tell_text,
+    packets_end, status_of, tell_no_packets, tell_text,
 };
 use lpt_list::Form;
 use lpt_outcomes::{
-    Asked, Passed, Requests, are_done, read_reports, read_requests, write_open, write_outcomes,
+    Asked, Passed, Requests, are_done, count_shared, read_reports, read_requests, write_open,
+    write_outcomes,
 };
 use lpt_text::StreamFault;
 use std::alloc::{AllocError, Global};
@@ -43,7 +44,7 @@ fn verify_by<R: Machine>(
     let of_reports = reported(rt, voice, down, &mut requests.asked, &words.reports)?;
     if words.open {
         put_open(rt, voice, up, words.requests, &requests.asked)?;
-        return Ok(told_beside(rt, words, &requests, &of_reports));
+        return told_beside(rt, words, &requests, &of_reports);
     }
     told(rt, words, &requests, &of_reports)
 }
@@ -104,7 +105,7 @@ fn told(
     let written = write_outcomes(rt.alloc(), form, &requests.asked, &mut out);
     finish(rt, out)?;
     written?;
-    Ok(told_beside(rt, words, requests, of_reports))
+    told_beside(rt, words, requests, of_reports)
 }
 
 // Writes the packets of those requests of this layout at this path that are open.
@@ -137,20 +138,27 @@ fn read_once(rt: &impl AllocGlobal, path: &str) -> Failure {
     Failure::at(Fault::Read, place)
 }
 
-// Tells what was passed over, and gives whether nothing is open.
+// Tells what was passed over, and which requests no report tells apart, and gives whether nothing
+// is open.
 fn told_beside(
     rt: &(impl Eprint + AllocGlobal),
     words: &VerifyWords<'_>,
     requests: &Requests,
     of_reports: &Passed,
-) -> Status {
+) -> Result<Status, Failure> {
     tell_among_requests(rt, words.requests, requests);
     tell_among_reports(rt, of_reports);
-    if are_done(&requests.asked, &requests.passed, of_reports) {
-        Status::Done
-    } else {
-        Status::Refused
+    let Ok(shared) = count_shared(rt.alloc(), &requests.asked) else {
+        return Err(Failure::from(Fault::Memory));
+    };
+    if shared != 0 {
+        let text = format!(in rt.alloc();
+            "{shared} requests share source and ID with another: no report tells them apart"
+        );
+        tell_text(rt, text);
     }
+    let done = are_done(&requests.asked, &requests.passed, of_reports);
+    Ok(status_of(!done || shared != 0))
 }
 
 // Tells what of the requests at this path was passed over, and where there is none at all.
