@@ -32,7 +32,7 @@ _lpt() {
     compare:*) options+=' --layout --quiet' ;;
     checksum:*) options='--from --length --help --version' ;;
     ground:load | ground:dump | ground:check | ground:patch)
-        options+=' --passes --count --wait --tries --up --job --json --quiet'
+        options+=' --passes --count --wait --tries --up --job --resync --json --quiet'
         ;;
     pass:load | pass:dump | pass:check | pass:patch)
         options+=' --passes --count --wait --tries --job --json --quiet'

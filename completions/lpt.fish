@@ -159,6 +159,7 @@ for command in ground pass
     complete -c lpt -n "__lpt_at $command dump" -l area -x -d 'Other octets and their file, in the same pass'
 end
 complete -c lpt -n '__lpt_at ground load; or __lpt_at ground dump; or __lpt_at ground check; or __lpt_at ground patch' -l up -r -F -d 'Where requests are written, in place of standard output'
+complete -c lpt -n '__lpt_at ground load; or __lpt_at ground dump; or __lpt_at ground check; or __lpt_at ground patch' -l resync -d 'Go on after octets that are no packet'
 for command in split 'ground load' 'ground dump' 'ground check' 'ground patch' 'pass load' 'pass dump' 'pass check' 'pass patch' 'request load' 'request dump' 'request check'
     complete -c lpt -n "__lpt_at $command" -l count -x -d 'The sequence count of the first packet, 0 to 16383'
 end

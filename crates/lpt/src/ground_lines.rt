@@ -112,6 +112,38 @@ pub fn done_line(
     format!(in alloc; "{many} {noun}{s} completed: {put} {packets}, {rounds} {word}")
 }
 
+/// Where what comes down ended, before its end or within a packet. The only error is out of memory.
+pub fn halt_line(
+    alloc: Global,
+    json: bool,
+    place: u64,
+    is_within: bool,
+) -> Result<String, AllocError> {
+    if json {
+        let state = if is_within { "cut" } else { "no packet" };
+        return format!(in alloc; "{{\"state\":\"{state}\",\"octet\":{place}}}");
+    }
+    let why = if is_within {
+        "the last packet isn't whole"
+    } else {
+        "no packet begins there"
+    };
+    format!(in alloc; "octet {place}: {why}")
+}
+
+/// How many octets were passed over, at least one. The only error is out of memory.
+pub fn strays_line(alloc: Global, json: bool, strays: u64) -> Result<String, AllocError> {
+    if json {
+        return format!(in alloc; "{{\"state\":\"passed over\",\"octets\":{strays}}}");
+    }
+    let octets = if strays == 1 {
+        "octet that is"
+    } else {
+        "octets that are"
+    };
+    format!(in alloc; "passed over: {strays} {octets} no packet")
+}
+
 /// How many of so many requests are settled before a round. The only error is out of memory.
 pub fn round_line(
     alloc: Global,

@@ -1,10 +1,12 @@
 //! What standard error is told of a pass: of its rounds, and at its end.
 
 use crate::errands::{Kind, Places};
-use crate::ground_lines::{Became, Stretch, became_line, done_line, round_line};
+use crate::ground_lines::{
+    Became, Stretch, became_line, done_line, halt_line, round_line, strays_line,
+};
 use lpt_command_line::{GroundWords, SourceWords};
 use lpt_ground::{Pass, checks_agree};
-use lpt_ground_run::{Asked, Outcome, Run, runs_of};
+use lpt_ground_run::{Asked, Halt, Outcome, Run, runs_of};
 use lpt_io::{Voice, tell_text};
 use std::alloc::{AllocError, Global};
 
@@ -39,7 +41,31 @@ impl Teller {
 
     // Tells what became of some octets.
     fn tell_became(self, rt: &(impl Eprint + AllocGlobal), became: Became, stretch: Stretch) {
-        let text = became_line(rt.alloc(), self.json, became, stretch);
+        self.tell_as_line(rt, became_line(rt.alloc(), self.json, became, stretch));
+    }
+
+    /// Tells where what comes down has ended, unless it is at its own end.
+    pub fn tell_halt(self, rt: &(impl Eprint + AllocGlobal), halt: Option<Halt>) {
+        let (place, is_within) = match halt {
+            Some(Halt::Stray(place)) => (place, false),
+            Some(Halt::Within(place)) => (place, true),
+            Some(Halt::End | Halt::Closed) | None => return,
+        };
+        if !self.json {
+            self.voice.clear(rt);
+        }
+        self.tell_as_line(rt, halt_line(rt.alloc(), self.json, place, is_within));
+    }
+
+    /// Tells how many octets were passed over, if some were.
+    pub fn tell_strays(self, rt: &(impl Eprint + AllocGlobal), strays: u64) {
+        if strays != 0 {
+            self.tell_as_line(rt, strays_line(rt.alloc(), self.json, strays));
+        }
+    }
+
+    // Tells this in a line of JSON or for a reader.
+    fn tell_as_line(self, rt: &(impl Eprint + AllocGlobal), text: Result<String, AllocError>) {
         if self.json {
             tell_line(rt, text);
         } else {
@@ -80,11 +106,7 @@ impl Teller {
                 counts,
                 !open,
             );
-            if self.json {
-                tell_line(rt, text);
-            } else {
-                tell_text(rt, text);
-            }
+            self.tell_as_line(rt, text);
         }
     }
 

@@ -18,16 +18,18 @@ pub type Ears<T> = Hearing<T, GroundNotes>;
 /// takes so few octets whole.
 pub type Wire<W> = FromStd<Watched<W>>;
 
-/// Hears what comes on standard input, and waits so many milliseconds for it.
+/// Hears what comes on standard input, and waits so many milliseconds for it. Where it resumes, it
+/// goes on past octets with which no packet begins.
 ///
 /// Errors: `Read` if no thread could be started; `Memory`.
 pub fn hear<T: Threads + Wait + Clock + Copy + Drop + Send + 'static>(
     rt: &HostRuntime,
     threads: &T,
+    resumes: bool,
     wait: u32,
     notes: GroundNotes,
 ) -> Result<Ears<T>, Failure> {
-    hear_source(rt, threads, opened(rt, STANDARD)?, wait, notes)
+    hear_source(rt, threads, opened(rt, STANDARD)?, resumes, wait, notes)
 }
 
 /// The same of what comes from this source.
@@ -37,6 +39,7 @@ pub fn hear_source<T, S>(
     rt: &HostRuntime,
     threads: &T,
     source: S,
+    resumes: bool,
     wait: u32,
     notes: GroundNotes,
 ) -> Result<Ears<T>, Failure>
@@ -44,7 +47,7 @@ where
     T: Threads + Wait + Clock + Copy + Drop + Send + 'static,
     S: Source + Drop + Send + 'static,
 {
-    match Hearing::begin(threads, rt.alloc(), source, wait, notes) {
+    match Hearing::begin(threads, rt.alloc(), source, resumes, wait, notes) {
         Ok(ears) => Ok(ears),
         Err(HearFault::Memory) => Err(Failure::from(Fault::Memory)),
         Err(HearFault::NoThread) => {

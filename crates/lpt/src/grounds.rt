@@ -148,7 +148,7 @@ fn carry_ready<T: Threads + Wait + Clock + Copy + Drop + Send + 'static>(
     let Ready { mut errand, title } = ready;
     let teller = Teller::new(voice, words.json);
     let notes = GroundNotes::begin(rt, teller, title.as_str(), &mut errand.first, words.kept)?;
-    let mut ears = hear(rt, threads, words.wait, notes)?;
+    let mut ears = hear(rt, threads, words.resync, words.wait, notes)?;
     let ended = match words.up {
         Some(path) => put_to_fifo(rt, &mut ears, words, &mut errand, path),
         None => {
@@ -187,6 +187,8 @@ pub(crate) fn put_over<T: Wait + Clock + Drop, W: Write + Drop>(
     let ended = carry_all(rt, ears, words, errand, &mut out);
     let closed = close(rt, out, name);
     ears.hear_out();
+    let strays = ears.strays();
+    ears.notes().teller().tell_strays(rt, strays);
     both(closed, ended)
 }
 
@@ -315,7 +317,9 @@ fn tell<T: Wait + Clock + Drop>(
     pass: &Pass,
 ) {
     let counts = ears.counts();
+    let halt = ears.halt();
     let teller = ears.notes().teller();
+    teller.tell_halt(rt, halt);
     teller.tell_end(rt, words, places, pass, counts);
 }
 

@@ -262,7 +262,14 @@ fn carry_between<T: Threads + Wait + Clock + Copy + Drop + Send + 'static>(
 ) -> Result<Status, Failure> {
     let mut errand = errand;
     let words = &words.ground;
-    let mut ears = hear_source(rt, threads, FromStd::new(down), words.wait, notes)?;
+    let mut ears = hear_source(
+        rt,
+        threads,
+        FromStd::new(down),
+        words.resync,
+        words.wait,
+        notes,
+    )?;
     let out = FromStd::new(Watched::new(up));
     let ended = put_over(rt, &mut ears, words, &mut errand, out, "the link up");
     drop(ears);

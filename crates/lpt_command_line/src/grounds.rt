@@ -2,7 +2,9 @@
 
 use crate::asking::{ADDRESS, MEMORY};
 use crate::commands::{COUNT, JSON, QUIET, TEXT};
-use crate::passes::{DAMAGE, DELAY, LOSE, MEMORY as CRAFT_MEMORY, REPEAT, SAVE, SEED, STATE};
+use crate::passes::{
+    DAMAGE, DELAY, LOSE, MEMORY as CRAFT_MEMORY, REPEAT, RESYNC, SAVE, SEED, STATE,
+};
 use crate::row::{Configured, Named, Need, Row, Word};
 use clap::ArgAction;
 use clap::builder::ValueParser;
@@ -163,8 +165,8 @@ pub(crate) static GROUND_ROWS: [Row; 4] = [
         about: "Load a file into a memory, and end once all of it is there",
         words: &[MEMORY, ADDRESS, FILE],
         named: &[
-            AREA, LARGE, NAME, NAMES, PASSES, ACK, VERIFY, COUNT, WAIT, LOAD_TRIES, UP, JOB, JSON,
-            QUIET,
+            AREA, LARGE, NAME, NAMES, PASSES, ACK, VERIFY, COUNT, WAIT, LOAD_TRIES, UP, JOB,
+            RESYNC, JSON, QUIET,
         ],
         configured: Configured::Pass,
     },
@@ -181,6 +183,7 @@ pub(crate) static GROUND_ROWS: [Row; 4] = [
             TRIES,
             UP,
             JOB,
+            RESYNC,
             JSON,
             QUIET,
         ],
@@ -190,7 +193,9 @@ pub(crate) static GROUND_ROWS: [Row; 4] = [
         name: "check",
         about: "Compare a file with checksums of a memory",
         words: &[MEMORY, ADDRESS, FILE],
-        named: &[AREA, PASSES, COUNT, WAIT, TRIES, UP, JOB, JSON, QUIET],
+        named: &[
+            AREA, PASSES, COUNT, WAIT, TRIES, UP, JOB, RESYNC, JSON, QUIET,
+        ],
         configured: Configured::Pass,
     },
     Row {
@@ -198,7 +203,7 @@ pub(crate) static GROUND_ROWS: [Row; 4] = [
         about: "Load the files of a list into memories, and end once all of them are there",
         words: &[LIST],
         named: &[
-            PASSES, ACK, VERIFY, COUNT, WAIT, TRIES, UP, JOB, JSON, QUIET,
+            PASSES, ACK, VERIFY, COUNT, WAIT, TRIES, UP, JOB, RESYNC, JSON, QUIET,
         ],
         configured: Configured::Pass,
     },

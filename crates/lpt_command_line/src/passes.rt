@@ -77,6 +77,15 @@ pub(crate) const STATE: Named = Named {
     help: "Keep the state and the memories in this file, and go on from it next time",
 };
 
+pub(crate) const RESYNC: Named = Named {
+    name: "resync",
+    value: ValueParser::Bool,
+    behind: &[],
+    action: ArgAction::SetTrue,
+    other: &[],
+    help: "Go on after octets that are no packet; may take a packet within a message",
+};
+
 /// `link`.
 const LINK: Row = Row {
     name: "link",
@@ -118,14 +127,7 @@ const SPACECRAFT: Row = Row {
             other: &[],
             help: "Free a name N ticks after its use; no older packet may be on its way then",
         },
-        Named {
-            name: "resync",
-            value: ValueParser::Bool,
-            behind: &[],
-            action: ArgAction::SetTrue,
-            other: &[],
-            help: "Go on after octets that are no packet; may take a packet within a message",
-        },
+        RESYNC,
         Named {
             name: "log",
             value: ValueParser::Bool,

@@ -1,4 +1,5 @@
 mod CarriedLemmas
+mod HaltLemmas
 mod HandingLemmas
 mod KeepingLemmas
 mod PlanLemmas

@@ -1,4 +1,5 @@
 pub mod Carried
+pub mod Halts
 pub mod Handing
 pub mod Keeping
 pub mod Laws

@@ -2,11 +2,12 @@
 
 ghost use Rattle.std.specs.Prelude.{◌≡◌, ◌⊎◌, ◌∷◌, [], ℕ, Bool, true, List, Option, IfErr, IfOk};
 ghost use Rattle.lpt_text.specs.Streams.{ReadEnds};
-ghost use Rattle.lpt_stream.specs.declared.cut.Cut.TheVariants.{Resumed};
 ghost use Rattle.lpt_stream.specs.Reads.{IsEndlessBy};
 ghost use Rattle.lpt_stream.specs.Takes.{LeavesBy, ReadsBy};
+ghost use Rattle.lpt_ground_run.specs.Halts.{cut_of, is_end, passed_in, Hands, Rises};
 ghost use Rattle.lpt_ground_run.specs.Handing.{not_written, Gains, GainsPart, packets_in};
 
+use crate::halt::{Halt, halt_at, halt_of};
 use lpt_packet::Octets;
 use lpt_stream::{Cut, PieceKind, Taker, take_pieces};
 use lpt_text::{FromStd, Sink, Source, StreamFault};
@@ -17,18 +18,30 @@ pub trait Outlet {
     // What was handed over, where that is known.
     ghost handed: { Self → Option (List (List ℕ)) };
 
+    // How many octets were passed over.
+    ghost strays: { Self → ℕ };
+
     // Whether more are taken.
     ghost is_open: { Self → Bool };
 
     /// Hands a packet over, and answers whether more are taken.
     fn hand(&mut self, packet: Octets) -> bool
         ensures handed { Gains (handed self.old) (handed self.new) (packet ∷ []) }
+        ensures strays { strays self.new ≡ strays self.old }
         ensures more { result ≡ is_open self.new };
+
+    /// Counts an octet that is passed over, since no packet begins there.
+    fn pass(&mut self)
+        ensures handed { handed self.new ≡ handed self.old }
+        ensures strays { Rises (strays self.old) (strays self.new) 1 }
+        ensures more { is_open self.new ≡ is_open self.old };
 }
 
-/// Reads a stream to its end, or until no more is taken, and hands over what it is cut into: as
-/// many octets as a header says, and behind octets with which none begins what has a right
-/// checksum. Each is handed over as soon as its last octet has come, but behind damage.
+/// Reads a stream to its end, or until no more is taken, and hands over the packets into which it
+/// is cut by the lengths that headers say, each as soon as its last octet has come. It ends at
+/// octets with which no packet begins. Where it resumes, it passes over them instead, and goes on
+/// with the next packet that has a right checksum, which may be one within a packet that was
+/// damaged.
 ///
 /// Errors: `Read` if a read failed, or if 2^64 - 1 pieces came; `Memory`. A front part was
 /// handed over.
@@ -36,26 +49,32 @@ pub fn hand_packets<S: Source, O: Outlet>(
     alloc: Global,
     source: &mut S,
     outlet: &mut O,
-) -> Result<bool, StreamFault>
+    resumes: bool,
+) -> Result<Halt, StreamFault>
     requires { O.is_open outlet.old ≡ true }
 
-    // It answers whether more would have been taken: then the stream is at its end.
-    ensures more { IfOk result (λ more. more ≡ O.is_open outlet.new) }
-    ensures handed { IfOk result (λ more. ReadsBy Resumed (S.remaining source.old)
-        (S.remaining source.new) more
-        (λ pieces. Gains (O.handed outlet.old) (O.handed outlet.new) (packets_in pieces))) }
-    ensures leaves { IfErr result (λ _. LeavesBy Resumed (S.remaining source.old)
+    // It answers where it ended: the packets up to there were handed over, in their order.
+    ensures handed { IfOk result (λ halt. ReadsBy (cut_of resumes) (S.remaining source.old)
+        (S.remaining source.new) (is_end halt)
+        (Hands resumes 0 (O.is_open outlet.new) halt (O.handed outlet.old) (O.handed outlet.new)
+        (O.strays outlet.old) (O.strays outlet.new))) }
+    ensures leaves { IfErr result (λ _. LeavesBy (cut_of resumes) (S.remaining source.old)
         (S.remaining source.new)
-        (λ pieces. GainsPart (O.handed outlet.old) (O.handed outlet.new) (packets_in pieces))) }
+        (λ pieces. GainsPart (O.handed outlet.old) (O.handed outlet.new) (packets_in pieces)
+        × Rises (O.strays outlet.old) (O.strays outlet.new) (passed_in resumes pieces))) }
     ensures reader { ReadEnds
-        (IsEndlessBy Resumed (S.remaining source.old) (S.remaining source.new)) result
+        (IsEndlessBy (cut_of resumes) (S.remaining source.old) (S.remaining source.new)) result
         (S.failed source.old) (S.failed source.new) }
     ensures fault { IfErr result (λ e. (e ≡ StreamFault.Read) ⊎ (e ≡ StreamFault.Memory)) }
 {
     // Nothing is written here.
     let mut out = FromStd::new(Vec::new(alloc));
-    match take_pieces(alloc, 0, source, Hander { more: true }, &mut out, outlet) {
-        Ok(last) => Ok(last.more),
+    let first = Hander {
+        resumes,
+        halt: Halt::End,
+    };
+    match take_pieces(alloc, 0, source, first, &mut out, outlet) {
+        Ok(last) => Ok(last.halt),
         Err(fault) => Err(not_written(fault)),
     }
 }
@@ -70,37 +89,46 @@ fn not_written(fault: StreamFault) -> StreamFault
     }
 }
 
-// Whether more is taken.
+// How far a stream was handed over.
 #[derive(Clone, Copy)]
 struct Hander {
-    more: bool,
+    // Whether it goes on past octets with which no packet begins.
+    resumes: bool,
+    // Where it has ended; at the stream's end, as far as is known yet.
+    halt: Halt,
 }
 
 impl<K: Sink, O: Outlet> Taker<K, O> for Hander {
     ghost use Rattle.std.specs.Prelude.{◌≡◌, []};
-    ghost use Rattle.lpt_stream.specs.declared.cut.Cut.TheVariants as cuts;
-    ghost use Rattle.lpt_ground_run.specs.Handing.{Gains, GainsPart, packets_in};
+    ghost use Rattle.lpt_ground_run.specs.Halts.{cut_of, is_end, passed_in, Hands, Rises};
+    ghost use Rattle.lpt_ground_run.specs.Handing.{GainsPart, packets_in};
 
-    ghost cut = { λ _. cuts.Resumed };
+    ghost cut = { λ now. cut_of now.resumes };
 
-    ghost is_open = { λ now. now.more };
+    ghost is_open = { λ now. is_end now.halt };
 
-    ghost takes = { λ from first now old new pieces.
-        (now.more ≡ O.is_open new) × Gains (O.handed old) (O.handed new) (packets_in pieces) };
+    ghost takes = { λ from first now old new pieces. (now.resumes ≡ first.resumes)
+        × Hands first.resumes from (O.is_open new) now.halt (O.handed old) (O.handed new)
+        (O.strays old) (O.strays new) pieces };
 
     ghost leaves = { λ from first old new pieces.
-        GainsPart (O.handed old) (O.handed new) (packets_in pieces) };
+        GainsPart (O.handed old) (O.handed new) (packets_in pieces)
+        × Rises (O.strays old) (O.strays new) (passed_in first.resumes pieces) };
 
     ghost writes = { λ from first pieces. [] };
 
     ghost others = { λ e. ⊥ };
 
     fn cut(&self) -> Cut {
-        Cut::Resumed
+        if self.resumes {
+            Cut::Resumed
+        } else {
+            Cut::Framed
+        }
     }
 
     fn is_open(&self) -> bool {
-        self.more
+        self.halt.is_end()
     }
 
     fn take(
@@ -108,17 +136,27 @@ impl<K: Sink, O: Outlet> Taker<K, O> for Hander {
         alloc: Global,
         _out: &mut K,
         lent: &mut O,
-        _place: u64,
+        place: u64,
         kind: PieceKind,
         octets: &[u8],
     ) -> Result<Hander, StreamFault> {
         match kind {
             PieceKind::Damaged => Ok(self),
-            PieceKind::Stray => Ok(self),
+            PieceKind::Stray if self.resumes => {
+                lent.pass();
+                Ok(self)
+            }
+            PieceKind::Stray => Ok(Hander {
+                resumes: self.resumes,
+                halt: halt_at(place, octets),
+            }),
             PieceKind::Whole => {
                 let packet = Octets::from_vec(Vec::from_slice(alloc, octets)?);
                 let more = lent.hand(packet);
-                Ok(Hander { more })
+                Ok(Hander {
+                    resumes: self.resumes,
+                    halt: halt_of(more),
+                })
             }
         }
     }

@@ -1,7 +1,9 @@
 //! A thread that reads what comes down, and the ear to which it hands the packets over.
 
 ghost use Rattle.std.specs.Prelude.{◌≡◌, None, true};
+ghost use Rattle.lpt_ground_run.specs.Halts.{Rises};
 
+use crate::Halt;
 use crate::cutting::{Outlet, hand_packets};
 use crossbeam_channel::{Receiver, RecvTimeoutError, Sender, unbounded};
 use lpt_ground::{Asked, Ear, Waited};
@@ -34,8 +36,11 @@ pub trait Notes {
 // What the thread that reads hands over.
 #[derive(Drop)]
 enum Came {
-    Packet(Octets),
-    // Why nothing more will come, where it isn't the end of what comes down.
+    // A packet, and how many octets were passed over in front of it, since the first.
+    Packet(Octets, u64),
+    // Where the last of them ended, and how many octets were passed over.
+    Halt(Halt, u64),
+    // Why nothing more will come.
     Fault(StreamFault),
 }
 
@@ -46,16 +51,25 @@ struct Handing<R: Wait + Drop> {
     to: Sender<Came>,
     // Whether somebody takes what is handed over.
     open: bool,
+    // How many octets were passed over.
+    strays: u64,
 }
 
 impl<R: Wait + Drop> Outlet for Handing<R> {
     ghost handed = { λ _. None };
 
+    ghost strays = { λ handing. handing.strays };
+
     ghost is_open = { λ handing. handing.«open» };
 
     fn hand(&mut self, packet: Octets) -> bool {
-        self.open = self.to.send(&self.rt, Came::Packet(packet)).is_ok();
+        let came = Came::Packet(packet, self.strays);
+        self.open = self.to.send(&self.rt, came).is_ok();
         self.open
+    }
+
+    fn pass(&mut self) {
+        self.strays = self.strays.saturating_add(1);
     }
 }
 
@@ -69,14 +83,18 @@ pub struct Hearing<R: Wait + Clock + Drop, N: Notes + Drop> {
     notes: N,
     // Why nothing more will come, where it isn't the end of what comes down.
     fault: Option<StreamFault>,
+    // Where what came ended, if it has, and how many octets were passed over before.
+    halt: Option<Halt>,
+    strays: u64,
     // The packets that were put, and the rounds that were begun.
     put: u64,
     rounds: u64,
 }
 
 impl<R: Threads + Wait + Clock + Copy + Drop + Send + 'static, N: Notes + Drop> Hearing<R, N> {
-    /// Starts a thread that reads this source to its end, and hears what it hands over. A wait is
-    /// over once nothing has come for so many milliseconds.
+    /// Starts a thread that reads this source, and hears what it hands over. It reads up to octets
+    /// with which no packet begins, or, where it resumes, to the source's end. A wait is over once
+    /// nothing has come for so many milliseconds.
     ///
     /// The thread isn't joined: it ends with its source, with the process, or once it has a packet
     /// to hand over and this is gone. Errors: `NoThread`, `Memory`.
@@ -84,6 +102,7 @@ impl<R: Threads + Wait + Clock + Copy + Drop + Send + 'static, N: Notes + Drop> 
         rt: &R,
         alloc: Global,
         source: S,
+        resumes: bool,
         wait: u32,
         notes: N,
     ) -> Result<Self, HearFault> {
@@ -94,10 +113,11 @@ impl<R: Threads + Wait + Clock + Copy + Drop + Send + 'static, N: Notes + Drop> 
             rt: *rt,
             to,
             open: true,
+            strays: 0,
         };
         let read = move || -> ()
             requires { handing.«open» ≡ true }
-        { read_all(alloc, source, handing) };
+        { read_all(alloc, source, resumes, handing) };
         match Builder::new().spawn(rt, read) {
             Ok(_) => Ok(Hearing {
                 rt: *rt,
@@ -105,6 +125,8 @@ impl<R: Threads + Wait + Clock + Copy + Drop + Send + 'static, N: Notes + Drop> 
                 wait: Duration::from_millis(u64::from(wait)),
                 notes,
                 fault: None,
+                halt: None,
+                strays: 0,
                 put: 0,
                 rounds: 0,
             }),
@@ -114,13 +136,20 @@ impl<R: Threads + Wait + Clock + Copy + Drop + Send + 'static, N: Notes + Drop> 
 }
 
 // Hands over what this source gives, and then why it gave no more.
-fn read_all<R: Wait + Drop, S: Source + Drop>(alloc: Global, source: S, handing: Handing<R>)
+fn read_all<R: Wait + Drop, S: Source + Drop>(
+    alloc: Global,
+    source: S,
+    resumes: bool,
+    handing: Handing<R>,
+)
     requires { handing.«open» ≡ true }
 {
     let (mut source, mut handing) = (source, handing);
-    if let Err(fault) = hand_packets(alloc, &mut source, &mut handing) {
-        let _ = handing.to.send(&handing.rt, Came::Fault(fault));
-    }
+    let last = match hand_packets(alloc, &mut source, &mut handing, resumes) {
+        Ok(halt) => Came::Halt(halt, handing.strays),
+        Err(fault) => Came::Fault(fault),
+    };
+    let _ = handing.to.send(&handing.rt, last);
 }
 
 impl<R: Wait + Clock + Drop, N: Notes + Drop> Hearing<R, N> {
@@ -135,6 +164,41 @@ impl<R: Wait + Clock + Drop, N: Notes + Drop> Hearing<R, N> {
         ensures { result ≡ self.now.fault }
     {
         self.fault
+    }
+
+    /// Where what came ended, once it has: up to there each packet was heard. None as well if
+    /// `fault` says why.
+    pub fn halt(&self) -> Option<Halt>
+        ensures { result ≡ self.now.halt }
+    {
+        self.halt
+    }
+
+    /// How many octets were passed over in front of what was heard, since no packet begins with
+    /// them: none if it doesn't resume. 2^64 - 1 stands for more, too.
+    pub fn strays(&self) -> u64
+        ensures { result ≡ self.now.strays }
+    {
+        self.strays
+    }
+
+    // Takes what came: the packet, or nothing if it is the last.
+    fn packet_of(&mut self, came: Came) -> Option<Octets> {
+        match came {
+            Came::Packet(octets, strays) => {
+                self.strays = strays;
+                Some(octets)
+            }
+            Came::Halt(halt, strays) => {
+                self.strays = strays;
+                self.halt = Some(halt);
+                None
+            }
+            Came::Fault(fault) => {
+                self.fault = Some(fault);
+                None
+            }
+        }
     }
 
     /// How many packets were put, and in how many rounds, since this was asked last.
@@ -164,7 +228,7 @@ impl<R: Wait + Clock + Drop, N: Notes + Drop> Hearing<R, N> {
         };
         for _ in 0..u64::MAX {
             match self.from.recv_deadline(&self.rt, deadline) {
-                Ok(came) => drop(came),
+                Ok(came) => drop(self.packet_of(came)),
                 Err(_) => return,
             }
         }
@@ -175,10 +239,10 @@ impl<R: Wait + Clock + Drop, N: Notes + Drop> Ear for Hearing<R, N> {
     ghost told = { λ _. None };
 
     fn ready(&mut self) -> Option<Octets> {
-        match self.from.try_recv(&self.rt) {
-            Ok(Came::Packet(octets)) => return Some(octets),
-            Ok(Came::Fault(fault)) => self.fault = Some(fault),
-            Err(_) => {}
+        if let Ok(came) = self.from.try_recv(&self.rt) {
+            if let Some(octets) = self.packet_of(came) {
+                return Some(octets);
+            }
         }
         self.put = self.put.saturating_add(1);
         None
@@ -186,11 +250,10 @@ impl<R: Wait + Clock + Drop, N: Notes + Drop> Ear for Hearing<R, N> {
 
     fn wait(&mut self) -> Waited {
         match self.from.recv_timeout(&self.rt, self.wait) {
-            Ok(Came::Packet(octets)) => Waited::Packet(octets),
-            Ok(Came::Fault(fault)) => {
-                self.fault = Some(fault);
-                Waited::End
-            }
+            Ok(came) => match self.packet_of(came) {
+                Some(octets) => Waited::Packet(octets),
+                None => Waited::End,
+            },
             Err(RecvTimeoutError::Timeout) => Waited::Quiet,
             Err(RecvTimeoutError::Disconnected) => Waited::End,
         }

@@ -11,6 +11,7 @@
 
 mod carrying;
 mod cutting;
+mod halt;
 mod heads;
 mod hearing;
 mod keeping;
@@ -21,6 +22,7 @@ mod uplinks;
 
 pub use carrying::{carry_pass, carry_uplink};
 pub use cutting::{Outlet, hand_packets};
+pub use halt::Halt;
 pub use heads::Heads;
 pub use hearing::{HearFault, Hearing, Notes};
 pub use keeping::{digest_of, hear_kept, kept_packets};

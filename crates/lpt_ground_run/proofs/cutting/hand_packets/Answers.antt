@@ -17,9 +17,12 @@ returns-clause-leaves g c =
       leads = l.leads;
       front =
           elim l.front.0 [
-            | inl taken ↦
-                part-of (g.O.Outlet.handed c.args.outlet.now)
-                (g.O.Outlet.handed c.take_pieces.new.lent) (packets_in l.pieces) taken.1.1
+            | inl taken ↦ (
+              part-of (g.O.Outlet.handed c.args.outlet.now)
+                  (g.O.Outlet.handed c.take_pieces.new.lent) (packets_in l.pieces)
+                  taken.1.1.gains,
+              taken.1.1.rises,
+            )
             | inr part ↦ part
           ];
     }
