@@ -144,6 +144,15 @@ pub fn strays_line(alloc: Global, json: bool, strays: u64) -> Result<String, All
     format!(in alloc; "passed over: {strays} {octets} no packet")
 }
 
+/// That the memories are gone with what was loaded into them. The only error is out of memory.
+pub fn unkept_line(alloc: Global, json: bool) -> Result<String, AllocError> {
+    if json {
+        format!(in alloc; "{{\"state\":\"not kept\"}}")
+    } else {
+        format!(in alloc; "what was loaded isn't kept: --save or --state keeps it")
+    }
+}
+
 /// How many of so many requests are settled before a round. The only error is out of memory.
 pub fn round_line(
     alloc: Global,

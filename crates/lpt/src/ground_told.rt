@@ -2,7 +2,7 @@
 
 use crate::errands::{Kind, Places};
 use crate::ground_lines::{
-    Became, Stretch, became_line, done_line, halt_line, round_line, strays_line,
+    Became, Stretch, became_line, done_line, halt_line, round_line, strays_line, unkept_line,
 };
 use lpt_command_line::{GroundWords, SourceWords};
 use lpt_ground::{Pass, checks_agree};
@@ -61,6 +61,13 @@ impl Teller {
     pub fn tell_strays(self, rt: &(impl Eprint + AllocGlobal), strays: u64) {
         if strays != 0 {
             self.tell_as_line(rt, strays_line(rt.alloc(), self.json, strays));
+        }
+    }
+
+    /// Tells that the memories are gone with what was loaded into them.
+    pub fn tell_unkept(self, rt: &(impl Eprint + AllocGlobal)) {
+        if self.voice.tells() {
+            self.tell_as_line(rt, unkept_line(rt.alloc(), self.json));
         }
     }
 

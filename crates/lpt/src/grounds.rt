@@ -9,13 +9,17 @@ use crate::ground_sources::source_of;
 use crate::ground_told::{Teller, title_of};
 use crate::ground_wires::{Ears, Wire, close, fifo_wire, hear, output_wire};
 use crate::locking::locked;
+use crate::outputs::overwritten;
 use crate::pieces::{Piece, pieces_of};
 use crate::uplinks::LONGEST_LOAD;
-use lpt_command_line::{GroundWords, Job};
+use lpt_command_line::{GroundWords, Job, SettingWords};
 use lpt_events::Config;
 use lpt_ground::{End, Pass, dumped_octets};
 use lpt_ground_run::{PlanFault, carry_pass, carry_uplink};
-use lpt_io::{Failure, Fault, Status, Voice, first_failure, tell_text, write_for_good};
+use lpt_io::{
+    Failure, Fault, Status, Voice, config_of, first_failure, tell_text, word_refused,
+    write_for_good,
+};
 use lpt_text::{Sink, StreamFault};
 use std::fs::File;
 use std::io::Write;
@@ -25,20 +29,23 @@ use std::time::Clock;
 
 /// Carries what is asked of a memory to its end, as the process of this number.
 ///
-/// Errors: `Read` if a file or standard input can't be read, or the job's file is another
-/// job's; `Write` if the requests or a file can't be written; `Memory`.
+/// Errors: `Config` if the configuration is refused; `Read` if a file or standard input can't be
+/// read, or the job's file is another job's; `Write` if the requests or a file can't be written;
+/// `Memory`.
 pub fn ground<T: Threads + Wait + Clock + Copy + Drop + Send + 'static>(
     rt: &HostRuntime,
     threads: &T,
     process: u32,
     voice: Voice,
-    config: &Config,
+    settings: &SettingWords<'_>,
     words: &GroundWords<'_>,
-) -> Result<Status, Failure>
-    requires { IsConfig config.now }
-{
+) -> Result<Status, Failure> {
+    let config = config_of(rt, settings)?;
+    if let Some(fault) = overwritten(rt, settings, words, None) {
+        return Ok(word_refused(rt, rt.alloc(), &fault));
+    }
     let lock = job_lock(rt, process, words)?;
-    let ended = carry_locked(rt, threads, process, voice, config, words);
+    let ended = carry_locked(rt, threads, process, voice, &config, words);
     drop(lock);
     ended
 }

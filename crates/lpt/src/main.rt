@@ -20,10 +20,12 @@ mod keeping;
 mod locking;
 mod logging;
 mod memories;
+mod outputs;
 mod passing;
 mod patches;
 mod pieces;
 mod pipe;
+mod same_files;
 mod serving;
 mod ticker;
 mod uplinks;
@@ -132,14 +134,7 @@ fn done<T: Threads + Wait + Clock + Copy + Drop + Send + Sync + 'static>(
         Command::Link(words) => link(rt, voice, words),
         Command::Extract(words) => extract(rt, voice, &config_of(rt, settings)?, words),
         Command::Request(words) => request(rt, &config_of(rt, settings)?, words),
-        Command::Ground(words) => ground(
-            rt,
-            threads,
-            process,
-            voice,
-            &config_of(rt, settings)?,
-            words,
-        ),
+        Command::Ground(words) => ground(rt, threads, process, voice, settings, words),
         Command::Pass(words) => pass(rt, threads, process, voice, settings, words),
         Command::Spacecraft(words) => spacecraft(rt, threads, process, settings, words),
         Command::Verify(words) => verify(rt, voice, words),

@@ -1,5 +1,6 @@
 //! The memories whose first contents are files.
 
+use crate::same_files::is_same;
 use lpt_command_line::SpacecraftWords;
 use lpt_io::{Failure, Fault, octets_from, opened};
 use lpt_memory::{MEMORY_LIMIT, Memories, SIZE_LIMIT};
@@ -9,7 +10,7 @@ use std::fs;
 /// The memories whose first contents are the files that the words name.
 ///
 /// Errors: `Read` if one can't be read; `Config` if a file is empty or too long, there are
-/// more than 16, or two of one identifier; `Memory`.
+/// more than 16, or two of one identifier, or two of one file in which they are saved; `Memory`.
 pub fn memories_of(rt: &HostRuntime, words: &SpacecraftWords<'_>) -> Result<Memories, Failure> {
     let count = words.memories.len();
     if count > MEMORY_LIMIT {
@@ -32,16 +33,23 @@ pub fn memories_of(rt: &HostRuntime, words: &SpacecraftWords<'_>) -> Result<Memo
     }
 }
 
-// Reads each file, unless there was a memory of its identifier before it.
+// Reads each file, unless there was a memory of its identifier before it, or one that is saved in
+// the same file.
 fn read_memories(
     rt: &HostRuntime,
     words: &SpacecraftWords<'_>,
     list: &mut Vec<(u8, Octets)>,
 ) -> Result<(), Failure> {
-    for (id, file) in &words.memories {
+    for (number, (id, file)) in words.memories.iter().enumerate() {
         if list.iter().any(|(known, _)| known == id) {
             let place = format!(in rt.alloc();
                 "--memory {id}={file}: there is a memory {id} already"
+            );
+            return Err(Failure::at(Fault::Config, place));
+        }
+        if let Some(known) = memory_of(rt, words, number, file) {
+            let place = format!(in rt.alloc();
+                "--memory {id}={file}: memory {known} is saved there already"
             );
             return Err(Failure::at(Fault::Config, place));
         }
@@ -51,6 +59,25 @@ fn read_memories(
         }
     }
     Ok(())
+}
+
+// The memory among the first so many that is saved in the file to which this path leads as well, if
+// there is one.
+fn memory_of(
+    rt: &HostRuntime,
+    words: &SpacecraftWords<'_>,
+    count: usize,
+    path: &str,
+) -> Option<u8> {
+    if !words.save {
+        return None;
+    }
+    for (id, file) in words.memories.iter().take(count) {
+        if is_same(rt, file, path) {
+            return Some(*id);
+        }
+    }
+    None
 }
 
 // The octets of a file that can be a memory. One that says beforehand that it is too long isn't

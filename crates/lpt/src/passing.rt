@@ -7,6 +7,7 @@ use crate::ground_notes::GroundNotes;
 use crate::ground_told::Teller;
 use crate::ground_wires::hear_source;
 use crate::grounds::{Ready, job_lock, put_over, ready_of};
+use crate::outputs::overwritten;
 use crate::pieces::{Piece, pieces_of};
 use crate::pipe::{PipeReader, PipeWriter, Unread, pipe};
 use crate::serving::{Begun, begun_craft, serve};
@@ -43,6 +44,9 @@ where
         ..*settings
     };
     let config = config_of(rt, &settings)?;
+    if let Some(fault) = overwritten(rt, &settings, &words.ground, Some(&words.craft)) {
+        return Ok(word_refused(rt, rt.alloc(), &fault));
+    }
     let lock = job_lock(rt, process, &words.ground)?;
     let ended = fly_locked(rt, threads, process, voice, &settings, words, &config);
     drop(lock);
@@ -66,24 +70,28 @@ where
     let Some(pieces) = pieces_of(rt, &words.ground)? else {
         return Ok(Status::Unreadable);
     };
-    if !is_kept(words, &pieces) {
+    let kept = is_kept(words, &pieces);
+    if !kept && words.ground.kept.is_some() {
         return Ok(word_refused(rt, rt.alloc(), &WordFault::Unkept));
     }
     let craft = begun_craft(rt, process, settings, &words.craft)?;
     match ready_of(rt, process, config, &words.ground, pieces)? {
-        Some(ready) => fly_noted(rt, threads, voice, words, craft, ready),
+        Some(ready) => {
+            let status = fly_noted(rt, threads, voice, words, craft, ready)?;
+            if !kept {
+                Teller::new(voice, words.ground.json).tell_unkept(rt);
+            }
+            Ok(status)
+        }
         None => Ok(Status::Refused),
     }
 }
 
-// Whether what these areas load outlasts the process, if the job's file does: otherwise another
-// process would go on from that with a spacecraft that has forgotten it.
+// Whether what these areas load outlasts the process. If the job's file does and this doesn't,
+// another process would go on from that with a spacecraft that has forgotten it.
 fn is_kept(words: &PassWords<'_>, pieces: &[Piece]) -> bool {
     let craft = &words.craft;
-    let (Some(_), Job::Load { .. }) = (words.ground.kept, words.ground.job) else {
-        return true;
-    };
-    if craft.state.is_some() {
+    if craft.state.is_some() || !matches!(words.ground.job, Job::Load { .. }) {
         return true;
     }
     for piece in pieces {

@@ -13,6 +13,7 @@ use lpt_events::Config;
 use lpt_io::{Failure, Fault, Status, file_behind, octets_from, opened, settings_of, tell_end};
 use lpt_memory::Memories;
 use lpt_spacecraft::Spacecraft;
+use std::alloc::{AllocError, Global};
 use std::fs::{self, File};
 use std::io::ErrorKind;
 use std::sync::Wait;
@@ -22,13 +23,13 @@ use std::time::Clock;
 /// Takes the packets of standard input as the spacecraft does, and writes its reports to standard
 /// output. With `--save` a memory goes back into its file behind each load that wrote to it, before
 /// that is reported, and all do so at the end, whatever ended it. With `--state` it goes on from
-/// that file, if it is there, and is kept in it before anything is written; no other process can
-/// use that file meanwhile. Octets that are no packet end it, or with `--resync` are passed over:
-/// the status is then the same.
+/// that file, if it is there, and is kept in it before anything is written. No other process can
+/// use any of these files meanwhile. Octets that are no packet end it, or with `--resync` are
+/// passed over: the status is then the same.
 ///
 /// Errors: `Read` if a file or standard input can't be read, or a file isn't what was kept;
-/// `Config` if the files make no memories; `Write`, also if a file can't be written, or
-/// another process uses that of the state; `Memory`.
+/// `Config` if the files make no memories, or others than were kept; `Write`, also if a file can't
+/// be written, or another process uses one of those that are; `Memory`.
 pub fn spacecraft<T>(
     rt: &HostRuntime,
     threads: &T,
@@ -49,6 +50,8 @@ pub(crate) struct Begun {
     craft: Spacecraft,
     // The path of the file in which it is kept, if it is, and the lock of that.
     state: Option<(String, File)>,
+    // The locks of the memories' files, if these are saved.
+    saved: Vec<File>,
     ghost idle: { IsIdle craft },
 }
 
@@ -62,7 +65,8 @@ impl Begun {
 /// The spacecraft of these words: the one that was kept, or a new one.
 ///
 /// Errors: `Read` if a file can't be read, or isn't what was kept; `Config` if the files make no
-/// memories; `Write` if another process uses the file of the state; `Memory`.
+/// memories, or others than were kept; `Write` if another process uses a file that is written;
+/// `Memory`.
 pub(crate) fn begun_craft(
     rt: &HostRuntime,
     process: u32,
@@ -76,27 +80,57 @@ pub(crate) fn begun_craft(
         drop(usual);
         memories_of(rt, words)?
     };
+    let saved = match saved_locks(rt, process, words) {
+        Ok(saved) => saved,
+        Err(failure) => {
+            drop(memories);
+            return Err(failure);
+        }
+    };
     let Some(path) = words.state else {
         let craft = new_craft(rt, &config, memories)?;
-        return Ok(Begun { craft, state: None });
+        return Ok(Begun {
+            craft,
+            state: None,
+            saved,
+        });
     };
-    let (path, lock) = match state_file(rt, process, path) {
+    let (path, lock) = match locked_file(rt, process, path) {
         Ok(both) => both,
         Err(failure) => {
             drop(memories);
             return Err(failure);
         }
     };
-    match craft_begun(rt, &config, memories, path.as_str()) {
+    match craft_begun(rt, &config, memories, words, path.as_str()) {
         Ok(craft) => Ok(Begun {
             craft,
             state: Some((path, lock)),
+            saved,
         }),
         Err(failure) => {
             drop(lock);
             Err(failure)
         }
     }
+}
+
+// The locks of the memories' files, if these are saved: no other process saves one meanwhile.
+fn saved_locks(
+    rt: &HostRuntime,
+    process: u32,
+    words: &SpacecraftWords<'_>,
+) -> Result<Vec<File>, Failure> {
+    let mut locks = Vec::new(rt.alloc());
+    if words.save {
+        for (_, path) in &words.memories {
+            let (_, lock) = locked_file(rt, process, path)?;
+            if locks.push(lock).is_err() {
+                return Err(Failure::from(Fault::Memory));
+            }
+        }
+    }
+    Ok(locks)
 }
 
 /// Serves with a spacecraft over these wires.
@@ -112,8 +146,12 @@ pub(crate) fn serve<T>(
 where
     T: Threads + Wait + Clock + Copy + Drop + Send + 'static,
 {
-    let Begun { mut craft, state } = begun;
-    match state {
+    let Begun {
+        mut craft,
+        state,
+        saved,
+    } = begun;
+    let ended = match state {
         None => {
             let ended = serve_saved(rt, threads, &mut craft, words, None, wires);
             drop(craft);
@@ -125,12 +163,13 @@ where
             drop(lock);
             ended
         }
-    }
+    };
+    drop(saved);
+    ended
 }
 
-// The file of the state to which this path leads, and its lock: no other process serves with it
-// meanwhile.
-fn state_file(rt: &HostRuntime, process: u32, path: &str) -> Result<(String, File), Failure> {
+// The file to which this path leads, and its lock: no other process serves with it meanwhile.
+fn locked_file(rt: &HostRuntime, process: u32, path: &str) -> Result<(String, File), Failure> {
     let path = match file_behind(rt, path) {
         Ok(path) => path,
         Err(error) => {
@@ -184,11 +223,13 @@ fn new_craft(
     }
 }
 
-// The spacecraft that was kept in this file, or a new one where there is no such file.
+// The spacecraft that was kept in this file, if its memories are those of the words, or a new one
+// where there is no such file.
 fn craft_begun(
     rt: &HostRuntime,
     config: &Config,
     memories: Memories,
+    words: &SpacecraftWords<'_>,
     path: &str,
 ) -> Result<Spacecraft, Failure>
     requires { IsConfig config.now }
@@ -202,7 +243,52 @@ fn craft_begun(
         let place = format!(in rt.alloc(); "{path}: {error}");
         return Err(Failure::at(Fault::Read, place));
     }
+    let craft = match craft_at(rt, config, path) {
+        Ok(craft) => craft,
+        Err(failure) => {
+            drop(memories);
+            return Err(failure);
+        }
+    };
+    let unlike = unlike_of(rt.alloc(), path, &craft, &memories, words);
     drop(memories);
+    match unlike {
+        None => Ok(craft),
+        Some(place) => {
+            drop(craft);
+            Err(Failure::at(Fault::Config, place))
+        }
+    }
+}
+
+// How a spacecraft that was kept in this file differs from these memories of the words, if it does.
+fn unlike_of(
+    alloc: Global,
+    path: &str,
+    craft: &Spacecraft,
+    memories: &Memories,
+    words: &SpacecraftWords<'_>,
+) -> Option<Result<String, AllocError>> {
+    for (id, file) in &words.memories {
+        let given = memories.content(*id).unwrap_or(&[]).len();
+        let Some(kept) = craft.content(*id) else {
+            return Some(format!(in alloc; "{path}: it keeps no memory {id}, the one of {file}"));
+        };
+        let kept = kept.len();
+        if kept != given {
+            return Some(format!(in alloc;
+                "{path}: it keeps memory {id} with {kept} octets, and {file} has {given}"
+            ));
+        }
+    }
+    None
+}
+
+// The spacecraft that was kept in this file.
+fn craft_at(rt: &HostRuntime, config: &Config, path: &str) -> Result<Spacecraft, Failure>
+    requires { IsConfig config.now }
+    ensures { IfOk result IsIdle }
+{
     let mut source = opened(rt, path)?;
     let octets = octets_from(rt, path, &mut source);
     drop(source);

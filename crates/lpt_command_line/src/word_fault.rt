@@ -51,6 +51,11 @@ pub enum WordFault<'a> {
     NoInput,
     /// Two areas are to become this file.
     SameFile(&'a str),
+    /// A dump is to become this file, which this option names as well.
+    Overwritten {
+        file: &'a str,
+        option: &'static str,
+    },
     /// What is settled of a load is to be kept, but not what was loaded.
     Unkept,
     /// Memory runs out.
@@ -100,6 +105,9 @@ impl WordFault<'_> {
             WordFault::Twice => format!(in alloc; "'-' stands twice, and can be read only once"),
             WordFault::NoInput => no_input(alloc),
             WordFault::SameFile(file) => format!(in alloc; "two areas would become {file}"),
+            WordFault::Overwritten { file, option } => {
+                format!(in alloc; "the dump would overwrite {file}, the file of '{option}'")
+            }
             WordFault::Unkept => unkept(alloc),
             WordFault::Memory => format!(in alloc; "out of memory"),
         }
