@@ -1,0 +1,3 @@
+pub mod Flights
+pub mod Laws
+pub mod Pictures
