@@ -1,5 +1,6 @@
 //! The lines that tell what becomes of a pass, for a reader or as objects of JSON.
 
+use lpt_ground_run::Counts;
 use lpt_io::octets_word;
 use std::alloc::{AllocError, Global};
 
@@ -89,21 +90,21 @@ fn sentence(code: u16) -> &'static str {
     }
 }
 
-/// How a pass of so many requests ended, which took so many packets and rounds: whether all were
-/// completed. The only error is out of memory.
+/// How a pass of so many requests ended, of which so much was counted: whether all were completed.
+/// The only error is out of memory.
 pub fn done_line(
     alloc: Global,
     json: bool,
     noun: &str,
     many: usize,
-    counts: (u64, u64),
+    counts: Counts,
     done: bool,
 ) -> Result<String, AllocError> {
-    let (put, rounds) = counts;
+    let (put, rounds, came) = (counts.up, counts.rounds, counts.down);
     if json {
         let mut line = format!(in alloc; "{{\"end\":\"{noun}\",\"completed\":{done},")?;
         line.write(format_args!("\"requests\":{many},"))?;
-        line.write(format_args!("\"packets\":{put},\"rounds\":{rounds}}}"))?;
+        line.write(format_args!("\"packets\":{put},\"rounds\":{rounds},\"came\":{came}}}"))?;
         return Ok(line);
     }
     let s = if many == 1 { "" } else { "s" };

@@ -2,7 +2,7 @@
 
 use crate::ground_told::Teller;
 use lpt_ground::Pass;
-use lpt_ground_run::{Asked, Fate, Notes, digest_of, hear_kept, kept_packets};
+use lpt_ground_run::{Asked, Counts, Fate, Notes, digest_of, hear_kept, kept_packets};
 use lpt_io::{Failure, Fault, file_at, octets_from, opened, write_for_good};
 use std::alloc::{AllocError, Global};
 use std::fs;
@@ -20,6 +20,8 @@ pub struct GroundNotes {
     job: Option<(String, String)>,
     // Why it couldn't be written, if it couldn't.
     failure: Option<Failure>,
+    // The round that was told last, and how many requests were settled before it.
+    told_last: Option<(u64, usize)>,
 }
 
 impl GroundNotes {
@@ -42,6 +44,7 @@ impl GroundNotes {
             teller,
             job,
             failure: None,
+            told_last: None,
         })
     }
 
@@ -73,13 +76,18 @@ impl GroundNotes {
 }
 
 impl Notes for GroundNotes {
-    fn keep(&mut self, round: u64, asked: &[Asked]) -> bool {
+    fn keep(&mut self, counts: Counts, asked: &[Asked]) -> bool {
         let settled = asked
             .iter()
             .filter(|one| !matches!(one.fate, Fate::Waiting))
             .count();
-        self.teller
-            .tell_round(&self.rt, settled, asked.len(), round);
+        // A round in which nothing went up is told once, as the next one.
+        let round = counts.rounds.saturating_add(1);
+        if self.told_last != Some((round, settled)) {
+            self.teller
+                .tell_round(&self.rt, settled, asked.len(), round);
+        }
+        self.told_last = Some((round, settled));
         match self.write(asked) {
             Ok(()) => true,
             Err(failure) => {

@@ -6,7 +6,7 @@ use crate::ground_lines::{
 };
 use lpt_command_line::{GroundWords, SourceWords};
 use lpt_ground::{Pass, checks_agree};
-use lpt_ground_run::{Asked, Halt, Outcome, Run, runs_of};
+use lpt_ground_run::{Asked, Counts, Halt, Outcome, Run, runs_of};
 use lpt_io::{Voice, tell_text};
 use std::alloc::{AllocError, Global};
 
@@ -80,15 +80,14 @@ impl Teller {
         }
     }
 
-    /// Tells what became of the requests of a pass at its end, which took so many packets and
-    /// rounds.
+    /// Tells what became of the requests of a pass at its end, of which so much was counted.
     pub fn tell_end(
         self,
         rt: &(impl Eprint + AllocGlobal),
         words: &GroundWords<'_>,
         places: &[Places],
         pass: &Pass,
-        counts: (u64, u64),
+        counts: Counts,
     ) {
         if !self.json {
             self.voice.clear(rt);

@@ -31,9 +31,12 @@ Examples:
 
 Statuses:
   0  everything was done
-  1  something was refused, failed, differs or isn't whole, or octets are no packet
-  2  the command line, a line of the script, HEX or the configuration can't be read
-  3  a file can't be read, the output can't be written, memory ran out, or threads failed
+  1  something was refused, failed, differs, is open or isn't whole, nothing was found,
+     or octets are no packet
+  2  the command line, a line of the script, HEX, the configuration, a layout or a list
+     of patches can't be read
+  3  a file can't be read or written, or is in use or of another job, memory ran out,
+     or threads failed
 
 docs/FILES.md has commands by task, docs/SCRIPT.md scripts and configuration.
 man/lpt.1 is the manual page.";

@@ -35,6 +35,8 @@ pub struct GroundWords<'a> {
     pub up: Option<&'a str>,
     /// The file in which it is kept what is settled.
     pub kept: Option<&'a str>,
+    /// Where the picture of the pass is written, if one is drawn.
+    pub chart: Option<&'a str>,
     /// Whether octets with which no packet begins are passed over.
     pub resync: bool,
     /// Whether each line on standard error is an object of JSON.
@@ -130,6 +132,7 @@ fn ground_with<'a>(
         tries: matches.get_one("tries").unwrap_or(TRIES),
         up: matches.get_str("up"),
         kept: matches.get_str("job"),
+        chart: matches.get_str("chart"),
         resync: matches.get_flag("resync"),
         json: matches.get_flag("json"),
     })

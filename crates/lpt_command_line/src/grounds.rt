@@ -104,6 +104,15 @@ const JOB: Named = Named {
     help: "Keep what is settled in this file, so that the same command goes on from it",
 };
 
+const CHART: Named = Named {
+    name: "chart",
+    value: TEXT,
+    behind: &["FILE"],
+    action: ArgAction::Set,
+    other: &[],
+    help: "Draw what was sent and settled in each round into this file, as SVG",
+};
+
 const PASSES: Named = Named {
     name: "passes",
     value: TEXT,
@@ -165,7 +174,7 @@ pub(crate) static GROUND_ROWS: [Row; 4] = [
         about: "Load a file into a memory, and end once all of it is there",
         words: &[MEMORY, ADDRESS, FILE],
         named: &[
-            AREA, LARGE, NAME, NAMES, PASSES, ACK, VERIFY, COUNT, WAIT, LOAD_TRIES, UP, JOB,
+            AREA, LARGE, NAME, NAMES, PASSES, ACK, VERIFY, COUNT, WAIT, LOAD_TRIES, UP, JOB, CHART,
             RESYNC, JSON, QUIET,
         ],
         configured: Configured::Pass,
@@ -183,6 +192,7 @@ pub(crate) static GROUND_ROWS: [Row; 4] = [
             TRIES,
             UP,
             JOB,
+            CHART,
             RESYNC,
             JSON,
             QUIET,
@@ -194,7 +204,7 @@ pub(crate) static GROUND_ROWS: [Row; 4] = [
         about: "Compare a file with checksums of a memory",
         words: &[MEMORY, ADDRESS, FILE],
         named: &[
-            AREA, PASSES, COUNT, WAIT, TRIES, UP, JOB, RESYNC, JSON, QUIET,
+            AREA, PASSES, COUNT, WAIT, TRIES, UP, JOB, CHART, RESYNC, JSON, QUIET,
         ],
         configured: Configured::Pass,
     },
@@ -203,7 +213,7 @@ pub(crate) static GROUND_ROWS: [Row; 4] = [
         about: "Load the files of a list into memories, and end once all of them are there",
         words: &[LIST],
         named: &[
-            PASSES, ACK, VERIFY, COUNT, WAIT, TRIES, UP, JOB, RESYNC, JSON, QUIET,
+            PASSES, ACK, VERIFY, COUNT, WAIT, TRIES, UP, JOB, CHART, RESYNC, JSON, QUIET,
         ],
         configured: Configured::Pass,
     },
@@ -227,6 +237,7 @@ pub(crate) static PASS_ROWS: [Row; 4] = [
             SHORT_WAIT,
             LOAD_TRIES,
             JOB,
+            CHART,
             JSON,
             CRAFT_MEMORY,
             SAVE,
@@ -252,6 +263,7 @@ pub(crate) static PASS_ROWS: [Row; 4] = [
             SHORT_WAIT,
             TRIES,
             JOB,
+            CHART,
             JSON,
             CRAFT_MEMORY,
             SAVE,
@@ -276,6 +288,7 @@ pub(crate) static PASS_ROWS: [Row; 4] = [
             SHORT_WAIT,
             TRIES,
             JOB,
+            CHART,
             JSON,
             CRAFT_MEMORY,
             SAVE,
@@ -301,6 +314,7 @@ pub(crate) static PASS_ROWS: [Row; 4] = [
             SHORT_WAIT,
             TRIES,
             JOB,
+            CHART,
             JSON,
             CRAFT_MEMORY,
             SAVE,

@@ -1,4 +1,5 @@
 pub mod Carried
+pub mod Counts
 pub mod Halts
 pub mod Handing
 pub mod Keeping

@@ -1,9 +1,11 @@
 //! A thread that reads what comes down, and the ear to which it hands the packets over.
 
-ghost use Rattle.std.specs.Prelude.{◌≡◌, None, true};
+ghost use Rattle.std.specs.Prelude.{◌≡◌, [], None, true};
+ghost use Rattle.lpt_ground_run.specs.Counts.{AreCounted};
 ghost use Rattle.lpt_ground_run.specs.Halts.{Rises};
 
 use crate::Halt;
+use crate::counts::Counts;
 use crate::cutting::{Outlet, hand_packets};
 use crossbeam_channel::{Receiver, RecvTimeoutError, Sender, unbounded};
 use lpt_ground::{Asked, Ear, Waited};
@@ -28,9 +30,9 @@ pub enum HearFault {
 
 /// Is told how far a pass is.
 pub trait Notes {
-    /// Before this round, the first of which is 1, and once the pass is at its end, behind the last
-    /// one, this became of its requests. It answers whether the pass may go on.
-    fn keep(&mut self, round: u64, asked: &[Asked]) -> bool;
+    /// Before each round, and once the pass is at its end, so much was counted, and this became of
+    /// its requests. It answers whether the pass may go on.
+    fn keep(&mut self, counts: Counts, asked: &[Asked]) -> bool;
 }
 
 // What the thread that reads hands over.
@@ -86,9 +88,8 @@ pub struct Hearing<R: Wait + Clock + Drop, N: Notes + Drop> {
     // Where what came ended, if it has, and how many octets were passed over before.
     halt: Option<Halt>,
     strays: u64,
-    // The packets that were put, and the rounds that were begun.
-    put: u64,
-    rounds: u64,
+    // What was counted since it was asked last.
+    counts: Counts,
 }
 
 impl<R: Threads + Wait + Clock + Copy + Drop + Send + 'static, N: Notes + Drop> Hearing<R, N> {
@@ -127,8 +128,7 @@ impl<R: Threads + Wait + Clock + Copy + Drop + Send + 'static, N: Notes + Drop> 
                 fault: None,
                 halt: None,
                 strays: 0,
-                put: 0,
-                rounds: 0,
+                counts: Counts::new(),
             }),
             Err(_) => Err(HearFault::NoThread),
         }
@@ -201,21 +201,19 @@ impl<R: Wait + Clock + Drop, N: Notes + Drop> Hearing<R, N> {
         }
     }
 
-    /// How many packets were put, and in how many rounds, since this was asked last.
-    pub fn counts(&mut self) -> (u64, u64)
-        ensures counts { result ≡ (self.old.put, self.old.rounds) }
-        ensures put { self.new.put ≡ 0 }
-        ensures rounds { self.new.rounds ≡ 0 }
+    /// What was counted since this was asked last.
+    pub fn counts(&mut self) -> Counts
+        ensures counts { result ≡ self.old.counts }
+        ensures anew { AreCounted self.new.counts [] 0 }
     {
-        let counts = (self.put, self.rounds);
-        self.put = 0;
-        self.rounds = 0;
+        let counts = self.counts;
+        self.counts = Counts::new();
         counts
     }
 
     /// Tells the notes how a pass has ended, and answers whether they could keep that.
     pub fn tell_end(&mut self, asked: &[Asked]) -> bool {
-        self.notes.keep(self.rounds.saturating_add(1), asked)
+        self.notes.keep(self.counts, asked)
     }
 
     /// Hears on until what comes down is at its end, or for one wait, and passes over what comes.
@@ -241,17 +239,21 @@ impl<R: Wait + Clock + Drop, N: Notes + Drop> Ear for Hearing<R, N> {
     fn ready(&mut self) -> Option<Octets> {
         if let Ok(came) = self.from.try_recv(&self.rt) {
             if let Some(octets) = self.packet_of(came) {
+                self.counts.count_down();
                 return Some(octets);
             }
         }
-        self.put = self.put.saturating_add(1);
+        self.counts.count_up();
         None
     }
 
     fn wait(&mut self) -> Waited {
         match self.from.recv_timeout(&self.rt, self.wait) {
             Ok(came) => match self.packet_of(came) {
-                Some(octets) => Waited::Packet(octets),
+                Some(octets) => {
+                    self.counts.count_down();
+                    Waited::Packet(octets)
+                }
                 None => Waited::End,
             },
             Err(RecvTimeoutError::Timeout) => Waited::Quiet,
@@ -260,7 +262,7 @@ impl<R: Wait + Clock + Drop, N: Notes + Drop> Ear for Hearing<R, N> {
     }
 
     fn keep(&mut self, asked: &[Asked]) -> bool {
-        self.rounds = self.rounds.saturating_add(1);
-        self.notes.keep(self.rounds, asked)
+        self.counts.begin_round();
+        self.notes.keep(self.counts, asked)
     }
 }

@@ -10,6 +10,7 @@
 #![tactic(auto)]
 
 mod carrying;
+mod counts;
 mod cutting;
 mod halt;
 mod heads;
@@ -21,6 +22,7 @@ mod runs;
 mod uplinks;
 
 pub use carrying::{carry_pass, carry_uplink};
+pub use counts::Counts;
 pub use cutting::{Outlet, hand_packets};
 pub use halt::Halt;
 pub use heads::Heads;
