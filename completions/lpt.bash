@@ -32,10 +32,10 @@ _lpt() {
     compare:*) options+=' --layout --quiet' ;;
     checksum:*) options='--from --length --help --version' ;;
     ground:load | ground:dump | ground:check | ground:patch)
-        options+=' --passes --count --wait --tries --up --job --resync --json --quiet'
+        options+=' --passes --count --wait --tries --up --job --chart --resync --json --quiet'
         ;;
     pass:load | pass:dump | pass:check | pass:patch)
-        options+=' --passes --count --wait --tries --job --json --quiet'
+        options+=' --passes --count --wait --tries --job --chart --json --quiet'
         options+=' --memory --save --state --lose --repeat --damage --delay --seed'
         ;;
     request:load) options+=' --area --each --ack --count' ;;
@@ -50,7 +50,7 @@ _lpt() {
     COMPREPLY=()
     case $command:$request:$before:$word in
     ground:load:--ack:* | pass:load:--ack:* | ground:patch:--ack:* | pass:patch:--ack:*) offered='8 10' ;;
-    *:*:--config:* | *:*:--layout:* | *:*:--state:* | *:*:--up:* | *:*:--job:* | *:*:--passes:* | ground:dump:--to:* | pass:dump:--to:*)
+    *:*:--config:* | *:*:--layout:* | *:*:--state:* | *:*:--up:* | *:*:--job:* | *:*:--chart:* | *:*:--passes:* | ground:dump:--to:* | pass:dump:--to:*)
         mapfile -t COMPREPLY < <(compgen -f -- "$word")
         return
         ;;

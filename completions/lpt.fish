@@ -143,6 +143,7 @@ for command in 'ground load' 'ground dump' 'ground check' 'ground patch' 'pass l
     complete -c lpt -n "__lpt_at $command" -l wait -x -d 'Send again what is open if nothing came for so long'
     complete -c lpt -n "__lpt_at $command" -l tries -x -d 'Give up after so many waits in a row that settled nothing'
     complete -c lpt -n "__lpt_at $command" -l job -r -F -d 'Keep what is settled in this file, so that the same command goes on from it'
+    complete -c lpt -n "__lpt_at $command" -l chart -r -F -d 'Draw what was sent and settled in each round into this file, as SVG'
     complete -c lpt -n "__lpt_at $command" -l json -d 'Print each line as a JSON object'
     complete -c lpt -n "__lpt_at $command" -l quiet -d 'Report only faults on standard error'
 end

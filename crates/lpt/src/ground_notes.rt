@@ -1,5 +1,6 @@
 //! What a job's file says is settled, and what standard error is told before each round.
 
+use crate::ground_charts::Charts;
 use crate::ground_told::Teller;
 use lpt_ground::Pass;
 use lpt_ground_run::{Asked, Counts, Fate, Notes, digest_of, hear_kept, kept_packets};
@@ -22,6 +23,8 @@ pub struct GroundNotes {
     failure: Option<Failure>,
     // The round that was told last, and how many requests were settled before it.
     told_last: Option<(u64, usize)>,
+    // What is drawn, if anything is.
+    charts: Option<Charts>,
 }
 
 impl GroundNotes {
@@ -45,7 +48,18 @@ impl GroundNotes {
             job,
             failure: None,
             told_last: None,
+            charts: None,
         })
+    }
+
+    /// From now on it is noted what is to be drawn.
+    pub fn chart(&mut self) {
+        self.charts = Some(Charts::new(self.rt.alloc()));
+    }
+
+    /// What is drawn, if anything is.
+    pub fn charts(&mut self) -> Option<&mut Charts> {
+        self.charts.as_mut()
     }
 
     /// From now on nothing is kept.
@@ -77,6 +91,9 @@ impl GroundNotes {
 
 impl Notes for GroundNotes {
     fn keep(&mut self, counts: Counts, asked: &[Asked]) -> bool {
+        if let Some(charts) = &mut self.charts {
+            charts.note(counts, asked);
+        }
         let settled = asked
             .iter()
             .filter(|one| !matches!(one.fate, Fate::Waiting))

@@ -221,6 +221,22 @@ pub fn title_of(
     source: u16,
     places: &[Places],
 ) -> Result<String, AllocError> {
+    let mut title = areas_title(alloc, places)?;
+    let count = words.count;
+    title.write(format_args!(" source {source} count {count}"))?;
+    Ok(title)
+}
+
+/// The same without the sequence counts, which another pass may have too. The only error is out of
+/// memory.
+pub fn chart_title(alloc: Global, source: u16, places: &[Places]) -> Result<String, AllocError> {
+    let mut title = areas_title(alloc, places)?;
+    title.write(format_args!(" source {source}"))?;
+    Ok(title)
+}
+
+// What requests are of, in words. The only error is out of memory.
+fn areas_title(alloc: Global, places: &[Places]) -> Result<String, AllocError> {
     let noun = noun_of(places);
     let mut title = format!(in alloc; "{noun}")?;
     let mut last = None;
@@ -232,8 +248,6 @@ pub fn title_of(
         last = Some(memory);
         title.write(format_args!(" address {address} octets {len}"))?;
     }
-    let count = words.count;
-    title.write(format_args!(" source {source} count {count}"))?;
     Ok(title)
 }
 

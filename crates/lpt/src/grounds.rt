@@ -5,8 +5,9 @@ ghost use Rattle.lpt_events.specs.Configs.{IsConfig};
 
 use crate::errands::{Errand, Places, errand_of, overlap_of};
 use crate::ground_notes::GroundNotes;
+use crate::ground_puts::{Noted, Puts};
 use crate::ground_sources::source_of;
-use crate::ground_told::{Teller, title_of};
+use crate::ground_told::{Teller, chart_title, title_of};
 use crate::ground_wires::{Ears, Wire, close, fifo_wire, hear, output_wire};
 use crate::locking::locked;
 use crate::outputs::overwritten;
@@ -190,16 +191,32 @@ pub(crate) fn put_over<T: Wait + Clock + Drop, W: Write + Drop>(
     out: Wire<W>,
     name: &str,
 ) -> Result<Status, Failure> {
-    let mut out = out;
+    if words.chart.is_some() {
+        ears.notes().chart();
+    }
+    let mut out = Noted::new(rt.alloc(), out, words.chart.is_some());
     let ended = carry_all(rt, ears, words, errand, &mut out);
-    let closed = close(rt, out, name);
+    let closed = close(rt, out.into_out(), name);
     ears.hear_out();
     let strays = ears.strays();
     ears.notes().teller().tell_strays(rt, strays);
-    both(closed, ended)
+    let drawn = write_chart(rt, ears, words);
+    both(drawn, both(closed, ended))
 }
 
-// How it ends when the output was closed so, and before that this was the end.
+// Writes the picture, if one is wanted.
+fn write_chart<T: Wait + Clock + Drop>(
+    rt: &HostRuntime,
+    ears: &mut Ears<T>,
+    words: &GroundWords<'_>,
+) -> Result<(), Failure> {
+    match (words.chart, ears.notes().charts()) {
+        (Some(path), Some(charts)) => charts.write(rt, path),
+        _ => Ok(()),
+    }
+}
+
+// How it ends when something came to this behind what came to that end.
 fn both(closed: Result<(), Failure>, ended: Result<Status, Failure>) -> Result<Status, Failure> {
     match ended {
         Ok(status) => {
@@ -214,18 +231,26 @@ fn both(closed: Result<(), Failure>, ended: Result<Status, Failure>) -> Result<S
 }
 
 // Carries an errand out, and tells what became of it.
-fn carry_all<T: Wait + Clock + Drop, K: Sink>(
+fn carry_all<T: Wait + Clock + Drop, K: Sink + Drop>(
     rt: &HostRuntime,
     ears: &mut Ears<T>,
     words: &GroundWords<'_>,
     errand: &mut Errand,
-    out: &mut K,
+    out: &mut Noted<K>,
 ) -> Result<Status, Failure> {
+    out.puts.begin(errand.first.asked());
     let ended = match &mut errand.uplink {
         Some(uplink) => carry_uplink(rt.alloc(), uplink, &mut errand.first, ears, out),
         None => carry_pass(&mut errand.first, ears, out),
     };
-    tell(rt, ears, words, &errand.places, &errand.first);
+    tell(
+        rt,
+        ears,
+        words,
+        &errand.places,
+        &errand.first,
+        &mut out.puts,
+    );
     if !is_done(rt, ears, ended)? {
         return Ok(Status::Refused);
     }
@@ -273,19 +298,20 @@ fn compare_all(rt: &(impl Eprint + AllocGlobal), teller: Teller, errand: &Errand
 }
 
 // Dumps what was loaded, if that is asked for, and compares it.
-fn verify_load<T: Wait + Clock + Drop, K: Sink>(
+fn verify_load<T: Wait + Clock + Drop, K: Sink + Drop>(
     rt: &HostRuntime,
     ears: &mut Ears<T>,
     words: &GroundWords<'_>,
     errand: &mut Errand,
-    out: &mut K,
+    out: &mut Noted<K>,
 ) -> Result<Status, Failure> {
     let Some((places, second)) = &mut errand.second else {
         return Ok(Status::Done);
     };
     ears.notes().keep_no_more();
+    out.puts.begin(second.asked());
     let ended = carry_pass(second, ears, out);
-    tell(rt, ears, words, places, second);
+    tell(rt, ears, words, places, second, &mut out.puts);
     if !is_done(rt, ears, ended)? {
         return Ok(Status::Refused);
     }
@@ -315,19 +341,24 @@ fn compare_dumps(
     Ok(status_of(alike))
 }
 
-// Tells what became of the requests of a pass.
+// Tells what became of the requests of a pass, in which this was put.
 fn tell<T: Wait + Clock + Drop>(
     rt: &HostRuntime,
     ears: &mut Ears<T>,
     words: &GroundWords<'_>,
     places: &[Places],
     pass: &Pass,
+    puts: &mut Puts,
 ) {
     let counts = ears.counts();
     let halt = ears.halt();
     let teller = ears.notes().teller();
     teller.tell_halt(rt, halt);
     teller.tell_end(rt, words, places, pass, counts);
+    if let Some(charts) = ears.notes().charts() {
+        let title = chart_title(rt.alloc(), pass.terms().source, places);
+        charts.end_pass(title, counts, puts);
+    }
 }
 
 // Whether a pass that ended so is done.

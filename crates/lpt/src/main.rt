@@ -9,8 +9,10 @@
 ghost use Rattle.lpt_events.specs.Configs.{IsConfig};
 
 mod errands;
+mod ground_charts;
 mod ground_lines;
 mod ground_notes;
+mod ground_puts;
 mod ground_sources;
 mod ground_told;
 mod ground_wires;
