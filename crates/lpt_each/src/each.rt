@@ -127,6 +127,7 @@ impl<T: Taker> PieceTaker<T> for Teller {
                 skips,
             });
         };
+        skips.pass(octets);
         match take_part(alloc, &transaction, any, name, place, &part, helds, lent) {
             Ok(helds) => Ok(Teller {
                 transaction,

@@ -83,6 +83,7 @@ impl PieceTaker<()> for Gatherer {
                 skips,
             });
         };
+        skips.pass(octets);
         match gatherings.add(alloc, &transaction, place, name, &part) {
             Ok(gatherings) => Ok(Gatherer {
                 transaction,

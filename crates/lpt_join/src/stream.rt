@@ -97,6 +97,7 @@ impl PieceTaker<()> for Joiner {
                 skips,
             });
         };
+        skips.pass(octets);
         match gathering.add(alloc, &transaction, place, &part) {
             Ok(gathering) => Ok(Joiner {
                 transaction,

@@ -174,6 +174,7 @@ impl Teller {
                 });
             }
         };
+        skips.pass(octets);
         let reading = &wanted.reading;
         let helds = take_part(alloc, reading, any, place, octets, &part, helds, taker)?;
         Ok(Teller {

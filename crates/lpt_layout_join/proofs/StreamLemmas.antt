@@ -29,8 +29,8 @@ use Rattle.lpt_skips.specs.declared.skips.Skips.{Skips}
 use Rattle.lpt_skips.specs.declared.wanted.Wanted.{Wanted}
 use Rattle.lpt_skips.specs.declared.why.Why.TheVariants.{Taken, OtherName}
 use Rattle.lpt_skips.specs.Skipping.{sizeless, why_carried, why_name}
-use Rattle.lpt_skips.specs.Tallies.{noted, nothing_noted, skips_of, with_why}
-use Rattle.lpt_skips.proofs.TallyLemmas.{noted-append}
+use Rattle.lpt_skips.specs.Tallies.{noted, nothing_noted, skips_of, with_octets}
+use Rattle.lpt_skips.proofs.TallyLemmas.{noted-append, taken-noted}
 use Rattle.lpt_stream.specs.declared.piece_kind.PieceKind.{PieceKind}
 use Rattle.lpt_stream.specs.declared.piece_kind.PieceKind.TheVariants.{Whole, Damaged, Stray}
 use Rattle.lpt_stream.specs.Pieces.{Piece, packets_of}
@@ -145,14 +145,16 @@ taken-name : (w : Option Name) (n : Name) → is_wanted w n ≡ true → why_nam
 taken-name None n h = refl
 taken-name (Some m) n h = ap (λ (t : Bool). if t then Taken else OtherName n) h
 
--- nothing is noted of one that is
-pub noted-taken : (w : Wanted) (b : List ℕ) (c : Named) (s : Skips)
+-- of one that is no more is noted than its octets
+pub noted-taken : (w : Wanted) (b : List ℕ) (c : Named) (was now : Skips)
     → carried w.reading b ≡ Ok c
     → is_wanted w.name (name_of c) ≡ true
-    → s ≡ noted w s (record { kind = Whole; octets = b })
-noted-taken w b c s some its =
-    ap (with_why s) (sym (ap (λ v. why_carried w.name v (carried (sizeless w.reading) b)) some
-    ∙ taken-name w.name (name_of c) its))
+    → now ≡ with_octets was (length b)
+    → now ≡ noted w was (record { kind = Whole; octets = b })
+noted-taken w b c was now some its =
+    taken-noted w was now (record { kind = Whole; octets = b })
+    (ap (λ v. why_carried w.name v (carried (sizeless w.reading) b)) some
+    ∙ taken-name w.name (name_of c) its)
 
 -- ---- a piece further
 

@@ -135,6 +135,7 @@ impl Gatherer {
                 skips,
             });
         };
+        skips.pass(octets);
         let gatherings = gatherings.add(alloc, counts.missing(), place, &part)?;
         Ok(Gatherer {
             wanted,

@@ -3,7 +3,7 @@
 ghost use Rattle.std.specs.Prelude.{◌≡◌, IfErr};
 ghost use Rattle.lpt_events.specs.Configs.{IsConfig};
 
-use crate::joins::{tell, tell_of, tell_skips, tell_unfit};
+use crate::joins::{tell, tell_of, tell_skips, tell_unfit, wanted_of};
 use lpt_command_line::JoinWords;
 use lpt_each::{Came, News, Taker, each_stream};
 use lpt_events::Config;
@@ -260,7 +260,8 @@ fn status_of(
 }
 
 // The status of a join whose stream was read to its end, after it was told where no part came, and
-// where not all is well, what was passed over. The only error is out of memory.
+// where not all is well, or what was passed over may hold messages, what that was. The only error
+// is out of memory.
 fn told(
     rt: &(impl Eprint + AllocGlobal),
     config: &Config,
@@ -271,7 +272,7 @@ fn told(
 ) -> Result<Status, AllocError>
     requires { IsConfig config.now }
 {
-    if came && !lost {
+    if came && !lost && !skips.loses(&wanted_of(config, words, None)) {
         return Ok(Status::Done);
     }
     if !came {

@@ -13,7 +13,7 @@ use lpt_join::{
     join_message, join_only, missing_list,
 };
 use lpt_packet::{Direction, Name};
-use lpt_skips::Skips;
+use lpt_skips::{Skips, Wanted};
 use lpt_text::StreamFault;
 use std::alloc::{AllocError, Global};
 
@@ -119,7 +119,8 @@ fn transaction_of(config: &Config, words: &JoinWords<'_>, name: Name) -> Transac
 }
 
 // The status of a join that ended so, after it was told what isn't whole, or isn't all, and where
-// nothing was written, what was passed over. The only error is out of memory.
+// nothing was written, or what was passed over may hold messages, what that was. The only error is
+// out of memory.
 fn told(
     rt: &(impl Eprint + AllocGlobal),
     config: &Config,
@@ -139,11 +140,19 @@ fn told(
             (status, *end, None, skips)
         }
     };
-    if let Some(JoinEnd::Written(_)) = end {
+    let loses = skips.loses(&wanted_of(config, words, name));
+    if !loses && matches!(end, Some(JoinEnd::Written(_))) {
         return Ok(status);
     }
     tell_skips(rt, config, words, name, skips)?;
-    Ok(status)
+    Ok(if loses { Status::Refused } else { status })
+}
+
+/// How parts are read, if those of this name are wanted, or of any.
+pub fn wanted_of(config: &Config, words: &JoinWords<'_>, name: Option<Name>) -> Wanted
+    requires { IsConfig config.now }
+{
+    transaction_of(config, words, Name { source: 0, id: 0 }).reading(name)
 }
 
 /// Says on standard error what was passed over, and why, if parts of this name were wanted, or
@@ -157,9 +166,9 @@ pub fn tell_skips(
 ) -> Result<(), AllocError>
     requires { IsConfig config.now }
 {
-    let transaction = transaction_of(config, words, Name { source: 0, id: 0 });
-    let wanted = transaction.reading(name);
-    for line in skips.lines(rt.alloc(), &wanted, u32::from(config.source))? {
+    let wanted = wanted_of(config, words, name);
+    let from = words.span.from.unwrap_or(0);
+    for line in skips.lines(rt.alloc(), &wanted, u32::from(config.source), from)? {
         tell_place(rt, line.as_str());
     }
     Ok(())

@@ -166,7 +166,7 @@ pub fn join_each<'a, R: Machine>(
     drop(folder);
     match failure {
         Some(failure) => Err(failure),
-        None => status_of(rt, user, reading, came, lost, ended),
+        None => status_of(rt, user, reading, words, came, lost, ended),
     }
 }
 
@@ -175,12 +175,13 @@ fn status_of(
     rt: &(impl Eprint + AllocGlobal),
     user: u32,
     reading: &Reading,
+    words: &JoinLayoutWords<'_>,
     came: bool,
     lost: bool,
     ended: Result<Skips, StreamFault>,
 ) -> Result<Status, Failure> {
     match ended {
-        Ok(skips) => match told(rt, user, reading, came, lost, &skips) {
+        Ok(skips) => match told(rt, user, reading, words, came, lost, &skips) {
             Ok(status) => Ok(status),
             Err(_) => Err(Failure::from(Fault::Memory)),
         },
@@ -189,16 +190,22 @@ fn status_of(
 }
 
 // The status of a join whose stream was read to its end, after it was told where no part came, and
-// where not all is well, what was passed over. The only error is out of memory.
+// where not all is well, or what was passed over may hold messages, what that was. The only error
+// is out of memory.
 fn told(
     rt: &(impl Eprint + AllocGlobal),
     user: u32,
     reading: &Reading,
+    words: &JoinLayoutWords<'_>,
     came: bool,
     lost: bool,
     skips: &Skips,
 ) -> Result<Status, AllocError> {
-    if came && !lost {
+    let wanted = Wanted {
+        reading: *reading,
+        name: None,
+    };
+    if came && !lost && !skips.loses(&wanted) {
         return Ok(Status::Done);
     }
     if !came {
@@ -206,11 +213,7 @@ fn told(
         let text = format!(in rt.alloc(); "{direction}: no part of a message came");
         tell(rt, text)?;
     }
-    let wanted = Wanted {
-        reading: *reading,
-        name: None,
-    };
-    tell_skips(rt, user, &wanted, skips)?;
+    tell_skips(rt, user, &wanted, words, skips)?;
     Ok(Status::Refused)
 }
 

@@ -136,7 +136,8 @@ fn status_of(
 }
 
 // The status of a join that ended so, after it was told what isn't whole, or isn't all, and where
-// nothing was written, what was passed over. The only error is out of memory.
+// nothing was written, or what was passed over may hold messages, what that was. The only error is
+// out of memory.
 fn told(
     rt: &(impl Eprint + AllocGlobal),
     source: u32,
@@ -161,10 +162,12 @@ fn told(
             Status::Refused
         }
     };
-    if !matches!(report.end, Some(JoinEnd::Written(_))) {
-        tell_skips(rt, source, wanted, &report.skips)?;
+    let loses = report.skips.loses(wanted);
+    if !loses && matches!(report.end, Some(JoinEnd::Written(_))) {
+        return Ok(status);
     }
-    Ok(status)
+    tell_skips(rt, source, wanted, words, &report.skips)?;
+    Ok(if loses { Status::Refused } else { status })
 }
 
 /// Says on standard error what was passed over, and why, if these parts were wanted and this source
@@ -173,9 +176,12 @@ pub fn tell_skips(
     rt: &(impl Eprint + AllocGlobal),
     source: u32,
     wanted: &Wanted,
+    words: &JoinLayoutWords<'_>,
     skips: &Skips,
 ) -> Result<(), AllocError> {
-    for line in skips.lines(rt.alloc(), wanted, source_of(source, &wanted.reading))? {
+    let source = source_of(source, &wanted.reading);
+    let from = words.span.from.unwrap_or(0);
+    for line in skips.lines(rt.alloc(), wanted, source, from)? {
         tell_place(rt, line.as_str());
     }
     Ok(())

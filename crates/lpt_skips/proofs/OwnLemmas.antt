@@ -4,7 +4,6 @@ use Rattle.std.specs.Prelude.{is_some, min, max}
 use Rattle.std.specs.Option.{option_map_or}
 use Rattle.std.specs.Result.{result_ok}
 use Rattle.std.proofs.lemmas.Bool.Decides.{nat_tests}
-use Rattle.std.proofs.lemmas.Grind.{common_steps}
 use Rattle.lpt_packet.specs.declared.direction.Direction.{Direction}
 use Rattle.lpt_packet.specs.declared.direction.Direction.TheVariants.{Up, Down}
 use Rattle.lpt_packet.specs.declared.fault.PacketFault.{PacketFault}
@@ -31,7 +30,6 @@ use Rattle.lpt_layout.specs.Packets.{verdict_as}
 use Rattle.lpt_layout.specs.Parts.{octets_at, part_verdict_as}
 use Rattle.lpt_stream.specs.declared.piece_kind.PieceKind.{PieceKind}
 use Rattle.lpt_stream.specs.declared.piece_kind.PieceKind.TheVariants as piece
-use Rattle.lpt_carried.specs.declared.name.Name.{Name}
 use Rattle.lpt_carried.specs.declared.reading.Reading.{Reading}
 use Rattle.lpt_carried.specs.declared.skip.Skip.{Skip}
 use Rattle.lpt_carried.specs.declared.skip.Skip.TheVariants.{OtherApid}
@@ -42,7 +40,7 @@ use Rattle.lpt_carried.proofs.OwnLemmas.{field-octets}
 use Rattle.lpt_skips.specs.declared.wanted.Wanted.{Wanted}
 use Rattle.lpt_skips.specs.declared.why.Why.{Why}
 use Rattle.lpt_skips.specs.declared.why.Why.TheVariants as why
-use Rattle.lpt_skips.specs.Own.{fitting_size, is_zero, own_body, own_command, own_telemetry, own_typed, own_unread, own_verdict, own_why, size_tried}
+use Rattle.lpt_skips.specs.Own.{fitting_size, is_zero, own_body, own_command, own_telemetry, own_typed, own_unread, own_verdict, own_why}
 use Rattle.lpt_skips.specs.Skipping.{fitting_by, size_shown, sizeless, why_carried, why_name, why_of, why_unread, why_unsaid}
 
 -- ---- a body that isn't read

@@ -1,3 +1,4 @@
+pub mod Losses
 pub mod Own
 pub mod Skipping
 pub mod Tallies

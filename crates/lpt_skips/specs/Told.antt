@@ -9,6 +9,7 @@ use Rattle.lpt_skips.specs.declared.wanted.Wanted.{Wanted}
 use Rattle.lpt_skips.specs.declared.skips.Skips.{Skips}
 use Rattle.lpt_skips.specs.declared.topic.Topic.{Topic}
 use Rattle.lpt_skips.specs.declared.topic.Topic.TheVariants.{OtherApid, OtherDirection, NoNumber, Unread, OtherName, NoPart, Damaged, Stray}
+use Rattle.lpt_skips.specs.Tallies.{raised}
 
 -- how many there are of a topic
 abbrev pub count_of : Skips → Topic → ℕ
@@ -67,19 +68,41 @@ ending_of w source s NoPart = []
 ending_of w source s Damaged = []
 ending_of w source s Stray = []
 
+-- where the first is of a topic whose first place is known
+abbrev pub first_of : Skips → Topic → Option ℕ
+first_of s OtherApid = None
+first_of s OtherDirection = None
+first_of s NoNumber = None
+first_of s Unread = s.unread_at
+first_of s OtherName = None
+first_of s NoPart = None
+first_of s Damaged = None
+first_of s Stray = s.stray_at
+
+-- the octet at which one is, or the first of several
+abbrev pub place_text : (count place : ℕ) → List ℕ
+place_text count place =
+    (if count == 1 then codes ", at octet " else codes ", the first at octet ") ++ decimal place
+
+-- the same of a topic, where it is known; so many octets come before the stream that is read
+abbrev pub first_text : (from : ℕ) → Skips → Topic → List ℕ
+first_text from s t =
+    option_map_or (λ at. place_text (count_of s t) (raised at from)) (first_of s t) []
+
 -- a direction and a number
 abbrev pub opening : Direction → ℕ → List ℕ
 opening d n = direction_word d ++ (58 ∷ 32 ∷ decimal n)
 
 -- what is told of a topic
-abbrev pub line_text : Wanted → (source : ℕ) → Skips → Topic → List ℕ
-line_text w source s t =
+abbrev pub line_text : Wanted → (source from : ℕ) → Skips → Topic → List ℕ
+line_text w source from s t =
     opening w.reading.direction (count_of s t)
-    ++ ((if count_of s t == 1 then words_of_one t else words_of_many t) ++ ending_of w source s t)
+    ++ ((if count_of s t == 1 then words_of_one t else words_of_many t)
+    ++ (ending_of w source s t ++ first_text from s t))
 
 -- what is told of a topic, where there is something of it
-abbrev pub line_of : Wanted → (source : ℕ) → Skips → Topic → Option (List ℕ)
-line_of w source s t = if count_of s t == 0 then None else Some (line_text w source s t)
+abbrev pub line_of : Wanted → (source from : ℕ) → Skips → Topic → Option (List ℕ)
+line_of w source from s t = if count_of s t == 0 then None else Some (line_text w source from s t)
 
 -- the topics, in the order in which they are told
 abbrev pub topics : List Topic
@@ -87,5 +110,5 @@ topics =
     OtherApid ∷ OtherDirection ∷ NoNumber ∷ Unread ∷ OtherName ∷ NoPart ∷ Damaged ∷ Stray ∷ []
 
 -- what is told, a line for each topic of which there is something
-abbrev pub lines_of : Wanted → (source : ℕ) → Skips → List (List ℕ)
-lines_of w source s = filter_map (line_of w source s) topics
+abbrev pub lines_of : Wanted → (source from : ℕ) → Skips → List (List ℕ)
+lines_of w source from s = filter_map (line_of w source from s) topics

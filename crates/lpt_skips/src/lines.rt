@@ -3,7 +3,7 @@
 ghost use Rattle.std.specs.Prelude.{◌≡◌, ◌==◌, map, IfOk, if◌then◌else◌};
 ghost use Rattle.std.specs.Option.{option_map};
 ghost use Rattle.std.specs.String.{string_bytes};
-ghost use Rattle.lpt_skips.specs.Told.{count_of, ending_of, line_of, lines_of, name_text, opening, sizes_text, words_of_many, words_of_one};
+ghost use Rattle.lpt_skips.specs.Told.{count_of, ending_of, first_of, first_text, line_of, lines_of, name_text, opening, place_text, sizes_text, words_of_many, words_of_one};
 
 use crate::topic::{TOPICS, Topic};
 use crate::{Skips, Wanted};
@@ -12,19 +12,21 @@ use std::alloc::{AllocError, Global};
 
 impl Skips {
     /// What is told of what was passed over if these were wanted, a line for each reason of
-    /// which there is something, if this source is configured. The only error is out of memory.
+    /// which there is something, if this source is configured, and so many octets come before the
+    /// stream. The only error is out of memory.
     pub fn lines(
         &self,
         alloc: Global,
         wanted: &Wanted,
         source: u32,
+        from: u64,
     ) -> Result<Vec<String>, AllocError>
         ensures { IfOk result (λ v. map string_bytes v.items
-            ≡ lines_of wanted.now source self.now) }
+            ≡ lines_of wanted.now source from self.now) }
     {
         let mut lines = Vec::new(alloc);
         for topic in TOPICS {
-            if let Some(line) = self.line(alloc, wanted, source, topic)? {
+            if let Some(line) = self.line(alloc, wanted, source, from, topic)? {
                 lines.push(line)?;
             }
         }
@@ -37,10 +39,11 @@ impl Skips {
         alloc: Global,
         wanted: &Wanted,
         source: u32,
+        from: u64,
         topic: Topic,
     ) -> Result<Option<String>, AllocError>
         ensures { IfOk result (λ t. option_map string_bytes t
-            ≡ line_of wanted.now source self.now topic) }
+            ≡ line_of wanted.now source from self.now topic) }
     {
         let count = self.count_of(topic);
         if count == 0 {
@@ -49,6 +52,7 @@ impl Skips {
         let mut line = opening(alloc, wanted.reading.direction, count)?;
         line.push_str(words_of(topic, count))?;
         line.push_str(self.ending(alloc, wanted, source, topic)?.as_str())?;
+        line.push_str(self.first(alloc, from, topic)?.as_str())?;
         Ok(Some(line))
     }
 
@@ -94,6 +98,43 @@ impl Skips {
             | Topic::Damaged
             | Topic::Stray => Ok(String::new(alloc)),
         }
+    }
+
+    // Where the first of a topic is, where that is known, behind so many octets.
+    fn first(&self, alloc: Global, from: u64, topic: Topic) -> Result<String, AllocError>
+        ensures { IfOk result (λ t. string_bytes t ≡ first_text from self.now topic) }
+    {
+        match self.first_of(topic) {
+            Some(at) => place_text(alloc, self.count_of(topic), at.saturating_add(from)),
+            None => Ok(String::new(alloc)),
+        }
+    }
+
+    // The same of the stream alone.
+    fn first_of(&self, topic: Topic) -> Option<u64>
+        ensures { result ≡ first_of self.now topic }
+    {
+        match topic {
+            Topic::Unread => self.unread_at,
+            Topic::Stray => self.stray_at,
+            Topic::OtherApid
+            | Topic::OtherDirection
+            | Topic::NoNumber
+            | Topic::OtherName
+            | Topic::NoPart
+            | Topic::Damaged => None,
+        }
+    }
+}
+
+// The octet at which one is, or the first of several.
+fn place_text(alloc: Global, count: u64, place: u64) -> Result<String, AllocError>
+    ensures { IfOk result (λ t. string_bytes t ≡ place_text count place) }
+{
+    if count != 1 {
+        format!(in alloc; ", the first at octet {place}")
+    } else {
+        format!(in alloc; ", at octet {place}")
     }
 }
 

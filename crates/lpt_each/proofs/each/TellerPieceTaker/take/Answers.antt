@@ -1,12 +1,12 @@
 -- A piece more.
-use Rattle.std.proofs.Common.{None, ap, refl, subst, sym, Bool, [], ◌∷◌, ◌++◌}
+use Rattle.std.proofs.Common.{None, refl, subst, Bool, [], ◌∷◌, ◌++◌}
 use Rattle.lpt_part.specs.Parts.{piece}
 use Rattle.lpt_events.specs.NamedParts.{named}
 use Rattle.lpt_stream.specs.Pieces.{Piece, packets_of}
 use Rattle.lpt_stream.proofs.EndLemmas.{other-fault}
 use Rattle.lpt_join.specs.Several.{reading_of}
 use Rattle.lpt_join.proofs.GatherLemmas.{noted-next}
-use Rattle.lpt_skips.specs.Tallies.{with_why}
+use Rattle.lpt_skips.proofs.TallyLemmas.{taken-noted}
 use Rattle.lpt_join.specs.declared.transaction.Transaction.{Transaction}
 use Rattle.lpt_each.specs.News.{Hears, HearsPart}
 use Rattle.lpt_each.specs.Streams.{events}
@@ -57,8 +57,8 @@ returns-in-Ok-clause-taken g c = λ first old pieces h at.
       told = told-next t was.any pieces p (g.T.Taker.heard old) hear hears h.told
           (told-part t was.any bs p.kind p.octets q (Hears hear hears) c.in-Some.ensures.part
           (c.in-Ok.ensures.told bs p.octets h.held));
-      skips_are = noted-next r r was.skips was.skips pieces p p refl h.skips_are refl
-          (ap (with_why was.skips) (sym c.in-Some.ensures.why));
+      skips_are = noted-next r r was.skips c.pass.new.self pieces p p refl h.skips_are refl
+          (taken-noted r was.skips c.pass.new.self p c.in-Some.ensures.why c.pass.ensures);
     }
 
 -- the taker failed, or memory ran out

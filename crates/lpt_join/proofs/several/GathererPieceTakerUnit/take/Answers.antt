@@ -1,12 +1,12 @@
 -- A piece more.
-use Rattle.std.proofs.Common.{None, ap, refl, sym}
+use Rattle.std.proofs.Common.{None, refl}
 use Rattle.lpt_part.specs.Parts.{piece}
 use Rattle.lpt_events.specs.NamedParts.{named}
 use Rattle.lpt_stream.specs.Pieces.{Piece}
 use Rattle.lpt_join.specs.Several.{reading_of}
 use Rattle.lpt_join.proofs.GatherLemmas.{noted-next}
 use Rattle.lpt_join.proofs.SeveralLemmas.{each-other, each-packet, none-named}
-use Rattle.lpt_skips.specs.Tallies.{with_why}
+use Rattle.lpt_skips.proofs.TallyLemmas.{taken-noted}
 use Rattle.lpt_join.proofs.several.GathererPieceTakerUnit.take.Goals as goal
 
 -- no part of any is passed over
@@ -34,6 +34,6 @@ returns-in-Ok-clause-taken c = λ first old pieces h at.
       same = h.same;
       gives = each-packet was.transaction pieces p.kind p.octets q c.in-Ok.gatherings c.in-Some.ensures.part
           (c.in-Ok.ensures pieces p.octets h.gives at);
-      skips_are = noted-next r r was.skips was.skips pieces p p refl h.skips_are refl
-          (ap (with_why was.skips) (sym c.in-Some.ensures.why));
+      skips_are = noted-next r r was.skips c.pass.new.self pieces p p refl h.skips_are refl
+          (taken-noted r was.skips c.pass.new.self p c.in-Some.ensures.why c.pass.ensures);
     }

@@ -1,11 +1,11 @@
 -- A piece more.
-use Rattle.std.proofs.Common.{Some, ap, refl, sym}
+use Rattle.std.proofs.Common.{Some, refl}
 use Rattle.lpt_part.specs.Parts.{piece}
 use Rattle.lpt_stream.specs.Pieces.{Piece}
 use Rattle.lpt_join.specs.Offers.{part_of_piece}
 use Rattle.lpt_join.specs.Several.{reading_of}
 use Rattle.lpt_join.proofs.GatherLemmas.{gives-other, noted-next}
-use Rattle.lpt_skips.specs.Tallies.{with_why}
+use Rattle.lpt_skips.proofs.TallyLemmas.{taken-noted}
 use Rattle.lpt_join.proofs.stream.JoinerPieceTakerUnit.take.Goals as goal
 
 -- no part of the transaction is passed over
@@ -30,6 +30,6 @@ returns-in-Ok-clause-taken c = λ first old pieces h at.
     record {
       same = h.same;
       gives = c.in-Ok.ensures pieces p h.gives at c.in-Some.ensures.part;
-      skips_are = noted-next r r was.skips was.skips pieces p p refl h.skips_are refl
-          (ap (with_why was.skips) (sym c.in-Some.ensures.why));
+      skips_are = noted-next r r was.skips c.pass.new.self pieces p p refl h.skips_are refl
+          (taken-noted r was.skips c.pass.new.self p c.in-Some.ensures.why c.pass.ensures);
     }

@@ -41,11 +41,11 @@ returns-clause-told g c = λ first heard ps h.
     let hears = g.T.TakerAs.heard c.take_part.new.taker in
     let some = c.in-Ok.ensures.exact in
     let part = named c.in-Ok.part in
-    told-packet first was heard hear ps h b c.in_ok-helds.helds was.skips hears
+    told-packet first was heard hear ps h b c.in_ok-helds.helds c.pass.new.self hears
     (c.in_ok-helds.ensures.held bs h.held some)
     (c.in_ok-helds.ensures.told bs h.held some)
-    (noted-taken was.wanted b part was.skips some
-    (all-wanted was.wanted.name (name_of part) h.all))
+    (noted-taken was.wanted b part was.skips c.pass.new.self some
+    (all-wanted was.wanted.name (name_of part) h.all) c.pass.ensures)
 
 -- the taker failed, or memory ran out
 pub returns-in_err-helds-clause-left : goal.returns-in_err-helds-clause-left

@@ -23,10 +23,11 @@ returns-clause-added c = λ first ps h at.
     let was = c.args.self in
     let b = c.args.octets.now in
     let part = named c.in-Some.part in
-    gathers-packet first was ps h b c.in_ok-gatherings.gatherings c.take.new.self was.skips
+    gathers-packet first was ps h b c.in_ok-gatherings.gatherings c.take.new.self c.pass.new.self
     c.in_ok-take.ensures
     (c.in_ok-gatherings.ensures was.wanted.reading was.wanted.name ps b h.gives
     c.in-Some.ensures.wanted
     (c.missing.ensures ∙ missing-packet first was ps h b c.take.new.self c.in_ok-take.ensures)
     at c.in-Some.ensures.carried)
-    (noted-taken was.wanted b part was.skips c.in-Some.ensures.carried c.in-Some.ensures.wanted)
+    (noted-taken was.wanted b part was.skips c.pass.new.self c.in-Some.ensures.carried
+    c.in-Some.ensures.wanted c.pass.ensures)

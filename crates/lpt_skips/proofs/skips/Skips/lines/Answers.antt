@@ -10,7 +10,7 @@ use Rattle.lpt_skips.proofs.skips.Skips.lines.Goals.{in-Some+in_ok-push, in_defa
 
 pub loop-topic-preserved : goal.loop-topic-preserved
 loop-topic-preserved c =
-    let line = line_of c.args.wanted.now c.args.source c.args.self.now in
+    let line = line_of c.args.wanted.now c.args.source c.args.from c.args.self.now in
     elim c.match-branch-2.branch [
       | in-Some+in_ok-push w ↦
           ap (λ v. map string_bytes v.items) w.lines-is

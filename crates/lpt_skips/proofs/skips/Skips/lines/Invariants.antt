@@ -8,4 +8,4 @@ use Rattle.lpt_skips.proofs.skips.Skips.lines.Given as goal
 abbrev pub invariant-loop-topic : goal.invariant-loop-topic
 invariant-loop-topic l =
     map string_bytes l.lines.items
-    ≡ filter_map (line_of l.wanted l.source l.self) (take l.topic-index topics)
+    ≡ filter_map (line_of l.wanted l.source l.from l.self) (take l.topic-index topics)
