@@ -3,9 +3,9 @@ use Rattle.std.proofs.Common.{◌≡◌, ◌∙◌, ap, sym, ℕ, List, [], ◌�
 use Rattle.lpt_extract.specs.declared.wanted.Wanted.{Wanted}
 use Rattle.lpt_extract.specs.Extracts.{areas_in, areas_of, notices_of}
 use Rattle.lpt_extract.specs.Joined.{notices_by}
-use Rattle.lpt_extract.specs.Reports.{dump_in, report_in, said_in}
+use Rattle.lpt_extract.specs.Reports.{DumpOrPart, dump_in, report_in, said_in}
 
-module _ (w : Wanted) (b : List ℕ) (d : Option (ℕ × List ℕ)) (e : d ≡ dump_in w.layout b) where
+module _ (w : Wanted) (b : List ℕ) (d : Option DumpOrPart) (e : d ≡ dump_in w.layout b) where
   report-said : said_in w.apid d ≡ report_in w b
   unfolding report_in
   report-said = ap (said_in w.apid) e

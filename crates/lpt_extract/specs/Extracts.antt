@@ -24,7 +24,7 @@ use Rattle.lpt_extract.specs.declared.wanted.Wanted.{Wanted}
 use Rattle.lpt_extract.specs.Areas.{all_octets, extent, image, image_limit}
 use Rattle.lpt_extract.specs.Gaps.{gaps_in, is_given, AreGaps, Gap}
 use Rattle.lpt_extract.specs.Notices.{is_taken, notice, Hears}
-use Rattle.lpt_extract.specs.Reports.{Saying, Other, Foreign, Unread, Areas, report_in}
+use Rattle.lpt_extract.specs.Reports.{Saying, Other, APart, Foreign, Unread, Areas, report_in}
 use Rattle.lpt_extract.specs.Tallies.{IsTally}
 
 -- ---- what reports give
@@ -41,6 +41,7 @@ whole_areas areas = map area (filter is_taken areas)
 -- the areas that a report gives
 abbrev pub areas_of : Option Place → Saying → List Area
 areas_of at Other = []
+areas_of at APart = []
 areas_of at (Foreign apid) = []
 areas_of at (Unread n) = []
 areas_of at (Areas r) = if is_of at r.memory then whole_areas r.areas else []
@@ -54,6 +55,7 @@ areas_in w packets = flat_map (λ b. areas_of w.at (report_in w b)) packets
 -- of a report at a place
 abbrev pub notices_of : Option Place → (place : ℕ) → Saying → List Notice
 notices_of at n Other = []
+notices_of at n APart = notices.OfPart n ∷ []
 notices_of at n (Foreign apid) = notices.OtherApid apid ∷ []
 notices_of at n (Unread k) = notices.Unread k n ∷ []
 notices_of at n (Areas r) =
@@ -152,11 +154,12 @@ abbrev pub is_written : ExtractEnd → Bool
 is_written ends.Written = true
 is_written other = false
 
--- whether what is wanted was written, with no gap, nothing passed over and nothing but packets
+-- whether what is wanted was written, with no gap, nothing passed over, nothing but packets, and no
+-- part of a message among them that wasn't joined
 abbrev pub is_clean : Extracted → Bool
 is_clean x =
     is_written x.end && is_unbroken (gaps_in x.gaps) x.tally.passed
-    && (x.tally.damaged == 0) && (x.tally.stray == 0)
+    && (x.tally.damaged == 0) && (x.tally.stray == 0) && (x.tally.parts.count == 0)
 
 -- ---- faults
 

@@ -33,7 +33,8 @@ impl Extracted {
     ghost use Rattle.lpt_extract.specs.Gaps.{gaps_in};
 
     /// Whether what is wanted was written, no address of the image is missing, nothing was passed
-    /// over, and all octets were packets.
+    /// over, all octets were packets, and none of these carried a part of a message that wasn't
+    /// read.
     pub fn is_clean(&self) -> bool
         ensures { result ≡ is_clean self.now }
     {
@@ -43,6 +44,7 @@ impl Extracted {
             && tally.passed == 0
             && tally.damaged == 0
             && tally.stray == 0
+            && tally.parts.count == 0
     }
 
     // Whether there are no gaps.

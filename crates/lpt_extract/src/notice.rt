@@ -19,6 +19,9 @@ pub enum Notice {
     OtherMemory(u8),
     /// A dump report is of this application process, which isn't the one that is wanted.
     OtherApid(u16),
+    /// A packet carries a part of a message, and this wasn't read: it may be a dump report; the
+    /// packet's place.
+    OfPart(u64),
     /// As many octets as a header says are no packet.
     Damaged,
     /// An octet is part of no packet.

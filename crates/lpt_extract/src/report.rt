@@ -12,9 +12,10 @@ ghost use Rattle.lpt_extract.specs.Reports.{body_report, dump_by, dump_in, said_
 ghost use Rattle.lpt_extract.specs.ReportsInside.{found, load_area, said};
 
 use crate::seen_area::SeenArea;
+use lpt_events::part_kind;
 use lpt_layout::{Layout, PacketAs, SeenAs, read_packet_as, read_sealed_as, read_tm_as};
 use lpt_memory::fields;
-use lpt_packet::PacketFault;
+use lpt_packet::{Direction, PacketFault};
 use std::alloc::{AllocError, Global};
 
 /// The service type of memory management.
@@ -23,13 +24,13 @@ const MEMORY: u8 = 6;
 /// The message subtype of a report that answers a dump.
 const DUMP_REPORT: u8 = 6;
 
-// A dump report, as it was found.
+// A dump report, or what may become one.
 #[derive(Clone, Copy)]
-pub(crate) struct Dump<'a> {
-    // Its application process identifier.
-    pub(crate) apid: u16,
-    // Its body.
-    pub(crate) body: &'a [u8],
+pub(crate) enum Dump<'a> {
+    // A report of this APID, with this body.
+    Report(u16, &'a [u8]),
+    // A part of a message, of this APID.
+    PartOf(u16),
 }
 
 /// What octets say of a memory.
@@ -37,6 +38,8 @@ pub(crate) struct Dump<'a> {
 pub(crate) enum Report<'a> {
     /// They are no dump report.
     Other,
+    /// They carry a part of a message, which may be one.
+    OfPart,
     /// They are one of this other APID.
     Foreign(u16),
     /// They are one whose body, of so many octets, isn't read.
@@ -45,7 +48,8 @@ pub(crate) enum Report<'a> {
     Areas(u8, Vec<SeenArea<'a>>),
 }
 
-// What a dump report says to whom wants those of this APID. The only error is out of memory.
+// What that says which was found to whom wants dump reports of this APID. The only error is out of
+// memory.
 pub(crate) fn read_report<'a>(
     alloc: Global,
     apid: u16,
@@ -53,17 +57,16 @@ pub(crate) fn read_report<'a>(
 ) -> Result<Report<'a>, AllocError>
     ensures { IfOk result (λ r. said r ≡ said_in apid (found dump.entry)) }
 {
-    let Some(dump) = dump else {
-        return Ok(Report::Other);
-    };
-    if dump.apid != apid {
-        return Ok(Report::Foreign(dump.apid));
+    match dump {
+        Some(Dump::Report(of, body)) if of == apid => read_body(alloc, body),
+        Some(Dump::Report(of, _)) => Ok(Report::Foreign(of)),
+        Some(Dump::PartOf(of)) if of == apid => Ok(Report::OfPart),
+        Some(Dump::PartOf(_)) | None => Ok(Report::Other),
     }
-    read_body(alloc, dump.body)
 }
 
-// The dump report that octets are by this layout. The checksum of sealed ones was taken before, and
-// is right; it isn't taken again.
+// The dump report or the part that octets are by this layout. The checksum of sealed ones was taken
+// before, and is right; it isn't taken again.
 #[tactic(auto, unfolding(crate::specs::Reports::dump_in))]
 pub(crate) fn dump_in<'a>(layout: &Layout, octets: &'a [u8], is_sealed: bool) -> Option<Dump<'a>>
     requires { is_sealed ≡ true → verdict octets.now ≢ Err Checksum }
@@ -95,13 +98,14 @@ fn dump_in_packet<'a>(layout: &Layout, packet: &PacketAs<'a>) -> Option<Dump<'a>
     let Ok(message) = read_tm_as(layout, packet) else {
         return None;
     };
-    if message.service != MEMORY || message.subtype != DUMP_REPORT {
-        return None;
+    let (service, subtype) = (message.service, message.subtype);
+    if service == MEMORY && subtype == DUMP_REPORT {
+        return Some(Dump::Report(message.apid, message.body));
     }
-    Some(Dump {
-        apid: message.apid,
-        body: message.body,
-    })
+    match part_kind(Direction::Down, service, subtype) {
+        Some(_) => Some(Dump::PartOf(message.apid)),
+        None => None,
+    }
 }
 
 // What the body of a dump report says. The only error is out of memory.

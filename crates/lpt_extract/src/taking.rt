@@ -110,8 +110,8 @@ pub(crate) fn take_packet<K: Sink, L: Listener>(
     take_dump(alloc, wanted, place, dump, holding, out, listener)
 }
 
-// Takes what a dump report gives that was found in the packet at this place of a stream, or
-// nothing, where none was: the areas that are wanted of it are written or put into the image, and
+// Takes what that gives which was found in the packet at this place of a stream, or nothing, where
+// nothing was: the areas that are wanted of a dump report are written or put into the image, and
 // the listener is told.
 fn take_dump<K: Sink, L: Listener>(
     alloc: Global,
@@ -144,6 +144,10 @@ fn take_dump<K: Sink, L: Listener>(
     };
     match report {
         Report::Other => Ok(()),
+        Report::OfPart => {
+            holding.tell(listener, Notice::OfPart(place));
+            Ok(())
+        }
         Report::Foreign(of) => {
             holding.tell(listener, Notice::OtherApid(of));
             Ok(())

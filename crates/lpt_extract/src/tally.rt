@@ -12,19 +12,22 @@ pub struct Tally {
     pub memories: Others,
     /// Dump reports of other application processes.
     pub apids: Others,
+    /// Packets that carry a part of a message which wasn't read, and may be a dump report; of the
+    /// first of them its place.
+    pub parts: Others,
     /// Runs of octets that are no packets, each as long as its header says.
     pub damaged: u64,
     /// Octets that are part of no packet, nor of such a run.
     pub stray: u64,
 }
 
-/// How many reports are of others than what is wanted.
+/// How many weren't taken for one reason, and what is known of the first of them.
 #[derive(Clone, Copy)]
 pub struct Others {
     /// How many.
     pub count: u64,
-    /// Of which one the first of them is.
-    pub first: Option<u16>,
+    /// Of which memory or APID the first of them is, or its place.
+    pub first: Option<u64>,
 }
 
 impl Tally {
@@ -40,6 +43,7 @@ impl Tally {
             passed: 0,
             memories: Others::new(),
             apids: Others::new(),
+            parts: Others::new(),
             damaged: 0,
             stray: 0,
         }
@@ -54,8 +58,9 @@ impl Tally {
             Notice::PastEnd(_, _) => self.passed = self.passed.saturating_add(1),
             Notice::WrongChecksum(_, _) => self.passed = self.passed.saturating_add(1),
             Notice::Unread(_, _) => self.passed = self.passed.saturating_add(1),
-            Notice::OtherMemory(memory) => self.memories.add(u16::from(memory)),
-            Notice::OtherApid(apid) => self.apids.add(apid),
+            Notice::OtherMemory(memory) => self.memories.add(u64::from(memory)),
+            Notice::OtherApid(apid) => self.apids.add(u64::from(apid)),
+            Notice::OfPart(place) => self.parts.add(place),
             Notice::Damaged => self.damaged = self.damaged.saturating_add(1),
             Notice::Stray => self.stray = self.stray.saturating_add(1),
         }
@@ -77,7 +82,7 @@ impl Others {
     }
 
     // Counts one more.
-    fn add(&mut self, one: u16)
+    fn add(&mut self, one: u64)
         ensures { (xs : List ℕ) → AreOthers xs self.old → AreOthers (xs ++ one ∷ []) self.new }
     {
         self.count = self.count.saturating_add(1);

@@ -75,6 +75,18 @@ impl<R: Machine> TakerAs for LayoutLosses<'_, R> {
     }
 }
 
+/// How parts that come down are read: by the layouts of a file if one is given, else by the
+/// profile.
+pub fn reading_down(config: &Config, layouts: &Layouts, words: &ExtractWords<'_>) -> Reading
+    requires { IsConfig config.now }
+{
+    if words.layout.is_some() {
+        reading_of(layouts, config.apid, Direction::Down)
+    } else {
+        Reading::own(Direction::Down, config.apid, config.part_size)
+    }
+}
+
 /// Writes the octets that dump reports hold which may come in parts: by the layouts of a file if
 /// one is given, else by the profile. Beside what that gave it says whether parts never became
 /// whole, which standard error was told.
@@ -91,7 +103,7 @@ pub fn extract_parts<R: Machine, K: Sink>(
     requires { IsConfig config.now }
 {
     if words.layout.is_some() {
-        let reading = reading_of(layouts, config.apid, Direction::Down);
+        let reading = reading_down(config, layouts, words);
         extract_as(
             rt,
             voice,

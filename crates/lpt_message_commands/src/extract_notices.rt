@@ -43,9 +43,11 @@ fn notice_text(alloc: Global, notice: Notice) -> Result<Option<String>, AllocErr
                 "a dump report passed over at octet {place}: its body of {len} {octets} isn't read"
             )?
         }
-        Notice::OtherMemory(_) | Notice::OtherApid(_) | Notice::Damaged | Notice::Stray => {
-            return Ok(None);
-        }
+        Notice::OtherMemory(_)
+        | Notice::OtherApid(_)
+        | Notice::OfPart(_)
+        | Notice::Damaged
+        | Notice::Stray => return Ok(None),
     };
     Ok(Some(text))
 }

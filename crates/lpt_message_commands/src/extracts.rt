@@ -2,9 +2,9 @@
 
 ghost use Rattle.lpt_events.specs.Configs.{IsConfig};
 
-use crate::extract_joins::extract_parts;
+use crate::extract_joins::{extract_parts, reading_down};
 use crate::extract_notices::Telling;
-use lpt_carried::Layouts;
+use lpt_carried::{Layouts, Reading};
 use lpt_command_line::ExtractWords;
 use lpt_events::Config;
 use lpt_extract::{ExtractEnd, Extracted, Others, Place, Tally, Wanted, extract_stream};
@@ -13,6 +13,7 @@ use lpt_io::{
     opened_packets, output, packets_end, tell_no_packets, tell_place, tell_text,
 };
 use lpt_packet::Direction;
+use lpt_skips::{Skips, Wanted as Parts};
 use lpt_text::StreamFault;
 use std::alloc::{AllocError, Global};
 use std::collections::BTreeMap;
@@ -77,7 +78,12 @@ fn extract_packets<R: Machine>(
     let failed = matches!(extracted, Err(StreamFault::Read));
     let failure = packets_end(rt, voice, source, &words.files, failed);
     let finished = first_failure(finish(rt, out), failure);
-    let status = status_of(rt, wanted, finished, &extracted);
+    let joined = if words.join {
+        Some(reading_down(config, layouts, words))
+    } else {
+        None
+    };
+    let status = status_of(rt, wanted, joined, finished, &extracted);
     drop(extracted);
     match status {
         Ok(Status::Done) if lost => Ok(Status::Refused),
@@ -85,16 +91,18 @@ fn extract_packets<R: Machine>(
     }
 }
 
-// The status of an extraction that ended so, where its output was finished.
+// The status of an extraction that ended so, where its output was finished, and parts were joined
+// that are read so, or none were.
 fn status_of(
     rt: &(impl Eprint + AllocGlobal),
     wanted: &Wanted,
+    joined: Option<Reading>,
     finished: Result<(), Failure>,
     extracted: &Result<Extracted, StreamFault>,
 ) -> Result<Status, Failure> {
     finished?;
     match extracted {
-        Ok(extracted) => extract_status(rt, wanted, extracted),
+        Ok(extracted) => extract_status(rt, wanted, joined, extracted),
         Err(fault) => Err(Failure::from(*fault)),
     }
 }
@@ -116,10 +124,11 @@ fn place(words: &ExtractWords<'_>) -> Result<Option<Place>, ()> {
 }
 
 // The status of an extraction that ended so, after it was told why nothing was written, what is
-// missing, and what was no packet.
+// missing, which reports weren't read, and what was no packet.
 fn extract_status(
     rt: &(impl Eprint + AllocGlobal),
     wanted: &Wanted,
+    joined: Option<Reading>,
     extracted: &Extracted,
 ) -> Result<Status, Failure> {
     match extracted.end {
@@ -131,6 +140,8 @@ fn extract_status(
         ExtractEnd::Nothing => tell_nothing(rt, wanted, &extracted.tally),
         ExtractEnd::TooLarge(_) => {}
     }
+    tell_others(rt, extracted.tally.apids, "APID");
+    tell_parts(rt, joined, extracted.tally.parts);
     tell_no_packets(rt, "", extracted.tally.damaged, extracted.tally.stray);
     match extracted.end {
         ExtractEnd::TooLarge(size) => {
@@ -162,16 +173,60 @@ fn tell_gaps(rt: &(impl Eprint + AllocGlobal), wanted: &Wanted, gaps: &BTreeMap<
     }
 }
 
-// Tells that nothing was written, and which reports were of others than what is wanted.
+// Tells that nothing was written, and which reports were of another memory than what is wanted.
 fn tell_nothing(rt: &(impl Eprint + AllocGlobal), wanted: &Wanted, tally: &Tally) {
     tell_text(rt, nothing_text(rt.alloc(), wanted));
-    for (others, of) in [(tally.apids, "APID"), (tally.memories, "memory")] {
-        let Others { count, first } = others;
-        if let Some(first) = first {
-            let text = format!(in rt.alloc();
-                "dump reports of another {of}: {count}, the first of {first}"
-            );
-            tell_text(rt, text);
+    tell_others(rt, tally.memories, "memory");
+}
+
+// Tells how many reports were of another memory or APID, and of which the first was.
+fn tell_others(rt: &(impl Eprint + AllocGlobal), others: Others, of: &str) {
+    let Others { count, first } = others;
+    if let Some(first) = first {
+        let text = format!(in rt.alloc();
+            "dump reports of another {of}: {count}, the first of {first}"
+        );
+        tell_text(rt, text);
+    }
+}
+
+// Tells how many parts of messages weren't read, and where the first is: none was joined, or those
+// were that are read so.
+fn tell_parts(rt: &(impl Eprint + AllocGlobal), joined: Option<Reading>, parts: Others) {
+    let Others { count, first } = parts;
+    let Some(place) = first else {
+        return;
+    };
+    match joined {
+        Some(reading) => tell_unread(rt, reading, count, place),
+        None if count == 1 => tell_text(
+            rt,
+            format!(in rt.alloc();
+                "1 part of a message, at octet {place}: --join joins what may be a dump report"
+            ),
+        ),
+        None => tell_text(
+            rt,
+            format!(in rt.alloc();
+                "{count} parts of messages, the first at octet {place}: \
+                 --join joins what may be dump reports"
+            ),
+        ),
+    }
+}
+
+// Tells how many parts weren't read, in the words of `join`.
+fn tell_unread(rt: &(impl Eprint + AllocGlobal), reading: Reading, count: u64, place: u64) {
+    let mut skips = Skips::new();
+    skips.unread = count;
+    skips.unread_at = Some(place);
+    let parts = Parts {
+        reading,
+        name: None,
+    };
+    if let Ok(lines) = skips.lines(rt.alloc(), &parts, 0, 0) {
+        for line in lines {
+            tell_place(rt, line.as_str());
         }
     }
 }

@@ -10,13 +10,23 @@ use Rattle.lpt_extract.specs.ReportsInside.{found, said}
 use Rattle.lpt_extract.proofs.GiveLemmas.{areas-said, held-other, held-same}
 use Rattle.lpt_extract.proofs.taking.take_dump.Goals as goal
 
+-- it is a part of a message
+pub returns-in-OfPart-clause-held : goal.returns-in-OfPart-clause-held
+returns-in-OfPart-clause-held g c = λ areas ns h.
+    let at = c.args.wanted.now.at in
+    subst (λ r. Held at (areas ++ areas_of at r) (ns ++ notices_of at c.args.place r)
+    c.tell.new.self)
+    (ap said (sym c.in-OfPart.is) ∙ c.in-Ok.ensures)
+    (held-same at areas _ c.tell.new.self (c.tell.ensures.held at areas ns h))
+
 -- it is of another application process
 pub returns-in-Foreign-clause-held : goal.returns-in-Foreign-clause-held
 returns-in-Foreign-clause-held g c = λ areas ns h.
     let at = c.args.wanted.now.at in
-    subst (λ r. Held at (areas ++ areas_of at r) (ns ++ notices_of at c.args.place r) c.tell.new.self)
+    subst (λ r. Held at (areas ++ areas_of at r) (ns ++ notices_of at c.args.place r)
+    c.tell-in-Foreign.new.self)
     (ap said (sym c.in-Foreign.is) ∙ c.in-Ok.ensures)
-    (held-same at areas _ c.tell.new.self (c.tell.ensures.held at areas ns h))
+    (held-same at areas _ c.tell-in-Foreign.new.self (c.tell-in-Foreign.ensures.held at areas ns h))
 
 -- its body isn't read
 pub returns-in-Unread-clause-held : goal.returns-in-Unread-clause-held
