@@ -10,7 +10,7 @@ use crate::ground_sources::source_of;
 use crate::ground_told::{Teller, chart_title, title_of};
 use crate::ground_wires::{Ears, Wire, close, fifo_wire, hear, output_wire};
 use crate::locking::locked;
-use crate::outputs::overwritten;
+use crate::outputs::{check_chart, overwritten};
 use crate::pieces::{Piece, pieces_of};
 use crate::uplinks::LONGEST_LOAD;
 use lpt_command_line::{GroundWords, Job, SettingWords};
@@ -30,9 +30,9 @@ use std::time::Clock;
 
 /// Carries what is asked of a memory to its end, as the process of this number.
 ///
-/// Errors: `Config` if the configuration is refused; `Read` if a file or standard input can't be
-/// read, or the job's file is another job's; `Write` if the requests or a file can't be written;
-/// `Memory`.
+/// Errors: `Config` if the configuration is refused, or the picture's file is used otherwise;
+/// `Read` if a file or standard input can't be read, or the job's file is another job's; `Write`
+/// if the requests or a file can't be written; `Memory`.
 pub fn ground<T: Threads + Wait + Clock + Copy + Drop + Send + 'static>(
     rt: &HostRuntime,
     threads: &T,
@@ -42,6 +42,7 @@ pub fn ground<T: Threads + Wait + Clock + Copy + Drop + Send + 'static>(
     words: &GroundWords<'_>,
 ) -> Result<Status, Failure> {
     let config = config_of(rt, settings)?;
+    check_chart(rt, settings, words, None)?;
     if let Some(fault) = overwritten(rt, settings, words, None) {
         return Ok(word_refused(rt, rt.alloc(), &fault));
     }

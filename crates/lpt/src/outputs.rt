@@ -1,7 +1,8 @@
-//! Files that a dump would overwrite, though the same command uses them otherwise.
+//! Files that a dump or a picture would overwrite, though the same command uses them otherwise.
 
 use crate::same_files::is_same;
 use lpt_command_line::{GroundWords, Job, SettingWords, SourceWords, SpacecraftWords, WordFault};
+use lpt_io::{Failure, Fault};
 
 /// The first file of a dump that is another one of it as well, or that these words read or keep,
 /// those of the spacecraft among them if there are some.
@@ -26,6 +27,38 @@ pub fn overwritten<'a>(
         }
     }
     None
+}
+
+/// Refuses a picture in a file of an area or of a list, or one that these words keep or read.
+///
+/// Errors: `Config`.
+pub fn check_chart(
+    rt: &HostRuntime,
+    settings: &SettingWords<'_>,
+    words: &GroundWords<'_>,
+    craft: Option<&SpacecraftWords<'_>>,
+) -> Result<(), Failure> {
+    let Some(file) = words.chart else {
+        return Ok(());
+    };
+    for area in &words.areas {
+        if is_same(rt, area.file, file) {
+            return Err(chart_refused(rt, file, "an area"));
+        }
+    }
+    if is_at(rt, words.list, file) {
+        return Err(chart_refused(rt, file, "LIST"));
+    }
+    match used_by(rt, settings, words, craft, file) {
+        Some(option) => Err(chart_refused(rt, file, option)),
+        None => Ok(()),
+    }
+}
+
+// That this one has the picture's file already.
+fn chart_refused(rt: &HostRuntime, file: &str, other: &str) -> Failure {
+    let place = format!(in rt.alloc(); "--chart {file}: it is the file of {other} as well");
+    Failure::at(Fault::Config, place)
 }
 
 // The option that names this file, if one does.

@@ -7,7 +7,7 @@ use crate::ground_notes::GroundNotes;
 use crate::ground_told::Teller;
 use crate::ground_wires::hear_source;
 use crate::grounds::{Ready, job_lock, put_over, ready_of};
-use crate::outputs::overwritten;
+use crate::outputs::{check_chart, overwritten};
 use crate::pieces::{Piece, pieces_of};
 use crate::pipe::{PipeReader, PipeWriter, Unread, pipe};
 use crate::serving::{Begun, begun_craft, serve};
@@ -44,6 +44,7 @@ where
         ..*settings
     };
     let config = config_of(rt, &settings)?;
+    check_chart(rt, &settings, &words.ground, Some(&words.craft))?;
     if let Some(fault) = overwritten(rt, &settings, &words.ground, Some(&words.craft)) {
         return Ok(word_refused(rt, rt.alloc(), &fault));
     }
