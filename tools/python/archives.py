@@ -190,7 +190,7 @@ def sizes(want, driver) -> None:
             want("number 0", raised(call, octets, part_size=SIZE), f"{its}: the packets may have another layout")
     first = f.write_telecommand(dataclasses.replace(f.read_telecommand(made[0]), body=bytes.fromhex("00070002") + bytes(16)))
     _, _, said = driver.run(["join", "up", *WORDS], first)
-    want("a first part of number 2, by the program", said[1:], ["lpt: up: 1 part doesn't fit part_size = 8"])
+    want("a first part of number 2, by the program", said[1:], ["lpt: up: 1 part doesn't fit part_size = 8, at octet 0"])
     want("a first part of number 2", raised(forgesilver.join, first, part_size=SIZE), "1 part doesn't fit part_size=8")
 
 
