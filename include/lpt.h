@@ -142,7 +142,7 @@ enum LptFault {
     /* Of an end, a pass or a reader: nothing is left of it, as after a longjmp out of a memory
        function; in Python: it was closed. */
     LPT_E_EMPTY = 106,
-    /* Of an end: no number is left for a job, or for a restart. */
+    /* Of an end: its 64-bit count of released requests, or of restarts, is at its end. */
     LPT_E_NO_NUMBER = 108,
     /* Of an end or a pass: there is nothing to copy, to send, to drop or to tell. */
     LPT_E_NOTHING = 109,

@@ -8,9 +8,9 @@
  * lpt_reader_free takes it back. Between them the program hands over octets by lpt_reader_feed, and
  * then calls lpt_reader_next until that returns LPT_E_MORE; behind the last octets it calls
  * lpt_reader_end, and then lpt_reader_next until it tells LPT_ITEM_END. What is told doesn't depend
- * on how the archive was cut. Between calls with all told, a reader holds fewer octets than
- * LPT_LOOKAHEAD and the last call's together, in a buffer that doubles: a pool needs four times
- * that.
+ * on how the archive was cut. Once all was told, a reader holds fewer than LPT_LOOKAHEAD + n
+ * octets, n being the length of the piece that was fed last. Its buffer doubles, so a pool needs
+ * 4 * (LPT_LOOKAHEAD + n).
  *
  * Each call returns LPT_DONE, or the number of the first thing that is wrong, in the order of its
  * comment. If it isn't LPT_DONE, the call has written nothing through a pointer but what its comment
