@@ -35,7 +35,7 @@ impl CameAs {
     ghost use Rattle.lpt_packet.specs.Sizes.{longest_packet};
     ghost use Rattle.lpt_layout.specs.Parts.{piece};
     ghost use Rattle.lpt_layout_join.specs.Came.{Came, nothing_came, are_of, has_part, highest, is_against, last_of, message_of, octets_of, size_of, step};
-    ghost use Rattle.lpt_layout_join.specs.CameInside.{Shows, part_at};
+    ghost use Rattle.lpt_layout_join.specs.CameInside.{Shows, last_in, part_at};
 
     /// Nothing has come.
     pub fn new(alloc: Global) -> CameAs
@@ -189,6 +189,28 @@ impl CameAs {
         requires { 1 ≤ number }
         ensures { (c : Came) → Shows c self.now → result ≡ is_some (octets_of c.parts number) }
     {
+        self.keeps(number)
+    }
+
+    /// Whether the octets of a part of this number are kept.
+    pub fn keeps(&self, number: u32) -> bool
+        requires { 1 ≤ number }
+        ensures { result ≡ is_some (part_at self.now number) }
+    {
         has_slot(&self.slots, number as usize - 1)
+    }
+
+    /// The last part that is kept.
+    pub fn kept_last(&self) -> Option<LastPart>
+        ensures { result ≡ last_in self.now }
+    {
+        self.last
+    }
+
+    /// Up to which number parts are kept.
+    pub fn kept_highest(&self) -> usize
+        ensures { result ≡ length self.now.slots.items }
+    {
+        self.slots.len()
     }
 }
