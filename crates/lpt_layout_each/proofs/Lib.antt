@@ -1,6 +1,7 @@
 pub mod EachLemmas
 pub mod FitLemmas
 pub mod HeldsLemmas
+pub mod LeftLemmas
 mod OrderLemmas
 mod OwnCourseLemmas
 mod OwnEachLemmas

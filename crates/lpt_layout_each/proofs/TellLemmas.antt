@@ -162,7 +162,7 @@ left-next r any bs first old new n g heard hear hears h pops gets told = record 
   still q k false e = e
 
 -- what is left of the names at which something is kept is what is left of each
-leaves-kept : (r : Reading) (any : Bool) (bs : List (List ℕ)) (g : HeldsAs)
+pub leaves-kept : (r : Reading) (any : Bool) (bs : List (List ℕ)) (g : HeldsAs)
     → HoldsEach r any bs g
     → Leaves r any bs (flat_map (left_of r any bs) (keys g.kept))
 leaves-kept r any bs g each = record {

@@ -1,6 +1,7 @@
 pub mod Eaches
 pub mod Helds
 pub mod Laws
+pub mod Lefts
 pub mod News
 pub mod Own
 pub mod Streams

@@ -6,7 +6,8 @@
 //! come again late do no harm, and a next message that has parts of the last one is joined too.
 //!
 //! The main types are `NewsAs`, and `TakerAs`, who is told of them. The first call is `each_as`.
-//! Who does something else with each packet, too, keeps `HeldsAs`, and calls `leave_as` at the end.
+//! Who does something else with each packet, too, keeps `HeldsAs`, and at the end calls `leave_as`,
+//! or `pop_left` for one name after the other.
 #![tactic(auto)]
 
 mod course;
@@ -15,6 +16,7 @@ mod held;
 mod helds;
 pub mod laws;
 mod leaving;
+mod lefts;
 mod news;
 mod run;
 mod turn;
@@ -22,6 +24,7 @@ mod turn;
 pub use each::each_as;
 pub use helds::HeldsAs;
 pub use leaving::leave_as;
+pub use lefts::pop_left;
 pub use lpt_carried::{CarriedPart, Name, Reading};
 pub use lpt_layout::Octets;
 pub use lpt_layout_join::{CameAs, MisfitAs};
