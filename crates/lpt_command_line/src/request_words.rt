@@ -2,7 +2,7 @@
 
 ghost use Rattle.std.specs.Prelude.{◌<◌, ◌≤◌, IfOk};
 
-use crate::file_words::count_in;
+use crate::file_words::{STANDARD, count_in};
 use crate::number_words::number_in;
 use crate::word_fault::WordFault;
 use clap::ArgMatches;
@@ -116,12 +116,20 @@ fn areas_in<'a>(
             let [address, file] = pair else {
                 return Err(WordFault::Missing);
             };
+            if *file == STANDARD && has_input(&areas) {
+                return Err(WordFault::SharedInput);
+            }
             if areas.push((address_in(address)?, *file)).is_err() {
                 return Err(WordFault::Memory);
             }
         }
     }
     Ok(areas)
+}
+
+// Whether one of these areas is loaded from standard input.
+fn has_input(areas: &[(u32, &str)]) -> bool {
+    areas.iter().any(|(_, file)| *file == STANDARD)
 }
 
 // The places of a dump or a check.

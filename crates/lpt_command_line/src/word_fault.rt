@@ -47,6 +47,8 @@ pub enum WordFault<'a> {
     PickedTwice(&'a str),
     /// Standard input is to be read twice.
     Twice,
+    /// Standard input is to be the octets of two areas.
+    SharedInput,
     /// Standard input is to be a file of octets.
     NoInput,
     /// Two areas are to become this file.
@@ -93,16 +95,13 @@ impl WordFault<'_> {
             WordFault::Order { from, to } => {
                 format!(in alloc; "'--from {from}' stands after '--to {to}'")
             }
-            WordFault::NoMemory(word) => {
-                format!(in alloc;
-                    "invalid value '{word}' for '--memory': not ID=FILE with an ID from 0 to 255"
-                )
-            }
+            WordFault::NoMemory(word) => no_memory(alloc, word),
             WordFault::Pick { word, most } => no_pick(alloc, word, *most),
             WordFault::PickedTwice(word) => {
                 format!(in alloc; "the ID of '--parts {word}' has a list already")
             }
             WordFault::Twice => format!(in alloc; "'-' stands twice, and can be read only once"),
+            WordFault::SharedInput => shared_input(alloc),
             WordFault::NoInput => no_input(alloc),
             WordFault::SameFile(file) => format!(in alloc; "two areas would become {file}"),
             WordFault::Overwritten { file, option } => {
@@ -139,9 +138,19 @@ fn no_pick(alloc: Global, word: &str, most: u32) -> Result<String, AllocError> {
     )
 }
 
+// What is reported of a word that is no memory's identifier with a file.
+fn no_memory(alloc: Global, word: &str) -> Result<String, AllocError> {
+    format!(in alloc; "invalid value '{word}' for '--memory': not ID=FILE with an ID from 0 to 255")
+}
+
 // What is reported of a word that is no percentage.
 fn no_odds(alloc: Global, word: &str) -> Result<String, AllocError> {
     format!(in alloc; "invalid value '{word}' for '<P>': not a percentage from 0% to 100%")
+}
+
+// What is reported where standard input is to be the octets of two areas.
+fn shared_input(alloc: Global) -> Result<String, AllocError> {
+    format!(in alloc; "'-' can be read for one area only, and is FILE if no path is given")
 }
 
 // What is reported where standard input is to be a file of octets.
