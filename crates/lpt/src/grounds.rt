@@ -132,6 +132,15 @@ fn tell_fault(rt: &(impl Eprint + AllocGlobal), words: &GroundWords<'_>, fault: 
         PlanFault::TooLong if words.large.is_some() => {
             format!(in rt.alloc(); "one step loads no more than {LONGEST_LOAD} octets")
         }
+        PlanFault::TooMany(many) => format!(in rt.alloc();
+            "{many} requests are more than a pass has, 16384: give a greater --part-size"
+        ),
+        PlanFault::Narrow => format!(in rt.alloc();
+            "a dump's report is longer than a packet of these parts: give a greater --part-size"
+        ),
+        PlanFault::NarrowCheck => format!(in rt.alloc();
+            "a check's report is longer than a packet of these parts: give --part-size 6 or more"
+        ),
         fault => format!(in rt.alloc(); "{fault}"),
     };
     tell_text(rt, text);
@@ -140,10 +149,8 @@ fn tell_fault(rt: &(impl Eprint + AllocGlobal), words: &GroundWords<'_>, fault: 
 // That two areas share octets, so that it isn't known which of both a memory has then.
 fn tell_overlap(rt: &(impl Eprint + AllocGlobal), one: &Places, other: &Places) {
     let (one, other) = (one.address, other.address);
-    tell_text(
-        rt,
-        format!(in rt.alloc(); "the areas at {one} and at {other} overlap"),
-    );
+    let text = format!(in rt.alloc(); "the areas at {one} and at {other} overlap");
+    tell_text(rt, text);
 }
 
 // Carries out what is ready, and keeps what is settled, if that is asked for.
