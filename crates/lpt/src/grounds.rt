@@ -46,13 +46,16 @@ pub fn ground<T: Threads + Wait + Clock + Copy + Drop + Send + 'static>(
     if let Some(fault) = overwritten(rt, settings, words, None) {
         return Ok(word_refused(rt, rt.alloc(), &fault));
     }
+    let Some(pieces) = pieces_of(rt, words)? else {
+        return Ok(Status::Unreadable);
+    };
     let lock = job_lock(rt, process, words)?;
-    let ended = carry_locked(rt, threads, process, voice, &config, words);
+    let ended = carry_locked(rt, threads, process, voice, &config, words, pieces);
     drop(lock);
     ended
 }
 
-// The same, if no other process uses the job's file.
+// Carries these areas, if no other process uses the job's file.
 fn carry_locked<T: Threads + Wait + Clock + Copy + Drop + Send + 'static>(
     rt: &HostRuntime,
     threads: &T,
@@ -60,12 +63,10 @@ fn carry_locked<T: Threads + Wait + Clock + Copy + Drop + Send + 'static>(
     voice: Voice,
     config: &Config,
     words: &GroundWords<'_>,
+    pieces: Vec<Piece>,
 ) -> Result<Status, Failure>
     requires { IsConfig config.now }
 {
-    let Some(pieces) = pieces_of(rt, words)? else {
-        return Ok(Status::Unreadable);
-    };
     match ready_of(rt, process, config, words, pieces)? {
         Some(ready) => carry_ready(rt, threads, voice, words, ready),
         None => Ok(Status::Refused),

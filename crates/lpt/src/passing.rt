@@ -48,13 +48,27 @@ where
     if let Some(fault) = overwritten(rt, &settings, &words.ground, Some(&words.craft)) {
         return Ok(word_refused(rt, rt.alloc(), &fault));
     }
+    let Some(pieces) = pieces_of(rt, &words.ground)? else {
+        return Ok(Status::Unreadable);
+    };
+    if !is_kept(words, &pieces) && words.ground.kept.is_some() {
+        return Ok(word_refused(rt, rt.alloc(), &WordFault::Unkept));
+    }
     let lock = job_lock(rt, process, &words.ground)?;
-    let ended = fly_locked(rt, threads, process, voice, &settings, words, &config);
+    let ended = fly_locked(
+        rt,
+        threads,
+        process,
+        voice,
+        &settings,
+        words,
+        (&config, pieces),
+    );
     drop(lock);
     ended
 }
 
-// The same, if no other process uses the job's file.
+// Carries these areas under this configuration, if no other process uses the job's file.
 fn fly_locked<T>(
     rt: &HostRuntime,
     threads: &T,
@@ -62,19 +76,14 @@ fn fly_locked<T>(
     voice: Voice,
     settings: &SettingWords<'_>,
     words: &PassWords<'_>,
-    config: &Config,
+    asked: (&Config, Vec<Piece>),
 ) -> Result<Status, Failure>
 where
     T: Threads + Wait + Clock + Copy + Drop + Send + Sync + 'static,
-    requires { IsConfig config.now }
+    requires { IsConfig asked.0.now }
 {
-    let Some(pieces) = pieces_of(rt, &words.ground)? else {
-        return Ok(Status::Unreadable);
-    };
+    let (config, pieces) = asked;
     let kept = is_kept(words, &pieces);
-    if !kept && words.ground.kept.is_some() {
-        return Ok(word_refused(rt, rt.alloc(), &WordFault::Unkept));
-    }
     let craft = begun_craft(rt, process, settings, &words.craft)?;
     match ready_of(rt, process, config, &words.ground, pieces)? {
         Some(ready) => {
