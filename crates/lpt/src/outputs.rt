@@ -55,8 +55,8 @@ pub fn check_chart(
     }
 }
 
-// That this one has the picture's file already.
-fn chart_refused(rt: &HostRuntime, file: &str, other: &str) -> Failure {
+/// That this one has the picture's file already.
+pub(crate) fn chart_refused(rt: &HostRuntime, file: &str, other: &str) -> Failure {
     let place = format!(in rt.alloc(); "--chart {file}: it is the file of {other} as well");
     Failure::at(Fault::Config, place)
 }

@@ -1,6 +1,8 @@
 //! A list of files that are loaded, each to an address of a memory.
 
+use crate::outputs::chart_refused;
 use crate::pieces::Piece;
+use crate::same_files::is_same;
 use lpt_io::{Failure, Fault, STANDARD, file_at, read_file, tell_text};
 use lpt_settings::{Reason, Wrong, complain_of_toml, has_only, number, unknown_key};
 use std::alloc::{AllocError, Global};
@@ -57,12 +59,16 @@ struct Patch<'t> {
     verify: bool,
 }
 
-/// What the list at this path has loaded. None if it is refused, after standard error was told
-/// where and why.
+/// What the list at this path has loaded, beside a picture that is written to this file, if one is.
+/// None if the list is refused, after standard error was told where and why.
 ///
 /// Errors: `Read` if the list or one of its files can't be read; `Config` if the list has more than
-/// 1,048,576 octets; `Memory`.
-pub fn patches_at(rt: &HostRuntime, path: &str) -> Result<Option<Vec<Piece>>, Failure> {
+/// 1,048,576 octets, or the picture's file is one of a patch; `Memory`.
+pub fn patches_at(
+    rt: &HostRuntime,
+    path: &str,
+    chart: Option<&str>,
+) -> Result<Option<Vec<Piece>>, Failure> {
     let octets = read_file(rt, path)?;
     let text = match str::from_utf8(octets.as_slice()) {
         Ok(text) => text,
@@ -73,7 +79,7 @@ pub fn patches_at(rt: &HostRuntime, path: &str) -> Result<Option<Vec<Piece>>, Fa
         }
     };
     match toml::table_from_str(rt.alloc(), text) {
-        Ok(table) => patches_in(rt, path, &table),
+        Ok(table) => patches_in(rt, path, chart, &table),
         Err(error) => {
             let Ok(complaint) = complain_of_toml(rt.alloc(), text, &error) else {
                 return Err(Failure::from(Fault::Memory));
@@ -86,7 +92,12 @@ pub fn patches_at(rt: &HostRuntime, path: &str) -> Result<Option<Vec<Piece>>, Fa
 }
 
 // What the list with this table has loaded.
-fn patches_in(rt: &HostRuntime, path: &str, table: &Table) -> Result<Option<Vec<Piece>>, Failure> {
+fn patches_in(
+    rt: &HostRuntime,
+    path: &str,
+    chart: Option<&str>,
+    table: &Table,
+) -> Result<Option<Vec<Piece>>, Failure> {
     let values = match values_in(table) {
         Ok(values) => values,
         Err(flaw) => return Ok(refuse(rt, place_of(rt.alloc(), path, None, flaw))),
@@ -98,6 +109,7 @@ fn patches_in(rt: &HostRuntime, path: &str, table: &Table) -> Result<Option<Vec<
             Ok(patch) => patch,
             Err(flaw) => return Ok(refuse(rt, place_of(rt.alloc(), path, Some(number), flaw))),
         };
+        check_patch(rt, patch.file, chart)?;
         let piece = piece_of(rt, patch)?;
         if let Some(why) = fault_of(patch.file, &piece, &files, &pieces) {
             let flaw = flaw_at("file", why);
@@ -108,6 +120,14 @@ fn patches_in(rt: &HostRuntime, path: &str, table: &Table) -> Result<Option<Vec<
         }
     }
     Ok(Some(pieces))
+}
+
+// Refuses a picture in a patch's file.
+fn check_patch(rt: &HostRuntime, file: &str, chart: Option<&str>) -> Result<(), Failure> {
+    match chart {
+        Some(chart) if is_same(rt, file, chart) => Err(chart_refused(rt, chart, "a patch")),
+        _ => Ok(()),
+    }
 }
 
 // Why a file can't be loaded behind others, if it can't.

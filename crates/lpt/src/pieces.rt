@@ -26,7 +26,7 @@ pub struct Piece {
 /// Errors: as of `patches_at`.
 pub fn pieces_of(rt: &HostRuntime, words: &GroundWords<'_>) -> Result<Option<Vec<Piece>>, Failure> {
     if let Some(path) = words.list {
-        return patches_at(rt, path);
+        return patches_at(rt, path, words.chart);
     }
     let mut pieces = Vec::new(rt.alloc());
     for area in &words.areas {
