@@ -1,4 +1,5 @@
 pub mod Ends
 pub mod Faults
+pub mod Paces
 pub mod Voices
 pub mod Words

@@ -14,6 +14,7 @@ mod fault;
 mod input;
 mod layouts;
 mod machine;
+mod pace;
 mod progress;
 mod saving;
 mod streams;

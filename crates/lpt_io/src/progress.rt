@@ -4,6 +4,7 @@ ghost use Rattle.std.specs.Prelude.{◌≡◌, ◌&&◌, not};
 ghost use Rattle.lpt_io.specs.Voices.{is_apart, is_paced, tells_of};
 
 use crate::machine::Terminals;
+use crate::pace::pace_text;
 use std::io::{self, Read};
 use std::rt::Clock;
 use std::time::{Duration, Instant};
@@ -89,6 +90,7 @@ impl Voice {
         Some(Pace {
             rt: *rt,
             last,
+            begun: None,
             done: 0,
             of,
         })
@@ -101,6 +103,8 @@ pub struct Pace<R> {
     rt: R,
     // When it was told last, or when the reading began.
     last: Instant,
+    // When the first octets came: what was opened before may be read first.
+    begun: Option<Instant>,
     done: u64,
     of: Option<u64>,
 }
@@ -116,21 +120,25 @@ impl<R: Clock + Eprint + AllocGlobal> Pace<R> {
         let Ok(now) = Instant::now(&self.rt) else {
             return;
         };
+        let begun = self.begun.unwrap_or(now);
+        self.begun = Some(begun);
         if now.duration_since(self.last) >= Duration::from_secs(1) {
             self.last = now;
-            self.tell();
+            self.tell(now.duration_since(begun));
         }
     }
 
-    // Tells it, and leaves the cursor at the line's front: what is told next stands over it.
-    fn tell(&self) {
-        let done = self.done;
-        let text = match self.of {
-            Some(of) => format!(in self.rt.alloc(); "lpt: {done} of {of} octets{CLEAR}\r"),
-            None => format!(in self.rt.alloc(); "lpt: {done} octets{CLEAR}\r"),
+    // Tells it after so long a reading, and leaves the cursor at the line's front: what is told
+    // next stands over it. Where a file has grown, its length isn't known any more.
+    fn tell(&self, taken: Duration) {
+        let whole = self.of.filter(|of| self.done <= *of);
+        let millis = u64::try_from(taken.as_millis()).unwrap_or(u64::MAX);
+        let alloc = self.rt.alloc();
+        let Ok(text) = pace_text(alloc, self.done, whole, millis) else {
+            return;
         };
-        if let Ok(text) = text {
-            let _ = self.rt.eprint(text.as_str());
+        if let Ok(line) = format!(in alloc; "lpt: {text}{CLEAR}\r") {
+            let _ = self.rt.eprint(line.as_str());
         }
     }
 }

@@ -1,0 +1,65 @@
+//! How far a reading is, and how long it still takes.
+
+ghost use Rattle.std.specs.Prelude.{◌≡◌};
+ghost use Rattle.lpt_io.specs.Paces.{percent, rest_at, seconds_left};
+
+use std::alloc::{AllocError, Global};
+
+/// In the first so many milliseconds it isn't said how long a reading still takes.
+const QUIET_MILLIS: u64 = 2_000;
+
+// How many of a hundred parts of so many octets came.
+fn percent_of(done: u64, whole: u64) -> u128
+    ensures { result ≡ percent done whole }
+{
+    if whole == 0 {
+        return 100;
+    }
+    u128::from(done) * 100 / u128::from(whole)
+}
+
+// In how many seconds the rest comes, at so many octets in a second.
+fn seconds_at(rate: u128, rest: u64) -> Option<u128>
+    ensures { result ≡ rest_at rate rest }
+{
+    if rate == 0 {
+        return None;
+    }
+    Some(u128::from(rest) / rate)
+}
+
+// How many seconds are left of a reading of so many octets, of which so many came in so many
+// milliseconds.
+fn seconds_of(done: u64, whole: u64, millis: u64) -> Option<u128>
+    ensures { result ≡ seconds_left done whole millis }
+{
+    if millis < QUIET_MILLIS {
+        return None;
+    }
+    let rate = u128::from(done) * 1_000 / u128::from(millis);
+    seconds_at(rate, whole.saturating_sub(done))
+}
+
+/// What is told of a reading of which so many octets came in so many milliseconds, of so many if
+/// that is known. The only error is out of memory.
+pub(crate) fn pace_text(
+    alloc: Global,
+    done: u64,
+    whole: Option<u64>,
+    millis: u64,
+) -> Result<String, AllocError> {
+    let Some(whole) = whole else {
+        return format!(in alloc; "{done} octets");
+    };
+    let percent = percent_of(done, whole);
+    let mut text = format!(in alloc; "{done} of {whole} octets, {percent}%")?;
+    if let Some(seconds) = seconds_of(done, whole, millis) {
+        let (minutes, rest) = (seconds / 60, seconds % 60);
+        if minutes == 0 {
+            text.write(format_args!(", {rest} s left"))?;
+        } else {
+            text.write(format_args!(", {minutes}:{rest:02} min left"))?;
+        }
+    }
+    Ok(text)
+}
