@@ -38,7 +38,9 @@ use lpt_command_line::{Command, CommandLine, JoinWords, read_words};
 use lpt_events::Config;
 use lpt_io::{Failure, Fault, Machine, Status, Terminals, Voice, config_of, explained, tell_end};
 use lpt_message_commands::{extract, join, join_each, join_layout, split, split_all};
-use lpt_packet_commands::{checksum, compare, decode, glance, link, list, request, verify};
+use lpt_packet_commands::{
+    checksum, compare, decode, glance, link, list, request, screen_of, verify,
+};
 use lpt_simulator_commands::{RunKind, answer, chart, lint, run};
 use passing::pass;
 use serving::spacecraft;
@@ -128,7 +130,10 @@ fn done<T: Threads + Wait + Clock + Copy + Drop + Send + Sync + 'static>(
         Command::Chart(words) => chart(rt, settings, words),
         Command::Lint(script) => lint(rt, script),
         Command::Decode(words) => decode(rt, config_of(rt, settings)?, words),
-        Command::List(words) => list(rt, voice, &config_of(rt, settings)?, words),
+        Command::List(words) => {
+            let screen = screen_of(rt, terminals);
+            list(rt, voice, screen, &config_of(rt, settings)?, words)
+        }
         Command::Split(words) => split(rt, &config_of(rt, settings)?, words),
         Command::SplitEach(words) => split_all(rt, &config_of(rt, settings)?, words),
         Command::JoinLayout(words) => join_layout(rt, voice, &config_of(rt, settings)?, words),

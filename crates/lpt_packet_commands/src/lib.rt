@@ -12,6 +12,7 @@ mod layouts;
 mod links;
 mod lists;
 mod requests;
+mod screens;
 mod verifies;
 
 pub use checksums::checksum;
@@ -25,6 +26,8 @@ pub use lpt_command_line::{
     VerifyWords,
 };
 pub use lpt_events::Config;
-pub use lpt_io::{Failure, Machine, Status, Voice};
+pub use lpt_io::{Failure, Machine, Status, Terminals, Voice};
+pub use lpt_terminal::Screen;
 pub use requests::request;
+pub use screens::screen_of;
 pub use verifies::verify;
