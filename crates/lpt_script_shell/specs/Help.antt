@@ -31,7 +31,7 @@ topics =
     ∷ (codes "lose", codes "lose N as 3-9: in a shell alone")
     ∷ (codes "pass", codes "pass LANE all, or N as 1-3,5: in a shell alone")
     ∷ (codes "help", codes "help words: what the words in capitals are: in a shell alone")
-    ∷ (codes "exit", codes "exit, quit: ends the session, as the end of the input (Ctrl-D) does: in a shell alone")
+    ∷ (codes "exit", codes "exit: ends the session, as the end of the input (Ctrl-D) does: in a shell alone")
     ∷ (codes "quit", codes "quit: the same as exit")
     ∷ []
 

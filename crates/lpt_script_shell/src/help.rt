@@ -93,7 +93,7 @@ static TOPICS: [(&str, &str); 28] = [
     ),
     (
         "exit",
-        "exit, quit: ends the session, as the end of the input (Ctrl-D) does: in a shell alone",
+        "exit: ends the session, as the end of the input (Ctrl-D) does: in a shell alone",
     ),
     ("quit", "quit: the same as exit"),
 ];
