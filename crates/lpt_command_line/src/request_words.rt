@@ -116,10 +116,11 @@ fn areas_in<'a>(
             let [address, file] = pair else {
                 return Err(WordFault::Missing);
             };
+            let address = address_in(address)?;
             if *file == STANDARD && has_input(&areas) {
                 return Err(WordFault::SharedInput);
             }
-            if areas.push((address_in(address)?, *file)).is_err() {
+            if areas.push((address, *file)).is_err() {
                 return Err(WordFault::Memory);
             }
         }
