@@ -144,7 +144,7 @@ enum LptFault {
     LPT_E_EMPTY = 106,
     /* Of an end: its 64-bit count of released requests, or of restarts, is at its end. */
     LPT_E_NO_NUMBER = 108,
-    /* Of an end or a pass: there is nothing to copy, to send, to drop or to tell. */
+    /* Of an end, a pass or a reader: there is nothing to copy, to send, to drop or to tell. */
     LPT_E_NOTHING = 109,
     /* Of an end: packets that wait must be sent first. */
     LPT_E_UNSENT = 110,
@@ -168,9 +168,11 @@ enum LptFault {
     LPT_E_READ_LENGTH = 120,
     /* A job takes more requests than a pass may have, 16,384. */
     LPT_E_LONG_JOB = 121,
-    /* Of a reader: the text is no layout; the archive has ended. */
+    /* Of a reader: the text is no layout; the archive has ended; a message may be of parts of
+       several ones, and its packets have no checksum. */
     LPT_E_LAYOUT = 122,
-    LPT_E_ENDED = 123
+    LPT_E_ENDED = 123,
+    LPT_E_UNSURE = 124
 };
 
 /* The name of what a call answered, as docs/C.md has it; "unknown" of another number. */
@@ -294,6 +296,8 @@ static inline const char *lpt_fault_name(uint32_t fault) {
         return "layout";
     case LPT_E_ENDED:
         return "ended";
+    case LPT_E_UNSURE:
+        return "unsure";
     default:
         return "unknown";
     }

@@ -115,7 +115,77 @@ uint32_t lpt_reader_next(LptReader *reader, LptItem *item);
 LPT_MUST_USE
 uint32_t lpt_reader_octets(LptReader *reader, uint8_t *out, size_t out_len, size_t *needed);
 
-/* ---- the structure as the archive has it: size, alignment, offsets ---- */
+/* ---- the messages that become whole ---- */
+
+/*
+ * Makes a reader of an archive whose messages are joined, as `lpt join --each` joins those of
+ * packets of an APID that go in a direction, an LptDirection. The rest is as in lpt_reader_new; the
+ * archive is cut as the packets of the direction are laid out. If `any` is 1, and not 0, a message
+ * is told whatever it is, as with --any. Its messages are told by lpt_reader_message: a packet that
+ * lpt_reader_next tells isn't joined.
+ * LPT_E_RANGE for another direction or another `any`; otherwise what lpt_reader_new returns.
+ */
+LPT_MUST_USE
+uint32_t lpt_reader_new_join(LptReader **reader, uint32_t direction, uint16_t apid, uint32_t any,
+                             uint32_t part_size, const uint8_t *layout, size_t layout_len);
+
+/* What becomes of messages: at the end, nothing more; with a packet or one that fails a test,
+   nothing; a message is whole; parts are given up that weren't; parts are, and a message is whole;
+   a message is whole, and not told, as it is no packet of the direction (if `any` is 0). */
+enum LptMessageKind {
+    LPT_MESSAGE_END = 0,
+    LPT_MESSAGE_NONE = 1,
+    LPT_MESSAGE_WHOLE = 2,
+    LPT_MESSAGE_MISSING = 3,
+    LPT_MESSAGE_OVERTAKES = 4,
+    LPT_MESSAGE_UNFIT = 5
+};
+
+/* What becomes with what stands next. What its kind doesn't have is 0. */
+typedef struct LptMessage {
+    uint64_t place;     /* of the packet with which it becomes so; at the end, the archive's length */
+    uint64_t first;     /* where the packet of the first part stands that is given up; 2^64 - 1 if
+                           there is none */
+    size_t length;      /* the octets of a whole message */
+    size_t highest;     /* the greatest number of the parts that are given up */
+    uint32_t kind;      /* an LptMessageKind */
+    uint32_t direction; /* an LptDirection */
+    uint32_t user;      /* the source ID of telecommands, the destination ID of telemetry */
+    uint32_t id;        /* the transaction identifier */
+    uint32_t last;      /* the number of the last part, if it is among those that are given up */
+    uint32_t fault;     /* of LPT_MESSAGE_UNFIT: LPT_E_SHORT to LPT_E_CHECKSUM, LPT_E_WRONG_TYPE or
+                           LPT_E_UNSURE */
+} LptMessage;
+
+/*
+ * Goes on behind what stands next in the archive, a packet or octets that fail a test, and tells
+ * what becomes of messages with it. At the end it tells at each call what is left of the next name,
+ * in the order of their users and identifiers, and then LPT_MESSAGE_END again and again.
+ * LPT_DONE, and *message is written; LPT_E_NOTHING if lpt_reader_new made the reader; LPT_E_MORE if
+ * it depends on octets that haven't been taken yet; LPT_E_ALLOCATION: then each call from then on
+ * returns this, since what was joined is lost.
+ */
+LPT_MUST_USE
+uint32_t lpt_reader_message(LptReader *reader, LptMessage *message);
+
+/*
+ * Copies the message that the last LPT_DONE of lpt_reader_message told to the front of a buffer, and
+ * leaves the rest of the buffer as it was. LPT_DONE; LPT_E_NOTHING if that told no whole message;
+ * LPT_E_ROOM. At LPT_DONE and LPT_E_ROOM *needed is how many octets it has, as LptMessage's length.
+ */
+LPT_MUST_USE
+uint32_t lpt_reader_message_octets(LptReader *reader, uint8_t *out, size_t out_len, size_t *needed);
+
+/*
+ * Says whether the part of a number, from 1 on, is missing among those that the last LPT_DONE of
+ * lpt_reader_message told to be given up: 1 or 0. Missing are all behind `highest`, up to the last
+ * one, whose number isn't known if `last` is 0.
+ * LPT_DONE; LPT_E_NOTHING if that told of none; LPT_E_RANGE for number 0.
+ */
+LPT_MUST_USE
+uint32_t lpt_reader_missing(LptReader *reader, uint32_t number, uint32_t *missing);
+
+/* ---- the structures as the archive has them: size, alignment, offsets ---- */
 
 LPT_LAYOUT(LptItem, 96, 8);
 LPT_FIELD(LptItem, place, 0);
@@ -139,6 +209,17 @@ LPT_FIELD(LptItem, flags, 92);
 LPT_FIELD(LptItem, service, 93);
 LPT_FIELD(LptItem, subtype, 94);
 LPT_FIELD(LptItem, time_len, 95);
+LPT_LAYOUT(LptMessage, 56, 8);
+LPT_FIELD(LptMessage, place, 0);
+LPT_FIELD(LptMessage, first, 8);
+LPT_FIELD(LptMessage, length, 16);
+LPT_FIELD(LptMessage, highest, 24);
+LPT_FIELD(LptMessage, kind, 32);
+LPT_FIELD(LptMessage, direction, 36);
+LPT_FIELD(LptMessage, user, 40);
+LPT_FIELD(LptMessage, id, 44);
+LPT_FIELD(LptMessage, last, 48);
+LPT_FIELD(LptMessage, fault, 52);
 
 #ifdef __cplusplus
 }

@@ -26,8 +26,8 @@ ARCHIVES = ["liblpt.a", "liblpt_end.a", "liblpt_ground.a", "liblpt_reader.a"]
 HEAD = ["Call", "Processor", "Stack", "Code", "Calls itself"]
 # The functions that call themselves, once for each level of a tree, and one more than the kit's MAX_HEIGHT.
 OF_TREES, LEVELS = "std_collections::btree::", 12
-# The calls that have none: the reader of TOML calls itself as deep as a text has tables and arrays in one another.
-WITHOUT = {"lpt_reader_new"}
+# Calls that have none: the reader of TOML calls itself as deep as a text has tables and arrays in one another.
+WITHOUT = {"lpt_reader_new", "lpt_reader_new_join"}
 # How much a bound may grow before it is wrong: by another choice of the compiler's.
 MOST = 1.05
 

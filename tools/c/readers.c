@@ -256,6 +256,137 @@ static void refusals(void) {
     EXPECT(strcmp(lpt_fault_name(LPT_E_LAYOUT), "layout") == 0);
 }
 
+/* The intermediate part 2 of another message 5. */
+static const uint8_t OTHER[] = {0x18, 0x64, 0xc0, 0x01, 0x00, 0x12, 0x20, 0x0d, 0x0a,
+                                0x00, 0x07, 0x00, 0x05, 0x00, 0x02, 0x41, 0x42, 0x43,
+                                0x44, 0x45, 0x46, 0x47, 0x48, 0x16, 0x65};
+
+static const LptMessage NO_MESSAGE = {0, 0, 0, 0, 0, 0, 0, 0, 0, 0};
+
+/* A reader of messages of APID 100 that go up, of parts of 8 octets. */
+static LptReader *joining(uint32_t any) {
+    LptReader *reader = NULL;
+    DONE(lpt_reader_new_join(&reader, LPT_DIRECTION_UP, 100, any, 8, NULL, 0));
+    return reader;
+}
+
+/* Whether this kind was told of the messages of user 7 and identifier 5, at a place. */
+static int becomes(const LptMessage *message, uint32_t kind, uint64_t place) {
+    return message->kind == kind && message->place == place && message->user == 7 &&
+           message->id == 5 && message->direction == LPT_DIRECTION_UP;
+}
+
+/* Whether these parts are missing, of those up to number 3. */
+static int lacks(LptReader *reader, uint32_t one, uint32_t two, uint32_t three) {
+    uint32_t found[3] = {9, 9, 9}, at;
+    for (at = 0; at < 3; at++) {
+        DONE(lpt_reader_missing(reader, at + 1, &found[at]));
+    }
+    return found[0] == one && found[1] == two && found[2] == three;
+}
+
+/* Messages as they become whole, octet by octet, behind a part of another one. */
+static void messages(void) {
+    LptReader *reader = joining(1);
+    LptMessage message = NO_MESSAGE;
+    uint8_t copy[16] = {0};
+    size_t needed = 7, at, told = 0;
+    uint32_t missing = 9;
+    uint8_t archive[128];
+    memcpy(archive, OTHER, sizeof OTHER);
+    memcpy(archive + 25, FIRST, sizeof FIRST);
+    memcpy(archive + 50, DAMAGED, sizeof DAMAGED);
+    memcpy(archive + 75, LAST, sizeof LAST);
+    memcpy(archive + 94, FIRST, sizeof FIRST);
+    EXPECT(lpt_reader_message(reader, &message) == LPT_E_MORE && message.kind == 0);
+    EXPECT(lpt_reader_message_octets(reader, copy, 16, &needed) == LPT_E_NOTHING && needed == 7);
+    for (at = 0; at < 119; at++) {
+        DONE(lpt_reader_feed(reader, archive + at, 1));
+        while (lpt_reader_message(reader, &message) == LPT_DONE) {
+            told++;
+            if (told != 4) {
+                EXPECT(message.kind == LPT_MESSAGE_NONE && message.user == 0);
+                EXPECT(message.place == (told == 5 ? 94 : 25 * (told - 1)));
+                EXPECT(lpt_reader_missing(reader, 1, &missing) == LPT_E_NOTHING && missing == 9);
+                continue;
+            }
+            EXPECT(becomes(&message, LPT_MESSAGE_OVERTAKES, 75) && message.first == 0);
+            EXPECT(message.length == 10 && message.highest == 2 && message.last == 0);
+            EXPECT(lacks(reader, 0, 0, 1));
+            EXPECT(lpt_reader_missing(reader, 0, &missing) == LPT_E_RANGE && missing == 9);
+            EXPECT(lpt_reader_message_octets(reader, copy, 9, &needed) == LPT_E_ROOM);
+            EXPECT(needed == 10 && copy[0] == 0);
+            DONE(lpt_reader_message_octets(reader, copy, 16, &needed));
+            EXPECT(needed == 10 && memcmp(copy, "abcdefghij", 11) == 0);
+        }
+    }
+    EXPECT(told == 5);
+    DONE(lpt_reader_end(reader));
+    DONE(lpt_reader_message(reader, &message));
+    EXPECT(message.kind == LPT_MESSAGE_END && message.place == 119 && message.first + 1 == 0);
+    EXPECT(lpt_reader_message_octets(reader, copy, 16, &needed) == LPT_E_NOTHING);
+    lpt_reader_free(reader);
+    EXPECT(given == 0);
+}
+
+/* What is left at the end; what is no packet of the direction; which readers join nothing. */
+static void missing(void) {
+    LptReader *reader = joining(0);
+    LptMessage message = NO_MESSAGE;
+    LptItem item = NONE;
+    DONE(lpt_reader_feed(reader, FIRST, sizeof FIRST));
+    DONE(lpt_reader_feed(reader, LAST, sizeof LAST));
+    DONE(lpt_reader_message(reader, &message));
+    DONE(lpt_reader_message(reader, &message));
+    EXPECT(becomes(&message, LPT_MESSAGE_UNFIT, 25) && message.fault == LPT_E_VERSION);
+    DONE(lpt_reader_feed(reader, OTHER, sizeof OTHER));
+    DONE(lpt_reader_end(reader));
+    DONE(lpt_reader_message(reader, &message));
+    EXPECT(message.kind == LPT_MESSAGE_NONE && message.place == 44);
+    DONE(lpt_reader_message(reader, &message));
+    EXPECT(becomes(&message, LPT_MESSAGE_MISSING, 69) && message.highest == 2 && message.last == 0);
+    EXPECT(message.first == 44 && message.length == 0 && lacks(reader, 1, 0, 1));
+    DONE(lpt_reader_message(reader, &message));
+    EXPECT(message.kind == LPT_MESSAGE_END && message.place == 69 && message.id == 0);
+    DONE(lpt_reader_next(reader, &item));
+    EXPECT(item.kind == LPT_ITEM_END);
+    lpt_reader_free(reader);
+
+    reader = reader_of("");
+    EXPECT(lpt_reader_message(reader, &message) == LPT_E_NOTHING && message.place == 69);
+    lpt_reader_free(reader);
+    reader = NULL;
+    EXPECT(lpt_reader_new_join(&reader, 2, 100, 0, 8, NULL, 0) == LPT_E_RANGE);
+    EXPECT(lpt_reader_new_join(&reader, 0, 100, 2, 8, NULL, 0) == LPT_E_RANGE);
+    EXPECT(lpt_reader_new_join(&reader, 0, 100, 0, 3, NULL, 0) == LPT_E_RANGE);
+    EXPECT(lpt_reader_new_join(&reader, 0, 100, 0, 3, STRAY, 3) == LPT_E_LAYOUT);
+    EXPECT(reader == NULL && given == 0);
+    EXPECT(strcmp(lpt_fault_name(LPT_E_UNSURE), "unsure") == 0);
+}
+
+/* Where memory runs out nothing is joined any more, and that is said again. */
+static void lost(void) {
+    LptMessage message = NO_MESSAGE;
+    uint32_t fault = LPT_E_ALLOCATION;
+    long at;
+    for (at = 0; fault == LPT_E_ALLOCATION && at < 100; at++) {
+        LptReader *reader = joining(1);
+        DONE(lpt_reader_feed(reader, FIRST, sizeof FIRST));
+        DONE(lpt_reader_feed(reader, LAST, sizeof LAST));
+        refused_at = at;
+        DONE(lpt_reader_end(reader));
+        fault = lpt_reader_message(reader, &message);
+        if (fault == LPT_DONE) {
+            fault = lpt_reader_message(reader, &message);
+        }
+        refused_at = -1;
+        EXPECT(lpt_reader_message(reader, &message) == fault);
+        lpt_reader_free(reader);
+        EXPECT(given == 0);
+    }
+    EXPECT(fault == LPT_DONE && at > 5);
+}
+
 /* Each request for memory is refused in turn, until none is. */
 static void scarce(void) {
     LptReader *reader = NULL;
@@ -285,6 +416,9 @@ int main(void) {
     strays();
     layouts();
     refusals();
+    messages();
+    missing();
+    lost();
     scarce();
     printf("%u passed, %u failed\n", passed, failed);
     return failed != 0;

@@ -32,6 +32,9 @@ feed_refusal a = if (state_of a.reader).ended then Some over_already else None
 pub record Stays (a new : Archive) : Type 0 where
   pub state : state_of new.reader ≡ state_of a.reader
   pub layouts : new.layouts ≡ a.layouts
+  pub reading : new.reading ≡ a.reading
+  pub joins : new.joins ≡ a.joins
+  pub news : new.news ≡ a.news
 
 -- octets were taken
 pub record Feeds (octets : List ℕ) (a new : Archive) : Type 0 where
@@ -39,6 +42,9 @@ pub record Feeds (octets : List ℕ) (a new : Archive) : Type 0 where
   pub told : (fed : List ℕ) (t : Telling) → HasTold fed t (state_of a.reader)
       → HasTold (fed ++ octets) t (state_of new.reader)
   pub layouts : new.layouts ≡ a.layouts
+  pub reading : new.reading ≡ a.reading
+  pub joins : new.joins ≡ a.joins
+  pub news : new.news ≡ a.news
 
 -- the stream has ended
 pub record Ends (a new : Archive) : Type 0 where
@@ -46,6 +52,9 @@ pub record Ends (a new : Archive) : Type 0 where
   pub told : (fed : List ℕ) (t : Telling) → HasTold fed t (state_of a.reader)
       → HasTold fed t (state_of new.reader)
   pub layouts : new.layouts ≡ a.layouts
+  pub reading : new.reading ≡ a.reading
+  pub joins : new.joins ≡ a.joins
+  pub news : new.news ≡ a.news
 
 -- ---- what stands next
 
@@ -65,6 +74,9 @@ pub record Shows (code : ℕ) (before after : LptItem) (a new : Archive) : Type 
   pub code_is : code ≡ code_of shown
   pub item_is : after ≡ item_by a.layouts shown (state_of new.reader).last before
   pub layouts : new.layouts ≡ a.layouts
+  pub reading : new.reading ≡ a.reading
+  pub joins : new.joins ≡ a.joins
+  pub news : new.news ≡ a.news
   pub ended : (state_of new.reader).ended ≡ (state_of a.reader).ended
 
 -- the same behind a handle

@@ -6,6 +6,10 @@ use Rattle.lpt_c_reader.specs.declared.archives.Archive.{Archive}
 abbrev pub all_done : ℕ
 all_done = 0
 
+-- a packet of the other type
+abbrev pub wrong_type : ℕ
+wrong_type = 12
+
 -- memory ran out
 abbrev pub memory : ℕ
 memory = 58
@@ -37,6 +41,10 @@ bad_layout = 122
 -- the stream has ended
 abbrev pub over_already : ℕ
 over_already = 123
+
+-- what was joined may be of several messages
+abbrev pub unsure : ℕ
+unsure = 124
 
 -- ---- answers
 

@@ -50,3 +50,5 @@ pub record IsNew (p : ℕ) (text : List ℕ) (a : Archive) : Type 0 where
   pub layouts : Means p text a.layouts
   pub told : HasTold [] untold (state_of a.reader)
   pub ended : (state_of a.reader).ended ≡ false
+  pub plain : (a.reading ≡ None) × (a.joins ≡ None)
+  pub news : a.news ≡ None

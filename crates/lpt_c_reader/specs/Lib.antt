@@ -1,10 +1,14 @@
 pub mod AddressCodes
 pub mod Addresses
+pub mod Begun
 pub mod Calls
 pub mod Codes
 pub mod Copies
 pub mod HandleCodes
 pub mod Held
 pub mod Items
+pub mod Joining
 pub mod Laws
 pub mod LayoutTexts
+pub mod Messages
+pub mod Runs

@@ -3,6 +3,9 @@
 // Done.
 pub(crate) const DONE: u32 = 0;
 
+// A packet of the other type.
+pub(crate) const WRONG_TYPE: u32 = 12;
+
 // Out of memory.
 pub(crate) const MEMORY: u32 = 58;
 
@@ -26,3 +29,6 @@ pub(crate) const BAD_LAYOUT: u32 = 122;
 
 // The stream has ended.
 pub(crate) const ENDED: u32 = 123;
+
+// What was joined may be of several messages.
+pub(crate) const UNSURE: u32 = 124;

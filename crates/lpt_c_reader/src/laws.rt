@@ -1,8 +1,9 @@
 //! What is proved of what is told, however an archive is cut: functions with empty bodies.
 
-ghost use Rattle.lpt_c_reader.specs.Laws.{ToldOneWay};
+ghost use Rattle.lpt_c_reader.specs.Laws.{MessagesAsEach, ToldOneWay};
 
 use lpt_reader::laws::told_one_way;
+use lpt_reader_each::laws::{each_is_told, leaving_begins};
 
 /// Of an archive that was fed to its end the same packets are told, at the same places, however it
 /// was cut when it was fed.
@@ -10,4 +11,15 @@ pub fn archives_are_told_one_way()
     ensures { ToldOneWay }
 {
     told_one_way();
+}
+
+/// From `lpt_reader_new_join` on, up to a message of kind 0, the messages that `lpt_reader_message`
+/// writes, with what is copied of each and which of its parts are missing, are what
+/// `lpt_layout_each::each_as` tells of the archive, in its order, however that was cut when it was
+/// fed, and however often a call was refused.
+pub fn messages_are_told_as_each()
+    ensures { MessagesAsEach }
+{
+    leaving_begins();
+    each_is_told();
 }

@@ -57,7 +57,7 @@ pub fn lpt_reader_free(alloc: Global, reader: LptReaderAddress)
 }
 
 // The layouts of an archive, or the number of why there are none.
-fn layouts_from(alloc: Global, part_size: u32, layout: &[u8]) -> Result<Layouts, u32>
+pub(crate) fn layouts_from(alloc: Global, part_size: u32, layout: &[u8]) -> Result<Layouts, u32>
     ensures ok { IfOk result (Means part_size layout.now) }
     ensures sizes { IfOk result SizesFit }
     ensures err { IfErr result (IsRefusal part_size layout.now) }
