@@ -13,7 +13,7 @@ The modules:
 
 - packets: packets, telecommands and telemetry, and the packets of a stream
 - parts: the parts of large messages, and `split`
-- archive: the packets of an archive as they come, by any layout
+- archive: the packets of an archive as they come, by any layout, and its messages
 - joining: `join`, and `join_each` of an archive
 - images: `read_image` of an archive's dump reports
 - distributed: both of many files, on the workers of Dask
@@ -39,7 +39,7 @@ from . import faults
 from ._handle import WrongThread
 from ._library import VERSION as __version__
 from ._library import version
-from .archive import Archive, Listed
+from .archive import Archive, Listed, Message, Missing
 from .end import Applied, Config, End, Outcome, Reception, Sender, View
 from .faults import Fault
 from .images import Image, read_image
@@ -68,7 +68,7 @@ __all__ = [
     "AbortReport", "Acknowledge", "Applied", "AppliedKind", "Archive", "Area", "Check", "CheckReport",
     "Checked", "Config", "Direction", "Dump", "DumpReport", "End", "Failure", "Fate",
     "FateState", "Fault", "Image", "ItemKind", "Job", "JobKind", "Joined",
-    "LONGEST_PACKET", "Listed", "Load", "Loaded", "Mode", "Name", "NameState", "NotJoined", "Outcome",
+    "LONGEST_PACKET", "Listed", "Load", "Loaded", "Message", "Missing", "Mode", "Name", "NameState", "NotJoined", "Outcome",
     "OutcomeKind",
     "Packet", "PacketKind", "Part", "PartKind", "PieceKind", "Progress", "Reason", "Reception",
     "ReportKind", "Sender", "Side", "SkippedWarning", "Step",

@@ -54,6 +54,10 @@ LptItem = _structure(
     part_len=SIZE, kind=U32, fault=U32, packet=U32, counter=U32, user=U32, part=U32, id=U32,
     number=U32, apid=U16, count=U16, flags=U8, service=U8, subtype=U8, time_len=U8,
 )
+LptMessage = _structure(
+    "LptMessage", place=U64, first=U64, length=SIZE, highest=SIZE, kind=U32, direction=U32,
+    user=U32, id=U32, last=U32, fault=U32,
+)
 LptAbort = _structure("LptAbort", id=U16, reason=U16)
 LptReport = _structure("LptReport", request=U32, failed=U16, code=U16)
 LptRange = _structure("LptRange", address=U32, len=U16)
@@ -185,6 +189,10 @@ _OF_READER: dict[str, tuple[Any, ...]] = {
     "lpt_reader_end": (POINTER,),
     "lpt_reader_next": (POINTER, POINTER),
     "lpt_reader_octets": (POINTER, *_WRITE),
+    "lpt_reader_new_join": (POINTER, U32, U16, U32, U32, *_READ),
+    "lpt_reader_message": (POINTER, POINTER),
+    "lpt_reader_message_octets": (POINTER, *_WRITE),
+    "lpt_reader_missing": (POINTER, U32, POINTER),
 }
 
 

@@ -375,6 +375,12 @@ class Ended(Fault, ValueError):
     number = 123
 
 
+class Unsure(Fault, ValueError):
+    """The message may be of parts of several ones, and its packets have no checksum."""
+
+    number = 124
+
+
 #: Each fault by its number.
 BY_NUMBER: dict[int, type[Fault]] = {it.number: it for it in Fault.__subclasses__()}
 
