@@ -42,11 +42,11 @@ from ._library import version
 from .archive import Archive, Listed, Message, Missing
 from .end import Applied, Config, End, Outcome, Reception, Sender, View
 from .faults import Fault
-from .images import Image, read_image
+from .images import Image, Others, Passed, read_image
 from .job import Fate, Job, Progress
 from .joining import Joined, NotJoined, SkippedWarning, join, join_each
 from .kinds import (
-    Acknowledge, AppliedKind, Direction, Failure, FateState, ItemKind, JobKind, Mode, NameState, OutcomeKind,
+    Acknowledge, AppliedKind, Direction, Failure, FateState, ItemKind, JobKind, MessageKind, Mode, NameState, OutcomeKind,
     PacketKind, PartKind, PieceKind, Reason, ReportKind, Side, Step, Why,
 )
 from .memory import (
@@ -68,9 +68,9 @@ __all__ = [
     "AbortReport", "Acknowledge", "Applied", "AppliedKind", "Archive", "Area", "Check", "CheckReport",
     "Checked", "Config", "Direction", "Dump", "DumpReport", "End", "Failure", "Fate",
     "FateState", "Fault", "Image", "ItemKind", "Job", "JobKind", "Joined",
-    "LONGEST_PACKET", "Listed", "Load", "Loaded", "Message", "Missing", "Mode", "Name", "NameState", "NotJoined", "Outcome",
+    "LONGEST_PACKET", "Listed", "Load", "Loaded", "Message", "MessageKind", "Missing", "Mode", "Name", "NameState", "NotJoined", "Others", "Outcome",
     "OutcomeKind",
-    "Packet", "PacketKind", "Part", "PartKind", "PieceKind", "Progress", "Reason", "Reception",
+    "Packet", "PacketKind", "Part", "PartKind", "Passed", "PieceKind", "Progress", "Reason", "Reception",
     "ReportKind", "Sender", "Side", "SkippedWarning", "Step",
     "Telecommand",
     "Telemetry", "VerificationReport", "View", "Why", "WrongThread", "crc16", "faults",

@@ -1,5 +1,6 @@
-"""What the parts of one name give, which may be used again: the rule of `lpt join --each`. Not for
-the caller.
+"""What the parts of one name give, which may be used again: the rule of `lpt join --each`, in Python
+since what is kept of a name goes from worker to worker of Dask, which a reader of the library can't.
+`tests/distributed` compares it with `join_each`. Not for the caller.
 
 Three sets of parts are kept of a name: all that came behind the last message; of these the new
 ones, which aren't parts of it; and a run, of parts 1, 2 and so on that came in this order. Which
@@ -8,9 +9,18 @@ of them is whole first, and fit, is the next message.
 
 from __future__ import annotations
 
-from typing import Callable, NamedTuple, Optional
+import functools
+from typing import Callable, Iterator, NamedTuple, Optional, Union
 
-from .faults import Fault
+from ._library import Octets, view_of
+from .faults import Fault, WrongType
+from .joining import Counts, Joined
+from .kinds import Direction, PacketKind, PartKind
+from .packets import Telecommand, Telemetry, read_message, read_packet
+from .parts import SERVICE, Name, part_of
+
+_SUBTYPES = {Direction.UP: (9, 10, 11), Direction.DOWN: (1, 2, 3)}
+_KINDS = {Direction.UP: PacketKind.TC, Direction.DOWN: PacketKind.TM}
 
 
 class Kept(NamedTuple):
@@ -176,3 +186,85 @@ class Course:
         end = part.number * self._size
         octets = message[end - self._size : end]
         return part.octets == octets and part.is_last == (end >= len(message))
+
+
+# ---- packets ----
+
+
+def direction_of(packet: Octets) -> Optional[Direction]:
+    """The direction of a packet whose types are those of a part; nothing of another."""
+    front = view_of(packet)
+    if len(front) < 9 or front[7] != SERVICE:
+        return None
+    direction = Direction.UP if front[0] & 0x10 else Direction.DOWN
+    return direction if front[8] in _SUBTYPES[direction] else None
+
+
+def message_of(packet: Octets) -> Union[Telecommand, Telemetry, None]:
+    """The message of a packet, if it is one."""
+    try:
+        return read_message(packet)
+    except Fault:
+        return None
+
+
+def _other_end(message: Union[Telecommand, Telemetry]) -> int:
+    """Which end on ground a message comes from, or goes to."""
+    return message.source if isinstance(message, Telecommand) else message.destination
+
+
+def _fault_of(direction: Direction, any: bool, message: bytes) -> Optional[Fault]:
+    """Why what was joined isn't a packet of its direction; None if it is, or needn't be."""
+    if any:
+        return None
+    try:
+        is_fit = read_packet(message).kind is _KINDS[direction]
+    except Fault as fault:
+        return fault.with_traceback(None)
+    return None if is_fit else WrongType()
+
+
+class Joiner:
+    """The parts of a direction, by their names."""
+
+    def __init__(self, direction: Direction, part_size: int, any: bool) -> None:
+        self.direction = direction
+        self.part_size = part_size
+        self.any = any
+        self.courses: dict[Name, Course] = {}
+        self.counts = Counts()
+
+    def part_in(self, message: Union[Telecommand, Telemetry]) -> Optional[tuple[Name, Kept]]:
+        """The part of a message that should be one, with its name; None if it isn't read."""
+        try:
+            part = part_of(message, self.part_size)
+        except Fault:
+            self.counts.note(bytes(message.body), message.subtype, None)
+            return None
+        assert part is not None
+        is_last = part.kind is PartKind.LAST
+        self.counts.fitting += not is_last
+        name = Name(_other_end(message), part.id)
+        return name, Kept(part.number, is_last, bytes(part.octets))
+
+    def add(self, name: Name, part: Kept) -> Iterator[Joined]:
+        """Takes a part of this name: what comes of it."""
+        if name not in self.courses:
+            judge = functools.partial(_fault_of, self.direction, self.any)
+            self.courses[name] = Course(self.part_size, judge)
+        news = self.courses[name].take(part)
+        if news is not None:
+            yield from self._told(name, news)
+
+    def _told(self, name: Name, news: News) -> Iterator[Joined]:
+        """What a part told of its name."""
+        if news.given_up is not None:
+            yield self._lost(name, news.given_up, news.is_contradicted)
+        if news.unfit is not None:
+            yield Joined(self.direction, name, None, fault=news.unfit)
+        if news.message is not None:
+            yield Joined(self.direction, name, news.message)
+
+    def _lost(self, name: Name, parts: Parts, is_contradicted: bool) -> Joined:
+        """Parts of a message that isn't whole."""
+        return Joined(self.direction, name, None, parts.missing(), is_contradicted)

@@ -25,19 +25,18 @@ import functools
 import os
 from array import array
 from dataclasses import dataclass, field
-from typing import Any, Generator, Iterable, Iterator, NamedTuple, Optional, Protocol, Union
+from typing import Any, Callable, Generator, Iterable, Iterator, NamedTuple, Optional, Protocol, Union
 
-from ._course import Course, Kept
+from ._course import Course, Joiner, Kept, direction_of, message_of
 from ._library import Octets, number
 from .images import Image, image_of, is_dump
-from .joining import (
-    Choice, Joined, Wanted, _Counts, _direction_of, _Joiner, _message_of, _refuse_size, choice_of,
-    joined_of,
-)
+from .joining import Choice, Counts, Joined, choice_of, joined_of, refuse_size, warn
 from .kinds import Direction, PieceKind
 from .packets import _LOOKAHEAD, GREATEST_APID, _count_strays, find_piece
 from .parts import Name, part_size_of
 
+#: Whether a message, or None, is given beside what is joined.
+Wanted = Callable[[object], bool]
 #: How many octets a piece has by default, and how many octets are read at once.
 PIECE = 1 << 26
 _BLOCK = 1 << 20
@@ -99,7 +98,7 @@ class _Row(NamedTuple):
     direction: Direction
     name: Optional[Name]
     part: Optional[Kept]
-    counts: _Counts
+    counts: Counts
     packet: Optional[bytes] = None
 
 
@@ -128,7 +127,7 @@ class _Mended:
 
     rows: list[list[_Row]]
     end: _State
-    counts: dict[Direction, _Counts] = field(default_factory=dict)
+    counts: dict[Direction, Counts] = field(default_factory=dict)
 
 
 #: What a packet gave, and its place.
@@ -206,7 +205,7 @@ class _Run:
 
     def __init__(self, client: Client, stream: _Stream, piece: int, how: _How) -> None:
         self.client, self.stream, self.piece, self.how = client, stream, piece, how
-        self.counts: dict[Direction, _Counts] = {}
+        self.counts: dict[Direction, Counts] = {}
         self.choice = Choice(None)
 
     def submit(self, function: Any, *words: Any) -> Any:
@@ -214,11 +213,12 @@ class _Run:
         return self.client.submit(function, *words, pure=False)
 
     def joined(self, choice: Choice) -> Iterator[Joined]:
-        """What is joined; and a warning, if no APID was given and parts of another came."""
-        is_given = choice.apid is not None
+        """What is joined; and warnings, as `join_each` gives them."""
+        is_given, counts = choice.apid is not None, Counts()
         yield from joined_of(self.given(choice))
-        if not is_given:
-            self.choice.warn(3)
+        for its in self.counts.values():
+            counts.plus(its)
+        warn([*self.choice.warned(is_given), *counts.said(self.how.part_size)], 3)
 
     def given(self, choice: Choice) -> Iterator[Union[Joined, bytes]]:
         """What the stream gives, piece by piece."""
@@ -235,7 +235,10 @@ class _Run:
         order = {way: number for number, way in enumerate(self.counts)}
         rest.sort(key=lambda it: (order[it.direction], it.name))
         self.choice = state.choice
-        _refuse_size(self.counts.values(), self.how.part_size, rest, self.choice)
+        counts = Counts()
+        for its in self.counts.values():
+            counts.plus(its)
+        refuse_size(counts, self.how.part_size, rest, self.choice)
         yield from rest
 
     def _cuts(self, start: int, stop: int) -> list[tuple[int, Any]]:
@@ -262,11 +265,11 @@ class _Run:
         return state, steps
 
     def _news(
-        self, counts: dict[Direction, _Counts], *news: list[_New]
+        self, counts: dict[Direction, Counts], *news: list[_New]
     ) -> Iterator[Union[Joined, bytes]]:
         """What a piece gave, in the order of places; what is counted with it is added."""
         for way, its in counts.items():
-            _add(self.counts.setdefault(way, _Counts()), its)
+            self.counts.setdefault(way, Counts()).plus(its)
         # No place is in two partitions, and what a packet gave stays in its order.
         for _, it in sorted((it for those in news for it in those), key=lambda it: it[0]):
             yield it
@@ -304,7 +307,7 @@ def _mended(stream: _Stream, cut: _Cut, stop: int, state: _State, how: _How) -> 
     for row in rows:
         is_taken = row.packet is not None or choice.takes(row.apid)
         if row.packet is None and is_taken:
-            _add(found.counts.setdefault(row.direction, _Counts()), row.counts)
+            found.counts.setdefault(row.direction, Counts()).plus(row.counts)
         if is_taken and (row.packet is not None or row.name is not None):
             found.rows[_partition_of(row, how.partitions)].append(row)
     return found
@@ -313,7 +316,7 @@ def _mended(stream: _Stream, cut: _Cut, stop: int, state: _State, how: _How) -> 
 def _step(before: Optional[_Step], rows: list[_Row], how: _How) -> _Step:
     """What the rows of a piece make of a partition. What was kept before is left as it is."""
     courses = dict(before.courses) if before is not None else {}
-    joiners = {way: _Joiner(way, how.part_size, how.any) for way in Direction}
+    joiners = {way: Joiner(way, how.part_size, how.any) for way in Direction}
     news: list[_New] = []
     for row in rows:
         if row.packet is not None:
@@ -337,7 +340,7 @@ def _rows_of(mended: _Mended, partition: int) -> list[_Row]:
     return mended.rows[partition]
 
 
-def _counts_of(mended: _Mended) -> dict[Direction, _Counts]:
+def _counts_of(mended: _Mended) -> dict[Direction, Counts]:
     return mended.counts
 
 
@@ -364,23 +367,15 @@ def _partition_of(row: _Row, partitions: int) -> int:
     return (row.name.id * 2 + row.name.source * 7 + (row.direction is Direction.UP)) % partitions
 
 
-def _add(counts: _Counts, more: _Counts) -> None:
-    """Counts more, which came behind."""
-    counts.fitting += more.fitting
-    counts.zeros += more.zeros
-    counts.unread += more.unread
-    counts.size = more.size if counts.size is None else counts.size
-
-
 def _row_of(place: int, packet: Octets, how: _How) -> Iterator[_Row]:
     """The row of a packet, if its types are those of a part, or it is wanted."""
-    direction, is_wanted = _direction_of(packet), how.is_wanted
-    message = None if direction is None and is_wanted is None else _message_of(packet)
+    direction, is_wanted = direction_of(packet), how.is_wanted
+    message = None if direction is None and is_wanted is None else message_of(packet)
     if message is not None and direction is None and is_wanted is not None and is_wanted(message):
-        yield _Row(place, message.apid, Direction.DOWN, None, None, _Counts(), bytes(packet))
+        yield _Row(place, message.apid, Direction.DOWN, None, None, Counts(), bytes(packet))
     if direction is None or message is None:
         return
-    joiner = _Joiner(direction, how.part_size, False)
+    joiner = Joiner(direction, how.part_size, False)
     name, part = joiner.part_in(message) or (None, None)
     yield _Row(place, message.apid, direction, name, part, joiner.counts)
 

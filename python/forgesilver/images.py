@@ -1,19 +1,50 @@
-"""Images of memories, from the dump reports of an archive, as `lpt extract --join --at` writes."""
+"""Images of memories, from the dump reports of an archive, as `lpt extract --at` writes."""
 
 from __future__ import annotations
 
-import functools
-from dataclasses import dataclass
-from typing import Iterable, Iterator, Optional, Union
+from dataclasses import dataclass, field
+from typing import TYPE_CHECKING, Iterable, Iterator, Optional, Union
 
 from ._library import Octets, number
-from .joining import Joined, Packets, _given, choice_of
-from .kinds import Direction
-from .memory import DUMPED, SERVICE, Loaded
+from .joining import Joined, Packets, _given, choice_of, is_dump_report
+from .kinds import Direction, PacketKind
+from .memory import Loaded
 from .packets import GREATEST_APID, Telemetry, crc16, read_message
 from .parts import part_size_of
 
+if TYPE_CHECKING:
+    from .archive import Missing
+
 _LAST_ADDRESS, _LONGEST = 0xFFFFFFFF, 1 << 28
+
+
+@dataclass(frozen=True)
+class Passed:
+    """A dump report that isn't read, or an area of one that isn't taken.
+
+    - place: how many octets stand in front of its packet, or of that of the last part
+    - why: `unread`; or `checksum` if that is wrong, `end` if the area ends past the last address
+    - start: the area's first address
+    - length: how many octets the area has, or the report's body
+    """
+
+    place: int
+    why: str
+    start: Optional[int]
+    length: int
+
+
+@dataclass(frozen=True)
+class Others:
+    """How many reports or parts weren't taken for one reason, and of the first of them the memory,
+    the APID or the place."""
+
+    count: int = 0
+    first: Optional[int] = None
+
+    def plus(self, one: int) -> Others:
+        """With one more."""
+        return Others(self.count + 1, one if self.first is None else self.first)
 
 
 @dataclass(frozen=True)
@@ -26,7 +57,16 @@ class Image:
     - missing: the addresses among these for which no octets came, as pairs of the first and the
       last; what is missing behind them isn't here
     - passed_over: how many reports or areas weren't taken: they can't be read, have a wrong
-      checksum, or end past the last address; and how many reports in parts aren't whole
+      checksum, or end past the last address; and of `read_image` how many reports in parts aren't
+      whole
+
+    Of `Archive.image` also:
+
+    - passed: each of these
+    - of_memories, of_apids: the reports of other memories, and of other APIDs
+    - parts: the parts of messages of the APID that weren't read, which may be of dump reports
+    - damaged, stray: the octets that are no packet, as many as their header says, and the others
+    - lost: what became of reports in parts that aren't whole
     """
 
     memory: int
@@ -34,6 +74,83 @@ class Image:
     octets: bytes
     missing: tuple[tuple[int, int], ...]
     passed_over: int
+    passed: tuple[Passed, ...] = ()
+    of_memories: Others = Others()
+    of_apids: Others = Others()
+    parts: Others = Others()
+    damaged: int = 0
+    stray: int = 0
+    lost: tuple[Missing, ...] = field(default=())
+
+    @property
+    def is_clean(self) -> bool:
+        """Whether octets came, and as far as they go all is well: none is missing, no octets of the
+        archive are no packet, and no report or part was passed over, but reports of other memories
+        and APIDs."""
+        passed = self.passed_over or self.parts.count or self.damaged or self.stray or self.lost
+        return bool(self.octets) and not self.missing and not passed
+
+
+class Picture:
+    """An image as it is put together. Not for the caller."""
+
+    def __init__(self, memory: int, apid: int, start: int, fill: int) -> None:
+        self.memory, self.start = number(memory, 255, "the memory"), number(start, _LAST_ADDRESS, "the start")
+        self.apid, self.fill = apid, bytes([number(fill, 255, "the fill")])
+        self.octets, self.came, self.end = bytearray(), bytearray(), 0
+        self.passed: list[Passed] = []
+        self.damaged = self.stray = 0
+        self.of_memories = self.of_apids = self.parts = Others()
+
+    def pass_over(self, stray: int, is_damaged: bool) -> None:
+        """Counts what is no packet."""
+        self.stray, self.damaged = self.stray + stray, self.damaged + is_damaged
+
+    def take(
+        self, place: int, apid: int, is_part: bool, service: int, subtype: int, body: Octets
+    ) -> None:
+        """Takes what telemetry gives."""
+        if is_part and apid == self.apid:
+            self.parts = self.parts.plus(place)
+        if not is_dump_report(PacketKind.TM, service, subtype):
+            return
+        if apid != self.apid:
+            self.of_apids = self.of_apids.plus(apid)
+            return
+        body = bytes(body)
+        areas = _areas_in(body)
+        if areas is None:
+            self.passed.append(Passed(place, "unread", None, len(body)))
+        elif body[0] != self.memory:
+            self.of_memories = self.of_memories.plus(body[0])
+        else:
+            for area, checksum in areas:
+                self._put(place, area, checksum)
+
+    def _put(self, place: int, area: Loaded, checksum: int) -> None:
+        """Takes an area."""
+        octets, length = bytes(area.octets), len(area.octets)
+        is_over = area.start + length - 1 > _LAST_ADDRESS
+        if is_over or crc16(octets) != checksum:
+            why = "end" if is_over else "checksum"
+            self.passed.append(Passed(place, why, area.start, length))
+            return
+        first = max(area.start, self.start) - self.start
+        octets = octets[max(self.start - area.start, 0) :]
+        end = first + len(octets)
+        self.end = max(self.end, end if octets else 0)
+        if octets and self.end <= _LONGEST:
+            self.octets.extend(self.fill * (end - len(self.octets)))
+            self.came.extend(bytes(max(end - len(self.came), 0)))
+            self.octets[first:end], self.came[first:end] = octets, b"\1" * len(octets)
+
+    def image(self, lost: tuple[Missing, ...] = ()) -> Image:
+        """The image. Raises ValueError if it would have too many octets."""
+        if self.end > _LONGEST:
+            raise ValueError(f"the image would have {self.end} octets, more than {_LONGEST}")
+        gaps, passed = tuple(_gaps(bytes(self.came), self.start)), tuple(self.passed)
+        head = self.memory, self.start, bytes(self.octets), gaps, len(passed), passed
+        return Image(*head, self.of_memories, self.of_apids, self.parts, self.damaged, self.stray, lost)
 
 
 def read_image(
@@ -41,7 +158,7 @@ def read_image(
 ) -> Image:
     """The image of a memory, from the dump reports among these packets, plain or in parts. Gaps
     are filled with `fill`. Raises `Range`; ValueError if it would have more than 268,435,456
-    octets; and what `join_each` raises.
+    octets; and what `join_each` raises. `Archive.image` also says which reports weren't taken.
 
     >>> from forgesilver import Telemetry, write_load, write_telemetry
     >>> report = write_telemetry(Telemetry(100, 0, 6, 6, 1, write_load(1, 2, b"ab")))
@@ -50,8 +167,7 @@ def read_image(
     (b'\\x00\\x00ab', ((0, 1),))
     """
     apid = number(apid, GREATEST_APID, "the APID")
-    is_wanted = functools.partial(is_dump, apid)
-    given = _given(packets, part_size_of(part_size), choice_of(apid), False, is_wanted)
+    given = _given(packets, part_size_of(part_size), choice_of(apid), False, apid)
     return image_of(given, memory, apid, start, fill)
 
 
@@ -59,58 +175,39 @@ def is_dump(apid: int, message: object) -> bool:
     """Whether a message is a dump report of this APID."""
     if not isinstance(message, Telemetry) or message.apid != apid:
         return False
-    return (message.service, message.subtype) == (SERVICE, DUMPED)
+    return is_dump_report(PacketKind.TM, message.service, message.subtype)
 
 
 def image_of(
     given: Iterable[Union[Joined, bytes]], memory: int, apid: int, start: int, fill: int
 ) -> Image:
     """The image, by what a stream gives: dump reports, and what was joined."""
-    memory, start = number(memory, 255, "the memory"), number(start, _LAST_ADDRESS, "the start")
-    octets, came, passed_over = bytearray(), bytearray(), 0
-    fill = number(fill, 255, "the fill")
+    picture, lost = Picture(memory, apid, start, fill), 0
     for it in given:
         message = it.message if isinstance(it, Joined) else it
         if isinstance(it, Joined) and (it.direction is Direction.UP or message is None):
-            passed_over += it.direction is Direction.DOWN
+            lost += it.direction is Direction.DOWN
             continue
-        for area in _areas_in(message, memory, apid):
-            if area is None:
-                passed_over += 1
-                continue
-            first = max(area.start, start) - start
-            its = bytes(area.octets)[max(start - area.start, 0) :]
-            end = first + len(its)
-            if its and end > _LONGEST:
-                raise ValueError(f"the image would have more than {_LONGEST} octets")
-            if its:
-                octets.extend(bytes([fill]) * (end - len(octets)))
-                came.extend(bytes(max(end - len(came), 0)))
-                octets[first:end], came[first:end] = its, b"\1" * len(its)
-    return Image(memory, start, bytes(octets), tuple(_gaps(bytes(came), start)), passed_over)
+        report = read_message(message) if message is not None else None
+        if isinstance(report, Telemetry) and is_dump(apid, report):
+            picture.take(0, report.apid, False, report.service, report.subtype, report.body)
+    image = picture.image()
+    return Image(memory, start, image.octets, image.missing, image.passed_over + lost)
 
 
-def _areas_in(message: Optional[Octets], memory: int, apid: int) -> Iterator[Optional[Loaded]]:
-    """The areas of this memory in a dump report; None for each that isn't taken, or for a report
-    that isn't read."""
-    report = read_message(message) if message is not None else None
-    if not isinstance(report, Telemetry) or not is_dump(apid, report):
-        return
-    body, at, found = bytes(report.body), 2, []
+def _areas_in(body: bytes) -> Optional[list[tuple[Loaded, int]]]:
+    """The areas of a dump report, each with its checksum; None if the report isn't read."""
+    at, found = 2, []
     for _ in range(body[1] if len(body) > 1 else 0):
         start = int.from_bytes(body[at : at + 4], "big")
         size = int.from_bytes(body[at + 4 : at + 6], "big")
-        area = Loaded(start, body[at + 6 : at + 6 + size])
         after = at + 8 + size
         if size == 0 or after > len(body):
-            break
-        is_right = crc16(area.octets) == int.from_bytes(body[after - 2 : after], "big")
-        found.append(area if is_right and start + size - 1 <= _LAST_ADDRESS else None)
+            return None
+        octets = body[at + 6 : after - 2]
+        found.append((Loaded(start, octets), int.from_bytes(body[after - 2 : after], "big")))
         at = after
-    if not found or len(found) < body[1] or at < len(body):
-        yield None
-    elif body[0] == memory:
-        yield from found
+    return found if found and at == len(body) else None
 
 
 def _gaps(came: bytes, start: int) -> Iterator[tuple[int, int]]:

@@ -6,7 +6,7 @@ from __future__ import annotations
 
 from ctypes import addressof, byref
 from dataclasses import dataclass
-from typing import Iterator, Optional, Union
+from typing import Iterator, Optional, Sequence, Union
 
 from . import _library
 from ._handle import NOTHING, Handle
@@ -183,7 +183,8 @@ class Job(Handle):
         pieces = (self._copied(_ground.lpt_ground_dumped, room, it) or b"" for it in requests)
         octets, at = b"".join(pieces), 0
         found: list[Loaded] = []
-        for area, length in zip(self.request.areas, self._lengths):
+        areas: Sequence[Union[Area, Loaded]] = self.request.areas
+        for area, length in zip(areas, self._lengths):
             found.append(Loaded(area.start, octets[at : at + length]))
             at += length
         return found

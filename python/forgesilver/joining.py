@@ -6,30 +6,27 @@ then, and what is said to be missing, is what `lpt join --each` writes and says.
 
 from __future__ import annotations
 
-import functools
 import warnings
 from dataclasses import dataclass, field
-from typing import BinaryIO, Callable, Iterable, Iterator, Optional, Union
+from typing import Any, BinaryIO, Iterable, Iterator, Optional, Union
 
-from ._course import Course, Kept, News, Parts
+from . import _library
 from ._library import Octets, has_octets, number, view_of
-from .faults import Fault, WrongType, ZeroNumber
-from .kinds import Direction, PacketKind, PartKind
-from .packets import (
-    GREATEST_APID, Telecommand, Telemetry, read_message, read_packet, sound_packets_of,
-)
-from .parts import SERVICE, Name, Named, name_of, part_of, part_size_of, read_part
+from ._readers import UNREAD, News, Reader, chunks_of, joiner, lister, step, told_by
+from .faults import Fault
+from .kinds import Direction, ItemKind, PacketKind, PartKind
+from .memory import DUMPED
+from .memory import SERVICE as MEMORY
+from .packets import GREATEST_APID
+from .parts import Name, Named, name_of, part_size_of
 
-_SUBTYPES = {Direction.UP: (9, 10, 11), Direction.DOWN: (1, 2, 3)}
-_KINDS = {Direction.UP: PacketKind.TC, Direction.DOWN: PacketKind.TM}
+_next = _library.reader.lpt_reader_next
 
 # Of so many an exception's text tells.
 _MOST_TOLD = 4
 
 #: Packets: octets or a binary file in which they stand one after the other; or one by one.
 Packets = Union[Octets, BinaryIO, Iterable[Octets]]
-#: Whether a message, or None, is given beside what is joined.
-Wanted = Callable[[object], bool]
 
 
 @dataclass(frozen=True)
@@ -61,7 +58,7 @@ class NotJoined(ValueError):
 
 
 class SkippedWarning(UserWarning):
-    """Parts of another APID than that of the first part were skipped, and no APID was given."""
+    """Parts were skipped: of another size; or of another APID than that of the first part, and no APID was given."""
 
 
 def join(
@@ -91,16 +88,19 @@ def join(
     direction = None if direction is None else Direction(direction)
     part_size, choice = part_size_of(part_size), choice_of(apid)
     found: list[Joined] = []
-    for it in joined_of(_given(packets, part_size, choice, bool(any))):
+    counts = Counts()
+    for it in joined_of(_given(packets, part_size, choice, bool(any), None, counts)):
         is_wanted = wanted in (None, it.name) and direction in (None, it.direction)
         # A message that came twice is one.
         if is_wanted and (it.message is None or it not in found):
             found.append(it)
     if len(found) == 1 and found[0].message is not None:
+        warn(counts.said(part_size) if wanted is None else [], 3)
         return found[0].message
     said = [_said_of(it) for it in found[:_MOST_TOLD]]
     if len(found) > _MOST_TOLD:
         said.append(f"and {len(found) - _MOST_TOLD} more")
+    said += counts.said(part_size) if said else []
     if not said:
         asked = [f"APID {choice.apid}"] if choice.apid is not None else []
         asked += [f"direction {direction.name.lower()}"] if direction is not None else []
@@ -126,17 +126,16 @@ def join_each(
 ) -> Iterator[Joined]:
     """Each message of these packets, once it is whole; parts, once they are given up for another message of their
     name; and at the end, in the order of names, what isn't whole.
-    Damaged and idle packets, those without a part of this APID and size, and octets that are no packet are skipped. Without an APID it is that of the first packet with a part; if parts of another
-    came, a `SkippedWarning` says so at the end.
+    Damaged and idle packets, those without a part of this APID and size, and octets that are no packet are skipped. Without an APID it is that of the first packet with a part. If parts of another
+    came then, or parts of another size, a `SkippedWarning` says so at the end.
 
     If what is joined isn't a packet of its direction, `message` is None and `fault` says why; with
     `any` anything joined is a message. Raises `Range`; and at the end `NotJoined`, if parts don't
     fit the part size, and all that fit it are last parts.
     """
-    part_size, choice = part_size_of(part_size), choice_of(apid)
-    yield from joined_of(_given(packets, part_size, choice, bool(any)))
-    if apid is None:
-        choice.warn(3)
+    part_size, choice, counts = part_size_of(part_size), choice_of(apid), Counts()
+    yield from joined_of(_given(packets, part_size, choice, bool(any), None, counts))
+    warn([*choice.warned(apid is not None), *counts.said(part_size)], 3)
 
 
 def joined_of(given: Iterable[Union[Joined, bytes]]) -> Iterator[Joined]:
@@ -169,10 +168,15 @@ class Choice:
         first = f"the first of APID {self.other}"
         return [f"{self.others} parts of another APID were skipped, {first}"]
 
-    def warn(self, level: int) -> None:
-        """Warns the caller, so many calls above, of what wasn't taken."""
-        for said in self.said():
-            warnings.warn(f"{said}: apid={self.other} takes it", SkippedWarning, level)
+    def warned(self, is_given: bool) -> list[str]:
+        """The same as a warning: nothing if the APID was given."""
+        return [] if is_given else [f"{it}: apid={self.other} takes it" for it in self.said()]
+
+
+def warn(said: Iterable[str], level: int) -> None:
+    """Warns the caller, so many calls above, of what was skipped."""
+    for it in said:
+        warnings.warn(it, SkippedWarning, level)
 
 
 def choice_of(apid: Optional[int]) -> Choice:
@@ -185,168 +189,149 @@ def _given(
     part_size: int,
     choice: Choice,
     any: bool,
-    is_wanted: Optional[Wanted] = None,
+    dumps_of: Optional[int] = None,
+    counts: Optional[Counts] = None,
 ) -> Iterator[Union[Joined, bytes]]:
-    """What `join_each` gives; and, where they come, other packets whose messages are wanted."""
+    """What `join_each` gives; and, where they come, the dump reports of an APID."""
     joiners: dict[Direction, _Joiner] = {}
-    for packet in _packets_in(packets):
-        direction = _direction_of(packet)
-        message = None if direction is None and is_wanted is None else _message_of(packet)
-        if direction is None and is_wanted is not None and is_wanted(message):
-            yield bytes(packet)
-        if direction is None or message is None:
+    counts = Counts() if counts is None else counts
+    for item, reader in _items_in(packets, part_size):
+        if item.kind != ItemKind.PACKET:
             continue
-        if choice.takes(message.apid):
-            if direction not in joiners:
-                joiners[direction] = _Joiner(direction, part_size, any)
-            yield from joiners[direction].take(message)
+        if not item.part:
+            if item.apid == dumps_of and is_dump_report(item.packet, item.service, item.subtype):
+                yield reader.octets(item.length)
+            continue
+        if not choice.takes(item.apid):
+            continue
+        direction, octets = Direction(1 - item.packet), reader.octets(item.length)
+        if direction not in joiners:
+            joiners[direction] = _Joiner(direction, item.apid, any, part_size)
+        if item.part == UNREAD:
+            counts.note(octets[item.body_at : item.body_at + item.body_len], item.subtype, item.place)
+            continue
+        counts.fitting += item.part != PartKind.LAST
+        yield from joiners[direction].take(octets)
     rest = [it for joiner in joiners.values() for it in joiner.rest()]
-    _refuse_size([it.counts for it in joiners.values()], part_size, rest, choice)
+    refuse_size(counts, part_size, rest, choice)
     yield from rest
 
 
+def is_dump_report(packet: int, service: int, subtype: int) -> bool:
+    """Whether packets of this kind and these types are dump reports."""
+    return packet == PacketKind.TM and service == MEMORY and subtype == DUMPED
+
+
 @dataclass
-class _Counts:
+class Counts:
     """How many parts came that aren't last ones; how many that have number 0, or aren't read for
-    the part size; and the part size by which the first of these would be."""
+    the part size; the part size by which the first of these would be, and where the first is."""
 
     fitting: int = 0
     zeros: int = 0
     unread: int = 0
     size: Optional[int] = None
+    place: Optional[int] = None
+
+    def note(
+        self, body: bytes, subtype: int, place: Optional[int], id_octets: int = 2, number_octets: int = 2
+    ) -> None:
+        """Notes a part that isn't read, of a message subtype, in the packet at a place."""
+        octets = len(body) - id_octets - number_octets
+        number_of = int.from_bytes(body[id_octets : id_octets + number_octets], "big")
+        if octets >= 0 and number_of == 0:
+            self.zeros += 1
+            return
+        self.unread += 1
+        self.place = place if self.place is None else self.place
+        is_first = subtype in (1, 9) and number_of == 1
+        if self.size is None and is_first and 4 <= octets <= 1024:
+            self.size = octets
+
+    def plus(self, more: Counts) -> None:
+        """Counts more, which came behind."""
+        self.fitting += more.fitting
+        self.zeros += more.zeros
+        self.unread += more.unread
+        self.size = more.size if self.size is None else self.size
+
+    def said(self, part_size: Optional[int]) -> list[str]:
+        """What is said of the parts that weren't read; nothing if all were."""
+        said = []
+        if self.zeros:
+            has = "part has" if self.zeros == 1 else "parts have"
+            said.append(f"{self.zeros} {has} number 0: the packets may have another layout")
+        if self.unread:
+            fits = "part doesn't fit" if self.unread == 1 else "parts don't fit"
+            other = f": try part_size={self.size}" if self.size else ""
+            size = "1 to 65535" if part_size is None else part_size
+            said.append(f"{self.unread} {fits} part_size={size}{other}")
+        return said
 
 
-def _refuse_size(
-    counts: Iterable[_Counts], part_size: int, found: list[Joined], choice: Choice
-) -> None:
+def refuse_size(counts: Counts, part_size: int, found: list[Joined], choice: Choice) -> None:
     """Raises `NotJoined` if parts came, and none fits this size but last ones."""
-    zeros, unread = sum(it.zeros for it in counts), sum(it.unread for it in counts)
-    if not zeros + unread or sum(it.fitting for it in counts):
+    if counts.zeros + counts.unread and not counts.fitting:
+        raise NotJoined("; ".join(counts.said(part_size) + choice.said()), found)
+
+
+def _items_in(packets: Packets, part_size: int) -> Iterator[tuple[Any, Reader]]:
+    """What stands in a stream, each with the reader that told it; or in each of packets that are
+    given one by one, if it is whole."""
+    reader, item = lister(b"", part_size), _library.LptItem()
+    if not hasattr(packets, "read") and not has_octets(packets):
+        yield from _items_of_each(packets, part_size, reader, item)  # type: ignore[arg-type]
         return
-    said = []
-    if zeros:
-        has = "part has" if zeros == 1 else "parts have"
-        said.append(f"{zeros} {has} number 0: the packets may have another layout")
-    if unread:
-        sizes = {it.size for it in counts if it.size is not None}
-        fits = "part doesn't fit" if unread == 1 else "parts don't fit"
-        other = f": try part_size={min(sizes)}" if sizes else ""
-        said.append(f"{unread} {fits} part_size={part_size}{other}")
-    raise NotJoined("; ".join(said + choice.said()), found)
+    for chunk in chunks_of(packets):  # type: ignore[arg-type]
+        reader.feed(chunk)
+        while reader.tells(_next, item):
+            yield item, reader
+    reader.end()
+    while reader.tells(_next, item) and item.kind != ItemKind.END:
+        yield item, reader
 
 
-def _packets_in(packets: Packets) -> Iterable[Octets]:
-    """The packets of a stream, or those that are given one by one."""
-    if hasattr(packets, "read") or has_octets(packets):
-        return sound_packets_of(packets)  # type: ignore[arg-type]
-    return packets  # type: ignore[return-value]
-
-
-def _direction_of(packet: Octets) -> Optional[Direction]:
-    """The direction of a packet whose types are those of a part; nothing of another."""
-    front = view_of(packet)
-    if len(front) < 9 or front[7] != SERVICE:
-        return None
-    direction = Direction.UP if front[0] & 0x10 else Direction.DOWN
-    return direction if front[8] in _SUBTYPES[direction] else None
-
-
-def _message_of(packet: Octets) -> Union[Telecommand, Telemetry, None]:
-    """The message of a packet, if it is one."""
-    try:
-        return read_message(packet)
-    except Fault:
-        return None
-
-
-def _other_end(message: Union[Telecommand, Telemetry]) -> int:
-    """Which end on ground a message comes from, or goes to."""
-    return message.source if isinstance(message, Telecommand) else message.destination
-
-
-def _fault_of(direction: Direction, any: bool, message: bytes) -> Optional[Fault]:
-    """Why what was joined isn't a packet of its direction; None if it is, or needn't be."""
-    if any:
-        return None
-    try:
-        is_fit = read_packet(message).kind is _KINDS[direction]
-    except Fault as fault:
-        return fault.with_traceback(None)
-    return None if is_fit else WrongType()
+def _items_of_each(
+    packets: Iterable[Octets], part_size: int, reader: Reader, item: Any
+) -> Iterator[tuple[Any, Reader]]:
+    """What is whole among packets that are given one by one."""
+    place = 0
+    for packet in packets:
+        length = len(view_of(packet))
+        if not length:
+            continue
+        reader.feed(packet)
+        is_told = reader.tells(_next, item)
+        if is_told and item.place == place and item.length == length:
+            place += length
+            yield item, reader
+        else:
+            # The next one isn't read behind this.
+            reader, place = lister(b"", part_size), 0
 
 
 class _Joiner:
-    """The parts of a direction, by their names."""
+    """The parts of a direction, which the library joins."""
 
-    def __init__(self, direction: Direction, part_size: int, any: bool) -> None:
-        self.direction = direction
-        self.part_size = part_size
-        self.any = any
-        self.courses: dict[Name, Course] = {}
-        self.counts = _Counts()
+    def __init__(self, direction: Direction, apid: int, any: bool, part_size: int) -> None:
+        self.reader = joiner(direction, apid, any, b"", part_size)
 
-    def take(self, message: Union[Telecommand, Telemetry]) -> Iterator[Joined]:
-        """Takes a message that should be a part: what comes of it."""
-        part = self.part_in(message)
-        if part is not None:
-            yield from self.add(*part)
-
-    def part_in(self, message: Union[Telecommand, Telemetry]) -> Optional[tuple[Name, Kept]]:
-        """The part of a message that should be one, with its name; None if it isn't read."""
-        try:
-            part = part_of(message, self.part_size)
-        except ZeroNumber:
-            self.counts.zeros += 1
-            return None
-        except Fault:
-            self._note_unread(message)
-            return None
-        assert part is not None
-        is_last = part.kind is PartKind.LAST
-        self.counts.fitting += not is_last
-        name = Name(_other_end(message), part.id)
-        return name, Kept(part.number, is_last, bytes(part.octets))
-
-    def add(self, name: Name, part: Kept) -> Iterator[Joined]:
-        """Takes a part of this name: what comes of it."""
-        if name not in self.courses:
-            judge = functools.partial(_fault_of, self.direction, self.any)
-            self.courses[name] = Course(self.part_size, judge)
-        news = self.courses[name].take(part)
-        if news is not None:
-            yield from self._told(name, news)
+    def take(self, packet: bytes) -> Iterator[Joined]:
+        """Takes a packet with a part that is read: what comes of it."""
+        self.reader.feed(packet)
+        found = step(self.reader) or ()
+        for news in found:
+            yield _joined(news, news.missing is not None and len(found) == 1)
 
     def rest(self) -> Iterator[Joined]:
         """What isn't whole."""
-        for name, course in sorted(self.courses.items(), key=lambda it: it[0]):
-            if course.new.by_number:
-                yield self._lost(name, course.new, False)
-
-    def _told(self, name: Name, news: News) -> Iterator[Joined]:
-        """What a part told of its name."""
-        if news.given_up is not None:
-            yield self._lost(name, news.given_up, news.is_contradicted)
-        if news.unfit is not None:
-            yield Joined(self.direction, name, None, fault=news.unfit)
-        if news.message is not None:
-            yield Joined(self.direction, name, news.message)
-
-    def _lost(self, name: Name, parts: Parts, is_contradicted: bool) -> Joined:
-        """Parts of a message that isn't whole."""
-        return Joined(self.direction, name, None, parts.missing(), is_contradicted)
-
-    def _note_unread(self, message: Union[Telecommand, Telemetry]) -> None:
-        """Notes a part that isn't read for the part size."""
-        self.counts.unread += 1
-        if self.counts.size is None and message.subtype == _SUBTYPES[self.direction][0]:
-            self.counts.size = _size_shown(message.body)
+        self.reader.end()
+        for news in told_by(self.reader):
+            yield _joined(news, False)
 
 
-def _size_shown(body: Octets) -> Optional[int]:
-    """The part size by which this body is read as a first part."""
-    size = len(view_of(body)) - 4
-    try:
-        read_part(PartKind.FIRST, body, size)
-    except Fault:
-        return None
-    return size
+def _joined(news: News, is_contradicted: bool) -> Joined:
+    """What the library told."""
+    name, missing = Name(news.user, news.id), news.missing or ""
+    fault = None if news.fault is None else news.fault()
+    return Joined(news.direction, name, news.octets, missing, is_contradicted, fault)

@@ -51,6 +51,19 @@ class ItemKind(IntEnum):
     FAULTY = 3
 
 
+class MessageKind(IntEnum):
+    """What becomes of an archive's messages: at the end, nothing more; with a packet, nothing; one is
+    whole; parts are given up; parts are, and another one is whole; one is whole that isn't given, as
+    it is no packet of its direction."""
+
+    END = 0
+    NONE = 1
+    WHOLE = 2
+    MISSING = 3
+    OVERTAKES = 4
+    UNFIT = 5
+
+
 class Reason(IntEnum):
     """Why a reception was aborted. EXPIRED: no part came for as long as the timeout. DISCONTINUITY:
     in strict mode a part came that isn't the next one. CONFLICT: a part contradicts another."""

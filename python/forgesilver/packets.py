@@ -149,7 +149,7 @@ def packets_of(stream: Union[Octets, BinaryIO]) -> Iterator[Union[bytes, memoryv
 
 def _packets_of_file(file: BinaryIO) -> Iterator[bytes]:
     """The packets of a file."""
-    _reader_of(file)
+    reader_of(file)
     at = 0
     while True:
         front = _read_all(file, 6)
@@ -189,7 +189,7 @@ def _read_all(file: BinaryIO, size: int) -> bytes:
     return found or b""
 
 
-def _reader_of(file: BinaryIO) -> Callable[[int], Optional[bytes]]:
+def reader_of(file: BinaryIO) -> Callable[[int], Optional[bytes]]:
     """What reads so many octets of a file, or fewer if no more have come yet."""
     read = getattr(file, "read1", None) or getattr(file, "read", None)
     if read is None:
@@ -203,7 +203,7 @@ def sound_packets_of(stream: Union[Octets, BinaryIO]) -> Iterator[memoryview]:
     if has_octets(stream):
         view, read = view_of(stream), None  # type: ignore[arg-type]
     else:
-        view, read = memoryview(b""), _reader_of(stream)  # type: ignore[arg-type]
+        view, read = memoryview(b""), reader_of(stream)  # type: ignore[arg-type]
     at, in_step = 0, True
     while True:
         front = view[at : at + _LOOKAHEAD]

@@ -236,6 +236,30 @@ def apids(want, driver) -> None:
     want("no packets", raised(forgesilver.join, b"", part_size=SIZE), "no part of 8 octets came")
 
 
+def other_sizes(want, driver) -> None:
+    """Beside messages, parts of another size are told by a warning, as the program tells them."""
+    f = forgesilver
+    own = list(f.split(message_of(bytes(30), Direction.UP, 1), name=(1, 7), part_size=SIZE, apid=APID))
+    others = list(f.split(bytes(64), name=(1, 8), part_size=16, apid=APID))
+    for few in (others, others[:1], others[1:3]):
+        octets = b"".join(own + few)
+        with tempfile.TemporaryDirectory(prefix="lpt-archives-") as folder:
+            status, _, said = driver.run(["join", "up", "--each", f"{folder}/out", *WORDS], octets)
+        told = re.match(r"lpt: up: (\d+) parts? do(?:es)?n't fit part_size = 8(?:, but part_size = (\d+))?, ", said[-1])
+        want("other sizes, by the program", (status, int(told[1])), (1, len(few)))
+        fits = "1 part doesn't fit" if len(few) == 1 else f"{len(few)} parts don't fit"
+        wanted = [f"{fits} part_size=8{f': try part_size={told[2]}' if told[2] else ''}"]
+        for form, call in itertools.product((octets, own + few, io.BytesIO(octets)), (all_joined, forgesilver.join)):
+            with warnings.catch_warnings(record=True) as warned:
+                warnings.simplefilter("always")
+                found = call(form, part_size=SIZE)
+            its = found[0].message if call is all_joined else found
+            want("beside other sizes", its, message_of(bytes(30), Direction.UP, 1))
+            want("other sizes", [(str(it.message), it.filename) for it in warned], [(it, __file__) for it in wanted])
+            if isinstance(form, io.BytesIO):
+                form.seek(0)
+
+
 def nothing_came(want, driver) -> None:
     """An archive that has a dump report without its last part gives no octets of the memory, and no place of these is
     missing; the program writes nothing."""
@@ -273,6 +297,6 @@ def beside_incomplete(want) -> None:
 
 def all_of(want, driver) -> None:
     """All of them."""
-    for cases in (used_again, damaged, sizes, apids, nothing_came):
+    for cases in (used_again, damaged, sizes, apids, other_sizes, nothing_came):
         cases(want, driver)
     beside_incomplete(want)
