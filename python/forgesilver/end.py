@@ -345,13 +345,13 @@ class End(Handle):
         its turn comes, `execute` reports it as SILENT. False if there is none."""
         return not self._unless(_NO_JOB, self._call(_end.lpt_end_drop))
 
-    def serve(self) -> Iterator[bytes]:
+    def serve(self, keep_open: bool = False) -> Iterator[bytes]:
         """Reads and executes all requests that were released, and gives the packets to be sent, as
         `outgoing` does: what waited before, reports, and the parts of reports that are too long for
         a packet. If an exception or `break` ends the loop, another `serve` goes on from its packet.
 
-        It finishes these messages, so their lost parts can't be made again: if the network loses
-        packets, call `read`, `execute`, `outgoing` and `parts` yourself, and `finish` when ground has all parts. You
+        It finishes these messages, so their lost parts can't be made again. If the network loses packets, use
+        `keep_open`: then `senders` has them, `parts` makes parts again, and you call `finish` when ground has all. You
         retire the names at both ends, ground first.
 
         To keep the state, take all packets before you send one: `packets = list(end.serve())`. Then
@@ -360,7 +360,7 @@ class End(Handle):
             pass
         yield from self.outgoing()
         while True:
-            yield from self._report_parts()
+            yield from self._report_parts(keep_open)
             applied = self.execute()
             if applied is None:
                 return
@@ -368,14 +368,18 @@ class End(Handle):
                 self._report = applied.name, 1
             yield from self.outgoing()
 
-    def _report_parts(self) -> Iterator[bytes]:
-        """The parts of the report that `serve` sends, from the next one on. Then it finishes it."""
+    def _report_parts(self, keep_open: bool) -> Iterator[bytes]:
+        """The parts of the report that `serve` sends, from the next one on. Then it finishes it, unless
+        it is kept open."""
         while self._report is not None:
             name, its_number = self._report
             try:
                 self.part(name, its_number)
             except NoSuchPart:
-                self.finish(name)
+                if keep_open:
+                    self._report = None
+                else:
+                    self.finish(name)
                 return
             self._report = name, its_number + 1
             yield from self.outgoing()
