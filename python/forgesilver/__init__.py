@@ -13,7 +13,8 @@ The modules:
 
 - packets: packets, telecommands and telemetry, and the packets of a stream
 - parts: the parts of large messages, and `split`
-- archive: the packets of an archive as they come, by any layout, and its messages
+- archive: the packets of an archive as they come, by any layout, and its messages, the images of
+  memories and the outcomes of requests
 - joining: `join`, and `join_each` of an archive
 - images: `read_image` of an archive's dump reports
 - distributed: both of many files, on the workers of Dask
@@ -53,6 +54,7 @@ from .memory import (
     Area, Check, Checked, CheckReport, Dump, DumpReport, Load, Loaded, read_check, read_data_report,
     read_dump, write_load,
 )
+from .outcomes import Outcomes, PassedOver, RequestOutcome
 from .packets import (
     LONGEST_PACKET, Packet, Telecommand, Telemetry, crc16, find_piece, packet_length, packets_of,
     read_message, read_packet, read_telecommand, read_telemetry, sound_packets_of, write_packet,
@@ -69,9 +71,9 @@ __all__ = [
     "Checked", "Config", "Direction", "Dump", "DumpReport", "End", "Failure", "Fate",
     "FateState", "Fault", "Image", "ItemKind", "Job", "JobKind", "Joined",
     "LONGEST_PACKET", "Listed", "Load", "Loaded", "Message", "MessageKind", "Missing", "Mode", "Name", "NameState", "NotJoined", "Others", "Outcome",
-    "OutcomeKind",
-    "Packet", "PacketKind", "Part", "PartKind", "Passed", "PieceKind", "Progress", "Reason", "Reception",
-    "ReportKind", "Sender", "Side", "SkippedWarning", "Step",
+    "OutcomeKind", "Outcomes",
+    "Packet", "PacketKind", "Part", "PartKind", "Passed", "PassedOver", "PieceKind", "Progress", "Reason",
+    "Reception", "ReportKind", "RequestOutcome", "Sender", "Side", "SkippedWarning", "Step",
     "Telecommand",
     "Telemetry", "VerificationReport", "View", "Why", "WrongThread", "crc16", "faults",
     "find_piece", "join", "join_each",

@@ -1,28 +1,32 @@
 """The packets of an archive, as they come, by the profile or by a mission's layouts: what `lpt list`
-says of each; and the messages that they carry, as `lpt join --each` joins them. docs/C.md says what
-is proved of the library that reads them."""
+says of each; the messages that they carry, as `lpt join --each` joins them; the image of a memory,
+as `lpt extract --at` writes it; and what became of requests, as `lpt verify` says. docs/C.md says
+what is proved of the library that reads them."""
 
 from __future__ import annotations
 
+import datetime
 import pathlib
 from ctypes import byref
-from dataclasses import dataclass
+from dataclasses import dataclass, field
 from typing import Any, BinaryIO, Iterator, Optional, Union
 
 from . import _library
-from ._course import Kept, Parts
 from ._handle import Handle
+from ._layouts import Headers, cut_by, date_text, headers_of
 from ._library import Given, Octets, Room, has_octets, number
+from ._listing import is_whole, items_of
+from ._readers import UNREAD, News, Reader, joiner, step, told_by
 from .faults import BY_NUMBER, Empty, Fault, More, raise_fault
+from .images import Image, Picture
+from .joining import Counts, warn
 from .kinds import Direction, ItemKind, PacketKind, PartKind
+from .outcomes import Outcomes, PassedOver, Requests
+from .packets import GREATEST_APID, reader_of
 
 _reader = _library.reader
 # How many octets are read at a time.
 _CHUNK = 65536
-_UNREAD = 4
-# What becomes of messages, as the library numbers it.
-_END, _WHOLE, _MISSING, _OVERTAKES, _UNFIT = 0, 2, 3, 4, 5
-_UNKNOWN = 2**64 - 1
 
 #: An archive: its path, its octets, or a binary file.
 Source = Union[str, pathlib.Path, Octets, BinaryIO]
@@ -61,18 +65,39 @@ class Listed:
     part_octets: bytes = b""
     is_unread: bool = False
     fault: Optional[type[Fault]] = None
+    spare: bytes = b""
+    headers: Optional[Headers] = field(default=None, compare=False, repr=False)
+
+    @property
+    def date(self) -> Optional[datetime.datetime]:
+        """The date that the time is by the layout's time code, without a time zone, rounded down to
+        microseconds. None if it has none, or is a leap second, which `to_dict` has."""
+        code = self.headers.code if self.headers is not None else None
+        text = date_text(code, self.time) if code is not None else None
+        if text is None or text[17:19] == "60":
+            return None
+        second, _, fraction = text.partition(".")
+        return datetime.datetime.fromisoformat(f"{second}.{fraction[:6]:0<6}")
+
+    @property
+    def direction(self) -> Optional[Direction]:
+        """Where the packet goes: a telecommand up, telemetry down."""
+        return None if self.packet is None else Direction(1 - self.packet)
 
     def to_dict(self) -> dict[str, Any]:
-        """The same as numbers, texts and None alone, for JSON or a table: octets in hexadecimal
-        digits, kinds and the fault by their names."""
-        found = {name: getattr(self, name) for name in self.__dataclass_fields__}
-        for name, it in found.items():
-            if isinstance(it, bytes):
-                found[name] = it.hex()
-            elif isinstance(it, (ItemKind, PacketKind, PartKind)):
-                found[name] = it.name.lower()
-        found["fault"] = self.fault and self.fault.__name__
-        return found
+        """What `lpt list --json` prints of it, with the same names and types: numbers and texts. A
+        field that the layout lacks isn't there. The end, which `list` doesn't print, has its place
+        and the packet type `end`."""
+        if self.kind is ItemKind.END:
+            return {"place": self.place, "packet_type": "end"}
+        return {"place": self.place, "length": len(self.octets), **items_of(self)}
+
+    def rows(self) -> list[dict[str, Any]]:
+        """What `lpt list --json` prints up to its last octet: if octets in front of it are no packet,
+        where they begin; then `to_dict`, but of the end."""
+        place = self.place - self.stray
+        stray = [{"place": place, "packet_type": "none"}] if self.stray else []
+        return stray + ([] if self.kind is ItemKind.END else [self.to_dict()])
 
 
 @dataclass(frozen=True)
@@ -89,6 +114,12 @@ class Message:
     id: int
     place: int
     octets: bytes
+
+    def to_dict(self) -> dict[str, Any]:
+        """The same as numbers and texts, with the names of `lpt list --json`; the octets in
+        hexadecimal digits."""
+        head = _head_of(self.direction, self.user, self.id)
+        return {**head, "place": self.place, "octets": self.octets.hex()}
 
 
 @dataclass(frozen=True)
@@ -108,11 +139,26 @@ class Missing:
     parts: str = ""
     fault: Optional[type[Fault]] = None
 
+    def to_dict(self) -> dict[str, Any]:
+        """The same as numbers, texts and None, with the names of `lpt list --json`."""
+        found = {**_head_of(self.direction, self.user, self.id), "place": self.place}
+        if self.fault is None:
+            return {**found, "missing": self.parts}
+        return {**found, "fault_code": self.fault.number, "fault": self.fault.__name__}
+
+
+def _head_of(direction: Direction, user: int, identifier: int) -> dict[str, Any]:
+    """What names a message."""
+    of = "source_id" if direction is Direction.UP else "destination_id"
+    name = {of: user, "large_message_transaction_identifier": identifier}
+    return {"direction": direction.name.lower(), **name}
+
 
 class Archive(Handle):
     """The packets of an archive, one after the other, as they are read: an iterator of `Listed`,
-    whose last one is the end; or its messages, by `messages`. It is a context manager, and frees its
-    memory when it is closed.
+    whose last one is the end. Instead of the packets it gives messages, by `messages`, the `image`
+    of a memory, or `outcomes` of requests. It is a context manager, and frees its memory when it is
+    closed.
 
     >>> packets = b"".join(split(bytes(20), name=(1, 7), part_size=8, apid=100))
     >>> with Archive(packets + b"noise", part_size=8) as archive:
@@ -123,7 +169,10 @@ class Archive(Handle):
     that made it, and is neither copied nor pickled.
     """
 
-    __slots__ = ("_file", "_has_begun", "_is_own", "_is_over", "_layout", "_missing", "_octets", "_part_size")
+    __slots__ = (
+        "_file", "_has_begun", "_headers", "_is_own", "_is_over", "_missing", "_octets", "_part_size",
+        "_text",
+    )
     _noun, _free = "the archive", staticmethod(_reader.lpt_reader_free)
 
     def __init__(
@@ -139,9 +188,9 @@ class Archive(Handle):
         super().__init__()
         if layout is not None and not isinstance(layout, str):
             raise TypeError(f"the layout is no text, but of type {type(layout).__name__}")
-        self._layout = b"" if layout is None else layout.encode() or b"\n"
-        self._part_size = number(part_size, 0xFFFFFFFF, "the part size")
-        self._at = self._made(_reader.lpt_reader_new)
+        self._text, self._part_size = layout, number(part_size, 0xFFFFFFFF, "the part size")
+        self._at = self._lister(_spelled(layout))
+        self._headers = headers_of(layout, self._part_size)
         self._file: Optional[BinaryIO] = None
         self._octets: Optional[memoryview] = None
         self._missing: list[Missing] = []
@@ -152,10 +201,10 @@ class Archive(Handle):
             self.close()
             raise
 
-    def _made(self, function: Any, *words: int) -> Optional[int]:
+    def _lister(self, layout: bytes) -> Optional[int]:
         """The address of a new reader."""
-        place, text = _library.POINTER(), Given(self._layout)
-        raise_fault(function(byref(place), *words, self._part_size, text.at, text.len))
+        place, text = _library.POINTER(), Given(layout)
+        raise_fault(_reader.lpt_reader_new(byref(place), self._part_size, text.at, text.len))
         return place.value
 
     def _begin(self, source: Source) -> None:
@@ -182,10 +231,9 @@ class Archive(Handle):
     def __next__(self) -> Listed:
         if self._is_over:
             raise StopIteration
-        item = _library.LptItem()
-        self._told(_reader.lpt_reader_next, item)
-        self._is_over = item.kind == ItemKind.END
-        return _listed(item, b"" if self._is_over else self._last(item.length))
+        return self._next(None)
+
+    # ---- messages ----
 
     def messages(
         self, direction: Direction, *, apid: int, any: bool = False
@@ -201,87 +249,246 @@ class Archive(Handle):
         [(7, 100)]
         []
 
-        Raises `Range`, `Allocation`, `faults.Empty`, and ValueError if something was read.
+        At the end a `SkippedWarning` says which parts weren't read, and octets that weren't since no
+        packet has a checksum by which the next one is found. Raises `Range`, `Allocation`,
+        `faults.Empty`, and ValueError if something was read.
         """
         direction, apid = Direction(direction), number(apid, 0xFFFF, "the APID")
-        if self.is_closed:
-            raise_fault(Empty.number)
-        if self._has_begun:
-            raise ValueError("something was read of the archive")
-        at = self._made(_reader.lpt_reader_new_join, direction, apid, bool(any))
-        self._call(self._let_go)
-        self._at, self._has_begun = at, True
-        return self._joined()
+        text = self._started(direction)
+        return self._joined(joiner(direction, apid, any, text, self._part_size), direction, apid)
 
     def missing(self) -> list[Missing]:
         """What `messages` found so far of messages that never became whole, or aren't given: what is
         left of a name is found at the end, in the order of names."""
         return list(self._missing)
 
-    def _joined(self) -> Iterator[Message]:
+    def _joined(self, reader: Reader, direction: Direction, apid: int) -> Iterator[Message]:
         """The messages, while what isn't one is noted."""
-        told = _library.LptMessage()
-        self._told(_reader.lpt_reader_message, told)
-        while told.kind != _END:
-            name = Direction(told.direction), told.user, told.id
-            if told.kind == _UNFIT:
-                self._missing.append(Missing(*name, fault=BY_NUMBER.get(told.fault)))
-            if told.kind in (_MISSING, _OVERTAKES):
-                place = None if told.first == _UNKNOWN else told.first
-                self._missing.append(Missing(*name, place, self._lost(told)))
-            if told.kind in (_WHOLE, _OVERTAKES):
-                octets = self._copied(_reader.lpt_reader_message_octets, Room(told.length))
-                yield Message(*name, told.place, octets or b"")
-            self._told(_reader.lpt_reader_message, told)
+        counts, stray, headers = Counts(), 0, self._headers[1 - direction]
+        while not reader.is_over:
+            self._feed(reader)
+            for news in told_by(reader):
+                self._noted(news)
+                if news.octets is not None:
+                    name = news.direction, news.user, news.id
+                    yield Message(*name, news.place, news.octets)
+                    self._done(_nothing)
+            for item in self._items():
+                stray += item.stray
+                if item.part == UNREAD and item.packet == 1 - direction and item.apid == apid:
+                    self._counted(counts, item, headers)
         self._is_over = True
+        cut = f"{stray} octets at the archive's end are no packet"
+        warn([*counts.said(headers.part_size), *([cut] if stray and not headers.has_checksum else [])], 3)
 
-    def _lost(self, told: Any) -> str:
-        """The numbers of the parts that are missing."""
-        came, parts = _library.U32(), Parts()
-        for number_of in range(1, told.highest + 1):
-            self._done(_reader.lpt_reader_missing, number_of, byref(came))
-            if not came.value:
-                parts.add(Kept(number_of, number_of == told.last, b""))
-        return parts.missing()
+    def _items(self) -> Iterator[Any]:
+        """What stands next, up to where more octets are needed; each is valid till the next one."""
+        item = _library.LptItem()
+        while True:
+            fault = self._call(_reader.lpt_reader_next, byref(item))
+            if fault == More.number:
+                return
+            raise_fault(fault)
+            yield item
+            if item.kind == ItemKind.END:
+                return
 
-    def _told(self, function: Any, into: Any) -> None:
-        """Lets the library tell what stands next, and feeds it until it can."""
+    def _counted(self, counts: Counts, item: Any, headers: Headers) -> None:
+        """Counts a part that isn't read."""
+        body = self._last(item.length)[item.body_at : item.body_at + item.body_len]
+        counts.note(body, item.subtype, item.place, headers.part_id, headers.part_number)
+
+    def _noted(self, news: News) -> None:
+        """Notes what is missing."""
+        name = news.direction, news.user, news.id
+        if news.fault is not None:
+            self._missing.append(Missing(*name, fault=news.fault))
+        elif news.missing is not None:
+            self._missing.append(Missing(*name, news.first, news.missing))
+
+    # ---- memories ----
+
+    def image(
+        self, memory: int, *, apid: int, start: int = 0, fill: int = 0, join: bool = False
+    ) -> Image:
+        """The image of a memory, from the dump reports of an APID, as `lpt extract --at` writes it:
+        instead of the packets, so nothing was read yet. With `join` reports that come in parts are
+        taken too. Gaps are filled with `fill`; the `Image` says what is missing, and which reports
+        weren't taken.
+
+        >>> from forgesilver import Telemetry, write_load, write_telemetry
+        >>> report = write_telemetry(Telemetry(100, 0, 6, 6, 1, write_load(1, 2, b"ab")))
+        >>> with Archive(report) as archive:
+        ...     image = archive.image(1, apid=100)
+        >>> image.octets, image.missing, image.is_clean
+        (b'\\x00\\x00ab', ((0, 1),), False)
+
+        Raises `Range`; ValueError if it would have more than 268,435,456 octets, or something was
+        read; and what `messages` raises.
+        """
+        apid = number(apid, GREATEST_APID, "the APID")
+        picture = Picture(memory, apid, start, fill)
+        text, down = self._started(Direction.DOWN), Direction.DOWN
+        reader = joiner(down, apid, False, text, self._part_size) if join else None
+        has_checksum = self._headers[0].has_checksum
+        while not self._is_over:
+            it = self._next(reader)
+            picture.pass_over(it.stray, _is_damaged(it, has_checksum))
+            is_own = it.packet is PacketKind.TM and it.apid == apid and it.part is not None
+            news = self._step(reader) if reader is not None and not self._is_over else []
+            for one in news if is_own else []:
+                self._noted(one)
+                if one.octets is not None:
+                    self._pictured(picture, it.place, _alone(one.octets, text, self._part_size))
+            if not (is_own and join):
+                self._pictured(picture, it.place, it)
+        for one in told_by(reader) if reader is not None else ():
+            self._noted(one)
+        return picture.image(tuple(self._missing))
+
+    def _pictured(self, picture: Picture, place: int, it: Listed) -> None:
+        """Takes what a packet gives, which stands at a place, or became whole there."""
+        if it.kind is not ItemKind.PACKET or it.packet is not PacketKind.TM:
+            return
+        is_part = it.part is not None or it.is_unread
+        picture.take(place, it.apid, is_part, it.service, it.subtype, it.body)
+
+    # ---- requests ----
+
+    def outcomes(self, requests: Source) -> Outcomes:
+        """What became of requests, by the verification reports of this archive, as `lpt verify` says:
+        instead of the packets, so nothing was read yet. The requests are telecommands of another
+        archive, of the same layout.
+
+        >>> from forgesilver import Area, Dump, write_telecommand
+        >>> asked = Dump(1, [Area(0, 4)]).telecommand(apid=100, count=7, source=1, flags=9)
+        >>> with Archive(b"") as reports:
+        ...     outcomes = reports.outcomes(write_telecommand(asked))
+        >>> [(it.packet_sequence_count, it.accepted, it.is_open) for it in outcomes.requests]
+        [(7, False, True)]
+
+        Raises `Range`, `Allocation`, `faults.Empty`, ValueError if something was read, and what
+        opening the file of requests raises.
+        """
+        self._started(Direction.DOWN)
+        found = Requests()
+        with Archive(requests, layout=self._text, part_size=self._part_size) as asked:
+            asked._started(Direction.UP)
+            of_requests = asked._looked(Direction.UP, found.ask)
+        return found.outcomes(of_requests, self._looked(Direction.DOWN, found.hear))
+
+    def _looked(self, direction: Direction, take: Any) -> PassedOver:
+        """Has each packet of a direction taken, and counts what isn't."""
+        passed, has_checksum = PassedOver(), self._headers[1 - direction].has_checksum
+        for it in self:
+            passed = passed.plus("stray", it.stray)
+            if _is_damaged(it, has_checksum):
+                passed = passed.plus("damaged")
+            elif it.kind is ItemKind.PACKET and it.direction is direction:
+                passed = passed.plus(take(it))
+            elif it.kind is ItemKind.PACKET or (it.kind is ItemKind.FAULTY and _is_strange(it, direction)):
+                passed = passed.plus("foreign")
+        return passed
+
+    # ---- reading ----
+
+    def _started(self, direction: Direction) -> bytes:
+        """Begins to read by the packets of a direction, which say how the archive is cut: the
+        layout's text."""
+        if self.is_closed:
+            raise_fault(Empty.number)
+        if self._has_begun:
+            raise ValueError("something was read of the archive")
+        text, has_checksum = self._text, self._headers[1 - direction].has_checksum
+        if text is not None and self._headers[direction].has_checksum != has_checksum:
+            at = self._lister(_spelled(cut_by(text, has_checksum)))
+            self._call(self._let_go)
+            self._at = at
         self._has_begun = True
-        fault = self._call(function, byref(into))
-        while fault == More.number:
-            self._feed()
-            fault = self._call(function, byref(into))
-        raise_fault(fault)
+        return _spelled(text)
 
-    def _feed(self) -> None:
+    def _next(self, beside: Optional[Reader]) -> Listed:
+        """What stands next; another reader is fed with what this one is."""
+        self._has_begun, item = True, _library.LptItem()
+        fault = self._call(_reader.lpt_reader_next, byref(item))
+        while fault == More.number:
+            self._feed(beside)
+            fault = self._call(_reader.lpt_reader_next, byref(item))
+        raise_fault(fault)
+        self._is_over = item.kind == ItemKind.END
+        return _listed(item, b"" if self._is_over else self._last(item.length), self._headers)
+
+    def _step(self, reader: Reader) -> list[News]:
+        """What becomes of messages with what stands next."""
+        news = step(reader)
+        while news is None and not reader.is_over:
+            self._feed(reader)
+            news = step(reader)
+        return news or []
+
+    def _feed(self, beside: Optional[Reader]) -> None:
         """Hands over what comes next, or that nothing does."""
         chunk: Octets
         if self._octets is not None:
             chunk, self._octets = self._octets[:_CHUNK], self._octets[_CHUNK:]
         else:
-            chunk = self._file.read(_CHUNK) if self._file is not None else b""
+            chunk = (reader_of(self._file)(_CHUNK) or b"") if self._file is not None else b""
         given = Given(chunk)
         if given.len:
             self._done(_reader.lpt_reader_feed, given.at, given.len)
         else:
             self._done(_reader.lpt_reader_end)
+        if beside is not None and given.len:
+            beside.feed(chunk)
+        elif beside is not None:
+            beside.end()
 
     def _last(self, length: int) -> bytes:
         """The octets of what was told last."""
         return self._copied(_reader.lpt_reader_octets, Room(length)) or b""
 
 
-def _listed(item: Any, octets: bytes) -> Listed:
+def _nothing(_at: int) -> int:
+    """No call: whether the archive may be used is seen."""
+    return 0
+
+
+def _spelled(layout: Optional[str]) -> bytes:
+    """A layout's text as the library takes it."""
+    return b"" if layout is None else layout.encode() or b"\n"
+
+
+def _alone(octets: bytes, layout: bytes, part_size: int) -> Listed:
+    """The packet that octets are."""
+    with Archive(octets, layout=layout.decode() or None, part_size=part_size) as archive:
+        return next(archive)
+
+
+def _is_damaged(it: Listed, has_checksum: bool) -> bool:
+    """Whether octets are no packet, in a stream that is cut by checksums or not."""
+    if it.kind is not ItemKind.FAULTY or it.packet is not None or not has_checksum:
+        return False
+    return it.fault is None or not is_whole(it.octets, it.fault)
+
+
+def _is_strange(it: Listed, direction: Direction) -> bool:
+    """Whether a packet that isn't read counts: of reports only with a secondary header."""
+    return direction is Direction.UP or it.packet is not None
+
+
+def _listed(item: Any, octets: bytes, headers: "tuple[Headers, Headers]") -> Listed:
     """What the library told."""
     kind, part = ItemKind(item.kind), item.part
     fault = BY_NUMBER.get(item.fault)
     if kind in (ItemKind.END, ItemKind.IDLE) or (kind is ItemKind.FAULTY and item.fault < 10):
         return Listed(kind, item.place, item.stray, octets, fault=fault)
     front = octets[: item.body_at + item.body_len]
+    behind = item.time_at + item.time_len
     return Listed(
         kind, item.place, item.stray, octets, PacketKind(item.packet), item.apid, item.count,
         item.flags, item.service, item.subtype, item.counter, item.user,
-        front[item.time_at : item.time_at + item.time_len], front[item.body_at :],
-        PartKind(part) if 0 < part < _UNREAD else None, item.id, item.number,
-        front[len(front) - item.part_len :], part == _UNREAD, fault,
+        front[item.time_at : behind], front[item.body_at :],
+        PartKind(part) if 0 < part < UNREAD else None, item.id, item.number,
+        front[len(front) - item.part_len :], part == UNREAD, fault,
+        front[behind : item.body_at], headers[item.packet],
     )

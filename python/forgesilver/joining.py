@@ -319,7 +319,8 @@ class _Joiner:
     def take(self, packet: bytes) -> Iterator[Joined]:
         """Takes a packet with a part that is read: what comes of it."""
         self.reader.feed(packet)
-        found = step(self.reader) or ()
+        found = step(self.reader)
+        assert found is not None, "a whole packet is enough"
         for news in found:
             yield _joined(news, news.missing is not None and len(found) == 1)
 

@@ -1,0 +1,189 @@
+"""What became of requests, by the verification reports on them, as `lpt verify` says."""
+
+from __future__ import annotations
+
+from dataclasses import dataclass, field, replace
+from typing import TYPE_CHECKING, Any, Iterator, Optional
+
+from ._listing import areas_of
+from .faults import Fault
+from .kinds import Acknowledge, PacketKind, ReportKind
+from .reports import SERVICE, read_report
+
+if TYPE_CHECKING:
+    from .archive import Listed
+
+# The message subtype of a report that a step of execution succeeded.
+_PROGRESS = 5
+_FAILURES = dict(enumerate((
+    "unknown service or subtype", "malformed body", "unknown memory", "out of range", "wrong checksum",
+    "reply too long", "no free identifier", "too many open",
+), 1))
+# The last success that a request asks for, by its flags.
+_LASTS = (
+    (Acknowledge.COMPLETION, "completed"), (Acknowledge.START, "started"),
+    (Acknowledge.ACCEPTANCE, "accepted"),
+)
+_TOLD = {ReportKind.ACCEPTED: "accepted", ReportKind.STARTED: "started"}
+
+
+@dataclass(frozen=True)
+class RequestOutcome:
+    """A request, and what verification reports say of it. The fields are named as those of `lpt
+    verify --json`, and None if they aren't there.
+
+    - request_id: the first four octets of the packet, in hexadecimal digits
+    - memory_id, areas, start_address, area_length: of a load, dump or check the memory, how many
+      areas, and the first
+    - accepted, started, completed: whether its success was reported
+    - failure_code, failure: the first failure that was reported, and its words
+    - acknowledgement: `not acknowledged` if it asks for no report of success, and didn't fail
+    - sharers: how many requests have its source and request ID, if they are several: a report is
+      taken for each of them
+    """
+
+    request_id: str
+    application_process_id: int
+    packet_sequence_count: int
+    acknowledgement_flags: int
+    service_type: int
+    message_subtype: int
+    memory_id: Optional[int] = None
+    areas: Optional[int] = None
+    start_address: Optional[int] = None
+    area_length: Optional[int] = None
+    accepted: bool = False
+    started: bool = False
+    completed: bool = False
+    failure_code: Optional[int] = None
+    failure: Optional[str] = None
+    acknowledgement: Optional[str] = None
+    sharers: Optional[int] = None
+    source: int = field(default=0, repr=False)
+
+    @property
+    def is_done(self) -> bool:
+        """Whether it didn't fail, and the last success that it asks for was reported: never, if it
+        asks for none."""
+        return self.failure_code is None and self._has_last
+
+    @property
+    def is_open(self) -> bool:
+        """Whether neither a failure nor the last success that it asks for was reported."""
+        return self.failure_code is None and not self._has_last
+
+    @property
+    def _has_last(self) -> bool:
+        """Whether the last success that it asks for was reported."""
+        flags = self.acknowledgement_flags
+        return next((bool(getattr(self, name)) for flag, name in _LASTS if flags & flag), False)
+
+    def to_dict(self) -> dict[str, Any]:
+        """What `lpt verify --json` prints of it, with the same names and types."""
+        found = {name: getattr(self, name) for name in self.__dataclass_fields__ if name != "source"}
+        return {name: it for name, it in found.items() if it is not None}
+
+
+@dataclass(frozen=True)
+class PassedOver:
+    """How much of an archive of requests, or of reports, was passed over.
+
+    - parts: of large messages, among requests
+    - foreign: packets that aren't read as telecommands among requests, or telemetry among reports
+    - unread: verification reports that aren't read, but those of progress
+    - damaged: octets that are no packet, as many as their header says
+    - stray: octets with which no packet begins
+    """
+
+    parts: int = 0
+    foreign: int = 0
+    unread: int = 0
+    damaged: int = 0
+    stray: int = 0
+
+    @property
+    def is_nothing(self) -> bool:
+        """Whether nothing was passed over."""
+        return self == PassedOver()
+
+    def plus(self, what: str, count: int = 1) -> PassedOver:
+        """The same and so many more of one kind, or nothing."""
+        return replace(self, **{what: getattr(self, what) + count}) if what and count else self
+
+
+@dataclass(frozen=True)
+class Outcomes:
+    """What became of requests, in their order; and what of their archive and of the reports' was
+    passed over. It is iterated by request."""
+
+    requests: tuple[RequestOutcome, ...]
+    of_requests: PassedOver
+    of_reports: PassedOver
+
+    def __iter__(self) -> Iterator[RequestOutcome]:
+        return iter(self.requests)
+
+    @property
+    def shared(self) -> int:
+        """How many requests share source and request ID with another: no report tells them apart."""
+        return sum(it.sharers is not None for it in self.requests)
+
+    @property
+    def is_done(self) -> bool:
+        """Whether all is well, as the status 0 of `lpt verify` says: there are requests, each is
+        done, none shares its ID, and nothing was passed over."""
+        is_all = bool(self.requests) and all(it.is_done for it in self.requests)
+        return is_all and not self.shared and self.of_requests.is_nothing and self.of_reports.is_nothing
+
+
+class Requests:
+    """Requests as they come, and then the reports on them. Not for the caller."""
+
+    def __init__(self) -> None:
+        self.asked: list[RequestOutcome] = []
+        self.told: dict[tuple[int, str], dict[str, Any]] = {}
+        self.sharers: dict[tuple[int, str], int] = {}
+
+    def ask(self, it: Listed) -> str:
+        """Takes a telecommand, or says as what it is passed over."""
+        if it.part is not None or it.is_unread:
+            return "parts"
+        key = it.user, it.octets[:4].hex()
+        areas = areas_of(PacketKind.TC, it.service, it.subtype, it.body)
+        head = it.apid, it.count, it.flags, it.service, it.subtype
+        self.asked.append(replace(RequestOutcome(key[1], *head, source=it.user), **areas))
+        self.told[key] = {}
+        self.sharers[key] = self.sharers.get(key, 0) + 1
+        return ""
+
+    def hear(self, it: Listed) -> str:
+        """Takes telemetry, or says as what it is passed over."""
+        if it.service != SERVICE:
+            return ""
+        try:
+            report = read_report(it.subtype, it.body)
+        except Fault:
+            return "" if it.subtype == _PROGRESS else "unread"
+        told = self.told.get((it.user, f"{report.request_id:08x}"))
+        if told is not None and report.code is not None:
+            code = int(report.code)
+            told.setdefault("failure_code", code)
+            told.setdefault("failure", _FAILURES.get(code, "unknown code"))
+        elif told is not None:
+            told[_TOLD.get(report.kind, "completed")] = True
+        return ""
+
+    def outcomes(self, of_requests: PassedOver, of_reports: PassedOver) -> Outcomes:
+        """What became of them."""
+        return Outcomes(tuple(map(self._outcome, self.asked)), of_requests, of_reports)
+
+    def _outcome(self, it: RequestOutcome) -> RequestOutcome:
+        """What became of a request."""
+        key = it.source, it.request_id
+        told = dict(self.told[key])
+        asks_none = not any(it.acknowledgement_flags & flag for flag, _ in _LASTS)
+        if asks_none and "failure_code" not in told:
+            told["acknowledgement"] = "not acknowledged"
+        if self.sharers[key] > 1:
+            told["sharers"] = self.sharers[key]
+        return replace(it, **told)
