@@ -12,15 +12,17 @@ from typing import Any, BinaryIO, Iterable, Iterator, Optional, Union
 
 from . import _library
 from ._library import Octets, has_octets, number, view_of
-from ._readers import UNREAD, News, Reader, chunks_of, joiner, lister, step, told_by
+from ._readers import UNREAD, News, chunks_of, joiner, lister, step, told_by
 from .faults import Fault
 from .kinds import Direction, ItemKind, PacketKind, PartKind
 from .memory import DUMPED
 from .memory import SERVICE as MEMORY
+from .packets import _LOOKAHEAD as LOOKAHEAD
 from .packets import GREATEST_APID
-from .parts import Name, Named, name_of, part_size_of
+from .parts import SERVICE, Name, Named, name_of, part_size_of
 
 _next = _library.reader.lpt_reader_next
+_TRANSFER = bytes([SERVICE])
 
 # Of so many an exception's text tells.
 _MOST_TOLD = 4
@@ -195,16 +197,16 @@ def _given(
     """What `join_each` gives; and, where they come, the dump reports of an APID."""
     joiners: dict[Direction, _Joiner] = {}
     counts = Counts() if counts is None else counts
-    for item, reader in _items_in(packets, part_size):
+    for item, window in _items_in(packets, part_size, dumps_of is None):
         if item.kind != ItemKind.PACKET:
             continue
         if not item.part:
             if item.apid == dumps_of and is_dump_report(item.packet, item.service, item.subtype):
-                yield reader.octets(item.length)
+                yield window.octets(item)
             continue
         if not choice.takes(item.apid):
             continue
-        direction, octets = Direction(1 - item.packet), reader.octets(item.length)
+        direction, octets = Direction(1 - item.packet), window.octets(item)
         if direction not in joiners:
             joiners[direction] = _Joiner(direction, item.apid, any, part_size)
         if item.part == UNREAD:
@@ -275,39 +277,64 @@ def refuse_size(counts: Counts, part_size: int, found: list[Joined], choice: Cho
         raise NotJoined("; ".join(counts.said(part_size) + choice.said()), found)
 
 
-def _items_in(packets: Packets, part_size: int) -> Iterator[tuple[Any, Reader]]:
-    """What stands in a stream, each with the reader that told it; or in each of packets that are
-    given one by one, if it is whole."""
-    reader, item = lister(b"", part_size), _library.LptItem()
+class _Window:
+    """The octets of a stream that were handed over last."""
+
+    __slots__ = ("held", "place")
+
+    def __init__(self) -> None:
+        self.held, self.place = b"", 0
+
+    def add(self, octets: bytes, behind: int) -> None:
+        """Adds what comes next, and drops what is in front of a place, or wherever no item begins any
+        more."""
+        cut = max(behind - self.place, len(self.held) - LOOKAHEAD, 0)
+        self.held, self.place = self.held[cut:] + octets, self.place + cut
+
+    def octets(self, item: Any) -> bytes:
+        """The octets of an item."""
+        at = item.place - self.place
+        return self.held[at : at + item.length]
+
+
+def _items_in(
+    packets: Packets, part_size: int, is_of_parts: bool
+) -> Iterator[tuple[Any, _Window]]:
+    """What stands in a stream, each with the octets around it; or in each of packets that are given
+    one by one, if it is whole, or only in those of the service of parts."""
+    reader, item, window = lister(b"", part_size), _library.LptItem(), _Window()
     if not hasattr(packets, "read") and not has_octets(packets):
-        yield from _items_of_each(packets, part_size, reader, item)  # type: ignore[arg-type]
+        yield from _items_of_each(packets, part_size, is_of_parts)  # type: ignore[arg-type]
         return
     for chunk in chunks_of(packets):  # type: ignore[arg-type]
-        reader.feed(chunk)
+        octets = bytes(chunk)
+        window.add(octets, item.place + item.length)
+        reader.feed(octets)
         while reader.tells(_next, item):
-            yield item, reader
+            yield item, window
     reader.end()
     while reader.tells(_next, item) and item.kind != ItemKind.END:
-        yield item, reader
+        yield item, window
 
 
 def _items_of_each(
-    packets: Iterable[Octets], part_size: int, reader: Reader, item: Any
-) -> Iterator[tuple[Any, Reader]]:
+    packets: Iterable[Octets], part_size: int, is_of_parts: bool
+) -> Iterator[tuple[Any, _Window]]:
     """What is whole among packets that are given one by one."""
-    place = 0
+    reader, item, window = lister(b"", part_size), _library.LptItem(), _Window()
     for packet in packets:
-        length = len(view_of(packet))
-        if not length:
+        octets = packet if type(packet) is bytes else view_of(packet).tobytes()
+        if len(octets) < 7 or (is_of_parts and octets[7:8] != _TRANSFER):
             continue
-        reader.feed(packet)
+        reader.feed(octets)
         is_told = reader.tells(_next, item)
-        if is_told and item.place == place and item.length == length:
-            place += length
-            yield item, reader
+        if is_told and item.place == window.place and item.length == len(octets):
+            window.held = octets
+            yield item, window
+            window.place += len(octets)
         else:
             # The next one isn't read behind this.
-            reader, place = lister(b"", part_size), 0
+            reader, window.place = lister(b"", part_size), 0
 
 
 class _Joiner:

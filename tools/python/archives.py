@@ -260,6 +260,37 @@ def other_sizes(want, driver) -> None:
                 form.seek(0)
 
 
+class Dribble(io.RawIOBase):
+    """A file that gives as many octets as it likes."""
+
+    def __init__(self, octets: bytes, r: random.Random):
+        super().__init__()
+        self.octets, self.r = octets, r
+
+    def read(self, size: int = -1) -> bytes:
+        """Some octets."""
+        length = min(size, self.r.choice([1, 7, 3000, 65536]))
+        given, self.octets = self.octets[:length], self.octets[length:]
+        return given
+
+
+def behind_noise(want, driver) -> None:
+    """Messages among long noise, which may swallow packets: octets and a file give what the packets give one by one
+    that `sound_packets_of` finds."""
+    f = forgesilver
+    for seed in range(10):
+        r = random.Random(seed)
+        messages = [message_of(r.randbytes(size), Direction.UP, 7) for size in (1500, 60_000, 3000)]
+        noise = [bytes(r.randrange(300_000)), r.randbytes(300), b"\x18\xff\xff" * r.randrange(60_000), bytes.fromhex("1864c000ffff200d0a")]
+        packets = [it for at, message in enumerate(messages) for it in f.split(message, name=(1, at), part_size=1024, apid=APID)]
+        octets = b"".join(it + (r.choice(noise) if r.random() < 0.1 else b"") for it in packets)
+        octets += f.write_telecommand(f.Telecommand(APID, 1, 0, 17, 1, 1, bytes(65_000)))
+        wanted = all_joined([bytes(it) for it in f.sound_packets_of(octets)], part_size=1024)
+        want(f"among noise {seed}: some are whole", {it.message for it in wanted} & {*messages} != set(), True)
+        for form in (octets, Dribble(octets, r), f.sound_packets_of(octets)):
+            want(f"among noise {seed}", all_joined(form, part_size=1024), wanted)
+
+
 def nothing_came(want, driver) -> None:
     """An archive that has a dump report without its last part gives no octets of the memory, and no place of these is
     missing; the program writes nothing."""
@@ -297,6 +328,6 @@ def beside_incomplete(want) -> None:
 
 def all_of(want, driver) -> None:
     """All of them."""
-    for cases in (used_again, damaged, sizes, apids, other_sizes, nothing_came):
+    for cases in (used_again, damaged, sizes, apids, other_sizes, behind_noise, nothing_came):
         cases(want, driver)
     beside_incomplete(want)
