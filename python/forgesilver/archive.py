@@ -71,12 +71,15 @@ class Listed:
     @property
     def date(self) -> Optional[datetime.datetime]:
         """The date that the time is by the layout's time code, without a time zone, rounded down to
-        microseconds. None if it has none, or is a leap second, which `to_dict` has."""
+        microseconds; of a leap second, which `to_dict` has, the last one in front of it. None if it has
+        none."""
         code = self.headers.code if self.headers is not None else None
         text = date_text(code, self.time) if code is not None else None
-        if text is None or text[17:19] == "60":
+        if text is None:
             return None
         second, _, fraction = text.partition(".")
+        if second.endswith(":60"):
+            second, fraction = f"{second[:-2]}59", "999999"
         return datetime.datetime.fromisoformat(f"{second}.{fraction[:6]:0<6}")
 
     @property

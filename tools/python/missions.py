@@ -278,7 +278,8 @@ def dates(driver, r: random.Random, layout: pathlib.Path) -> None:
                     text = it.to_dict().get("date")
                     moment = it.date and it.date.isoformat(timespec="microseconds")
                     wanted = text and f"{text.partition('.')[0]}.{text.partition('.')[2][:6]:0<6}"
-                    driver.verdict(f"{time} since {epoch}: {text}", moment, None if text and text[17:19] == "60" else wanted)
+                    wanted = f"{text[:17]}59.999999" if text and text[17:19] == "60" else wanted
+                    driver.verdict(f"{time} since {epoch}: {text}", moment, wanted)
 
 
 def all_of(driver, folder: pathlib.Path) -> None:

@@ -6,9 +6,11 @@ from __future__ import annotations
 
 import array
 import ctypes
+import datetime
 import io
 import mmap
-from typing import Iterator, Optional
+import pathlib
+from typing import Any, Iterator, Optional
 
 import forgesilver as f
 
@@ -49,3 +51,22 @@ def fields(end: f.End) -> None:
         whole: Optional[bytes] = it.message
         fault: Optional[f.Fault] = it.fault
         print(whole, fault)
+
+
+def archives(path: pathlib.Path, file: io.BufferedReader) -> None:
+    """An archive gives packets, messages, an image or outcomes."""
+    with f.Archive(path, layout="") as archive:
+        for it in archive:
+            date: Optional[datetime.datetime] = it.date
+            rows: list[dict[str, Any]] = it.rows()
+            print(date, rows, it.count + it.place)
+    with f.Archive(OCTETS, part_size=8) as archive:
+        octets: list[bytes] = [it.octets for it in archive.messages(f.Direction.UP, apid=100)]
+        lost: list[str] = [it.parts for it in archive.missing()]
+        archive.messages("up", apid=100)  # type: ignore[arg-type]
+    with f.Archive(file) as archive:
+        image: f.Image = archive.image(1, apid=100, join=True)
+        places: list[int] = [it.place for it in image.passed]
+        codes: list[Optional[int]] = [it.failure_code for it in archive.outcomes("requests")]
+        f.Archive(7)  # type: ignore[arg-type]
+    print(octets, lost, places, codes)
