@@ -47,8 +47,8 @@ from .images import Image, Others, Passed, read_image
 from .job import Fate, Job, Progress
 from .joining import Joined, NotJoined, SkippedWarning, join, join_each
 from .kinds import (
-    Acknowledge, AppliedKind, Direction, Failure, FateState, ItemKind, JobKind, MessageKind, Mode, NameState, OutcomeKind,
-    PacketKind, PartKind, PieceKind, Reason, ReportKind, Side, Step, Why,
+    Acknowledge, AppliedKind, Direction, Failure, FateState, ItemKind, JobKind, MessageKind, Mode,
+    NameState, OutcomeKind, PacketKind, PartKind, PieceKind, Reason, ReportKind, Side, Step, Why,
 )
 from .memory import (
     Area, Check, Checked, CheckReport, Dump, DumpReport, Load, Loaded, read_check, read_data_report,
@@ -70,8 +70,8 @@ __all__ = [
     "AbortReport", "Acknowledge", "Applied", "AppliedKind", "Archive", "Area", "Check", "CheckReport",
     "Checked", "Config", "Direction", "Dump", "DumpReport", "End", "Failure", "Fate",
     "FateState", "Fault", "Image", "ItemKind", "Job", "JobKind", "Joined",
-    "LONGEST_PACKET", "Listed", "Load", "Loaded", "Message", "MessageKind", "Missing", "Mode", "Name", "NameState", "NotJoined", "Others", "Outcome",
-    "OutcomeKind", "Outcomes",
+    "LONGEST_PACKET", "Listed", "Load", "Loaded", "Message", "MessageKind", "Missing", "Mode", "Name",
+    "NameState", "NotJoined", "Others", "Outcome", "OutcomeKind", "Outcomes",
     "Packet", "PacketKind", "Part", "PartKind", "Passed", "PassedOver", "PieceKind", "Progress", "Reason",
     "Reception", "ReportKind", "RequestOutcome", "Sender", "Side", "SkippedWarning", "Step",
     "Telecommand",

@@ -60,7 +60,8 @@ class NotJoined(ValueError):
 
 
 class SkippedWarning(UserWarning):
-    """Parts were skipped: of another size; or of another APID than that of the first part, and no APID was given."""
+    """Parts were skipped: of another size; or, if no APID was given, of another APID than that of the
+    first part."""
 
 
 def join(
@@ -128,8 +129,9 @@ def join_each(
 ) -> Iterator[Joined]:
     """Each message of these packets, once it is whole; parts, once they are given up for another message of their
     name; and at the end, in the order of names, what isn't whole.
-    Damaged and idle packets, those without a part of this APID and size, and octets that are no packet are skipped. Without an APID it is that of the first packet with a part. If parts of another
-    came then, or parts of another size, a `SkippedWarning` says so at the end.
+    Damaged and idle packets, those without a part of this APID and size, and octets that are no
+    packet are skipped. Without an APID it is that of the first packet with a part. If parts of
+    another came then, or parts of another size, a `SkippedWarning` says so at the end.
 
     If what is joined isn't a packet of its direction, `message` is None and `fault` says why; with
     `any` anything joined is a message. Raises `Range`; and at the end `NotJoined`, if parts don't
