@@ -8,6 +8,7 @@ use Rattle.lpt_ground_chart.specs.declared.flown.Flown.{Flown}
 use Rattle.lpt_ground_chart.specs.declared.flown.FlownRequest.{FlownRequest}
 use Rattle.lpt_ground_chart.specs.declared.flown.FlownRound.{FlownRound}
 use Rattle.lpt_ground_chart.specs.declared.places.Grid.{Grid}
+use Rattle.lpt_ground_chart.specs.declared.words.TheConstants.{STYLE}
 use Rattle.lpt_ground_chart.specs.Flights.{each_of, ended_so, in_row, rows_of, sent_among, settled_in}
 
 -- ---- where things stand, in pixels
@@ -200,17 +201,7 @@ pass_text top f =
     (((part_text top ++ head_text f) ++ columns_text (grid_of f) 0 f.rounds.items) ++ rows_text f)
     ++ (codes "</g>" ++ (10 ∷ []))
 
--- ---- the picture
-
--- what the picture is, and how marks look, in places that are told apart without colour
-abbrev pub style_text : List ℕ
-style_text =
-    codes "' font-family='DejaVu Sans Mono, monospace' font-size='11'><title>A pass by its rounds"
-    ++ codes "</title><desc>A row for each request, or for some one behind the other; a column for "
-    ++ codes "each round. Marks are as long as the part of the row that they are of.</desc><style>"
-    ++ codes "path{fill:none;stroke-width:3}.l{stroke:#ddd;stroke-width:1}.s{stroke:#1f4e8c}"
-    ++ codes ".d{stroke:#2e7d32}.f{stroke:#b00020}.g,.e{fill:#666}.o{font-weight:bold}</style>"
-    ++ codes "<rect width='100%' height='100%' fill='#fff'/>"
+-- ---- the picture; what it is, and how its marks look, in light and in the dark, is the code's
 
 -- its size
 unfoldable pub size_text : (wide high : ℕ) → List ℕ
@@ -222,12 +213,12 @@ size_text wide high =
 -- the picture of a pass
 abbrev pub picture_text : Flown → List ℕ
 picture_text f =
-    ((size_text (wide_of (grid_of f).rounds) (high_of (grid_of f).rows) ++ style_text)
+    ((size_text (wide_of (grid_of f).rounds) (high_of (grid_of f).rows) ++ STYLE.now)
     ++ pass_text 0 f) ++ (codes "</svg>" ++ (10 ∷ []))
 
 -- that of a pass, and of the one behind it below
 abbrev pub both_text : Flown → Flown → List ℕ
 both_text f g =
     (((size_text (max (wide_of (grid_of f).rounds) (wide_of (grid_of g).rounds))
-    (high_of (grid_of f).rows + high_of (grid_of g).rows) ++ style_text)
+    (high_of (grid_of f).rows + high_of (grid_of g).rows) ++ STYLE.now)
     ++ pass_text 0 f) ++ pass_text (high_of (grid_of f).rows) g) ++ (codes "</svg>" ++ (10 ∷ []))

@@ -7,7 +7,7 @@ ghost use Rattle.lpt_ground_chart.specs.Pictures.{both_text, pass_text, picture_
 use crate::flown::Flown;
 use crate::marks::write_rows;
 use crate::places::{grid_of, high_of, wide_of};
-use crate::words::{print_part, print_size, style_text, write_columns, write_head};
+use crate::words::{STYLE, print_part, print_size, write_columns, write_head};
 use std::alloc::{AllocError, Global};
 
 /// The picture of a pass, as one SVG of ASCII.
@@ -22,7 +22,7 @@ pub fn draw(alloc: Global, flown: &Flown) -> Result<String, AllocError>
 {
     let grid = grid_of(flown);
     let mut out = print_size(alloc, wide_of(grid.rounds), high_of(grid.rows))?;
-    out.push_str(style_text())?;
+    out.push_str(STYLE)?;
     write_pass(alloc, &mut out, 0, flown)?;
     out.push_str("</svg>\n")?;
     Ok(out)
@@ -37,7 +37,7 @@ pub fn draw_both(alloc: Global, first: &Flown, second: &Flown) -> Result<String,
     let wide = wide_of(one.rounds).max(wide_of(other.rounds));
     let top = high_of(one.rows);
     let mut out = print_size(alloc, wide, top + high_of(other.rows))?;
-    out.push_str(style_text())?;
+    out.push_str(STYLE)?;
     write_pass(alloc, &mut out, 0, first)?;
     write_pass(alloc, &mut out, top, second)?;
     out.push_str("</svg>\n")?;

@@ -3,11 +3,21 @@
 ghost use Rattle.std.specs.Prelude.{◌≡◌, ◌++◌, IfOk, OnOk};
 ghost use Rattle.std.specs.String.{string_bytes};
 ghost use Rattle.lpt_ground_chart.specs.Flights.{sent_among};
-ghost use Rattle.lpt_ground_chart.specs.Pictures.{column_text, columns_text, counts_text, head_text, legend_text, part_text, seen_octet, seen_title, size_text, style_text};
+ghost use Rattle.lpt_ground_chart.specs.Pictures.{column_text, columns_text, counts_text, head_text, legend_text, part_text, seen_octet, seen_title, size_text};
 
 use crate::flown::{Flown, FlownRound, sent_among};
 use crate::places::{Grid, column_x, front, step_of};
 use std::alloc::{AllocError, Global};
+
+/// What the picture is, and how marks look, in places that are told apart without colour.
+pub(crate) const STYLE: &str = "' font-family='DejaVu Sans Mono, monospace' font-size='11'>\
+    <title>A pass by its rounds</title><desc>A row for each request, or for some one behind the \
+    other; a column for each round. Marks are as long as the part of the row that they are of.\
+    </desc><style>path{fill:none;stroke-width:3}.l{stroke:#ddd;stroke-width:1}\
+    .s{stroke:#1f4e8c}.d{stroke:#2e7d32}.f{stroke:#b00020}.g,.e{fill:#666}.o{font-weight:bold}\
+    @media(prefers-color-scheme:dark){rect{fill:#161616}text{fill:#e8e8e8}.l{stroke:#383838}\
+    .s{stroke:#6cb6f5}.d{stroke:#7ccf80}.f{stroke:#ff7a85}.g,.e{fill:#aaa}}</style>\
+    <rect width='100%' height='100%' fill='#fff'/>";
 
 // How many requests were sent in a round.
 fn sent_in(round: &FlownRound) -> usize
@@ -112,18 +122,6 @@ pub(crate) fn print_part(alloc: Global, top: u128) -> Result<String, AllocError>
     ensures { IfOk result (λ t. string_bytes t ≡ part_text top) }
 {
     format!(in alloc; "<g transform='translate(0 {top})'><text x='8' y='20'>")
-}
-
-// What the picture is, and how marks look.
-pub(crate) fn style_text() -> &'static str
-    ensures { result.now ≡ style_text }
-{
-    "' font-family='DejaVu Sans Mono, monospace' font-size='11'><title>A pass by its rounds\
-    </title><desc>A row for each request, or for some one behind the other; a column for \
-    each round. Marks are as long as the part of the row that they are of.</desc><style>\
-    path{fill:none;stroke-width:3}.l{stroke:#ddd;stroke-width:1}.s{stroke:#1f4e8c}\
-    .d{stroke:#2e7d32}.f{stroke:#b00020}.g,.e{fill:#666}.o{font-weight:bold}</style>\
-    <rect width='100%' height='100%' fill='#fff'/>"
 }
 
 // The size of a picture.
