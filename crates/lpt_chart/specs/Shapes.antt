@@ -104,7 +104,7 @@ begins_one (w ∷ ws) bs = begins w bs || begins_one ws bs
 abbrev pub tags : List (List ℕ)
 tags =
     codes "svg " ∷ codes "/svg>" ∷ codes "title>" ∷ codes "/title>" ∷ codes "desc>"
-    ∷ codes "/desc>" ∷ codes "g>" ∷ codes "/g>"
+    ∷ codes "/desc>" ∷ codes "style>" ∷ codes "/style>" ∷ codes "g>" ∷ codes "/g>"
     ∷ codes "text " ∷ codes "/text>" ∷ codes "path " ∷ codes "rect " ∷ []
 
 -- whether each '<' of a text opens or closes one of them

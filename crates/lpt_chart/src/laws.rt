@@ -27,8 +27,8 @@ pub fn escaped_texts_are_plain()
     ensures { (t : List ℕ) → list_all is_plain (escaped t) ≡ true }
 {}
 
-/// Each '<' of a picture opens or closes one of these: `svg`, `title`, `desc`, `g`, `text`, `path` and
-/// `rect`.
+/// Each '<' of a picture opens or closes one of these: `svg`, `title`, `desc`, `style`, `g`,
+/// `text`, `path` and `rect`.
 pub fn each_element_is_known()
     ensures { (source : ℕ) (c : Choice) (title : List ℕ) (kinds : List Kind) (opened : List Opened)
         (journal : List Entry) (refused : List Refusal)

@@ -20,9 +20,17 @@ use std::alloc::{AllocError, Global};
 const LETTERS_HEAD: &str =
     " role='img' font-family='DejaVu Sans Mono, Menlo, Consolas, monospace' font-size='12' fill='#1a1a1a'>\n<title>";
 
-/// How a picture is read, in front of how much has happened.
-const DESC_HEAD: &str =
-    "</title>\n<desc>Time goes down: ground at the left, the spacecraft at the right, packets between. ";
+/// How colours are turned where the ground is dark, and how a picture is read, in front of how
+/// much has happened.
+const DESC_HEAD: &str = "</title>\n<style>@media(prefers-color-scheme:dark){\
+    [fill='#ffffff']{fill:#161616}[fill='#f6f6f6']{fill:#202020}[fill='#1a1a1a']{fill:#e8e8e8}\
+    [fill='#555555'],[fill='#6b6b6b']{fill:#aaa}[fill='#0b5fa5']{fill:#6cb6f5}\
+    [fill='#a84300']{fill:#f29a5c}[fill='#8fbfe6']{fill:#2c5f8c}[fill='#f0b184']{fill:#8c5028}\
+    [fill='#5b3a8e']{fill:#b79be6}[stroke='#ffffff']{stroke:#161616}\
+    [stroke='#1a1a1a']{stroke:#e8e8e8}[stroke='#cccccc']{stroke:#484848}\
+    [stroke='#6b6b6b']{stroke:#aaa}[stroke='#0b5fa5']{stroke:#6cb6f5}\
+    [stroke='#a84300']{stroke:#f29a5c}[stroke='#5b3a8e']{stroke:#b79be6}}</style>\n\
+    <desc>Time goes down: ground at the left, the spacecraft at the right, packets between. ";
 
 // The steps of a sign, from its point on.
 fn sign_steps(sign: Sign) -> &'static str
