@@ -93,7 +93,7 @@ complete -c lpt -n '__lpt_at list; or __lpt_at verify' -l json -d 'Print each li
 complete -c lpt -n '__lpt_at verify' -l open -d 'Write the packets of requests without a final report, in place of the list'
 complete -c lpt -n '__lpt_at decode' -l more -d 'Also print the areas of a request or report, and which segment a packet is'
 complete -c lpt -n '__lpt_at decode; or __lpt_at list; or __lpt_at split; or __lpt_at join; or __lpt_at extract; or __lpt_at verify; or __lpt_at compare' -l layout -r -F -d "A TOML file with the mission's layouts of headers and parts"
-complete -c lpt -n '__lpt_at list' -l strict -d 'Stop at the first octet where no packet begins'
+complete -c lpt -n '__lpt_at list' -l strict -d 'Stop at damage, or octets that are no packet'
 for command in list join
     complete -c lpt -n "__lpt_at $command" -l from -x -d 'Read from this place on, the number of an octet as list prints it'
     complete -c lpt -n "__lpt_at $command" -l to -x -d "Read up to this place, without its octet"
@@ -114,7 +114,7 @@ complete -c lpt -n '__lpt_at extract' -l join -d 'Also take dump reports that ca
 complete -c lpt -n '__lpt_at checksum' -l from -x -d 'The place of the first octet'
 complete -c lpt -n '__lpt_at checksum' -l length -x -d 'How many octets; all that follow if not given'
 for command in list join extract link verify compare
-    complete -c lpt -n "__lpt_at $command" -l quiet -d 'Report only faults on standard error'
+    complete -c lpt -n "__lpt_at $command" -l quiet -d 'Report only why the status is not 0'
 end
 complete -c lpt -n '__lpt_at request load' -l area -x -d 'Load another file to another address, in the same requests'
 complete -c lpt -n '__lpt_at link; or __lpt_in_pass' -l lose -x -d "The share of packets that get lost"
@@ -145,7 +145,7 @@ for command in 'ground load' 'ground dump' 'ground check' 'ground patch' 'pass l
     complete -c lpt -n "__lpt_at $command" -l job -r -F -d 'Keep what is settled in this file, so that the same command goes on from it'
     complete -c lpt -n "__lpt_at $command" -l chart -r -F -d 'Draw what was sent and settled in each round into this file, as SVG'
     complete -c lpt -n "__lpt_at $command" -l json -d 'Print each line as a JSON object'
-    complete -c lpt -n "__lpt_at $command" -l quiet -d 'Report only faults on standard error'
+    complete -c lpt -n "__lpt_at $command" -l quiet -d 'Report only why the status is not 0'
 end
 for command in 'ground load' 'ground check' 'pass load' 'pass check'
     complete -c lpt -n "__lpt_at $command" -l area -x -d 'Another file at another address, in the same pass'

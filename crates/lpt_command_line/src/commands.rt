@@ -35,7 +35,7 @@ pub(crate) const QUIET: Named = Named {
     behind: &[],
     action: ArgAction::SetTrue,
     other: &[],
-    help: "Report only faults on standard error",
+    help: "Report only why the status is not 0",
 };
 
 const DIRECTION: Word = Word {
@@ -176,7 +176,7 @@ pub(crate) static COMMANDS: [Row; 10] = [
                 behind: &[],
                 action: ArgAction::SetTrue,
                 other: &[],
-                help: "Stop at the first octet where no packet begins",
+                help: "Stop at damage, or octets that are no packet",
             },
             FROM,
             TO,
