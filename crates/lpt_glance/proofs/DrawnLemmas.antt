@@ -17,7 +17,7 @@ use Rattle.lpt_glance.specs.declared.view.View.{View}
 use Rattle.lpt_glance.specs.Fates.{Fate, fresh, key_of_news, key_with, quiet_key}
 use Rattle.lpt_glance.specs.Laws.{Drawn, DrawsParts, drawn_of, named_at, parts_from, told_by}
 use Rattle.lpt_glance.specs.Looks.{Directed, Seen, bare, carried, code_of, fate_of, key_of, mark_of, nothing, opened, part_of, passed, row_of, rows_with, seen, seen_from, stepped, with_piece}
-use Rattle.lpt_glance.specs.Pictures.{is_part}
+use Rattle.lpt_glance.specs.Heads.{is_part}
 use Rattle.lpt_glance.proofs.RowLemmas.{row-own, row-within}
 
 -- ---- a part is drawn as one

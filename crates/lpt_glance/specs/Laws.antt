@@ -14,7 +14,7 @@ use Rattle.lpt_glance.specs.declared.row.Row.{Row}
 use Rattle.lpt_glance.specs.declared.view.View.{View}
 use Rattle.lpt_glance.specs.Fates.{fresh}
 use Rattle.lpt_glance.specs.Looks.{Directed, part_of, row_of, seen, way}
-use Rattle.lpt_glance.specs.Pictures.{is_part}
+use Rattle.lpt_glance.specs.Heads.{is_part}
 
 -- a part's place, its number, and the transaction of which it is
 pub record Drawn : Type 0 where

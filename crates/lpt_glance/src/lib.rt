@@ -8,12 +8,14 @@
 mod both;
 mod carried;
 mod glance;
+mod head;
 pub mod laws;
 mod mark;
 mod picture;
 mod places;
 mod row;
 mod rows;
+mod scale;
 mod view;
 
 pub use glance::{Glance, look};
