@@ -39,7 +39,9 @@ class Listed:
     - place: how many octets stand in front of it
     - stray: how many of them, right in front of it, are no packet
     - octets: all of it, with headers and checksum; `body` is what is behind its secondary header
-    - fault: the first test that it fails, if it is FAULTY
+    - fault: the first test that it fails, if it is FAULTY: damaged, or a sound packet of another
+      kind. Of these `packet` is None and `apid` 0; the rows of `to_dict` have the primary header of a
+      segment, which may be damaged too
     - user: the source ID of a telecommand, the destination ID of telemetry, 0 if there is none
     - part: which part it carries, with `id`, `number` and `part_octets`; `is_unread` if it should be
       one, and isn't read as one of the part size
@@ -183,10 +185,11 @@ class Archive(Handle):
     ) -> None:
         """Reads an archive: the file at a path, octets, or a binary file.
 
-        - layout: the text of a layout file; without one, the profile's
-        - part_size: of the profile, 4 to 1,024; a layout's text has its own
+        - layout: the text of a layout file; without one, the profile's headers
+        - part_size: of the profile, 4 to 1,024; a layout's text has its own, and an empty one reads
+          the profile's packets with parts of any size
 
-        Raises `Range`, `faults.Layout`, `Allocation`, or what opening the file raises.
+        Raises `Range`, `faults.Layout` (`lpt list --layout` says what is wrong, and where), `Allocation`, or what opening the file raises.
         """
         super().__init__()
         if layout is not None and not isinstance(layout, str):

@@ -65,7 +65,8 @@ class Image:
     - passed: each of these
     - of_memories, of_apids: the reports of other memories, and of other APIDs
     - parts: the parts of messages of the APID that weren't read, which may be of dump reports
-    - damaged, stray: the octets that are no packet, as many as their header says, and the others
+    - damaged: how many packets are damaged
+    - stray: how many octets with which no packet begins
     - lost: what became of reports in parts that aren't whole
     """
 

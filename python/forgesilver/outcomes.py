@@ -91,8 +91,8 @@ class PassedOver:
     - parts: of large messages, among requests
     - foreign: packets that aren't read as telecommands among requests, or telemetry among reports
     - unread: verification reports that aren't read, but those of progress
-    - damaged: octets that are no packet, as many as their header says
-    - stray: octets with which no packet begins
+    - damaged: how many packets are damaged
+    - stray: how many octets with which no packet begins
     """
 
     parts: int = 0

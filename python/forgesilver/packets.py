@@ -55,7 +55,7 @@ class Telecommand:
 
     @property
     def request_id(self) -> int:
-        """The request ID, by which reports name it: the first four octets of its packet."""
+        """The request ID, by which reports name it: the first four octets of its packet, as a number."""
         request = U32(0)
         raise_fault(_codecs.lpt_request_id(byref(_head_of(self)), byref(request)))
         return request.value
