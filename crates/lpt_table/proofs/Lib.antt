@@ -1,3 +1,4 @@
+pub mod BackLemmas
 pub mod DueLemmas
 mod FirstLemmas
 mod FirstParts

@@ -4,5 +4,6 @@ pub mod EntryLists
 pub mod Offering
 pub mod Offers
 pub mod Places
+pub mod SettingBack
 pub mod Tables
 pub mod Walking

@@ -1,14 +1,15 @@
 //! The open receptions, kept under keys, and their places in the order in which they would be due.
 
-ghost use Rattle.std.specs.Prelude.{◌≡◌, ◌≤◌, ◌<◌, ◌+◌, IfOk, IfNone, IfSome, MatchOption, Some, None, is_some, nat_le, if◌then◌else◌};
+ghost use Rattle.std.specs.Prelude.{◌≡◌, ◌≤◌, ◌<◌, ◌+◌, IfOk, IfNone, IfSome, IsTrue, MatchOption, Some, None, is_some, nat_le, if◌then◌else◌};
 ghost use Rattle.std.specs.FinMap as map;
 ghost use Rattle.std.specs.Option.{option_map};
 ghost use Rattle.lpt_reception.specs.Steps.{kept};
 ghost use Rattle.lpt_table.specs.Deadlines.{soonest};
 ghost use Rattle.lpt_table.specs.EntryLists.{TakesIn, last_after};
+ghost use Rattle.lpt_table.specs.SettingBack.{reaches_back, set_back};
 ghost use Rattle.lpt_table.specs.Walking.{least_last, IsNext};
 
-use crate::places::{Place, first_due, first_last, nearest, rank_of, renew, spot_of};
+use crate::places::{Place, first_due, first_last, nearest, rank_of, renew, set_back, spot_of};
 use lpt_packet::Name;
 use lpt_part::{Mode, Part};
 use lpt_reception::{Filling, Took};
@@ -172,6 +173,15 @@ impl EntryList {
     {
         self.places.clear();
         self.fillings.clear();
+    }
+
+    /// Sets all last ticks back by so many, which none of them is below.
+    pub(crate) fn set_back(&mut self, ticks: u32)
+        requires { IsTrue (reaches_back ticks self.old.entries) }
+        ensures value { self.new ≡ record self.old { entries = set_back ticks self.old.entries } }
+        ensures len { map.len self.new.entries ≡ map.len self.old.entries }
+    {
+        set_back(&mut self.places, ticks);
     }
 
     /// The name of the first reception with the least last tick among the overdue ones. It looks at

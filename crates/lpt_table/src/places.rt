@@ -1,9 +1,10 @@
 //! If the open receptions are kept, in the order in which they would be due.
 
-ghost use Rattle.std.specs.Prelude.{◌≡◌, ◌<◌, ◌≤◌, T, length, slice_index_or, vec_capacity};
+ghost use Rattle.std.specs.Prelude.{◌≡◌, ◌<◌, ◌≤◌, All, T, length, map as mapped, slice_index_or, vec_capacity};
 ghost use Rattle.std.specs.FinMap as map;
 ghost use Rattle.lpt_packet.specs.Names.{name_cmp};
 ghost use Rattle.lpt_table.specs.Places.{AreApart, spot, rank, when_cmp, by_name, by_moment, first_overdue, renewed};
+ghost use Rattle.lpt_table.specs.SettingBack.{place_earlier};
 ghost use Rattle.lpt_table.specs.Walking.{first_last, is_behind, is_nearer, nearer, nearest};
 
 use lpt_packet::Name;
@@ -71,6 +72,16 @@ pub(crate) fn renew(places: &mut Vec<Place>, at: usize, place: Place, last: u32)
     match places.insert(to, place) {
         Ok(()) => {}
         Err(_) => unreachable!(),
+    }
+}
+
+// Sets the last tick of each place back by so many ticks.
+pub(crate) fn set_back(places: &mut [Place], ticks: u32)
+    requires { All (λ x. ticks ≤ x.last) places.old }
+    ensures { places.new ≡ mapped (place_earlier ticks) places.old }
+{
+    for place in places.iter_mut() {
+        place.last -= ticks;
     }
 }
 

@@ -1,6 +1,6 @@
 //! The table of open receptions.
 
-ghost use Rattle.std.specs.Prelude.{◌≡◌, ◌<◌, ℕ, IfOk, IfSome, IsSome, IsSomeAnd, None, Some, is_some};
+ghost use Rattle.std.specs.Prelude.{◌≡◌, ◌<◌, ℕ, IfOk, IfSome, IsSome, IsSomeAnd, IsTrue, None, Some, is_some};
 ghost use Rattle.std.specs.FinMap as map;
 ghost use Rattle.std.specs.Option.{option_map};
 ghost use Rattle.lpt_packet.specs.Names.{named_by};
@@ -8,6 +8,7 @@ ghost use Rattle.lpt_reception.specs.Steps.{kept};
 ghost use Rattle.lpt_reception.specs.Received.{is_gap, no_parts};
 ghost use Rattle.lpt_table.specs.Deadlines.{IsDue, due_of};
 ghost use Rattle.lpt_table.specs.Offering.{TakesOut, is_open, offered, put_back, received_at, with_entry};
+ghost use Rattle.lpt_table.specs.SettingBack.{reaches_back, table_back};
 ghost use Rattle.lpt_table.specs.Tables.{IsTableSize, no_receptions};
 ghost use Rattle.lpt_table.specs.Walking.{due_at, has_come, next_due, reception_at, IsNext};
 
@@ -290,6 +291,28 @@ impl Table {
     {
         let (_, last) = self.receptions.get(name)?;
         Some(u64::from(last) + u64::from(self.timeout))
+    }
+
+    /// Whether no reception took its last part before so many ticks, so that last ticks can be set
+    /// back by them.
+    pub fn reaches_back(&self, ticks: u32) -> bool
+        requires settled { self.now.out ≡ None }
+        ensures { result ≡ reaches_back ticks self.now.entries }
+    {
+        match self.receptions.first_last() {
+            None => true,
+            Some(last) => ticks <= last,
+        }
+    }
+
+    /// Sets the last tick of each reception back by so many ticks, as a clock is set back: what is
+    /// due, and how long it is until then, stays the same.
+    pub fn set_back(&mut self, ticks: u32)
+        requires settled { self.old.out ≡ None }
+        requires reaches { IsTrue (reaches_back ticks self.old.entries) }
+        ensures { self.new ≡ table_back ticks self.old }
+    {
+        self.receptions.set_back(ticks);
     }
 
     /// Removes the reception of this name, and says whether there was one.
