@@ -1,6 +1,7 @@
 -- Names stay tied to their receptions, so that a receiver is sound after each change.
 use Rattle.std.proofs.Common.{◌≡◌, ◌∙◌, ap, sym, subst, refl, ℕ, Bool, true, false, cond, Option, Some, None, Result, Ok, Err}
 use Rattle.std.specs.FinMap as map
+use Rattle.std.specs.Option.{option_map}
 use Rattle.std.specs.Result.{OnOk, OnErr}
 use Rattle.lpt_packet.specs.Names.{Name, same_name, name_cmp}
 use Rattle.lpt_packet.proofs.NameLemmas.{same_name-true}
@@ -11,6 +12,7 @@ use Rattle.lpt_ledger.specs.States.{state_of, state_at}
 use Rattle.lpt_part.specs.declared.mode.Mode.{Mode}
 use Rattle.lpt_reception.specs.Received.{Received}
 use Rattle.lpt_table.specs.Offering.{TakesOut, is_open, parts_at, put_back, received_at}
+use Rattle.lpt_table.specs.SettingBack.{earlier, set_back, table_back}
 use Rattle.lpt_table.specs.Tables.{Entries, TableEntry, TableState, no_receptions}
 use Rattle.lpt_node.proofs.MapLemmas.{get_insert, get_remove, remove-none}
 use Rattle.lpt_node.specs.Nodes.{is_open as is_open_name}
@@ -154,6 +156,27 @@ sound-cleared m old new sound is =
     go Free e tied = tt
     go Open e tied = tied
     go Closed e tied = refl
+
+-- last ticks were set back
+pub sound-back : (m : Marks) (old new : TableState) (ticks : ℕ)
+    → IsReceiver m old
+    → new ≡ table_back ticks old
+    → ((q : Name) → map.get (set_back ticks old.entries) q
+    ≡ option_map (earlier ticks) (map.get old.entries q))
+    → IsReceiver m new
+sound-back m old new ticks sound is law =
+    subst (λ (t : TableState). IsReceiver m t) (sym is)
+    (record {
+      settled = sound.settled;
+      tied = λ q.
+          subst (IsTied (state_at m q)) (sym (law q))
+          (go (state_at m q) (map.get old.entries q) (sound.tied q));
+    })
+  where
+    go : (s : State) (e : Option TableEntry) → IsTied s e → IsTied s (option_map (earlier ticks) e)
+    go Free e tied = tt
+    go Open e tied = tied
+    go Closed e tied = ap (option_map (earlier ticks)) tied
 
 -- no reception is open, and no name
 pub sound-new : (limit timeout p : ℕ) (mode : Mode) (m : Marks) (t : TableState)

@@ -55,21 +55,26 @@ coded_sending =
 -- the code of what an end keeps to receive
 abbrev pub coded_receiving : Coded Receiving
 coded_receiving =
-    code_by (Marks × Entries) (coded× coded_marks coded_entries)
-    (λ r. (r.ledger, r.entries)) (λ q. record { ledger = q.0; entries = q.1 }) (λ _. refl)
+    code_by (Marks × (Entries × (ℕ × ℕ)))
+    (coded× coded_marks (coded× coded_entries (coded× coded_ℕ coded_ℕ)))
+    (λ r. (r.ledger, (r.entries, (r.limit, r.timeout))))
+    (λ q. record { ledger = q.0; entries = q.1.0; limit = q.1.1.0; timeout = q.1.1.1 })
+    (λ _. refl)
 
 -- the code of what changes at one end
 abbrev pub coded_data : Coded NodeData
 coded_data =
-    code_by (Sending × (Receiving × (ℕ × (ℕ × Jobs))))
-    (coded× coded_sending (coded× coded_receiving (coded× coded_ℕ (coded× coded_ℕ coded_jobs))))
-    (λ d. (d.sending, (d.receiving, (d.clock, (d.boot, d.jobs)))))
+    code_by (Sending × (Receiving × (ℕ × (ℕ × (ℕ × Jobs)))))
+    (coded× coded_sending (coded× coded_receiving
+    (coded× coded_ℕ (coded× coded_ℕ (coded× coded_ℕ coded_jobs)))))
+    (λ d. (d.sending, (d.receiving, (d.outgoing, (d.clock, (d.boot, d.jobs))))))
     (λ q. record {
       sending = q.0;
       receiving = q.1.0;
-      clock = q.1.1.0;
-      boot = q.1.1.1.0;
-      jobs = q.1.1.1.1;
+      outgoing = q.1.1.0;
+      clock = q.1.1.1.0;
+      boot = q.1.1.1.1.0;
+      jobs = q.1.1.1.1.1;
     })
     (λ _. refl)
 

@@ -4,9 +4,11 @@ use Rattle.lpt_memory.specs.Memories.{Contents}
 use Rattle.lpt_memory.specs.Readings.{Source}
 use Rattle.lpt_events.specs.declared.config.Config.{Config}
 use Rattle.lpt_execution.specs.declared.ending.Ending.{Ending}
+use Rattle.lpt_execution.specs.declared.ending.Ending.TheVariants.{Refused}
 use Rattle.lpt_execution.specs.declared.ending.Report.{Report}
 use Rattle.lpt_execution.specs.Reporting.{message_reports, request_source}
 use Rattle.lpt_jobs.specs.Jobs.{Head, NoJob, NotReady, Ready}
+use Rattle.lpt_pus.specs.declared.failure_code.FailureCode.{FailureCode}
 use Rattle.lpt_node.specs.declared.counts.Counts.{Counts}
 use Rattle.lpt_node.specs.Jobs.{ending_at, ending_given, report_packets}
 use Rattle.lpt_node.specs.Nodes.{Sending, NodeData}
@@ -35,3 +37,9 @@ abbrev pub reports_given : Config → NodeData → List ℕ → Head → List Re
 reports_given c d octets NoJob = []
 reports_given c d octets NotReady = []
 reports_given c d octets (Ready r) = reports_of r (ending_given c d octets r)
+
+-- the same where it is refused with this failure code
+abbrev pub reports_refused : FailureCode → Head → List Report
+reports_refused code NoJob = []
+reports_refused code NotReady = []
+reports_refused code (Ready r) = reports_of r (Refused code)

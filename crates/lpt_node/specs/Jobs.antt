@@ -14,7 +14,9 @@ use Rattle.lpt_events.specs.declared.applied.Applied.TheVariants.{Silent}
 use Rattle.lpt_events.specs.declared.config.Config.{Config}
 use Rattle.lpt_events.specs.TelemetryKinds.{service_of, subtype_of}
 use Rattle.lpt_events.specs.MadePackets.{tm_made}
+use Rattle.lpt_pus.specs.declared.failure_code.FailureCode.{FailureCode}
 use Rattle.lpt_execution.specs.declared.ending.Ending.{Ending}
+use Rattle.lpt_execution.specs.declared.ending.Ending.TheVariants.{Refused}
 use Rattle.lpt_execution.specs.declared.ending.Report.{Report}
 use Rattle.lpt_execution.specs.Endings.{ending}
 use Rattle.lpt_execution.specs.Reporting.{message_reports, request_source, link_packets, large_packets, opened_of, applied_of}
@@ -84,7 +86,7 @@ abbrev pub ending_with : Config → NodeData → Source → Effect → Ending
 ending_with c d r effect =
     ending c.part_size
     (is_some (least_free_in d.sending.ledger (request_source r.apid r.message)))
-    (nat_lt (map.len d.sending.messages) c.outgoing) effect
+    (nat_lt (map.len d.sending.messages) d.outgoing) effect
 
 -- the same over these memories
 abbrev pub ending_at : Config → NodeData → Contents → Source → Ending
@@ -205,3 +207,10 @@ executed_so c d end (Ready r) = executed_ending c d r (end r)
 -- the answer
 abbrev pub executed_given : Config → NodeData → List ℕ → NodeData × Execution
 executed_given c d octets = executed_so c d (ending_given c d octets) (head_of d.jobs.jobs)
+
+-- ---- refusals
+
+-- the oldest job is refused with this failure code, and nothing that it asks is done: the end after it
+-- with the answer
+abbrev pub refused_front : Config → NodeData → FailureCode → NodeData × Execution
+refused_front c d code = executed_so c d (λ r. Refused code) (head_of d.jobs.jobs)

@@ -27,16 +27,20 @@ pub record Sending : Type 0 where
   pub count : ℕ
   pub types : List ℕ
 
--- what an end keeps to receive: the state of each name, and the open receptions
+-- what an end keeps to receive: the state of each name, the open receptions, how many may be open,
+-- and the timeout in ticks
 pub record Receiving : Type 0 where
   pub ledger : Marks
   pub entries : Entries
+  pub limit : ℕ
+  pub timeout : ℕ
 
--- what changes at one end; the clock is in ticks; the jobs are the requests that were released in
--- this boot and not executed, and ground has none
+-- what changes at one end; so many messages may be open to be sent; the clock is in ticks; the jobs
+-- are the requests that were released in this boot and not executed, and ground has none
 pub record NodeData : Type 0 where
   pub sending : Sending
   pub receiving : Receiving
+  pub outgoing : ℕ
   pub clock : ℕ
   pub boot : ℕ
   pub jobs : Jobs
@@ -76,7 +80,13 @@ message_at d name = map.get d.sending.messages name
 abbrev pub no_data : Config → NodeData
 no_data c = record {
   sending = record { ledger = map.empty; messages = map.empty; count = 0; types = no_types };
-  receiving = record { ledger = map.empty; entries = map.empty };
+  receiving = record {
+    ledger = map.empty;
+    entries = map.empty;
+    limit = c.receptions;
+    timeout = c.timeout;
+  };
+  outgoing = c.outgoing;
   clock = c.clock;
   boot = 0;
   jobs = no_jobs;

@@ -21,11 +21,11 @@ use Rattle.lpt_node.specs.Nodes.{Receiving, NodeData}
 use Rattle.lpt_node.specs.Receivers.{ReceiverState, received}
 use Rattle.lpt_node.specs.Sending.{counted_kind}
 
--- what receives at an end
+-- what receives at an end, within its own limits
 abbrev pub receiver_of : Config → Receiving → ReceiverState
 receiver_of c r = record {
-  limit = c.receptions;
-  timeout = c.timeout;
+  limit = r.limit;
+  timeout = r.timeout;
   p = c.part_size;
   mode = c.mode;
   ledger = r.ledger;
@@ -34,7 +34,8 @@ receiver_of c r = record {
 
 -- the end with this receiver
 abbrev pub with_receiver : NodeData → ReceiverState → NodeData
-with_receiver d r = record d { receiving = record { ledger = r.ledger; entries = r.entries } }
+with_receiver d r =
+    record d { receiving = record d.receiving { ledger = r.ledger; entries = r.entries } }
 
 -- an outcome alone
 abbrev pub noted : Outcome → Accepted

@@ -9,6 +9,7 @@ use Rattle.lpt_ledger.specs.declared.state.State.{State}
 use Rattle.lpt_ledger.specs.declared.state.State.TheVariants.{Open}
 use Rattle.lpt_ledger.specs.Marks.{Marks, all_closed}
 use Rattle.lpt_ledger.specs.States.{state_at}
+use Rattle.lpt_acts.specs.Acts.{Limits}
 use Rattle.lpt_events.specs.Lanes.{same_direction}
 use Rattle.lpt_events.specs.declared.side.Side.{Side}
 use Rattle.lpt_node.specs.Counting.{no_types}
@@ -57,6 +58,7 @@ restarted d = record {
     types = no_types;
   };
   receiving = record d.receiving { entries = map.empty };
+  outgoing = d.outgoing;
   clock = d.clock;
   boot = d.boot + 1;
   jobs = no_jobs;
@@ -66,11 +68,33 @@ restarted d = record {
 abbrev pub NoneOpen : Marks → Type 0
 NoneOpen m = (name : Name) → is_open (state_at m name) ≡ false
 
--- an end with this boot and clock at which nothing is open, and that knows these names
-abbrev pub resumed : (boot clock : ℕ) → (sent received : Marks) → NodeData
-resumed boot clock sent received = record {
+-- the limits of an end
+abbrev pub limits_at : NodeData → Limits
+limits_at d = record {
+  timeout = d.receiving.timeout;
+  receptions = d.receiving.limit;
+  outgoing = d.outgoing;
+}
+
+-- an end within these limits
+abbrev pub node_within : Limits → NodeData → NodeData
+node_within l d = record d {
+  receiving = record d.receiving { limit = l.receptions; timeout = l.timeout };
+  outgoing = l.outgoing;
+}
+
+-- an end within these limits, with this boot and clock, at which nothing is open, and that knows
+-- these names
+abbrev pub resumed : Limits → (boot clock : ℕ) → (sent received : Marks) → NodeData
+resumed l boot clock sent received = record {
   sending = record { ledger = sent; messages = map.empty; count = 0; types = no_types };
-  receiving = record { ledger = received; entries = map.empty };
+  receiving = record {
+    ledger = received;
+    entries = map.empty;
+    limit = l.receptions;
+    timeout = l.timeout;
+  };
+  outgoing = l.outgoing;
   clock = clock;
   boot = boot;
   jobs = no_jobs;

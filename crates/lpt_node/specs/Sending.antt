@@ -22,19 +22,22 @@ use Rattle.lpt_events.specs.MadePackets.{nth_part, part_made}
 use Rattle.lpt_packet.specs.Sizes.{longest_packet}
 use Rattle.lpt_node.specs.Nodes.{Sending, NodeData, direction_from, message_at}
 
--- why a message of this length isn't taken, under a name of this state, where n are open
-abbrev pub refusal_open_in : Config → State → ℕ → ℕ → Option NodeFault
-refusal_open_in c Open n len = Some InUse
-refusal_open_in c Closed n len = Some InUse
-refusal_open_in c Free n len =
+-- why a message of this length isn't taken, under a name of this state, where n are open and so
+-- many may be
+abbrev pub refusal_open_in : Config → (limit : ℕ) → State → ℕ → ℕ → Option NodeFault
+refusal_open_in c limit Open n len = Some InUse
+refusal_open_in c limit Closed n len = Some InUse
+refusal_open_in c limit Free n len =
     if nat_le len c.part_size then Some Short
     else if nat_lt longest_packet len then Some Long
-    else if nat_le c.outgoing n then Some TooMany
+    else if nat_le limit n then Some TooMany
     else None
 
 -- why a message of this length isn't taken under this name
 abbrev pub refusal_open : Config → NodeData → Name → ℕ → Option NodeFault
-refusal_open c d name len = refusal_open_in c (state_at d.sending.ledger name) (map.len d.sending.messages) len
+refusal_open c d name len =
+    refusal_open_in c d.outgoing (state_at d.sending.ledger name)
+    (map.len d.sending.messages) len
 
 -- a message is taken
 abbrev pub opened_in : Sending → Name → List ℕ → Sending

@@ -37,7 +37,7 @@ impl Node {
     fn may_open(&self, source: u16) -> (bool, bool)
         ensures free { result.0 ≡ is_some (least_free_in self.now.at.sending.ledger source) }
         ensures room { result.1
-            ≡ nat_lt (map.len self.now.at.sending.messages) self.now.config.outgoing }
+            ≡ nat_lt (map.len self.now.at.sending.messages) self.now.at.outgoing }
     {
         let free = self.senders.least_free(source).is_some();
         let room = self.outgoing.len() < self.config.outgoing as usize;

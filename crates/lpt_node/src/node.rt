@@ -3,9 +3,10 @@
 ghost use Rattle.std.specs.Prelude.{◌≡◌, IsTrue, IfOk, is_some};
 ghost use Rattle.std.specs.FinMap as map;
 ghost use Rattle.lpt_ledger.specs.States.{state_at};
+ghost use Rattle.lpt_acts.specs.Acts.{limits_of};
 ghost use Rattle.lpt_events.specs.Configs.{IsConfig};
 ghost use Rattle.lpt_node.specs.Nodes.{new_node, is_open, message_at};
-ghost use Rattle.lpt_node.specs.Restarts.{resumed, NoneOpen};
+ghost use Rattle.lpt_node.specs.Restarts.{limits_at, resumed, NoneOpen};
 
 use crate::counts::Counts;
 use crate::outgoing::Outgoing;
@@ -59,7 +60,13 @@ impl Model for Node {
           count = a.counts.count;
           types = a.counts.types;
         };
-        receiving = record { ledger = a.receiver.ledger; entries = a.receiver.entries };
+        receiving = record {
+          ledger = a.receiver.ledger;
+          entries = a.receiver.entries;
+          limit = a.config.receptions;
+          timeout = a.config.timeout;
+        };
+        outgoing = a.config.outgoing;
         clock = a.clock;
         boot = a.boot;
         jobs = a.jobs;
@@ -81,7 +88,7 @@ impl Node {
     }
 
     /// An end with this boot and clock that knows these names, of which none is open, as a restart
-    /// leaves one. The only error is out of memory.
+    /// leaves one within the limits of this configuration. The only error is out of memory.
     pub fn resume(
         alloc: Global,
         side: Side,
@@ -97,7 +104,7 @@ impl Node {
         ensures { IfOk result (λ n. n ≡ record {
           side = side;
           config = config.now;
-          at = resumed boot clock senders receivers;
+          at = resumed (limits_of config.now) boot clock senders receivers;
         }) }
     {
         let Config {
@@ -133,6 +140,7 @@ impl Node {
     pub fn config(&self) -> &Config
         ensures config { result.now ≡ self.now.config }
         ensures in_range { IsConfig result.now }
+        ensures limits { limits_at self.now.at ≡ limits_of self.now.config }
     {
         &self.config
     }

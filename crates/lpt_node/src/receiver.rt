@@ -9,6 +9,7 @@ ghost use Rattle.lpt_events.specs.NamedParts.{named};
 ghost use Rattle.lpt_pus.specs.Telemetry.{telemetry, as_written};
 ghost use Rattle.lpt_ledger.specs.States.{state_at};
 ghost use Rattle.lpt_table.specs.Deadlines.{due_of};
+ghost use Rattle.lpt_table.specs.SettingBack.{reaches_back, set_back};
 ghost use Rattle.lpt_table.specs.Tables.{IsTableSize};
 ghost use Rattle.lpt_jobs.specs.Jobs.{numbered};
 ghost use Rattle.lpt_node.specs.Receivers.{abort_report, ended, grows, received, table_in, IsSameReceiver, IsShort};
@@ -24,7 +25,7 @@ use lpt_ledger::{Ledger, State};
 use lpt_packet::{Name, Octets};
 use lpt_part::{Mode, Part, Reason};
 use lpt_pus::TmHead;
-use lpt_table::laws::put_back_undoes;
+use lpt_table::laws::{put_back_undoes, set_back_keeps_times};
 use lpt_table::{Offer, Table};
 use std::alloc::{AllocError, Global};
 use std::marker::Model;
@@ -216,6 +217,22 @@ impl Receiver {
         let report = close_reported(self.alloc, &mut self.ledger, head, name, Reason::Expired)?;
         self.table.expire(name);
         Ok(report)
+    }
+
+    /// Whether no reception took its last part before so many ticks.
+    pub(crate) fn reaches_back(&self, ticks: u32) -> bool
+        ensures { result ≡ reaches_back ticks self.now.entries }
+    {
+        self.table.reaches_back(ticks)
+    }
+
+    /// Sets the last tick of each reception back by so many, which none of them is below.
+    pub(crate) fn set_back(&mut self, ticks: u32)
+        requires { IsTrue (reaches_back ticks self.old.entries) }
+        ensures { self.new ≡ record self.old { entries = set_back ticks self.old.entries } }
+    {
+        set_back_keeps_times();
+        self.table.set_back(ticks);
     }
 
     /// Makes a name free.

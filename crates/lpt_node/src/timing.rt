@@ -1,11 +1,15 @@
-//! The clock, and receptions that took no part for too long.
+//! The clock, and receptions that are given up: they took no part for too long, or a caller says
+//! so.
 
-ghost use Rattle.std.specs.Prelude.{◌≡◌, None, Some, IfOk, IfErr, OnOk, OnErr};
+ghost use Rattle.std.specs.FinMap as map;
+ghost use Rattle.std.specs.Prelude.{◌≡◌, None, Some, IfOk, IfErr, IsTrue, OnOk, OnErr, is_some, true};
 ghost use Rattle.lpt_node.specs.Sending.{RefusedBy};
-ghost use Rattle.lpt_node.specs.Times.{refusal_tick, ticked, refusal_expire, expired};
+ghost use Rattle.lpt_node.specs.Times.{can_set_back, clock_back, due, expired, given_up, refusal_expire, refusal_give_up, refusal_tick, ticked};
 
 use crate::{Expired, Node, NodeFault};
 use lpt_events::TelemetryKind;
+use lpt_packet::Name;
+use lpt_table::laws::set_back_keeps_times;
 
 impl Node {
     /// Sets the clock one tick on.
@@ -28,6 +32,28 @@ impl Node {
         Ok(())
     }
 
+    /// Whether the clock can be set back by so many ticks: neither it nor the tick at which an open
+    /// reception last took a part is below that.
+    pub fn can_set_back(&self, ticks: u32) -> bool
+        ensures { result ≡ can_set_back ticks self.now.at }
+    {
+        ticks <= self.clock && self.receiver.reaches_back(ticks)
+    }
+
+    /// Sets the clock back by so many ticks, so that it doesn't come to its end. What is due, and
+    /// how long it is until each open reception is, stays the same.
+    pub fn set_back(&mut self, ticks: u32)
+        requires { IsTrue (can_set_back ticks self.old.at) }
+        ensures at { self.new.at ≡ clock_back ticks self.old.at }
+        ensures due { due self.new.config self.new.at ≡ due self.old.config self.old.at }
+        ensures side { self.new.side ≡ self.old.side }
+        ensures config { self.new.config ≡ self.old.config }
+    {
+        set_back_keeps_times();
+        self.receiver.set_back(ticks);
+        self.clock -= ticks;
+    }
+
     /// Gives the reception up that is due: of those that took no part for as long as the timeout,
     /// the one that has waited longest, and of equal ones the one with the least name. The
     /// spacecraft makes a report of it.
@@ -47,6 +73,43 @@ impl Node {
         let Some(name) = self.receiver.due(self.clock) else {
             return Err(NodeFault::NothingDue);
         };
+        self.end_reception(name)
+    }
+
+    /// Gives the open reception of this name up before its time, as `expire` does one that is due.
+    /// The spacecraft makes a report of it.
+    ///
+    /// Errors, with nothing changed, the first that applies: `NotOpen`, no reception of the name is
+    /// open; `Memory`.
+    pub fn give_up(&mut self, name: Name) -> Result<Expired, NodeFault>
+        ensures enabled { OnOk result (refusal_give_up self.old.at name ≡ None) }
+        ensures ok { IfOk result (λ r. (self.new.at, r)
+            ≡ given_up self.old.side self.old.config self.old.at name) }
+
+        ensures side { self.new.side ≡ self.old.side }
+        ensures config { self.new.config ≡ self.old.config }
+
+        ensures refused { IfErr result (λ e. RefusedBy (refusal_give_up self.old.at name) e) }
+        ensures err { OnErr result (self.new.at ≡ self.old.at) }
+    {
+        if !self.receiver.is_open(name) {
+            return Err(NodeFault::NotOpen);
+        }
+        self.end_reception(name)
+    }
+
+    // Ends the open reception of this name, with a report of it where the node makes one.
+    fn end_reception(&mut self, name: Name) -> Result<Expired, NodeFault>
+        requires { is_some (map.get self.old.at.receiving.entries name) ≡ true }
+        ensures ok { IfOk result (λ r. (self.new.at, r)
+            ≡ given_up self.old.side self.old.config self.old.at name) }
+
+        ensures side { self.new.side ≡ self.old.side }
+        ensures config { self.new.config ≡ self.old.config }
+
+        ensures refused { IfErr result (λ e. e ≡ NodeFault.Memory) }
+        ensures err { OnErr result (self.new.at ≡ self.old.at) }
+    {
         let mut counts = self.counts;
         let head = self.abort_head(&counts, name.source);
         let Ok(packet) = self.receiver.expire(head, name) else {

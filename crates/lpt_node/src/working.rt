@@ -6,8 +6,8 @@ ghost use Rattle.lpt_jobs.specs.Jobs.{Ready, claimed_in, head_of, is_claimed, is
 ghost use Rattle.lpt_memory.specs.Memories.{Contents};
 ghost use Rattle.lpt_memory.specs.Readings.{Source};
 ghost use Rattle.lpt_execution.specs.Ranges.{EndingFits};
-ghost use Rattle.lpt_node.specs.Executions.{front_reports, reports_given, reports_of};
-ghost use Rattle.lpt_node.specs.Jobs.{refusal_claim, claimed, committed, refusal_apply, executed, executed_given, executed_so, execution, front_reading, FrontHolds, FrontReads, IsReadFor};
+ghost use Rattle.lpt_node.specs.Executions.{front_reports, reports_given, reports_of, reports_refused};
+ghost use Rattle.lpt_node.specs.Jobs.{refusal_claim, claimed, committed, refusal_apply, executed, executed_given, executed_so, execution, front_reading, refused_front, FrontHolds, FrontReads, IsReadFor};
 ghost use Rattle.lpt_node.specs.Sending.{RefusedBy};
 
 use crate::executing::Made;
@@ -16,6 +16,7 @@ use lpt_execution::{Ending, applied_with, request_source};
 use lpt_jobs::Front;
 use lpt_memory::{Memories, Reading, Ticket};
 use lpt_packet::Octets;
+use lpt_pus::FailureCode;
 use std::alloc::AllocError;
 
 impl Node {
@@ -210,6 +211,38 @@ impl Node {
         }
         let _ = self.jobs.pop_front();
         Ok(())
+    }
+
+    /// Refuses the oldest job, whose reading was handed in, with this failure code, and lets it go:
+    /// nothing that it asks is done, and a report says so, to the source in the request's own header.
+    /// What is no telecommand with the node's APID has no report.
+    ///
+    /// Errors, with nothing changed: as those of `apply_front`.
+    pub fn refuse_front(&mut self, code: FailureCode) -> Result<Executed, NodeFault>
+        ensures enabled { OnOk result (refusal_apply self.old.at ≡ None) }
+        ensures ok { IfOk result (λ r. (self.new.at, execution r)
+            ≡ refused_front self.old.config self.old.at code) }
+
+        ensures side { self.new.side ≡ self.old.side }
+        ensures config { self.new.config ≡ self.old.config }
+
+        ensures refused { IfErr result (λ e. RefusedBy (refusal_apply self.old.at) e) }
+        ensures err { OnErr result (self.new.at ≡ self.old.at) }
+
+        // Memory runs out only where there is a report.
+        ensures memory { OnErr result (refusal_apply self.old.at ≡ None
+            → reports_refused code (head_of self.old.at.jobs.jobs) ≢ []) }
+    {
+        if let Some(fault) = self.refusal_apply() {
+            return Err(fault);
+        }
+        let Front::Ready(_) = self.jobs.front() else {
+            unreachable!()
+        };
+        let Ok((executed, _)) = self.end_front(Ending::Refused(code)) else {
+            return Err(NodeFault::Memory);
+        };
+        Ok(executed)
     }
 
     // Ends the execution of the oldest job, which is ready: makes its reports, opens the one that is

@@ -37,7 +37,13 @@ returns-clause-at c =
         count = c.self.inside.counts.count;
         types = c.self.inside.counts.types;
       };
-      receiving = record { ledger = c.self.inside.receiver.ledger; entries = c.self.inside.receiver.entries };
+      receiving = record {
+        ledger = c.self.inside.receiver.ledger;
+        entries = c.self.inside.receiver.entries;
+        limit = c.self.inside.config.receptions;
+        timeout = c.self.inside.config.timeout;
+      };
+      outgoing = c.self.inside.config.outgoing;
       clock = c.self.inside.clock;
       boot = c.self.inside.boot;
       jobs = c.self.inside.jobs;
