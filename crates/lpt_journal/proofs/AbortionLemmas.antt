@@ -5,7 +5,7 @@ use Rattle.std.specs.Option.{is_some}
 use Rattle.lpt_packet.specs.declared.direction.Direction.{Direction}
 use Rattle.lpt_packet.specs.Names.{Name}
 use Rattle.lpt_events.specs.declared.config.Config.{Config}
-use Rattle.lpt_events.specs.declared.event.Event.{Event}
+use Rattle.lpt_acts.specs.Acts.{Act}
 use Rattle.lpt_events.specs.declared.entry.Opening.{Opening}
 use Rattle.lpt_events.specs.declared.entry.Release.{Release}
 use Rattle.lpt_journal.specs.Abortions.{Abortion, abortion_at, abortions, opening_of_abortion, NoneIsReleased, NothingIsKept, ReleasedIsUnheard, AbortionIsFinal}
@@ -154,7 +154,7 @@ aborted_start c = record {
 }
 
 -- so it is in every legal journal
-pub every_aborted : (c : Config) (first : Contents) (es : List Event)
+pub every_aborted : (c : Config) (first : Contents) (es : List Act)
     → IsConfig c
     → Legal c first es
     → AreAborted c (recorded c first es) × NothingIsKept c (recorded c first es)

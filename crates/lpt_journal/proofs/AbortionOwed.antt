@@ -8,8 +8,7 @@ use Rattle.lpt_packet.proofs.NameLemmas.{same_name-refl}
 use Rattle.lpt_events.specs.declared.config.Config.{Config}
 use Rattle.lpt_events.specs.declared.side.Side.{Side}
 use Rattle.lpt_events.specs.declared.side.Side.TheVariants.{Ground, Craft}
-use Rattle.lpt_events.specs.declared.event.Event.{Event}
-use Rattle.lpt_events.specs.declared.event.Event.TheVariants.{Expire, Deliver, Commit}
+use Rattle.lpt_acts.specs.Acts.{Act, Expire, Deliver, Commit}
 use Rattle.lpt_events.specs.declared.outcome.Outcome.{Outcome}
 use Rattle.lpt_events.specs.declared.outcome.Outcome.TheVariants.{Broken}
 use Rattle.lpt_events.specs.declared.reply.Answer.TheVariants.{Delivered}
@@ -21,20 +20,19 @@ use Rattle.lpt_journal.specs.Senders.{current}
 use Rattle.lpt_journal.proofs.HeadlineLemmas.{taken}
 use Rattle.lpt_journal.proofs.OutcomeLemmas.{TellsOf, judged_tells}
 use Rattle.lpt_journal.proofs.Soundness.{hand_current}
-use Rattle.lpt_events.specs.declared.fault.StepFault.TheVariants.{NothingDue}
 use Rattle.lpt_events.specs.declared.entry.Release.{Release}
 use Rattle.lpt_journal.specs.Abortions.{Abortion, abortion_at, NothingIsKept}
-use Rattle.lpt_journal.specs.Due.{due}
+use Rattle.lpt_journal.specs.Due.{given_up}
 use Rattle.lpt_events.specs.Sides.{same_side, receiver_side, direction_to}
 use Rattle.lpt_journal.specs.Journal.{Recorded, History}
 use Rattle.lpt_journal.specs.Jobs.{boot, ticket}
 use Rattle.lpt_journal.specs.Receivers.{ends, heard, has_parts, is_closed}
 use Rattle.lpt_journal.specs.Releases.{released_by, released_now}
 use Rattle.lpt_journal.specs.Replies.{expired_now, entry}
-use Rattle.lpt_journal.specs.Refusals.{refusal}
+use Rattle.lpt_journal.specs.Refusals.{expiry_fault, refusal}
 use Rattle.lpt_journal.proofs.ClosedLemmas.{open_opening}
 use Rattle.lpt_journal.proofs.CommitLemmas.{commit_says}
-use Rattle.lpt_journal.proofs.DueLemmas.{due_open}
+use Rattle.lpt_journal.proofs.DueLemmas.{given_up_open}
 use Rattle.lpt_journal.proofs.Events.{only_element}
 use Rattle.lpt_journal.proofs.Releasing.{IsReleaseOf}
 use Rattle.lpt_journal.proofs.Steps.{IsSound}
@@ -68,39 +66,43 @@ open_still true has none e = let no : has ≡ false = none refl in absurd cc
 open_still false has none e = refl
 
 -- an event that can happen pays what it owes for an abortion
-pub owes_abortion : (c : Config) (first : Contents) (h : History) (ev : Event)
+pub owes_abortion : (c : Config) (first : Contents) (h : History) (ev : Act)
     → IsSound c h
     → NothingIsKept c h
     → refusal c h ev ≡ None
     → (j : ℕ) (e : Abortion)
     → slice_get (abortion_at (length h) ev (entry c first h ev).reply.answer) j ≡ Some e
     → IsAbortionOf c h (entry c first h ev) e
-owes_abortion c first h (Expire side) sound none can j e f =
-    go (due c h (direction_to side)) refl
-    (not_false (is_some (due c h (direction_to side)))
-    (one_passes (not (is_some (due c h (direction_to side)))) NothingDue can)) f where
+owes_abortion c first h (Expire side which) sound none can j e f =
+    go (given_up c h (direction_to side) which) refl
+    (not_false (is_some (given_up c h (direction_to side) which))
+    (one_passes (not (is_some (given_up c h (direction_to side) which))) (expiry_fault which) can))
+    f where
       go : (o : Option Name)
-          → due c h (direction_to side) ≡ o
+          → given_up c h (direction_to side) which ≡ o
           → is_some o ≡ true
-          → slice_get (abortion_at (length h) (Expire side) (expired_now (direction_to side) o)) j ≡ Some e
-          → IsAbortionOf c h (entry c first h (Expire side)) e
+          → slice_get (abortion_at (length h) (Expire side which)
+          (expired_now (direction_to side) o)) j ≡ Some e
+          → IsAbortionOf c h (entry c first h (Expire side which)) e
       go None is t k = absurd cc
       go (Some name) is t k =
           let of : record { place = length h; direction = direction_to side; name = name } ≡ e =
           only_element _ j e k in
-          let has = due_open c h (direction_to side) name is in
+          let has = given_up_open c h (direction_to side) which name is in
           let opening = open_opening c h (direction_to side) name sound has in
           let was : is_closed h (direction_to side) name ≡ false =
           open_still (is_closed h (direction_to side) name)
           (has_parts (heard c h (direction_to side) name)) (none (direction_to side) name) has in
-          let now : is_closed (entry c first h (Expire side) ∷ h) (direction_to side) name ≡ true =
+          let now : is_closed (entry c first h (Expire side which) ∷ h) (direction_to side) name
+          ≡ true =
           ap (λ (o : Option Name).
           (same_side side (receiver_side (direction_to side))
           && ends (expired_now (direction_to side) o) name)
           || is_closed h (direction_to side) name) is
           ∙ (λ i. (receives_there side i && same_name-refl name i)
           || is_closed h (direction_to side) name) in
-          subst (λ (y : Abortion). IsAbortionOf c h (entry c first h (Expire side)) y) of (record {
+          subst (λ (y : Abortion). IsAbortionOf c h (entry c first h (Expire side which)) y) of
+          (record {
             place = refl;
             message = opening.0.message;
             ends_it = record {

@@ -8,8 +8,7 @@ use Rattle.lpt_events.specs.Lanes.{lane_direction}
 use Rattle.lpt_events.specs.Sides.{receiver_side}
 use Rattle.lpt_events.specs.declared.config.Config.{Config}
 use Rattle.lpt_events.specs.declared.entry.Release.{Release}
-use Rattle.lpt_events.specs.declared.event.Event.{Event}
-use Rattle.lpt_events.specs.declared.event.Event.TheVariants.{Send, Plain, Damage, Deliver}
+use Rattle.lpt_acts.specs.Acts.{Act, Send, Plain, Damage, Deliver}
 use Rattle.lpt_events.specs.declared.lane.Lane.{Lane}
 use Rattle.lpt_journal.specs.Delivery.{outcome}
 use Rattle.lpt_journal.specs.Hands.{hand, arrival_of, in_hand}
@@ -59,7 +58,7 @@ asked_later c h x b a = record {
 }
 
 -- a request that an event puts is a plain one that ground asks for by it
-put_asked : (c : Config) (first : Contents) (h : History) (e : Event)
+put_asked : (c : Config) (first : Contents) (h : History) (e : Act)
     → Owes c h (entry c first h e)
     → (n : ℕ) (p : SentPacket) (b : List ℕ)
     → slice_get (puts c first h e) n ≡ Some p
@@ -91,7 +90,7 @@ put_asked c first h e pays n p b f is =
 -- ---- releases
 
 -- a request that an event releases was asked for
-release_asked : (c : Config) (first : Contents) (h : History) (e : Event)
+release_asked : (c : Config) (first : Contents) (h : History) (e : Act)
     → IsSound c h
     → ((l : Lane) → e ≡ Deliver l → (n : ℕ) × (hand h l ≡ Some n))
     → AreAsked c h
@@ -111,7 +110,7 @@ release_asked c first h e sound full had k r f of = absurd (no_place k r f)
 -- ---- the step
 
 -- each request was asked for again after an event that can happen
-pub asked_step : (c : Config) (first : Contents) (h : History) (e : Event)
+pub asked_step : (c : Config) (first : Contents) (h : History) (e : Act)
     → IsSound c h
     → Owes c h (entry c first h e)
     → OwesReleases c h (entry c first h e)

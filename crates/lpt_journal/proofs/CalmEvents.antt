@@ -6,8 +6,7 @@ use Rattle.lpt_packet.specs.Names.{Name}
 use Rattle.lpt_memory.specs.Memories.{Contents}
 use Rattle.lpt_events.specs.declared.config.Config.{Config}
 use Rattle.lpt_events.specs.declared.entry.Opening.{Opening}
-use Rattle.lpt_events.specs.declared.event.Event.{Event}
-use Rattle.lpt_events.specs.declared.event.Event.TheVariants.{Open, Send, Plain, Finish, Lose, Damage, Take, Deliver, Tick, Expire, Claim, Commit, Apply, Retire, Restart}
+use Rattle.lpt_acts.specs.Acts.{Act, Open, Send, Plain, Finish, Lose, Damage, Take, Deliver, Tick, Expire, Claim, Commit, Apply, Retire, Restart}
 use Rattle.lpt_events.specs.declared.lane.Lane.{Lane}
 use Rattle.lpt_events.specs.declared.side.Side.{Side}
 use Rattle.lpt_journal.specs.Hands.{hand}
@@ -19,7 +18,7 @@ use Rattle.lpt_journal.proofs.Steps.{IsPut, IsSound, Owes}
 use Rattle.lpt_journal.proofs.TestLemmas.{no_place}
 
 -- whether an event opens, retires, takes, hears and ticks nothing, whatever it puts
-abbrev pub is_calm : Event → Bool
+abbrev pub is_calm : Act → Bool
 is_calm (Send d name k) = true
 is_calm (Plain source flags service subtype body) = true
 is_calm (Finish d name) = true
@@ -37,14 +36,14 @@ record IsCalm (c : Config) (h : History) (x : Recorded) : Type 0 where
   hears : (d : Direction) (name : Name) → heard c (x ∷ h) d name ≡ heard c h d name
   ticks : (side : Side) → clock c (x ∷ h) side ≡ clock c h side
 
-calm_entry : (c : Config) (first : Contents) (h : History) (e : Event)
+calm_entry : (c : Config) (first : Contents) (h : History) (e : Act)
     → is_calm e ≡ true
     → IsCalm c h (entry c first h e)
 calm_entry c first h (Open d name m) calm = absurd cc
 calm_entry c first h (Take l n) calm = absurd cc
 calm_entry c first h (Deliver l) calm = absurd cc
-calm_entry c first h (Tick side) calm = absurd cc
-calm_entry c first h (Expire side) calm = absurd cc
+calm_entry c first h (Tick side turn) calm = absurd cc
+calm_entry c first h (Expire side which) calm = absurd cc
 calm_entry c first h Apply calm = absurd cc
 calm_entry c first h (Retire d name) calm = absurd cc
 calm_entry c first h (Restart side) calm = absurd cc
@@ -57,7 +56,7 @@ calm_entry c first h e calm = record {
 }
 
 -- a calm event owes its packets alone
-pub calm_owes : (c : Config) (first : Contents) (h : History) (e : Event)
+pub calm_owes : (c : Config) (first : Contents) (h : History) (e : Act)
     → is_calm e ≡ true
     → IsSound c h
     → ((k : ℕ) (p : SentPacket)
@@ -78,7 +77,7 @@ calm_owes c first h e calm sound puts = record {
   it = calm_entry c first h e calm
 
 -- one that puts nothing owes nothing
-pub quiet_owes : (c : Config) (first : Contents) (h : History) (e : Event)
+pub quiet_owes : (c : Config) (first : Contents) (h : History) (e : Act)
     → is_calm e ≡ true
     → puts c first h e ≡ []
     → IsSound c h

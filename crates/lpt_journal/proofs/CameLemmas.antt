@@ -18,14 +18,13 @@ use Rattle.lpt_events.specs.NamedParts.{NamedPart}
 use Rattle.lpt_events.specs.Sides.{same_side, receiver_side}
 use Rattle.lpt_events.specs.declared.config.Config.{Config}
 use Rattle.lpt_events.specs.declared.entry.Opening.{Opening}
-use Rattle.lpt_events.specs.declared.event.Event.{Event}
-use Rattle.lpt_events.specs.declared.event.Event.TheVariants.{Deliver, Expire, Retire, Restart}
+use Rattle.lpt_acts.specs.Acts.{Act, Deliver, Expire, Retire, Restart}
 use Rattle.lpt_events.specs.declared.reply.Answer.TheVariants.{Delivered}
 use Rattle.lpt_events.proofs.LaneLemmas.{same_direction-true}
 use Rattle.lpt_journal.specs.Delivery.{judged, outcome}
 use Rattle.lpt_journal.specs.Hands.{in_hand}
 use Rattle.lpt_journal.specs.Journal.{History}
-use Rattle.lpt_journal.specs.Receivers.{kept, with_piece, ends, heard_now, heard, has_parts, reception_count, is_closed}
+use Rattle.lpt_journal.specs.Receivers.{kept, with_piece, ends, heard_now, heard, has_parts, reception_count, is_closed, limits}
 use Rattle.lpt_journal.specs.Replies.{answer, opens, entry, recorded}
 use Rattle.lpt_journal.specs.Senders.{is_opening_of, retires, current}
 use Rattle.lpt_journal.specs.Whole.{brings, came_after, came}
@@ -134,7 +133,8 @@ judged_kept : (c : Config) (h : History) (d : Direction) (a : Arrival) (name : N
 judged_kept c h d (APart q) name k had live t =
     let s = heard c h d q.name in
     let closed = is_closed h d q.name in
-    let full = not (has_parts s) && nat_le c.receptions (reception_count c h d) in
+    let full = not (has_parts s)
+    && nat_le (limits c h (receiver_side d)).receptions (reception_count c h d) in
     let clash = contradicts s q.number (kept q) in
     let again = is_some (map.get s q.number) in
     let gap = is_gap c.mode s q.number in
@@ -162,7 +162,7 @@ CameIsKept c h =
     → came c h d name k ≡ true
     → is_some (map.get (heard c h d name) k) ≡ true
 
-event_kept : (c : Config) (first : Contents) (h : History) (e : Event) (d : Direction) (name : Name)
+event_kept : (c : Config) (first : Contents) (h : History) (e : Act) (d : Direction) (name : Name)
     (k : ℕ)
     → retires e d name ≡ false
     → (is_closed h d name ≡ false → came c h d name k ≡ true
@@ -186,8 +186,9 @@ event_kept c first h (Deliver l) d name k stays had live t =
           subst (λ (v : Direction). Keeps c h (lane_direction l) (in_hand c h l) v name k)
           (same_direction-true (lane_direction l) d way)
           (judged_kept c h (lane_direction l) (in_hand c h l) name k) had live t
-event_kept c first h (Expire side) d name k stays had live t =
-    let ended = same_side side (receiver_side d) && ends (answer c first h (Expire side)) name in
+event_kept c first h (Expire side which) d name k stays had live t =
+    let ended =
+    same_side side (receiver_side d) && ends (answer c first h (Expire side which)) name in
     ap (λ b. is_some (map.get (if b then no_parts else heard c h d name) k))
     (or_false_left ended (is_closed h d name) live)
     ∙ had (or_false_right ended (is_closed h d name) live) t
@@ -200,7 +201,7 @@ event_kept c first h (Retire e i) d name k stays had live t =
     had (sym (ap (λ b. not b && is_closed h d name) stays) ∙ live) t
 event_kept c first h e d name k stays had live t = had live t
 
-came_step : (c : Config) (first : Contents) (h : History) (e : Event)
+came_step : (c : Config) (first : Contents) (h : History) (e : Act)
     → CameIsKept c h
     → CameIsKept c (entry c first h e ∷ h)
 came_step c first h e had d name o now live k t =
@@ -216,7 +217,7 @@ came_step c first h e had d name o now live k t =
       go false None stays now t =
           event_kept c first h e d name k stays (λ live t. had d name o now live k t) live t
 
-pub came_kept : (c : Config) (first : Contents) (es : List Event)
+pub came_kept : (c : Config) (first : Contents) (es : List Act)
     → CameIsKept c (recorded c first es)
 came_kept c first [] d name o now live k t = absurd cc
 came_kept c first (e ∷ es) d name o now live k t =
@@ -270,14 +271,14 @@ judged_unwhole : (c : Config) (h : History) (d : Direction) (a : Arrival) (name 
 judged_unwhole c h d (APart q) name had =
     let s = heard c h d q.name in
     chosen_unwhole (is_closed h d q.name)
-    (not (has_parts s) && nat_le c.receptions (reception_count c h d))
+    (not (has_parts s) && nat_le (limits c h (receiver_side d)).receptions (reception_count c h d))
     (contradicts s q.number (kept q)) (is_some (map.get s q.number)) (is_gap c.mode s q.number)
     (is_whole (with_piece s q)) q (length (spelled (with_piece s q))) name (heard c h d name) had
     (λ same. ap (λ i. is_whole (with_piece (heard c h d i) q))
     (sym (same_name-true q.name name same)))
 judged_unwhole c h d a name had = had
 
-event_unwhole : (c : Config) (first : Contents) (h : History) (e : Event) (d : Direction)
+event_unwhole : (c : Config) (first : Contents) (h : History) (e : Act) (d : Direction)
     (name : Name)
     → is_whole (heard c h d name) ≡ false
     → is_whole (heard c (entry c first h e ∷ h) d name) ≡ false
@@ -293,15 +294,16 @@ event_unwhole c first h (Deliver l) d name had = go (same_direction (lane_direct
       subst (λ (v : Direction). LeavesUnwhole c h (lane_direction l) (in_hand c h l) v name)
       (same_direction-true (lane_direction l) d way)
       (judged_unwhole c h (lane_direction l) (in_hand c h l) name) had
-event_unwhole c first h (Expire side) d name had =
-    nothing_or (same_side side (receiver_side d) && ends (answer c first h (Expire side)) name)
+event_unwhole c first h (Expire side which) d name had =
+    nothing_or
+    (same_side side (receiver_side d) && ends (answer c first h (Expire side which)) name)
     (heard c h d name) had
 event_unwhole c first h (Restart side) d name had =
     nothing_or (same_side side (receiver_side d)) (heard c h d name) had
 event_unwhole c first h e d name had = had
 
 -- what is kept of a transaction is never all of its parts
-pub never_whole : (c : Config) (first : Contents) (es : List Event) (d : Direction) (name : Name)
+pub never_whole : (c : Config) (first : Contents) (es : List Act) (d : Direction) (name : Name)
     → is_whole (heard c (recorded c first es) d name) ≡ false
 never_whole c first [] d name = nothing_whole
 never_whole c first (e ∷ es) d name =

@@ -8,7 +8,7 @@ use Rattle.lpt_memory.specs.Readings.{Job}
 use Rattle.lpt_events.specs.Workers.{same_worker}
 use Rattle.lpt_events.specs.declared.config.Config.{Config}
 use Rattle.lpt_events.specs.declared.entry.Release.{Release}
-use Rattle.lpt_events.specs.declared.event.Event.TheVariants.{Claim}
+use Rattle.lpt_acts.specs.Acts.{Claim}
 use Rattle.lpt_events.specs.declared.fault.StepFault.TheVariants.{HandFull, NoJob}
 use Rattle.lpt_events.specs.declared.side.Side.TheVariants.{Craft}
 use Rattle.lpt_events.specs.declared.worker.Worker.{Worker}

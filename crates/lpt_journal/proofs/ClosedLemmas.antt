@@ -16,8 +16,7 @@ use Rattle.lpt_events.specs.declared.config.Config.{Config}
 use Rattle.lpt_events.specs.declared.outcome.Outcome.{Outcome}
 use Rattle.lpt_events.specs.declared.outcome.Outcome.TheVariants.{Kept, Released, Broken}
 use Rattle.lpt_events.specs.Arrivals.{Arrival, APart}
-use Rattle.lpt_events.specs.declared.event.Event.{Event}
-use Rattle.lpt_events.specs.declared.event.Event.TheVariants.{Deliver, Expire, Retire, Restart}
+use Rattle.lpt_acts.specs.Acts.{Act, Deliver, Expire, Retire, Restart}
 use Rattle.lpt_events.specs.declared.reply.Answer.TheVariants.{Delivered}
 use Rattle.lpt_events.specs.declared.entry.Opening.{Opening}
 use Rattle.lpt_journal.specs.Delivery.{judged, outcome}
@@ -25,7 +24,7 @@ use Rattle.lpt_journal.specs.Abortions.{NothingIsKept}
 use Rattle.lpt_events.specs.Sides.{same_side, receiver_side}
 use Rattle.lpt_journal.specs.Journal.{History}
 use Rattle.lpt_journal.specs.Hands.{in_hand}
-use Rattle.lpt_journal.specs.Receivers.{kept, with_piece, with_arrival, ends, heard_now, heard, has_parts, reception_count, is_closed}
+use Rattle.lpt_journal.specs.Receivers.{kept, with_piece, with_arrival, ends, heard_now, heard, has_parts, reception_count, is_closed, limits}
 use Rattle.lpt_journal.specs.Replies.{entry}
 use Rattle.lpt_journal.specs.Senders.{current}
 use Rattle.lpt_journal.proofs.CountLemmas.{none_open}
@@ -55,7 +54,7 @@ judged_open c h d (APart q) i k e =
     let s = heard c h d q.name in
     let it =
     kept_open (is_closed h d q.name)
-    (not (has_parts s) && nat_le c.receptions (reception_count c h d))
+    (not (has_parts s) && nat_le (limits c h (receiver_side d)).receptions (reception_count c h d))
     (contradicts s q.number (kept q)) (is_some (map.get s q.number)) (is_gap c.mode s q.number)
     (is_whole (with_piece s q)) q
     (length (spelled (with_piece s q))) i k e in
@@ -76,11 +75,13 @@ ended_or_not true over s was e = none_open
 ended_or_not false over s was e = was e
 
 -- nothing is kept of a closed transaction after an event either
-pub unheard_step : (c : Config) (first : Contents) (h : History) (e : Event)
+pub unheard_step : (c : Config) (first : Contents) (h : History) (e : Act)
     → NothingIsKept c h
     → NothingIsKept c (entry c first h e ∷ h)
-unheard_step c first h (Expire side) none d name over =
-    let t = same_side side (receiver_side d) && ends (entry c first h (Expire side)).reply.answer name in
+unheard_step c first h (Expire side which) none d name over =
+    let t =
+    same_side side (receiver_side d) && ends (entry c first h (Expire side which)).reply.answer name
+    in
     ended_or_not t (is_closed h d name) (heard c h d name) (none d name) over
 unheard_step c first h (Deliver l) none d name over =
     go (same_direction (lane_direction l) d) refl (outcome c h l) refl over where

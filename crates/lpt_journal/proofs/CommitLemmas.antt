@@ -3,7 +3,7 @@ use Rattle.std.proofs.Common.{◌≡◌, ◌∙◌, ap, refl, ℕ, ◌==◌, Boo
 use Rattle.lpt_memory.specs.Memories.{Contents}
 use Rattle.lpt_memory.specs.Readings.{Job}
 use Rattle.lpt_events.specs.declared.config.Config.{Config}
-use Rattle.lpt_events.specs.declared.event.Event.TheVariants.{Commit}
+use Rattle.lpt_acts.specs.Acts.{Commit}
 use Rattle.lpt_events.specs.declared.reply.Answer.{Answer}
 use Rattle.lpt_events.specs.declared.reply.Answer.TheVariants.{Committed, Stale}
 use Rattle.lpt_events.specs.declared.side.Side.TheVariants.{Craft}

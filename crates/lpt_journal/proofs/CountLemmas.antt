@@ -16,8 +16,7 @@ use Rattle.lpt_events.specs.Arrivals.{Arrival}
 use Rattle.lpt_reception.specs.Received.{Kept as Kept', Parts, no_parts}
 use Rattle.lpt_events.specs.declared.lane.Lane.{Lane}
 use Rattle.lpt_events.specs.declared.entry.Opening.{Opening}
-use Rattle.lpt_events.specs.declared.event.Event.{Event}
-use Rattle.lpt_events.specs.declared.event.Event.TheVariants.{Deliver, Expire, Restart}
+use Rattle.lpt_acts.specs.Acts.{Act, Deliver, Expire, Restart}
 use Rattle.lpt_events.specs.declared.reply.Answer.{Answer}
 use Rattle.lpt_events.specs.declared.reply.Answer.TheVariants.{Delivered}
 use Rattle.lpt_events.specs.Sides.{same_side, receiver_side}
@@ -128,13 +127,13 @@ heard_now_named (Delivered (Released i n)) r name before names was e = open_befo
 heard_now_named (Delivered (Broken i n)) r name before names was e = open_before (same_name i name) before names name was e
 heard_now_named a r name before names was e = was e
 
-heard_after_named : (ev : Event) (a : Answer) (r : Lane → Arrival) (d : Direction) (name : Name) (before : Parts) (names : List Name) → (has_parts before ≡ true → list_any (same_name name) names ≡ true)
+heard_after_named : (ev : Act) (a : Answer) (r : Lane → Arrival) (d : Direction) (name : Name) (before : Parts) (names : List Name) → (has_parts before ≡ true → list_any (same_name name) names ≡ true)
     → has_parts (heard_after ev a r d name before) ≡ true → list_any (same_name name) (names_after ev a d names) ≡ true
 heard_after_named (Deliver l) a r d name before names was e = go (same_direction (lane_direction l) d) e where
   go : (t : Bool) → has_parts (if t then heard_now a (r l) name before else before) ≡ true → list_any (same_name name) (if t then with_kept_name a names else names) ≡ true
   go true f = heard_now_named a (r l) name before names was f
   go false f = was f
-heard_after_named (Expire s) a r d name before names was e = open_before (same_side s (receiver_side d) && ends a name) before names name was e
+heard_after_named (Expire s which) a r d name before names was e = open_before (same_side s (receiver_side d) && ends a name) before names name was e
 heard_after_named (Restart s) a r d name before names was e = open_before (same_side s (receiver_side d)) before names name was e
 heard_after_named ev a r d name before names was e = was e
 

@@ -6,7 +6,7 @@ use Rattle.lpt_events.specs.declared.config.Config.{Config}
 use Rattle.lpt_events.specs.Arrivals.{NotRead, part_name, sight_arrival, arrival, arrival_in}
 use Rattle.lpt_events.specs.Damages.{is_damage_long, looks_whole}
 use Rattle.lpt_events.specs.Sides.{receiver_side}
-use Rattle.lpt_events.specs.declared.event.Event.TheVariants.{Damage}
+use Rattle.lpt_acts.specs.Acts.{Damage}
 use Rattle.lpt_events.specs.declared.fault.StepFault.TheVariants.{Long, LooksWhole}
 use Rattle.lpt_memory.specs.Memories.{Contents}
 use Rattle.lpt_journal.specs.Journal.{History}

@@ -14,7 +14,7 @@ use Rattle.lpt_events.specs.declared.config.Config.{Config}
 use Rattle.lpt_events.specs.declared.outcome.Outcome.{Outcome}
 use Rattle.lpt_events.specs.declared.outcome.Outcome.TheVariants.{Released, PlainReleased}
 use Rattle.lpt_events.specs.Arrivals.{Arrival, ARequest, APart}
-use Rattle.lpt_events.specs.declared.event.Event.TheVariants.{Deliver}
+use Rattle.lpt_acts.specs.Acts.{Deliver}
 use Rattle.lpt_events.specs.declared.reply.Answer.TheVariants.{Delivered}
 use Rattle.lpt_events.specs.declared.entry.Opening.{Opening}
 use Rattle.lpt_events.specs.declared.entry.Release.{Release}

@@ -6,7 +6,7 @@ use Rattle.lpt_packet.specs.declared.direction.Direction.{Direction}
 use Rattle.lpt_packet.specs.Names.{Name, same_name, name_before}
 use Rattle.lpt_packet.proofs.NameLemmas.{same_name-refl, same_name-true, name_before-refl, name_before-chain}
 use Rattle.lpt_events.specs.declared.config.Config.{Config}
-use Rattle.lpt_journal.specs.Due.{is_overdue, comes_first, first_of_two, earliest, due}
+use Rattle.lpt_journal.specs.Due.{is_overdue, comes_first, first_of_two, earliest, due, given_up}
 use Rattle.lpt_journal.specs.Journal.{History}
 use Rattle.lpt_journal.specs.Receivers.{heard, has_parts, last_tick, open_names, heard_names}
 use Rattle.lpt_journal.specs.Senders.{once}
@@ -192,3 +192,18 @@ due_open c h d name e = go (due c h d) (earliest_is (last_tick c h d) (overdue_n
       let same : i ≡ name = cc in
       ap (λ n. has_parts (heard c h d n)) (sym same)
       ∙ and_right (is_overdue c h d i) (has_parts (heard c h d i)) (sym (in_overdue c h d i) ∙ it.is_in)
+
+-- what is given up is an open reception
+pub given_up_open : (c : Config) (h : History) (d : Direction) (which : Option Name) (name : Name)
+    → given_up c h d which ≡ Some name
+    → has_parts (heard c h d name) ≡ true
+given_up_open c h d None name e = due_open c h d name e
+given_up_open c h d (Some given) name e = go (has_parts (heard c h d given)) refl e where
+  go : (b : Bool)
+      → has_parts (heard c h d given) ≡ b
+      → ◌≡◌ {A = Option Name} (if b then Some given else None) (Some name)
+      → has_parts (heard c h d name) ≡ true
+  go true has is =
+      let same : given ≡ name = cc in
+      ap (λ n. has_parts (heard c h d n)) (sym same) ∙ has
+  go false has is = absurd cc

@@ -15,8 +15,7 @@ use Rattle.lpt_events.specs.Sides.{same_side, receiver_side, direction_to}
 use Rattle.lpt_events.specs.declared.config.Config.{Config}
 use Rattle.lpt_events.specs.declared.entry.Opening.{Opening}
 use Rattle.lpt_events.specs.declared.entry.Release.{Release}
-use Rattle.lpt_events.specs.declared.event.Event.{Event}
-use Rattle.lpt_events.specs.declared.event.Event.TheVariants.{Deliver, Expire, Retire}
+use Rattle.lpt_acts.specs.Acts.{Act, Deliver, Expire, Retire}
 use Rattle.lpt_events.specs.declared.outcome.Outcome.{Outcome}
 use Rattle.lpt_events.specs.declared.outcome.Outcome.TheVariants.{Released, Broken}
 use Rattle.lpt_events.specs.declared.reply.Answer.TheVariants.{Delivered, Expired}
@@ -25,7 +24,7 @@ use Rattle.lpt_events.specs.declared.side.Side.TheVariants.{Ground, Craft}
 use Rattle.lpt_events.proofs.LaneLemmas.{same_direction-true}
 use Rattle.lpt_journal.specs.Abortions.{Abortion, abortion_at, abortions}
 use Rattle.lpt_journal.specs.Delivery.{outcome}
-use Rattle.lpt_journal.specs.Due.{due}
+use Rattle.lpt_journal.specs.Due.{given_up}
 use Rattle.lpt_journal.specs.Hands.{in_hand}
 use Rattle.lpt_journal.specs.Journal.{Recorded, History}
 use Rattle.lpt_journal.specs.Legal.{Legal}
@@ -95,7 +94,7 @@ comes_there Craft Up e = refl
 comes_there Craft Down e = absurd cc
 
 -- an event after which a reception is ended that wasn't before ends it
-ends_it : (c : Config) (first : Contents) (h : History) (ev : Event) (d : Direction) (name : Name)
+ends_it : (c : Config) (first : Contents) (h : History) (ev : Act) (d : Direction) (name : Name)
     → is_closed (entry c first h ev ∷ h) d name ≡ true
     → is_closed h d name ≡ false
     → Ends c h (entry c first h ev) d name
@@ -140,36 +139,37 @@ ends_it c first h (Deliver l) d name shut before =
           same_name-true i name mine,
         )
     go way o is mine = absurd cc
-ends_it c first h (Expire side) d name shut before =
+ends_it c first h (Expire side which) d name shut before =
     elim (either (same_side side (receiver_side d)
-    && ends (expired_now (direction_to side) (due c h (direction_to side))) name)
+    && ends (expired_now (direction_to side) (given_up c h (direction_to side) which)) name)
     (is_closed h d name) shut) [
       | inl now ↦
           go (comes_there side d (and_left (same_side side (receiver_side d)) _ now))
-          (due c h (direction_to side)) refl
+          (given_up c h (direction_to side) which) refl
           (and_right (same_side side (receiver_side d))
-          (ends (expired_now (direction_to side) (due c h (direction_to side))) name) now)
+          (ends (expired_now (direction_to side) (given_up c h (direction_to side) which)) name)
+          now)
       | inr was ↦ absurd (let no : true ≡ false = sym was ∙ before in cc)
     ]
   where
     aborts : (i : Name) → direction_to side ≡ d → same_name i name ≡ true
-        → expired_now (direction_to side) (due c h (direction_to side))
+        → expired_now (direction_to side) (given_up c h (direction_to side) which)
         ≡ Expired (direction_to side) i
-        → Ends c h (entry c first h (Expire side)) d name
+        → Ends c h (entry c first h (Expire side which)) d name
     aborts i way mine is =
         inr (
           0,
           record { place = length h; direction = direction_to side; name = i },
-          ap (λ a. slice_get (abortion_at (length h) (Expire side) a) 0) is,
+          ap (λ a. slice_get (abortion_at (length h) (Expire side which) a) 0) is,
           way,
           same_name-true i name mine,
         )
 
     go : direction_to side ≡ d
         → (o : Option Name)
-        → due c h (direction_to side) ≡ o
+        → given_up c h (direction_to side) which ≡ o
         → ends (expired_now (direction_to side) o) name ≡ true
-        → Ends c h (entry c first h (Expire side)) d name
+        → Ends c h (entry c first h (Expire side which)) d name
     go way None is mine = aborts no_name way mine (ap (expired_now (direction_to side)) is)
     go way (Some i) is mine = aborts i way mine (ap (expired_now (direction_to side)) is)
 ends_it c first h (Retire e i) d name shut before =
@@ -228,7 +228,7 @@ pub record AreEnded (c : Config) (h : History) : Type 0 where
       → HasEnded c h o
 
 -- a transaction that is retired has no ended reception
-retired_open : (c : Config) (first : Contents) (h : History) (e : Event) (d : Direction)
+retired_open : (c : Config) (first : Contents) (h : History) (e : Act) (d : Direction)
     (name : Name)
     → is_closed (entry c first h e ∷ h) d name ≡ true
     → ¬ (retires e d name ≡ true)
@@ -236,7 +236,7 @@ retired_open c first h (Retire e i) d name shut gone =
     let no : false ≡ true = sym (ap (λ b. not b && is_closed h d name) gone) ∙ shut in cc
 retired_open c first h e d name shut gone = cc
 
-module _ (c : Config) (first : Contents) (h : History) (ev : Event)
+module _ (c : Config) (first : Contents) (h : History) (ev : Act)
     (pays : Owes c h (entry c first h ev)) (frees : OwesReleases c h (entry c first h ev))
     (aborts : (j : ℕ) (e : Abortion)
     → slice_get (abortion_at (length h) ev (entry c first h ev).reply.answer) j ≡ Some e
@@ -303,7 +303,7 @@ module _ (c : Config) (first : Contents) (h : History) (ev : Event)
   ended_step = record { free = free_now; ended = ended_of }
 
 -- so it is in every legal journal
-pub every_ended : (c : Config) (first : Contents) (es : List Event)
+pub every_ended : (c : Config) (first : Contents) (es : List Act)
     → IsConfig c
     → Legal c first es
     → AreEnded c (recorded c first es)

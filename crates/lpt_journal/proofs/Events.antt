@@ -15,14 +15,15 @@ use Rattle.lpt_events.specs.declared.config.Config.{Config}
 use Rattle.lpt_events.specs.declared.side.Side.TheVariants.{Craft}
 use Rattle.lpt_events.specs.Arrivals.{APart, part_name, part_subtype}
 use Rattle.lpt_events.specs.MadePackets.{nth_part, nth_named}
-use Rattle.lpt_events.specs.declared.event.Event.TheVariants.{Open, Send, Take}
+use Rattle.lpt_acts.specs.Acts.{Open, Send, Take}
 use Rattle.lpt_events.specs.declared.entry.Opening.{Opening}
 use Rattle.lpt_events.specs.declared.fault.StepFault.TheVariants.{InUse, Short, Long, TooMany, NotOpen, NoSuchPart, NotHeld, HandFull}
 use Rattle.lpt_journal.specs.Journal.{SentPacket, History}
 use Rattle.lpt_journal.specs.Link.{is_held, goes}
 use Rattle.lpt_journal.specs.Hands.{hand, arrival_of}
 use Rattle.lpt_journal.specs.Senders.{is_opening_of, current, is_over, Sender, FreeSender, OpenSender, ClosedSender, sender_of, sender, is_free, is_open, open_count, count, type_counter}
-use Rattle.lpt_journal.specs.Receivers.{clock}
+use Rattle.lpt_events.specs.Sides.{sender_side}
+use Rattle.lpt_journal.specs.Receivers.{clock, limits}
 use Rattle.lpt_events.specs.Configs.{IsConfig}
 use Rattle.lpt_journal.specs.Replies.{part_packet, send_puts, entry}
 use Rattle.lpt_journal.specs.Refusals.{parts_open, refusal}
@@ -72,7 +73,8 @@ open_owes c first h d name m sound named accepted =
     let t =
     four_pass (not (is_free (sender h d name))) (nat_le (length m) c.part_size)
     (nat_lt 65542 (length m))
-    (nat_le c.outgoing (open_count h d)) InUse Short Long TooMany accepted in
+    (nat_le (limits c h (sender_side d)).outgoing (open_count h d)) InUse Short Long TooMany
+    accepted in
     let splits : IsMessage m c.part_size =
     record {
       long = le_false (length m) c.part_size t.1;

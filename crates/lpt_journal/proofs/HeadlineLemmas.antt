@@ -12,8 +12,7 @@ use Rattle.lpt_events.specs.declared.lane.Lane.{Lane}
 use Rattle.lpt_events.specs.Lanes.{lane_direction}
 use Rattle.lpt_events.specs.declared.config.Config.{Config}
 use Rattle.lpt_events.specs.Arrivals.{NotRead, APart}
-use Rattle.lpt_events.specs.declared.event.Event.{Event}
-use Rattle.lpt_events.specs.declared.event.Event.TheVariants.{Open, Send, Plain, Damage, Take, Deliver, Tick, Expire, Commit, Apply, Retire, Restart}
+use Rattle.lpt_acts.specs.Acts.{Act, Open, Send, Plain, Damage, Take, Deliver, Tick, Expire, Commit, Apply, Retire, Restart}
 use Rattle.lpt_events.specs.declared.fault.StepFault.TheVariants.{HandEmpty}
 use Rattle.lpt_events.specs.declared.outcome.Outcome.{Outcome}
 use Rattle.lpt_events.specs.declared.reply.Answer.TheVariants.{Delivered}
@@ -25,7 +24,7 @@ use Rattle.lpt_journal.specs.Hands.{hand, arrival_at, in_hand}
 use Rattle.lpt_journal.specs.Jobs.{boot, applied, ticket, memories}
 use Rattle.lpt_journal.specs.Releases.{released_by}
 use Rattle.lpt_events.specs.Configs.{IsConfig}
-use Rattle.lpt_journal.specs.Due.{due}
+use Rattle.lpt_journal.specs.Due.{given_up}
 use Rattle.lpt_journal.specs.Replies.{answer, expired_now, entry, recorded}
 use Rattle.lpt_journal.specs.Refusals.{refusal}
 use Rattle.lpt_journal.specs.Legal.{IsEnabled, Legal}
@@ -65,7 +64,7 @@ pub delivered : (c : Config) (h : History) (l : Lane)
     → (n : ℕ) × (hand h l ≡ Some n)
 delivered c h l e = in_its_hand (hand h l) (one_passes (not (is_some (hand h l))) HandEmpty e)
 
-full : (c : Config) (h : History) (e : Event)
+full : (c : Config) (h : History) (e : Act)
     → refusal c h e ≡ None
     → (l : Lane)
     → e ≡ Deliver l
@@ -73,7 +72,7 @@ full : (c : Config) (h : History) (e : Event)
 full c h e can l is = delivered c h l (ap (refusal c h) (sym is) ∙ can)
 
 -- an event that can happen pays what it owes
-pub owes : (c : Config) (first : Contents) (h : History) (e : Event)
+pub owes : (c : Config) (first : Contents) (h : History) (e : Act)
     → IsConfig c
     → IsSound c h
     → AreUpOctets c h
@@ -86,8 +85,8 @@ owes c first h (Send d name k) good sound up can =
 owes c first h (Plain source flags service subtype body) good sound up can =
     plain_owes c first h source flags service subtype body good sound can.in_range can.accepted
 owes c first h (Damage d b) good sound up can = damage_owes c first h d b sound can.accepted
-owes c first h (Tick side) good sound up can = tick_owes c first h side sound can.accepted
-owes c first h (Expire side) good sound up can = expire_owes c first h side good sound
+owes c first h (Tick side turn) good sound up can = tick_owes c first h side turn sound can.accepted
+owes c first h (Expire side which) good sound up can = expire_owes c first h side which good sound
 owes c first h (Take l n) good sound up can = take_owes c first h l n sound can.accepted
 owes c first h (Deliver l) good sound up can =
     let n = delivered c h l can.accepted in deliver_owes c first h l n.0 good sound n.1
@@ -109,7 +108,7 @@ quiet c h x none = record {
 }
 
 -- an event that can happen pays what it owes for what it releases
-pub owes_releases : (c : Config) (first : Contents) (h : History) (e : Event)
+pub owes_releases : (c : Config) (first : Contents) (h : History) (e : Act)
     → IsConfig c
     → IsSound c h
     → IsEnabled c h e
@@ -142,7 +141,7 @@ past_start c = record {
 
 -- the history of every legal journal is sound, and so are its releases; what goes up is octets, and
 -- each request on its way is ground's
-pub every : (c : Config) (first : Contents) (es : List Event)
+pub every : (c : Config) (first : Contents) (es : List Act)
     → IsConfig c
     → Legal c first es
     → IsSound c (recorded c first es) × ArePast c (recorded c first es)
@@ -200,7 +199,7 @@ deliveries : (c : Config) (h : History) → IsSound c h → DeliveriesAreSound c
 deliveries c h sound l n is = delivery_sound c h l n sound is
 
 -- an event that delivered has delivered what was in a lane's hand
-delivered_sound : (c : Config) (first : Contents) (h : History) (e : Event) (o : Outcome)
+delivered_sound : (c : Config) (first : Contents) (h : History) (e : Act) (o : Outcome)
     → IsSound c h
     → refusal c h e ≡ None
     → answer c first h e ≡ Delivered o
@@ -217,8 +216,8 @@ delivered_sound c first h (Deliver l) o sound can is =
           subst (λ r. IsSoundOutcome c.mode (is_damaged h n.0) r) same
           (delivery_sound c h l n.0 sound n.1);
     }
-delivered_sound c first h (Expire side) o sound can is =
-    absurd (none_delivered (due c h (direction_to side)) is)
+delivered_sound c first h (Expire side which) o sound can is =
+    absurd (none_delivered (given_up c h (direction_to side) which) is)
   where
     none_delivered : (d : Option Name) → expired_now (direction_to side) d ≡ Delivered o → ⊥
     none_delivered None e = cc
@@ -228,7 +227,7 @@ delivered_sound c first h (Commit w) o sound can is =
     (λ b n e. cc) is)
 delivered_sound c first h e o sound can is = absurd cc
 
-each_delivered : (c : Config) (first : Contents) (es : List Event)
+each_delivered : (c : Config) (first : Contents) (es : List Act)
     → IsConfig c
     → Legal c first es
     → DeliveriesWereSound c.mode (recorded c first es)

@@ -6,8 +6,7 @@ use Rattle.std.proofs.lemmas.List.Elements.{Contains-append_left, Contains-appen
 use Rattle.std.proofs.lemmas.Option.{slice_get_within}
 use Rattle.lpt_memory.specs.Memories.{Contents}
 use Rattle.lpt_events.specs.declared.config.Config.{Config}
-use Rattle.lpt_events.specs.declared.event.Event.{Event}
-use Rattle.lpt_events.specs.declared.event.Event.TheVariants.{Apply}
+use Rattle.lpt_acts.specs.Acts.{Act, Apply}
 use Rattle.lpt_events.specs.declared.entry.Release.{Release}
 use Rattle.lpt_events.specs.declared.side.Side.TheVariants.{Craft}
 use Rattle.lpt_journal.specs.Headline.{EachWasReleased, MemoriesFollow}
@@ -97,7 +96,7 @@ pub record AreInOrder (c : Config) (h : History) : Type 0 where
       → applied h ≤ k
       → r.place < s.place
 
-applied_grows : (e : Event) (n : ℕ) → n ≤ applied_after e n
+applied_grows : (e : Act) (n : ℕ) → n ≤ applied_after e n
 applied_grows Apply n = omega arith
 applied_grows e n = omega arith
 

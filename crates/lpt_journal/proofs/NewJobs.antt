@@ -5,8 +5,7 @@ use Rattle.lpt_packet.specs.declared.direction.Direction.{Direction}
 use Rattle.lpt_packet.specs.Names.{Name}
 use Rattle.lpt_reception.specs.Received.{Parts}
 use Rattle.lpt_events.specs.declared.config.Config.{Config}
-use Rattle.lpt_events.specs.declared.event.Event.{Event}
-use Rattle.lpt_events.specs.declared.event.Event.TheVariants.{Apply, Deliver}
+use Rattle.lpt_acts.specs.Acts.{Act, Apply, Deliver}
 use Rattle.lpt_events.specs.declared.entry.Release.{Release}
 use Rattle.lpt_events.specs.declared.lane.Lane.{Lane}
 use Rattle.lpt_events.specs.Lanes.{lane_direction}
@@ -33,7 +32,7 @@ now_one place d (Delivered (Released name len)) s (APart q) = inr (_, refl, refl
 now_one place d (Delivered (PlainReleased len)) s (ARequest b) = inr (_, refl, refl)
 now_one place d o s a = inl refl
 
-after_one : (e : Event) (place : ℕ) (o : Answer) (s : Direction → Name → Parts)
+after_one : (e : Act) (place : ℕ) (o : Answer) (s : Direction → Name → Parts)
     (arrived : Lane → Arrival)
     → IsOneOrNone place (release_after e place o s arrived)
 after_one (Deliver l) place o s arrived =
@@ -82,7 +81,7 @@ job_cases c x h k r e = go (restarts x.event Craft) refl e where
   go false is f = (is, with_all_cases (jobs c h) (came_up (released_by c x h)) k r f)
 
 -- what an entry executes is one request, the oldest job
-pub new_executed : (e : Event) (front : Option Release) (k : ℕ) (r : Release)
+pub new_executed : (e : Act) (front : Option Release) (k : ℕ) (r : Release)
     → slice_get (executed_now e front) k ≡ Some r
     → (k ≡ 0) × (e ≡ Apply) × (front ≡ Some r)
 new_executed Apply (Some s) zero r e = (refl, refl, e)

@@ -14,7 +14,8 @@ use Rattle.lpt_events.specs.declared.outcome.Outcome.TheVariants.{Kept, Again, R
 use Rattle.lpt_events.specs.declared.outcome.Why.TheVariants.{Unreadable, Idle, ForeignApid, BadPart, Closed, NoRoom}
 use Rattle.lpt_events.specs.Arrivals.{Arrival, NotRead, AnIdle, Foreign, ARequest, AReport, NoPart, APart, AnAbort}
 use Rattle.lpt_journal.specs.Journal.{History}
-use Rattle.lpt_journal.specs.Receivers.{kept, with_piece, heard, has_parts, reception_count, is_closed}
+use Rattle.lpt_events.specs.Sides.{receiver_side}
+use Rattle.lpt_journal.specs.Receivers.{kept, with_piece, heard, has_parts, reception_count, is_closed, limits}
 use Rattle.lpt_journal.specs.Delivery.{judged}
 
 -- ---- what an outcome tells
@@ -110,7 +111,7 @@ judged_tells c h d (APart q) =
     let s = heard c h d q.name in
     part_tells c h d q (judged c h d (APart q))
     (chosen_tells (is_closed h d q.name)
-    (not (has_parts s) && nat_le c.receptions (reception_count c h d))
+    (not (has_parts s) && nat_le (limits c h (receiver_side d)).receptions (reception_count c h d))
     (contradicts s q.number (kept q)) (is_some (map.get s q.number)) (is_gap c.mode s q.number)
     (is_whole (with_piece s q)) q
     (length (spelled (with_piece s q))))

@@ -5,11 +5,10 @@ use Rattle.lpt_events.specs.declared.config.Config.{Config}
 use Rattle.lpt_events.specs.Arrivals.{ARequest, APart, part_name}
 use Rattle.lpt_events.specs.Configs.{IsConfig}
 use Rattle.lpt_events.specs.Requests.{is_part_request, is_too_long}
-use Rattle.lpt_events.specs.declared.event.Event.TheVariants.{Plain}
+use Rattle.lpt_acts.specs.Acts.{Plain, IsAct}
 use Rattle.lpt_events.specs.declared.fault.StepFault.TheVariants.{PartRequest, Long}
 use Rattle.lpt_journal.specs.Journal.{History}
 use Rattle.lpt_journal.specs.Replies.{plain_packet, entry}
-use Rattle.lpt_events.specs.Events.{IsEvent}
 use Rattle.lpt_journal.specs.Refusals.{refusal}
 use Rattle.lpt_journal.specs.Senders.{count}
 use Rattle.lpt_journal.proofs.CalmEvents.{calm_owes}
@@ -24,7 +23,7 @@ pub plain_owes : (c : Config) (first : Contents) (h : History) (source flags ser
     (body : List ℕ)
     → IsConfig c
     → IsSound c h
-    → IsEvent (Plain source flags service subtype body)
+    → IsAct (Plain source flags service subtype body)
     → refusal c h (Plain source flags service subtype body) ≡ None
     → Owes c h (entry c first h (Plain source flags service subtype body))
 plain_owes c first h source flags service subtype body good sound fits accepted =

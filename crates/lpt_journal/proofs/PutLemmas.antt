@@ -5,7 +5,7 @@ use Rattle.std.proofs.lemmas.Bool.Decides.{nat_tests}
 use Rattle.std.proofs.lemmas.Option.{slice_get_within}
 use Rattle.lpt_events.specs.declared.config.Config.{Config}
 use Rattle.lpt_events.specs.Arrivals.{part_name}
-use Rattle.lpt_events.specs.declared.event.Event.{Event}
+use Rattle.lpt_acts.specs.Acts.{Act}
 use Rattle.lpt_journal.specs.Journal.{SentPacket, Recorded, History, with_all}
 use Rattle.lpt_journal.specs.Link.{sent, tag_put, tags, damages, is_damaged}
 use Rattle.lpt_journal.specs.Hands.{arrival_of}
@@ -53,7 +53,7 @@ packets_step c h x owes sound n p e = go (with_all_cases (sent h) x.puts n p e) 
       (as_put (damages x.event) (owes.puts fresh.0 p fresh.2).sound)
 
 -- the packets that are put have the tag of their event
-puts_named : (c : Config) (e : Event) (ps : List SentPacket)
+puts_named : (c : Config) (e : Act) (ps : List SentPacket)
     → ((k : ℕ) (p : SentPacket)
     → slice_get ps k ≡ Some p
     → part_name (arrival_of c p) ≡ tag_put e)

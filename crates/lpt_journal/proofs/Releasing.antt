@@ -6,8 +6,7 @@ use Rattle.lpt_packet.specs.declared.direction.Direction.{Direction}
 use Rattle.lpt_packet.specs.Names.{Name, same_name}
 use Rattle.lpt_events.specs.Lanes.{lane_direction, same_direction}
 use Rattle.lpt_events.specs.declared.config.Config.{Config}
-use Rattle.lpt_events.specs.declared.event.Event.{Event}
-use Rattle.lpt_events.specs.declared.event.Event.TheVariants.{Deliver, Expire, Retire}
+use Rattle.lpt_acts.specs.Acts.{Act, Deliver, Expire, Retire}
 use Rattle.lpt_events.specs.declared.reply.Answer.{Answer}
 use Rattle.lpt_events.specs.declared.entry.Opening.{Opening}
 use Rattle.lpt_events.specs.declared.entry.Release.{Release}
@@ -111,12 +110,12 @@ is_large h r o e = go r.of refl e where
 
 -- ---- ended receptions
 
-closed_after_stays : (e : Event) (a : Answer) (d : Direction) (name : Name)
+closed_after_stays : (e : Act) (a : Answer) (d : Direction) (name : Name)
     → ¬ (retires e d name ≡ true)
     → closed_after e a d name true ≡ true
 closed_after_stays (Deliver l) a d name stays =
     or_right (same_direction (lane_direction l) d && ends a name) true refl
-closed_after_stays (Expire side) a d name stays =
+closed_after_stays (Expire side which) a d name stays =
     or_right (same_side side (receiver_side d) && ends a name) true refl
 closed_after_stays (Retire e i) a d name
     stays = go (same_direction e d && same_name i name) stays where

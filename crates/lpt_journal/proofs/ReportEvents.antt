@@ -5,7 +5,7 @@ use Rattle.lpt_packet.specs.declared.direction.Direction.TheVariants.{Down}
 use Rattle.lpt_packet.specs.Names.{Name}
 use Rattle.lpt_part.specs.declared.reason.Reason.{Reason}
 use Rattle.lpt_events.specs.declared.config.Config.{Config}
-use Rattle.lpt_events.specs.declared.event.Event.{Event}
+use Rattle.lpt_acts.specs.Acts.{Act}
 use Rattle.lpt_events.specs.declared.side.Side.TheVariants.{Craft}
 use Rattle.lpt_events.specs.Arrivals.{APart, AnAbort, part_name}
 use Rattle.lpt_journal.specs.Journal.{History, SentPacket}
@@ -20,7 +20,7 @@ use Rattle.lpt_journal.proofs.SentParts.{abort_arrives}
 use Rattle.lpt_journal.proofs.Steps.{IsRead, IsSoundPut, IsSoundPacket, IsPut, IsSound}
 use Rattle.lpt_events.specs.Counts.{AreCounts}
 
-pub report_put : (c : Config) (h g : History) (e : Event) (name : Name) (reason : Reason) (k : ℕ)
+pub report_put : (c : Config) (h g : History) (e : Act) (name : Name) (reason : Reason) (k : ℕ)
     (p : SentPacket)
     → IsConfig c
     → IsSound c h

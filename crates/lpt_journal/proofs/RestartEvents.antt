@@ -3,7 +3,7 @@ use Rattle.std.proofs.Common.{inl}
 use Rattle.lpt_memory.specs.Memories.{Contents}
 use Rattle.lpt_events.specs.Sides.{same_side, receiver_side}
 use Rattle.lpt_events.specs.declared.config.Config.{Config}
-use Rattle.lpt_events.specs.declared.event.Event.TheVariants.{Restart}
+use Rattle.lpt_acts.specs.Acts.{Restart}
 use Rattle.lpt_events.specs.declared.side.Side.{Side}
 use Rattle.lpt_journal.specs.Journal.{History}
 use Rattle.lpt_journal.specs.Replies.{entry}

@@ -16,7 +16,7 @@ use Rattle.lpt_events.specs.NamedParts.{NamedPart}
 use Rattle.lpt_events.specs.Arrivals.{APart, part_name}
 use Rattle.lpt_events.specs.Lanes.{lanes, same_direction}
 use Rattle.lpt_events.specs.declared.config.Config.{Config}
-use Rattle.lpt_events.specs.declared.event.Event.TheVariants.{Retire}
+use Rattle.lpt_acts.specs.Acts.{Retire}
 use Rattle.lpt_events.specs.declared.fault.StepFault.TheVariants.{NotOpen, NotClear, StillOpen}
 use Rattle.lpt_events.specs.declared.lane.Lane.{Lane}
 use Rattle.lpt_events.specs.declared.lane.Lane.TheVariants.{S1, S2, G1, G2}

@@ -15,7 +15,7 @@ use Rattle.lpt_events.specs.declared.config.Config.{Config}
 use Rattle.lpt_events.specs.declared.side.Side.{Side}
 use Rattle.lpt_events.specs.Arrivals.{Arrival, NotRead, AnIdle, Foreign, NoPart, APart, part_name}
 use Rattle.lpt_events.specs.declared.entry.Opening.{Opening}
-use Rattle.lpt_events.specs.declared.event.Event.{Event}
+use Rattle.lpt_acts.specs.Acts.{Act}
 use Rattle.lpt_journal.specs.Journal.{SentPacket, Recorded, History}
 use Rattle.lpt_journal.specs.Link.{sent, tag_put, tags, damages, is_damaged, is_held, goes}
 use Rattle.lpt_journal.specs.Hands.{hand, arrival_of, in_hand}
@@ -61,7 +61,7 @@ IsSoundPut true c h p = arrival_of c p ≡ NotRead
 IsSoundPut false c h p = IsSoundPacket c h p
 
 -- a packet that an event puts is sound, and is a part of the transaction that the event sends for
-pub record IsPut (c : Config) (h : History) (e : Event) (p : SentPacket) : Type 0 where
+pub record IsPut (c : Config) (h : History) (e : Act) (p : SentPacket) : Type 0 where
   pub sound : IsSoundPut (damages e) c h p
   pub name : part_name (arrival_of c p) ≡ tag_put e
 

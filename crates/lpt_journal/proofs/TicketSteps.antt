@@ -6,8 +6,7 @@ use Rattle.lpt_memory.specs.Memories.{Contents}
 use Rattle.lpt_memory.specs.Readings.{Job}
 use Rattle.lpt_events.specs.Workers.{same_worker}
 use Rattle.lpt_events.specs.declared.config.Config.{Config}
-use Rattle.lpt_events.specs.declared.event.Event.{Event}
-use Rattle.lpt_events.specs.declared.event.Event.TheVariants.{Expire, Claim, Commit, Apply, Restart}
+use Rattle.lpt_acts.specs.Acts.{Act, Expire, Claim, Commit, Apply, Restart}
 use Rattle.lpt_events.specs.declared.fault.StepFault.TheVariants.{HandEmpty, NoJob, NotReady}
 use Rattle.lpt_events.specs.declared.side.Side.TheVariants.{Craft}
 use Rattle.lpt_events.specs.declared.worker.Worker.{Worker}
@@ -15,7 +14,7 @@ use Rattle.lpt_packet.specs.declared.direction.Direction.{Direction}
 use Rattle.lpt_packet.specs.Names.{Name}
 use Rattle.lpt_packet.proofs.Readings.{eq_false, true_eq}
 use Rattle.lpt_events.specs.Sides.{direction_to}
-use Rattle.lpt_journal.specs.Due.{due}
+use Rattle.lpt_journal.specs.Due.{given_up}
 use Rattle.lpt_journal.specs.Journal.{History}
 use Rattle.lpt_journal.specs.Jobs.{boot, claimed, applied, ticket, commits, is_committed, front_job}
 use Rattle.lpt_journal.specs.Legal.{Legal}
@@ -185,7 +184,7 @@ none_commits d None n = refl
 none_commits d (Some name) n = refl
 
 -- it holds again after an event that isn't refused
-pub jobs_step : (c : Config) (first : Contents) (h : History) (e : Event)
+pub jobs_step : (c : Config) (first : Contents) (h : History) (e : Act)
     → refusal c h e ≡ None
     → JobsAreSound c h
     → JobsAreSound c (entry c first h e ∷ h)
@@ -193,13 +192,13 @@ jobs_step c first h (Claim w) can sound = claim_step c first h w can sound
 jobs_step c first h (Commit w) can sound = commit_step c first h w can sound
 jobs_step c first h Apply can sound = apply_step c first h can sound
 jobs_step c first h (Restart Craft) can sound = restart_step c first h sound
-jobs_step c first h (Expire side) can sound =
-    jobless_step c h (entry c first h (Expire side)) (record {
+jobs_step c first h (Expire side which) can sound =
+    jobless_step c h (entry c first h (Expire side which)) (record {
       claims = refl;
       applies = refl;
       tickets = λ w. refl;
       commits = λ n. ap (λ b. b || is_committed h n)
-          (none_commits (direction_to side) (due c h (direction_to side)) n);
+          (none_commits (direction_to side) (given_up c h (direction_to side) which) n);
       boots = refl;
       since = λ w. refl;
       released = [];
@@ -227,7 +226,7 @@ jobs_start c = record {
 }
 
 -- so it holds of every legal journal
-pub jobs_sound : (c : Config) (first : Contents) (es : List Event)
+pub jobs_sound : (c : Config) (first : Contents) (es : List Act)
     → Legal c first es
     → JobsAreSound c (recorded c first es)
 jobs_sound c first [] legal = jobs_start c

@@ -15,8 +15,7 @@ use Rattle.lpt_events.specs.Sides.{receiver_side, direction_to}
 use Rattle.lpt_events.specs.declared.config.Config.{Config}
 use Rattle.lpt_events.specs.declared.entry.Opening.{Opening}
 use Rattle.lpt_events.specs.declared.entry.Release.{Release}
-use Rattle.lpt_events.specs.declared.event.Event.{Event}
-use Rattle.lpt_events.specs.declared.event.Event.TheVariants.{Open, Send, Plain, Damage, Deliver, Expire, Apply}
+use Rattle.lpt_acts.specs.Acts.{Act, Open, Send, Plain, Damage, Deliver, Expire, Apply}
 use Rattle.lpt_events.specs.declared.lane.Lane.{Lane}
 use Rattle.lpt_events.specs.declared.outcome.Outcome.{Outcome}
 use Rattle.lpt_events.specs.declared.outcome.Outcome.TheVariants.{Broken}
@@ -24,7 +23,7 @@ use Rattle.lpt_events.specs.declared.side.Side.{Side}
 use Rattle.lpt_events.specs.declared.side.Side.TheVariants.{Ground, Craft}
 use Rattle.lpt_execution.specs.Reporting.{link_packets}
 use Rattle.lpt_journal.specs.Delivery.{outcome}
-use Rattle.lpt_journal.specs.Due.{due}
+use Rattle.lpt_journal.specs.Due.{given_up}
 use Rattle.lpt_journal.specs.Executions.{front_packets, front_opened, opened_down}
 use Rattle.lpt_journal.specs.Hands.{hand, in_hand}
 use Rattle.lpt_journal.specs.Jobs.{went_up, jobs}
@@ -55,7 +54,7 @@ pub record AreUpOctets (c : Config) (h : History) : Type 0 where
 
 -- ---- openings
 
-opened_octets : (c : Config) (first : Contents) (h : History) (e : Event)
+opened_octets : (c : Config) (first : Contents) (h : History) (e : Act)
     → IsEnabled c h e
     → (name : Name) (o : Opening)
     → find (is_opening_of Up name) (opens c first h e) ≡ Some o
@@ -117,14 +116,14 @@ reports_down (b ∷ bs) zero p f up =
 reports_down (b ∷ bs) (suc n) p f up = reports_down bs n p f up
 
 -- whether an event can put what goes up
-abbrev pub asks_up : Event → Bool
+abbrev pub asks_up : Act → Bool
 asks_up (Send d name k) = true
 asks_up (Plain source flags service subtype body) = true
 asks_up (Damage d b) = true
 asks_up _ = false
 
 -- what goes up was put by a sending, a plain request or the link's noise
-pub put_up : (c : Config) (first : Contents) (h : History) (e : Event) (n : ℕ) (p : SentPacket)
+pub put_up : (c : Config) (first : Contents) (h : History) (e : Act) (n : ℕ) (p : SentPacket)
     → slice_get (puts c first h e) n ≡ Some p
     → p.direction ≡ Up
     → asks_up e ≡ true
@@ -138,15 +137,16 @@ put_up c first h (Deliver l) n p f up = absurd (go (outcome c h l) f) where
   go (Broken name reason) k =
       aborts_down c h (receiver_side (lane_direction l)) name reason n p k up
   go o k = no_place n p k
-put_up c first h (Expire side) n p f up = absurd (go (due c h (direction_to side)) f) where
-  go : (o : Option Name) → slice_get (expiry_puts c h side o) n ≡ Some p → ⊥
-  go None k = no_place n p k
-  go (Some name) k = aborts_down c h side name _ n p k up
+put_up c first h (Expire side which) n p f up =
+    absurd (go (given_up c h (direction_to side) which) f) where
+      go : (o : Option Name) → slice_get (expiry_puts c h side o) n ≡ Some p → ⊥
+      go None k = no_place n p k
+      go (Some name) k = aborts_down c h side name _ n p k up
 put_up c first h Apply n p f up =
     absurd (reports_down (link_packets c.part_size (front_packets c first h)) n p f up)
 put_up c first h e n p f up = absurd (no_place n p f)
 
-put_octets : (c : Config) (first : Contents) (h : History) (e : Event)
+put_octets : (c : Config) (first : Contents) (h : History) (e : Act)
     → IsEnabled c h e
     → AreUpOctets c h
     → (n : ℕ) (p : SentPacket)
@@ -188,7 +188,7 @@ hand_octets c h l n b sound had e is =
 went_up-of : (t : Direction × Name) → went_up (Some t) ≡ true → t.0 ≡ Up
 went_up-of t e = same_direction-true t.0 Up e
 
-released_octets : (c : Config) (first : Contents) (h : History) (e : Event)
+released_octets : (c : Config) (first : Contents) (h : History) (e : Act)
     → IsSound c h
     → AreUpOctets c h
     → OwesReleases c h (entry c first h e)
@@ -214,7 +214,7 @@ released_octets c first h e sound had owes full k r f up = absurd (no_place k r 
 -- ---- the step
 
 -- what goes up is octets again after an event that can happen
-pub up_octets_step : (c : Config) (first : Contents) (h : History) (e : Event)
+pub up_octets_step : (c : Config) (first : Contents) (h : History) (e : Act)
     → IsSound c h
     → IsEnabled c h e
     → OwesReleases c h (entry c first h e)

@@ -17,7 +17,7 @@ use Rattle.lpt_memory.specs.Memories.{Contents}
 use Rattle.lpt_events.specs.Configs.{IsConfig}
 use Rattle.lpt_events.specs.declared.config.Config.{Config}
 use Rattle.lpt_events.specs.declared.entry.Opening.{Opening}
-use Rattle.lpt_events.specs.declared.event.Event.{Event}
+use Rattle.lpt_acts.specs.Acts.{Act}
 use Rattle.lpt_journal.specs.Legal.{Legal}
 use Rattle.lpt_journal.specs.Receivers.{heard, is_closed}
 use Rattle.lpt_journal.specs.Replies.{recorded}
@@ -64,7 +64,7 @@ not_all m p s size message are unwhole all =
     let yes = and_both (is_last w.0) (has_all_to s n) last (all_to s n all) in cc
 
 -- what was last opened under a name and hasn't ended didn't come whole
-pub not_whole : (c : Config) (first : Contents) (es : List Event) (d : Direction) (name : Name)
+pub not_whole : (c : Config) (first : Contents) (es : List Act) (d : Direction) (name : Name)
     (o : Opening)
     → IsConfig c
     → Legal c first es

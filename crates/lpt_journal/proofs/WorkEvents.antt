@@ -17,7 +17,7 @@ use Rattle.lpt_events.specs.Configs.{IsConfig}
 use Rattle.lpt_events.specs.TelemetryKinds.{service_of, subtype_of}
 use Rattle.lpt_events.specs.declared.entry.Opening.{Opening}
 use Rattle.lpt_events.specs.declared.entry.Release.{Release}
-use Rattle.lpt_events.specs.declared.event.Event.TheVariants.{Apply}
+use Rattle.lpt_acts.specs.Acts.{Apply}
 use Rattle.lpt_events.specs.declared.side.Side.TheVariants.{Craft}
 use Rattle.lpt_execution.specs.Endings.{is_small}
 use Rattle.lpt_execution.specs.Reporting.{message_reports, request_source, link_packets, large_packets, opened_of}
@@ -25,7 +25,7 @@ use Rattle.lpt_execution.specs.declared.ending.Report.{Report}
 use Rattle.lpt_journal.specs.Executions.{effect_of, ending_of, front_reports, front_source, front_packets, opened_down}
 use Rattle.lpt_journal.specs.Jobs.{front_job, memories}
 use Rattle.lpt_journal.specs.Journal.{SentPacket, History}
-use Rattle.lpt_journal.specs.Receivers.{clock}
+use Rattle.lpt_journal.specs.Receivers.{clock, limits}
 use Rattle.lpt_journal.specs.Replies.{entry}
 use Rattle.lpt_journal.specs.Senders.{is_opening_of, sender, is_free, least_free, open_count, current, made}
 use Rattle.lpt_journal.proofs.Events.{free_current, only_opening}
@@ -201,5 +201,6 @@ apply_owes c first h good sound fits =
     sendable (Some r) e =
         message_sendable c.apid r.message (ending_of c first h r.message)
         (ending_fits c.part_size (is_some (least_free h Down (request_source c.apid r.message)))
-        (nat_lt (open_count h Down) c.outgoing) (effect_of c (memories c first h) r.message)
+        (nat_lt (open_count h Down) (limits c h Craft).outgoing)
+        (effect_of c (memories c first h) r.message)
         (fits r e).0)

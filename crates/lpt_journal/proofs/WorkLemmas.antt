@@ -7,8 +7,7 @@ use Rattle.lpt_memory.specs.Readings.{Job}
 use Rattle.lpt_events.specs.Workers.{same_worker}
 use Rattle.lpt_events.specs.declared.config.Config.{Config}
 use Rattle.lpt_events.specs.declared.entry.Release.{Release}
-use Rattle.lpt_events.specs.declared.event.Event.{Event}
-use Rattle.lpt_events.specs.declared.event.Event.TheVariants.{Commit, Apply}
+use Rattle.lpt_acts.specs.Acts.{Act, Commit, Apply}
 use Rattle.lpt_events.specs.declared.side.Side.TheVariants.{Craft}
 use Rattle.lpt_events.specs.declared.worker.Worker.{Worker}
 use Rattle.lpt_events.specs.declared.worker.Worker.TheVariants.{W1, W2}
@@ -87,6 +86,7 @@ stale_same c first h w t had earlier = record {
   closed = λ d name. refl;
   ticks = λ d name. refl;
   clocks = λ side. refl;
+  limited = λ side. refl;
   released = refl;
 }
 
@@ -109,7 +109,7 @@ commit_holds c first h w sound can =
           (not_true (it.0.boot == boot h Craft) (sym had.restarted ∙ since));
     }
 
-commits_hold : (c : Config) (first : Contents) (es : List Event)
+commits_hold : (c : Config) (first : Contents) (es : List Act)
     → Legal c first es
     → CommitsAreOfTheirBoot c first (recorded c first es)
 commits_hold c first [] legal k x w f is = absurd (no_place k x f)
@@ -125,7 +125,7 @@ commits_hold c first (e ∷ es) legal (suc k) x w f is = commits_hold c first es
 -- ---- executions
 
 -- what is executed was released and committed in the present boot
-execution_holds : (c : Config) (first : Contents) (h : History) (e : Event) (r : Release)
+execution_holds : (c : Config) (first : Contents) (h : History) (e : Act) (r : Release)
     → refusal c h e ≡ None
     → executed_by c (entry c first h e) h ≡ r ∷ []
     → WasOfThisBoot h r
@@ -134,7 +134,7 @@ execution_holds c first h Apply r can is =
     record { released = job_boot c h (applied h) r it.2; committed = ready_to_apply c h can }
 execution_holds c first h e r can is = absurd cc
 
-executions_hold : (c : Config) (first : Contents) (es : List Event)
+executions_hold : (c : Config) (first : Contents) (es : List Act)
     → Legal c first es
     → ExecutionsAreOfTheirBoot c (recorded c first es)
 executions_hold c first [] legal k x r f is = absurd (no_place k x f)

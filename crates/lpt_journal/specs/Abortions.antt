@@ -4,9 +4,8 @@ use Rattle.lpt_packet.specs.declared.direction.Direction.{Direction}
 use Rattle.lpt_packet.specs.Names.{Name}
 use Rattle.lpt_memory.specs.Memories.{Contents}
 use Rattle.lpt_events.specs.declared.config.Config.{Config}
-use Rattle.lpt_events.specs.declared.event.Event.{Event}
+use Rattle.lpt_acts.specs.Acts.{Act, Deliver}
 use Rattle.lpt_events.specs.declared.reply.Answer.{Answer}
-use Rattle.lpt_events.specs.declared.event.Event.TheVariants.{Deliver}
 use Rattle.lpt_events.specs.Lanes.{lane_direction}
 use Rattle.lpt_events.specs.declared.outcome.Outcome.TheVariants.{Broken}
 use Rattle.lpt_events.specs.declared.reply.Answer.TheVariants.{Delivered, Expired}
@@ -28,7 +27,7 @@ pub record Abortion : Type 0 where
   pub name : Name
 
 -- the reception that expired or was broken off by an event at this place, where one was
-abbrev pub abortion_at : (place : ℕ) → Event → Answer → List Abortion
+abbrev pub abortion_at : (place : ℕ) → Act → Answer → List Abortion
 abortion_at place (Deliver l) (Delivered (Broken name reason)) =
     record { place = place; direction = lane_direction l; name = name } ∷ []
 abortion_at place e (Expired d name) = record { place = place; direction = d; name = name } ∷ []
@@ -86,7 +85,7 @@ pub record EndsAreFinal (c : Config) (h : History) : Type 0 where
 -- it holds of every legal journal
 abbrev pub AbortionIsFinal : Type 0
 AbortionIsFinal =
-    (c : Config) (first : Contents) (es : List Event)
+    (c : Config) (first : Contents) (es : List Act)
     → IsConfig c
     → Legal c first es
     → EndsAreFinal c (recorded c first es)

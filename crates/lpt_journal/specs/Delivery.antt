@@ -15,7 +15,8 @@ use Rattle.lpt_events.specs.declared.outcome.Why.TheVariants.{Unreadable, Idle, 
 use Rattle.lpt_events.specs.Arrivals.{Arrival, NotRead, AnIdle, Foreign, ARequest, AReport, NoPart, APart, AnAbort}
 use Rattle.lpt_journal.specs.Journal.{History}
 use Rattle.lpt_journal.specs.Hands.{in_hand}
-use Rattle.lpt_journal.specs.Receivers.{kept, with_piece, heard, has_parts, reception_count, is_closed}
+use Rattle.lpt_events.specs.Sides.{receiver_side}
+use Rattle.lpt_journal.specs.Receivers.{kept, with_piece, heard, has_parts, reception_count, is_closed, limits}
 
 -- What becomes of a part: closed says whether its transaction is, open how many receptions are, s
 -- what was kept of it. What doesn't contradict and has a number that was kept was kept itself. In
@@ -44,7 +45,8 @@ judged c h d (AReport service subtype) = ReportNoted service subtype
 judged c h d NoPart = Ignored BadPart
 judged c h d (AnAbort name reason) = AbortNoted name reason
 judged c h d (APart q) =
-    judged_part c.mode c.receptions (is_closed h d q.name) (reception_count c h d) (heard c h d q.name) q
+    judged_part c.mode (limits c h (receiver_side d)).receptions (is_closed h d q.name)
+    (reception_count c h d) (heard c h d q.name) q
 
 -- what becomes of the packet in a lane's hand
 abbrev pub outcome : Config → History → Lane → Outcome

@@ -20,7 +20,7 @@ use Rattle.lpt_execution.specs.Endings.{ending}
 use Rattle.lpt_execution.specs.Reporting.{message_reports, request_source, link_packets, large_packets, opened_of, applied_of}
 use Rattle.lpt_journal.specs.Journal.{SentPacket, History, with_all}
 use Rattle.lpt_journal.specs.Jobs.{front_job, memories}
-use Rattle.lpt_journal.specs.Receivers.{clock}
+use Rattle.lpt_journal.specs.Receivers.{clock, limits}
 use Rattle.lpt_journal.specs.Senders.{least_free, open_count, made, count_after, counter_after}
 
 -- what a message comes to, executed over these memories
@@ -32,7 +32,7 @@ effect_of c ms m = answer (meaning c.apid (sizes_of ms) m) ms
 abbrev pub ending_of : Config → Contents → History → List ℕ → Ending
 ending_of c first h m =
     ending c.part_size (is_some (least_free h Down (request_source c.apid m)))
-    (nat_lt (open_count h Down) c.outgoing) (effect_of c (memories c first h) m)
+    (nat_lt (open_count h Down) (limits c h Craft).outgoing) (effect_of c (memories c first h) m)
 
 -- how the execution of the oldest request ends now; where there is none, it is refused
 abbrev pub front_ending : Config → Contents → History → Ending

@@ -6,15 +6,14 @@ use Rattle.lpt_events.specs.declared.lane.Lane.{Lane}
 use Rattle.lpt_events.specs.Lanes.{lane_direction, same_lane}
 use Rattle.lpt_events.specs.declared.config.Config.{Config}
 use Rattle.lpt_events.specs.Arrivals.{Arrival, NotRead, arrival_in}
-use Rattle.lpt_events.specs.declared.event.Event.{Event}
-use Rattle.lpt_events.specs.declared.event.Event.TheVariants.{Take, Deliver}
+use Rattle.lpt_acts.specs.Acts.{Act, Take, Deliver}
 use Rattle.lpt_journal.specs.Journal.{SentPacket, History}
 use Rattle.lpt_journal.specs.Link.{sent}
 
 -- ---- the hands
 
 -- the number in a lane's hand after an event
-abbrev pub hand_after : Event → Lane → Option ℕ → Option ℕ
+abbrev pub hand_after : Act → Lane → Option ℕ → Option ℕ
 hand_after (Take k n) l before = if same_lane k l then Some n else before
 hand_after (Deliver k) l before = if same_lane k l then None else before
 hand_after _ l before = before

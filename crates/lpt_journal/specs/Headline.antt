@@ -22,8 +22,7 @@ use Rattle.lpt_events.specs.declared.outcome.Outcome.TheVariants.{Broken, Ignore
 use Rattle.lpt_events.specs.declared.outcome.Why.TheVariants.{Unreadable, Idle, ForeignApid, BadPart}
 use Rattle.lpt_events.specs.Arrivals.{APart}
 use Rattle.lpt_events.specs.MadePackets.{nth_named}
-use Rattle.lpt_events.specs.declared.event.Event.{Event}
-use Rattle.lpt_events.specs.declared.event.Event.TheVariants.{Plain, Deliver}
+use Rattle.lpt_acts.specs.Acts.{Act, Plain, Deliver}
 use Rattle.lpt_events.specs.declared.entry.Opening.{Opening}
 use Rattle.lpt_events.specs.declared.entry.Release.{Release}
 use Rattle.lpt_events.specs.declared.reply.Answer.TheVariants.{Delivered}
@@ -157,7 +156,7 @@ pub record IsSoundOutcome (mode : Mode) (damaged : Bool) (o : Outcome) : Type 0 
   pub unreadable : (o ≡ Ignored Unreadable) ↔ (damaged ≡ true)
 
 -- after this history an event delivered a packet from a lane's hand, with a sound outcome
-pub record WasSoundDelivery (mode : Mode) (h : History) (e : Event) (o : Outcome) : Type 0 where
+pub record WasSoundDelivery (mode : Mode) (h : History) (e : Act) (o : Outcome) : Type 0 where
   pub lane : Lane
   pub number : ℕ
   pub delivers : e ≡ Deliver lane
@@ -215,7 +214,7 @@ pub record Holds (c : Config) (first : Contents) (h : History) : Type 0 where
 -- it holds of every legal journal, whatever its events, their order and their number
 abbrev pub Headline : Type 0
 Headline =
-    (c : Config) (first : Contents) (es : List Event)
+    (c : Config) (first : Contents) (es : List Act)
     → IsConfig c
     → Legal c first es
     → Holds c first (recorded c first es)

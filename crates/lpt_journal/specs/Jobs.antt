@@ -13,8 +13,7 @@ use Rattle.lpt_events.specs.Lanes.{same_direction}
 use Rattle.lpt_events.specs.Workers.{same_worker}
 use Rattle.lpt_events.specs.declared.config.Config.{Config}
 use Rattle.lpt_events.specs.declared.entry.Release.{Release}
-use Rattle.lpt_events.specs.declared.event.Event.{Event}
-use Rattle.lpt_events.specs.declared.event.Event.TheVariants.{Claim, Commit, Apply}
+use Rattle.lpt_acts.specs.Acts.{Act, Claim, Commit, Apply}
 use Rattle.lpt_events.specs.declared.reply.Answer.{Answer}
 use Rattle.lpt_events.specs.declared.reply.Answer.TheVariants.{Committed}
 use Rattle.lpt_events.specs.declared.side.Side.{Side}
@@ -45,7 +44,7 @@ jobs c (x ∷ h) =
     else with_all (jobs c h) (filter (λ r. went_up r.of) (released_by c x h))
 
 -- how many jobs were claimed after an event
-abbrev pub claimed_after : Event → ℕ → ℕ
+abbrev pub claimed_after : Act → ℕ → ℕ
 claimed_after (Claim w) before = before + 1
 claimed_after _ before = before
 
@@ -55,7 +54,7 @@ claimed [] = 0
 claimed (x ∷ h) = if restarts x.event Craft then 0 else claimed_after x.event (claimed h)
 
 -- how many jobs were executed after an event
-abbrev pub applied_after : Event → ℕ → ℕ
+abbrev pub applied_after : Act → ℕ → ℕ
 applied_after Apply before = before + 1
 applied_after _ before = before
 
@@ -73,7 +72,7 @@ job_given c h =
     (slice_get (jobs c h) (claimed h))
 
 -- the job that a worker has after an event, where this one is given to it that claims
-abbrev pub ticket_after : Event → (given : Option Job) → Worker → Option Job → Option Job
+abbrev pub ticket_after : Act → (given : Option Job) → Worker → Option Job → Option Job
 ticket_after (Claim v) given w before = if same_worker v w then given else before
 ticket_after (Commit v) given w before = if same_worker v w then None else before
 ticket_after _ given w before = before
@@ -103,7 +102,7 @@ abbrev pub front_job : Config → History → Option Release
 front_job c h = slice_get (jobs c h) (applied h)
 
 -- what an event executes, where this job is the oldest
-abbrev pub executed_now : Event → Option Release → List Release
+abbrev pub executed_now : Act → Option Release → List Release
 executed_now Apply (Some r) = r ∷ []
 executed_now _ front = []
 

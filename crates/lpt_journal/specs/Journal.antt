@@ -3,7 +3,7 @@
 -- A history has its newest event first. What is said of anything is a short recursion from there.
 use Rattle.std.specs.Prelude.{ℕ, List, [], ◌∷◌, ◌++◌}
 use Rattle.lpt_packet.specs.declared.direction.Direction.{Direction}
-use Rattle.lpt_events.specs.declared.event.Event.{Event}
+use Rattle.lpt_acts.specs.Acts.{Act}
 use Rattle.lpt_events.specs.declared.reply.Reply.{Reply}
 use Rattle.lpt_events.specs.declared.entry.Opening.{Opening}
 
@@ -14,7 +14,7 @@ pub record SentPacket : Type 0 where
 
 -- an event with its reply, the packets that it put on the link and the transactions that it opened
 pub record Recorded : Type 0 where
-  pub event : Event
+  pub event : Act
   pub reply : Reply
   pub puts : List SentPacket
   pub opens : List Opening

@@ -2,18 +2,17 @@
 use Rattle.std.specs.Prelude.{◌≡◌, List, [], ◌∷◌, None, ⊤}
 use Rattle.lpt_memory.specs.Memories.{Contents}
 use Rattle.lpt_events.specs.declared.config.Config.{Config}
-use Rattle.lpt_events.specs.declared.event.Event.{Event}
-use Rattle.lpt_events.specs.Events.{IsEvent}
+use Rattle.lpt_acts.specs.Acts.{Act, IsAct}
 use Rattle.lpt_journal.specs.Journal.{History}
 use Rattle.lpt_journal.specs.Replies.{recorded}
 use Rattle.lpt_journal.specs.Refusals.{refusal}
 
 -- an event can happen after this history
-pub record IsEnabled (c : Config) (h : History) (e : Event) : Type 0 where
-  pub in_range : IsEvent e
+pub record IsEnabled (c : Config) (h : History) (e : Act) : Type 0 where
+  pub in_range : IsAct e
   pub accepted : refusal c h e ≡ None
 
 -- each event can happen after those before it
-abbrev pub Legal : Config → Contents → List Event → Type 0
+abbrev pub Legal : Config → Contents → List Act → Type 0
 Legal c first [] = ⊤
 Legal c first (e ∷ es) = Legal c first es × IsEnabled c (recorded c first es) e

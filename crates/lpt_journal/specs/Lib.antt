@@ -2,6 +2,7 @@ pub mod Abortions
 pub mod Clear
 pub mod Delivery
 pub mod Due
+pub mod Events
 pub mod Executions
 pub mod Hands
 pub mod Headline

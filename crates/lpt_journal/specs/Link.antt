@@ -4,8 +4,7 @@ use Rattle.std.specs.Option.{option_map_or}
 use Rattle.lpt_packet.specs.declared.direction.Direction.{Direction}
 use Rattle.lpt_packet.specs.Names.{Name}
 use Rattle.lpt_events.specs.Lanes.{same_direction}
-use Rattle.lpt_events.specs.declared.event.Event.{Event}
-use Rattle.lpt_events.specs.declared.event.Event.TheVariants.{Send, Lose, Damage}
+use Rattle.lpt_acts.specs.Acts.{Act, Send, Lose, Damage}
 use Rattle.lpt_journal.specs.Journal.{SentPacket, History, with_all}
 
 -- all packets put on the link, each at the place of its number
@@ -14,7 +13,7 @@ sent [] = []
 sent (x ∷ h) = with_all (sent h) x.puts
 
 -- the transaction of which an event puts a part; all else that is put is no part
-abbrev pub tag_put : Event → Option Name
+abbrev pub tag_put : Act → Option Name
 tag_put (Send d name k) = Some name
 tag_put _ = None
 
@@ -24,7 +23,7 @@ tags [] = []
 tags (x ∷ h) = with_all (tags h) (map (λ p. tag_put x.event) x.puts)
 
 -- whether an event loses the packet numbered n
-abbrev pub loses : Event → ℕ → Bool
+abbrev pub loses : Act → ℕ → Bool
 loses (Lose k) n = n == k
 loses _ n = false
 
@@ -34,7 +33,7 @@ is_lost [] n = false
 is_lost (x ∷ h) n = loses x.event n || is_lost h n
 
 -- whether an event puts what the link's noise left
-abbrev pub damages : Event → Bool
+abbrev pub damages : Act → Bool
 damages (Damage d b) = true
 damages _ = false
 

@@ -1,5 +1,5 @@
--- The receiving ends: what each has kept, which receptions have ended, and the clocks.
-use Rattle.std.specs.Prelude.{ℕ, ◌+◌, Bool, false, not, ◌&&◌, ◌||◌, ◌==◌, if◌then◌else◌, List, [], ◌∷◌, length}
+-- The receiving ends: what each has kept, which receptions have ended, the clocks and the limits.
+use Rattle.std.specs.Prelude.{ℕ, Bool, false, not, ◌&&◌, ◌||◌, ◌==◌, if◌then◌else◌, List, [], ◌∷◌, length}
 use Rattle.std.specs.List.{filter}
 use Rattle.std.specs.FinMap as map
 use Rattle.lpt_packet.specs.declared.direction.Direction.{Direction}
@@ -12,8 +12,7 @@ use Rattle.lpt_events.specs.declared.config.Config.{Config}
 use Rattle.lpt_events.specs.declared.outcome.Outcome.TheVariants.{Kept, Again, Released, Broken}
 use Rattle.lpt_events.specs.declared.side.Side.{Side}
 use Rattle.lpt_events.specs.Arrivals.{Arrival, APart}
-use Rattle.lpt_events.specs.declared.event.Event.{Event}
-use Rattle.lpt_events.specs.declared.event.Event.TheVariants.{Deliver, Tick, Expire, Retire, Restart}
+use Rattle.lpt_acts.specs.Acts.{Act, Deliver, Tick, Expire, Retire, Restart, clock_turned, past_turned, Limits, limits_of, limits_set}
 use Rattle.lpt_events.specs.declared.reply.Answer.{Answer}
 use Rattle.lpt_events.specs.declared.reply.Answer.TheVariants.{Delivered, Expired}
 use Rattle.lpt_events.specs.Sides.{same_side, receiver_side}
@@ -54,10 +53,10 @@ ends (Expired d i) name = same_name i name
 ends _ name = false
 
 -- what is kept of a transaction after an event; arrived says what is in each lane's hand
-abbrev pub heard_after : Event → Answer → (Lane → Arrival) → Direction → Name → Parts → Parts
+abbrev pub heard_after : Act → Answer → (Lane → Arrival) → Direction → Name → Parts → Parts
 heard_after (Deliver l) answer arrived d name before =
     if same_direction (lane_direction l) d then heard_now answer (arrived l) name before else before
-heard_after (Expire side) answer arrived d name before =
+heard_after (Expire side which) answer arrived d name before =
     if same_side side (receiver_side d) && ends answer name then no_parts else before
 heard_after (Restart side) answer arrived d name before =
     if same_side side (receiver_side d) then no_parts else before
@@ -80,7 +79,7 @@ with_kept_name (Delivered (Kept i k)) before = i ∷ before
 with_kept_name _ before = before
 
 -- the names that were heard in a direction after an event
-abbrev pub names_after : Event → Answer → Direction → List Name → List Name
+abbrev pub names_after : Act → Answer → Direction → List Name → List Name
 names_after (Deliver l) answer d before =
     if same_direction (lane_direction l) d then with_kept_name answer before else before
 names_after _ answer d before = before
@@ -101,10 +100,10 @@ reception_count c h d = length (open_names c h d)
 -- ---- receptions that have ended
 
 -- whether the receiver has the transaction closed after an event
-abbrev pub closed_after : Event → Answer → Direction → Name → Bool → Bool
+abbrev pub closed_after : Act → Answer → Direction → Name → Bool → Bool
 closed_after (Deliver l) answer d name before =
     (same_direction (lane_direction l) d && ends answer name) || before
-closed_after (Expire side) answer d name before =
+closed_after (Expire side which) answer d name before =
     (same_side side (receiver_side d) && ends answer name) || before
 closed_after (Retire e i) answer d name before =
     not (same_direction e d && same_name i name) && before
@@ -118,8 +117,9 @@ is_closed (x ∷ h) d name = closed_after x.event x.reply.answer d name (is_clos
 -- ---- time
 
 -- a node's clock after an event
-abbrev pub clock_after : Event → Side → ℕ → ℕ
-clock_after (Tick t) side before = if same_side t side then before + 1 else before
+abbrev pub clock_after : Act → Side → ℕ → ℕ
+clock_after (Tick t turn) side before =
+    if same_side t side then clock_turned turn before else before
 clock_after _ side before = before
 
 -- a node's clock
@@ -134,13 +134,32 @@ takes (Delivered (Again i k)) name = same_name i name
 takes _ name = false
 
 -- whether an event takes a part of the transaction
-abbrev pub takes_part : Event → Answer → Direction → Name → Bool
+abbrev pub takes_part : Act → Answer → Direction → Name → Bool
 takes_part (Deliver l) answer d name = same_direction (lane_direction l) d && takes answer name
 takes_part _ answer d name = false
+
+-- a tick of the past after an event: it goes back with the clock of its node
+abbrev pub past_after : Act → Side → ℕ → ℕ
+past_after (Tick t turn) side before =
+    if same_side t side then past_turned turn before else before
+past_after _ side before = before
 
 -- the receiver's clock when it last took a part; 0 where it took none, and then none is open
 abbrev pub last_tick : Config → History → Direction → Name → ℕ
 last_tick c [] d name = 0
 last_tick c (x ∷ h) d name =
     if takes_part x.event x.reply.answer d name then clock c h (receiver_side d)
-    else last_tick c h d name
+    else past_after x.event (receiver_side d) (last_tick c h d name)
+
+-- ---- limits
+
+-- a node's limits after an event
+abbrev pub limits_after : Act → Side → Limits → Limits
+limits_after (Tick t turn) side before =
+    if same_side t side then limits_set turn before else before
+limits_after _ side before = before
+
+-- a node's limits: those of the configuration until it sets others
+abbrev pub limits : Config → History → Side → Limits
+limits c [] side = limits_of c
+limits c (x ∷ h) side = limits_after x.event side (limits c h side)

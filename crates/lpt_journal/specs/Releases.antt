@@ -8,8 +8,7 @@ use Rattle.lpt_events.specs.Lanes.{lane_direction}
 use Rattle.lpt_events.specs.declared.config.Config.{Config}
 use Rattle.lpt_events.specs.declared.outcome.Outcome.TheVariants.{Released, PlainReleased}
 use Rattle.lpt_events.specs.Arrivals.{Arrival, ARequest, APart}
-use Rattle.lpt_events.specs.declared.event.Event.{Event}
-use Rattle.lpt_events.specs.declared.event.Event.TheVariants.{Deliver}
+use Rattle.lpt_acts.specs.Acts.{Act, Deliver}
 use Rattle.lpt_events.specs.declared.reply.Answer.{Answer}
 use Rattle.lpt_events.specs.declared.reply.Answer.TheVariants.{Delivered}
 use Rattle.lpt_events.specs.declared.entry.Release.{Release}
@@ -26,7 +25,7 @@ released_now place d (Delivered (PlainReleased len)) s (ARequest b) =
 released_now place d answer s arrived = []
 
 -- what an event at this place releases; s is what was heard, arrived what is in each lane's hand
-abbrev pub release_after : Event
+abbrev pub release_after : Act
     → (place : ℕ)
     → Answer
     → (Direction → Name → Parts)

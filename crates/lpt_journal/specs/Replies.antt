@@ -17,8 +17,7 @@ use Rattle.lpt_events.specs.declared.side.Side.{Side}
 use Rattle.lpt_events.specs.declared.side.Side.TheVariants.{Ground, Craft}
 use Rattle.lpt_events.specs.Arrivals.{part_subtype}
 use Rattle.lpt_events.specs.MadePackets.{nth_part, part_made, abort_made, tc_made}
-use Rattle.lpt_events.specs.declared.event.Event.{Event}
-use Rattle.lpt_events.specs.declared.event.Event.TheVariants.{Open, Send, Plain, Finish, Lose, Damage, Take, Deliver, Tick, Expire, Claim, Commit, Apply, Retire, Restart}
+use Rattle.lpt_acts.specs.Acts.{clock_turned, Act, Open, Send, Plain, Finish, Lose, Damage, Take, Deliver, Tick, Expire, Claim, Commit, Apply, Retire, Restart}
 use Rattle.lpt_events.specs.declared.reply.Answer.{Answer}
 use Rattle.lpt_events.specs.declared.reply.Answer.TheVariants.{Opened, Put, Finished, Lost, Took, Delivered, Clock, Expired, Claimed, Committed, Stale, Applied, Retired, Restarted}
 use Rattle.lpt_events.specs.declared.reply.Puts.{Puts}
@@ -29,12 +28,12 @@ use Rattle.lpt_journal.specs.Journal.{SentPacket, Recorded, History}
 use Rattle.lpt_journal.specs.Link.{sent}
 use Rattle.lpt_journal.specs.Senders.{Sender, FreeSender, OpenSender, ClosedSender, sender, count, type_counter}
 use Rattle.lpt_journal.specs.Receivers.{clock}
-use Rattle.lpt_journal.specs.Due.{due}
+use Rattle.lpt_journal.specs.Due.{given_up}
 use Rattle.lpt_journal.specs.Delivery.{outcome}
 use Rattle.lpt_journal.specs.Executions.{front_applied, front_puts, front_opens}
 use Rattle.lpt_journal.specs.Jobs.{boot, claimed, ticket}
 
--- the end of the reception that is due; where none is, that is refused
+-- the end of the reception that is given up; where none is, that is refused
 abbrev pub expired_now : Direction → Option Name → Answer
 expired_now d None = Expired d no_name
 expired_now d (Some name) = Expired d name
@@ -47,7 +46,7 @@ committed_now boot (Some t) =
     if t.boot == boot then Committed t.boot t.job else Stale t.boot t.job
 
 -- what is particular to the event in its reply
-abbrev pub answer : Config → Contents → History → Event → Answer
+abbrev pub answer : Config → Contents → History → Act → Answer
 answer c first h (Open d name m) = Opened (part_count (length m) c.part_size)
 answer c first h (Send d name k) = Put (length (sent h))
 answer c first h (Plain source flags service subtype body) = Put (length (sent h))
@@ -56,8 +55,9 @@ answer c first h (Lose n) = Lost
 answer c first h (Damage d b) = Put (length (sent h))
 answer c first h (Take l n) = Took n
 answer c first h (Deliver l) = Delivered (outcome c h l)
-answer c first h (Tick side) = Clock (clock c h side + 1)
-answer c first h (Expire side) = expired_now (direction_to side) (due c h (direction_to side))
+answer c first h (Tick side turn) = Clock (clock_turned turn (clock c h side))
+answer c first h (Expire side which) =
+    expired_now (direction_to side) (given_up c h (direction_to side) which)
 answer c first h (Claim w) = Claimed (boot h Craft) (claimed h)
 answer c first h (Commit w) = committed_now (boot h Craft) (ticket c h w)
 answer c first h Apply = Applied (front_applied c first h)
@@ -109,13 +109,13 @@ abbrev pub outcome_puts : Config → History → Side → Outcome → List SentP
 outcome_puts c h side (Broken name reason) = abort_puts c h side name reason
 outcome_puts c h side _ = []
 
--- what the end of the reception that is due puts; where none is due, it is refused
+-- what the end of the reception that is given up puts; where none is, it is refused
 abbrev pub expiry_puts : Config → History → Side → Option Name → List SentPacket
 expiry_puts c h side None = []
 expiry_puts c h side (Some name) = abort_puts c h side name reason.Expired
 
 -- the packets that an event puts on the link
-abbrev pub puts : Config → Contents → History → Event → List SentPacket
+abbrev pub puts : Config → Contents → History → Act → List SentPacket
 puts c first h (Open d name m) = []
 puts c first h (Send d name k) = send_puts c h d name k (sender h d name)
 puts c first h (Plain source flags service subtype body) =
@@ -125,8 +125,9 @@ puts c first h (Lose n) = []
 puts c first h (Damage d b) = record { direction = d; octets = b } ∷ []
 puts c first h (Take l n) = []
 puts c first h (Deliver l) = outcome_puts c h (receiver_side (lane_direction l)) (outcome c h l)
-puts c first h (Tick side) = []
-puts c first h (Expire side) = expiry_puts c h side (due c h (direction_to side))
+puts c first h (Tick side turn) = []
+puts c first h (Expire side which) =
+    expiry_puts c h side (given_up c h (direction_to side) which)
 puts c first h (Claim w) = []
 puts c first h (Commit w) = []
 puts c first h Apply = front_puts c first h
@@ -134,7 +135,7 @@ puts c first h (Retire d name) = []
 puts c first h (Restart side) = []
 
 -- the transactions that an event opens
-abbrev pub opens : Config → Contents → History → Event → List Opening
+abbrev pub opens : Config → Contents → History → Act → List Opening
 opens c first h (Open d name m) = record { place = length h; direction = d; name = name; message = m } ∷ []
 opens c first h (Send d name k) = []
 opens c first h (Plain source flags service subtype body) = []
@@ -143,8 +144,8 @@ opens c first h (Lose n) = []
 opens c first h (Damage d b) = []
 opens c first h (Take l n) = []
 opens c first h (Deliver l) = []
-opens c first h (Tick side) = []
-opens c first h (Expire side) = []
+opens c first h (Tick side turn) = []
+opens c first h (Expire side which) = []
 opens c first h (Claim w) = []
 opens c first h (Commit w) = []
 opens c first h Apply = front_opens c first h
@@ -157,16 +158,16 @@ told first [] = None
 told first (p ∷ ps) = Some (record { first = first; count = length (p ∷ ps) })
 
 -- what an event answers
-abbrev pub reply : Config → Contents → History → Event → Reply
+abbrev pub reply : Config → Contents → History → Act → Reply
 reply c first h e = record { answer = answer c first h e; puts = told (length (sent h)) (puts c first h e) }
 
 -- ---- recorded
 
 -- an event with what it gives after this history
-abbrev pub entry : Config → Contents → History → Event → Recorded
+abbrev pub entry : Config → Contents → History → Act → Recorded
 entry c first h e = record { event = e; reply = reply c first h e; puts = puts c first h e; opens = opens c first h e }
 
 -- the history of a journal, whose newest event stands first
-abbrev pub recorded : Config → Contents → List Event → History
+abbrev pub recorded : Config → Contents → List Act → History
 recorded c first [] = []
 recorded c first (e ∷ es) = let h = recorded c first es in entry c first h e ∷ h

@@ -10,8 +10,7 @@ use Rattle.lpt_ledger.specs.LeastFree.{name_count, first_of_numbers}
 use Rattle.lpt_events.specs.Lanes.{same_direction}
 use Rattle.lpt_events.specs.declared.side.Side.{Side}
 use Rattle.lpt_events.specs.declared.outcome.Outcome.TheVariants.{AbortNoted}
-use Rattle.lpt_events.specs.declared.event.Event.{Event}
-use Rattle.lpt_events.specs.declared.event.Event.TheVariants.{Open, Send, Plain, Finish, Lose, Damage, Take, Deliver, Tick, Expire, Claim, Commit, Apply, Retire, Restart}
+use Rattle.lpt_acts.specs.Acts.{Act, Open, Send, Plain, Finish, Lose, Damage, Take, Deliver, Tick, Expire, Claim, Commit, Apply, Retire, Restart}
 use Rattle.lpt_events.specs.declared.reply.Answer.{Answer}
 use Rattle.lpt_events.specs.declared.reply.Answer.TheVariants.{Delivered}
 use Rattle.lpt_events.specs.declared.entry.Opening.{Opening}
@@ -28,7 +27,7 @@ opened [] = []
 opened (x ∷ h) = with_all (opened h) x.opens
 
 -- whether an event retires the transaction
-abbrev pub retires : Event → Direction → Name → Bool
+abbrev pub retires : Act → Direction → Name → Bool
 retires (Retire e i) d name = same_direction e d && same_name i name
 retires _ d name = false
 
@@ -48,7 +47,7 @@ notes_abort _ name = false
 
 -- whether an event closes the transaction's sender; an abortion report speaks of what goes up, and a
 -- node that is restarted closes all of its own
-abbrev pub closes : Event → Answer → Direction → Name → Bool
+abbrev pub closes : Act → Answer → Direction → Name → Bool
 closes (Deliver l) answer d name = same_direction Up d && notes_abort answer name
 closes (Finish e i) answer d name = same_direction e d && same_name i name
 closes (Restart side) answer d name = same_side side (sender_side d)
@@ -111,13 +110,13 @@ least_free h d source =
 -- ---- packets made
 
 -- whether an event restarts a node
-abbrev pub restarts : Event → Side → Bool
+abbrev pub restarts : Act → Side → Bool
 restarts (Restart node) side = same_side node side
 restarts _ side = false
 
 -- whether a node makes the packets of an event: an opened message brings its own octets, and no node
 -- makes what the link's noise leaves
-abbrev pub makes : Event → Bool
+abbrev pub makes : Act → Bool
 makes (Open d name m) = false
 makes (Send d name k) = true
 makes (Plain source flags service subtype body) = true
@@ -126,8 +125,8 @@ makes (Lose n) = true
 makes (Damage d b) = false
 makes (Take l n) = true
 makes (Deliver l) = true
-makes (Tick side) = true
-makes (Expire side) = true
+makes (Tick side turn) = true
+makes (Expire side which) = true
 makes (Claim w) = true
 makes (Commit w) = true
 makes Apply = true

@@ -13,8 +13,7 @@ use Rattle.lpt_events.specs.Sides.{same_side, receiver_side}
 use Rattle.lpt_events.specs.declared.config.Config.{Config}
 use Rattle.lpt_events.specs.declared.entry.Opening.{Opening}
 use Rattle.lpt_events.specs.declared.entry.Release.{Release}
-use Rattle.lpt_events.specs.declared.event.Event.{Event}
-use Rattle.lpt_events.specs.declared.event.Event.TheVariants.{Deliver, Restart}
+use Rattle.lpt_acts.specs.Acts.{Act, Deliver, Restart}
 use Rattle.lpt_events.specs.declared.lane.Lane.{Lane}
 use Rattle.lpt_events.specs.declared.outcome.Outcome.TheVariants.{Ignored}
 use Rattle.lpt_events.specs.declared.outcome.Why.TheVariants.{NoRoom}
@@ -36,7 +35,7 @@ brings (APart q) answer name k = same_name q.name name && (q.number == k)
 brings _ answer name k = false
 
 -- whether part k came to the receiver after an event; what a restarted receiver had is lost
-abbrev pub came_after : Event → Answer → (Lane → Arrival) → Direction → Name → (k : ℕ) → Bool → Bool
+abbrev pub came_after : Act → Answer → (Lane → Arrival) → Direction → Name → (k : ℕ) → Bool → Bool
 came_after (Deliver l) answer arrived d name k before =
     (same_direction (lane_direction l) d && brings (arrived l) answer name k) || before
 came_after (Restart side) answer arrived d name k before =
@@ -79,7 +78,7 @@ WholeIsReleased c h =
 -- it holds of every legal journal
 abbrev pub NothingIsWithheld : Type 0
 NothingIsWithheld =
-    (c : Config) (first : Contents) (es : List Event)
+    (c : Config) (first : Contents) (es : List Act)
     → IsConfig c
     → Legal c first es
     → WholeIsReleased c (recorded c first es)

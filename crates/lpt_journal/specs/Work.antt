@@ -8,8 +8,7 @@ use Rattle.lpt_events.specs.Configs.{IsConfig}
 use Rattle.lpt_events.specs.Workers.{same_worker}
 use Rattle.lpt_events.specs.declared.config.Config.{Config}
 use Rattle.lpt_events.specs.declared.entry.Release.{Release}
-use Rattle.lpt_events.specs.declared.event.Event.{Event}
-use Rattle.lpt_events.specs.declared.event.Event.TheVariants.{Claim, Commit}
+use Rattle.lpt_acts.specs.Acts.{Act, Claim, Commit}
 use Rattle.lpt_events.specs.declared.lane.Lane.{Lane}
 use Rattle.lpt_events.specs.declared.reply.Answer.{Answer}
 use Rattle.lpt_events.specs.declared.reply.Answer.TheVariants.{Committed, Stale}
@@ -22,7 +21,7 @@ use Rattle.lpt_journal.specs.Jobs.{boot, jobs, claimed, applied, ticket, is_comm
 use Rattle.lpt_journal.specs.Journal.{Recorded, History}
 use Rattle.lpt_journal.specs.Legal.{Legal}
 use Rattle.lpt_journal.specs.Link.{sent, tags, is_held, is_damaged}
-use Rattle.lpt_journal.specs.Receivers.{heard, open_names, is_closed, last_tick, clock}
+use Rattle.lpt_journal.specs.Receivers.{heard, open_names, is_closed, last_tick, clock, limits}
 use Rattle.lpt_journal.specs.Releases.{releases}
 use Rattle.lpt_journal.specs.Replies.{recorded}
 use Rattle.lpt_journal.specs.Senders.{restarts, current, sender, opened, made}
@@ -30,7 +29,7 @@ use Rattle.lpt_journal.specs.Senders.{restarts, current, sender, opened, made}
 -- ---- commits
 
 -- whether this worker claims in an event
-abbrev pub is_claim_of : Event → Worker → Bool
+abbrev pub is_claim_of : Act → Worker → Bool
 is_claim_of (Claim v) w = same_worker v w
 is_claim_of _ w = false
 
@@ -70,6 +69,7 @@ pub record IsSameBut (c : Config) (first : Contents) (w : Worker) (new old : His
   pub closed : (d : Direction) (name : Name) → is_closed new d name ≡ is_closed old d name
   pub ticks : (d : Direction) (name : Name) → last_tick c new d name ≡ last_tick c old d name
   pub clocks : (side : Side) → clock c new side ≡ clock c old side
+  pub limited : (side : Side) → limits c new side ≡ limits c old side
   pub released : releases c new ≡ releases c old
 
 -- A commit hands in the job that the worker claimed last. It answers that the job is stale exactly
@@ -113,7 +113,7 @@ pub record WorkKeepsItsBoot (c : Config) (first : Contents) (h : History) : Type
 -- it holds of every legal journal
 abbrev pub WorkIsOfItsBoot : Type 0
 WorkIsOfItsBoot =
-    (c : Config) (first : Contents) (es : List Event)
+    (c : Config) (first : Contents) (es : List Act)
     → IsConfig c
     → Legal c first es
     → WorkKeepsItsBoot c first (recorded c first es)

@@ -1,4 +1,4 @@
--- The two ends and the link between them as plain data, and what each event does to them. Each step
+-- The two ends and the link between them as plain data, and what each act does to them. Each step
 -- is one of an end's or of the link's.
 use Rattle.std.specs.Prelude.{◌≡◌, ℕ, Bool, true, false, not, ◌&&◌, List, [], ◌∷◌, ◌++◌, length, IfSome, IsTrue, Option, Some, None, is_some}
 use Rattle.std.specs.Option.{option_map, option_map_or}
@@ -33,13 +33,13 @@ use Rattle.lpt_memory.specs.Readings.{Job, Source}
 use Rattle.lpt_jobs.specs.Jobs.{head_of, is_claimed}
 use Rattle.lpt_node.specs.Jobs.{Execution, FrontIsFor, refusal_claim, claimed, committed, refusal_apply, executed}
 use Rattle.lpt_node.specs.Nodes.{NodeData, no_data}
+use Rattle.lpt_node.specs.declared.fault.NodeFault.{NodeFault}
 use Rattle.lpt_node.specs.Requests.{refusal_plain, plain_made}
 use Rattle.lpt_node.specs.Sending.{refusal_open, refusal_send, refusal_finish, opened as node_opened, sent as node_sent, closed as node_closed}
-use Rattle.lpt_node.specs.Times.{refusal_tick, ticked, refusal_expire, expired}
+use Rattle.lpt_node.specs.Times.{refusal_tick, turned_so, refusal_end, which_ends, expired_of}
 use Rattle.lpt_events.specs.declared.entry.Opening.{Opening}
 use Rattle.lpt_events.specs.declared.entry.Release.{Release}
-use Rattle.lpt_events.specs.declared.event.Event.{Event}
-use Rattle.lpt_events.specs.declared.event.Event.TheVariants.{Open, Send, Plain, Finish, Lose, Damage, Take, Deliver, Tick, Expire, Claim, Commit, Apply, Retire, Restart}
+use Rattle.lpt_acts.specs.Acts.{Act, Setting, On, Back, Within, Open, Send, Plain, Finish, Lose, Damage, Take, Deliver, Tick, Expire, Claim, Commit, Apply, Retire, Restart}
 use Rattle.lpt_events.specs.declared.fault.StepFault.{StepFault}
 use Rattle.lpt_events.specs.declared.fault.StepFault.TheVariants as step
 use Rattle.lpt_events.specs.declared.reply.Answer.{Answer}
@@ -119,8 +119,14 @@ abbrev pub refusal_retire : State → Direction → Name → Option StepFault
 refusal_retire s d name =
     refusal_retire_by (state_at (end_of s (sender_side d)).sending.ledger name) (is_gone s d name)
 
--- why an event is refused
-abbrev pub refusal_of : Config → State → Event → Option StepFault
+-- why a clock doesn't turn so: one that goes on isn't at its end
+abbrev pub refusal_turn : Setting → NodeData → Option NodeFault
+refusal_turn On d = refusal_tick d
+refusal_turn (Back n) d = None
+refusal_turn (Within l) d = None
+
+-- why an act is refused
+abbrev pub refusal_of : Config → State → Act → Option StepFault
 refusal_of c s (Open d name m) =
     option_map node_fault (refusal_open c (end_of s (sender_side d)) name (length m))
 refusal_of c s (Send d name k) =
@@ -133,8 +139,9 @@ refusal_of c s (Lose n) = option_map link_fault (refusal_lose s.link n)
 refusal_of c s (Damage d b) = refusal_damage c b
 refusal_of c s (Take l n) = option_map link_fault (refusal_take s.link l n)
 refusal_of c s (Deliver l) = option_map link_fault (refusal_drop s.link l)
-refusal_of c s (Tick side) = option_map node_fault (refusal_tick (end_of s side))
-refusal_of c s (Expire side) = option_map node_fault (refusal_expire c (end_of s side))
+refusal_of c s (Tick side turn) = option_map node_fault (refusal_turn turn (end_of s side))
+refusal_of c s (Expire side which) =
+    option_map node_fault (refusal_end c (end_of s side) which)
 refusal_of c s (Claim w) = refusal_claim_by s.on_craft (ticket_of s.tickets w)
 refusal_of c s (Commit w) = refusal_commit_of (ticket_of s.tickets w)
 refusal_of c s Apply = option_map node_fault (refusal_apply s.on_craft)
@@ -265,10 +272,12 @@ after_deliver c place s l =
 
 -- ---- time
 
--- a node's clock is one tick on
-abbrev pub after_tick : State → Side → State × Reply
-after_tick s side =
-    (with_end s side (ticked (end_of s side)), quiet (Clock (ticked (end_of s side)).clock))
+-- a node has set this
+abbrev pub after_tick : State → Side → Setting → State × Reply
+after_tick s side turn = (
+  with_end s side (turned_so turn (end_of s side)),
+  quiet (Clock (turned_so turn (end_of s side)).clock),
+)
 
 -- a node has ended a reception and answered, and its report is put, where it made one
 abbrev pub expired_on : State → Side → NodeData × Ended → State × Reply
@@ -277,8 +286,10 @@ expired_on s side x = (
   put_some (length s.link.packets) (Expired (direction_to side) x.1.name) (as_list x.1.packet),
 )
 
-abbrev pub after_expire : Config → State → Side → State × Reply
-after_expire c s side = expired_on s side (expired side c (end_of s side))
+abbrev pub after_expire : Config → State → Side → Option Name → State × Reply
+after_expire c s side which =
+    expired_on s side
+    (expired_of side c (end_of s side) (which_ends c (end_of s side) which))
 
 -- ---- jobs
 
@@ -350,15 +361,15 @@ after_restart s side =
 
 -- what the nodes ask for besides: a job that is committed in its own boot was claimed and not
 -- committed, and the reading that is executed was made for these memories
-abbrev pub IsReady : Config → State → Event → Type 0
+abbrev pub IsReady : Config → State → Act → Type 0
 IsReady c s (Commit w) =
     IfSome (ticket_of s.tickets w)
     (λ t. t.boot ≡ s.on_craft.boot → IsTrue (is_claimed s.on_craft.jobs t.job))
 IsReady c s Apply = FrontIsFor (head_of s.on_craft.jobs.jobs) c.apid s.memories
 IsReady c s e = Unit {0}
 
--- what an event at this place makes of the state, and its reply
-abbrev pub after : Config → ℕ → State → Event → State × Reply
+-- what an act at this place makes of the state, and its reply
+abbrev pub after : Config → ℕ → State → Act → State × Reply
 after c place s (Open d name m) = after_open c place s d name m
 after c place s (Send d name k) = after_send c s d name k
 after c place s (Plain source flags service subtype body) =
@@ -368,8 +379,8 @@ after c place s (Lose n) = after_losing s n
 after c place s (Damage d b) = after_damage s d b
 after c place s (Take l n) = after_take s l n
 after c place s (Deliver l) = after_deliver c place s l
-after c place s (Tick side) = after_tick s side
-after c place s (Expire side) = after_expire c s side
+after c place s (Tick side turn) = after_tick s side turn
+after c place s (Expire side which) = after_expire c s side which
 after c place s (Claim w) = claimed_on s w (claimed s.on_craft)
 after c place s (Commit w) = committed_on c s w (ticket_of s.tickets w)
 after c place s Apply = executed_on place s (executed c s.on_craft s.memories)

@@ -27,7 +27,7 @@ use Rattle.lpt_table.specs.Offering.{OfferKind, Kept, Again, Whole, Conflict, Ga
 use Rattle.lpt_table.specs.Tables.{TableState}
 use Rattle.lpt_journal.specs.Journal.{History}
 use Rattle.lpt_journal.specs.Hands.{hand, arrival_at, in_hand}
-use Rattle.lpt_journal.specs.Receivers.{kept, with_piece, heard, has_parts, is_closed, reception_count}
+use Rattle.lpt_journal.specs.Receivers.{kept, with_piece, heard, has_parts, is_closed, reception_count, limits}
 use Rattle.lpt_refinement.specs.Shows.{Shows, ShowsReceiving, closed_mark, sent_packet}
 use Rattle.lpt_model.specs.State.{State, arrival_held}
 use Rattle.lpt_refinement.specs.Views.{views, receiving_view}
@@ -92,7 +92,7 @@ abbrev pub delivery_told : Config → History → Direction → NodeData → Nam
 delivery_told c h w d q =
     let s = heard c h w q.name in
     delivery (receiver_side w) (is_closed h w q.name)
-    (not (has_parts s) && nat_le c.receptions (reception_count c h w))
+    (not (has_parts s) && nat_le (limits c h (receiver_side w)).receptions (reception_count c h w))
     (contradicts s q.number (kept q)) (is_some (maps.get s q.number))
     (is_gap c.mode s q.number) (is_open (table_in (receiver_of c d.receiving)) q.name)
     (is_whole (with_piece s q)) (abort_head (receiver_side w) c d q.name.source) d (receiver_of c d.receiving) q s (with_piece s q)

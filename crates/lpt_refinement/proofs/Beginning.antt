@@ -58,6 +58,8 @@ no_receiving : (c : Config) (d : Direction)
 no_receiving c d = record {
   ledger = λ name. maps.get-empty name_cmp name;
   entries = λ name. no_entries name 0;
+  limit = refl;
+  timeout = refl;
 }
 
 no_hand : (l : Lane) → hand_of empty_link l ≡ None
@@ -74,12 +76,14 @@ shows_none c first = record {
   ground = record {
     sending = no_sending c Ground Up;
     receiving = no_receiving c Down;
+    outgoing = refl;
     clock = refl;
     boot = refl;
   };
   craft = record {
     sending = no_sending c Craft Down;
     receiving = no_receiving c Up;
+    outgoing = refl;
     clock = refl;
     boot = refl;
   };

@@ -6,7 +6,7 @@ use Rattle.std.proofs.lemmas.List.{length-map}
 use Rattle.std.proofs.lemmas.Option.{slice_get-map}
 use Rattle.lpt_events.specs.declared.config.Config.{Config}
 use Rattle.lpt_events.specs.declared.entry.Release.{Release}
-use Rattle.lpt_events.specs.declared.event.Event.TheVariants.{Claim}
+use Rattle.lpt_acts.specs.Acts.{Claim}
 use Rattle.lpt_events.specs.declared.fault.StepFault.TheVariants.{HandFull, NoJob}
 use Rattle.lpt_events.specs.declared.reply.Answer.TheVariants.{Claimed}
 use Rattle.lpt_events.specs.declared.side.Side.TheVariants.{Craft}

@@ -2,7 +2,7 @@
 use Rattle.std.proofs.Common.{◌≡◌, ◌∙◌, ap, sym, subst, refl, ℕ, ◌==◌, Bool, true, false, not, ◌||◌, if◌then◌else◌, IsTrue, IfSome, [], ◌∷◌, Option, Some, None, is_some}
 use Rattle.lpt_packet.proofs.Readings.{true_eq}
 use Rattle.lpt_events.specs.declared.config.Config.{Config}
-use Rattle.lpt_events.specs.declared.event.Event.TheVariants.{Commit}
+use Rattle.lpt_acts.specs.Acts.{Commit}
 use Rattle.lpt_events.specs.declared.fault.StepFault.TheVariants.{HandEmpty}
 use Rattle.lpt_events.specs.declared.reply.Answer.{Answer}
 use Rattle.lpt_events.specs.declared.reply.Answer.TheVariants.{Committed, Stale}

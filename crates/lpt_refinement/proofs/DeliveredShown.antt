@@ -20,12 +20,12 @@ use Rattle.lpt_events.specs.Arrivals.{Arrival, NotRead, AnIdle, Foreign, AReques
 use Rattle.lpt_node.specs.Nodes.{NodeData}
 use Rattle.lpt_node.specs.Receiving.{abort_head, receiver_of}
 use Rattle.lpt_reception.specs.Received.{contradicts, is_gap, is_whole, spelled}
-use Rattle.lpt_events.specs.declared.event.Event.TheVariants.{Deliver}
+use Rattle.lpt_acts.specs.Acts.{Deliver}
 use Rattle.lpt_journal.specs.Delivery.{judged}
 use Rattle.lpt_journal.specs.Jobs.{jobs, ticket}
 use Rattle.lpt_journal.specs.Journal.{History}
 use Rattle.lpt_journal.specs.Hands.{hand, hand_after, in_hand}
-use Rattle.lpt_journal.specs.Receivers.{kept, with_piece, heard, has_parts, is_closed, clock, reception_count}
+use Rattle.lpt_journal.specs.Receivers.{kept, with_piece, heard, has_parts, is_closed, clock, reception_count, limits}
 use Rattle.lpt_journal.specs.Replies.{entry}
 use Rattle.lpt_journal.proofs.OutcomeLemmas.{chosen}
 use Rattle.lpt_model.specs.State.{State, end_of, delivered_on, after_deliver}
@@ -146,7 +146,8 @@ module _ (c : Config) (first : Contents) (h : History) (s : State) (hands : Hand
       (outcome_view c first h w hands (APart q) (judged c h w (APart q))))
       (sym (part_agrees c h w (end_of s (receiver_side w)) q own))
       (part q (is_closed h w q.name)
-      (not (has_parts parts) && nat_le c.receptions (reception_count c h w))
+      (not (has_parts parts)
+      && nat_le (limits c h (receiver_side w)).receptions (reception_count c h w))
       (contradicts parts q.number (kept q)) (is_some (maps.get parts q.number))
       (is_gap c.mode parts q.number)
       (is_open (table_in (receiver_of c (end_of s (receiver_side w)).receiving)) q.name)

@@ -17,7 +17,7 @@ use Rattle.lpt_events.specs.declared.reply.Answer.TheVariants.{Delivered}
 use Rattle.lpt_journal.specs.Jobs.{jobs, went_up}
 use Rattle.lpt_journal.specs.Journal.{History, SentPacket, with_all}
 use Rattle.lpt_journal.specs.Link.{sent, tags, is_lost}
-use Rattle.lpt_journal.specs.Receivers.{heard, heard_now, ends, takes, is_closed, last_tick, clock}
+use Rattle.lpt_journal.specs.Receivers.{heard, heard_now, ends, takes, is_closed, last_tick, clock, limits}
 use Rattle.lpt_journal.specs.Releases.{releases, released_now}
 use Rattle.lpt_journal.specs.Replies.{outcome_puts}
 use Rattle.lpt_journal.specs.Senders.{current, is_over, sender_of, notes_abort, made, octets_put}
@@ -40,6 +40,8 @@ received c h w o a = record {
   closed = λ name. ends (Delivered o) name || is_closed h w name;
   last = λ name.
       if takes (Delivered o) name then clock c h (receiver_side w) else last_tick c h w name;
+  limit = (limits c h (receiver_side w)).receptions;
+  timeout = (limits c h (receiver_side w)).timeout;
 }
 
 -- the view before a delivery, with an empty hand

@@ -9,7 +9,7 @@ use Rattle.lpt_packet.specs.Names.{Name}
 use Rattle.lpt_events.specs.declared.config.Config.{Config}
 use Rattle.lpt_events.specs.declared.entry.Opening.{Opening}
 use Rattle.lpt_events.specs.declared.entry.Release.{Release}
-use Rattle.lpt_events.specs.declared.event.Event.TheVariants.{Apply}
+use Rattle.lpt_acts.specs.Acts.{Apply}
 use Rattle.lpt_events.specs.declared.reply.Answer.{Answer}
 use Rattle.lpt_events.specs.declared.side.Side.TheVariants.{Ground, Craft}
 use Rattle.lpt_events.specs.Configs.{IsConfig}
@@ -22,7 +22,7 @@ use Rattle.lpt_node.specs.Sending.{opened_in}
 use Rattle.lpt_journal.specs.Journal.{SentPacket, History, with_all}
 use Rattle.lpt_journal.specs.Jobs.{ticket, memories}
 use Rattle.lpt_journal.specs.Executions.{effect_of, opened_down}
-use Rattle.lpt_journal.specs.Receivers.{clock}
+use Rattle.lpt_journal.specs.Receivers.{clock, limits}
 use Rattle.lpt_journal.specs.Refusals.{refusal}
 use Rattle.lpt_journal.specs.Replies.{told, entry, reply}
 use Rattle.lpt_journal.specs.Senders.{sender, sender_of, least_free, open_count, made, current, is_over, is_opening_of, octets_put, messages_opened, opened}
@@ -154,7 +154,8 @@ craft_shown c first s h m in_range k =
     (opened_message (length h) (message c first h m)
     ∙ large_opened c.part_size in_range.part_size_fits.0 c (request_source c.apid m) (made h Down)
     (clock c h Craft) c.apid m
-    (least_free h Down (request_source c.apid m)) (nat_lt (open_count h Down) c.outgoing)
+    (least_free h Down (request_source c.apid m))
+    (nat_lt (open_count h Down) (limits c h Craft).outgoing)
     (effect_of c (memories c first h) m))
     k.craft.sending)
 
@@ -198,12 +199,14 @@ done_shown c first s h r in_range k =
             ground_shown h (length h) (message c first h m) (on_link c first h m)
             k.ground.sending;
         receiving = k.ground.receiving;
+        outgoing = k.ground.outgoing;
         clock = k.ground.clock;
         boot = k.ground.boot;
       };
       craft = record {
         sending = craft_shown c first s h m in_range k;
         receiving = k.craft.receiving;
+        outgoing = k.craft.outgoing;
         clock = k.craft.clock;
         boot = k.craft.boot;
       };

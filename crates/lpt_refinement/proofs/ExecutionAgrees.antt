@@ -9,7 +9,7 @@ use Rattle.lpt_ledger.specs.LeastFree.{least_free_in, first_of_numbers, name_cou
 use Rattle.lpt_ledger.specs.States.{state_of, is_free as is_free_mark}
 use Rattle.lpt_events.specs.declared.config.Config.{Config}
 use Rattle.lpt_events.specs.declared.entry.Release.{Release}
-use Rattle.lpt_events.specs.declared.event.Event.TheVariants.{Apply}
+use Rattle.lpt_acts.specs.Acts.{Apply}
 use Rattle.lpt_events.specs.declared.reply.Answer.{Answer}
 use Rattle.lpt_events.specs.declared.reply.Answer.TheVariants.{Applied}
 use Rattle.lpt_events.specs.declared.side.Side.TheVariants.{Craft}
@@ -31,7 +31,7 @@ use Rattle.lpt_journal.specs.Journal.{SentPacket, Recorded, History, with_all}
 use Rattle.lpt_journal.specs.Link.{sent}
 use Rattle.lpt_journal.specs.Jobs.{executed, executed_now, left_by, memories}
 use Rattle.lpt_journal.specs.Executions.{ending_of, reports_after, opened_down}
-use Rattle.lpt_journal.specs.Receivers.{clock}
+use Rattle.lpt_journal.specs.Receivers.{clock, limits}
 use Rattle.lpt_journal.specs.Replies.{told}
 use Rattle.lpt_journal.specs.Senders.{Sender, FreeSender, OpenSender, ClosedSender, sender, is_free, least_free, made}
 use Rattle.lpt_refinement.specs.Shows.{Shows, ShowsSending, mark_of}
@@ -67,7 +67,7 @@ ending_shown c first s h m k =
     let count = open_as_many h Down k.craft.sending in
     let free = least_shown h (request_source c.apid m) k.craft.sending in
     let sizes : sizes_of first ≡ sizes_of (memories c first h) = sym k.sizes in
-    λ i. ending c.part_size (is_some (free i)) (nat_lt (count i) c.outgoing)
+    λ i. ending c.part_size (is_some (free i)) (nat_lt (count i) (k.craft.outgoing i))
     (answer (meaning c.apid (sizes i) m) (k.memories i))
 
 -- ---- what the journal tells of a message that is executed

@@ -16,7 +16,7 @@ use Rattle.lpt_link.specs.Links.{LinkData}
 use Rattle.lpt_node.specs.Nodes.{Sending, Receiving, NodeData}
 use Rattle.lpt_journal.specs.Journal.{History}
 use Rattle.lpt_journal.specs.Jobs.{boot}
-use Rattle.lpt_journal.specs.Receivers.{clock}
+use Rattle.lpt_journal.specs.Receivers.{clock, limits}
 use Rattle.lpt_refinement.specs.Shows.{Shows, ShowsEnd, ShowsLink, ShowsJobs, ShowsSending, ShowsReceiving}
 use Rattle.lpt_model.specs.State.{State, end_of, with_end}
 use Rattle.lpt_model.specs.Tickets.{Tickets, ticket_of}
@@ -37,6 +37,13 @@ pub receiving_at : (c : Config) (first : Contents) {s : State} (h : History) (w 
     → ShowsReceiving (end_of s (receiver_side w)).receiving (receiving_view c h w)
 receiving_at c first h Up k = k.craft.receiving
 receiving_at c first h Down k = k.ground.receiving
+
+-- how many messages may be open at the sending end
+pub outgoing_at : (c : Config) (first : Contents) {s : State} (h : History) (d : Direction)
+    → Shows s (views c first h)
+    → (end_of s (sender_side d)).outgoing ≡ (limits c h (sender_side d)).outgoing
+outgoing_at c first h Up k = k.ground.outgoing
+outgoing_at c first h Down k = k.craft.outgoing
 
 -- the clock of an end is shown
 pub clock_at : (c : Config) (first : Contents) {s : State} (h : History) (side : Side)
@@ -164,7 +171,13 @@ pub with_jobs : {s : State} {v : Views} {x : Jobs} {y : JobsView}
 with_jobs k f same =
     let e = k.craft in
     with_craft k
-    (record { sending = e.sending; receiving = e.receiving; clock = e.clock; boot = e.boot })
+    (record {
+      sending = e.sending;
+      receiving = e.receiving;
+      outgoing = e.outgoing;
+      clock = e.clock;
+      boot = e.boot;
+    })
     f same
 
 -- what an end sends
@@ -176,11 +189,23 @@ pub with_sending : {s : State} {v : Views} (side : Side) {x : Sending} {y : Send
 with_sending Ground k f =
     let e = k.ground in
     with_ground k
-    (record { sending = f; receiving = e.receiving; clock = e.clock; boot = e.boot })
+    (record {
+      sending = f;
+      receiving = e.receiving;
+      outgoing = e.outgoing;
+      clock = e.clock;
+      boot = e.boot;
+    })
 with_sending Craft k f =
     let e = k.craft in
     with_craft k
-    (record { sending = f; receiving = e.receiving; clock = e.clock; boot = e.boot })
+    (record {
+      sending = f;
+      receiving = e.receiving;
+      outgoing = e.outgoing;
+      clock = e.clock;
+      boot = e.boot;
+    })
     k.jobs refl
 
 -- what an end receives
@@ -191,10 +216,22 @@ pub with_receiving : {s : State} {v : Views} (side : Side) {x : Receiving} {y : 
     (with_view v side (record (view_of v side) { receiving = y }))
 with_receiving Ground k f =
     let e = k.ground in
-    with_ground k (record { sending = e.sending; receiving = f; clock = e.clock; boot = e.boot })
+    with_ground k (record {
+      sending = e.sending;
+      receiving = f;
+      outgoing = e.outgoing;
+      clock = e.clock;
+      boot = e.boot;
+    })
 with_receiving Craft k f =
     let e = k.craft in
-    with_craft k (record { sending = e.sending; receiving = f; clock = e.clock; boot = e.boot })
+    with_craft k (record {
+      sending = e.sending;
+      receiving = f;
+      outgoing = e.outgoing;
+      clock = e.clock;
+      boot = e.boot;
+    })
     k.jobs refl
 
 -- an end's clock
@@ -206,9 +243,21 @@ pub with_clock : {s : State} {v : Views} (side : Side) {n n' : ℕ}
 with_clock Ground k f =
     let e = k.ground in
     with_ground k
-    (record { sending = e.sending; receiving = e.receiving; clock = f; boot = e.boot })
+    (record {
+      sending = e.sending;
+      receiving = e.receiving;
+      outgoing = e.outgoing;
+      clock = f;
+      boot = e.boot;
+    })
 with_clock Craft k f =
     let e = k.craft in
     with_craft k
-    (record { sending = e.sending; receiving = e.receiving; clock = f; boot = e.boot })
+    (record {
+      sending = e.sending;
+      receiving = e.receiving;
+      outgoing = e.outgoing;
+      clock = f;
+      boot = e.boot;
+    })
     k.jobs refl

@@ -1,7 +1,6 @@
 -- What shows a journal refuses, answers and goes on as the journal says.
 use Rattle.lpt_events.specs.declared.config.Config.{Config}
-use Rattle.lpt_events.specs.declared.event.Event.{Event}
-use Rattle.lpt_events.specs.declared.event.Event.TheVariants.{Open, Send, Plain, Finish, Lose, Damage, Take, Deliver, Tick, Expire, Claim, Commit, Apply, Retire, Restart}
+use Rattle.lpt_acts.specs.Acts.{Act, Open, Send, Plain, Finish, Lose, Damage, Take, Deliver, Tick, Expire, Claim, Commit, Apply, Retire, Restart}
 use Rattle.lpt_memory.specs.Memories.{Contents}
 use Rattle.lpt_journal.specs.Journal.{History}
 use Rattle.lpt_journal.specs.Jobs.{ticket}
@@ -17,7 +16,7 @@ use Rattle.lpt_refinement.proofs.Replies.{reply_shown}
 use Rattle.lpt_refinement.proofs.CommitsShown.{commit_ready}
 
 -- what the nodes ask for besides is so
-ready_shown : (c : Config) (first : Contents) (s : State) (h : History) (e : Event)
+ready_shown : (c : Config) (first : Contents) (s : State) (h : History) (e : Act)
     → Shows s (views c first h)
     → JobsFit (jobs_view c first h) (ticket c h)
     → IsReady c s e
@@ -29,8 +28,8 @@ ready_shown c first s h (Lose n) k fits = tt
 ready_shown c first s h (Damage d b) k fits = tt
 ready_shown c first s h (Take l n) k fits = tt
 ready_shown c first s h (Deliver l) k fits = tt
-ready_shown c first s h (Tick side) k fits = tt
-ready_shown c first s h (Expire side) k fits = tt
+ready_shown c first s h (Tick side turn) k fits = tt
+ready_shown c first s h (Expire side which) k fits = tt
 ready_shown c first s h (Claim w) k fits = tt
 ready_shown c first s h (Commit w) k fits = commit_ready c first s h w k fits
 ready_shown c first s h Apply k fits = apply_ready c first s h k fits

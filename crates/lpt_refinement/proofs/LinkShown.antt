@@ -10,7 +10,7 @@ use Rattle.lpt_events.specs.declared.lane.Lane.{Lane}
 use Rattle.lpt_events.specs.declared.lane.Lane.TheVariants.{S1, S2, G1, G2}
 use Rattle.lpt_link.specs.declared.packet.LinkPacket.{LinkPacket}
 use Rattle.lpt_link.specs.Links.{LinkData, hand_of, with_lost, after_put, after_lose, after_take, after_drop}
-use Rattle.lpt_events.specs.declared.event.Event.TheVariants.{Take, Deliver}
+use Rattle.lpt_acts.specs.Acts.{Take, Deliver}
 use Rattle.lpt_journal.specs.Journal.{SentPacket, with_all}
 use Rattle.lpt_journal.specs.Hands.{hand_after}
 use Rattle.lpt_refinement.specs.Shows.{ShowsLink, sent_packet}

@@ -1,5 +1,5 @@
 -- The open receptions and the receivers' marks are shown after each outcome of a part.
-use Rattle.std.proofs.Common.{◌≡◌, ◌∙◌, ap, sym, refl, ℕ, ◌==◌, nat_le, Bool, true, false, not, ◌&&◌, ◌||◌, if◌then◌else◌, Some, None, is_some}
+use Rattle.std.proofs.Common.{◌≡◌, ◌∙◌, ap, sym, refl, ℕ, ◌==◌, nat_le, Bool, true, false, not, ◌&&◌, ◌||◌, if◌then◌else◌, Some, None, is_some, ◌-◌}
 use Rattle.std.specs.List.{filter}
 use Rattle.std.specs.FinMap as maps
 use Rattle.std.specs.Cmp.{nat_cmp_total, unsigned_tied}
@@ -17,12 +17,16 @@ use Rattle.lpt_reception.specs.Received.{Parts, no_parts}
 use Rattle.lpt_table.specs.Offering.{is_full, parts_at, parts_of}
 use Rattle.lpt_table.specs.Tables.{TableEntry}
 use Rattle.lpt_journal.specs.Journal.{History}
-use Rattle.lpt_journal.specs.Receivers.{heard, has_parts, heard_names, reception_count, with_piece, kept}
+use Rattle.lpt_journal.specs.Receivers.{heard, has_parts, heard_names, reception_count, with_piece, kept, limits}
 use Rattle.lpt_journal.proofs.CountLemmas.{same_name-comm, none_open, reception_named}
 use Rattle.lpt_journal.proofs.MapLemmas.{get_insert, get_remove, len_once, some_len}
 use Rattle.lpt_packet.proofs.BoolLemmas.{not_false}
 use Rattle.lpt_refinement.specs.Shows.{ShowsReceiving, entry_of, closed_mark}
 use Rattle.lpt_refinement.specs.Views.{ReceivingView, receiving_view}
+use Rattle.lpt_events.specs.Sides.{receiver_side}
+use Rattle.lpt_table.specs.SettingBack.{earlier, set_back}
+use Rattle.lpt_table.proofs.BackLemmas.{get-set_back}
+use Rattle.std.specs.Option.{option_map}
 
 -- ---- what is kept under a name
 
@@ -57,14 +61,15 @@ parts_shown {y = y} c name k =
 pub full_shown : {x : Receiving} (c : Config) (h : History) (d : Direction) (name : Name)
     → ShowsReceiving x (receiving_view c h d)
     → is_full (table_in (receiver_of c x)) name
-    ≡ (not (has_parts (heard c h d name)) && nat_le c.receptions (reception_count c h d))
+    ≡ (not (has_parts (heard c h d name))
+    && nat_le (limits c h (receiver_side d)).receptions (reception_count c h d))
 full_shown {x = x} c h d name k =
     let there : (q : Name) → is_some (maps.get x.entries q) ≡ has_parts (heard c h d q) =
     λ q. ap is_some (k.entries q) ∙ is_some-entry_of (heard c h d q) _ in
     let count : maps.len x.entries ≡ reception_count c h d =
     len_once x.entries (filter (λ q. has_parts (heard c h d q)) (heard_names h d))
     (λ q. there q ∙ sym (reception_named c h d q)) in
-    λ i. not (there name i) && nat_le c.receptions (count i)
+    λ i. not (there name i) && nat_le (k.limit i) (count i)
 
 -- ---- a part was taken
 
@@ -100,6 +105,8 @@ taken_shown {x = x} {y = y} n s now now' parts clocks some here there k = record
       ∙ (λ i. if same_name-comm name n i then Some (record { parts = s; last = now })
       else k.entries name i)
       ∙ go name (same_name n name) refl;
+  limit = k.limit;
+  timeout = k.timeout;
 } where
   open_entry : entry_of s now' ≡ Some (record { parts = s; last = now' })
   open_entry = ap (λ t. if t then Some (record { parts = s; last = now' }) else None) some
@@ -168,6 +175,8 @@ ended_shown {x = x} {y = y} n k = record {
       get_remove x.entries n name
       ∙ (λ i. if same_name-comm name n i then None else k.entries name i)
       ∙ go name (same_name n name);
+  limit = k.limit;
+  timeout = k.timeout;
 } where
   marks : (name : Name) (t : Bool)
       → (if t then Some Shut else closed_mark (y.closed name)) ≡ closed_mark (t || y.closed name)
@@ -181,3 +190,28 @@ ended_shown {x = x} {y = y} n k = record {
       sym (ap (λ t. if t then Some (record { parts = no_parts; last = y.last name }) else None)
       none_open)
   go name false = refl
+
+-- ---- last ticks were set back
+
+earlier_shown : (s : Parts) (last ticks : ℕ)
+    → option_map (earlier ticks) (entry_of s last) ≡ entry_of s (last - ticks)
+earlier_shown s last ticks = go (has_parts s) where
+  go : (t : Bool)
+      → option_map (earlier ticks) (if t then Some (record { parts = s; last = last }) else None)
+      ≡ (if t then Some (record { parts = s; last = last - ticks }) else None)
+  go true = refl
+  go false = refl
+
+pub back_shown : {x : Receiving} {y : ReceivingView} (ticks : ℕ)
+    → ShowsReceiving x y
+    → ShowsReceiving (record x { entries = set_back ticks x.entries })
+    (record y { last = λ name. y.last name - ticks })
+back_shown {x = x} {y = y} ticks k = record {
+  ledger = k.ledger;
+  entries = λ name.
+      get-set_back ticks x.entries name
+      ∙ ap (option_map (earlier ticks)) (k.entries name)
+      ∙ earlier_shown (y.parts name) (y.last name) ticks;
+  limit = k.limit;
+  timeout = k.timeout;
+}

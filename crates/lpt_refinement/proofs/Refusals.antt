@@ -15,20 +15,19 @@ use Rattle.lpt_events.specs.Lanes.{lane_direction, same_direction}
 use Rattle.lpt_link.specs.Links.{is_held_for}
 use Rattle.lpt_events.specs.declared.config.Config.{Config}
 use Rattle.lpt_events.specs.declared.side.Side.{Side}
-use Rattle.lpt_events.specs.Sides.{direction_to}
+use Rattle.lpt_events.specs.Sides.{direction_to, sender_side}
 use Rattle.lpt_node.specs.declared.fault.NodeFault.TheVariants as node
 use Rattle.lpt_node.specs.Nodes.{Sending}
 use Rattle.lpt_events.specs.Damages.{is_damage_long, looks_whole}
 use Rattle.lpt_events.specs.Requests.{is_part_request, is_too_long}
 use Rattle.lpt_node.specs.Sending.{refusal_open_in, refusal_send_of, refusal_finish_in}
 use Rattle.lpt_node.specs.Times.{refusal_expire_of}
-use Rattle.lpt_events.specs.declared.event.Event.{Event}
-use Rattle.lpt_events.specs.declared.event.Event.TheVariants.{Open, Send, Plain, Finish, Lose, Damage, Take, Deliver, Tick, Expire, Claim, Commit, Apply, Retire, Restart}
+use Rattle.lpt_acts.specs.Acts.{Act, Open, Send, Plain, Finish, Lose, Damage, Take, Deliver, Tick, Expire, Claim, Commit, Apply, Retire, Restart, On, Back, Within}
 use Rattle.lpt_events.specs.declared.fault.StepFault.TheVariants.{InUse, Short, Long, TooMany, NotOpen, NoSuchPart, NotHeld, HandFull, HandEmpty, NothingDue, LooksWhole, ClockEnd, PartRequest}
 use Rattle.lpt_journal.specs.Journal.{History}
 use Rattle.lpt_journal.specs.Link.{sent, is_held, goes}
 use Rattle.lpt_journal.specs.Hands.{hand}
-use Rattle.lpt_journal.specs.Receivers.{clock}
+use Rattle.lpt_journal.specs.Receivers.{clock, limits, heard, has_parts}
 use Rattle.lpt_journal.specs.Due.{due}
 use Rattle.lpt_journal.specs.Refusals.{refusal, first_fault, parts_open}
 use Rattle.lpt_journal.specs.Senders.{Sender, FreeSender, OpenSender, ClosedSender, sender, is_free, is_open, open_count, opened_names}
@@ -39,8 +38,8 @@ use Rattle.lpt_refinement.specs.Shows.{Shows, ShowsSending, mark_of, message_of,
 use Rattle.lpt_refinement.specs.Views.{views, sending_view}
 use Rattle.lpt_journal.proofs.MapLemmas.{len_once}
 use Rattle.lpt_journal.proofs.CountLemmas.{open_named}
-use Rattle.lpt_refinement.proofs.DueShown.{due_shown}
-use Rattle.lpt_refinement.proofs.Fields.{sending_at, clock_at}
+use Rattle.lpt_refinement.proofs.DueShown.{due_shown, open_at}
+use Rattle.lpt_refinement.proofs.Fields.{sending_at, clock_at, outgoing_at}
 use Rattle.lpt_refinement.proofs.FrontShown.{apply_refused}
 use Rattle.lpt_refinement.proofs.ClaimsShown.{claim_refused}
 use Rattle.lpt_refinement.proofs.CommitsShown.{commit_refused}
@@ -61,17 +60,17 @@ by_lengths false true many = refl
 by_lengths false false true = refl
 by_lengths false false false = refl
 
-refuses_open : (c : Config) (x : Sender) (n len : ℕ)
-    → option_map node_fault (refusal_open_in c (state_of (mark_of x)) n len)
+refuses_open : (c : Config) (limit : ℕ) (x : Sender) (n len : ℕ)
+    → option_map node_fault (refusal_open_in c limit (state_of (mark_of x)) n len)
     ≡ first_fault
     ((not (is_free x), InUse)
     ∷ (nat_le len c.part_size, Short)
     ∷ (nat_lt 65542 len, Long)
-    ∷ (nat_le c.outgoing n, TooMany) ∷ [])
-refuses_open c FreeSender n len =
-    by_lengths (nat_le len c.part_size) (nat_lt 65542 len) (nat_le c.outgoing n)
-refuses_open c (OpenSender m) n len = refl
-refuses_open c ClosedSender n len = refl
+    ∷ (nat_le limit n, TooMany) ∷ [])
+refuses_open c limit FreeSender n len =
+    by_lengths (nat_le len c.part_size) (nat_lt 65542 len) (nat_le limit n)
+refuses_open c limit (OpenSender m) n len = refl
+refuses_open c limit ClosedSender n len = refl
 
 is_some-message : (x : Sender) → is_some (message_of x) ≡ is_open x
 is_some-message FreeSender = refl
@@ -183,18 +182,26 @@ by_due : (o : Option Name)
 by_due None = refl
 by_due (Some name) = refl
 
+by_open : (name : Name) (b : Bool)
+    → option_map node_fault (if b then None else Some node.NotOpen)
+    ≡ first_fault ((not (is_some (if b then Some name else None)), NotOpen) ∷ [])
+by_open name true = refl
+by_open name false = refl
+
 -- ---- all events
 
 -- what is refused is what the journal refuses, for the same reason
-pub refusal_shown : (c : Config) (first : Contents) (s : State) (h : History) (e : Event)
+pub refusal_shown : (c : Config) (first : Contents) (s : State) (h : History) (e : Act)
     → Shows s (views c first h)
     → Fits c first h
     → refusal_of c s e ≡ refusal c h e
 refusal_shown c first s h (Open d name m) k fits =
     let own = sending_at c first h d k in
     (λ i. option_map node_fault
-    (refusal_open_in c (state_of (own.ledger name i)) (open_as_many h d own i) (length m)))
-    ∙ refuses_open c (sender h d name) (open_count h d) (length m)
+    (refusal_open_in c (outgoing_at c first h d k i) (state_of (own.ledger name i))
+    (open_as_many h d own i) (length m)))
+    ∙ refuses_open c (limits c h (sender_side d)).outgoing (sender h d name) (open_count h d)
+    (length m)
 refusal_shown c first s h (Send d name n) k fits =
     ap (λ o. option_map node_fault (refusal_send_of c n o))
     ((sending_at c first h d k).messages name)
@@ -220,11 +227,17 @@ refusal_shown c first s h (Deliver l) k fits =
     ap (λ o. option_map link_fault (if is_some o then None else Some link.HandEmpty))
     (k.link.hands l)
     ∙ by_empty_hand (is_some (hand h l))
-refusal_shown c first s h (Tick side) k fits =
+refusal_shown c first s h (Tick side (Back n)) k fits = refl
+refusal_shown c first s h (Tick side (Within l)) k fits = refl
+refusal_shown c first s h (Tick side On) k fits =
     ap (λ n. option_map node_fault (if n == 4294967295 then Some node.ClockEnd else None))
     (clock_at c first h side k)
     ∙ by_clock (clock c h side == 4294967295)
-refusal_shown c first s h (Expire side) k fits =
+refusal_shown c first s h (Expire side (Some name)) k fits =
+    ap (λ b. option_map node_fault (if b then None else Some node.NotOpen))
+    (open_at c first s h side name k)
+    ∙ by_open name (has_parts (heard c h (direction_to side) name))
+refusal_shown c first s h (Expire side None) k fits =
     ap (λ o. option_map node_fault (refusal_expire_of o)) (due_shown c first s h side k)
     ∙ by_due (due c h (direction_to side))
 refusal_shown c first s h (Claim w) k fits = claim_refused c first s h w k fits.jobs

@@ -1,5 +1,5 @@
 -- An event that isn't refused is answered as the journal says.
-use Rattle.std.proofs.Common.{◌≡◌, ◌∙◌, ap, refl, ℕ, ◌+◌, Bool, true, false, List, length, Option, Some, None, nat_le, not, ◌&&◌, is_some}
+use Rattle.std.proofs.Common.{◌≡◌, ◌∙◌, ap, refl, ℕ, ◌+◌, Bool, true, false, List, length, Option, Some, None, nat_le, not, ◌&&◌, is_some, ◌-◌}
 use Rattle.std.specs.FinMap as maps
 use Rattle.lpt_packet.specs.declared.direction.Direction.{Direction}
 use Rattle.lpt_packet.specs.Names.{Name}
@@ -10,8 +10,7 @@ use Rattle.lpt_node.specs.declared.accepted.Accepted.{Accepted}
 use Rattle.lpt_events.specs.declared.config.Config.{Config}
 use Rattle.lpt_events.specs.declared.side.Side.{Side}
 use Rattle.lpt_events.specs.declared.side.Side.TheVariants.{Ground, Craft}
-use Rattle.lpt_events.specs.declared.event.Event.{Event}
-use Rattle.lpt_events.specs.declared.event.Event.TheVariants.{Open, Send, Plain, Finish, Lose, Damage, Take, Deliver, Tick, Expire, Claim, Commit, Apply, Retire, Restart}
+use Rattle.lpt_acts.specs.Acts.{Act, Open, Send, Plain, Finish, Lose, Damage, Take, Deliver, Tick, Expire, Claim, Commit, Apply, Retire, Restart, On, Back, Within}
 use Rattle.lpt_events.specs.declared.fault.StepFault.TheVariants.{NotOpen, NoSuchPart}
 use Rattle.lpt_events.specs.declared.outcome.Outcome.{Outcome}
 use Rattle.lpt_events.specs.declared.outcome.Outcome.TheVariants.{Broken}
@@ -29,12 +28,12 @@ use Rattle.lpt_node.specs.Times.{expired_of}
 use Rattle.lpt_reception.specs.Received.{Parts, contradicts, is_gap, is_whole, spelled}
 use Rattle.lpt_table.specs.Offering.{is_open as is_there}
 use Rattle.lpt_journal.specs.Delivery.{judged, outcome}
-use Rattle.lpt_journal.specs.Due.{due}
+use Rattle.lpt_journal.specs.Due.{given_up}
 use Rattle.lpt_journal.specs.Jobs.{ticket}
 use Rattle.lpt_journal.specs.Journal.{History, SentPacket}
 use Rattle.lpt_journal.specs.Link.{sent}
 use Rattle.lpt_journal.specs.Hands.{in_hand}
-use Rattle.lpt_journal.specs.Receivers.{kept, with_piece, heard, has_parts, is_closed, reception_count}
+use Rattle.lpt_journal.specs.Receivers.{kept, with_piece, heard, has_parts, is_closed, reception_count, limits}
 use Rattle.lpt_journal.specs.Replies.{expired_now, abort_puts, expiry_puts, outcome_puts, send_puts, told, reply}
 use Rattle.lpt_journal.specs.Refusals.{refusal}
 use Rattle.lpt_journal.specs.Senders.{Sender, FreeSender, OpenSender, ClosedSender, sender, is_open}
@@ -45,7 +44,7 @@ use Rattle.lpt_refinement.specs.Shows.{Shows, ShowsReceiving, JobsFit}
 use Rattle.lpt_model.specs.State.{State, after, end_of, as_list, put_some, expired_on, quiet, put_one}
 use Rattle.lpt_refinement.specs.Views.{views, jobs_view, receiving_view}
 use Rattle.lpt_refinement.proofs.ArrivalsAgree.{delivery, part_agrees, arrival_agrees}
-use Rattle.lpt_refinement.proofs.DueShown.{due_shown}
+use Rattle.lpt_refinement.proofs.DueShown.{which_shown}
 use Rattle.lpt_refinement.proofs.ExecutedShown.{executed_answer}
 use Rattle.lpt_refinement.proofs.ClaimsShown.{claimed_answer}
 use Rattle.lpt_refinement.proofs.CommitsShown.{committed_answer}
@@ -117,7 +116,8 @@ reply_delivered c h w d n own (APart q) =
     let s = heard c h w q.name in
     ap (reply_to n) (part_agrees c h w d q own)
     ∙ told_part c h (receiver_side w) n d (receiver_of c d.receiving) q s (with_piece s q)
-    (is_closed h w q.name) (not (has_parts s) && nat_le c.receptions (reception_count c h w))
+    (is_closed h w q.name)
+    (not (has_parts s) && nat_le (limits c h (receiver_side w)).receptions (reception_count c h w))
     (contradicts s q.number (kept q)) (is_some (maps.get s q.number))
     (is_gap c.mode s q.number) (is_there (table_in (receiver_of c d.receiving)) q.name)
     (is_whole (with_piece s q))
@@ -135,7 +135,7 @@ reply_expired c h side d n (Some name) =
 
 -- ---- all events
 
-pub reply_shown : (c : Config) (first : Contents) (s : State) (h : History) (e : Event)
+pub reply_shown : (c : Config) (first : Contents) (s : State) (h : History) (e : Act)
     → Shows s (views c first h)
     → JobsFit (jobs_view c first h) (ticket c h)
     → refusal c h e ≡ None
@@ -152,14 +152,20 @@ reply_shown c first s h (Lose n) k fits e = refl
 reply_shown c first s h (Damage d b) k fits e =
     ap (λ j. put_one j (Put j)) (as_many_packets k.link)
 reply_shown c first s h (Take l n) k fits e = refl
-reply_shown c first s h (Tick side) k fits e =
+reply_shown c first s h (Tick side (Back n)) k fits e =
+    ap (λ m. quiet (Clock (m - n))) (clock_at c first h side k)
+reply_shown c first s h (Tick side (Within l)) k fits e =
+    ap (λ m. quiet (Clock m)) (clock_at c first h side k)
+reply_shown c first s h (Tick side On) k fits e =
     ap (λ n. quiet (Clock (n + 1))) (clock_at c first h side k)
-reply_shown c first s h (Expire side) k fits e =
+reply_shown c first s h (Expire side which) k fits e =
     ap (λ (o : Option Name). (expired_on s side (expired_of side c (end_of s side) o)).1)
-    (due_shown c first s h side k)
-    ∙ reply_expired c h side (end_of s side) (length s.link.packets) (due c h (direction_to side))
-    ∙ ap (λ (n : ℕ). reply_with n (expired_now (direction_to side) (due c h (direction_to side)))
-    (expiry_puts c h side (due c h (direction_to side)))) (as_many_packets k.link)
+    (which_shown c first s h side which k)
+    ∙ reply_expired c h side (end_of s side) (length s.link.packets)
+    (given_up c h (direction_to side) which)
+    ∙ ap (λ (n : ℕ). reply_with n
+    (expired_now (direction_to side) (given_up c h (direction_to side) which))
+    (expiry_puts c h side (given_up c h (direction_to side) which))) (as_many_packets k.link)
 reply_shown c first s h (Deliver l) k fits e =
     let w = lane_direction l in
     let side = receiver_side w in

@@ -9,14 +9,14 @@ use Rattle.lpt_memory.specs.Memories.{Contents}
 use Rattle.lpt_ledger.specs.States.{state_of}
 use Rattle.lpt_events.specs.declared.config.Config.{Config}
 use Rattle.lpt_events.specs.declared.entry.Opening.{Opening}
-use Rattle.lpt_events.specs.declared.event.Event.TheVariants.{Retire}
+use Rattle.lpt_acts.specs.Acts.{Retire}
 use Rattle.lpt_events.specs.declared.fault.StepFault.TheVariants.{NotOpen, StillOpen, NotClear}
 use Rattle.lpt_events.specs.declared.side.Side.{Side}
 use Rattle.lpt_events.specs.declared.side.Side.TheVariants.{Ground, Craft}
 use Rattle.lpt_node.specs.Nodes.{Sending, Receiving}
 use Rattle.lpt_journal.specs.Clear.{part_held, part_in_hand}
 use Rattle.lpt_journal.specs.Journal.{History}
-use Rattle.lpt_journal.specs.Receivers.{heard, has_parts, is_closed, last_tick}
+use Rattle.lpt_journal.specs.Receivers.{heard, has_parts, is_closed, last_tick, limits}
 use Rattle.lpt_journal.specs.Refusals.{refusal, first_fault}
 use Rattle.lpt_journal.specs.Replies.{entry}
 use Rattle.lpt_journal.specs.Senders.{Sender, FreeSender, OpenSender, ClosedSender, sender, sender_of, is_free, is_open, current, is_over, made}
@@ -29,6 +29,7 @@ use Rattle.lpt_model.specs.State.{State, refusal_of, refusal_retire_by, after_re
 use Rattle.lpt_refinement.specs.Views.{SendingView, ReceivingView, views, sending_view, receiving_view}
 use Rattle.lpt_refinement.proofs.ClearShown.{holds_shown, reception_shown}
 use Rattle.lpt_refinement.proofs.Fields.{sending_at, with_sending, with_receiving}
+use Rattle.lpt_events.specs.Sides.{receiver_side}
 
 -- ---- refusal
 
@@ -72,6 +73,8 @@ forgotten_view c h d name = record {
   parts = heard c h d;
   closed = λ q. not (same_name name q) && is_closed h d q;
   last = last_tick c h d;
+  limit = (limits c h (receiver_side d)).receptions;
+  timeout = (limits c h (receiver_side d)).timeout;
 }
 
 mark_freed : (t : Bool) (o : Option Opening) (over : Bool)
@@ -123,6 +126,8 @@ forgotten_shown {x = x} c h d name k = record {
       ∙ (λ i. if same_name-comm q name i then None else k.ledger q i)
       ∙ mark_forgotten (same_name name q) (is_closed h d q);
   entries = k.entries;
+  limit = k.limit;
+  timeout = k.timeout;
 }
 
 pub retired_shown : (c : Config) (first : Contents) (s : State) (h : History) (d : Direction) (name : Name)

@@ -8,7 +8,7 @@ use Rattle.lpt_part.specs.declared.kind.Kind.TheVariants.{First, Middle, Last}
 use Rattle.lpt_part.specs.Parts.{Piece, body_of}
 use Rattle.lpt_part.specs.Splitting.{part_count, kind_at}
 use Rattle.lpt_events.specs.declared.config.Config.{Config}
-use Rattle.lpt_events.specs.declared.event.Event.TheVariants.{Send}
+use Rattle.lpt_acts.specs.Acts.{Send}
 use Rattle.lpt_events.specs.declared.reply.Answer.TheVariants.{Put}
 use Rattle.lpt_events.specs.declared.reply.Puts.{Puts}
 use Rattle.lpt_events.specs.declared.side.Side.TheVariants.{Ground, Craft}

@@ -2,7 +2,7 @@
 use Rattle.std.specs.Prelude.{◌≡◌, [], ◌∷◌, length, map, None}
 use Rattle.lpt_events.specs.Arrivals.{part_name}
 use Rattle.lpt_events.specs.declared.config.Config.{Config}
-use Rattle.lpt_events.specs.declared.event.Event.{Event}
+use Rattle.lpt_acts.specs.Acts.{Act}
 use Rattle.lpt_events.specs.Configs.{IsConfig}
 use Rattle.lpt_memory.specs.Memories.{Contents}
 use Rattle.lpt_journal.specs.Hands.{arrival_of}
@@ -26,7 +26,7 @@ pub record Fits (c : Config) (first : Contents) (h : History) : Type 0 where
 
 -- an event that isn't refused can be done, is answered as the journal says, and the longer journal
 -- is shown
-pub record GoesOn (c : Config) (first : Contents) (s : State) (h : History) (e : Event)
+pub record GoesOn (c : Config) (first : Contents) (s : State) (h : History) (e : Act)
     : Type 0 where
   pub ready : IsReady c s e
   pub answered : (after c (length h) s e).1 ≡ reply c first h e
@@ -36,11 +36,11 @@ pub record GoesOn (c : Config) (first : Contents) (s : State) (h : History) (e :
 -- the journal refuses, and goes on with it
 pub record FollowsJournal : Type 0 where
   pub begins : (c : Config) (first : Contents) → Shows (no_state c first) (views c first [])
-  pub refuses : (c : Config) (first : Contents) (s : State) (h : History) (e : Event)
+  pub refuses : (c : Config) (first : Contents) (s : State) (h : History) (e : Act)
       → Shows s (views c first h)
       → Fits c first h
       → refusal_of c s e ≡ refusal c h e
-  pub goes_on : (c : Config) (first : Contents) (s : State) (h : History) (e : Event)
+  pub goes_on : (c : Config) (first : Contents) (s : State) (h : History) (e : Act)
       → IsConfig c
       → Shows s (views c first h)
       → Fits c first h

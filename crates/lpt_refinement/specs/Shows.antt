@@ -78,10 +78,13 @@ pub record ShowsSending (side : Side) (x : Sending) (y : SendingView) : Type 0 w
 pub record ShowsReceiving (x : Receiving) (y : ReceivingView) : Type 0 where
   pub ledger : (name : Name) → maps.get x.ledger name ≡ closed_mark (y.closed name)
   pub entries : (name : Name) → maps.get x.entries name ≡ entry_of (y.parts name) (y.last name)
+  pub limit : x.limit ≡ y.limit
+  pub timeout : x.timeout ≡ y.timeout
 
 pub record ShowsEnd (side : Side) (d : NodeData) (y : EndView) : Type 0 where
   pub sending : ShowsSending side d.sending y.sending
   pub receiving : ShowsReceiving d.receiving y.receiving
+  pub outgoing : d.outgoing ≡ y.outgoing
   pub clock : d.clock ≡ y.clock
   pub boot : d.boot ≡ y.boot
 

@@ -18,7 +18,8 @@ use Rattle.lpt_journal.specs.Jobs.{boot, jobs, claimed, applied, ticket, is_comm
 use Rattle.lpt_journal.specs.Journal.{SentPacket, History}
 use Rattle.lpt_journal.specs.Link.{sent, tags, is_lost}
 use Rattle.lpt_journal.specs.Hands.{hand}
-use Rattle.lpt_journal.specs.Receivers.{heard, is_closed, last_tick, clock}
+use Rattle.lpt_events.specs.Sides.{receiver_side}
+use Rattle.lpt_journal.specs.Receivers.{heard, is_closed, last_tick, clock, limits}
 use Rattle.lpt_journal.specs.Releases.{releases}
 use Rattle.lpt_journal.specs.Senders.{Sender, sender, made, opened}
 
@@ -29,16 +30,21 @@ pub record SendingView : Type 0 where
   pub senders : Name → Sender
   pub made : List (List ℕ)
 
--- of each transaction that an end receives: the kept parts, whether it is closed, the last tick
+-- of each transaction that an end receives: the kept parts, whether it is closed, the last tick;
+-- how many receptions may be open, and the timeout
 pub record ReceivingView : Type 0 where
   pub parts : Name → Parts
   pub closed : Name → Bool
   pub last : Name → ℕ
+  pub limit : ℕ
+  pub timeout : ℕ
 
--- one end; its clock is in ticks, and its boot says how many times it was restarted
+-- one end; so many messages may be open to be sent; its clock is in ticks, and its boot says how
+-- many times it was restarted
 pub record EndView : Type 0 where
   pub sending : SendingView
   pub receiving : ReceivingView
+  pub outgoing : ℕ
   pub clock : ℕ
   pub boot : ℕ
 
@@ -79,8 +85,13 @@ sending_view h d = record { senders = sender h d; made = made h d }
 
 -- what is received in a direction
 abbrev pub receiving_view : Config → History → Direction → ReceivingView
-receiving_view c h d =
-    record { parts = heard c h d; closed = is_closed h d; last = last_tick c h d }
+receiving_view c h d = record {
+  parts = heard c h d;
+  closed = is_closed h d;
+  last = last_tick c h d;
+  limit = (limits c h (receiver_side d)).receptions;
+  timeout = (limits c h (receiver_side d)).timeout;
+}
 
 -- the jobs
 abbrev pub jobs_view : Config → Contents → History → JobsView
@@ -100,12 +111,14 @@ views c first h = record {
   ground = record {
     sending = sending_view h Up;
     receiving = receiving_view c h Down;
+    outgoing = (limits c h Ground).outgoing;
     clock = clock c h Ground;
     boot = boot h Ground;
   };
   craft = record {
     sending = sending_view h Down;
     receiving = receiving_view c h Up;
+    outgoing = (limits c h Craft).outgoing;
     clock = clock c h Craft;
     boot = boot h Craft;
   };
