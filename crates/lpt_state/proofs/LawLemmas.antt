@@ -15,21 +15,23 @@ use Rattle.lpt_ledger.proofs.AscendLemmas.{runs_ascend, runs_of-closed_by}
 use Rattle.lpt_ledger.proofs.ClosingLemmas.{get-all_closed}
 use Rattle.lpt_ledger.proofs.RunsLemmas.{closed_by-runs_of, few_runs, get-shut_names}
 use Rattle.lpt_node.specs.Nodes.{NodeData, NodeView, is_open}
-use Rattle.lpt_node.specs.Restarts.{restarted, resumed, NoneOpen}
+use Rattle.lpt_node.specs.Restarts.{restarted, resumed, NoneOpen, node_within, limits_at}
 use Rattle.lpt_packet.proofs.BoolLemmas.{and_both, and_left, and_right}
 use Rattle.lpt_packet.proofs.Bursts.{burst_shows, sealed_is_zero}
 use Rattle.lpt_packet.proofs.NameLemmas.{name_cmp_total, name_cmp-IsAntisymmetric}
 use Rattle.lpt_packet.specs.Names.{Name, name_cmp}
 use Rattle.lpt_packet.specs.Bursts.{DifferInBurst}
 use Rattle.lpt_packet.specs.Checksums.{checksum}
-use Rattle.lpt_packet.specs.Numbers.{IsOctets}
+use Rattle.lpt_packet.specs.Numbers.{IsOctets, be}
+use Rattle.lpt_packet.specs.Packets.{sealed}
 use Rattle.lpt_state.specs.declared.fault.StateFault.{StateFault}
-use Rattle.lpt_state.specs.Lastings.{after, lasting_of, names_used, restarted_node, IsEnd, Lasting}
-use Rattle.lpt_state.specs.Spellings.{front, length_with, spelled, spelling}
+use Rattle.lpt_state.specs.Lastings.{after, lasting_of, names_used, restarted_node, IsEnd, Lasting, IsBoundAlike, restarted_as}
+use Rattle.lpt_state.specs.Spellings.{front, length_with, spelled, spelling, config_octets, mode_octet, tag, version, side_octet, number_octets, runs_octets}
 use Rattle.lpt_state.specs.Verdicts.{end_after, lasting_at, reading, received_count, sent_count, told, verdict}
 use Rattle.lpt_state.proofs.NumberLemmas.{great_before}
 use Rattle.lpt_state.proofs.ReadingLemmas.{passed, spelled_again, Passed}
 use Rattle.lpt_state.proofs.SpellingLemmas.{length-spelling, written_again}
+use Rattle.lpt_acts.specs.Acts.{Limits, limits_of}
 
 -- ---- ledgers in which none is open
 
@@ -57,29 +59,58 @@ none_open rs q =
 
 -- ---- what is written is read
 
--- what is made of what outlasts is what a restart leaves
-after-lasting_of : (d : NodeData) → NoneOpen d.receiving.ledger → after (lasting_of d) ≡ restarted d
-after-lasting_of d none = λ i. resumed (d.boot + 1) d.clock
+-- what is made of what outlasts is what a restart leaves within these limits
+after-lasting_of : (l : Limits) (d : NodeData)
+    → NoneOpen d.receiving.ledger
+    → after l (lasting_of d) ≡ node_within l (restarted d)
+after-lasting_of l d none = λ i. resumed l (d.boot + 1) d.clock
     (closed_by-runs_of d.sending.ledger i)
     ((closed_by-runs_of d.receiving.ledger ∙ all_closed-same d.receiving.ledger none) i)
 
-made : (v : NodeView) (d e : NodeData)
+made : (side : Side) (c : Config) (d e : NodeData)
     → d ≡ e
     → ◌≡◌ {A = Result NodeView StateFault}
-    (Ok (record { side = v.side; config = v.config; at = d }))
-    (Ok (record { side = v.side; config = v.config; at = e }))
-made v d e same = λ i. Ok (record { side = v.side; config = v.config; at = same i })
+    (Ok (record { side = side; config = c; at = d }))
+    (Ok (record { side = side; config = c; at = e }))
+made side c d e same = λ i. Ok (record { side = side; config = c; at = same i })
+
+-- configurations that bind alike have one spelling
+spelling-alike : (side : Side) (c d : Config) (s : Lasting)
+    → IsBoundAlike c d
+    → spelling side c s ≡ spelling side d s
+unfolding spelling
+spelling-alike side c d s k =
+    let octets : config_octets c ≡ config_octets d =
+    λ i. be (k.apid i) 2 ++ be (k.source i) 2 ++ be (k.part_size i) 4 ++ mode_octet (k.mode i) ∷ []
+    in
+    ap (λ os. sealed (tag ++ version ∷ side_octet side ∷ [] ++ os
+    ++ number_octets s.boot s.clock (length s.sent) (length s.received)
+    ++ runs_octets s.sent ++ runs_octets s.received)) octets
+
+pub written_is_read_as : (v : NodeView) (c : Config)
+    → IsEnd v
+    → v.at.boot + 1 < 2 ^ 64
+    → IsBoundAlike v.config c
+    → reading v.side c (spelled v) ≡ Ok (restarted_as c v)
+written_is_read_as v c is next alike =
+    let s : Lasting = lasting_of v.at in
+    let ascends = and_both (ascend s.sent) (ascend s.received) (runs_ascend v.at.sending.ledger)
+    (runs_ascend v.at.receiving.ledger) in
+    ap (reading v.side c) (spelling-alike v.side v.config c s alike)
+    ∙ ap (told v.side c) (written_again v.side c s is.fits next ascends)
+    ∙ made v.side c (after (limits_of c) s) (node_within (limits_of c) (restarted v.at))
+    (after-lasting_of (limits_of c) v.at is.none_open)
 
 pub written_is_read : (v : NodeView)
     → IsEnd v
     → v.at.boot + 1 < 2 ^ 64
     → reading v.side v.config (spelled v) ≡ Ok (restarted_node v)
 written_is_read v is next =
-    let s : Lasting = lasting_of v.at in
-    let ascends = and_both (ascend s.sent) (ascend s.received) (runs_ascend v.at.sending.ledger)
-    (runs_ascend v.at.receiving.ledger) in
-    ap (told v.side v.config) (written_again v.side v.config s is.fits next ascends)
-    ∙ made v (after s) (restarted v.at) (after-lasting_of v.at is.none_open)
+    let alike : IsBoundAlike v.config v.config =
+    record { apid = refl; source = refl; part_size = refl; mode = refl } in
+    written_is_read_as v v.config is next alike
+    ∙ made v.side v.config (node_within (limits_of v.config) (restarted v.at)) (restarted v.at)
+    (ap (λ (l : Limits). node_within l (restarted v.at)) (sym is.own_limits))
 
 -- ---- one spelling
 
@@ -148,9 +179,9 @@ no_prefix side other c d a rest v w h k =
     let f : Passed side c a x.0 = passed side c a x.0 x.1 in
     let g : Passed other d (a ++ rest) y.0 = passed other d (a ++ rest) y.0 y.1 in
     let sent : sent_count (a ++ rest)
-    ≡ sent_count a = great_before a rest 39 (omega (arith, f.long)) in
+    ≡ sent_count a = great_before a rest 27 (omega (arith, f.long)) in
     let received : received_count (a ++ rest)
-    ≡ received_count a = great_before a rest 47 (omega (arith, f.long)) in
+    ≡ received_count a = great_before a rest 35 (omega (arith, f.long)) in
     let sizes : length (a ++ rest) ≡ length a + length rest = length-append a rest in
     empty_of_length rest (omega (arith, f.whole, g.whole, sent, received, sizes))
 

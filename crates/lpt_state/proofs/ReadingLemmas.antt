@@ -58,7 +58,7 @@ passed side c b s h =
     let a5 = guard (get_or b 5 0 == side_octet side) _ _ s a4.1 in
     let a6 = guard (stands_at b 6 (config_octets c)) _ _ s a5.1 in
     let a7 = guard (is_sealed b) _ _ s a6.1 in
-    let a8 = guard_not (great_at b 27 == last_boot) _ _ s a7.1 in
+    let a8 = guard_not (great_at b 15 == last_boot) _ _ s a7.1 in
     let a9 = guard (both_ascend (lasting_at b)) _ _ s a8.1 in
     let is : lasting_at b ≡ s = ok_same (lasting_at b) s a9.1 in record {
       long = not_lt (length b) around a1.0;
@@ -78,7 +78,7 @@ module _ (side : Side) (c : Config) (b : List ℕ) (s : Lasting) (p : Passed sid
     (o : IsOctets b) where
   length-part : length (runs_part b) ≡ 6 * (sent_count b + received_count b)
   length-part =
-      omega (arith, p.whole, length-take (length b - around) (drop 55 b), length-drop 55 b)
+      omega (arith, p.whole, length-take (length b - around) (drop 43 b), length-drop 43 b)
 
   -- the runs of each direction
   sent_part : (runs_octets (lasting_at b).sent ≡ take (6 * sent_count b) (runs_part b))
@@ -87,7 +87,7 @@ module _ (side : Side) (c : Config) (b : List ℕ) (s : Lasting) (p : Passed sid
       sixes_again (take (6 * sent_count b) (runs_part b)) (sent_count b)
       (omega (arith, length-part, length-take (6 * sent_count b) (runs_part b)))
       (IsOctets-take (6 * sent_count b) (runs_part b)
-      (IsOctets-take (length b - around) (drop 55 b) (IsOctets-drop 55 b o)))
+      (IsOctets-take (length b - around) (drop 43 b) (IsOctets-drop 43 b o)))
 
   received_part : (runs_octets (lasting_at b).received ≡ drop (6 * sent_count b) (runs_part b))
       × (length (lasting_at b).received ≡ received_count b)
@@ -95,31 +95,31 @@ module _ (side : Side) (c : Config) (b : List ℕ) (s : Lasting) (p : Passed sid
       sixes_again (drop (6 * sent_count b) (runs_part b)) (received_count b)
       (omega (arith, length-part, length-drop (6 * sent_count b) (runs_part b)))
       (IsOctets-drop (6 * sent_count b) (runs_part b)
-      (IsOctets-take (length b - around) (drop 55 b) (IsOctets-drop 55 b o)))
+      (IsOctets-take (length b - around) (drop 43 b) (IsOctets-drop 43 b o)))
 
   both : runs_part b ≡ runs_of_both (lasting_at b)
   both =
       sym (take-append-drop (6 * sent_count b) (runs_part b))
       ∙ (λ i. sym sent_part.0 i ++ sym received_part.0 i)
 
-  from_55 : drop 55 b ≡ runs_of_both (lasting_at b) ++ drop (length b - 2) b
-  from_55 =
-      let end : 55 + (length b - around) ≡ length b - 2 = omega (arith, p.long) in
-      sym (take-append-drop (length b - around) (drop 55 b))
-      ∙ (λ i. both i ++ drop (length b - around) (drop 55 b))
+  from_43 : drop 43 b ≡ runs_of_both (lasting_at b) ++ drop (length b - 2) b
+  from_43 =
+      let end : 43 + (length b - around) ≡ length b - 2 = omega (arith, p.long) in
+      sym (take-append-drop (length b - around) (drop 43 b))
+      ∙ (λ i. both i ++ drop (length b - around) (drop 43 b))
       ∙ ap (λ (t : List ℕ). runs_of_both (lasting_at b) ++ t)
-      (drop-drop (length b - around) 55 b ∙ ap (λ (n : ℕ). drop n b) end)
+      (drop-drop (length b - around) 43 b ∙ ap (λ (n : ℕ). drop n b) end)
 
-  from_27 : drop 27 b
-      ≡ be (great_at b 27) 8 ++ (be (long_at b 35) 4
+  from_15 : drop 15 b
+      ≡ be (great_at b 15) 8 ++ (be (long_at b 23) 4
       ++ (be (sent_count b) 8 ++ (be (received_count b) 8
       ++ (runs_of_both (lasting_at b) ++ drop (length b - 2) b))))
-  from_27 =
-      great_cells b 27 (omega (arith, p.long)) o
-      ∙ ap (λ (t : List ℕ). be (great_at b 27) 8 ++ t) (long_cells b 35 (omega (arith, p.long)) o
-      ∙ ap (λ (t : List ℕ). be (long_at b 35) 4 ++ t) (great_cells b 39 (omega (arith, p.long)) o
-      ∙ ap (λ (t : List ℕ). be (sent_count b) 8 ++ t) (great_cells b 47 (omega (arith, p.long)) o
-      ∙ ap (λ (t : List ℕ). be (received_count b) 8 ++ t) from_55)))
+  from_15 =
+      great_cells b 15 (omega (arith, p.long)) o
+      ∙ ap (λ (t : List ℕ). be (great_at b 15) 8 ++ t) (long_cells b 23 (omega (arith, p.long)) o
+      ∙ ap (λ (t : List ℕ). be (long_at b 23) 4 ++ t) (great_cells b 27 (omega (arith, p.long)) o
+      ∙ ap (λ (t : List ℕ). be (sent_count b) 8 ++ t) (great_cells b 35 (omega (arith, p.long)) o
+      ∙ ap (λ (t : List ℕ). be (received_count b) 8 ++ t) from_43)))
 
   -- so they are its front, with octets behind
   in_parts : b ≡ front side c (lasting_at b) ++ drop (length b - 2) b
@@ -130,9 +130,9 @@ module _ (side : Side) (c : Config) (b : List ℕ) (s : Lasting) (p : Passed sid
       i))
       ∙ ap (λ (t : List ℕ). tag ++ version ∷ side_octet side ∷ t)
       (held b 6 (config_octets c) p.configured
-      ∙ ap (λ (t : List ℕ). config_octets c ++ t) from_27)
+      ∙ ap (λ (t : List ℕ). config_octets c ++ t) from_15)
       ∙ (λ i. tag ++ version ∷ side_octet side
-      ∷ (config_octets c ++ (be (great_at b 27) 8 ++ (be (long_at b 35) 4
+      ∷ (config_octets c ++ (be (great_at b 15) 8 ++ (be (long_at b 23) 4
       ++ (be (sym sent_part.1 i) 8 ++
       (be (sym received_part.1 i) 8 ++
       (runs_of_both (lasting_at b) ++ drop (length b - 2) b)))))))

@@ -33,7 +33,7 @@ length-both s =
     )
 
 pub length-front : (side : Side) (c : Config) (s : Lasting)
-    → length (front side c s) ≡ 55 + 6 * (length s.sent + length s.received)
+    → length (front side c s) ≡ 43 + 6 * (length s.sent + length s.received)
 length-front side c s = omega (arith, length-both s)
 
 pub length-spelling : (side : Side) (c : Config) (s : Lasting)
@@ -50,11 +50,11 @@ length-spelling side c s =
 -- ---- the fields at their places
 
 module _ (side : Side) (c : Config) (s : Lasting) (fits : Fits s) where
-  boot_back : great_at (spelling side c s) 27 ≡ s.boot
+  boot_back : great_at (spelling side c s) 15 ≡ s.boot
   unfolding spelling
   boot_back = great_back s.boot fits.boot_fits
 
-  clock_back : long_at (spelling side c s) 35 ≡ s.clock
+  clock_back : long_at (spelling side c s) 23 ≡ s.clock
   unfolding spelling
   clock_back = long_back s.clock [] fits.clock_fits
 
@@ -138,7 +138,7 @@ pub verdict_is : (side : Side) (c : Config) (b : List ℕ)
     → verdict side c b
     ≡ chain (nat_lt (length b) around) (stands_at b 0 tag) (get_or b 4 0 == version)
     (length b == length_with (sent_count b + received_count b)) (get_or b 5 0 == side_octet side)
-    (stands_at b 6 (config_octets c)) (is_sealed b) (great_at b 27 == last_boot)
+    (stands_at b 6 (config_octets c)) (is_sealed b) (great_at b 15 == last_boot)
     (both_ascend (lasting_at b)) (lasting_at b)
 unfolding verdict
 verdict_is side c b = refl
@@ -163,7 +163,7 @@ written_again side c s fits next ascends =
     let sided : (get_or b 5 0 == side_octet side) ≡ true =
     eq_true (get_or b 5 0) (side_octet side) refl in
     let configured : stands_at b 6 (config_octets c) ≡ true = same_octets-refl (config_octets c) in
-    let followed : (great_at b 27 == last_boot) ≡ false =
+    let followed : (great_at b 15 == last_boot) ≡ false =
     ap (λ (n : ℕ). n == last_boot) (boot_back side c s fits)
     ∙ eq_false s.boot last_boot (omega (arith, next)) in
     let rising : both_ascend (lasting_at b) ≡ true = ap both_ascend (lasting_back side c s fits)

@@ -18,7 +18,7 @@ tag = codes "LPTS"
 
 -- the version of this form
 abbrev pub version : ℕ
-version = 1
+version = 2
 
 -- 0 for ground, 1 for the spacecraft
 abbrev pub side_octet : Side → ℕ
@@ -30,14 +30,13 @@ abbrev pub mode_octet : Mode → ℕ
 mode_octet Any = 0
 mode_octet Strict = 1
 
--- the configuration, but for the first clock, which matters no more: APID 16 bits, source 16, part
--- size 32, timeout 32, receptions 32, outgoing transactions 32, mode 8
+-- what of the configuration an end is bound to, which isn't its limits nor its first clock: APID 16
+-- bits, source 16, part size 32, mode 8
 abbrev pub config_octets : Config → List ℕ
-config_octets c =
-    be c.apid 2 ++ be c.source 2 ++ be c.part_size 4 ++ be c.timeout 4 ++ be c.receptions 4
-    ++ be c.outgoing 4 ++ mode_octet c.mode ∷ []
+config_octets c = be c.apid 2 ++ be c.source 2 ++ be c.part_size 4 ++ mode_octet c.mode ∷ []
 
--- what stands first in each state of an end: tag 32 bits, version 8, side 8, and the configuration
+-- what stands first in each state of an end: tag 32 bits, version 8, side 8, and what it is bound
+-- to
 abbrev pub head_octets : Side → Config → List ℕ
 head_octets side c = tag ++ version ∷ side_octet side ∷ [] ++ config_octets c
 
@@ -73,7 +72,7 @@ unsealed v = front v.side v.config (lasting_of v.at)
 
 -- how many octets stand around the runs, and how many a state with so many runs has
 abbrev pub around : ℕ
-around = 57
+around = 45
 
 abbrev pub length_with : ℕ → ℕ
 length_with runs = around + 6 * runs

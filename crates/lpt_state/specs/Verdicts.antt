@@ -1,5 +1,6 @@
 -- What octets say of an end, and the first fault of octets that are no state of it.
 use Rattle.std.specs.Prelude.{◌≡◌, ℕ, ◌+◌, ◌-◌, ◌*◌, ◌^◌, ◌==◌, nat_lt, Bool, not, ◌&&◌, if◌then◌else◌, List, [], ◌∷◌, length, take, drop, slice_index, Result, Ok, Err}
+use Rattle.lpt_acts.specs.Acts.{limits_of}
 use Rattle.lpt_events.specs.declared.config.Config.{Config}
 use Rattle.lpt_events.specs.declared.side.Side.{Side}
 use Rattle.lpt_ledger.specs.declared.run.Run.{Run}
@@ -21,14 +22,14 @@ great_at b i = 2 ^ 32 * long_at b i + long_at b (i + 4)
 
 -- how many runs were sent, and how many received
 abbrev pub sent_count : List ℕ → ℕ
-sent_count b = great_at b 39
+sent_count b = great_at b 27
 
 abbrev pub received_count : List ℕ → ℕ
-received_count b = great_at b 47
+received_count b = great_at b 35
 
 -- the octets of all runs
 abbrev pub runs_part : List ℕ → List ℕ
-runs_part b = take (length b - around) (drop 55 b)
+runs_part b = take (length b - around) (drop 43 b)
 
 -- the run that stands at the front of octets
 abbrev pub run_at : List ℕ → Run
@@ -43,8 +44,8 @@ runs_in _ = []
 -- what stands there
 abbrev pub lasting_at : List ℕ → Lasting
 lasting_at b = record {
-  boot = great_at b 27;
-  clock = long_at b 35;
+  boot = great_at b 15;
+  clock = long_at b 23;
   sent = runs_in (take (6 * sent_count b) (runs_part b));
   received = runs_in (drop (6 * sent_count b) (runs_part b));
 }
@@ -77,13 +78,13 @@ verdict side c b =
     else if not (slice_index b 5 == side_octet side) then Err fault.Side
     else if not (stands_at b 6 (config_octets c)) then Err fault.Config
     else if not (is_sealed b) then Err fault.Checksum
-    else if great_at b 27 == last_boot then Err fault.Boot
+    else if great_at b 15 == last_boot then Err fault.Boot
     else if not (both_ascend (lasting_at b)) then Err fault.Order
     else Ok (lasting_at b)
 
 -- the end of this side and configuration once its state is read
 abbrev pub end_after : Side → Config → Lasting → NodeView
-end_after side c s = record { side = side; config = c; at = after s }
+end_after side c s = record { side = side; config = c; at = after (limits_of c) s }
 
 -- a verdict in the words of the end that is made
 abbrev pub told : Side → Config → Result Lasting StateFault → Result NodeView StateFault

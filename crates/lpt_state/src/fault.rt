@@ -11,7 +11,7 @@ pub enum StateFault {
     /// They don't begin as a state does.
     #[error("this is no state of an end")]
     Tag,
-    /// They are of another version than 1.
+    /// They are of another version than 2.
     #[error("the state is of another version")]
     Version,
     /// They aren't as many as the state says.
@@ -20,7 +20,7 @@ pub enum StateFault {
     /// They are the state of the other side.
     #[error("the state is of the other side")]
     Side,
-    /// They are the state of an end of another configuration.
+    /// They are the state of an end of another APID, source, part size or mode.
     #[error("the state is of another configuration")]
     Config,
     /// The checksum isn't that of the octets before it.

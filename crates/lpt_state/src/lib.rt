@@ -1,5 +1,6 @@
 //! What of an end of a large packet transfer (ECSS-E-ST-70-41C) outlasts a restart, as octets:
-//! which end it is, its configuration, its boot and clock, and the names that it has used.
+//! which end it is, what it is bound to of its configuration, its boot and clock, and the names
+//! that it has used. Its limits aren't in it.
 //!
 //! `write_state` writes it, or `write_state_into`, without memory, into a buffer of `state_len`
 //! octets; `read_state` makes an end of it, or answers a `StateFault`. What is read of what was

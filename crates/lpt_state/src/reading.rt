@@ -20,18 +20,19 @@ use lpt_packet::crc16;
 use std::alloc::{AllocError, Global};
 
 /// How many octets the shortest state has.
-const LEAST: usize = 57;
+const LEAST: usize = 45;
 
-/// If the runs of a state begin.
-const RUNS: usize = 55;
+/// Where the runs of a state begin.
+const RUNS: usize = 43;
 
-/// Makes an end of octets that are the state of an end of this side and configuration: what a
-/// restart leaves of that one, so its next boot.
+/// Makes an end of octets that are the state of an end of this side: what a restart leaves of that
+/// one, so its next boot, within the limits of this configuration. Its timeout, and how many
+/// receptions and messages may be open, may be others than before.
 ///
-/// Errors, the first that applies: `Short`, fewer than 57 octets; `Tag`; `Version`; `Length`, the
-/// octets aren't as many as its counts of runs say; `Side`, it is the other side's; `Config`,
-/// something of the configuration but its first clock is another; `Checksum`; `Boot`, no boot is
-/// left; `Order`, the runs of names don't ascend; `Memory`.
+/// Errors, the first that applies: `Short`, fewer than 45 octets; `Tag`; `Version`; `Length`, the
+/// octets aren't as many as its counts of runs say; `Side`, it is the other side's; `Config`, its
+/// APID, source, part size or mode is another; `Checksum`; `Boot`, no boot is left; `Order`, the
+/// runs of names don't ascend; `Memory`.
 pub fn read_state(
     alloc: Global,
     side: Side,
@@ -64,7 +65,7 @@ fn first_fault<'a>(side: Side, config: &Config, octets: &'a [u8]) -> Result<Foun
     if !stands_at(octets, 0, b"LPTS") {
         return Err(StateFault::Tag);
     }
-    if octets[4] != 1 {
+    if octets[4] != 2 {
         return Err(StateFault::Version);
     }
     if !has_its_length(octets) {
@@ -79,7 +80,7 @@ fn first_fault<'a>(side: Side, config: &Config, octets: &'a [u8]) -> Result<Foun
     if !is_sealed(octets) {
         return Err(StateFault::Checksum);
     }
-    if great(octets, 27) == u64::MAX {
+    if great(octets, 15) == u64::MAX {
         return Err(StateFault::Boot);
     }
     let found = found_in(octets);
@@ -93,13 +94,13 @@ fn first_fault<'a>(side: Side, config: &Config, octets: &'a [u8]) -> Result<Foun
 fn found_in(octets: &[u8]) -> Found<'_>
     requires { length octets.now ≡ length_with (sent_count octets.now + received_count octets.now) }
     ensures found { found result ≡ lasting_at octets.now }
-    ensures boot { result.boot ≡ great_at octets.now 27 }
+    ensures boot { result.boot ≡ great_at octets.now 15 }
 {
     let runs = &octets[RUNS..octets.len() - 2];
-    let (sent, received) = runs.split_at(6 * great(octets, 39) as usize);
+    let (sent, received) = runs.split_at(6 * great(octets, 27) as usize);
     Found {
-        boot: great(octets, 27),
-        clock: long(octets, 35),
+        boot: great(octets, 15),
+        clock: long(octets, 23),
         sent,
         received,
     }
@@ -107,17 +108,17 @@ fn found_in(octets: &[u8]) -> Found<'_>
 
 // Whether there are as many octets as the counts of runs say.
 fn has_its_length(octets: &[u8]) -> bool
-    requires { 57 ≤ length octets.now }
+    requires { 45 ≤ length octets.now }
     ensures { result ≡ (length octets.now
         == length_with (sent_count octets.now + received_count octets.now)) }
 {
-    let runs = u128::from(great(octets, 39)) + u128::from(great(octets, 47));
-    octets.len() as u128 == 57 + 6 * runs
+    let runs = u128::from(great(octets, 27)) + u128::from(great(octets, 35));
+    octets.len() as u128 == 45 + 6 * runs
 }
 
 // Whether the last two octets are the checksum of those before.
 fn is_sealed(octets: &[u8]) -> bool
-    requires { 57 ≤ length octets.now }
+    requires { 45 ≤ length octets.now }
     ensures { result ≡ is_sealed octets.now }
 {
     let end = octets.len() - 2;

@@ -13,10 +13,10 @@ use lpt_part::Mode;
 use std::alloc::AllocError;
 
 // How many octets stand before the runs of a state.
-const RUNS: usize = 55;
+const RUNS: usize = 43;
 
 // How many of these the side and the configuration have, with what is before them.
-const HEAD: usize = 27;
+const HEAD: usize = 15;
 
 /// Appends the state of an end: what of it outlasts a restart. The only error is out of memory, and
 /// then nothing is appended.
@@ -38,8 +38,8 @@ pub fn state_len(node: &Node) -> usize
     ensures few { result ≤ 2 ^ 36 }
     ensures end { IsEnd node.now }
 {
-    let (_boot, _clock) = (node.boot(), node.clock());
-    57 + 6 * (node.senders().run_count() + node.receivers().run_count())
+    let (_config, _boot, _clock) = (node.config(), node.boot(), node.clock());
+    45 + 6 * (node.senders().run_count() + node.receivers().run_count())
 }
 
 /// Writes the state of an end to the front of a buffer that has room for it. It takes no memory.
@@ -103,28 +103,23 @@ fn put_runs(ledger: &Ledger, out: &mut [u8]) -> usize
 
 // Writes what stands first in each state of such an end.
 fn put_head(out: &mut [u8], side: Side, config: &Config)
-    requires { length out.old ≡ 27 }
+    requires { length out.old ≡ 15 }
     ensures { out.new ≡ head_octets side config.now }
 {
     let (known, rest) = out.split_at_mut(6);
-    known.copy_from_slice(&[b'L', b'P', b'T', b'S', 1, side_octet(side)]);
+    known.copy_from_slice(&[b'L', b'P', b'T', b'S', 2, side_octet(side)]);
     rest.copy_from_slice(&config_octets(config));
 }
 
-/// The octets of a configuration, without its first clock.
-pub(crate) fn config_octets(config: &Config) -> [u8; 21]
+/// The octets of what of its configuration an end is bound to.
+pub(crate) fn config_octets(config: &Config) -> [u8; 9]
     ensures { result ≡ config_octets config.now }
 {
     let [a, p] = config.apid.to_be_bytes();
     let [s, o] = config.source.to_be_bytes();
     let [b, c, d, e] = config.part_size.to_be_bytes();
-    let [f, g, h, i] = config.timeout.to_be_bytes();
-    let [j, k, l, m] = config.receptions.to_be_bytes();
-    let [n, q, r, t] = config.outgoing.to_be_bytes();
     let mode = mode_octet(config.mode);
-    [
-        a, p, s, o, b, c, d, e, f, g, h, i, j, k, l, m, n, q, r, t, mode,
-    ]
+    [a, p, s, o, b, c, d, e, mode]
 }
 
 /// The octet of a side.

@@ -10,11 +10,13 @@ ghost use Rattle.lpt_state.specs.Verdicts.{verdict};
 ghost use Rattle.lpt_state_tests.specs.Worked.{config, mixed, mixed_octets, names_sent};
 
 /// A worked state has these octets, and they are read as it, at an end of its side and its
-/// configuration, whatever the first clock.
+/// configuration, whatever the limits and the first clock.
 pub fn worked_state()
     ensures spelled { spelling Ground config mixed ≡ mixed_octets }
     ensures read { verdict Ground config mixed_octets ≡ Ok mixed }
     ensures clock { verdict Ground (record config { clock = 9 }) mixed_octets ≡ Ok mixed }
+    ensures limits { verdict Ground (record config { timeout = 9; receptions = 2; outgoing = 1 })
+        mixed_octets ≡ Ok mixed }
     ensures side { verdict Craft config mixed_octets ≡ Err fault.Side }
     ensures config { verdict Ground (record config { mode = Strict }) mixed_octets
         ≡ Err fault.Config }

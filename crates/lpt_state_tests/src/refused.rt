@@ -19,7 +19,7 @@ static ROWS: [(&[u8], StateFault); 5] = [
 ];
 
 /// Configurations that aren't the state's, each in one value.
-static OTHERS: [Config; 7] = [
+static OTHERS: [Config; 4] = [
     Config { apid: 43, ..CONFIG },
     Config {
         source: 257,
@@ -29,6 +29,14 @@ static OTHERS: [Config; 7] = [
         part_size: 264,
         ..CONFIG
     },
+    Config {
+        mode: Mode::Strict,
+        ..CONFIG
+    },
+];
+
+/// Configurations of other limits, and of another first clock, to which a state isn't bound.
+static ALIKE: [Config; 4] = [
     Config {
         timeout: 306,
         ..CONFIG
@@ -41,10 +49,7 @@ static OTHERS: [Config; 7] = [
         outgoing: 5,
         ..CONFIG
     },
-    Config {
-        mode: Mode::Strict,
-        ..CONFIG
-    },
+    Config { clock: 7, ..CONFIG },
 ];
 
 // The fault of octets; none where they are read.
@@ -61,8 +66,8 @@ fn fault_at(place: usize) -> StateFault {
         0..=3 => StateFault::Tag,
         4 => StateFault::Version,
         5 => StateFault::Side,
-        6..=26 => StateFault::Config,
-        39..=54 => StateFault::Length,
+        6..=14 => StateFault::Config,
+        27..=42 => StateFault::Length,
         _ => StateFault::Checksum,
     }
 }
@@ -77,8 +82,9 @@ fn each_is_refused_for_its_fault(rt: HostRuntime) {
         assert!(rt; fault_of(alloc, Side::Ground, config, &MIXED) == Some(StateFault::Config));
     }
     assert!(rt; fault_of(alloc, Side::Craft, &CONFIG, &MIXED) == Some(StateFault::Side));
-    let later = Config { clock: 7, ..CONFIG };
-    assert!(rt; fault_of(alloc, Side::Ground, &later, &MIXED) == None);
+    for config in &ALIKE {
+        assert!(rt; fault_of(alloc, Side::Ground, config, &MIXED) == None);
+    }
 }
 
 // One bit of an octet is changed.
@@ -103,7 +109,7 @@ fn each_octet_counts(rt: HostRuntime) -> Result<(), Fail> {
 #[test]
 fn no_octet_is_left_out(rt: HostRuntime) -> Result<(), Fail> {
     for len in 0..MIXED.len() {
-        let want = if len < 57 {
+        let want = if len < 45 {
             StateFault::Short
         } else {
             StateFault::Length

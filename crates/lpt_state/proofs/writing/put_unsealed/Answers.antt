@@ -73,10 +73,10 @@ returns-clause-octets c =
     c.put_numbers.ensures
     ∙ (λ i. number_octets (c.boot.ensures i) (c.clock.ensures i) (c.put_both-sent.ensures.sent i)
     (c.put_both-sent.ensures.received i)) in
-    let behind : c.put_both-sent.new.out ≡ runs ++ drop (55 + n) out =
+    let behind : c.put_both-sent.new.out ≡ runs ++ drop (43 + n) out =
     c.put_both-sent.ensures.octets
     ∙ ap (λ (xs : List ℕ). runs ++ drop n xs) c.split_at_mut-front.ensures.back
-    ∙ ap (λ (xs : List ℕ). runs ++ xs) (drop-drop n 55 out) in
+    ∙ ap (λ (xs : List ℕ). runs ++ xs) (drop-drop n 43 out) in
     (λ i. (head i ++ numbers i) ++ behind i)
     ∙ ap (λ (k : ℕ). (head_octets v.side v.config
     ++ number_octets v.at.boot v.at.clock (length s.sent) (length s.received)

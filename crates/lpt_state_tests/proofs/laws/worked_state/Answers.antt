@@ -18,6 +18,10 @@ pub returns-clause-clock : goal.returns-clause-clock
 unfolding verdict runs_in ascend_behind checksum octets_in shift_all
 returns-clause-clock c = refl
 
+pub returns-clause-limits : goal.returns-clause-limits
+unfolding verdict runs_in ascend_behind checksum octets_in shift_all
+returns-clause-limits c = refl
+
 pub returns-clause-side : goal.returns-clause-side
 unfolding verdict
 returns-clause-side c = refl
