@@ -41,6 +41,8 @@ enum Row {
     Open(usize),
     /// Whether a reception is open.
     IsOpen(u16, u16, bool),
+    /// Last ticks are set back by so many, if none is below that.
+    SetsBack(u32, bool),
     /// All receptions are given up.
     Clears,
 }
@@ -114,6 +116,19 @@ fn offer(table: &mut Table, source: u16, part: &Part<'_>, now: u32, puts_back: b
     }
 }
 
+// Sets last ticks back, where none is below so many.
+fn set_back(table: &mut Table, ticks: u32) -> bool
+    requires settled { table.old.out ≡ None }
+    ensures p { table.new.p ≡ table.old.p }
+    ensures settled { table.new.out ≡ None }
+{
+    if !table.reaches_back(ticks) {
+        return false;
+    }
+    table.set_back(ticks);
+    true
+}
+
 // Whether a row comes as it says.
 fn comes(table: &mut Table, row: &Row) -> bool
     requires p { table.old.p ≡ 4 }
@@ -133,6 +148,7 @@ fn comes(table: &mut Table, row: &Row) -> bool
         Row::Expires(source, id, want) => table.expire(named((*source, *id))) == *want,
         Row::Open(count) => table.len() == *count,
         Row::IsOpen(source, id, want) => table.is_open(named((*source, *id))) == *want,
+        Row::SetsBack(ticks, want) => set_back(table, *ticks) == *want,
         Row::Clears => {
             table.clear_all();
             true
@@ -236,6 +252,21 @@ static DUE: [Row; 17] = [
     Row::Due(14, None),
 ];
 
+/// Last ticks are set back, none below 0, and what is due then is due so many ticks before.
+static SET_BACK: [Row; 11] = [
+    Row::Offers(1, 9, 1, Kind::First, ZEROS, 20, Expected::Kept),
+    Row::Offers(1, 3, 1, Kind::First, ZEROS, 24, Expected::Kept),
+    Row::SetsBack(21, false),
+    Row::SetsBack(20, true),
+    Row::Due(9, None),
+    Row::Due(10, Some((1, 9))),
+    Row::Expires(1, 9, true),
+    Row::Due(13, None),
+    Row::Due(14, Some((1, 3))),
+    Row::SetsBack(4, true),
+    Row::Due(10, Some((1, 3))),
+];
+
 /// A part that comes again renews the last tick, and what is put back keeps it.
 static RENEWED: [Row; 8] = [
     Row::Offers(1, 7, 1, Kind::First, ZEROS, 0, Expected::Kept),
@@ -292,6 +323,7 @@ fn parts_are_kept_under_a_limit_and_a_time_out(rt: HostRuntime) -> Result<(), Fa
     check(&rt, rt.alloc(), 1, Mode::Any, &ROOM)?;
     check(&rt, rt.alloc(), 1, Mode::Strict, &IN_ORDER)?;
     check(&rt, rt.alloc(), 3, Mode::Any, &DUE)?;
+    check(&rt, rt.alloc(), 2, Mode::Any, &SET_BACK)?;
     check(&rt, rt.alloc(), 1, Mode::Any, &RENEWED)?;
     check(&rt, rt.alloc(), 2, Mode::Any, &BEHIND)?;
     check(&rt, rt.alloc(), 2, Mode::Any, &SOURCES)

@@ -22,7 +22,7 @@ use Rattle.lpt_events.specs.declared.reply.Reply.{Reply}
 use Rattle.lpt_events.specs.declared.worker.Worker.TheVariants.{W1}
 use Rattle.lpt_journal.specs.Clear.{is_clear}
 use Rattle.lpt_journal.specs.Releases.{releases}
-use Rattle.lpt_journal.specs.Replies.{reply}
+use Rattle.lpt_journal.specs.Events.{reply}
 use Rattle.lpt_script.specs.declared.shows.Shows.{Shows}
 use Rattle.lpt_script.specs.declared.shows.Shows.TheVariants as shows
 use Rattle.lpt_world.specs.Worlds.{Shown, history, memories_now, refusal_at, with_entry}

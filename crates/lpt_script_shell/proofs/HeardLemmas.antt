@@ -9,17 +9,16 @@ use Rattle.lpt_events.specs.Arrivals.{Arrival, NotRead, AnIdle, Foreign, AReques
 use Rattle.lpt_events.specs.Lanes.{lane_direction, same_direction}
 use Rattle.lpt_events.specs.Sides.{direction_to, receiver_side, same_side}
 use Rattle.lpt_events.specs.declared.config.Config.{Config}
-use Rattle.lpt_events.specs.declared.event.Event.{Event}
-use Rattle.lpt_events.specs.declared.event.Event.TheVariants.{Deliver, Expire, Restart}
+use Rattle.lpt_acts.specs.Acts.{Act, Deliver, Expire, Restart}
 use Rattle.lpt_events.specs.declared.outcome.Outcome.{Outcome}
 use Rattle.lpt_events.specs.declared.outcome.Outcome.TheVariants.{Kept, Again, Released, Broken, Ignored}
 use Rattle.lpt_events.specs.declared.outcome.Why.TheVariants.{Closed, NoRoom}
 use Rattle.lpt_events.specs.declared.reply.Answer.TheVariants.{Delivered}
 use Rattle.lpt_journal.specs.Delivery.{judged, outcome}
-use Rattle.lpt_journal.specs.Due.{due}
+use Rattle.lpt_journal.specs.Due.{given_up}
 use Rattle.lpt_journal.specs.Hands.{in_hand}
 use Rattle.lpt_journal.specs.Journal.{History}
-use Rattle.lpt_journal.specs.Receivers.{ends, has_parts, heard, heard_now, is_closed, kept, reception_count, with_arrival, with_piece}
+use Rattle.lpt_journal.specs.Receivers.{ends, has_parts, heard, heard_now, is_closed, kept, limits, reception_count, with_arrival, with_piece}
 use Rattle.lpt_journal.specs.Replies.{entry, expired_now, recorded}
 use Rattle.lpt_reception.specs.Received.{Parts, contradicts, is_gap, is_whole, no_parts, spelled}
 use Rattle.lpt_memory.specs.Memories.{Contents}
@@ -97,7 +96,8 @@ part_tells false false false false false false q len = (q, refl, refl)
 judged_tells : (c : Config) (h : History) (d : Direction) (a : Arrival) → Tells a (judged c h d a)
 judged_tells c h d (APart q) =
     let s = heard c h d q.name in
-    part_tells (is_closed h d q.name) (not (has_parts s) && nat_le c.receptions (reception_count c h d))
+    part_tells (is_closed h d q.name)
+    (not (has_parts s) && nat_le (limits c h (receiver_side d)).receptions (reception_count c h d))
     (contradicts s q.number (kept q)) (is_some (maps.get s q.number)) (is_gap c.mode s q.number)
     (is_whole (with_piece s q)) q (length (spelled (with_piece s q)))
 judged_tells c h d NotRead = tt
@@ -143,7 +143,7 @@ expired true d (Some i) name s ns agree = none_or (same_name i name) s ns agree
 -- ---- events
 
 -- the numbers that replies tell are those of the parts that were heard
-agrees : (c : Config) (first : Contents) (d : Direction) (name : Name) (es : List Event)
+agrees : (c : Config) (first : Contents) (d : Direction) (name : Name) (es : List Act)
     → Agree (heard c (recorded c first es) d name) (kept_numbers d name (recorded c first es))
 agrees c first d name [] = none_agree
 agrees c first d name (e ∷ es) = step (agrees c first d name es) e where
@@ -151,7 +151,7 @@ agrees c first d name (e ∷ es) = step (agrees c first d name es) e where
   h = recorded c first es
 
   step : Agree (heard c h d name) (kept_numbers d name h)
-      → (e : Event)
+      → (e : Act)
       → Agree (heard c (entry c first h e ∷ h) d name) (kept_numbers d name (entry c first h e ∷ h))
   step had (Deliver l) = go (same_direction (lane_direction l) d) where
     go : (b : Bool)
@@ -161,8 +161,9 @@ agrees c first d name (e ∷ es) = step (agrees c first d name es) e where
         delivered (outcome c h l) (in_hand c h l) name (heard c h d name) (kept_numbers d name h)
         (judged_tells c h (lane_direction l) (in_hand c h l)) had
     go false = had
-  step had (Expire side) =
-      expired (same_side side (receiver_side d)) (direction_to side) (due c h (direction_to side)) name
+  step had (Expire side which) =
+      expired (same_side side (receiver_side d)) (direction_to side)
+      (given_up c h (direction_to side) which) name
       (heard c h d name) (kept_numbers d name h) had
   step had (Restart side) = none_or (same_side side (receiver_side d)) (heard c h d name) (kept_numbers d name h) had
   step had e = had

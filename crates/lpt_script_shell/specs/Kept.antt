@@ -2,8 +2,7 @@
 use Rattle.std.specs.Prelude.{ℕ, ◌+◌, ◌-◌, nat_eq, nat_le, Bool, not, ◌&&◌, if◌then◌else◌, List, [], ◌∷◌, ◌++◌, flat_map, decimal}
 use Rattle.std.specs.List.{list_any, range_with_len}
 use Rattle.lpt_events.specs.declared.entry.Entry.{Entry}
-use Rattle.lpt_events.specs.declared.event.Event.{Event}
-use Rattle.lpt_events.specs.declared.event.Event.TheVariants.{Deliver, Expire, Restart}
+use Rattle.lpt_acts.specs.Acts.{Act, Deliver, Expire, Restart, act_of}
 use Rattle.lpt_events.specs.declared.outcome.Outcome.TheVariants.{Kept, Released, Broken}
 use Rattle.lpt_events.specs.declared.reply.Answer.{Answer}
 use Rattle.lpt_events.specs.declared.reply.Answer.TheVariants.{Delivered, Expired}
@@ -22,11 +21,11 @@ kept_now (Delivered (Broken i reason)) name before = if same_name i name then []
 kept_now (Expired d i) name before = if same_name i name then [] else before
 kept_now _ name before = before
 
--- the numbers of the parts that are kept of a transaction, after an event with this answer
-abbrev pub kept_after : Direction → Name → Event → Answer → List ℕ → List ℕ
+-- the numbers of the parts that are kept of a transaction, after an act with this answer
+abbrev pub kept_after : Direction → Name → Act → Answer → List ℕ → List ℕ
 kept_after d name (Deliver l) answer before =
     if same_direction (lane_direction l) d then kept_now answer name before else before
-kept_after d name (Expire side) answer before =
+kept_after d name (Expire side which) answer before =
     if same_side side (receiver_side d) then kept_now answer name before else before
 kept_after d name (Restart side) answer before =
     if same_side side (receiver_side d) then [] else before
@@ -41,7 +40,7 @@ kept_numbers d name (x ∷ h) = kept_after d name x.event x.reply.answer (kept_n
 abbrev pub kept_by : Direction → Name → List Entry → List ℕ → List ℕ
 kept_by d name [] before = before
 kept_by d name (x ∷ xs) before =
-    kept_by d name xs (kept_after d name x.event x.reply.answer before)
+    kept_by d name xs (kept_after d name (act_of x.event) x.reply.answer before)
 
 -- whether a number is among these
 abbrev pub has_number : List ℕ → ℕ → Bool

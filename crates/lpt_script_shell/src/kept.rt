@@ -1,6 +1,7 @@
 //! Which parts of a message its receiver keeps, and which are missing.
 
 ghost use Rattle.std.specs.Prelude.{◌≡◌, ◌≤◌, ◌++◌, [], OnOk, IfOk, string_bytes};
+ghost use Rattle.lpt_acts.specs.Acts.{act_of};
 ghost use Rattle.lpt_world.specs.Worlds.{history};
 ghost use Rattle.lpt_script_shell.specs.Kept.{gap_text, gaps_text, has_number, is_missing, kept_after, kept_by, kept_now, kept_numbers, part_gap};
 
@@ -46,7 +47,8 @@ fn note(
     entry: &Entry,
 ) -> Result<(), AllocError>
     ensures { OnOk result (kept.new.items
-        ≡ kept_after direction name entry.now.event entry.now.reply.answer kept.old.items) }
+        ≡ kept_after direction name (act_of entry.now.event) entry.now.reply.answer
+        kept.old.items) }
 {
     let answer = entry.reply.answer;
     match &entry.event {

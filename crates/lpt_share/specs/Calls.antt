@@ -3,7 +3,7 @@ use Rattle.std.specs.Prelude.{◌≡◌, ◌⊎◌, ◌≤◌, ◌<◌, ◌+◌,
 use Rattle.lpt_events.specs.declared.event.Event.{Event}
 use Rattle.lpt_events.specs.declared.fault.StepFault.{StepFault}
 use Rattle.lpt_events.specs.declared.reply.Reply.{Reply}
-use Rattle.lpt_journal.specs.Replies.{reply}
+use Rattle.lpt_journal.specs.Events.{reply}
 use Rattle.lpt_world.specs.Worlds.{Shown, RefusedBy, history, refusal_at}
 use Rattle.lpt_share.specs.Entering.{IsLegal}
 use Rattle.lpt_share.specs.Origins.{GoesOn}

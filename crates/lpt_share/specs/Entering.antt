@@ -4,7 +4,7 @@ use Rattle.lpt_events.specs.Configs.{IsConfig}
 use Rattle.lpt_events.specs.declared.event.Event.{Event}
 use Rattle.lpt_events.specs.declared.refused.Refused.{Refused}
 use Rattle.lpt_events.specs.declared.reply.Reply.{Reply}
-use Rattle.lpt_journal.specs.Replies.{reply}
+use Rattle.lpt_journal.specs.Events.{reply}
 use Rattle.lpt_world.specs.Worlds.{Shown, IsTold, RefusedBy, history, refusal_at, with_entry}
 
 -- the configuration is in its ranges, and each entry could happen after those before it and has the

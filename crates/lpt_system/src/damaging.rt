@@ -3,7 +3,7 @@
 ghost use Rattle.std.specs.Prelude.{◌≡◌, None, IfOk, OnErr};
 ghost use Rattle.lpt_packet.specs.Numbers.{IsOctets};
 ghost use Rattle.lpt_events.specs.Damages.{looks_whole};
-ghost use Rattle.lpt_model.specs.State.{refusal_of, after};
+ghost use Rattle.lpt_model.specs.Events.{refusal_of, after};
 
 use crate::system::{System, put_one, put_reserved};
 use lpt_events::{Answer, Event, Reply, StepFault, longest_on_link};

@@ -8,7 +8,8 @@ ghost use Rattle.lpt_jobs.specs.Jobs.{numbered};
 ghost use Rattle.lpt_node.specs.Accepting.{accepted};
 ghost use Rattle.lpt_node.specs.ParsedViews.{arrival_from};
 ghost use Rattle.lpt_link.specs.Links.{after_drop, packet_in_hand, refusal_drop};
-ghost use Rattle.lpt_model.specs.State.{end_of, refusal_of, after, arrival_held, as_list, put_report, put_some, released_of, add_release, IsAccepted};
+ghost use Rattle.lpt_model.specs.Events.{refusal_of, after};
+ghost use Rattle.lpt_model.specs.State.{end_of, arrival_held, as_list, put_report, put_some, released_of, add_release, IsAccepted};
 ghost use Rattle.lpt_events.specs.declared.reply.Answer.{Answer};
 ghost use Rattle.lpt_system.specs.Outside.{octets_held, IsReadOf};
 

@@ -1,7 +1,7 @@
 //! Plain requests, which belong to no transaction.
 
 ghost use Rattle.std.specs.Prelude.{◌≡◌, None, IfOk, OnErr};
-ghost use Rattle.lpt_model.specs.State.{refusal_of, after};
+ghost use Rattle.lpt_model.specs.Events.{refusal_of, after};
 
 use crate::system::{System, put_one, put_reserved};
 use lpt_events::{Answer, Event, Reply};

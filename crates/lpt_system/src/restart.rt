@@ -4,7 +4,8 @@ ghost use Rattle.std.specs.Prelude.{◌≡◌, ◌+◌, ◌<◌, ◌^◌, None, 
 ghost use Rattle.std.specs.FinMap as map;
 ghost use Rattle.lpt_events.specs.Sides.{sender_side, receiver_side};
 ghost use Rattle.lpt_ledger.specs.States.{state_at};
-ghost use Rattle.lpt_model.specs.State.{after, end_of, is_gone, refusal_of};
+ghost use Rattle.lpt_model.specs.Events.{after, refusal_of};
+ghost use Rattle.lpt_model.specs.State.{end_of, is_gone};
 
 use crate::system::{System, quiet};
 use lpt_events::{Answer, Event, Reply, Side, StepFault};

@@ -11,7 +11,8 @@ ghost use Rattle.lpt_node.specs.Faults.{node_fault};
 ghost use Rattle.lpt_node.specs.Nodes.{new_node};
 ghost use Rattle.lpt_system.specs.SystemSound.{IsSound};
 ghost use Rattle.lpt_events.specs.Configs.{IsConfig};
-ghost use Rattle.lpt_model.specs.State.{no_state, end_of, refusal_of, after, as_list, put_report, put_some, IsReady, quiet as quiet_reply, put_one as put_one_reply};
+ghost use Rattle.lpt_model.specs.Events.{refusal_of, after, IsReady};
+ghost use Rattle.lpt_model.specs.State.{no_state, end_of, as_list, put_report, put_some, quiet as quiet_reply, put_one as put_one_reply};
 
 use crate::faults::of_link;
 use crate::tickets::Tickets;

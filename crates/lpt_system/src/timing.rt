@@ -1,7 +1,8 @@
 //! The nodes' clocks, and receptions that end for their age.
 
 ghost use Rattle.std.specs.Prelude.{◌≡◌, None, IfOk, OnErr};
-ghost use Rattle.lpt_model.specs.State.{end_of, refusal_of, after};
+ghost use Rattle.lpt_model.specs.Events.{refusal_of, after};
+ghost use Rattle.lpt_model.specs.State.{end_of};
 
 use crate::system::{System, quiet};
 use lpt_events::{Answer, Event, Reply, Side};

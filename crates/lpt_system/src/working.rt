@@ -5,7 +5,8 @@ ghost use Rattle.std.specs.Option.{option_map};
 ghost use Rattle.lpt_packet.specs.declared.direction.Direction.TheVariants.{Down};
 ghost use Rattle.lpt_jobs.specs.Jobs.{is_claimed};
 ghost use Rattle.lpt_node.specs.Jobs.{committed};
-ghost use Rattle.lpt_model.specs.State.{after, put_all, put_some, refusal_of, commit_told, IsReady, quiet as quiet_reply};
+ghost use Rattle.lpt_model.specs.Events.{after, refusal_of, IsReady};
+ghost use Rattle.lpt_model.specs.State.{put_all, put_some, commit_told, quiet as quiet_reply};
 ghost use Rattle.lpt_model.specs.Tickets.{ticket_of};
 ghost use Rattle.lpt_system.specs.Outside.{reading_for};
 

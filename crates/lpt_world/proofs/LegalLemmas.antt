@@ -8,7 +8,7 @@ use Rattle.lpt_events.specs.declared.config.Config.{Config}
 use Rattle.lpt_events.specs.declared.entry.Entry.{Entry}
 use Rattle.lpt_events.specs.declared.entry.Release.{Release}
 use Rattle.lpt_events.specs.Configs.{IsConfig}
-use Rattle.lpt_events.specs.declared.event.Event.{Event}
+use Rattle.lpt_acts.specs.Acts.{Act, act_of}
 use Rattle.lpt_events.specs.declared.side.Side.{Side}
 use Rattle.lpt_events.specs.declared.side.Side.TheVariants.{Ground, Craft}
 use Rattle.lpt_journal.specs.Jobs.{jobs, ticket}
@@ -28,18 +28,18 @@ use Rattle.lpt_world.specs.Worlds.{IsTold, events_of, history_of}
 
 -- ---- journals
 
--- the events of a journal, the oldest first
-abbrev events : List Entry → List Event
-events j = map (λ (y : Entry). y.event) j
+-- the events of a journal as acts, the oldest first
+abbrev events : List Entry → List Act
+events j = map (λ (y : Entry). act_of y.event) j
 
 -- the events of a journal with an entry behind it
 pub events_of-push : (j : List Entry) (x : Entry)
-    → events_of (j ++ x ∷ []) ≡ x.event ∷ events_of j
+    → events_of (j ++ x ∷ []) ≡ act_of x.event ∷ events_of j
 events_of-push j x =
-    ap reverse (map-append (λ (y : Entry). y.event) j (x ∷ []))
-    ∙ reverse-append (events j) (x.event ∷ [])
+    ap reverse (map-append (λ (y : Entry). act_of y.event) j (x ∷ []))
+    ∙ reverse-append (events j) (act_of x.event ∷ [])
 
-length-recorded : (c : Config) (first : Contents) (es : List Event) → length (recorded c first es)
+length-recorded : (c : Config) (first : Contents) (es : List Act) → length (recorded c first es)
     ≡ length es
 length-recorded c first [] = refl
 length-recorded c first (e ∷ es) = ap (λ n. suc n) (length-recorded c first es)
@@ -50,7 +50,7 @@ pub length-history_of : (c : Config) (first : Contents) (j : List Entry)
 length-history_of c first j =
     length-recorded c first (events_of j)
     ∙ length-reverse (events j)
-    ∙ length-map j (λ (y : Entry). y.event)
+    ∙ length-map j (λ (y : Entry). act_of y.event)
 
 -- ---- jobs
 

@@ -1,7 +1,7 @@
 -- Runs of events, one event longer.
 use Rattle.std.proofs.Common.{zero, ◌≤◌, ◌≡◌, ◌∙◌, ◌<◌, ◌+◌, ap, sym, subst, ℕ, suc, List, [], ◌∷◌, take, length, slice_index_or, slice_get, arith, Some, None}
 use Rattle.lpt_events.specs.declared.event.Event.{Event}
-use Rattle.lpt_journal.specs.Replies.{reply}
+use Rattle.lpt_journal.specs.Events.{reply}
 use Rattle.lpt_world.specs.Worlds.{Shown, AllAccepted, entered, history, refusal_at, with_entry}
 
 module _ (seat : ℕ) (e : Event) where

@@ -6,6 +6,8 @@ use Rattle.std.proofs.lemmas.Option.{slice_get-map}
 use Rattle.std.proofs.lemmas.Bool.{ltb-false}
 use Rattle.std.proofs.lemmas.List.{reverse-append, map-append}
 use Rattle.std.proofs.lemmas.List.Elements.{All-nil, All-push}
+use Rattle.lpt_acts.specs.Acts.{act_of, IsAct}
+use Rattle.lpt_events.specs.declared.event.Event.TheVariants as event
 use Rattle.lpt_packet.proofs.Readings.{lt_false}
 use Rattle.lpt_link.specs.declared.packet.LinkPacket.{LinkPacket}
 use Rattle.lpt_link.specs.Links.{octets_at}
@@ -22,16 +24,35 @@ use Rattle.lpt_system.specs.SystemInside.{state_of}
 use Rattle.lpt_journal.specs.Journal.{Recorded, History, SentPacket}
 use Rattle.lpt_journal.specs.Link.{sent}
 use Rattle.lpt_events.specs.Configs.{IsConfig}
-use Rattle.lpt_journal.specs.Legal.{IsEnabled, Legal}
-use Rattle.lpt_journal.specs.Refusals.{refusal}
-use Rattle.lpt_journal.specs.Replies.{reply, entry, recorded}
+use Rattle.lpt_journal.specs.Legal.{Legal}
+use Rattle.lpt_journal.specs.Events.{refusal, reply, entry, IsEnabled}
+use Rattle.lpt_journal.specs.Replies.{recorded}
 use Rattle.lpt_refinement.specs.Shows.{Shows, sent_packet}
-use Rattle.lpt_model.specs.State.{State, no_state, after, refusal_of, IsReady}
+use Rattle.lpt_model.specs.Events.{after, refusal_of, IsReady}
+use Rattle.lpt_model.specs.State.{State, no_state}
 use Rattle.lpt_refinement.specs.Views.{views}
 use Rattle.lpt_world.specs.WorldInside.{IsShown, IsWorld}
 use Rattle.lpt_world.specs.Worlds.{IsTold, history_of, refusal_at}
 use Rattle.lpt_refinement.proofs.Follows.{follows}
 use Rattle.lpt_world.proofs.LegalLemmas.{events_of-push, length-history_of, fits}
+
+-- an event whose numbers are of their types is such an act
+is_act : (e : Event) → IsEvent e → IsAct (act_of e)
+is_act (event.Open d name m) k = k
+is_act (event.Send d name n) k = k
+is_act (event.Plain source flags service subtype body) k = k
+is_act (event.Finish d name) k = k
+is_act (event.Lose n) k = tt
+is_act (event.Damage d b) k = k
+is_act (event.Take l n) k = tt
+is_act (event.Deliver l) k = tt
+is_act (event.Tick side) k = tt
+is_act (event.Expire side) k = tt
+is_act (event.Claim w) k = tt
+is_act (event.Commit w) k = tt
+is_act event.Apply k = tt
+is_act (event.Retire d name) k = k
+is_act (event.Restart side) k = tt
 
 -- ---- journals
 
@@ -68,7 +89,8 @@ accepted_shown : (e : System) (first : Contents) (j : List Entry) (ev : Event)
     → refusal_of e.config (state_of e) ev ≡ None
     → refusal e.config (history_of e.config first j) ev ≡ None
 accepted_shown e first j ev k free =
-    sym (follows.refuses e.config first (state_of e) (history_of e.config first j) ev k.shows
+    sym (follows.refuses e.config first (state_of e) (history_of e.config first j) (act_of ev)
+    k.shows
     (fits e.config first j k.configured k.told)) ∙ free
 
 -- the reply of the system is the journal's
@@ -79,7 +101,8 @@ pub reply_shown : (e e' : System) (first : Contents) (j : List Entry) (ev : Even
     → r ≡ reply e.config first (history_of e.config first j) ev
 reply_shown e e' first j ev r k free done =
     let c = e.config in
-    let goes = follows.goes_on c first (state_of e) (history_of c first j) ev k.configured k.shows
+    let goes = follows.goes_on c first (state_of e) (history_of c first j) (act_of ev) k.configured
+    k.shows
     (fits c first j k.configured k.told) (accepted_shown e first j ev k free) in
     ap (λ (y : State × Reply). y.1) done
     ∙ ap (λ n. (after c n (state_of e) ev).1) (sym (length-history_of c first j))
@@ -99,7 +122,7 @@ shown_push e e' first j x k seated ranged free done same =
     let c = e.config in
     let h : History = history_of c first j in
     let accepted : refusal c h x.event ≡ None = accepted_shown e first j x.event k free in
-    let goes = follows.goes_on c first (state_of e) h x.event k.configured k.shows
+    let goes = follows.goes_on c first (state_of e) h (act_of x.event) k.configured k.shows
     (fits c first j k.configured k.told) accepted in
     let state : (after c (length h) (state_of e) x.event).0 ≡ state_of e' =
     ap (λ n. (after c n (state_of e) x.event).0) (length-history_of c first j)
@@ -111,7 +134,7 @@ shown_push e e' first j x k seated ranged free done same =
     (subst (λ (s : State). Shows s (views c first (entry c first h x.event ∷ h))) state goes.shown)
     in
     let told : IsTold c first (j ++ x ∷ []) =
-    told_push c first j x k.told (record { in_range = ranged; accepted = accepted })
+    told_push c first j x k.told (record { in_range = is_act x.event ranged; accepted = accepted })
     (reply_shown e e' first j x.event x.reply k free done) seated in
     subst (λ (d : Config). IsWorld d first e' (j ++ x ∷ [])) (sym same)
     (record { configured = k.configured; shows = shows; told = told })
@@ -122,8 +145,9 @@ pub ready_shown : (e : System) (first : Contents) (j : List Entry) (ev : Event)
     → refusal_of e.config (state_of e) ev ≡ None
     → IsReady e.config (state_of e) ev
 ready_shown e first j ev k free =
-    (follows.goes_on e.config first (state_of e) (history_of e.config first j) ev k.configured
-    k.shows (fits e.config first j k.configured k.told) (accepted_shown e first j ev k free)).ready
+    (follows.goes_on e.config first (state_of e) (history_of e.config first j) (act_of ev)
+    k.configured k.shows (fits e.config first j k.configured k.told)
+    (accepted_shown e first j ev k free)).ready
 
 -- the octets of a packet are what the journal says
 pub packet_shown : (e : System) (first : Contents) (j : List Entry) (n : ℕ)
@@ -152,7 +176,7 @@ pub refusal_at_shown : (e : System) (first : Contents) (j : List Entry) (seat : 
 refusal_at_shown e first j seat ev k h =
     let past = history_of e.config first j in
     let there : nat_lt 10 seat ≡ false = lt_false 10 seat h in
-    follows.refuses e.config first (state_of e) past ev k.shows
+    follows.refuses e.config first (state_of e) past (act_of ev) k.shows
     (fits e.config first j k.configured k.told)
     ∙ sym (ap (λ t. if t then Some NoSuchSeat else refusal e.config past ev) there)
 
@@ -162,7 +186,7 @@ pub free_shown : (e : System) (first : Contents) (j : List Entry) (seat : ℕ) (
     → None ≡ refusal_at (record { config = e.config; first = first; journal = j }) seat ev
     → refusal_of e.config (state_of e) ev ≡ None
 free_shown e first j seat ev k h =
-    follows.refuses e.config first (state_of e) (history_of e.config first j) ev k.shows
+    follows.refuses e.config first (state_of e) (history_of e.config first j) (act_of ev) k.shows
     (fits e.config first j k.configured k.told)
     ∙ go (nat_lt 10 seat) (refusal e.config (history_of e.config first j) ev) h where
       go : (t : Bool) (r : Option StepFault) → None ≡ (if t then Some NoSuchSeat else r) → r ≡ None

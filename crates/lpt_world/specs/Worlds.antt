@@ -5,6 +5,7 @@ use Rattle.std.specs.List.{All}
 use Rattle.lpt_ledger.specs.declared.state.State.{State}
 use Rattle.lpt_ledger.specs.declared.state.State.TheVariants.{Free, Open, Closed}
 use Rattle.lpt_memory.specs.Memories.{Contents}
+use Rattle.lpt_acts.specs.Acts.{Act, act_of}
 use Rattle.lpt_events.specs.declared.config.Config.{Config}
 use Rattle.lpt_events.specs.declared.entry.Entry.{Entry}
 use Rattle.lpt_events.specs.declared.event.Event.{Event}
@@ -19,8 +20,8 @@ use Rattle.lpt_journal.specs.Headline.{Holds}
 use Rattle.lpt_journal.specs.Legal.{Legal}
 use Rattle.lpt_journal.specs.Whole.{WholeIsReleased}
 use Rattle.lpt_journal.specs.Work.{WorkKeepsItsBoot}
-use Rattle.lpt_journal.specs.Replies.{recorded, reply}
-use Rattle.lpt_journal.specs.Refusals.{refusal}
+use Rattle.lpt_journal.specs.Replies.{recorded}
+use Rattle.lpt_journal.specs.Events.{refusal, reply}
 
 -- the configuration, the memories as they were first, and the journal with its oldest entry first
 pub record Shown : Type 0 where
@@ -32,9 +33,9 @@ pub record Shown : Type 0 where
 abbrev pub new_world : Config → Contents → Shown
 new_world c first = record { config = c; first = first; journal = [] }
 
--- the events of a journal, the newest first
-abbrev pub events_of : List Entry → List Event
-events_of j = reverse (map (λ x. x.event) j)
+-- the events of a journal as acts, the newest first
+abbrev pub events_of : List Entry → List Act
+events_of j = reverse (map (λ x. act_of x.event) j)
 
 -- what a journal tells under a configuration, over the first content of memories
 abbrev pub history_of : Config → Contents → List Entry → History

@@ -3,7 +3,7 @@
 
 ghost use Rattle.std.specs.Prelude.{◌≡◌, length, Some, None, IfOk, IfErr, IsTrue, ◌↔◌};
 ghost use Rattle.lpt_journal.specs.Jobs.{job_given};
-ghost use Rattle.lpt_journal.specs.Replies.{reply};
+ghost use Rattle.lpt_journal.specs.Events.{reply};
 ghost use Rattle.lpt_world.specs.Outside.{octets_of, IsOfHand, ReadRefusedBy};
 ghost use Rattle.lpt_world.specs.Workers.{IsOfWorker};
 ghost use Rattle.lpt_world.specs.Worlds.{Promised, history, refusal_at, RefusedBy, with_entry};

@@ -2,7 +2,7 @@
 
 ghost use Rattle.std.specs.Prelude.{◌≡◌, ◌≤◌, length, take, slice_get, None, IfOk, IfErr, IfSome};
 ghost use Rattle.lpt_events.specs.Configs.{config_fault, ConfigRefusedBy};
-ghost use Rattle.lpt_journal.specs.Replies.{reply};
+ghost use Rattle.lpt_journal.specs.Events.{reply};
 ghost use Rattle.lpt_world.specs.Worlds.{Promised, new_world, history, refusal_at, RefusedBy, with_entry, entered, AllAccepted, IsFaultOf};
 
 use lpt_events::{Config, ConfigFault, Entry, Event, Refused, Reply, RunEnd, StepFault};

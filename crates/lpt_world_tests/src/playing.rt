@@ -44,6 +44,10 @@ pub(crate) enum Row {
     Ticks(u32),
     /// A reception expires, of which this is the report.
     Expires(Result<(Name, &'static [u8]), NodeFault>),
+    /// The reception of this name is given up, of which this is the report.
+    GivesUp(Name, Result<&'static [u8], NodeFault>),
+    /// The clock is set back by so many ticks, if it can be.
+    SetsBack(u32, bool),
     /// The node restarts, has this boot then, and no jobs.
     Restarts(u64),
     /// A name of the way up is retired.
@@ -106,6 +110,8 @@ fn comes(alloc: Global, station: &mut Station, row: &Row) -> Result<bool, AllocE
         Row::Hears(packet, outcome, gives) => hears(alloc, station, packet, outcome, gives)?,
         Row::Ticks(clock) => station.node.tick().is_ok() && station.node.clock() == clock,
         Row::Expires(want) => expires(station, want),
+        Row::GivesUp(name, want) => gives_up(station, name, want),
+        Row::SetsBack(ticks, want) => sets_back(station, ticks) == want,
         Row::Restarts(boot) => restarts(station, boot),
         Row::Retires(name) => retires(station, name),
         Row::Executes => executes(alloc, station)?,
@@ -224,7 +230,7 @@ fn is(octets: &Option<Octets>, wanted: Option<&[u8]>) -> bool {
     }
 }
 
-// Gives a reception up.
+// Gives the reception up that is due.
 fn expires(station: &mut Station, want: Result<(Name, &[u8]), NodeFault>) -> bool {
     match station.node.expire() {
         Ok(expired) => match want {
@@ -233,6 +239,26 @@ fn expires(station: &mut Station, want: Result<(Name, &[u8]), NodeFault>) -> boo
         },
         Err(fault) => want == Err(fault),
     }
+}
+
+// Gives the reception of a name up.
+fn gives_up(station: &mut Station, name: Name, want: Result<&[u8], NodeFault>) -> bool {
+    match station.node.give_up(name) {
+        Ok(expired) => match want {
+            Ok(report) => expired.name == name && is(&expired.packet, Some(report)),
+            Err(_) => false,
+        },
+        Err(fault) => want == Err(fault),
+    }
+}
+
+// Sets the clock back, where it can be.
+fn sets_back(station: &mut Station, ticks: u32) -> bool {
+    if !station.node.can_set_back(ticks) {
+        return false;
+    }
+    station.node.set_back(ticks);
+    true
 }
 
 // Restarts a node that has few boots behind it.

@@ -8,7 +8,7 @@ use lpt_events::Outcome::{self, *};
 use lpt_events::Side::{self, Craft, Ground};
 use lpt_events::{Config, Why};
 use lpt_ledger::State;
-use lpt_node::NodeFault;
+use lpt_node::{Ask, NodeFault};
 use lpt_part::Reason;
 
 const FIRST: Packet = (&FIRST_UP, &FIRST_DOWN);
@@ -19,7 +19,7 @@ const LAST: Packet = (&LAST_UP, &LAST_DOWN);
 
 const CLOSED: Outcome = Ignored(Why::Closed);
 
-static PLAYS: [Play; 7] = [
+static PLAYS: [Play; 9] = [
     Play {
         name: "parts come in another order",
         sides: &[Ground, Craft],
@@ -84,6 +84,44 @@ static PLAYS: [Play; 7] = [
             Row::Hears(MIDDLE, CLOSED, &[]),
             Row::Receives(ID_7, false),
             Row::Expires(Ok((ID_9, &EXPIRED_9))),
+        ],
+    },
+    Play {
+        name: "a reception is given up before its time",
+        sides: &[Craft],
+        config: Config { clock: 19, ..PASS },
+        rows: &[
+            Row::Hears(FIRST, Kept(ID_7, 1), &[]),
+            Row::Expires(Err(NodeFault::NothingDue)),
+            Row::GivesUp(ID_9, Err(NodeFault::NotOpen)),
+            Row::GivesUp(ID_7, Ok(&EXPIRED)),
+            Row::GivesUp(ID_7, Err(NodeFault::NotOpen)),
+            Row::Hears(MIDDLE, CLOSED, &[]),
+        ],
+    },
+    Play {
+        name: "a clock is set back",
+        sides: &[Ground, Craft],
+        config: PASS,
+        rows: &[
+            Row::SetsBack(10, false),
+            Row::Hears(FIRST, Kept(ID_7, 1), &[]),
+            Row::Ticks(10),
+            Row::SetsBack(10, false),
+            Row::SetsBack(9, true),
+            Row::Clock(1),
+            Row::Ticks(2),
+            Row::Ticks(3),
+            Row::Ticks(4),
+            Row::Ticks(5),
+            Row::Ticks(6),
+            Row::Ticks(7),
+            Row::Ticks(8),
+            Row::Ticks(9),
+            Row::Refuses(Ask::Expire, Some(NodeFault::NothingDue)),
+            Row::Ticks(10),
+            Row::Refuses(Ask::Expire, None),
+            Row::SetsBack(1, false),
         ],
     },
     Play {

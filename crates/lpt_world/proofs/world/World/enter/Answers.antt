@@ -1,8 +1,8 @@
 -- An event that isn't refused is done, and the longer journal is shown.
 use Rattle.std.proofs.Common.{arith, ◌≡◌, ◌∙◌, ap, sym, length, None}
 use Rattle.lpt_system.specs.SystemInside.{state_of}
-use Rattle.lpt_journal.specs.Replies.{reply}
-use Rattle.lpt_model.specs.State.{refusal_of, after}
+use Rattle.lpt_journal.specs.Events.{reply}
+use Rattle.lpt_model.specs.Events.{refusal_of, after}
 use Rattle.lpt_world.specs.Worlds.{Shown, refusal_at, history}
 use Rattle.lpt_world.proofs.LegalLemmas.{numbered_few, boots_few}
 use Rattle.lpt_world.proofs.WorldLemmas.{free_shown, ready_shown, seat_there, shown_push, reply_shown}

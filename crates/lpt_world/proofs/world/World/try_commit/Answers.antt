@@ -1,7 +1,7 @@
 -- A reading that was prepared outside is handed in, and the longer journal is shown.
 use Rattle.std.proofs.Common.{◌≡◌, ◌∙◌, ap, sym, None}
 use Rattle.lpt_events.specs.declared.event.Event.TheVariants.{Commit}
-use Rattle.lpt_model.specs.State.{refusal_of}
+use Rattle.lpt_model.specs.Events.{refusal_of}
 use Rattle.lpt_system.specs.SystemInside.{state_of}
 use Rattle.lpt_world.specs.Worlds.{Shown, refusal_at}
 use Rattle.lpt_world.proofs.WorldLemmas.{free_shown, ready_shown, seat_there, shown_push}

@@ -1,8 +1,8 @@
 -- A delivery of what was read outside is done, and the longer journal is shown.
 use Rattle.std.proofs.Common.{arith, ◌≡◌, ◌∙◌, ap, subst, sym, length, None}
 use Rattle.lpt_events.specs.declared.event.Event.TheVariants.{Deliver}
-use Rattle.lpt_journal.specs.Replies.{reply}
-use Rattle.lpt_model.specs.State.{refusal_of, after}
+use Rattle.lpt_journal.specs.Events.{reply}
+use Rattle.lpt_model.specs.Events.{refusal_of, after}
 use Rattle.lpt_system.specs.SystemInside.{state_of}
 use Rattle.lpt_world.specs.Outside.{IsOfHand}
 use Rattle.lpt_world.specs.Worlds.{Shown, refusal_at, history}
