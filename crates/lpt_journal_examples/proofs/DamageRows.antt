@@ -6,8 +6,7 @@ use Rattle.lpt_packet.specs.Checksums.{checksum, octets_in, shift_all}
 use Rattle.lpt_packet.specs.Packets.{seen, spelling}
 use Rattle.lpt_pus.specs.Commands.{tc_field, tc_verdict}
 use Rattle.lpt_part.specs.Parts.{body_of, part_verdict}
-use Rattle.lpt_events.specs.declared.event.Event.{Event}
-use Rattle.lpt_events.specs.declared.event.Event.TheVariants.{Open, Send, Damage, Take, Deliver}
+use Rattle.lpt_acts.specs.Acts.{Act, Open, Send, Damage, Take, Deliver}
 use Rattle.lpt_events.specs.declared.fault.StepFault.TheVariants.{Long, LooksWhole}
 use Rattle.lpt_events.specs.declared.lane.Lane.TheVariants.{S1, G1}
 use Rattle.lpt_events.specs.declared.outcome.Outcome.TheVariants.{Kept, Ignored}
@@ -24,7 +23,7 @@ abbrev idle : List ℕ
 idle = 7 ∷ 255 ∷ 192 ∷ 0 ∷ 0 ∷ 0 ∷ 0 ∷ []
 
 -- before and behind a part, noise leaves three octets and none; 32 octets are more than 8 and 23
-abbrev tried : List Event
+abbrev tried : List Act
 tried =
     Open Up (own 7) m9
     ∷ Damage Up (24 ∷ 100 ∷ 192 ∷ []) ∷ Send Up (own 7) 1 ∷ Damage Down []

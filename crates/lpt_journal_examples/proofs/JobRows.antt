@@ -12,8 +12,7 @@ use Rattle.lpt_memory.specs.Requests.{front_load_area, front_range, front_head, 
 use Rattle.lpt_memory.specs.Meanings.{body_meaning, meaning}
 use Rattle.lpt_events.specs.Arrivals.{arrival}
 use Rattle.lpt_events.specs.declared.applied.Applied.TheVariants.{Done}
-use Rattle.lpt_events.specs.declared.event.Event.{Event}
-use Rattle.lpt_events.specs.declared.event.Event.TheVariants.{Send, Plain, Take, Deliver, Claim, Commit, Apply}
+use Rattle.lpt_acts.specs.Acts.{Act, Send, Plain, Take, Deliver, Claim, Commit, Apply}
 use Rattle.lpt_events.specs.declared.fault.StepFault.TheVariants.{HandFull, HandEmpty, NoJob, NotReady}
 use Rattle.lpt_events.specs.declared.lane.Lane.TheVariants.{S1}
 use Rattle.lpt_events.specs.declared.outcome.Outcome.TheVariants.{PlainReleased, ReportNoted}
@@ -89,7 +88,7 @@ executed_load-reported =
 -- ---- two loads
 
 -- the pass, with events between that are refused
-abbrev asked_loads : List Event
+abbrev asked_loads : List Act
 asked_loads =
     Apply ∷ Plain 1 0 6 2 load ∷ Plain 1 0 6 2 clear
     ∷ Take S1 0 ∷ Deliver S1 ∷ Take S1 1 ∷ Deliver S1
@@ -132,7 +131,7 @@ two_loads-left = ap (memories usual usual_memories) (recorded_is usual (reverse 
 -- ---- two dumps
 
 -- two octets are dumped, then three
-abbrev dumps : List Event
+abbrev dumps : List Act
 dumps =
     Plain 1 0 6 5 (dump 2) ∷ Take S1 0 ∷ Deliver S1 ∷ Claim W1 ∷ Commit W1 ∷ Apply
     ∷ Plain 1 0 6 5 (dump 3) ∷ Take S1 2 ∷ Deliver S1 ∷ Claim W2 ∷ Commit W2 ∷ Apply

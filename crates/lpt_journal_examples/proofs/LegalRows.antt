@@ -5,11 +5,9 @@ use Rattle.std.specs.Option.{is_some}
 use Rattle.lpt_packet.specs.Names.{Name, IsName}
 use Rattle.lpt_packet.specs.Numbers.{IsOctets}
 use Rattle.lpt_events.specs.declared.config.Config.{Config}
-use Rattle.lpt_events.specs.declared.event.Event.{Event}
-use Rattle.lpt_events.specs.declared.event.Event.TheVariants.{Open, Send, Plain, Finish, Damage, Retire}
+use Rattle.lpt_acts.specs.Acts.{Act, Open, Send, Plain, Finish, Damage, Retire, IsAct}
 use Rattle.lpt_events.specs.Configs.{IsConfig}
 use Rattle.lpt_journal.specs.Refusals.{refusal}
-use Rattle.lpt_events.specs.Events.{IsEvent}
 use Rattle.lpt_journal.specs.Legal.{Legal}
 use Rattle.lpt_journal_examples.proofs.Listed.{recorded_listed, recorded_is, refusal_listed, refusal_is}
 use Rattle.lpt_journal_examples.specs.Passes.{IsPass, usual, strict, impatient, usual_memories}
@@ -26,7 +24,7 @@ are_octets (x ∷ b) h (suc i) =
 abbrev in_name : Name → Bool
 in_name n = nat_lt n.source 65536 && nat_lt n.id 65536
 
-abbrev in_range : Event → Bool
+abbrev in_range : Act → Bool
 in_range (Open d name m) = in_name name && list_all (λ x. nat_lt x 256) m
 in_range (Send d name k) = in_name name && nat_lt k 65536
 in_range (Plain source flags service subtype body) =
@@ -45,7 +43,7 @@ is_name name h = record {
   id_fits = true_lt name.id 65536 (and_right (nat_lt name.source 65536) (nat_lt name.id 65536) h);
 }
 
-is_event : (e : Event) → in_range e ≡ true → IsEvent e
+is_event : (e : Act) → in_range e ≡ true → IsAct e
 is_event (Open d name m) h = (
   is_name name (and_left (in_name name) (list_all (λ x. nat_lt x 256) m) h),
   are_octets m (and_right (in_name name) (list_all (λ x. nat_lt x 256) m) h),
@@ -73,13 +71,13 @@ is_event (Damage d b) h = are_octets b h
 is_event e h = tt
 
 -- whether no event is refused, by the lists
-abbrev pub passes : Config → List Event → Bool
+abbrev pub passes : Config → List Act → Bool
 passes c [] = true
 passes c (e ∷ es) =
     passes c es && (in_range e && not (is_some (refusal_listed c (recorded_listed c es) e)))
 
 -- a journal in which no event is refused is legal
-pub legal : (c : Config) (es : List Event) → passes c es ≡ true → Legal c usual_memories es
+pub legal : (c : Config) (es : List Act) → passes c es ≡ true → Legal c usual_memories es
 legal c [] h = tt
 legal c (e ∷ es) h =
     let accepted = not (is_some (refusal_listed c (recorded_listed c es) e)) in
@@ -115,14 +113,14 @@ usual_with timeout some fits = record {
 }
 
 -- a list of events of which none is refused is a pass of the usual configuration
-pub usual_pass : (es : List Event) → passes usual (reverse es) ≡ true → IsPass usual es
+pub usual_pass : (es : List Act) → passes usual (reverse es) ≡ true → IsPass usual es
 usual_pass es h = record {
   configured = usual_with 10 (omega arith) (omega arith);
   legal = legal usual (reverse es) h;
 }
 
 -- or of that in which parts are taken in order
-pub strict_pass : (es : List Event) → passes strict (reverse es) ≡ true → IsPass strict es
+pub strict_pass : (es : List Act) → passes strict (reverse es) ≡ true → IsPass strict es
 strict_pass es h = record {
   configured = record {
     apid_fits = omega arith;
@@ -140,7 +138,7 @@ strict_pass es h = record {
 }
 
 -- or of that with a timeout of one tick
-pub impatient_pass : (es : List Event) → passes impatient (reverse es) ≡ true → IsPass impatient es
+pub impatient_pass : (es : List Act) → passes impatient (reverse es) ≡ true → IsPass impatient es
 impatient_pass es h = record {
   configured = usual_with 1 (omega arith) (omega arith);
   legal = legal impatient (reverse es) h;

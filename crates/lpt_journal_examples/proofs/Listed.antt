@@ -1,5 +1,5 @@
 -- The definitions with the kept parts as lists in the order of numbers: these compute.
-use Rattle.std.proofs.Common.{◌≡◌, ◌∙◌, ap, refl, ℕ, ◌+◌, ◌==◌, nat_le, Bool, not, ◌&&◌, ◌||◌, if◌then◌else◌, List, [], ◌∷◌, length, Option}
+use Rattle.std.proofs.Common.{◌≡◌, ◌∙◌, ap, refl, ℕ, ◌+◌, ◌==◌, nat_le, Bool, not, ◌&&◌, ◌||◌, if◌then◌else◌, List, [], ◌∷◌, length, Option, None}
 use Rattle.std.specs.Option.{is_some}
 use Rattle.std.specs.List.{filter}
 use Rattle.std.specs.FinMap as map
@@ -18,8 +18,7 @@ use Rattle.lpt_events.specs.declared.outcome.Outcome.{Outcome}
 use Rattle.lpt_events.specs.declared.outcome.Outcome.TheVariants.{Kept, Again, Released, Broken, Ignored}
 use Rattle.lpt_events.specs.declared.outcome.Why.TheVariants.{Closed, NoRoom}
 use Rattle.lpt_events.specs.Arrivals.{Arrival, APart}
-use Rattle.lpt_events.specs.declared.event.Event.{Event}
-use Rattle.lpt_events.specs.declared.event.Event.TheVariants.{Deliver, Expire, Retire}
+use Rattle.lpt_acts.specs.Acts.{Act, Deliver, Expire, Retire}
 use Rattle.lpt_events.specs.declared.fault.StepFault.{StepFault}
 use Rattle.lpt_events.specs.declared.fault.StepFault.TheVariants.{NotOpen, NothingDue, NotClear, StillOpen}
 use Rattle.lpt_events.specs.declared.reply.Answer.{Answer}
@@ -31,7 +30,7 @@ use Rattle.lpt_journal.specs.Clear.{part_held, part_in_hand}
 use Rattle.lpt_journal.specs.Hands.{in_hand}
 use Rattle.lpt_journal.specs.Link.{sent}
 use Rattle.lpt_journal.specs.Senders.{sender, is_free, is_open, once}
-use Rattle.lpt_journal.specs.Receivers.{with_piece, heard, has_parts, heard_names, open_names, is_closed, last_tick}
+use Rattle.lpt_journal.specs.Receivers.{with_piece, heard, has_parts, heard_names, open_names, is_closed, last_tick, limits}
 use Rattle.lpt_journal.specs.Due.{is_overdue, earliest, due}
 use Rattle.lpt_journal.specs.Delivery.{judged_part, judged}
 use Rattle.lpt_journal_examples.proofs.ListedSets.{Listed, with_listed, contradicts_listed, whole_listed, spelled_listed, entries-with_piece, contradicts_is, whole_is, listed, entries-heard}
@@ -81,7 +80,8 @@ names_listed c h d = once (filter (λ name. has_listed (listed c h d name)) (hea
 
 abbrev judged_listed : Config → History → Direction → Arrival → Outcome
 judged_listed c h d (APart q) =
-    judged_list c.mode c.receptions (is_closed h d q.name) (length (names_listed c h d))
+    judged_list c.mode (limits c h (receiver_side d)).receptions (is_closed h d q.name)
+    (length (names_listed c h d))
     (listed c h d q.name) q
 judged_listed c h d a = judged c h d a
 
@@ -96,9 +96,10 @@ has_is c h d name = has_parts_is (heard c h d name) ∙ ap has_listed (entries-h
 judged_is : (c : Config) (h : History) (d : Direction) (a : Arrival)
     → judged c h d a ≡ judged_listed c h d a
 judged_is c h d (APart q) =
-    judged_part_is c.mode c.receptions (is_closed h d q.name) (length (open_names c h d))
+    judged_part_is c.mode (limits c h (receiver_side d)).receptions (is_closed h d q.name)
+    (length (open_names c h d))
     (heard c h d q.name) q
-    ∙ (λ i. judged_list c.mode c.receptions (is_closed h d q.name)
+    ∙ (λ i. judged_list c.mode (limits c h (receiver_side d)).receptions (is_closed h d q.name)
     (length (once (filter (λ name. has_is c h d name i) (heard_names h d)))) (entries-heard c h d q.name i) q)
 judged_is c h d a = refl
 
@@ -133,16 +134,16 @@ retire_refusal h d name clear =
     ∷ (not clear, NotClear) ∷ [])
 
 -- why an event is refused, by the lists
-abbrev pub refusal_listed : Config → History → Event → Option StepFault
-refusal_listed c h (Expire side) =
+abbrev pub refusal_listed : Config → History → Act → Option StepFault
+refusal_listed c h (Expire side None) =
     first_fault ((not (is_some (due_listed c h (direction_to side))), NothingDue) ∷ [])
 refusal_listed c h (Retire d name) =
     retire_refusal h d name (clear_where c h d name (has_listed (listed c h d name)))
 refusal_listed c h e = refusal c h e
 
 -- what refuses an event is the same by the lists
-pub refusal_is : (c : Config) (h : History) (e : Event) → refusal c h e ≡ refusal_listed c h e
-refusal_is c h (Expire side) =
+pub refusal_is : (c : Config) (h : History) (e : Act) → refusal c h e ≡ refusal_listed c h e
+refusal_is c h (Expire side None) =
     ap (λ o. first_fault ((not (is_some o), NothingDue) ∷ [])) (due_is c h (direction_to side))
 refusal_is c h (Retire d name) =
     ap (λ has. retire_refusal h d name (clear_where c h d name has)) (has_is c h d name)
@@ -150,29 +151,30 @@ refusal_is c h e = refl
 
 -- ---- entries
 
-abbrev answer_listed : Config → History → Event → Answer
+abbrev answer_listed : Config → History → Act → Answer
 answer_listed c h (Deliver l) = Delivered (outcome_listed c h l)
-answer_listed c h (Expire side) =
+answer_listed c h (Expire side None) =
     expired_now (direction_to side) (due_listed c h (direction_to side))
 answer_listed c h e = answer c usual_memories h e
 
-abbrev puts_listed : Config → History → Event → List SentPacket
+abbrev puts_listed : Config → History → Act → List SentPacket
 puts_listed c h (Deliver l) =
     outcome_puts c h (receiver_side (lane_direction l)) (outcome_listed c h l)
-puts_listed c h (Expire side) = expiry_puts c h side (due_listed c h (direction_to side))
+puts_listed c h (Expire side None) = expiry_puts c h side (due_listed c h (direction_to side))
 puts_listed c h e = puts c usual_memories h e
 
-abbrev reply_listed : Config → History → Event → Reply
+abbrev reply_listed : Config → History → Act → Reply
 reply_listed c h e =
     record { answer = answer_listed c h e; puts = told (length (sent h)) (puts_listed c h e) }
 
 -- an event with what it gives, by the lists
-abbrev pub entry_listed : Config → History → Event → Recorded
+abbrev pub entry_listed : Config → History → Act → Recorded
 entry_listed c h e =
     record { event = e; reply = reply_listed c h e; puts = puts_listed c h e; opens = opens c usual_memories h e }
 
 -- what is recorded of an event is the same by the lists
-pub entry_is : (c : Config) (h : History) (e : Event) → entry c usual_memories h e ≡ entry_listed c h e
+pub entry_is : (c : Config) (h : History) (e : Act)
+    → entry c usual_memories h e ≡ entry_listed c h e
 entry_is c h (Deliver l) =
     let o = judged_is c h (lane_direction l) (in_hand c h l) in
     λ i. record {
@@ -186,10 +188,10 @@ entry_is c h (Deliver l) =
       puts = outcome_puts c h (receiver_side (lane_direction l)) (o i);
       opens = [];
     }
-entry_is c h (Expire side) =
+entry_is c h (Expire side None) =
     let o = due_is c h (direction_to side) in
     λ i. record {
-      event = Expire side;
+      event = Expire side None;
       reply =
           record {
             answer = expired_now (direction_to side) (o i);
@@ -201,12 +203,12 @@ entry_is c h (Expire side) =
 entry_is c h e = refl
 
 -- the history of a journal, by the lists
-abbrev pub recorded_listed : Config → List Event → History
+abbrev pub recorded_listed : Config → List Act → History
 recorded_listed c [] = []
 recorded_listed c (e ∷ es) = let h = recorded_listed c es in entry_listed c h e ∷ h
 
 -- the history of a journal is the same by the lists
-pub recorded_is : (c : Config) (es : List Event) → recorded c usual_memories es ≡ recorded_listed c es
+pub recorded_is : (c : Config) (es : List Act) → recorded c usual_memories es ≡ recorded_listed c es
 recorded_is c [] = refl
 recorded_is c (e ∷ es) =
     let before = recorded_is c es in

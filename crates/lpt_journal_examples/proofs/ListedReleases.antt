@@ -9,8 +9,7 @@ use Rattle.lpt_events.specs.Lanes.{lane_direction}
 use Rattle.lpt_events.specs.declared.config.Config.{Config}
 use Rattle.lpt_events.specs.declared.outcome.Outcome.TheVariants.{Released, PlainReleased}
 use Rattle.lpt_events.specs.Arrivals.{Arrival, ARequest, APart}
-use Rattle.lpt_events.specs.declared.event.Event.{Event}
-use Rattle.lpt_events.specs.declared.event.Event.TheVariants.{Deliver}
+use Rattle.lpt_acts.specs.Acts.{Act, Deliver}
 use Rattle.lpt_events.specs.declared.reply.Answer.{Answer}
 use Rattle.lpt_events.specs.declared.reply.Answer.TheVariants.{Delivered}
 use Rattle.lpt_events.specs.declared.entry.Release.{Release}
@@ -31,7 +30,7 @@ released_list place d (Delivered (PlainReleased len)) s (ARequest b) =
     record { place = place; of = None; message = b } ∷ []
 released_list place d answer s arrived = []
 
-abbrev release_list : Event
+abbrev release_list : Act
     → (place : ℕ)
     → Answer
     → (Direction → Name → Listed)
@@ -59,7 +58,7 @@ released_is place d (Delivered (Released name len)) s t (APart q) is =
 released_is place d (Delivered (PlainReleased len)) s t (ARequest b) is = refl
 released_is place d o s t a is = refl
 
-release_is : (e : Event) (place : ℕ) (o : Answer) (s : Direction → Name → Parts)
+release_is : (e : Act) (place : ℕ) (o : Answer) (s : Direction → Name → Parts)
     (t : Direction → Name → Listed) (arrived : Lane → Arrival)
     → ((d : Direction) (name : Name) → map.entries (s d name) ≡ t d name)
     → release_after e place o s arrived ≡ release_list e place o t arrived
@@ -79,7 +78,7 @@ releases_is c (x ∷ h) =
     λ i. with_all (releases_is c h i) (now i)
 
 -- the releases of a pass, by the lists
-pub releases_passed : (c : Config) (es : List Event)
+pub releases_passed : (c : Config) (es : List Act)
     → releases c (passed c es) ≡ releases_listed c (recorded_listed c (reverse es))
 releases_passed c es =
     ap (releases c) (recorded_is c (reverse es)) ∙ releases_is c (recorded_listed c (reverse es))

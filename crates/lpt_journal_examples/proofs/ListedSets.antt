@@ -15,8 +15,7 @@ use Rattle.lpt_events.specs.Lanes.{lane_direction, same_direction}
 use Rattle.lpt_events.specs.declared.config.Config.{Config}
 use Rattle.lpt_events.specs.declared.outcome.Outcome.TheVariants.{Kept, Released, Broken}
 use Rattle.lpt_events.specs.Arrivals.{Arrival, APart}
-use Rattle.lpt_events.specs.declared.event.Event.{Event}
-use Rattle.lpt_events.specs.declared.event.Event.TheVariants.{Deliver, Expire, Restart}
+use Rattle.lpt_acts.specs.Acts.{Act, Deliver, Expire, Restart}
 use Rattle.lpt_events.specs.declared.reply.Answer.{Answer}
 use Rattle.lpt_events.specs.declared.reply.Answer.TheVariants.{Delivered}
 use Rattle.lpt_events.specs.Sides.{same_side, receiver_side}
@@ -93,11 +92,11 @@ listed_now (Delivered (Broken i reason)) arrived name before =
 listed_now _ arrived name before = before
 
 -- the list after an event
-abbrev pub listed_after : Event → Answer → (Lane → Arrival) → Direction → Name → Listed → Listed
+abbrev pub listed_after : Act → Answer → (Lane → Arrival) → Direction → Name → Listed → Listed
 listed_after (Deliver l) answer arrived d name before =
     if same_direction (lane_direction l) d
     then listed_now answer (arrived l) name before else before
-listed_after (Expire side) answer arrived d name before =
+listed_after (Expire side which) answer arrived d name before =
     if same_side side (receiver_side d) && ends answer name then [] else before
 listed_after (Restart side) answer arrived d name before =
     if same_side side (receiver_side d) then [] else before
@@ -142,7 +141,7 @@ entries-heard_now (Delivered (Released i len)) a name s = dropped (same_name i n
 entries-heard_now (Delivered (Broken i reason)) a name s = dropped (same_name i name) s
 entries-heard_now o a name s = refl
 
-entries-heard_after : (e : Event) (o : Answer) (arrived : Lane → Arrival) (d : Direction)
+entries-heard_after : (e : Act) (o : Answer) (arrived : Lane → Arrival) (d : Direction)
     (name : Name) (s : Parts)
     → map.entries (heard_after e o arrived d name s)
     ≡ listed_after e o arrived d name (map.entries s)
@@ -150,7 +149,7 @@ entries-heard_after (Deliver l) o arrived d name s =
     chosen (same_direction (lane_direction l) d) (heard_now o (arrived l) name s) s
     ∙ ap (λ es. if same_direction (lane_direction l) d then es else map.entries s)
     (entries-heard_now o (arrived l) name s)
-entries-heard_after (Expire side) o arrived d name s =
+entries-heard_after (Expire side which) o arrived d name s =
     dropped (same_side side (receiver_side d) && ends o name) s
 entries-heard_after (Restart side) o arrived d name s =
     dropped (same_side side (receiver_side d)) s

@@ -5,8 +5,7 @@ use Rattle.lpt_packet.specs.Checksums.{checksum, octets_in, shift_all}
 use Rattle.lpt_packet.specs.Packets.{seen, spelling}
 use Rattle.lpt_pus.specs.Commands.{tc_field, tc_verdict}
 use Rattle.lpt_part.specs.Parts.{body_of, part_verdict}
-use Rattle.lpt_events.specs.declared.event.Event.{Event}
-use Rattle.lpt_events.specs.declared.event.Event.TheVariants.{Open, Send, Lose, Take, Deliver}
+use Rattle.lpt_acts.specs.Acts.{Act, Open, Send, Lose, Take, Deliver}
 use Rattle.lpt_events.specs.declared.fault.StepFault.TheVariants.{NotHeld}
 use Rattle.lpt_events.specs.declared.lane.Lane.TheVariants.{S1, S2}
 use Rattle.lpt_events.specs.declared.outcome.Outcome.TheVariants.{Kept}
@@ -16,7 +15,7 @@ use Rattle.lpt_journal_examples.specs.Passes.{usual, m9, own}
 use Rattle.lpt_journal_examples.proofs.Played.{Refuses, played, played_is, gives, puts_packet}
 
 -- a packet is lost while a lane has it in its hand
-abbrev lossy : List Event
+abbrev lossy : List Act
 lossy =
     Open Up (own 7) m9 ∷ Send Up (own 7) 1
     ∷ Take S1 0 ∷ Lose 0 ∷ Lose 0 ∷ Take S2 0

@@ -8,8 +8,7 @@ use Rattle.lpt_pus.specs.Commands.{tc_field, tc_verdict}
 use Rattle.lpt_events.specs.declared.lane.Lane.TheVariants.{S1}
 use Rattle.lpt_events.specs.declared.outcome.Outcome.TheVariants.{PlainReleased}
 use Rattle.lpt_events.specs.Arrivals.{arrival}
-use Rattle.lpt_events.specs.declared.event.Event.{Event}
-use Rattle.lpt_events.specs.declared.event.Event.TheVariants.{Plain, Take, Deliver}
+use Rattle.lpt_acts.specs.Acts.{Act, Plain, Take, Deliver}
 use Rattle.lpt_events.specs.declared.fault.StepFault.TheVariants.{PartRequest, Long}
 use Rattle.lpt_events.specs.declared.reply.Answer.TheVariants.{Took, Delivered}
 use Rattle.lpt_journal.specs.Link.{sent}
@@ -20,7 +19,7 @@ use Rattle.lpt_journal_examples.proofs.Played.{Refuses, played, played_listed, p
 use Rattle.lpt_journal_examples.specs.Passes.{IsPass, usual, m20, load, load_packet}
 
 -- a request is put and delivered; a part's and one that is too long are refused
-abbrev pub loading : List Event
+abbrev pub loading : List Act
 loading =
     Plain 1 0 6 2 load
     ∷ Take S1 0 ∷ Deliver S1
@@ -50,7 +49,7 @@ loading-released =
     ∙ releases_is usual (played_listed usual loading).after
 
 -- what isn't refused of it
-abbrev accepted : List Event
+abbrev accepted : List Act
 accepted = Plain 1 0 6 2 load ∷ Take S1 0 ∷ Deliver S1 ∷ Plain 1 15 13 12 [] ∷ []
 
 -- it is a pass

@@ -1,7 +1,7 @@
 -- Lists of events as they are asked for, some of them refused, with what each gives.
 use Rattle.std.proofs.Common.{◌≡◌, ℕ, List, [], ◌∷◌, Option, Some, None}
 use Rattle.lpt_events.specs.declared.config.Config.{Config}
-use Rattle.lpt_events.specs.declared.event.Event.{Event}
+use Rattle.lpt_acts.specs.Acts.{Act}
 use Rattle.lpt_events.specs.declared.fault.StepFault.{StepFault}
 use Rattle.lpt_events.specs.declared.reply.Answer.{Answer}
 use Rattle.lpt_events.specs.declared.reply.Answer.TheVariants.{Put}
@@ -27,11 +27,11 @@ given_first g p = record { given = g ∷ p.given; after = p.after }
 
 -- These events, the oldest first, after this history. Make says what is recorded of an event, and
 -- refuses why it is refused.
-abbrev played_by : (Config → History → Event → Recorded)
-    → (Config → History → Event → Option StepFault)
+abbrev played_by : (Config → History → Act → Recorded)
+    → (Config → History → Act → Option StepFault)
     → Config
     → History
-    → List Event
+    → List Act
     → Played
 played_by make refuses c h [] = record { given = []; after = h }
 played_by make refuses c h (e ∷ es) = elim (refuses c h e) [
@@ -40,15 +40,15 @@ played_by make refuses c h (e ∷ es) = elim (refuses c h e) [
 ]
 
 -- these events, the oldest first, on an empty journal
-abbrev pub played : Config → List Event → Played
+abbrev pub played : Config → List Act → Played
 played c es = played_by (λ c h e. entry c usual_memories h e) refusal c [] es
 
 -- the same, by the lists
-abbrev pub played_listed : Config → List Event → Played
+abbrev pub played_listed : Config → List Act → Played
 played_listed c es = played_by entry_listed refusal_listed c [] es
 
 -- what a list of events gives is the same by the lists
-pub played_is : (c : Config) (es : List Event) → played c es ≡ played_listed c es
+pub played_is : (c : Config) (es : List Act) → played c es ≡ played_listed c es
 played_is c es i = played_by (λ c h e. entry_is c h e i) (λ c h e. refusal_is c h e i) c [] es
 
 -- ---- how replies are written in rows

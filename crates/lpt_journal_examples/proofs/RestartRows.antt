@@ -8,8 +8,7 @@ use Rattle.lpt_packet.specs.Packets.{seen, spelling}
 use Rattle.lpt_pus.specs.Commands.{tc_field, tc_verdict}
 use Rattle.lpt_part.specs.Parts.{body_of, part_verdict}
 use Rattle.lpt_events.specs.Arrivals.{arrival}
-use Rattle.lpt_events.specs.declared.event.Event.{Event}
-use Rattle.lpt_events.specs.declared.event.Event.TheVariants.{Open, Send, Plain, Finish, Lose, Take, Deliver, Claim, Commit, Retire, Restart}
+use Rattle.lpt_acts.specs.Acts.{Act, Open, Send, Plain, Finish, Lose, Take, Deliver, Claim, Commit, Retire, Restart}
 use Rattle.lpt_events.specs.declared.fault.StepFault.TheVariants.{NotOpen, NoJob, NotClear, StillOpen}
 use Rattle.lpt_events.specs.declared.lane.Lane.TheVariants.{S1, S2}
 use Rattle.lpt_events.specs.declared.outcome.Outcome.TheVariants.{Kept, Released, PlainReleased, Ignored}
@@ -28,7 +27,7 @@ use Rattle.lpt_journal_examples.proofs.Played.{Refuses, played, played_is, gives
 use Rattle.lpt_journal_examples.specs.Passes.{IsPass, passed, answers, usual, usual_memories, m20, m9, load, load_packet, renewed, own}
 
 -- the pass, with events between that are refused
-abbrev asked : List Event
+abbrev asked : List Act
 asked =
     Plain 1 0 6 2 load ∷ Take S1 0 ∷ Deliver S1
     ∷ Claim W1 ∷ Restart Craft ∷ Commit W1 ∷ Claim W1

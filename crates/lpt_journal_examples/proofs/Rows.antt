@@ -10,8 +10,7 @@ use Rattle.lpt_events.specs.declared.lane.Lane.TheVariants.{S1, S2}
 use Rattle.lpt_events.specs.declared.outcome.Outcome.TheVariants.{Kept, Again, Released, Ignored}
 use Rattle.lpt_events.specs.declared.outcome.Why.TheVariants.{Closed}
 use Rattle.lpt_events.specs.Arrivals.{arrival}
-use Rattle.lpt_events.specs.declared.event.Event.{Event}
-use Rattle.lpt_events.specs.declared.event.Event.TheVariants.{Open, Send, Finish, Take, Deliver}
+use Rattle.lpt_acts.specs.Acts.{Act, Open, Send, Finish, Take, Deliver}
 use Rattle.lpt_events.specs.declared.fault.StepFault.TheVariants.{InUse, NotOpen, NoSuchPart}
 use Rattle.lpt_events.specs.declared.reply.Answer.TheVariants.{Opened, Finished, Took, Delivered}
 use Rattle.lpt_journal.specs.Link.{sent}
@@ -57,7 +56,7 @@ last_packet = ap (λ p. slice_get (sent p.after) 2) (played_is usual out_of_orde
 
 -- ---- parts that come again
 
-abbrev repeated : List Event
+abbrev repeated : List Act
 repeated =
     Open Up (own 7) m20
     ∷ Send Up (own 7) 1 ∷ Send Up (own 7) 2 ∷ Send Up (own 7) 3
@@ -95,7 +94,7 @@ repeated-released =
 
 -- ---- two parts
 
-abbrev two_parts : List Event
+abbrev two_parts : List Act
 two_parts =
     Open Up (own 7) m9
     ∷ Send Up (own 7) 1 ∷ Send Up (own 7) 2 ∷ Send Up (own 7) 3
@@ -132,7 +131,7 @@ two_parts-released =
 
 -- ---- two full parts
 
-abbrev full_parts : List Event
+abbrev full_parts : List Act
 full_parts =
     Open Up (own 7) m16
     ∷ Send Up (own 7) 1 ∷ Send Up (own 7) 2
@@ -160,7 +159,7 @@ full_parts-released =
 
 -- ---- a sender that is finished
 
-abbrev finished : List Event
+abbrev finished : List Act
 finished =
     Open Up (own 7) m9
     ∷ Send Up (own 7) 1

@@ -12,8 +12,7 @@ use Rattle.lpt_events.specs.declared.lane.Lane.TheVariants.{S1, S2, G1}
 use Rattle.lpt_events.specs.declared.outcome.Outcome.TheVariants.{Kept, Released, Ignored}
 use Rattle.lpt_events.specs.declared.outcome.Why.TheVariants.{NoRoom}
 use Rattle.lpt_events.specs.Arrivals.{arrival}
-use Rattle.lpt_events.specs.declared.event.Event.{Event}
-use Rattle.lpt_events.specs.declared.event.Event.TheVariants.{Open, Send, Take, Deliver}
+use Rattle.lpt_acts.specs.Acts.{Act, Open, Send, Take, Deliver}
 use Rattle.lpt_events.specs.declared.fault.StepFault.TheVariants.{InUse, Short, Long, TooMany, NotOpen, NoSuchPart, NotHeld, HandFull, HandEmpty}
 use Rattle.lpt_events.specs.declared.reply.Answer.TheVariants.{Opened, Took, Delivered}
 use Rattle.lpt_journal.specs.Link.{sent}
@@ -23,7 +22,7 @@ use Rattle.lpt_journal_examples.proofs.Played.{Refuses, played, played_is, gives
 
 -- ---- a second transaction meets no room
 
-abbrev no_room : List Event
+abbrev no_room : List Act
 no_room =
     Open Up (own 7) m9 ∷ Open Up (own 8) m9
     ∷ Send Up (own 7) 1 ∷ Send Up (own 8) 1 ∷ Send Up (own 7) 2
@@ -46,7 +45,7 @@ no_room-given = ap (λ p. p.given) (played_is (record usual { receptions = 1 }) 
 
 -- ---- refusals
 
-abbrev refused : List Event
+abbrev refused : List Act
 refused =
     Send Up (own 7) 1 ∷ Deliver S1 ∷ Take S1 0
     ∷ Open Up (own 7) (0 ∷ 1 ∷ 2 ∷ 3 ∷ 4 ∷ 5 ∷ 6 ∷ 7 ∷ [])

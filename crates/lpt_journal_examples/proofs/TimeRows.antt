@@ -1,5 +1,5 @@
 -- Worked passes with ticks and expiry, computed by the definitions.
-use Rattle.std.proofs.Common.{◌≡◌, ap, List, [], ◌∷◌, ◌++◌, Some}
+use Rattle.std.proofs.Common.{◌≡◌, ap, List, [], ◌∷◌, ◌++◌, Some, None}
 use Rattle.std.specs.List.{slice_get}
 use Rattle.lpt_packet.specs.declared.direction.Direction.TheVariants.{Up, Down}
 use Rattle.lpt_packet.specs.Checksums.{checksum, octets_in, shift_all}
@@ -14,8 +14,7 @@ use Rattle.lpt_events.specs.declared.outcome.Outcome.TheVariants.{Kept, Ignored,
 use Rattle.lpt_events.specs.declared.outcome.Why.TheVariants.{Closed}
 use Rattle.lpt_events.specs.declared.side.Side.TheVariants.{Ground, Craft}
 use Rattle.lpt_events.specs.Arrivals.{arrival}
-use Rattle.lpt_events.specs.declared.event.Event.{Event}
-use Rattle.lpt_events.specs.declared.event.Event.TheVariants.{Open, Send, Take, Deliver, Tick, Expire}
+use Rattle.lpt_acts.specs.Acts.{Act, Open, Send, Take, Deliver, Tick, Expire, On}
 use Rattle.lpt_events.specs.declared.fault.StepFault.TheVariants.{NotOpen, NothingDue, ClockEnd}
 use Rattle.lpt_events.specs.declared.reply.Answer.TheVariants.{Opened, Took, Delivered, Clock, Expired}
 use Rattle.lpt_journal.specs.Link.{sent}
@@ -24,8 +23,8 @@ use Rattle.lpt_journal_examples.proofs.Played.{Given, Gives, Refuses, played, pl
 
 -- ---- two clocks
 
-abbrev ticks : List Event
-ticks = Tick Craft ∷ Tick Ground ∷ Tick Craft ∷ Tick Craft ∷ []
+abbrev ticks : List Act
+ticks = Tick Craft On ∷ Tick Ground On ∷ Tick Craft On ∷ Tick Craft On ∷ []
 
 -- each node has its own clock, and none goes past its greatest value
 pub ticks-given : (played (record usual { clock = 4294967293 }) ticks).given ≡
@@ -35,22 +34,23 @@ ticks-given = ap (λ p. p.given) (played_is (record usual { clock = 4294967293 }
 
 -- ---- a reception that takes no part for as long as the timeout
 
-abbrev nine_ticks : List Event
+abbrev nine_ticks : List Act
 nine_ticks =
-    Tick Craft ∷ Tick Craft ∷ Tick Craft ∷ Tick Craft ∷ Tick Craft ∷ Tick Craft ∷ Tick Craft
-    ∷ Tick Craft ∷ Tick Craft ∷ []
+    Tick Craft On ∷ Tick Craft On ∷ Tick Craft On ∷ Tick Craft On ∷ Tick Craft On ∷ Tick Craft On
+    ∷ Tick Craft On
+    ∷ Tick Craft On ∷ Tick Craft On ∷ []
 
 -- a part renews the reception; later it expires, and the report closes the sender
-abbrev expiring : List Event
+abbrev expiring : List Act
 expiring =
     Open Up (own 7) m20
     ∷ Send Up (own 7) 1 ∷ Send Up (own 7) 2 ∷ Send Up (own 7) 3
     ∷ Take S1 0 ∷ Deliver S1
     ∷ nine_ticks
     ++ Take S1 1 ∷ Deliver S1
-    ∷ Tick Craft ∷ Expire Craft
+    ∷ Tick Craft On ∷ Expire Craft None
     ∷ nine_ticks
-    ++ Expire Craft
+    ++ Expire Craft None
     ∷ Take S1 2 ∷ Deliver S1
     ∷ Take G1 3 ∷ Deliver G1
     ∷ Send Up (own 7) 3 ∷ []
@@ -95,12 +95,12 @@ expiry_packet = ap (λ p. slice_get (sent p.after) 3) (played_is usual expiring)
 
 -- ---- on ground
 
-abbrev on_ground : List Event
+abbrev on_ground : List Act
 on_ground =
     Open Down (own 7) m9
     ∷ Send Down (own 7) 1
     ∷ Take G1 0 ∷ Deliver G1
-    ∷ Tick Ground ∷ Expire Ground ∷ Tick Ground ∷ Expire Craft ∷ Expire Ground
+    ∷ Tick Ground On ∷ Expire Ground None ∷ Tick Ground On ∷ Expire Craft None ∷ Expire Ground None
     ∷ Send Down (own 7) 2
     ∷ Take G1 1 ∷ Deliver G1 ∷ []
 

@@ -1,13 +1,12 @@
 -- Worked passes: the configurations, the messages and the events.
-use Rattle.std.specs.Prelude.{ℕ, List, [], ◌∷◌, ◌++◌, map, replicate, reverse}
+use Rattle.std.specs.Prelude.{ℕ, List, [], ◌∷◌, ◌++◌, map, replicate, reverse, None}
 use Rattle.lpt_memory.specs.Memories.{Contents}
 use Rattle.lpt_packet.specs.Names.{Name, named_by}
 use Rattle.lpt_packet.specs.declared.direction.Direction.TheVariants.{Up, Down}
 use Rattle.lpt_part.specs.declared.mode.Mode.TheVariants.{Any, Strict}
 use Rattle.lpt_events.specs.Configs.{IsConfig}
 use Rattle.lpt_events.specs.declared.config.Config.{Config}
-use Rattle.lpt_events.specs.declared.event.Event.{Event}
-use Rattle.lpt_events.specs.declared.event.Event.TheVariants.{Open, Send, Plain, Finish, Lose, Damage, Take, Deliver, Tick, Expire, Claim, Commit, Apply, Retire, Restart}
+use Rattle.lpt_acts.specs.Acts.{Act, Open, Send, Plain, Finish, Lose, Damage, Take, Deliver, Tick, Expire, Claim, Commit, Apply, Retire, Restart, On}
 use Rattle.lpt_events.specs.declared.lane.Lane.TheVariants.{S1, S2, G1, G2}
 use Rattle.lpt_events.specs.declared.reply.Answer.{Answer}
 use Rattle.lpt_events.specs.declared.side.Side.TheVariants.{Ground, Craft}
@@ -45,15 +44,15 @@ abbrev pub usual_memories : Contents
 usual_memories = (1, replicate 256 0) ∷ []
 
 -- the history of a pass over that memory; a pass has its oldest event first
-abbrev pub passed : Config → List Event → History
+abbrev pub passed : Config → List Act → History
 passed c es = recorded c usual_memories (reverse es)
 
 -- what its events answered
-abbrev pub answers : Config → List Event → List Answer
+abbrev pub answers : Config → List Act → List Answer
 answers c es = reverse (map (λ x. x.reply.answer) (passed c es))
 
 -- what is said of all legal journals is said of the pass: its configuration is one, and it is legal
-pub record IsPass (c : Config) (es : List Event) : Type 0 where
+pub record IsPass (c : Config) (es : List Act) : Type 0 where
   pub configured : IsConfig c
   pub legal : Legal c usual_memories (reverse es)
 
@@ -72,7 +71,7 @@ m9 = 0 ∷ 1 ∷ 2 ∷ 3 ∷ 4 ∷ 5 ∷ 6 ∷ 7 ∷ 8 ∷ []
 -- ---- three parts that come in another order
 
 -- the last part is delivered first
-abbrev pub out_of_order : List Event
+abbrev pub out_of_order : List Act
 out_of_order =
     Open Up (own 7) m20
     ∷ Send Up (own 7) 1 ∷ Send Up (own 7) 2 ∷ Send Up (own 7) 3
@@ -83,7 +82,7 @@ out_of_order =
 -- ---- one name in both directions
 
 -- up 7 and down 7 are two transactions
-abbrev pub both_ways : List Event
+abbrev pub both_ways : List Act
 both_ways =
     Open Up (own 7) m20 ∷ Open Down (own 7) m9
     ∷ Send Up (own 7) 1 ∷ Send Down (own 7) 1 ∷ Send Up (own 7) 2 ∷ Send Down (own 7) 2 ∷ Send Up (own 7) 3
@@ -96,7 +95,7 @@ both_ways =
 -- ---- what the link's noise leaves
 
 -- before and behind the first part, noise leaves three octets and none
-abbrev pub noisy : List Event
+abbrev pub noisy : List Act
 noisy =
     Open Up (own 7) m9
     ∷ Damage Up (24 ∷ 100 ∷ 192 ∷ []) ∷ Send Up (own 7) 1 ∷ Damage Down [] ∷ Send Up (own 7) 2
@@ -110,7 +109,7 @@ abbrev pub strict : Config
 strict = record usual { mode = Strict }
 
 -- the third part comes behind the first, and then the second; ground gets the report of it
-abbrev pub second_part_missing : List Event
+abbrev pub second_part_missing : List Act
 second_part_missing =
     Open Up (own 7) m20
     ∷ Send Up (own 7) 1 ∷ Send Up (own 7) 2 ∷ Send Up (own 7) 3
@@ -120,7 +119,7 @@ second_part_missing =
     ∷ Take G1 3 ∷ Deliver G1 ∷ []
 
 -- the first part comes twice, and then each other one
-abbrev pub in_order : List Event
+abbrev pub in_order : List Act
 in_order =
     Open Up (own 7) m20
     ∷ Send Up (own 7) 1 ∷ Send Up (own 7) 2 ∷ Send Up (own 7) 3
@@ -136,13 +135,13 @@ abbrev pub impatient : Config
 impatient = record usual { timeout = 1 }
 
 -- two receptions of one last tick and of two sources expire
-abbrev pub two_expire : List Event
+abbrev pub two_expire : List Act
 two_expire =
     Open Up (other 3) m9 ∷ Open Up (own 9) m9
     ∷ Send Up (other 3) 1 ∷ Send Up (own 9) 1
     ∷ Take S1 0 ∷ Deliver S1
     ∷ Take S1 1 ∷ Deliver S1
-    ∷ Tick Craft ∷ Expire Craft ∷ Expire Craft ∷ []
+    ∷ Tick Craft On ∷ Expire Craft None ∷ Expire Craft None ∷ []
 
 -- ---- a load that is executed
 
@@ -157,7 +156,7 @@ load_packet =
     ∷ 239 ∷ 1 ∷ 4 ∷ 162 ∷ 127 ∷ 186 ∷ []
 
 -- a worker reads the request before it is executed; ground gets the three reports that it asked for
-abbrev pub executed_load : List Event
+abbrev pub executed_load : List Act
 executed_load =
     Plain 1 15 6 2 load
     ∷ Take S1 0 ∷ Deliver S1
@@ -177,7 +176,7 @@ abbrev pub clear : List ℕ
 clear = 1 ∷ 1 ∷ 0 ∷ 0 ∷ 0 ∷ 16 ∷ 0 ∷ 2 ∷ 0 ∷ 0 ∷ 29 ∷ 15 ∷ []
 
 -- the second request's reading is handed in first
-abbrev pub two_loads : List Event
+abbrev pub two_loads : List Act
 two_loads =
     Plain 1 0 6 2 load ∷ Plain 1 0 6 2 clear
     ∷ Take S1 0 ∷ Deliver S1 ∷ Take S1 1 ∷ Deliver S1
@@ -205,7 +204,7 @@ report_packet =
     ∷ 16 ∷ 0 ∷ 3 ∷ 0 ∷ 0 ∷ 0 ∷ 204 ∷ 156 ∷ 201 ∷ 221 ∷ []
 
 -- the report has 32 octets: it is opened, and goes down in four parts
-abbrev pub large_report : List Event
+abbrev pub large_report : List Act
 large_report =
     Plain 1 0 6 5 (dump 3) ∷ Take S1 0 ∷ Deliver S1
     ∷ Claim W1 ∷ Commit W1 ∷ Apply
@@ -217,7 +216,7 @@ large_report =
 
 -- The spacecraft is restarted while a worker reads a request. A message is released, and its name
 -- then used for a shorter one. Ground is restarted while transactions are open.
-abbrev pub renewed : List Event
+abbrev pub renewed : List Act
 renewed =
     Plain 1 0 6 2 load ∷ Take S1 0 ∷ Deliver S1
     ∷ Claim W1 ∷ Restart Craft ∷ Commit W1

@@ -15,7 +15,7 @@ use Rattle.lpt_verify.specs.Reading.{report_in}
 use Rattle.lpt_events.specs.Configs.{IsConfig}
 use Rattle.lpt_events.specs.declared.config.Config.{Config}
 use Rattle.lpt_events.specs.declared.entry.Release.{Release}
-use Rattle.lpt_events.specs.declared.event.Event.{Event}
+use Rattle.lpt_acts.specs.Acts.{Act}
 use Rattle.lpt_events.specs.declared.telemetry.TelemetryKind.TheVariants as kind
 use Rattle.lpt_events.specs.TelemetryKinds.{subtype_of}
 use Rattle.lpt_execution.specs.declared.ending.Ending.TheVariants.{Refused, Carried}
@@ -43,7 +43,7 @@ reports_are_of_executions c first es n p to service subtype body good legal f is
     all_reported c first es n p to service subtype body good legal f (ne_eqb service 13 differs) is
 
 -- what was executed is octets
-message_octets : (c : Config) (first : Contents) (es : List Event)
+message_octets : (c : Config) (first : Contents) (es : List Act)
     → IsConfig c
     → Legal c first es
     → (r : Release) (k : ℕ)
@@ -70,7 +70,7 @@ long_small : (m : List ℕ) → IsOctets m → long_at m 0 < 2 ^ 32
 long_small m o = omega (arith, o 0, o 1, o 2, o 3)
 
 -- the execution that a verification report tells of
-told : (c : Config) (first : Contents) (es : List Event) (n : ℕ) (p : SentPacket) (to subtype : ℕ)
+told : (c : Config) (first : Contents) (es : List Act) (n : ℕ) (p : SentPacket) (to subtype : ℕ)
     (said : Verification)
     → IsConfig c
     → Legal c first es

@@ -20,8 +20,7 @@ use Rattle.lpt_events.specs.Lanes.{lane_direction}
 use Rattle.lpt_events.specs.Sides.{receiver_side, direction_to}
 use Rattle.lpt_events.specs.declared.config.Config.{Config}
 use Rattle.lpt_events.specs.declared.entry.Release.{Release}
-use Rattle.lpt_events.specs.declared.event.Event.{Event}
-use Rattle.lpt_events.specs.declared.event.Event.TheVariants.{Send, Plain, Damage, Deliver, Expire, Apply}
+use Rattle.lpt_acts.specs.Acts.{Act, Send, Plain, Damage, Deliver, Expire, Apply}
 use Rattle.lpt_events.specs.declared.outcome.Outcome.{Outcome}
 use Rattle.lpt_events.specs.declared.outcome.Outcome.TheVariants.{Broken}
 use Rattle.lpt_events.specs.declared.side.Side.{Side}
@@ -32,7 +31,7 @@ use Rattle.lpt_execution.specs.declared.ending.Report.{Report}
 use Rattle.lpt_execution.specs.Endings.{ending}
 use Rattle.lpt_execution.specs.Reporting.{message_reports, request_source, link_packets}
 use Rattle.lpt_journal.specs.Delivery.{outcome}
-use Rattle.lpt_journal.specs.Due.{due}
+use Rattle.lpt_journal.specs.Due.{given_up}
 use Rattle.lpt_journal.specs.Executions.{effect_of, ending_of}
 use Rattle.lpt_journal.specs.Executions as executions
 use Rattle.lpt_journal.specs.Hands.{arrival_of}
@@ -40,7 +39,7 @@ use Rattle.lpt_journal.specs.Jobs.{front_job, applied, executed_now, executed, e
 use Rattle.lpt_journal.specs.Journal.{SentPacket, Recorded, History, with_all}
 use Rattle.lpt_journal.specs.Legal.{IsEnabled, Legal}
 use Rattle.lpt_journal.specs.Link.{sent}
-use Rattle.lpt_journal.specs.Receivers.{clock}
+use Rattle.lpt_journal.specs.Receivers.{clock, limits}
 use Rattle.lpt_journal.specs.Replies.{abort_puts, outcome_puts, expiry_puts, puts, entry, recorded}
 use Rattle.lpt_journal.specs.Senders.{least_free, open_count, made, count, type_counter}
 use Rattle.lpt_journal.proofs.AnswerLengths.{answer_fits, source_fits}
@@ -51,7 +50,7 @@ use Rattle.lpt_journal.proofs.SentParts.{abort_arrives}
 use Rattle.lpt_journal.proofs.SentReports.{message_sendable, ending_fits}
 use Rattle.lpt_journal.proofs.Steps.{IsSound}
 use Rattle.lpt_journal.proofs.TestLemmas.{IsOldOrNew, with_all_cases, get-with_all, get-behind, no_place}
-use Rattle.lpt_journal.proofs.TimeEvents.{due_named}
+use Rattle.lpt_journal.proofs.TimeEvents.{given_up_named}
 use Rattle.lpt_journal.proofs.UpOctets.{AreUpOctets}
 use Rattle.lpt_reported.specs.Reported.{WasExecuted, IsTelemetryDown, IsReportOf}
 use Rattle.lpt_reported.proofs.ReportLemmas.{telemetry_reports, IsReadWith, all_read, on_link, IsOneOf, each_is_one}
@@ -215,7 +214,7 @@ packets_here c first h r good sound up e =
     let octets : IsOctets m = up.requests (applied h) r e in
     let reports = message_reports c.apid m (ending_of c first h m) in
     let free = is_some (least_free h Down (request_source c.apid m)) in
-    let room = nat_lt (open_count h Down) c.outgoing in
+    let room = nat_lt (open_count h Down) (limits c h Craft).outgoing in
     all_read c (IsOneOf reports) (request_source c.apid m)
     (made h Down) (clock c h Craft) reports
     good (source_fits c.apid m octets) (sound.clocks Craft)
@@ -293,7 +292,7 @@ no_abort c h Craft name why k p to service subtype body good sound named f other
     ∙ arrives c p to service subtype body other is in
     cc
 
-put_here : (c : Config) (first : Contents) (h : History) (e : Event)
+put_here : (c : Config) (first : Contents) (h : History) (e : Act)
     → IsConfig c
     → IsSound c h
     → AreUpOctets c h
@@ -331,9 +330,9 @@ put_here c first h (Deliver l) good sound up can k p to service subtype body oth
         (receiver_side (lane_direction l)) name why k p to service subtype body good sound
         (named name why refl) g other is
     go o named g = no_place k p g
-put_here c first h (Expire side) good sound up can k p to service subtype body other f is =
-    absurd (go (due c h (direction_to side))
-    (λ name e. due_named c h (direction_to side) name sound e) f)
+put_here c first h (Expire side which) good sound up can k p to service subtype body other f is =
+    absurd (go (given_up c h (direction_to side) which)
+    (λ name e. given_up_named c h (direction_to side) which name sound e) f)
   where
     go : (o : Option Name)
         → ((name : Name) → o ≡ Some name → IsName name)
@@ -349,7 +348,7 @@ put_here c first h e good sound up can k p to service subtype body other f is =
 
 -- ---- every journal
 
-pub all_reported : (c : Config) (first : Contents) (es : List Event) (n : ℕ) (p : SentPacket)
+pub all_reported : (c : Config) (first : Contents) (es : List Act) (n : ℕ) (p : SentPacket)
     (to service subtype : ℕ) (body : List ℕ)
     → IsConfig c
     → Legal c first es

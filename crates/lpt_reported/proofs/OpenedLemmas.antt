@@ -9,8 +9,7 @@ use Rattle.lpt_events.specs.Configs.{IsConfig}
 use Rattle.lpt_events.specs.declared.config.Config.{Config}
 use Rattle.lpt_events.specs.declared.entry.Opening.{Opening}
 use Rattle.lpt_events.specs.declared.entry.Release.{Release}
-use Rattle.lpt_events.specs.declared.event.Event.{Event}
-use Rattle.lpt_events.specs.declared.event.Event.TheVariants.{Apply}
+use Rattle.lpt_acts.specs.Acts.{Act, Apply}
 use Rattle.lpt_events.specs.declared.side.Side.TheVariants.{Craft}
 use Rattle.lpt_execution.specs.Reporting.{message_reports, request_source, large_packets, opened_of}
 use Rattle.lpt_journal.specs.Executions.{effect_of, ending_of}
@@ -80,7 +79,7 @@ opened_here c first h k o to service subtype body good sound up f is =
           (ap (λ (x : Opening). x.message) (only_element _ k o f)) e
 
 -- each that a journal opened
-pub all_opened : (c : Config) (first : Contents) (es : List Event) (m : List ℕ)
+pub all_opened : (c : Config) (first : Contents) (es : List Act) (m : List ℕ)
     (to service subtype : ℕ) (body : List ℕ)
     → IsConfig c
     → Legal c first es
@@ -92,7 +91,7 @@ all_opened c first [] m to service subtype body good legal was is =
 all_opened c first (e ∷ es) m to service subtype body good legal was is =
     go was.number was.is_there (all_opened c first es m to service subtype body good legal.0)
   where
-    here : (e : Event)
+    here : (e : Act)
         → e ≡ Apply
         → slice_get (opens c first (recorded c first es) e) was.place ≡ Some was.opening
         → IsReportOf c first (entry c first (recorded c first es) e ∷ recorded c first es) to

@@ -6,7 +6,7 @@ use Rattle.lpt_memory.specs.Memories.{Contents}
 use Rattle.lpt_events.specs.Configs.{IsConfig}
 use Rattle.lpt_events.specs.declared.config.Config.{Config}
 use Rattle.lpt_events.specs.declared.entry.Opening.{Opening}
-use Rattle.lpt_events.specs.declared.event.Event.{Event}
+use Rattle.lpt_acts.specs.Acts.{Act}
 use Rattle.lpt_execution.specs.Reporting.{request_source}
 use Rattle.lpt_journal.specs.Headline.{WasAsked}
 use Rattle.lpt_journal.specs.Journal.{History}
@@ -33,7 +33,7 @@ pub record IsAlone (c : Config) (h : History) (from request : ℕ) (m : List ℕ
 -- what was carried out under these is it
 abbrev pub CarriedOutIsAlone : Type 0
 CarriedOutIsAlone =
-    (c : Config) (first : Contents) (es : List Event) (from request : ℕ) (m : List ℕ)
+    (c : Config) (first : Contents) (es : List Act) (from request : ℕ) (m : List ℕ)
     → IsConfig c
     → Legal c first es
     → IsAlone c (recorded c first es) from request m

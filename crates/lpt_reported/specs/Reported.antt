@@ -15,8 +15,7 @@ use Rattle.lpt_events.specs.Configs.{IsConfig}
 use Rattle.lpt_events.specs.declared.config.Config.{Config}
 use Rattle.lpt_events.specs.declared.entry.Opening.{Opening}
 use Rattle.lpt_events.specs.declared.entry.Release.{Release}
-use Rattle.lpt_events.specs.declared.event.Event.{Event}
-use Rattle.lpt_events.specs.declared.event.Event.TheVariants.{Apply}
+use Rattle.lpt_acts.specs.Acts.{Act, Apply}
 use Rattle.lpt_events.specs.TelemetryKinds.{service_of, subtype_of}
 use Rattle.lpt_execution.specs.declared.ending.Ending.{Ending}
 use Rattle.lpt_execution.specs.declared.ending.Ending.TheVariants.{Refused, Carried}
@@ -111,7 +110,7 @@ pub record IsReportOf (c : Config) (first : Contents) (h : History) (to service 
 
 -- The message was opened by an entry that executed a request: a report that is too long for the
 -- link goes down in parts.
-pub record WasOpened (c : Config) (first : Contents) (es : List Event) (m : List ℕ) : Type 0 where
+pub record WasOpened (c : Config) (first : Contents) (es : List Act) (m : List ℕ) : Type 0 where
   pub number : ℕ
   pub entry : Recorded
   pub is_there : slice_get (recorded c first es) number ≡ Some entry
@@ -141,7 +140,7 @@ pub record WasDumped (c : Config) (first : Contents) (h : History) (from : ℕ)
 -- what goes down and is neither of a part nor of an abortion, both of service 13
 abbrev pub ReportsAreOfExecutions : Type 0
 ReportsAreOfExecutions =
-    (c : Config) (first : Contents) (es : List Event) (n : ℕ) (p : SentPacket)
+    (c : Config) (first : Contents) (es : List Act) (n : ℕ) (p : SentPacket)
     (to service subtype : ℕ) (body : List ℕ)
     → IsConfig c
     → Legal c first es
@@ -153,7 +152,7 @@ ReportsAreOfExecutions =
 -- what goes down in parts, as it was opened by an execution
 abbrev pub OpenedReportsAreOfExecutions : Type 0
 OpenedReportsAreOfExecutions =
-    (c : Config) (first : Contents) (es : List Event) (m : List ℕ) (to service subtype : ℕ)
+    (c : Config) (first : Contents) (es : List Act) (m : List ℕ) (to service subtype : ℕ)
     (body : List ℕ)
     → IsConfig c
     → Legal c first es
@@ -164,7 +163,7 @@ OpenedReportsAreOfExecutions =
 -- what a report of a dump says
 abbrev pub DumpedIsMemory : Type 0
 DumpedIsMemory =
-    (c : Config) (first : Contents) (es : List Event) (n : ℕ) (p : SentPacket) (to : ℕ)
+    (c : Config) (first : Contents) (es : List Act) (n : ℕ) (p : SentPacket) (to : ℕ)
     (body : List ℕ)
     → IsConfig c
     → Legal c first es
@@ -175,7 +174,7 @@ DumpedIsMemory =
 -- the same of one that goes down in parts
 abbrev pub OpenedDumpIsMemory : Type 0
 OpenedDumpIsMemory =
-    (c : Config) (first : Contents) (es : List Event) (m : List ℕ) (to : ℕ) (body : List ℕ)
+    (c : Config) (first : Contents) (es : List Act) (m : List ℕ) (to : ℕ) (body : List ℕ)
     → IsConfig c
     → Legal c first es
     → WasOpened c first es m
@@ -185,7 +184,7 @@ OpenedDumpIsMemory =
 -- what a report of start or of completion says was carried out
 abbrev pub CompletedWasExecuted : Type 0
 CompletedWasExecuted =
-    (c : Config) (first : Contents) (es : List Event) (n : ℕ) (p : SentPacket) (to subtype : ℕ)
+    (c : Config) (first : Contents) (es : List Act) (n : ℕ) (p : SentPacket) (to subtype : ℕ)
     (said : Verification)
     → IsConfig c
     → Legal c first es
@@ -197,7 +196,7 @@ CompletedWasExecuted =
 -- what a report of a failure says has failed, and changed nothing
 abbrev pub FailedChangedNothing : Type 0
 FailedChangedNothing =
-    (c : Config) (first : Contents) (es : List Event) (n : ℕ) (p : SentPacket)
+    (c : Config) (first : Contents) (es : List Act) (n : ℕ) (p : SentPacket)
     (to subtype code : ℕ) (said : Verification)
     → IsConfig c
     → Legal c first es

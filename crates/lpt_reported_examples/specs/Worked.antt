@@ -4,8 +4,7 @@ use Rattle.std.specs.Prelude.{◌≡◌, ℕ, ◌<◌, List, [], ◌∷◌, leng
 use Rattle.lpt_pus.specs.Numbers.{long_at}
 use Rattle.lpt_memory.specs.Memories.{sizes_of}
 use Rattle.lpt_verify.specs.declared.report.Report.{Report as Verification}
-use Rattle.lpt_events.specs.declared.event.Event.{Event}
-use Rattle.lpt_events.specs.declared.event.Event.TheVariants.{Plain, Lose, Take, Deliver, Claim, Commit, Apply, Restart}
+use Rattle.lpt_acts.specs.Acts.{Act, Plain, Lose, Take, Deliver, Claim, Commit, Apply, Restart}
 use Rattle.lpt_events.specs.declared.lane.Lane.TheVariants.{S1, G1}
 use Rattle.lpt_events.specs.declared.side.Side.TheVariants.{Craft}
 use Rattle.lpt_events.specs.declared.worker.Worker.TheVariants.{W1}
@@ -38,8 +37,8 @@ next_load =
     24 ∷ 100 ∷ 192 ∷ 1 ∷ 0 ∷ 20 ∷ 40 ∷ 6 ∷ 2 ∷ 0 ∷ 7 ∷ 1 ∷ 1 ∷ 0 ∷ 0 ∷ 0 ∷ 20 ∷ 0 ∷ 4 ∷ 1 ∷ 2 ∷ 3
     ∷ 4 ∷ 137 ∷ 195 ∷ 200 ∷ 216 ∷ []
 
--- the pass, its oldest event first: each load asks for a report of its completion
-abbrev pub load_twice : List Event
+-- the pass, its oldest act first: each load asks for a report of its completion
+abbrev pub load_twice : List Act
 load_twice =
     Plain 7 8 6 2 load ∷ Plain 7 8 6 2 next_body
     ∷ Take S1 0 ∷ Deliver S1 ∷ Claim W1 ∷ Commit W1 ∷ Apply
