@@ -8,7 +8,7 @@ use Rattle.lpt_memory.specs.Memories.{Contents}
 use Rattle.lpt_events.specs.Configs.{IsConfig}
 use Rattle.lpt_events.specs.declared.config.Config.{Config}
 use Rattle.lpt_events.specs.declared.entry.Opening.{Opening}
-use Rattle.lpt_events.specs.declared.event.Event.{Event}
+use Rattle.lpt_acts.specs.Acts.{Act}
 use Rattle.lpt_events.specs.declared.side.Side.TheVariants.{Ground, Craft}
 use Rattle.lpt_ledger.specs.Marks.{Marks}
 use Rattle.lpt_ledger.specs.States.{state_of, state_at}
@@ -29,7 +29,7 @@ use Rattle.lpt_apart.proofs.Events.{finish}
 use Rattle.lpt_apart.proofs.Ties.{ends_of, IsTied, Came, Leads}
 
 -- an open name is one
-open_named : (c : Config) (first : Contents) (es : List Event) (d : Direction) (name : Name)
+open_named : (c : Config) (first : Contents) (es : List Act) (d : Direction) (name : Name)
     (m : Marks)
     → IsConfig c
     → Legal c first es
@@ -49,7 +49,7 @@ open_named c first es d name m good legal shown opened = go (current h d name) r
   go (Some o) e = ((every c first es good legal).0.openings d name o e).is_name
 
 module _ (c : Config) (first : Contents) (s : State) (ways : List PutOut) (log : Log)
-    (es : List Event)
+    (es : List Act)
     (good : IsConfig c) (t : IsTied c first s ways log es) where
   abbrev had : Came
   had = came c (recorded c first es)

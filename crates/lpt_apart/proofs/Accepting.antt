@@ -10,8 +10,7 @@ use Rattle.lpt_events.specs.Configs.{IsConfig}
 use Rattle.lpt_events.specs.Lanes.{lane_direction, same_direction}
 use Rattle.lpt_events.specs.Sides.{receiver_side}
 use Rattle.lpt_events.specs.declared.config.Config.{Config}
-use Rattle.lpt_events.specs.declared.event.Event.{Event}
-use Rattle.lpt_events.specs.declared.event.Event.TheVariants.{Take, Deliver}
+use Rattle.lpt_acts.specs.Acts.{Act, Take, Deliver}
 use Rattle.lpt_events.specs.declared.lane.Lane.{Lane}
 use Rattle.lpt_events.specs.declared.lane.Lane.TheVariants.{S1, S2, G1, G2}
 use Rattle.lpt_events.specs.declared.side.Side.TheVariants.{Ground, Craft}
@@ -51,7 +50,7 @@ hand_taken v G1 n = refl
 hand_taken v G2 n = refl
 
 -- a lane with an empty hand takes what is held
-take : (c : Config) (first : Contents) (s : State) (es : List Event) (l : Lane) (n : ℕ)
+take : (c : Config) (first : Contents) (s : State) (es : List Act) (l : Lane) (n : ℕ)
     → IsConfig c
     → Legal c first es
     → Shows s (views c first (recorded c first es))
@@ -64,7 +63,7 @@ take c first s es l n good legal shown empty held =
     (if is_some (empty i) then Some HandFull else if held i then None else Some NotHeld))
 
 -- and delivers it
-deliver : (c : Config) (first : Contents) (s : State) (es : List Event) (l : Lane) (n : ℕ)
+deliver : (c : Config) (first : Contents) (s : State) (es : List Act) (l : Lane) (n : ℕ)
     → IsConfig c
     → IsLonger c first s es (Take l n)
     → IsLonger c first (taken s l n) (Take l n ∷ es) (Deliver l)
@@ -76,7 +75,7 @@ deliver c first s es l n good took =
 -- ---- what is on the way
 
 module _ (c : Config) (first : Contents) (s : State) (ways : List PutOut) (log : Log)
-    (es : List Event)
+    (es : List Act)
     (good : IsConfig c) (t : IsTied c first s ways log es) where
   -- the parts that came before
   abbrev had : Came

@@ -13,8 +13,7 @@ use Rattle.lpt_events.specs.Sides.{receiver_side, direction_to}
 use Rattle.lpt_events.specs.declared.config.Config.{Config}
 use Rattle.lpt_events.specs.declared.entry.Opening.{Opening}
 use Rattle.lpt_events.specs.declared.entry.Release.{Release}
-use Rattle.lpt_events.specs.declared.event.Event.{Event}
-use Rattle.lpt_events.specs.declared.event.Event.TheVariants.{Send, Plain, Damage, Deliver, Expire, Apply, Retire, Restart}
+use Rattle.lpt_acts.specs.Acts.{Act, Send, Plain, Damage, Deliver, Expire, Apply, Retire, Restart}
 use Rattle.lpt_events.specs.declared.fault.StepFault.TheVariants.{HandEmpty}
 use Rattle.lpt_events.specs.declared.lane.Lane.{Lane}
 use Rattle.lpt_events.specs.declared.outcome.Outcome.{Outcome}
@@ -24,7 +23,7 @@ use Rattle.lpt_events.specs.declared.reply.Answer.TheVariants.{Delivered, Expire
 use Rattle.lpt_events.specs.declared.side.Side.{Side}
 use Rattle.lpt_events.specs.declared.side.Side.TheVariants.{Ground, Craft}
 use Rattle.lpt_journal.specs.Delivery.{outcome}
-use Rattle.lpt_journal.specs.Due.{due}
+use Rattle.lpt_journal.specs.Due.{given_up}
 use Rattle.lpt_journal.specs.Hands.{hand, arrival_of, in_hand}
 use Rattle.lpt_journal.specs.Journal.{SentPacket, Recorded, History}
 use Rattle.lpt_journal.specs.Legal.{Legal}
@@ -77,14 +76,14 @@ later_abortion : (d : Direction) (o : Outcome) (log : Log) (f : Fact)
 later_abortion d (Broken name reason) log f had = later _ log f had
 later_abortion d o log f had = had
 
-later_ended : (e : Event) (a : Answer) (log : Log) (f : Fact)
+later_ended : (e : Act) (a : Answer) (log : Log) (f : Fact)
     → Contains log f
     → Contains (with_ended e a log) f
 later_ended (Deliver l) (Delivered o) log f had = later_abortion (lane_direction l) o log f had
-later_ended (Expire side) (Expired d name) log f had = later _ log f had
+later_ended (Expire side which) (Expired d name) log f had = later _ log f had
 later_ended e a log f had = had
 
-later_event : (e : Event) (ps : List SentPacket) (log : Log) (f : Fact)
+later_event : (e : Act) (ps : List SentPacket) (log : Log) (f : Fact)
     → Contains log f
     → Contains (with_event e ps log) f
 later_event (Plain source flags service subtype body) ps log f had = later_asked ps log f had
@@ -145,7 +144,7 @@ reports_down (b ∷ bs) (suc n) p f = reports_down bs n p f
 
 module _ (c : Config) (first : Contents) (good : IsConfig c) where
   -- what an event puts and goes up as a request it asks
-  asked_now : (e : Event) (h : History) (log : Log) (n : ℕ) (p : SentPacket) (b : List ℕ)
+  asked_now : (e : Act) (h : History) (log : Log) (n : ℕ) (p : SentPacket) (b : List ℕ)
       → IsPut c (entry c first h e ∷ h) e p
       → slice_get (puts c first h e) n ≡ Some p
       → p.direction ≡ Up
@@ -166,8 +165,8 @@ module _ (c : Config) (first : Contents) (good : IsConfig c) where
         sym up ∙ abort_down c h (receiver_side (lane_direction l)) name why n p k in
         cc
     go o k = no_place n p k
-  asked_now (Expire side) h log n p b put f up is =
-      absurd (go (due c h (direction_to side)) f) where
+  asked_now (Expire side which) h log n p b put f up is =
+      absurd (go (given_up c h (direction_to side) which) f) where
         go : (o : Option Name) → slice_get (expiry_puts c h side o) n ≡ Some p → ⊥
         go None k = no_place n p k
         go (Some name) k = let down : Up ≡ Down = sym up ∙ abort_down c h side name _ n p k in cc
@@ -176,7 +175,7 @@ module _ (c : Config) (first : Contents) (good : IsConfig c) where
   asked_now e h log n p b put f up is = absurd (no_place n p f)
 
   -- a packet of the link that went up and reads as a request was asked
-  pub was_asked : (es : List Event)
+  pub was_asked : (es : List Act)
       → Legal c first es
       → (n : ℕ) (p : SentPacket) (b : List ℕ)
       → slice_get (sent (recorded c first es)) n ≡ Some p
@@ -204,7 +203,7 @@ module _ (c : Config) (first : Contents) (good : IsConfig c) where
             asked_now e h _ fresh.0 p b put fresh.2 up is
 
   -- what a lane delivers that is released of no transaction was asked
-  request_asked : (es : List Event)
+  request_asked : (es : List Act)
       → Legal c first es
       → (l : Lane) (n : ℕ) (r : Release)
       → hand (recorded c first es) l ≡ Some n
@@ -227,7 +226,7 @@ module _ (c : Config) (first : Contents) (good : IsConfig c) where
       (was_asked es legal n it.packet r.message it.was_sent (up_from it.packet.direction read.0) is)
 
   -- what is released of no transaction was asked
-  pub release_asked : (e : Event) (es : List Event)
+  pub release_asked : (e : Act) (es : List Act)
       → Legal c first (e ∷ es)
       → (r : Release)
       → slice_get (released_by c (entry c first (recorded c first es) e) (recorded c first es)) 0

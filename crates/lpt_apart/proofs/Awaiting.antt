@@ -15,15 +15,14 @@ use Rattle.lpt_events.specs.Sides.{same_side, receiver_side, direction_to}
 use Rattle.lpt_events.specs.declared.config.Config.{Config}
 use Rattle.lpt_events.specs.declared.entry.Opening.{Opening}
 use Rattle.lpt_events.specs.declared.entry.Release.{Release}
-use Rattle.lpt_events.specs.declared.event.Event.{Event}
-use Rattle.lpt_events.specs.declared.event.Event.TheVariants.{Plain, Deliver, Expire, Apply, Retire, Open}
+use Rattle.lpt_acts.specs.Acts.{Act, Plain, Deliver, Expire, Apply, Retire, Open}
 use Rattle.lpt_events.specs.declared.outcome.Outcome.{Outcome}
 use Rattle.lpt_events.specs.declared.outcome.Outcome.TheVariants.{Broken, Released, PlainReleased}
 use Rattle.lpt_events.specs.declared.reply.Answer.TheVariants.{Delivered}
 use Rattle.lpt_events.specs.declared.side.Side.{Side}
 use Rattle.lpt_events.specs.declared.side.Side.TheVariants.{Ground, Craft}
 use Rattle.lpt_journal.specs.Delivery.{outcome}
-use Rattle.lpt_journal.specs.Due.{due}
+use Rattle.lpt_journal.specs.Due.{given_up}
 use Rattle.lpt_journal.specs.Journal.{SentPacket, History}
 use Rattle.lpt_journal.specs.Legal.{Legal}
 use Rattle.lpt_journal.specs.Receivers.{ends, is_closed, heard}
@@ -147,15 +146,15 @@ module _ (c : Config) (first : Contents) (h : History) (d : Direction) (name : N
   delivered e a o t = quiet (same_direction e d)
 
   -- what is given up is aborted
-  given_up : (side : Side) (o : Option Name)
-      → awaited (with_ended (Expire side) (expired_now (direction_to side) o) log) d name
+  ended : (side : Side) (which o : Option Name)
+      → awaited (with_ended (Expire side which) (expired_now (direction_to side) o) log) d name
       ≡ awaits ((same_side side (receiver_side d) && ends (expired_now (direction_to side) o) name)
       || is_closed h d name) (current h d name)
-  given_up side None =
+  ended side which None =
       ap (λ (b : Bool). if b && same_name no_name name then None else awaited log d name)
       (receives_in side d)
       ∙ over (same_side side (receiver_side d) && same_name no_name name)
-  given_up side (Some i) =
+  ended side which (Some i) =
       ap (λ (b : Bool). if b && same_name i name then None else awaited log d name)
       (receives_in side d)
       ∙ over (same_side side (receiver_side d) && same_name i name)
@@ -175,7 +174,7 @@ module _ (c : Config) (first : Contents) (h : History) (d : Direction) (name : N
         sym (ap (λ (b : Bool). awaits b (Some o)) (free o refl))
 
   -- an event
-  event_awaits : (e : Event)
+  event_awaits : (e : Act)
       → ((o : Opening) → find (is_opening_of d name) (opens c first h e) ≡ Some o
       → is_closed h d name ≡ false)
       → awaited (told c (entry c first h e ∷ h)) d name
@@ -186,7 +185,8 @@ module _ (c : Config) (first : Contents) (h : History) (d : Direction) (name : N
   event_awaits (Deliver l) free =
       delivered (lane_direction l) (in_hand c h l) (outcome c h l)
       (judged_tells c h (lane_direction l) (in_hand c h l))
-  event_awaits (Expire side) free = given_up side (due c h (direction_to side))
+  event_awaits (Expire side which) free =
+      ended side which (given_up c h (direction_to side) which)
   event_awaits Apply free = opened (opens c first h Apply) free
   event_awaits (Retire e i) free = go (same_direction e d && same_name i name) where
     go : (b : Bool)
@@ -197,7 +197,7 @@ module _ (c : Config) (first : Contents) (h : History) (d : Direction) (name : N
   event_awaits e free = had
 
 -- what is awaited is what was last opened, where its reception hasn't ended
-pub awaited_is : (c : Config) (first : Contents) (es : List Event)
+pub awaited_is : (c : Config) (first : Contents) (es : List Act)
     → IsConfig c
     → Legal c first es
     → (d : Direction) (name : Name)
@@ -214,7 +214,7 @@ awaited_is c first (e ∷ es) good legal d name =
 -- a transaction whose reception hasn't ended awaits the message last opened
 pub is_awaited : (c : Config) (first : Contents)
     → IsConfig c
-    → (es : List Event)
+    → (es : List Act)
     → Legal c first es
     → (d : Direction) (name : Name) (o : Opening)
     → current (recorded c first es) d name ≡ Some o

@@ -1,6 +1,7 @@
 -- Two ends beside others, which do what goes up alone: they have the same sender on ground and the
 -- same receiver at the spacecraft, whatever else differs.
-use Rattle.std.proofs.Common.{◌≡◌, ◌∙◌, ap, sym, subst, refl, inl, inr, ℕ, Bool, List, ◌∷◌, Option, Some, None, is_some}
+use Rattle.std.specs.FinMap as maps
+use Rattle.std.proofs.Common.{◌≡◌, ◌∙◌, ap, sym, subst, refl, inl, inr, ℕ, Bool, true, false, if◌then◌else◌, List, ◌∷◌, Option, Some, None, is_some}
 use Rattle.lpt_packet.specs.declared.direction.Direction.{Direction}
 use Rattle.lpt_packet.specs.declared.direction.Direction.TheVariants.{Up, Down}
 use Rattle.lpt_packet.specs.Names.{Name}
@@ -15,7 +16,9 @@ use Rattle.lpt_model.specs.Tickets.{no_tickets}
 use Rattle.lpt_node.specs.Accepting.{accepted}
 use Rattle.lpt_node.specs.Nodes.{NodeData, Receiving, Sending}
 use Rattle.lpt_node.specs.Sending.{sent_of}
-use Rattle.lpt_node.specs.Times.{due, expired_of, refusal_expire_of}
+use Rattle.lpt_node.specs.Times.{expired_of, refusal_end, refusal_expire_of, which_ends}
+use Rattle.lpt_node.specs.declared.fault.NodeFault.{NodeFault}
+use Rattle.lpt_node.specs.declared.fault.NodeFault.TheVariants.{NotOpen}
 use Rattle.lpt_node.specs.declared.accepted.Accepted.{Accepted}
 use Rattle.lpt_apart.specs.Clocks.{later as at_later}
 use Rattle.lpt_apart.specs.Ends.{Ends, PutOut, put_out}
@@ -32,27 +35,34 @@ use Rattle.lpt_apart.proofs.Alike.{AreAlike, IsBeside, IsSame, alike, beside_par
 -- what both have
 pub record Core : Type 0 where
   pub sending : Sending
+  pub ground_limit : ℕ
+  pub ground_timeout : ℕ
+  pub ground_outgoing : ℕ
   pub ground_clock : ℕ
   pub ground_boot : ℕ
   pub ground_jobs : Jobs
   pub receiving : Receiving
+  pub craft_outgoing : ℕ
   pub craft_clock : ℕ
   pub craft_boot : ℕ
 
 abbrev pub core_of : Ends → Core
 core_of e = record {
   sending = e.on_ground.sending;
+  ground_limit = e.on_ground.receiving.limit;
+  ground_timeout = e.on_ground.receiving.timeout;
+  ground_outgoing = e.on_ground.outgoing;
   ground_clock = e.on_ground.clock;
   ground_boot = e.on_ground.boot;
   ground_jobs = e.on_ground.jobs;
   receiving = e.on_craft.receiving;
+  craft_outgoing = e.on_craft.outgoing;
   craft_clock = e.on_craft.clock;
   craft_boot = e.on_craft.boot;
 }
 
--- what those beside them have of their own
+-- what those beside them have of their own; ground receives nothing there
 pub record Rest : Type 0 where
-  pub receiving : Receiving
   pub sending : Sending
   pub jobs : Jobs
   pub ways : List PutOut
@@ -65,7 +75,13 @@ mirror first k r = record {
   ends = record {
     on_ground = record {
       sending = k.sending;
-      receiving = r.receiving;
+      receiving = record {
+        ledger = maps.empty;
+        entries = maps.empty;
+        limit = k.ground_limit;
+        timeout = k.ground_timeout;
+      };
+      outgoing = k.ground_outgoing;
       clock = k.ground_clock;
       boot = k.ground_boot;
       jobs = k.ground_jobs;
@@ -73,6 +89,7 @@ mirror first k r = record {
     on_craft = record {
       sending = r.sending;
       receiving = k.receiving;
+      outgoing = k.craft_outgoing;
       clock = k.craft_clock;
       boot = k.craft_boot;
       jobs = r.jobs;
@@ -147,6 +164,7 @@ module _ (c : Config) (first : Contents) (g : ℕ) (good : IsConfig (at_later g 
         → k ≡ core_of (record e { on_craft = d })
     core_craft d s = λ i. record k {
       receiving = sym s.receiving i;
+      craft_outgoing = sym s.outgoing i;
       craft_clock = sym s.clock i;
       craft_boot = sym s.boot i;
     }
@@ -210,7 +228,6 @@ module _ (c : Config) (first : Contents) (g : ℕ) (good : IsConfig (at_later g 
         let y : NodeData × Accepted = accepted Craft c (mirror first k r).ends.on_craft a in
         let both : AreAlike x y = alike c e.on_craft r.sending r.jobs a in
         let s : Rest = record {
-          receiving = r.receiving;
           sending = y.0.sending;
           jobs = y.0.jobs;
           ways = put_out r.ways Down None (as_list y.1.packet);
@@ -225,6 +242,7 @@ module _ (c : Config) (first : Contents) (g : ℕ) (good : IsConfig (at_later g 
         (λ name n. came_by Up a x.1.outcome Up name n (parts name n)) m.reached (comes_up b may)
         (λ i. mirror first (record (core_of (accepted_on e Up x)) {
           receiving = both.receiving i;
+          craft_outgoing = both.outgoing i;
           craft_clock = both.clock i;
           craft_boot = both.boot i;
         }) s) (λ name n i. came_by Up a (both.outcome i) Up name n (parts name n)) in
@@ -281,6 +299,9 @@ module _ (c : Config) (first : Contents) (g : ℕ) (good : IsConfig (at_later g 
           rest = r;
           reached = stays k l r parts (λ i. record k {
             sending = sym s.sending i;
+            ground_limit = sym s.limit i;
+            ground_timeout = sym s.timeout i;
+            ground_outgoing = sym s.outgoing i;
             ground_clock = sym s.clock i;
             ground_boot = sym s.boot i;
             ground_jobs = sym s.jobs i;
@@ -312,18 +333,33 @@ module _ (c : Config) (first : Contents) (g : ℕ) (good : IsConfig (at_later g 
       like = adds_one (Aborted Down name) e.log r.log (aborted_down name) tt m.like;
     }
 
-    pub expires_craft : (o : Option Name)
-        → due c e.on_craft ≡ o
-        → refusal_expire_of o ≡ None
+    -- one is given up where that isn't refused
+    none_refused : (d : NodeData) (which : Option Name)
+        → which_ends c d which ≡ None
+        → refusal_end c d which ≡ None
+        → ⊥
+    none_refused d None none can =
+        let no : refusal_expire_of None ≡ None = ap refusal_expire_of (sym none) ∙ can in cc
+    none_refused d (Some name) none can =
+        elim (is_some (maps.get d.receiving.entries name)) as (λ b.
+        ◌≡◌ {A = Option Name} (if b then Some name else None) None
+        → ◌≡◌ {A = Option NodeFault} (if b then None else Some NotOpen) None
+        → ⊥) [
+          | true ↦ λ f h. cc
+          | false ↦ λ f h. cc
+        ] none can
+
+    pub expires_craft : (which o : Option Name)
+        → which_ends c e.on_craft which ≡ o
+        → refusal_end c e.on_craft which ≡ None
         → IsMirrored c first
         (record p { ends = expired_on e Craft (expired_of Craft c e.on_craft o) }) parts
-    expires_craft None is none = absurd cc
-    expires_craft (Some name) is none =
+    expires_craft which None is can = absurd (none_refused e.on_craft which is can)
+    expires_craft which (Some name) is can =
         let d : NodeData = (mirror first k r).ends.on_craft in
         let x = expired_of Craft c d (Some name) in
         let l : Core = core_of (expired_on e Craft (expired_of Craft c e.on_craft (Some name))) in
         let s : Rest = record {
-          receiving = r.receiving;
           sending = x.0.sending;
           jobs = r.jobs;
           ways = put_out r.ways Down None (as_list x.1.packet);
@@ -331,7 +367,7 @@ module _ (c : Config) (first : Contents) (g : ℕ) (good : IsConfig (at_later g 
           freed = r.freed;
         } in
         let brought : IsBroughtUp c first (mirror first l s) parts =
-        goes k l r s (Do (Expire Craft)) parts parts m.reached (ap refusal_expire_of is ∙ none)
+        goes k l r s (Do (Expire Craft which)) parts parts m.reached can
         (λ i. record (mirror first k r) {
           ends = expired_on (mirror first k r).ends Craft (expired_of Craft c d (is i));
         }) (λ n k. refl) in
@@ -349,7 +385,12 @@ module _ (c : Config) (first : Contents) (g : ℕ) (good : IsConfig (at_later g 
               (ap is_some (m.like.awaits name) ∙ due.1) m.like;
         }
 
-    -- ---- an execution
+    -- ---- an execution, and a refusal
+
+    pub reported_beside : (o : Option (Name × List ℕ)) → IsLike (reporting e.log o) r.log
+    reported_beside None = m.like
+    reported_beside (Some x) =
+        adds_one (Opened Down x.0 x.1) e.log r.log (opened_down x.0 x.1) tt m.like
 
     pub executes : (o : Option (Name × List ℕ)) → IsLike (Executed ∷ reporting e.log o) r.log
     executes None = adds_one Executed e.log r.log an_execution tt m.like

@@ -9,8 +9,8 @@ use Rattle.lpt_events.specs.Configs.{IsConfig}
 use Rattle.lpt_events.specs.Lanes.{lane_direction}
 use Rattle.lpt_events.specs.Sides.{same_side, receiver_side}
 use Rattle.lpt_events.specs.declared.config.Config.{Config}
-use Rattle.lpt_events.specs.declared.event.Event.{Event}
-use Rattle.lpt_events.specs.declared.event.Event.TheVariants as event
+use Rattle.lpt_acts.specs.Acts.{Act}
+use Rattle.lpt_acts.specs.Acts as act
 use Rattle.lpt_events.specs.declared.side.Side.{Side}
 use Rattle.lpt_events.specs.declared.side.Side.TheVariants.{Ground, Craft}
 use Rattle.lpt_node.specs.Accepting.{accepted}
@@ -34,7 +34,7 @@ use Rattle.lpt_apart.proofs.Players.{HasInHand, has_in_hand, arrives}
 use Rattle.lpt_apart.proofs.Telling.{execution_opens, delivery_came}
 use Rattle.lpt_apart.proofs.Ties.{IsLonger, longer, not_refused}
 
-module _ (c : Config) (first : Contents) (es : List Event) (d : Direction) (name : Name) (k : ℕ)
+module _ (c : Config) (first : Contents) (es : List Act) (d : Direction) (name : Name) (k : ℕ)
     (good : IsConfig c) (xs : List Step) (are : AreEndsOf c first es (reached c first xs))
     (had : came c first xs d name k ≡ journal.came c (recorded c first es) d name k) where
   abbrev h : History
@@ -50,50 +50,50 @@ module _ (c : Config) (first : Contents) (es : List Event) (d : Direction) (name
   node Ground = are.ground
   node Craft = are.craft
 
-  more : (e : Event) → Legal c first (e ∷ es) → IsLonger c first s es e
+  more : (e : Act) → Legal c first (e ∷ es) → IsLonger c first s es e
   more e legal =
       longer c first s es e good legal.0 are.shown legal.1.in_range
       (not_refused c first s es e good are.shown legal)
 
-  event_brings : (e : Event)
+  event_brings : (e : Act)
       → Legal c first (e ∷ es)
       → came c first (with_step (step_of h e) xs) d name k
       ≡ journal.came c (recorded c first (e ∷ es)) d name k
-  event_brings (event.Open i named m) legal =
+  event_brings (act.Open i named m) legal =
       ap (λ (b : Bool). if is_same i named d name then false else b) had
       ∙ sym (open_came (is_same i named d name) _ (journal.came c h d name k))
-  event_brings (event.Deliver l) legal =
+  event_brings (act.Deliver l) legal =
       let w : Direction = lane_direction l in
       let a : Arrival = arrival_in c w (octets_held h l) in
       let x : NodeData × Accepted =
       accepted (receiver_side w) c (node_at ends (receiver_side w)) a in
       let it : HasInHand s h l =
       has_in_hand c first s es l good legal.0 are.shown
-      (not_refused c first s es (event.Deliver l) good are.shown legal) in
+      (not_refused c first s es (act.Deliver l) good are.shown legal) in
       ap (λ (b : Bool). came_by w a x.1.outcome d name k b) had
       ∙ sym (delivery_came c first s ends.log es are.shown are.log l
-      (more (event.Deliver l) legal) a x (sym (arrives c s h l it))
+      (more (act.Deliver l) legal) a x (sym (arrives c s h l it))
       (ap (λ (n : NodeData). accepted (receiver_side w) c n a) (sym (node (receiver_side w))))
       d name k)
-  event_brings event.Apply legal =
+  event_brings act.Apply legal =
       let reports : is_reported (executed c ends.on_craft ends.memories).0.1.opened d name
       ≡ is_reported (executed c s.on_craft s.memories).0.1.opened d name =
       (λ i. is_reported (executed c (sym are.craft i) (sym are.memories i)).0.1.opened d name) in
       let opens = reports
       ∙ sym (execution_opens c first s ends.log es are.shown are.log
-      (more event.Apply legal) d name)
+      (more act.Apply legal) d name)
       in
       (λ i. if opens i then false else had i)
-  event_brings (event.Restart side) legal =
+  event_brings (act.Restart side) legal =
       ap (λ (b : Bool). not (same_side side (receiver_side d)) && b) had
   event_brings e legal = had
 
 pub worlds_bring_the_same : WorldsBringTheSame
-worlds_bring_the_same c first [] d name k good legal = refl
-worlds_bring_the_same c first (e ∷ es) d name k good legal =
+worlds_bring_the_same c first [] d name k good on legal = refl
+worlds_bring_the_same c first (e ∷ es) d name k good on legal =
     event_brings c first es d name k good (steps_of c first es)
-    (worlds_are_ends c first es good legal.0).are
-    (worlds_bring_the_same c first es d name k good legal.0) e legal
+    (worlds_are_ends c first es good on.1 legal.0).are
+    (worlds_bring_the_same c first es d name k good on.1 legal.0) e legal
 
 pub moves_bring_the_same : MovesBringTheSame
 moves_bring_the_same c first [] d name k can = refl

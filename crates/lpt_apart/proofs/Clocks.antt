@@ -1,4 +1,5 @@
--- Two ends whose clocks begin later are two ends that have ticked, and keep the promise.
+-- Two ends with clocks and limits of their own are two ends that have ticked and set limits, and
+-- keep the promise.
 use Rattle.std.proofs.Common.{◌≡◌, ◌∙◌, ap, sym, subst, refl, ℕ, zero, suc, ◌+◌, ◌<◌, ◌^◌, ◌==◌, Bool, false, if◌then◌else◌, List, [], ◌∷◌, Some, None, arith}
 use Rattle.std.proofs.lemmas.Bool.Decides.{nat_tests}
 use Rattle.lpt_packet.specs.declared.direction.Direction.{Direction}
@@ -10,7 +11,8 @@ use Rattle.lpt_events.specs.declared.config.Config.{Config}
 use Rattle.lpt_events.specs.declared.side.Side.TheVariants.{Ground, Craft}
 use Rattle.lpt_node.specs.declared.fault.NodeFault.TheVariants.{ClockEnd}
 use Rattle.lpt_node.specs.Nodes.{no_data}
-use Rattle.lpt_apart.specs.Clocks.{later, no_pair_later, after_all, CanAll, EndsWithClocksKeepThePromise}
+use Rattle.lpt_node.specs.Restarts.{node_within}
+use Rattle.lpt_apart.specs.Clocks.{Own, later, own_config, no_pair_later, after_all, CanAll, EndsWithClocksKeepThePromise}
 use Rattle.lpt_apart.specs.Ends.{no_ends}
 use Rattle.lpt_apart.specs.Moves.{Pair, Move, Do, no_pair, moved, CanMove, came_to, CanMoveAll}
 use Rattle.lpt_apart.specs.Steps.{Tick}
@@ -18,15 +20,16 @@ use Rattle.lpt_apart.specs.Worlds.{IsPromised}
 use Rattle.lpt_apart.specs.Whole.{came_moved, came_in, came_since, CameWhole, last_opened, is_aborted, last_released, EndsWithClocksWithholdNothing, WithholdsNothing}
 use Rattle.lpt_apart.proofs.Moving.{ends_apart_keep_the_promise, ends_apart_withhold_nothing}
 use Rattle.lpt_apart.proofs.Ties.{Came}
+use Rattle.lpt_acts.specs.Acts.{Limits, On, Within}
 
--- two new ends with these clocks
-abbrev at_clocks : Config → Contents → (on_ground on_craft : ℕ) → Pair
-at_clocks c first x y =
+-- two new ends with these clocks, the spacecraft's within these limits
+abbrev at_clocks : Config → Contents → Limits → (on_ground on_craft : ℕ) → Pair
+at_clocks c first l x y =
     record (no_pair c first) {
       ends =
           record (no_ends c first) {
             on_ground = record (no_data c) { clock = x };
-            on_craft = record (no_data c) { clock = y };
+            on_craft = node_within l (record (no_data c) { clock = y });
           };
     }
 
@@ -46,27 +49,34 @@ pub record IsBrought (c : Config) (first : Contents) (p : Pair) (parts : Came) :
 abbrev pub IsBegun : Config → Contents → Pair → Type 0
 IsBegun c first p = IsBrought c first p (λ d name n. false)
 
--- ---- ticks
+-- ---- limits and ticks
 
 -- a number below the greatest isn't it
 not_greatest : (n : ℕ) → n + 1 < 2 ^ 32 → (n == greatest_clock) ≡ false
 not_greatest n below = grind (arith, nat_tests)
 
-module _ (c : Config) (first : Contents) where
+module _ (c : Config) (first : Contents) (l : Limits) where
+  -- the spacecraft sets its limits
+  limits_first : IsBegun c first (at_clocks c first l c.clock c.clock)
+  limits_first = record {
+    reached = record { all = Do (Tick Craft (Within l)) ∷ []; can = (tt, tt); is = refl };
+    came = λ d name n. refl;
+  }
+
   -- ground ticks
   tick_ground : (x y : ℕ)
       → x + 1 < 2 ^ 32
-      → IsBegun c first (at_clocks c first x y)
-      → IsBegun c first (at_clocks c first (x + 1) y)
+      → IsBegun c first (at_clocks c first l x y)
+      → IsBegun c first (at_clocks c first l (x + 1) y)
   tick_ground x y below r = record {
     reached = record {
-      all = Do (Tick Ground) ∷ r.reached.all;
+      all = Do (Tick Ground On) ∷ r.reached.all;
       can = (
         r.reached.can,
-        subst (λ (p : Pair). CanMove c p (Do (Tick Ground))) (sym r.reached.is)
+        subst (λ (p : Pair). CanMove c p (Do (Tick Ground On))) (sym r.reached.is)
             (ap (λ (b : Bool). if b then Some ClockEnd else None) (not_greatest x below)),
       );
-      is = ap (λ (p : Pair). moved c p (Do (Tick Ground))) r.reached.is;
+      is = ap (λ (p : Pair). moved c p (Do (Tick Ground On))) r.reached.is;
     };
     came = r.came;
   }
@@ -74,59 +84,61 @@ module _ (c : Config) (first : Contents) where
   -- the spacecraft ticks
   tick_craft : (x y : ℕ)
       → y + 1 < 2 ^ 32
-      → IsBegun c first (at_clocks c first x y)
-      → IsBegun c first (at_clocks c first x (y + 1))
+      → IsBegun c first (at_clocks c first l x y)
+      → IsBegun c first (at_clocks c first l x (y + 1))
   tick_craft x y below r = record {
     reached = record {
-      all = Do (Tick Craft) ∷ r.reached.all;
+      all = Do (Tick Craft On) ∷ r.reached.all;
       can = (
         r.reached.can,
-        subst (λ (p : Pair). CanMove c p (Do (Tick Craft))) (sym r.reached.is)
+        subst (λ (p : Pair). CanMove c p (Do (Tick Craft On))) (sym r.reached.is)
             (ap (λ (b : Bool). if b then Some ClockEnd else None) (not_greatest y below)),
       );
-      is = ap (λ (p : Pair). moved c p (Do (Tick Craft))) r.reached.is;
+      is = ap (λ (p : Pair). moved c p (Do (Tick Craft On))) r.reached.is;
     };
     came = r.came;
   }
+
+  -- what the spacecraft has of its own with this clock
+  abbrev own : (ticks : ℕ) → Own
+  own k = record { ticks = k; limits = l }
 
   -- the same ends
   same : (x y g k : ℕ)
       → x ≡ g + c.clock
       → y ≡ k + c.clock
-      → IsBegun c first (at_clocks c first x y)
-      → IsBegun c first (no_pair_later c first g k)
+      → IsBegun c first (at_clocks c first l x y)
+      → IsBegun c first (no_pair_later c first g (own k))
   same x y g k ground craft r = record {
     reached = record {
       all = r.reached.all;
       can = r.reached.can;
-      is = r.reached.is ∙ (λ i. at_clocks c first (ground i) (craft i));
+      is = r.reached.is ∙ (λ i. at_clocks c first l (ground i) (craft i));
     };
     came = r.came;
   }
 
   ground_later : (g : ℕ)
       → g + c.clock < 2 ^ 32
-      → IsBegun c first (no_pair_later c first g 0)
+      → IsBegun c first (no_pair_later c first g (own 0))
   ground_later zero fits =
-      same c.clock c.clock 0 0 (omega arith) (omega arith) (record {
-        reached = record { all = []; can = tt; is = refl };
-        came = λ d name n. refl;
-      })
+      same c.clock c.clock 0 0 (omega arith) (omega arith) limits_first
   ground_later (suc g) fits =
       same ((g + c.clock) + 1) (0 + c.clock) (suc g) 0 (omega arith) refl
       (tick_ground (g + c.clock) (0 + c.clock) (omega (arith, fits))
       (ground_later g (omega (arith, fits))))
 
-  both_later : (g k : ℕ)
+  pub both_later : (g k : ℕ)
       → g + c.clock < 2 ^ 32
       → k + c.clock < 2 ^ 32
-      → IsBegun c first (no_pair_later c first g k)
+      → IsBegun c first (no_pair_later c first g (own k))
   both_later g zero fits_g fits_k = ground_later g fits_g
   both_later g (suc k) fits_g fits_k =
       same (g + c.clock) ((k + c.clock) + 1) g (suc k) refl (omega arith)
       (tick_craft (g + c.clock) (k + c.clock) (omega (arith, fits_k))
       (both_later g k fits_g (omega (arith, fits_k))))
 
+module _ (c : Config) (first : Contents) where
   -- moves behind others
   pub joined : (p : Pair) (xs : List Move)
       → IsReached c first p
@@ -178,16 +190,17 @@ earlier c g good = record {
   clock_fits = omega (arith, good.clock_fits);
 }
 
--- two new ends with clocks of their own are reached, and no part came
-pub begun : (c : Config) (first : Contents) (g k : ℕ)
+-- two new ends with clocks and limits of their own are reached, and no part came
+pub begun : (c : Config) (first : Contents) (g : ℕ) (k : Own)
     → IsConfig (later g c)
-    → IsConfig (later k c)
+    → IsConfig (own_config k c)
     → IsBegun c first (no_pair_later c first g k)
-begun c first g k good_g good_k = both_later c first g k good_g.clock_fits good_k.clock_fits
+begun c first g k good_g good_k =
+    both_later c first k.limits g k.ticks good_g.clock_fits good_k.clock_fits
 
-pub begun_later : (c : Config) (first : Contents) (g k : ℕ)
+pub begun_later : (c : Config) (first : Contents) (g : ℕ) (k : Own)
     → IsConfig (later g c)
-    → IsConfig (later k c)
+    → IsConfig (own_config k c)
     → IsReached c first (no_pair_later c first g k)
 begun_later c first g k good_g good_k = (begun c first g k good_g good_k).reached
 

@@ -27,8 +27,8 @@ use Rattle.lpt_part.specs.declared.reason.Reason.TheVariants as reason
 use Rattle.lpt_node.specs.Receivers.{abort_report, ended}
 use Rattle.lpt_node.specs.Receiving.{receiver_of, with_receiver, abort_head, parted}
 use Rattle.lpt_node.specs.Sending.{refusal_open_in, opened, closed, closed_by, counted_kind, sent, sent_of}
-use Rattle.lpt_node.specs.Restarts.{restarted}
-use Rattle.lpt_node.specs.Times.{ticked, due, expired, expired_of}
+use Rattle.lpt_node.specs.Restarts.{restarted, node_within}
+use Rattle.lpt_node.specs.Times.{ticked, expired_of, clock_back, which_ends}
 use Rattle.lpt_node.specs.declared.accepted.Accepted.{Accepted}
 use Rattle.lpt_events.specs.NamedParts.{NamedPart}
 use Rattle.lpt_model.specs.Tickets.{ticket_of}
@@ -41,6 +41,7 @@ use Rattle.lpt_apart.proofs.Fewer.{offer, all_parts, made_of, parted_is}
 use Rattle.lpt_apart.proofs.Lessening.{committed_by, report_ledger}
 use Rattle.lpt_apart.proofs.Offers.{offer_sending}
 use Rattle.lpt_apart.specs.Steps.{Step, Open, Send, Plain, Finish, Accept, Tick, Expire, Claim, Commit, Apply, Retire, Restart, CanHappen, committed_on, after}
+use Rattle.lpt_acts.specs.Acts.{On, Back, Within}
 
 -- ---- ledgers
 
@@ -88,10 +89,12 @@ kept_removed m name i other had =
 -- ---- nodes
 
 -- what a node whose message of some length isn't refused has under the name
-free_of : (c : Config) (k : Known) (n len : ℕ) → refusal_open_in c k n len ≡ None → k ≡ known.Free
-free_of c known.Free n len e = refl
-free_of c known.Open n len e = absurd cc
-free_of c known.Closed n len e = absurd cc
+free_of : (c : Config) (limit : ℕ) (k : Known) (n len : ℕ)
+    → refusal_open_in c limit k n len ≡ None
+    → k ≡ known.Free
+free_of c limit known.Free n len e = refl
+free_of c limit known.Open n len e = absurd cc
+free_of c limit known.Closed n len e = absurd cc
 
 sent_ledger : (side : Side) (c : Config) (n : NodeData) (name : Name) (k : ℕ) (o : Option (List ℕ))
     → (sent_of side c n name k o).0.sending.ledger ≡ n.sending.ledger
@@ -223,7 +226,8 @@ closed_stays c e (Open way i m) d name can stays had =
     let n : NodeData = node_at e (sender_side way) in
     changed e (after c e (Open way i m)) (sender_side way) (opened n i m) d name refl refl
     (kept_open n.sending.ledger name i
-    (free_of c (state_at n.sending.ledger i) (maps.len n.sending.messages) (length m) can.1)) had
+    (free_of c n.outgoing (state_at n.sending.ledger i) (maps.len n.sending.messages) (length m)
+    can.1)) had
 closed_stays c e (Send way i k) d name can stays had =
     let n : NodeData = node_at e (sender_side way) in
     changed e (after c e (Send way i k)) (sender_side way) (sent (sender_side way) c n i k).0 d name
@@ -241,13 +245,21 @@ closed_stays c e (Accept way b) d name can stays had =
     let a : Arrival = arrival_in c way b in
     changed e (after c e (Accept way b)) (receiver_side way) (accepted (receiver_side way) c n a).0
     d name refl refl (accepted_closed (receiver_side way) c n a name) had
-closed_stays c e (Tick side) d name can stays had =
-    changed e (after c e (Tick side)) side (ticked (node_at e side)) d name refl refl (λ shut. shut)
-    had
-closed_stays c e (Expire side) d name can stays had =
+closed_stays c e (Tick side On) d name can stays had =
+    changed e (after c e (Tick side On)) side (ticked (node_at e side)) d name refl refl
+    (λ shut. shut) had
+closed_stays c e (Tick side (Back n)) d name can stays had =
+    changed e (after c e (Tick side (Back n))) side (clock_back n (node_at e side)) d name refl refl
+    (λ shut. shut) had
+closed_stays c e (Tick side (Within l)) d name can stays had =
+    changed e (after c e (Tick side (Within l))) side (node_within l (node_at e side)) d name refl refl
+    (λ shut. shut) had
+closed_stays c e (Expire side which) d name can stays had =
     let n : NodeData = node_at e side in
-    changed e (after c e (Expire side)) side (expired side c n).0 d name refl refl
-    (λ shut. ap (λ (m : Marks). state_at m name) (expired_ledger side c n (due c n)) ∙ shut) had
+    changed e (after c e (Expire side which)) side (expired_of side c n (which_ends c n which)).0 d
+    name refl refl
+    (λ shut. ap (λ (m : Marks). state_at m name) (expired_ledger side c n (which_ends c n which))
+    ∙ shut) had
 closed_stays c e (Claim w) d name can stays had =
     changed e (after c e (Claim w)) Craft (claimed e.on_craft).0 d name refl refl
     (λ shut. ap (λ (m : Marks). state_at m name)

@@ -11,8 +11,7 @@ use Rattle.lpt_events.specs.Configs.{IsConfig}
 use Rattle.lpt_events.specs.declared.config.Config.{Config}
 use Rattle.lpt_events.specs.declared.entry.Opening.{Opening}
 use Rattle.lpt_events.specs.declared.entry.Release.{Release}
-use Rattle.lpt_events.specs.declared.event.Event.{Event}
-use Rattle.lpt_events.specs.declared.event.Event.TheVariants.{Plain, Deliver, Expire, Apply, Retire, Restart}
+use Rattle.lpt_acts.specs.Acts.{Act, Plain, Deliver, Expire, Apply, Retire, Restart}
 use Rattle.lpt_events.specs.declared.fault.StepFault.TheVariants.{NoJob, NotReady}
 use Rattle.lpt_events.specs.declared.outcome.Outcome.TheVariants.{Broken}
 use Rattle.lpt_events.specs.declared.reply.Answer.{Answer}
@@ -42,7 +41,7 @@ module _ (c : Config) (first : Contents) (good : IsConfig c) where
   asked_due [] log all = all
   asked_due (p ∷ ps) log all = asked_due ps (Asked p.octets ∷ log) (all, tt)
 
-  event_due : (e : Event) (ps : List SentPacket) (log : Log)
+  event_due : (e : Act) (ps : List SentPacket) (log : Log)
       → AllDue log
       → (e ≡ Apply → IsDue Executed log)
       → AllDue (with_event e ps log)
@@ -57,7 +56,7 @@ module _ (c : Config) (first : Contents) (good : IsConfig c) where
   openings_due (o ∷ os) log all = (openings_due os log all, tt)
 
   -- the abortion of an entry is due where it is of an awaited reception
-  ended_due : (place : ℕ) (e : Event) (a : Answer) (log : Log)
+  ended_due : (place : ℕ) (e : Act) (a : Answer) (log : Log)
       → AllDue log
       → ((j : ℕ) (b : Abortion)
       → slice_get (abortion_at place e a) j ≡ Some b
@@ -66,8 +65,8 @@ module _ (c : Config) (first : Contents) (good : IsConfig c) where
   ended_due place (Deliver l) (Delivered (Broken name why)) log all due = (all, due 0 _ refl)
   ended_due place (Deliver l) (Delivered o) log all due = all
   ended_due place (Deliver l) a log all due = all
-  ended_due place (Expire side) (Expired d name) log all due = (all, due 0 _ refl)
-  ended_due place (Expire side) a log all due = all
+  ended_due place (Expire side which) (Expired d name) log all due = (all, due 0 _ refl)
+  ended_due place (Expire side which) a log all due = all
   ended_due place e a log all due = all
 
   -- at most one release is due where it is the awaited one
@@ -81,7 +80,7 @@ module _ (c : Config) (first : Contents) (good : IsConfig c) where
   releases_due (r ∷ s ∷ rs) log all one due = absurd (omega (arith, one 1 s refl))
 
   -- a request that an event executes waits
-  execution_due : (e : Event) (es : List Event)
+  execution_due : (e : Act) (es : List Act)
       → Legal c first (e ∷ es)
       → e ≡ Apply
       → 0 < length (waiting (with_openings (opens c first (recorded c first es) e)
@@ -106,7 +105,7 @@ module _ (c : Config) (first : Contents) (good : IsConfig c) where
   execution_due e es legal is = absurd cc
 
   -- the log of a legal journal is due
-  pub all_due : (es : List Event) → Legal c first es → AllDue (told c (recorded c first es))
+  pub all_due : (es : List Act) → Legal c first es → AllDue (told c (recorded c first es))
   all_due [] legal = tt
   all_due (e ∷ es) legal =
       event_due e x.puts (with_openings x.opens over)

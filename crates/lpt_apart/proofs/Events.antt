@@ -8,11 +8,9 @@ use Rattle.lpt_packet.specs.Names.{Name}
 use Rattle.lpt_memory.specs.Memories.{Contents}
 use Rattle.lpt_memory.specs.Readings.{Job}
 use Rattle.lpt_events.specs.Configs.{IsConfig}
-use Rattle.lpt_events.specs.Events.{IsEvent}
+use Rattle.lpt_acts.specs.Acts.{IsAct, Act, Open, Send, Plain, Finish, Tick, Expire, Claim, Commit, Apply, Restart, Setting, On, Back, Within}
 use Rattle.lpt_events.specs.Sides.{direction_to}
 use Rattle.lpt_events.specs.declared.config.Config.{Config}
-use Rattle.lpt_events.specs.declared.event.Event.{Event}
-use Rattle.lpt_events.specs.declared.event.Event.TheVariants.{Open, Send, Plain, Finish, Tick, Expire, Claim, Commit, Apply, Restart}
 use Rattle.lpt_events.specs.declared.lane.Lane.{Lane}
 use Rattle.lpt_events.specs.declared.side.Side.{Side}
 use Rattle.lpt_events.specs.declared.side.Side.TheVariants.{Ground, Craft}
@@ -24,7 +22,7 @@ use Rattle.lpt_node.specs.Jobs.{FrontIsFor, refusal_apply_of, executed}
 use Rattle.lpt_node.specs.Requests.{plain_made}
 use Rattle.lpt_node.specs.Sending.{sent}
 use Rattle.lpt_node.specs.Nodes.{NodeData}
-use Rattle.lpt_node.specs.Times.{expired}
+use Rattle.lpt_node.specs.Times.{expired_of, which_ends}
 use Rattle.lpt_node.specs.declared.expired.Expired.{Expired as Ended}
 use Rattle.lpt_model.specs.State.{State, after, as_list, committed_on, refusal_of, refusal_claim_by, refusal_commit_of}
 use Rattle.lpt_model.specs.Tickets.{ticket_of}
@@ -51,10 +49,10 @@ open_came true o before = refl
 open_came false o before = refl
 
 module _ (c : Config) (first : Contents) (s : State) (ways : List PutOut) (log : Log)
-    (es : List Event)
+    (es : List Act)
     (good : IsConfig c) (t : IsTied c first s ways log es) where
   -- the world after an event
-  abbrev state_after : Event → State
+  abbrev state_after : Act → State
   state_after e = (after c (length (recorded c first es)) s e).0
 
   -- the parts that came with a step
@@ -63,8 +61,8 @@ module _ (c : Config) (first : Contents) (s : State) (ways : List PutOut) (log :
       came_after c (ends_of s ways log) x d name k (came c (recorded c first es) d name k)
 
   -- an event is done: it leaves no hand full, what may be handed over is held, and the log is told
-  once : (e : Event) (ways' : List PutOut) (log' : Log)
-      → IsEvent e
+  once : (e : Act) (ways' : List PutOut) (log' : Log)
+      → IsAct e
       → refusal_of c s e ≡ None
       → ((l : Lane) → hand_of (state_after e).link l ≡ None)
       → AllHeld (state_after e).link.packets ways'
@@ -151,39 +149,50 @@ module _ (c : Config) (first : Contents) (s : State) (ways : List PutOut) (log :
 
   -- ---- time and restarts
 
-  pub tick : (side : Side)
-      → CanHappen c (ends_of s ways log) (steps.Tick side)
-      → Leads c first (steps.after c (ends_of s ways log) (steps.Tick side))
-      (came_on (steps.Tick side))
-  tick Ground can = once (Tick Ground) ways log tt (ap (option_map node_fault) can) t.hands t.held
-      t.tells (λ e i k. refl)
-  tick Craft can = once (Tick Craft) ways log tt (ap (option_map node_fault) can) t.hands t.held
-      t.tells (λ e i k. refl)
+  pub tick : (side : Side) (turn : Setting)
+      → CanHappen c (ends_of s ways log) (steps.Tick side turn)
+      → Leads c first (steps.after c (ends_of s ways log) (steps.Tick side turn))
+      (came_on (steps.Tick side turn))
+  tick Ground On can =
+      once (Tick Ground On) ways log tt (ap (option_map node_fault) can) t.hands t.held t.tells
+      (λ e i k. refl)
+  tick Craft On can =
+      once (Tick Craft On) ways log tt (ap (option_map node_fault) can) t.hands t.held t.tells
+      (λ e i k. refl)
+  tick Ground (Within l) can =
+      once (Tick Ground (Within l)) ways log tt refl t.hands t.held t.tells (λ e i k. refl)
+  tick Craft (Within l) can =
+      once (Tick Craft (Within l)) ways log tt refl t.hands t.held t.tells (λ e i k. refl)
+  tick Ground (Back n) can =
+      once (Tick Ground (Back n)) ways log tt refl t.hands t.held t.tells (λ e i k. refl)
+  tick Craft (Back n) can =
+      once (Tick Craft (Back n)) ways log tt refl t.hands t.held t.tells (λ e i k. refl)
 
-  pub expire : (side : Side)
-      → CanHappen c (ends_of s ways log) (steps.Expire side)
-      → Leads c first (steps.after c (ends_of s ways log) (steps.Expire side))
-      (came_on (steps.Expire side))
-  expire Ground can =
-      let x : NodeData × Ended = expired Ground c s.on_ground in
+  pub expire : (side : Side) (which : Option Name)
+      → CanHappen c (ends_of s ways log) (steps.Expire side which)
+      → Leads c first (steps.after c (ends_of s ways log) (steps.Expire side which))
+      (came_on (steps.Expire side which))
+  expire Ground which can =
+      let x : NodeData × Ended =
+      expired_of Ground c s.on_ground (which_ends c s.on_ground which) in
       let bs : List (List ℕ) = as_list x.1.packet in
-      let free : refusal_of c s (Expire Ground) ≡ None = ap (option_map node_fault) can in
-      once (Expire Ground) (put_out ways Down None bs)
+      let free : refusal_of c s (Expire Ground which) ≡ None = ap (option_map node_fault) can in
+      once (Expire Ground which) (put_out ways Down None bs)
       (Aborted (direction_to Ground) x.1.name ∷ log) tt free
       (λ l. put_hands s.link Down None bs l ∙ t.hands l)
       (put_held s.link ways Down None bs t.held)
-      (expiry_told c first s log es t.shown t.tells Ground
-      (longer c first s es (Expire Ground) good t.legal t.shown tt free)) (λ e i k. refl)
-  expire Craft can =
-      let x : NodeData × Ended = expired Craft c s.on_craft in
+      (expiry_told c first s log es t.shown t.tells Ground which
+      (longer c first s es (Expire Ground which) good t.legal t.shown tt free)) (λ e i k. refl)
+  expire Craft which can =
+      let x : NodeData × Ended = expired_of Craft c s.on_craft (which_ends c s.on_craft which) in
       let bs : List (List ℕ) = as_list x.1.packet in
-      let free : refusal_of c s (Expire Craft) ≡ None = ap (option_map node_fault) can in
-      once (Expire Craft) (put_out ways Down None bs)
+      let free : refusal_of c s (Expire Craft which) ≡ None = ap (option_map node_fault) can in
+      once (Expire Craft which) (put_out ways Down None bs)
       (Aborted (direction_to Craft) x.1.name ∷ log) tt free
       (λ l. put_hands s.link Down None bs l ∙ t.hands l)
       (put_held s.link ways Down None bs t.held)
-      (expiry_told c first s log es t.shown t.tells Craft
-      (longer c first s es (Expire Craft) good t.legal t.shown tt free)) (λ e i k. refl)
+      (expiry_told c first s log es t.shown t.tells Craft which
+      (longer c first s es (Expire Craft which) good t.legal t.shown tt free)) (λ e i k. refl)
 
   pub restart : (side : Side)
       → CanHappen c (ends_of s ways log) (steps.Restart side)

@@ -1,6 +1,6 @@
 -- Two ends of which receivers have freed some names do a step as the others do, where no part of
 -- these comes.
-use Rattle.std.proofs.Common.{◌≡◌, ◌∙◌, ap, sym, subst, refl, ℕ, Bool, true, false, if◌then◌else◌, inl, inr, List, Option, Some, None}
+use Rattle.std.proofs.Common.{◌≡◌, ◌∙◌, ap, sym, subst, refl, ℕ, Bool, false, if◌then◌else◌, inl, inr, List, Option, Some, None}
 use Rattle.std.specs.FinMap as maps
 use Rattle.lpt_packet.specs.declared.direction.Direction.{Direction}
 use Rattle.lpt_packet.specs.declared.direction.Direction.TheVariants.{Up, Down}
@@ -21,12 +21,8 @@ use Rattle.lpt_node.specs.declared.accepted.Accepted.{Accepted}
 use Rattle.lpt_node.specs.declared.expired.Expired.{Expired}
 use Rattle.lpt_node.specs.Jobs.{Execution, executed}
 use Rattle.lpt_node.specs.Nodes.{Receiving, NodeData, message_at}
-use Rattle.lpt_node.specs.Receivers.{table_in}
-use Rattle.lpt_node.specs.Receiving.{receiver_of}
-use Rattle.lpt_node.specs.Times.{due}
-use Rattle.lpt_table.specs.Deadlines.{IsDue}
-use Rattle.lpt_table.specs.Tables.{TableEntry}
-use Rattle.lpt_table.proofs.DueLemmas.{due_of_is}
+use Rattle.lpt_node.specs.Times.{which_ends}
+use Rattle.lpt_table.specs.Tables.{Entries}
 use Rattle.lpt_model.specs.Tickets.{ticket_of}
 use Rattle.lpt_apart.specs.Ends.{Ends}
 use Rattle.lpt_apart.specs.Steps.{Step, Open, Send, Plain, Finish, Accept, Tick, Expire, Claim, Commit, Apply, Retire, Restart, CanHappen, after, sent_on, accepted_on, expired_on, claimed_on, committed_on, executed_on}
@@ -35,9 +31,14 @@ use Rattle.lpt_apart.specs.Moves.{with_ledger, with_ledgers, KnowsLess}
 use Rattle.lpt_apart.proofs.Lessening.{sent_less, sent_receiving, claimed_less, claimed_receiving, committed_less, committed_receiving, executed_less, executed_receiving}
 use Rattle.lpt_apart.proofs.Fewer.{accepted_less, expired_less}
 use Rattle.lpt_apart.proofs.Staleness.{is_stale}
+use Rattle.lpt_apart.proofs.Unheard.{not_freed}
 use Rattle.lpt_apart.proofs.Stepping.{lead_on}
 use Rattle.lpt_apart.proofs.Ties.{Came, Leads}
 use Rattle.lpt_apart.proofs.Freed.{IsLess, IsBut}
+use Rattle.lpt_acts.specs.Acts.{Limits, On, Back, Within}
+use Rattle.lpt_table.specs.SettingBack.{earlier, set_back}
+use Rattle.lpt_table.proofs.BackLemmas.{get-set_back}
+use Rattle.std.specs.Option.{option_map}
 
 -- ---- steps
 
@@ -176,42 +177,86 @@ module _ (c : Config) (first : Contents) (good : IsConfig c) (freed : Direction 
     is = refl;
   }
 
-  -- a receiver gives up no reception of a freed name
-  not_freed : (n : NodeData) (gone : Name → Bool)
-      → ((name : Name) → gone name ≡ true → maps.get n.receiving.entries name ≡ None)
-      → (name : Name)
-      → due c n ≡ Some name
-      → gone name ≡ false
-  not_freed n gone none name is = go (gone name) refl where
-    open_one : (o : Option Name)
-        → IsDue (table_in (receiver_of c n.receiving)) n.clock o
-        → o ≡ Some name
-        → (x : TableEntry) × (maps.get n.receiving.entries name ≡ Some x)
-    open_one None it e = absurd cc
-    open_one (Some i) it e =
-        let same : i ≡ name = cc in
-        (it.0, subst (λ (j : Name). maps.get n.receiving.entries j ≡ Some it.0) same it.1.present)
+  -- a clock is set back, and the receptions with it
+  none_back : (n : ℕ) (es : Entries) (name : Name)
+      → maps.get es name ≡ None
+      → maps.get (set_back n es) name ≡ None
+  none_back n es name none = get-set_back n es name ∙ ap (option_map (earlier n)) none
 
-    go : (b : Bool) → gone name ≡ b → b ≡ false
-    go false e = refl
-    go true e =
-        let there = open_one (due c n) (due_of_is (table_in (receiver_of c n.receiving)) n.clock)
-        is
-        in
-        absurd (let both : None ≡ Some there.0 = sym (none name e) ∙ there.1 in cc)
+  turn_back : (side : Side) (n : ℕ)
+      → CanHappen c ends (Tick side (Back n))
+      → IsBut c first freed (after c ends (Tick side (Back n)))
+      (came_with ends (Tick side (Back n)))
+  turn_back Ground n can = record {
+    whole = after c w (Tick Ground (Back n));
+    on_ground = g;
+    on_craft = k;
+    less = record {
+      leads = lead_on c first good w (Tick Ground (Back n)) parts l.leads can;
+      on_ground = l.on_ground;
+      on_craft = l.on_craft;
+      no_down = λ name gone. none_back n w.on_ground.receiving.entries name (l.no_down name gone);
+      no_up = l.no_up;
+    };
+    is = refl;
+  }
+  turn_back Craft n can = record {
+    whole = after c w (Tick Craft (Back n));
+    on_ground = g;
+    on_craft = k;
+    less = record {
+      leads = lead_on c first good w (Tick Craft (Back n)) parts l.leads can;
+      on_ground = l.on_ground;
+      on_craft = l.on_craft;
+      no_down = l.no_down;
+      no_up = λ name gone. none_back n w.on_craft.receiving.entries name (l.no_up name gone);
+    };
+    is = refl;
+  }
 
-  expire : (side : Side)
-      → CanHappen c ends (Expire side)
-      → IsBut c first freed (after c ends (Expire side)) (came_with ends (Expire side))
-  expire Ground can =
-      let x = expired_less Ground c g w.on_ground (due c w.on_ground) (freed Down) l.on_ground
-      (not_freed w.on_ground (freed Down) l.no_down) in
+  -- other limits leave all receptions
+  turn_within : (side : Side) (m : Limits)
+      → IsBut c first freed (after c ends (Tick side (Within m)))
+      (came_with ends (Tick side (Within m)))
+  turn_within Ground m = record {
+    whole = after c w (Tick Ground (Within m));
+    on_ground = g;
+    on_craft = k;
+    less = record {
+      leads = lead_on c first good w (Tick Ground (Within m)) parts l.leads tt;
+      on_ground = l.on_ground;
+      on_craft = l.on_craft;
+      no_down = l.no_down;
+      no_up = l.no_up;
+    };
+    is = refl;
+  }
+  turn_within Craft m = record {
+    whole = after c w (Tick Craft (Within m));
+    on_ground = g;
+    on_craft = k;
+    less = record {
+      leads = lead_on c first good w (Tick Craft (Within m)) parts l.leads tt;
+      on_ground = l.on_ground;
+      on_craft = l.on_craft;
+      no_down = l.no_down;
+      no_up = l.no_up;
+    };
+    is = refl;
+  }
+
+  expire : (side : Side) (which : Option Name)
+      → CanHappen c ends (Expire side which)
+      → IsBut c first freed (after c ends (Expire side which)) (came_with ends (Expire side which))
+  expire Ground which can =
+      let x = expired_less Ground c g w.on_ground (which_ends c w.on_ground which) (freed Down)
+      l.on_ground (not_freed c w.on_ground (freed Down) which l.no_down) in
       record {
-        whole = after c w (Expire Ground);
+        whole = after c w (Expire Ground which);
         on_ground = x.marks;
         on_craft = k;
         less = record {
-          leads = lead_on c first good w (Expire Ground) parts l.leads can;
+          leads = lead_on c first good w (Expire Ground which) parts l.leads can;
           on_ground = x.knows;
           on_craft = l.on_craft;
           no_down = λ name gone. x.unheard name gone (l.no_down name gone);
@@ -219,15 +264,15 @@ module _ (c : Config) (first : Contents) (good : IsConfig c) (freed : Direction 
         };
         is = ap (λ (y : NodeData × Expired). expired_on ends Ground y) (sym x.is);
       }
-  expire Craft can =
-      let x = expired_less Craft c k w.on_craft (due c w.on_craft) (freed Up) l.on_craft
-      (not_freed w.on_craft (freed Up) l.no_up) in
+  expire Craft which can =
+      let x = expired_less Craft c k w.on_craft (which_ends c w.on_craft which) (freed Up)
+      l.on_craft (not_freed c w.on_craft (freed Up) which l.no_up) in
       record {
-        whole = after c w (Expire Craft);
+        whole = after c w (Expire Craft which);
         on_ground = g;
         on_craft = x.marks;
         less = record {
-          leads = lead_on c first good w (Expire Craft) parts l.leads can;
+          leads = lead_on c first good w (Expire Craft which) parts l.leads can;
           on_ground = l.on_ground;
           on_craft = x.knows;
           no_down = l.no_down;
@@ -323,9 +368,11 @@ module _ (c : Config) (first : Contents) (good : IsConfig c) (freed : Direction 
   step (Finish Up name) can usual = quiet (Finish Up name) can refl refl refl refl
   step (Finish Down name) can usual = quiet (Finish Down name) can refl refl refl refl
   step (Accept d b) can usual = accept d b can usual
-  step (Tick Ground) can usual = quiet (Tick Ground) can refl refl refl refl
-  step (Tick Craft) can usual = quiet (Tick Craft) can refl refl refl refl
-  step (Expire side) can usual = expire side can
+  step (Tick Ground On) can usual = quiet (Tick Ground On) can refl refl refl refl
+  step (Tick Craft On) can usual = quiet (Tick Craft On) can refl refl refl refl
+  step (Tick side (Back n)) can usual = turn_back side n can
+  step (Tick side (Within m)) can usual = turn_within side m
+  step (Expire side which) can usual = expire side which can
   step (Claim v) can usual = claim v can
   step (Commit v) can usual = commit v can
   step Apply can usual = apply can

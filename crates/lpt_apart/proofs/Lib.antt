@@ -23,6 +23,7 @@ pub mod Mirroring
 pub mod Moving
 pub mod Offers
 pub mod Played
+pub mod Places
 pub mod Players
 pub mod Playing
 pub mod Promise
@@ -35,5 +36,6 @@ pub mod Staleness
 pub mod Stepping
 pub mod Telling
 pub mod Ties
+pub mod Unheard
 pub mod Upward
 pub mod Withheld

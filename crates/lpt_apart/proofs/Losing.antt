@@ -8,8 +8,7 @@ use Rattle.lpt_packet.specs.Names.{Name}
 use Rattle.lpt_memory.specs.Memories.{Contents}
 use Rattle.lpt_events.specs.Configs.{IsConfig}
 use Rattle.lpt_events.specs.declared.config.Config.{Config}
-use Rattle.lpt_events.specs.declared.event.Event.{Event}
-use Rattle.lpt_events.specs.declared.event.Event.TheVariants.{Lose}
+use Rattle.lpt_acts.specs.Acts.{Act, Lose}
 use Rattle.lpt_events.specs.declared.lane.Lane.{Lane}
 use Rattle.lpt_link.specs.declared.fault.LinkFault.TheVariants.{NotHeld}
 use Rattle.lpt_link.specs.declared.packet.LinkPacket.{LinkPacket}
@@ -32,10 +31,10 @@ is_held_part d name p = p.held && is_of d name p
 
 -- The held parts of a transaction below a number were lost after these events: the link is this,
 -- and no other packet has changed.
-pub record WereLost (c : Config) (first : Contents) (s : State) (es : List Event) (d : Direction)
+pub record WereLost (c : Config) (first : Contents) (s : State) (es : List Act) (d : Direction)
     (name : Name) (n : ℕ) : Type 0 where
   pub link : LinkData
-  pub events : List Event
+  pub events : List Act
   pub legal : Legal c first events
   pub shown : Shows (record s { link = link }) (views c first (recorded c first events))
   pub hands : (l : Lane) → hand_of link l ≡ hand_of s.link l
@@ -128,7 +127,7 @@ kept_on d name ps n part k p there other = get_lost ps n k ∙ go (k == n) refl 
 
 -- ---- all of them
 
-module _ (c : Config) (first : Contents) (good : IsConfig c) (s : State) (es : List Event)
+module _ (c : Config) (first : Contents) (good : IsConfig c) (s : State) (es : List Act)
     (d : Direction) (name : Name) where
   lose_next : (n : ℕ) → WereLost c first s es d name n → WereLost c first s es d name (suc n)
   lose_next n had =

@@ -1,25 +1,21 @@
 -- Ends that drop requests are, for requests, two ends that execute none.
-use Rattle.std.proofs.Common.{◌≡◌, ◌∙◌, ap, sym, subst, refl, ℕ, Bool, false, if◌then◌else◌, not, ◌&&◌, ◌||◌, List, [], ◌∷◌, Option, Some, None}
-use Rattle.std.specs.List.{slice_get}
+use Rattle.std.proofs.Common.{◌≡◌, ◌∙◌, sym, subst, refl, ℕ, Bool, false, if◌then◌else◌, not, ◌&&◌, ◌||◌, List, [], ◌∷◌, Option, Some, None, ◌-◌, nat_le}
 use Rattle.lpt_packet.specs.declared.direction.Direction.TheVariants.{Up, Down}
 use Rattle.lpt_packet.specs.Names.{Name}
 use Rattle.lpt_memory.specs.Memories.{Contents, sizes_of}
-use Rattle.lpt_memory.specs.Readings.{Source}
 use Rattle.lpt_events.specs.Arrivals.{arrival_in}
 use Rattle.lpt_events.specs.Configs.{IsConfig}
 use Rattle.lpt_events.specs.declared.config.Config.{Config}
 use Rattle.lpt_events.specs.declared.side.Side.TheVariants.{Ground, Craft}
-use Rattle.lpt_jobs.specs.Jobs.{Ready, head_of, unclaimed}
-use Rattle.lpt_jobs.specs.declared.job.Job.{Job}
-use Rattle.lpt_jobs.specs.declared.job.Job.TheVariants.{Claimed, Committed, Waiting}
-use Rattle.lpt_node.specs.Jobs.{claimed, executed_of}
+use Rattle.lpt_jobs.specs.Jobs.{head_of, unclaimed}
+use Rattle.lpt_node.specs.Jobs.{claimed, executed_of, refused_front}
 use Rattle.lpt_node.specs.Nodes.{NodeData, message_at}
 use Rattle.lpt_node.specs.Requests.{plain_made}
 use Rattle.lpt_node.specs.Restarts.{restarted}
 use Rattle.lpt_node.specs.Sending.{sent_of}
-use Rattle.lpt_node.specs.Times.{due}
-use Rattle.lpt_apart.specs.Clocks.{later as at_later, no_pair_later}
-use Rattle.lpt_apart.specs.Drops.{Drops, EndsThatDropServe, LetsGo, Makes, Reads, Service, Turn, CanTurn, CanTurnAll, IsNoWork, no_service, read_as, reading_for, text_of, turned, turned_all, with_craft}
+use Rattle.lpt_node.specs.Times.{which_ends}
+use Rattle.lpt_apart.specs.Clocks.{Own, later as at_later, own_config, no_pair_later}
+use Rattle.lpt_apart.specs.Drops.{Drops, EndsThatDropServe, LetsGo, Makes, Reads, Refuses, Service, Turn, CanTurn, CanTurnAll, IsNoWork, no_service, read_as, turned, turned_all, with_craft}
 use Rattle.lpt_apart.specs.Ends.{Ends, PutOut, is_part, put_out, without}
 use Rattle.lpt_apart.specs.Facts.{Opened, Asked, Executed, Retired, Restarted, is_same}
 use Rattle.lpt_apart.specs.Moves.{CanMove, Do, Free, Move, Pair, moved}
@@ -27,10 +23,16 @@ use Rattle.lpt_apart.specs.Steps.{Accept, Apply, Claim, Commit, Expire, Finish, 
 use Rattle.lpt_apart.specs.Uploads.{EndsThatDropWithholdNoRequest, came_turned, came_with}
 use Rattle.lpt_apart.specs.Whole.{came_moved, is_reported}
 use Rattle.lpt_apart.proofs.Clocks.{begun, reached_withhold}
-use Rattle.lpt_apart.proofs.Serving.{AreOf, IsQueued, queued}
+use Rattle.lpt_apart.proofs.Places.{first_waits}
+use Rattle.lpt_apart.proofs.Serving.{IsQueued, queued}
 use Rattle.lpt_apart.proofs.Upward.{adds, adds_one, opened_down, retired_down, up_both, up_down, up_left, up_less}
-use Rattle.lpt_apart.proofs.Alike.{same_executed, same_read, same_sent}
-use Rattle.lpt_apart.proofs.Beside.{Core, IsBroughtUp, IsMirrored, Rest, beside_craft, core_of, executes, expires_craft, expires_ground, goes, mirror, send_up, takes_down, takes_up, up_packet}
+use Rattle.lpt_apart.proofs.Alike.{same_executed, same_read, same_refused, same_sent}
+use Rattle.lpt_apart.proofs.Beside.{Core, IsBroughtUp, IsMirrored, Rest, beside_craft, core_of, executes, expires_craft, expires_ground, goes, mirror, reported_beside, send_up, takes_down, takes_up, up_packet}
+use Rattle.lpt_acts.specs.Acts.{On, Back, Within}
+use Rattle.lpt_packet.proofs.BoolLemmas.{and_left}
+use Rattle.lpt_table.specs.SettingBack.{reaches_back}
+use Rattle.lpt_table.specs.Tables.{Entries}
+use Rattle.lpt_table.proofs.BackLemmas.{back-none, reaches-none}
 
 -- no report of data goes up
 not_reported : (o : Option (Name × List ℕ)) (name : Name) → is_reported o Up name ≡ false
@@ -62,6 +64,20 @@ module _ (c : Config) (first : Contents) (g : ℕ) (good : IsConfig (at_later g 
     move s x can is comes =
         goes c first g good k (core_of (moved c p x).ends) r s x parts (after x) m.reached can is
         comes
+
+    -- those beside, once their clock on ground was set back, where that has these receptions
+    abbrev mirror_with : Rest → ℕ → Entries → Pair
+    mirror_with s n es =
+        let q : Pair = mirror first k s in
+        let d : NodeData = q.ends.on_ground in
+        record q {
+          ends = record q.ends {
+            on_ground = record d {
+              receiving = record d.receiving { entries = es };
+              clock = d.clock - n;
+            };
+          };
+        }
 
     mirrors : (x : Move)
         → IsNoWork x
@@ -135,28 +151,67 @@ module _ (c : Config) (first : Contents) (g : ℕ) (good : IsConfig (at_later g 
     mirrors (Do (Accept Up b)) own can = takes_up c first g good p parts m b can
     mirrors (Do (Accept Down b)) own can =
         takes_down c first g good p parts m b (arrival_in c Down b) refl
-    mirrors (Do (Tick Ground)) own can = record {
+    mirrors (Do (Tick Ground On)) own can = record {
       rest = r;
       reached =
-          move r (Do (Tick Ground)) can
+          move r (Do (Tick Ground On)) can
           refl (λ i n. refl);
       ways = m.ways;
       freed = m.freed;
       like = m.like;
     }
-    mirrors (Do (Tick Craft)) own can = record {
+    mirrors (Do (Tick Ground (Back n))) own can =
+        let at = nat_le n k.ground_clock in
+        let far = and_left at (reaches_back n e.on_ground.receiving.entries) can in
+        record {
+          rest = r;
+          reached =
+              move r (Do (Tick Ground (Back n))) (λ i. far i && reaches-none n i)
+              (λ i. mirror_with r n (back-none n i)) (λ i m. refl);
+          ways = m.ways;
+          freed = m.freed;
+          like = m.like;
+        }
+    mirrors (Do (Tick Ground (Within l))) own can = record {
       rest = r;
       reached =
-          move r (Do (Tick Craft)) can
+          move r (Do (Tick Ground (Within l))) can
           refl (λ i n. refl);
       ways = m.ways;
       freed = m.freed;
       like = m.like;
     }
-    mirrors (Do (Expire Ground)) own can =
-        expires_ground c first g good p parts m (due c e.on_ground)
-    mirrors (Do (Expire Craft)) own can =
-        expires_craft c first g good p parts m (due c e.on_craft) refl can
+    mirrors (Do (Tick Craft On)) own can = record {
+      rest = r;
+      reached =
+          move r (Do (Tick Craft On)) can
+          refl (λ i n. refl);
+      ways = m.ways;
+      freed = m.freed;
+      like = m.like;
+    }
+    mirrors (Do (Tick Craft (Back n))) own can = record {
+      rest = r;
+      reached =
+          move r (Do (Tick Craft (Back n))) can
+          refl (λ i n. refl);
+      ways = m.ways;
+      freed = m.freed;
+      like = m.like;
+    }
+    mirrors (Do (Tick Craft (Within l))) own can = record {
+      rest = r;
+      reached =
+          move r (Do (Tick Craft (Within l))) can
+          refl (λ i n. refl);
+      ways = m.ways;
+      freed = m.freed;
+      like = m.like;
+    }
+    mirrors (Do (Expire Ground which)) own can =
+        expires_ground c first g good p parts m (which_ends c e.on_ground which)
+    mirrors (Do (Expire Craft which)) own can =
+        expires_craft c first g good p parts m which (which_ends c e.on_craft which) refl can
     mirrors (Do (Claim w)) own can = absurd own
     mirrors (Do (Commit w)) own can = absurd own
     mirrors (Do Apply) own can =
@@ -193,10 +248,7 @@ module _ (c : Config) (first : Contents) (g : ℕ) (good : IsConfig (at_later g 
       like = adds_one (Retired Down name) e.log r.log (retired_down name) tt m.like;
     }
     mirrors (Do (Restart Ground)) own can =
-        let s : Rest = record r {
-          receiving = (restarted (mirror first k r).ends.on_ground).receiving;
-          log = Restarted Ground ∷ r.log;
-        } in
+        let s : Rest = record r { log = Restarted Ground ∷ r.log } in
         record {
           rest = s;
           reached =
@@ -270,6 +322,17 @@ module _ (c : Config) (first : Contents) (g : ℕ) (good : IsConfig (at_later g 
     freed = m.freed;
     like = m.like;
   }
+  turns s (Refuses code) parts can m =
+      let e : Ends = s.pair.ends in
+      let x = refused_front c e.on_craft code in
+      let it : IsMirrored c first (turned c s (Refuses code)).pair parts =
+      beside_craft c first g good s.pair parts m x.0
+      (put_out e.on_the_way Down None x.1.packets) (reporting e.log x.1.opened) e.memories
+      (same_refused c e.on_craft code (head_of e.on_craft.jobs.jobs))
+      (up_down m.rest.ways e.on_the_way None x.1.packets m.ways)
+      (reported_beside c first g good s.pair parts m x.1.opened) in
+      subst (λ (ps : Name → ℕ → Bool). IsMirrored c first (turned c s (Refuses code)).pair ps)
+      (λ i name n. if sym (not_reported x.1.opened name) i then false else parts name n) it
 
   pub mirrored : (s : Service) (xs : List Turn)
       → IsMirrored c first s.pair (λ name n. false)
@@ -280,16 +343,15 @@ module _ (c : Config) (first : Contents) (g : ℕ) (good : IsConfig (at_later g 
       turns (turned_all c s xs) x (came_with c s xs Up) can.1 (mirrored s xs m can.0)
 
 -- two new ends are beside themselves
-begins_so : (c : Config) (first : Contents) (g k : ℕ)
+begins_so : (c : Config) (first : Contents) (g : ℕ) (k : Own)
     → IsConfig (at_later g c)
-    → IsConfig (at_later k c)
+    → IsConfig (own_config k c)
     → IsMirrored c first (no_pair_later c first g k) (λ name n. false)
 begins_so c first g k good_g good_k =
     let e : Ends = (no_pair_later c first g k).ends in
     let b = begun c first g k good_g good_k in
     record {
       rest = record {
-        receiving = e.on_ground.receiving;
         sending = e.on_craft.sending;
         jobs = e.on_craft.jobs;
         ways = [];
@@ -308,22 +370,6 @@ begins_so c first g k good_g good_k =
         sent = tt;
       };
     }
-
--- what was read at the front is what waits first
-first_waits : (apid : ℕ) (ms : Contents) (js : List Job) (ws : List (Option (List ℕ)))
-    (r : Source) (w : Option (List ℕ))
-    → AreOf apid (sizes_of ms) js ws
-    → head_of js ≡ Ready r
-    → slice_get ws 0 ≡ Some w
-    → r ≡ reading_for apid ms (text_of w)
-first_waits apid ms [] ws r v are is first = absurd cc
-first_waits apid ms (Waiting n ∷ js) ws r v are is first = absurd cc
-first_waits apid ms (Claimed ∷ js) ws r v are is first = absurd cc
-first_waits apid ms (Committed s ∷ js) [] r v are is first = absurd are
-first_waits apid ms (Committed s ∷ js) (w ∷ ws) r v are is first =
-    let same : s ≡ r = cc in
-    let there : w ≡ v = cc in
-    sym same ∙ are.0 ∙ ap (λ (o : Option (List ℕ)). reading_for apid ms (text_of o)) there
 
 pub ends_that_drop_serve : EndsThatDropServe
 ends_that_drop_serve c first g k xs good_g good_k can =

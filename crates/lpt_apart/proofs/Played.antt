@@ -9,8 +9,8 @@ use Rattle.lpt_memory.specs.Readings.{Job}
 use Rattle.lpt_events.specs.Configs.{IsConfig}
 use Rattle.lpt_events.specs.Sides.{direction_to}
 use Rattle.lpt_events.specs.declared.config.Config.{Config}
-use Rattle.lpt_events.specs.declared.event.Event.{Event}
-use Rattle.lpt_events.specs.declared.event.Event.TheVariants as event
+use Rattle.lpt_acts.specs.Acts.{Act}
+use Rattle.lpt_acts.specs.Acts as act
 use Rattle.lpt_events.specs.declared.side.Side.{Side}
 use Rattle.lpt_events.specs.declared.side.Side.TheVariants.{Ground, Craft}
 use Rattle.lpt_ledger.specs.States.{state_at}
@@ -18,7 +18,7 @@ use Rattle.lpt_events.specs.declared.worker.Worker.{Worker}
 use Rattle.lpt_link.specs.Links.{holds}
 use Rattle.lpt_node.specs.Faults.{node_fault}
 use Rattle.lpt_node.specs.Jobs.{executed}
-use Rattle.lpt_node.specs.Times.{expired}
+use Rattle.lpt_node.specs.Times.{expired_of, which_ends}
 use Rattle.lpt_model.specs.State.{State, no_state, after, as_list, is_gone, refusal_of, refusal_claim_by, committed_on}
 use Rattle.lpt_model.specs.Tickets.{ticket_of}
 use Rattle.lpt_journal.specs.Legal.{Legal}
@@ -28,7 +28,7 @@ use Rattle.lpt_journal.proofs.TestLemmas.{no_place}
 use Rattle.lpt_packet.proofs.BoolLemmas.{and_left, and_right, not_true}
 use Rattle.lpt_apart.specs.Ends.{PutOut, Ends, put_out, without}
 use Rattle.lpt_apart.specs.Facts.{Aborted, Executed, Retired, Restarted, Log}
-use Rattle.lpt_apart.specs.Plays.{step_of, with_step, steps_of, WorldsAreEnds}
+use Rattle.lpt_apart.specs.Plays.{step_of, with_step, steps_of, WorldsAreEnds, AllForward, IsForward}
 use Rattle.lpt_apart.specs.Steps.{Step, with_report, reached, CanRun}
 use Rattle.lpt_apart.specs.Steps as steps
 use Rattle.lpt_apart.specs.Told.{told}
@@ -39,27 +39,27 @@ use Rattle.lpt_apart.proofs.Players.{Plays, Goes, CanPlay, unmapped, no_ticket, 
 use Rattle.lpt_apart.proofs.Playing as play
 
 module _ (c : Config) (first : Contents) (s : State) (ways : List PutOut) (log : Log)
-    (es : List Event) (good : IsConfig c) (t : CanPlay c first s ways log es) where
+    (es : List Act) (good : IsConfig c) (t : CanPlay c first s ways log es) where
   -- what two ends that play this are
   abbrev ends : Ends
   ends = ends_of s ways log
 
   -- an event goes on in two ends
-  abbrev GoesOn : Event → Type 0
+  abbrev GoesOn : Act → Type 0
   GoesOn e =
       Legal c first (e ∷ es) → Goes c first (e ∷ es) ends (step_of (recorded c first es) e)
 
   -- the world after an event
-  abbrev state_after : Event → State
+  abbrev state_after : Act → State
   state_after e = (after c (length (recorded c first es)) s e).0
 
-  free : (e : Event) → Legal c first (e ∷ es) → refusal_of c s e ≡ None
+  free : (e : Act) → Legal c first (e ∷ es) → refusal_of c s e ≡ None
   free e legal = not_refused c first s es e good t.shown legal
 
-  more : (e : Event) → Legal c first (e ∷ es) → IsLonger c first s es e
+  more : (e : Act) → Legal c first (e ∷ es) → IsLonger c first s es e
   more e legal = play.more c first s ways log es good t e legal
 
-  plays : (e : Event) (new : List PutOut) (now : Log)
+  plays : (e : Act) (new : List PutOut) (now : Log)
       → Legal c first (e ∷ es)
       → AllHad c (state_after e).link new
       → told c (recorded c first (e ∷ es)) ≡ now
@@ -69,53 +69,60 @@ module _ (c : Config) (first : Contents) (s : State) (ways : List PutOut) (log :
 
   -- ---- time, jobs and names
 
-  ticks : (side : Side) → GoesOn (event.Tick side)
+  within : (side : Side) (l : act.Limits) → GoesOn (act.Tick side (act.Within l))
+  within Ground l legal =
+      (tt, plays (act.Tick Ground (act.Within l)) ways log legal t.had t.tells)
+  within Craft l legal =
+      (tt, plays (act.Tick Craft (act.Within l)) ways log legal t.had t.tells)
+
+  ticks : (side : Side) → GoesOn (act.Tick side act.On)
   ticks Ground legal = (
-    unmapped node_fault _ (free (event.Tick Ground) legal),
-    plays (event.Tick Ground) ways log legal t.had t.tells,
+    unmapped node_fault _ (free (act.Tick Ground act.On) legal),
+    plays (act.Tick Ground act.On) ways log legal t.had t.tells,
   )
   ticks Craft legal = (
-    unmapped node_fault _ (free (event.Tick Craft) legal),
-    plays (event.Tick Craft) ways log legal t.had t.tells,
+    unmapped node_fault _ (free (act.Tick Craft act.On) legal),
+    plays (act.Tick Craft act.On) ways log legal t.had t.tells,
   )
 
-  expires : (side : Side) → GoesOn (event.Expire side)
-  expires Ground legal =
-      let x = expired Ground c s.on_ground in (
-        unmapped node_fault _ (free (event.Expire Ground) legal),
-        plays (event.Expire Ground) (put_out ways Down None (as_list x.1.packet))
+  expires : (side : Side) (which : Option Name) → GoesOn (act.Expire side which)
+  expires Ground which legal =
+      let x = expired_of Ground c s.on_ground (which_ends c s.on_ground which) in (
+        unmapped node_fault _ (free (act.Expire Ground which) legal),
+        plays (act.Expire Ground which) (put_out ways Down None (as_list x.1.packet))
             (Aborted (direction_to Ground) x.1.name ∷ log) legal
             (had_put c s.link ways Down None (as_list x.1.packet) t.had)
-            (expiry_told c first s log es t.shown t.tells Ground
-            (more (event.Expire Ground) legal)),
+            (expiry_told c first s log es t.shown t.tells Ground which
+            (more (act.Expire Ground which) legal)),
       )
-  expires Craft legal =
-      let x = expired Craft c s.on_craft in (
-        unmapped node_fault _ (free (event.Expire Craft) legal),
-        plays (event.Expire Craft) (put_out ways Down None (as_list x.1.packet))
+  expires Craft which legal =
+      let x = expired_of Craft c s.on_craft (which_ends c s.on_craft which) in (
+        unmapped node_fault _ (free (act.Expire Craft which) legal),
+        plays (act.Expire Craft which) (put_out ways Down None (as_list x.1.packet))
             (Aborted (direction_to Craft) x.1.name ∷ log) legal
             (had_put c s.link ways Down None (as_list x.1.packet) t.had)
-            (expiry_told c first s log es t.shown t.tells Craft (more (event.Expire Craft) legal)),
+            (expiry_told c first s log es t.shown t.tells Craft which
+            (more (act.Expire Craft which) legal)),
       )
 
-  claims : (w : Worker) → GoesOn (event.Claim w)
+  claims : (w : Worker) → GoesOn (act.Claim w)
   claims w legal =
       let none : ticket_of s.tickets w ≡ None =
-      no_ticket s.on_craft (ticket_of s.tickets w) (free (event.Claim w) legal) in (
+      no_ticket s.on_craft (ticket_of s.tickets w) (free (act.Claim w) legal) in (
         (
           none,
           unmapped node_fault _
-              (ap (refusal_claim_by s.on_craft) (sym none) ∙ free (event.Claim w) legal),
+              (ap (refusal_claim_by s.on_craft) (sym none) ∙ free (act.Claim w) legal),
         ),
-        plays (event.Claim w) ways log legal t.had t.tells,
+        plays (act.Claim w) ways log legal t.had t.tells,
       )
 
-  commits : (w : Worker) → GoesOn (event.Commit w)
+  commits : (w : Worker) → GoesOn (act.Commit w)
   commits w legal = (
-    some_ticket (ticket_of s.tickets w) (free (event.Commit w) legal),
+    some_ticket (ticket_of s.tickets w) (free (act.Commit w) legal),
     record {
-      state = state_after (event.Commit w);
-      shown = (more (event.Commit w) legal).shown;
+      state = state_after (act.Commit w);
+      shown = (more (act.Commit w) legal).shown;
       had = link (ticket_of s.tickets w);
       tells = t.tells ∙ logs (ticket_of s.tickets w);
       is = same (ticket_of s.tickets w);
@@ -137,21 +144,21 @@ module _ (c : Config) (first : Contents) (s : State) (ways : List PutOut) (log :
     same None = refl
     same (Some j) = refl
 
-  applies : GoesOn event.Apply
+  applies : GoesOn act.Apply
   applies legal =
       let x = executed c s.on_craft s.memories in (
-        unmapped node_fault _ (free event.Apply legal),
-        plays event.Apply (put_out ways Down None x.0.1.packets)
+        unmapped node_fault _ (free act.Apply legal),
+        plays act.Apply (put_out ways Down None x.0.1.packets)
             (Executed ∷ with_report log x.0.1.opened) legal
             (had_put c s.link ways Down None x.0.1.packets t.had)
-            (execution_told c first s log es t.shown t.tells (more event.Apply legal)),
+            (execution_told c first s log es t.shown t.tells (more act.Apply legal)),
       )
 
-  retires : (d : Direction) (name : Name) → GoesOn (event.Retire d name)
+  retires : (d : Direction) (name : Name) → GoesOn (act.Retire d name)
   retires Up name legal =
       let over =
       retires_closed (state_at s.on_ground.sending.ledger name) (is_gone s Up name)
-      (free (event.Retire Up name) legal) in
+      (free (act.Retire Up name) legal) in
       let none : holds s.link Up name ≡ false =
       not_true (holds s.link Up name)
       (and_left (not (holds s.link Up name)) (not (is_some (maps.get s.on_craft.receiving.entries name)))
@@ -161,14 +168,14 @@ module _ (c : Config) (first : Contents) (s : State) (ways : List PutOut) (log :
       (and_right (not (holds s.link Up name)) (not (is_some (maps.get s.on_craft.receiving.entries name)))
       over.1) in (
         (legal.1.in_range, record { closed = over.0; unheard = unheard }),
-        plays (event.Retire Up name) (without Up name ways) (Retired Up name ∷ log) legal
+        plays (act.Retire Up name) (without Up name ways) (Retired Up name ∷ log) legal
             (had_retired c s.link ways Up name none t.had)
             (ap (λ (l : Log). Retired Up name ∷ l) t.tells),
       )
   retires Down name legal =
       let over =
       retires_closed (state_at s.on_craft.sending.ledger name) (is_gone s Down name)
-      (free (event.Retire Down name) legal) in
+      (free (act.Retire Down name) legal) in
       let none : holds s.link Down name ≡ false =
       not_true (holds s.link Down name)
       (and_left (not (holds s.link Down name))
@@ -180,68 +187,71 @@ module _ (c : Config) (first : Contents) (s : State) (ways : List PutOut) (log :
       (not (is_some (maps.get s.on_ground.receiving.entries name)))
       over.1) in (
         (legal.1.in_range, record { closed = over.0; unheard = unheard }),
-        plays (event.Retire Down name) (without Down name ways) (Retired Down name ∷ log) legal
+        plays (act.Retire Down name) (without Down name ways) (Retired Down name ∷ log) legal
             (had_retired c s.link ways Down name none t.had)
             (ap (λ (l : Log). Retired Down name ∷ l) t.tells),
       )
 
-  restarts : (side : Side) → GoesOn (event.Restart side)
+  restarts : (side : Side) → GoesOn (act.Restart side)
   restarts Ground legal = (
     tt,
-    plays (event.Restart Ground) ways (Restarted Ground ∷ log) legal t.had
+    plays (act.Restart Ground) ways (Restarted Ground ∷ log) legal t.had
         (ap (λ (l : Log). Restarted Ground ∷ l) t.tells),
   )
   restarts Craft legal = (
     tt,
-    plays (event.Restart Craft) ways (Restarted Craft ∷ log) legal t.had
+    plays (act.Restart Craft) ways (Restarted Craft ∷ log) legal t.had
         (ap (λ (l : Log). Restarted Craft ∷ l) t.tells),
   )
 
   -- ---- all of them
 
-  goes_on : (e : Event) → GoesOn e
-  goes_on (event.Open d name m) legal =
+  goes_on : (e : Act) → IsForward e → GoesOn e
+  goes_on (act.Open d name m) on legal =
       play.opens c first s ways log es good t d name m legal
-  goes_on (event.Send d name k) legal =
+  goes_on (act.Send d name k) on legal =
       play.sends c first s ways log es good t d name k legal
-  goes_on (event.Plain source flags service subtype body) legal =
+  goes_on (act.Plain source flags service subtype body) on legal =
       play.plain c first s ways log es good t source flags service subtype body legal
-  goes_on (event.Finish d name) legal =
+  goes_on (act.Finish d name) on legal =
       play.finishes c first s ways log es good t d name legal
-  goes_on (event.Lose n) legal =
-      plays (event.Lose n) ways log legal (had_lost c s.link ways n t.had) t.tells
-  goes_on (event.Damage d b) legal =
+  goes_on (act.Lose n) on legal =
+      plays (act.Lose n) ways log legal (had_lost c s.link ways n t.had) t.tells
+  goes_on (act.Damage d b) on legal =
       play.damages c first s ways log es good t d b legal
-  goes_on (event.Take l n) legal =
+  goes_on (act.Take l n) on legal =
       play.takes c first s ways log es good t l n legal
-  goes_on (event.Deliver l) legal =
+  goes_on (act.Deliver l) on legal =
       play.delivers c first s ways log es good t l legal
-  goes_on (event.Tick side) legal = ticks side legal
-  goes_on (event.Expire side) legal = expires side legal
-  goes_on (event.Claim w) legal = claims w legal
-  goes_on (event.Commit w) legal = commits w legal
-  goes_on event.Apply legal = applies legal
-  goes_on (event.Retire d name) legal = retires d name legal
-  goes_on (event.Restart side) legal = restarts side legal
+  goes_on (act.Tick side act.On) on legal = ticks side legal
+  goes_on (act.Tick side (act.Within l)) on legal = within side l legal
+  goes_on (act.Tick side (act.Back n)) on legal = absurd on
+  goes_on (act.Expire side which) on legal = expires side which legal
+  goes_on (act.Claim w) on legal = claims w legal
+  goes_on (act.Commit w) on legal = commits w legal
+  goes_on act.Apply on legal = applies legal
+  goes_on (act.Retire d name) on legal = retires d name legal
+  goes_on (act.Restart side) on legal = restarts side legal
 
 -- two ends play a journal
-record ArePlayed (c : Config) (first : Contents) (es : List Event) (xs : List Step) : Type 0 where
+record ArePlayed (c : Config) (first : Contents) (es : List Act) (xs : List Step) : Type 0 where
   can : CanRun c first xs
   plays : Plays c first es (reached c first xs)
 
 -- with one step more, or none, they play the longer one
-with_one : (c : Config) (first : Contents) (es all : List Event) (xs : List Step) (o : Option Step)
+with_one : (c : Config) (first : Contents) (es all : List Act) (xs : List Step) (o : Option Step)
     → ArePlayed c first es xs
     → Goes c first all (reached c first xs) o
     → ArePlayed c first all (with_step o xs)
 with_one c first es all xs None had goes = record { can = had.can; plays = goes }
 with_one c first es all xs (Some x) had goes = record { can = (had.can, goes.0); plays = goes.1 }
 
-are_played : (c : Config) (first : Contents) (es : List Event)
+are_played : (c : Config) (first : Contents) (es : List Act)
     → IsConfig c
+    → AllForward es
     → Legal c first es
     → ArePlayed c first es (steps_of c first es)
-are_played c first [] good legal = record {
+are_played c first [] good on legal = record {
   can = tt;
   plays = record {
     state = no_state c first;
@@ -251,17 +261,17 @@ are_played c first [] good legal = record {
     is = refl;
   };
 }
-are_played c first (e ∷ es) good legal =
-    let had = are_played c first es good legal.0 in
+are_played c first (e ∷ es) good on legal =
+    let had = are_played c first es good on.1 legal.0 in
     let p = had.plays in
     with_one c first es (e ∷ es) (steps_of c first es) (step_of (recorded c first es) e) had
     (subst (λ (y : Ends). Goes c first (e ∷ es) y (step_of (recorded c first es) e)) p.is
     (goes_on c first p.state _ _ es good
-    (record { shown = p.shown; had = p.had; tells = p.tells }) e legal))
+    (record { shown = p.shown; had = p.had; tells = p.tells }) e on.0 legal))
 
 pub worlds_are_ends : WorldsAreEnds
-worlds_are_ends c first es good legal =
-    let it = are_played c first es good legal in
+worlds_are_ends c first es good on legal =
+    let it = are_played c first es good on legal in
     record {
       can = it.can;
       are = record {

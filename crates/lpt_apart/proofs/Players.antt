@@ -10,8 +10,8 @@ use Rattle.lpt_events.specs.Arrivals.{arrival_in}
 use Rattle.lpt_events.specs.Configs.{IsConfig}
 use Rattle.lpt_events.specs.Lanes.{lane_direction}
 use Rattle.lpt_events.specs.declared.config.Config.{Config}
-use Rattle.lpt_events.specs.declared.event.Event.{Event}
-use Rattle.lpt_events.specs.declared.event.Event.TheVariants as event
+use Rattle.lpt_acts.specs.Acts.{Act}
+use Rattle.lpt_acts.specs.Acts as act
 use Rattle.lpt_events.specs.declared.lane.Lane.{Lane}
 use Rattle.lpt_ledger.specs.declared.state.State.{State as Known}
 use Rattle.lpt_ledger.specs.declared.state.State.TheVariants as known
@@ -42,7 +42,7 @@ use Rattle.lpt_apart.proofs.Ties.{ends_of}
 
 -- two ends have the nodes, jobs and memories of a world that shows a journal, and its log; what
 -- that world can still deliver may be handed over, or isn't read
-pub record Plays (c : Config) (first : Contents) (es : List Event) (e : Ends) : Type 0 where
+pub record Plays (c : Config) (first : Contents) (es : List Act) (e : Ends) : Type 0 where
   pub state : State
   pub shown : Shows state (views c first (recorded c first es))
   pub had : AllHad c state.link e.on_the_way
@@ -52,13 +52,13 @@ pub record Plays (c : Config) (first : Contents) (es : List Event) (e : Ends) : 
 -- what a world that shows a journal can still deliver may be handed over, or isn't read; and the
 -- journal tells this log
 pub record CanPlay (c : Config) (first : Contents) (s : State) (ways : List PutOut) (log : Log)
-    (es : List Event) : Type 0 where
+    (es : List Act) : Type 0 where
   pub shown : Shows s (views c first (recorded c first es))
   pub had : AllHad c s.link ways
   pub tells : told c (recorded c first es) ≡ log
 
 -- two ends can do what an event is, if it is a step, and then play the longer journal
-abbrev pub Goes : Config → Contents → List Event → Ends → Option Step → Type 0
+abbrev pub Goes : Config → Contents → List Act → Ends → Option Step → Type 0
 Goes c first es e None = Plays c first es e
 Goes c first es e (Some x) = CanHappen c e x × Plays c first es (steps.after c e x)
 
@@ -126,11 +126,11 @@ as_sent ps n p at = go (slice_get ps n) refl (sym (slice_get-map sent_packet ps 
   go (Some q) is e = (q, is, cc)
 
 -- a lane whose delivery isn't refused has that
-pub has_in_hand : (c : Config) (first : Contents) (s : State) (es : List Event) (l : Lane)
+pub has_in_hand : (c : Config) (first : Contents) (s : State) (es : List Act) (l : Lane)
     → IsConfig c
     → Legal c first es
     → Shows s (views c first (recorded c first es))
-    → refusal_of c s (event.Deliver l) ≡ None
+    → refusal_of c s (act.Deliver l) ≡ None
     → HasInHand s (recorded c first es) l
 has_in_hand c first s es l good legal shown free =
     let h : History = recorded c first es in

@@ -8,8 +8,8 @@ use Rattle.lpt_events.specs.Arrivals.{Arrival, NotRead, arrival_in}
 use Rattle.lpt_events.specs.Configs.{IsConfig}
 use Rattle.lpt_events.specs.Lanes.{lane_direction}
 use Rattle.lpt_events.specs.declared.config.Config.{Config}
-use Rattle.lpt_events.specs.declared.event.Event.{Event}
-use Rattle.lpt_events.specs.declared.event.Event.TheVariants as event
+use Rattle.lpt_acts.specs.Acts.{Act}
+use Rattle.lpt_acts.specs.Acts as act
 use Rattle.lpt_events.specs.declared.lane.Lane.{Lane}
 use Rattle.lpt_events.specs.declared.lane.Lane.TheVariants.{S1, S2, G1, G2}
 use Rattle.lpt_events.specs.declared.side.Side.TheVariants.{Ground, Craft}
@@ -37,7 +37,7 @@ use Rattle.lpt_apart.proofs.Players.{Plays, Goes, CanPlay, HasInHand, unmapped, 
 use Rattle.lpt_link.proofs.HandLemmas.{taken_held}
 
 module _ (c : Config) (first : Contents) (s : State) (ways : List PutOut) (log : Log)
-    (es : List Event) (good : IsConfig c) (t : CanPlay c first s ways log es) where
+    (es : List Act) (good : IsConfig c) (t : CanPlay c first s ways log es) where
   -- two ends with that world's nodes
   abbrev pub ends : Ends
   ends = ends_of s ways log
@@ -47,20 +47,20 @@ module _ (c : Config) (first : Contents) (s : State) (ways : List PutOut) (log :
   h = recorded c first es
 
   -- the world after an event
-  abbrev pub state_after : Event → State
+  abbrev pub state_after : Act → State
   state_after e = (after c (length h) s e).0
 
   -- what is legal isn't refused
-  pub free : (e : Event) → Legal c first (e ∷ es) → refusal_of c s e ≡ None
+  pub free : (e : Act) → Legal c first (e ∷ es) → refusal_of c s e ≡ None
   free e legal = not_refused c first s es e good t.shown legal
 
   -- and can be done
-  pub more : (e : Event) → Legal c first (e ∷ es) → IsLonger c first s es e
+  pub more : (e : Act) → Legal c first (e ∷ es) → IsLonger c first s es e
   more e legal =
       longer c first s es e good legal.0 t.shown legal.1.in_range (free e legal)
 
   -- the longer journal is played by two ends of the world after an event
-  pub plays : (e : Event) (new : List PutOut) (now : Log)
+  pub plays : (e : Act) (new : List PutOut) (now : Log)
       → Legal c first (e ∷ es)
       → AllHad c (state_after e).link new
       → told c (recorded c first (e ∷ es)) ≡ now
@@ -74,82 +74,82 @@ module _ (c : Config) (first : Contents) (s : State) (ways : List PutOut) (log :
   }
 
   -- an event goes on in two ends
-  abbrev pub GoesOn : Event → Type 0
+  abbrev pub GoesOn : Act → Type 0
   GoesOn e = Legal c first (e ∷ es) → Goes c first (e ∷ es) ends (step_of h e)
 
   -- ---- sending
 
   -- a message is opened
-  pub opens : (d : Direction) (name : Name) (m : List ℕ) → GoesOn (event.Open d name m)
+  pub opens : (d : Direction) (name : Name) (m : List ℕ) → GoesOn (act.Open d name m)
   opens Up name m legal = (
-    (legal.1.in_range, unmapped node_fault _ (free (event.Open Up name m) legal)),
-    plays (event.Open Up name m) ways (Opened Up name m ∷ log) legal t.had
+    (legal.1.in_range, unmapped node_fault _ (free (act.Open Up name m) legal)),
+    plays (act.Open Up name m) ways (Opened Up name m ∷ log) legal t.had
         (ap (λ (l : Log). Opened Up name m ∷ l) t.tells),
   )
   opens Down name m legal = (
-    (legal.1.in_range, unmapped node_fault _ (free (event.Open Down name m) legal)),
-    plays (event.Open Down name m) ways (Opened Down name m ∷ log) legal t.had
+    (legal.1.in_range, unmapped node_fault _ (free (act.Open Down name m) legal)),
+    plays (act.Open Down name m) ways (Opened Down name m ∷ log) legal t.had
         (ap (λ (l : Log). Opened Down name m ∷ l) t.tells),
   )
 
   -- a part is sent
-  pub sends : (d : Direction) (name : Name) (k : ℕ) → GoesOn (event.Send d name k)
+  pub sends : (d : Direction) (name : Name) (k : ℕ) → GoesOn (act.Send d name k)
   sends Up name k legal =
       let bs : List (List ℕ) = (sent Ground c s.on_ground name k).1 ∷ [] in (
-        (legal.1.in_range, unmapped node_fault _ (free (event.Send Up name k) legal)),
-        plays (event.Send Up name k) (put_out ways Up (Some name) bs) log legal
+        (legal.1.in_range, unmapped node_fault _ (free (act.Send Up name k) legal)),
+        plays (act.Send Up name k) (put_out ways Up (Some name) bs) log legal
             (had_put c s.link ways Up (Some name) bs t.had) t.tells,
       )
   sends Down name k legal =
       let bs : List (List ℕ) = (sent Craft c s.on_craft name k).1 ∷ [] in (
-        (legal.1.in_range, unmapped node_fault _ (free (event.Send Down name k) legal)),
-        plays (event.Send Down name k) (put_out ways Down (Some name) bs) log legal
+        (legal.1.in_range, unmapped node_fault _ (free (act.Send Down name k) legal)),
+        plays (act.Send Down name k) (put_out ways Down (Some name) bs) log legal
             (had_put c s.link ways Down (Some name) bs t.had) t.tells,
       )
 
   -- a plain request is made
   pub plain : (source flags service subtype : ℕ) (body : List ℕ)
-      → GoesOn (event.Plain source flags service subtype body)
+      → GoesOn (act.Plain source flags service subtype body)
   plain source flags service subtype body legal =
-      let e : Event = event.Plain source flags service subtype body in
+      let e : Act = act.Plain source flags service subtype body in
       let b : List ℕ = (plain_made c s.on_ground source flags service subtype body).1 in (
         (legal.1.in_range, unmapped node_fault _ (free e legal)),
-        plays (event.Plain source flags service subtype body) (put_out ways Up None (b ∷ []))
+        plays (act.Plain source flags service subtype body) (put_out ways Up None (b ∷ []))
             (Asked b ∷ log) legal
             (had_put c s.link ways Up None (b ∷ []) t.had)
             (plain_told c first s log es t.shown t.tells source flags service subtype body),
       )
 
   -- a message is finished
-  pub finishes : (d : Direction) (name : Name) → GoesOn (event.Finish d name)
+  pub finishes : (d : Direction) (name : Name) → GoesOn (act.Finish d name)
   finishes Up name legal = (
-    (legal.1.in_range, unmapped node_fault _ (free (event.Finish Up name) legal)),
-    plays (event.Finish Up name) ways log legal t.had t.tells,
+    (legal.1.in_range, unmapped node_fault _ (free (act.Finish Up name) legal)),
+    plays (act.Finish Up name) ways log legal t.had t.tells,
   )
   finishes Down name legal = (
-    (legal.1.in_range, unmapped node_fault _ (free (event.Finish Down name) legal)),
-    plays (event.Finish Down name) ways log legal t.had t.tells,
+    (legal.1.in_range, unmapped node_fault _ (free (act.Finish Down name) legal)),
+    plays (act.Finish Down name) ways log legal t.had t.tells,
   )
 
   -- ---- the link
 
   -- what the link's noise left isn't read
-  pub damages : (d : Direction) (b : List ℕ) → GoesOn (event.Damage d b)
+  pub damages : (d : Direction) (b : List ℕ) → GoesOn (act.Damage d b)
   damages d b legal =
       let all = every c first es good legal.0 in
       let unread : arrival_in c d b ≡ NotRead =
-      ((owes c first h (event.Damage d b) good all.0 all.2 legal.1).puts 0
+      ((owes c first h (act.Damage d b) good all.0 all.2 legal.1).puts 0
       (record { direction = d; octets = b }) refl).sound in
-      plays (event.Damage d b) ways log legal
+      plays (act.Damage d b) ways log legal
       (had_one c s.link ways ways d None b t.had (λ p is. is) (inr unread)) t.tells
 
   -- what a lane takes can be delivered still
-  pub takes : (l : Lane) (n : ℕ) → GoesOn (event.Take l n)
+  pub takes : (l : Lane) (n : ℕ) → GoesOn (act.Take l n)
   takes l n legal =
       let held : is_held_for s.link (lane_direction l) n ≡ true =
       takes_held (is_some (hand_of s.link l)) (is_held_for s.link (lane_direction l) n)
-      (unmapped link_fault _ (free (event.Take l n) legal)) in
-      plays (event.Take l n) ways log legal
+      (unmapped link_fault _ (free (act.Take l n) legal)) in
+      plays (act.Take l n) ways log legal
       (had_taken c s.link ways l n (taken_held s.link (lane_direction l) n held) t.had) t.tells
 
   -- what is in a lane's hand may come
@@ -171,64 +171,64 @@ module _ (c : Config) (first : Contents) (s : State) (ways : List PutOut) (log :
         inr (ap is_harmless ((λ i. arrival_in c (sym it.goes i) (sym it.octets i)) ∙ unread))
 
   -- what a lane delivers is handed over
-  pub delivers : (l : Lane) → GoesOn (event.Deliver l)
+  pub delivers : (l : Lane) → GoesOn (act.Deliver l)
   delivers S1 legal =
-      let it = has_in_hand c first s es S1 good legal.0 t.shown (free (event.Deliver S1) legal) in
+      let it = has_in_hand c first s es S1 good legal.0 t.shown (free (act.Deliver S1) legal) in
       let x : NodeData × Accepted =
       accepted Craft c s.on_craft (arrival_held c Up (packet_in_hand s.link S1)) in (
         comes S1 it,
-        subst (λ (a : Arrival). Plays c first (event.Deliver S1 ∷ es)
+        subst (λ (a : Arrival). Plays c first (act.Deliver S1 ∷ es)
             (accepted_on ends Up (accepted Craft c s.on_craft a))) (arrives c s h S1 it)
-            (plays (event.Deliver S1) (put_out ways Down None (as_list x.1.packet))
+            (plays (act.Deliver S1) (put_out ways Down None (as_list x.1.packet))
             (with_abortion Up x.1.outcome
             (with_release log (released_of Up x.1.outcome) x.1.released)) legal
             (had_put c (after_drop s.link S1) ways Down None (as_list x.1.packet)
             (had_dropped c s.link ways S1 t.had))
-            (delivery_told c first s log es t.shown t.tells S1 (more (event.Deliver S1) legal) x
+            (delivery_told c first s log es t.shown t.tells S1 (more (act.Deliver S1) legal) x
             refl)),
       )
   delivers S2 legal =
-      let it = has_in_hand c first s es S2 good legal.0 t.shown (free (event.Deliver S2) legal) in
+      let it = has_in_hand c first s es S2 good legal.0 t.shown (free (act.Deliver S2) legal) in
       let x : NodeData × Accepted =
       accepted Craft c s.on_craft (arrival_held c Up (packet_in_hand s.link S2)) in (
         comes S2 it,
-        subst (λ (a : Arrival). Plays c first (event.Deliver S2 ∷ es)
+        subst (λ (a : Arrival). Plays c first (act.Deliver S2 ∷ es)
             (accepted_on ends Up (accepted Craft c s.on_craft a))) (arrives c s h S2 it)
-            (plays (event.Deliver S2) (put_out ways Down None (as_list x.1.packet))
+            (plays (act.Deliver S2) (put_out ways Down None (as_list x.1.packet))
             (with_abortion Up x.1.outcome
             (with_release log (released_of Up x.1.outcome) x.1.released)) legal
             (had_put c (after_drop s.link S2) ways Down None (as_list x.1.packet)
             (had_dropped c s.link ways S2 t.had))
-            (delivery_told c first s log es t.shown t.tells S2 (more (event.Deliver S2) legal) x
+            (delivery_told c first s log es t.shown t.tells S2 (more (act.Deliver S2) legal) x
             refl)),
       )
   delivers G1 legal =
-      let it = has_in_hand c first s es G1 good legal.0 t.shown (free (event.Deliver G1) legal) in
+      let it = has_in_hand c first s es G1 good legal.0 t.shown (free (act.Deliver G1) legal) in
       let x : NodeData × Accepted =
       accepted Ground c s.on_ground (arrival_held c Down (packet_in_hand s.link G1)) in (
         comes G1 it,
-        subst (λ (a : Arrival). Plays c first (event.Deliver G1 ∷ es)
+        subst (λ (a : Arrival). Plays c first (act.Deliver G1 ∷ es)
             (accepted_on ends Down (accepted Ground c s.on_ground a))) (arrives c s h G1 it)
-            (plays (event.Deliver G1) (put_out ways Down None (as_list x.1.packet))
+            (plays (act.Deliver G1) (put_out ways Down None (as_list x.1.packet))
             (with_abortion Down x.1.outcome
             (with_release log (released_of Down x.1.outcome) x.1.released)) legal
             (had_put c (after_drop s.link G1) ways Down None (as_list x.1.packet)
             (had_dropped c s.link ways G1 t.had))
-            (delivery_told c first s log es t.shown t.tells G1 (more (event.Deliver G1) legal) x
+            (delivery_told c first s log es t.shown t.tells G1 (more (act.Deliver G1) legal) x
             refl)),
       )
   delivers G2 legal =
-      let it = has_in_hand c first s es G2 good legal.0 t.shown (free (event.Deliver G2) legal) in
+      let it = has_in_hand c first s es G2 good legal.0 t.shown (free (act.Deliver G2) legal) in
       let x : NodeData × Accepted =
       accepted Ground c s.on_ground (arrival_held c Down (packet_in_hand s.link G2)) in (
         comes G2 it,
-        subst (λ (a : Arrival). Plays c first (event.Deliver G2 ∷ es)
+        subst (λ (a : Arrival). Plays c first (act.Deliver G2 ∷ es)
             (accepted_on ends Down (accepted Ground c s.on_ground a))) (arrives c s h G2 it)
-            (plays (event.Deliver G2) (put_out ways Down None (as_list x.1.packet))
+            (plays (act.Deliver G2) (put_out ways Down None (as_list x.1.packet))
             (with_abortion Down x.1.outcome
             (with_release log (released_of Down x.1.outcome) x.1.released)) legal
             (had_put c (after_drop s.link G2) ways Down None (as_list x.1.packet)
             (had_dropped c s.link ways G2 t.had))
-            (delivery_told c first s log es t.shown t.tells G2 (more (event.Deliver G2) legal) x
+            (delivery_told c first s log es t.shown t.tells G2 (more (act.Deliver G2) legal) x
             refl)),
       )

@@ -1,5 +1,5 @@
 -- The requests that wait and that were executed, by the log of every legal journal.
-use Rattle.std.proofs.Common.{◌≡◌, ◌∙◌, ap, sym, refl, ℕ, zero, suc, ◌+◌, ◌≤◌, Bool, true, false, if◌then◌else◌, List, [], ◌∷◌, ◌++◌, length, map, take, drop, arith, append_assoc}
+use Rattle.std.proofs.Common.{◌≡◌, ◌∙◌, ap, sym, refl, ℕ, zero, suc, ◌+◌, ◌≤◌, Bool, true, false, if◌then◌else◌, List, [], ◌∷◌, ◌++◌, length, map, take, drop, arith, append_assoc, Option}
 use Rattle.std.specs.List.{filter}
 use Rattle.std.specs.Prelude.{slice_get, cond}
 use Rattle.std.proofs.lemmas.List.{append-nil, map-append, drop-drop, drop-map, drop-append-le}
@@ -7,8 +7,7 @@ use Rattle.lpt_memory.specs.Memories.{Contents}
 use Rattle.lpt_events.specs.declared.config.Config.{Config}
 use Rattle.lpt_events.specs.declared.entry.Opening.{Opening}
 use Rattle.lpt_events.specs.declared.entry.Release.{Release}
-use Rattle.lpt_events.specs.declared.event.Event.{Event}
-use Rattle.lpt_events.specs.declared.event.Event.TheVariants.{Deliver, Expire, Apply, Restart}
+use Rattle.lpt_acts.specs.Acts.{Act, Deliver, Expire, Apply, Restart}
 use Rattle.lpt_events.specs.declared.outcome.Outcome.{Outcome}
 use Rattle.lpt_events.specs.declared.outcome.Outcome.TheVariants.{Broken}
 use Rattle.lpt_events.specs.declared.reply.Answer.{Answer}
@@ -28,6 +27,7 @@ use Rattle.lpt_refinement.proofs.LinkShown.{with_all-append}
 use Rattle.lpt_journal.proofs.TicketSteps.{jobs_sound}
 use Rattle.lpt_apart.specs.Facts.{Released, Log, with_abortion, waiting, executed}
 use Rattle.lpt_apart.specs.Told.{with_openings, with_releases, with_ended, told}
+use Rattle.lpt_packet.specs.Names.{Name}
 
 abbrev pub message_of : Release → List ℕ
 message_of r = r.message
@@ -76,15 +76,15 @@ executed_abortion : (d : Direction) (o : Outcome) (log : Log)
 executed_abortion d (Broken name why) log = refl
 executed_abortion d o log = refl
 
-waiting_expired : (side : Side) (a : Answer) (log : Log)
-    → waiting (with_ended (Expire side) a log) ≡ waiting log
-waiting_expired side (Expired d name) log = refl
-waiting_expired side a log = refl
+waiting_expired : (side : Side) (which : Option Name) (a : Answer) (log : Log)
+    → waiting (with_ended (Expire side which) a log) ≡ waiting log
+waiting_expired side which (Expired d name) log = refl
+waiting_expired side which a log = refl
 
-executed_expired : (side : Side) (a : Answer) (log : Log)
-    → executed (with_ended (Expire side) a log) ≡ executed log
-executed_expired side (Expired d name) log = refl
-executed_expired side a log = refl
+executed_expired : (side : Side) (which : Option Name) (a : Answer) (log : Log)
+    → executed (with_ended (Expire side which) a log) ≡ executed log
+executed_expired side which (Expired d name) log = refl
+executed_expired side which a log = refl
 
 -- ---- lists
 
@@ -114,7 +114,7 @@ from_within rs new n within =
 
 module _ (c : Config) (first : Contents) where
   -- the executed jobs are there
-  fit : (es : List Event)
+  fit : (es : List Act)
       → Legal c first es
       → applied (recorded c first es) ≤ length (jobs c (recorded c first es))
   fit es legal =
@@ -122,7 +122,7 @@ module _ (c : Config) (first : Contents) where
       in omega (arith, sound.applied_fits, sound.claimed_fits)
 
   -- what waits are the jobs that aren't executed
-  pub waiting_told : (es : List Event)
+  pub waiting_told : (es : List Act)
       → Legal c first es
       → waiting (told c (recorded c first es))
       ≡ messages_of (drop (applied (recorded c first es)) (jobs c (recorded c first es)))
@@ -134,9 +134,10 @@ module _ (c : Config) (first : Contents) where
       ∙ waiting_releases new (told c h)
       ∙ ap (λ (ws : List (List ℕ)). ws ++ messages_of (came_up new)) (waiting_told es legal.0)
       ∙ from_within (jobs c h) (came_up new) (applied h) (fit es legal.0)
-  waiting_told (Expire side ∷ es) legal =
+  waiting_told (Expire side which ∷ es) legal =
       let h : History = recorded c first es in
-      waiting_expired side (answer c first h (Expire side)) (told c h) ∙ waiting_told es legal.0
+      waiting_expired side which (answer c first h (Expire side which)) (told c h)
+      ∙ waiting_told es legal.0
   waiting_told (Apply ∷ es) legal =
       let h : History = recorded c first es in
       ap (λ (ws : List (List ℕ)). drop 1 ws)
@@ -147,7 +148,7 @@ module _ (c : Config) (first : Contents) where
   waiting_told (e ∷ es) legal = waiting_told es legal.0
 
   -- the requests that were executed are the journal's
-  pub executed_told : (es : List Event)
+  pub executed_told : (es : List Act)
       → Legal c first es
       → executed (told c (recorded c first es)) ≡ messages_of (was_executed c (recorded c first es))
   executed_told [] legal = refl
@@ -157,9 +158,10 @@ module _ (c : Config) (first : Contents) where
       executed_abortion (lane_direction l) (outcome c h l) (with_releases new (told c h))
       ∙ executed_releases new (told c h)
       ∙ executed_told es legal.0
-  executed_told (Expire side ∷ es) legal =
+  executed_told (Expire side which ∷ es) legal =
       let h : History = recorded c first es in
-      executed_expired side (answer c first h (Expire side)) (told c h) ∙ executed_told es legal.0
+      executed_expired side which (answer c first h (Expire side which)) (told c h)
+      ∙ executed_told es legal.0
   executed_told (Apply ∷ es) legal =
       let h : History = recorded c first es in
       let opens : List Opening = front_opens c first h in

@@ -18,21 +18,22 @@ use Rattle.lpt_events.specs.declared.config.Config.{Config}
 use Rattle.lpt_execution.specs.Endings.{ending}
 use Rattle.lpt_execution.specs.Reporting.{large_packets, message_reports, opened_of, reports_of, request_source}
 use Rattle.lpt_execution.specs.declared.ending.Ending.{Ending}
-use Rattle.lpt_execution.specs.declared.ending.Ending.TheVariants.{Silent as Ends}
+use Rattle.lpt_execution.specs.declared.ending.Ending.TheVariants.{Refused, Silent as Ends}
 use Rattle.lpt_jobs.specs.Jobs.{Head, Ready, head_of, without_front}
 use Rattle.lpt_jobs.specs.declared.job.Job.{Job}
 use Rattle.lpt_jobs.specs.declared.job.Job.TheVariants.{Claimed, Committed, Waiting}
 use Rattle.lpt_ledger.specs.LeastFree.{least_free_in}
-use Rattle.lpt_node.specs.Jobs.{Execution, ending_at, ending_with, executed_ending, executed_of, executed_with, refusal_apply_of, report_packets}
+use Rattle.lpt_node.specs.Jobs.{Execution, ending_at, ending_with, executed_ending, executed_of, executed_so, executed_with, refusal_apply_of, report_packets}
 use Rattle.lpt_node.specs.Nodes.{NodeData}
-use Rattle.lpt_apart.specs.Drops.{CanTurn, Drops, LetsGo, Makes, Reads, Service, Turn, no_service, reading_for, text_of, turned, turned_all}
+use Rattle.lpt_apart.specs.Drops.{CanTurn, Drops, LetsGo, Makes, Reads, Refuses, Service, Turn, no_service, reading_for, text_of, turned, turned_all}
 use Rattle.lpt_apart.specs.Ends.{put_out}
 use Rattle.lpt_apart.specs.Facts.{Executed}
 use Rattle.lpt_apart.specs.Moves.{Do, Free}
-use Rattle.lpt_apart.specs.Reports.{DroppedIsNotReported, IsTold, IsToldOf}
+use Rattle.lpt_apart.specs.Reports.{DroppedIsNotReported, IsTold, IsToldOf, IsToldRefused}
 use Rattle.lpt_apart.specs.Steps.{Accept, Apply, Claim, Commit, Expire, Finish, Open, Plain, Restart, Retire, Send, Tick, with_report}
 use Rattle.lpt_apart.proofs.Handed.{means_nothing, no_command}
-use Rattle.lpt_apart.proofs.Serving.{AreOf, IsQueued, queued}
+use Rattle.lpt_apart.proofs.Places.{AreOf}
+use Rattle.lpt_apart.proofs.Serving.{IsQueued, queued}
 
 -- ---- a message of no octets is passed over
 
@@ -52,7 +53,7 @@ module _ (c : Config) (d : NodeData) (apid : ℕ) (ms : Contents) where
   ends_so e is =
       ap (λ (x : Effect). ending c.part_size
       (is_some (least_free_in d.sending.ledger (request_source apid [])))
-      (nat_lt (map.len d.sending.messages) c.outgoing) x) is
+      (nat_lt (map.len d.sending.messages) d.outgoing) x) is
 
   no_reports : (end : Ending) → message_reports apid [] end ≡ []
   no_reports end =
@@ -168,8 +169,8 @@ module _ (c : Config) (s : Service) where
   tells first (Makes (Do (Plain source flags service subtype body))) q can = refl
   tells first (Makes (Do (Finish way name))) q can = refl
   tells first (Makes (Do (Accept way b))) q can = refl
-  tells first (Makes (Do (Tick side))) q can = refl
-  tells first (Makes (Do (Expire side))) q can = refl
+  tells first (Makes (Do (Tick side turn))) q can = refl
+  tells first (Makes (Do (Expire side which))) q can = refl
   tells first (Makes (Do (Claim w))) q can = refl
   tells first (Makes (Do (Commit w))) q can = refl
   tells first (Makes (Do (Retire way name))) q can = refl
@@ -178,6 +179,20 @@ module _ (c : Config) (s : Service) where
   tells first Reads q can = record { done = refl; ways = refl; log = refl; memories = refl }
   tells first Drops q can = record { done = refl; ways = refl; log = refl; memories = refl }
   tells first LetsGo q can = record { done = refl; ways = refl; log = refl; memories = refl }
+  tells first (Refuses code) q can =
+      let f = is_first c.apid ms d.jobs.jobs s.waits q.jobs can in
+      subst (λ (o : Option (Option (List ℕ))). IsToldRefused c code o s (turned c s (Refuses code)))
+      (sym (ap (λ (ws : List (Option (List ℕ))). slice_get ws 0) f.waits))
+      (record {
+        done = refl;
+        ways =
+            ap (λ (h : Head). put_out s.pair.ends.on_the_way Down None
+            (executed_so c d (λ r. Refused code) h).1.packets) f.front;
+        log =
+            ap (λ (h : Head). with_report s.pair.ends.log
+            (executed_so c d (λ r. Refused code) h).1.opened) f.front;
+        memories = refl;
+      })
 
 pub dropped_is_not_reported : DroppedIsNotReported
 dropped_is_not_reported c first g k x xs can =

@@ -11,8 +11,7 @@ use Rattle.lpt_events.specs.Configs.{IsConfig}
 use Rattle.lpt_events.specs.Lanes.{lanes}
 use Rattle.lpt_events.specs.Sides.{sender_side, receiver_side}
 use Rattle.lpt_events.specs.declared.config.Config.{Config}
-use Rattle.lpt_events.specs.declared.event.Event.{Event}
-use Rattle.lpt_events.specs.declared.event.Event.TheVariants.{Retire}
+use Rattle.lpt_acts.specs.Acts.{Act, Retire}
 use Rattle.lpt_events.specs.declared.lane.Lane.{Lane}
 use Rattle.lpt_events.specs.declared.side.Side.{Side}
 use Rattle.lpt_events.specs.declared.side.Side.TheVariants.{Ground, Craft}
@@ -71,7 +70,7 @@ same_node s link ways log Ground = refl
 same_node s link ways log Craft = refl
 
 pub retire : (c : Config) (first : Contents) (s : State) (ways : List PutOut) (log : Log)
-    (es : List Event) (d : Direction) (name : Name)
+    (es : List Act) (d : Direction) (name : Name)
     → IsConfig c
     → IsTied c first s ways log es
     → CanHappen c (ends_of s ways log) (steps.Retire d name)

@@ -1,9 +1,7 @@
 -- The requests that wait stand as the spacecraft's node has them, and the memories are what the
 -- executed ones left.
-use Rattle.std.proofs.Common.{◌≡◌, ◌∙◌, ap, sym, subst, refl, ℕ, suc, List, [], ◌∷◌, ◌++◌, drop, set, Option, Some, None, append-nil, arith}
-use Rattle.std.specs.Prelude.{⊤}
-use Rattle.std.specs.List.{slice_get}
-use Rattle.std.specs.Option.{option_and_then, option_map}
+use Rattle.std.proofs.Common.{◌≡◌, ◌∙◌, ap, sym, subst, refl, ℕ, List, [], ◌∷◌, ◌++◌, drop, set, Option, Some, None, append-nil}
+use Rattle.std.specs.Option.{option_map}
 use Rattle.lpt_packet.specs.declared.direction.Direction.TheVariants.{Up, Down}
 use Rattle.lpt_packet.specs.Names.{Name}
 use Rattle.lpt_memory.specs.Meanings.{meaning, Meaning, Sizes}
@@ -17,7 +15,7 @@ use Rattle.lpt_events.specs.NamedParts.{NamedPart}
 use Rattle.lpt_events.specs.declared.config.Config.{Config}
 use Rattle.lpt_events.specs.declared.side.Side.TheVariants.{Ground, Craft}
 use Rattle.lpt_execution.specs.declared.ending.Ending.{Ending}
-use Rattle.lpt_jobs.specs.Jobs.{Head, Jobs, NoJob, NotReady, Ready, claimed_in, head_of, message_in, next_claim, oldest, without_front}
+use Rattle.lpt_jobs.specs.Jobs.{Head, Jobs, NoJob, NotReady, Ready, claimed_in, head_of, next_claim, oldest, without_front}
 use Rattle.lpt_jobs.specs.declared.job.Job.{Job}
 use Rattle.lpt_jobs.specs.declared.job.Job.TheVariants.{Claimed, Committed, Waiting}
 use Rattle.lpt_journal.specs.Jobs.{left_by}
@@ -26,93 +24,25 @@ use Rattle.lpt_ledger.specs.declared.state.State.{State}
 use Rattle.lpt_ledger.specs.declared.state.State.TheVariants.{Free as AFree, Open as AnOpen, Closed}
 use Rattle.lpt_model.specs.State.{as_list}
 use Rattle.lpt_node.specs.Accepting.{accepted}
-use Rattle.lpt_node.specs.Jobs.{claimed_of, ending_at, executed_ending, executed_of, refusal_apply_of, refusal_claim_of, with_opened}
+use Rattle.lpt_execution.specs.declared.ending.Ending.TheVariants.{Refused}
+use Rattle.lpt_pus.specs.declared.failure_code.FailureCode.{FailureCode}
+use Rattle.lpt_node.specs.Jobs.{claimed_of, ending_at, executed_ending, executed_of, refusal_apply_of, refusal_claim_of, with_opened, executed_so}
 use Rattle.lpt_node.specs.Nodes.{NodeData, message_at}
 use Rattle.lpt_node.specs.Receivers.{ReceiverState, after_offer, if_free, kept_of, parts_with, received, received_from, table_in}
 use Rattle.lpt_node.specs.Receiving.{abort_head, after_received, parted, receiver_of, with_report}
 use Rattle.lpt_node.specs.Sending.{sent_of}
-use Rattle.lpt_node.specs.Times.{due, expired_of}
+use Rattle.lpt_node.specs.Times.{expired_of, which_ends}
 use Rattle.lpt_pus.specs.Telemetry.{Telemetry}
 use Rattle.lpt_reception.specs.Received.{Parts}
 use Rattle.lpt_table.specs.Offering as offering
 use Rattle.lpt_table.specs.Offering.{OfferKind, offered}
 use Rattle.lpt_table.specs.Tables.{Entries, TableState}
-use Rattle.lpt_apart.specs.Drops.{Drops, LetsGo, Makes, Reads, Service, Turn, CanTurn, CanTurnAll, IsNoWork, oldest_of, read_as, text_of, turned, turned_all}
+use Rattle.lpt_apart.specs.Drops.{Drops, LetsGo, Makes, Reads, Refuses, Service, Turn, CanTurn, CanTurnAll, IsNoWork, oldest_of, read_as, text_of, turned, turned_all}
 use Rattle.lpt_apart.specs.Moves.{CanMove, Do, Free, Move}
+use Rattle.lpt_apart.proofs.Places.{AreOf, of_dropped, of_pushed, of_read, of_rest, read_in}
 use Rattle.lpt_apart.proofs.Handed.{means_nothing, put_in_place, waits}
 use Rattle.lpt_apart.specs.Steps.{Accept, Apply, Claim, Commit, Expire, Finish, Open, Plain, Restart, Retire, Send, Tick}
-
--- ---- what a place holds
-
--- a job is of this request, or of a dropped one
-abbrev IsOf : ℕ → Sizes → Job → Option (List ℕ) → Type 0
-IsOf apid sizes (Waiting m) w = w ≡ Some m
-IsOf apid sizes Claimed w = ⊥
-IsOf apid sizes (Committed r) w = r ≡ record { apid = apid; sizes = sizes; message = text_of w }
-
--- jobs are of these requests, place by place
-abbrev pub AreOf : ℕ → Sizes → List Job → List (Option (List ℕ)) → Type 0
-AreOf apid sizes [] [] = ⊤
-AreOf apid sizes [] (w ∷ ws) = ⊥
-AreOf apid sizes (j ∷ js) [] = ⊥
-AreOf apid sizes (j ∷ js) (w ∷ ws) = IsOf apid sizes j w × AreOf apid sizes js ws
-
-module _ (apid : ℕ) (sizes : Sizes) where
-  of_pushed : (js : List Job) (ws : List (Option (List ℕ))) (m : List ℕ)
-      → AreOf apid sizes js ws
-      → AreOf apid sizes (js ++ Waiting m ∷ []) (ws ++ Some m ∷ [])
-  of_pushed [] [] m are = (refl, tt)
-  of_pushed [] (w ∷ ws) m are = absurd are
-  of_pushed (j ∷ js) [] m are = absurd are
-  of_pushed (j ∷ js) (w ∷ ws) m are = (are.0, of_pushed js ws m are.1)
-
-  of_rest : (js : List Job) (ws : List (Option (List ℕ)))
-      → AreOf apid sizes js ws
-      → AreOf apid sizes (drop 1 js) (drop 1 ws)
-  of_rest [] [] are = tt
-  of_rest [] (w ∷ ws) are = absurd are
-  of_rest (j ∷ js) [] are = absurd are
-  of_rest (j ∷ js) (w ∷ ws) are = are.1
-
-  -- a reading of this message in the place of the oldest that waits
-  abbrev read_in : List Job → List ℕ → List Job
-  read_in js m =
-      set js (claimed_in js) (Committed (record { apid = apid; sizes = sizes; message = m }))
-
-  of_read : (js : List Job) (ws : List (Option (List ℕ))) (m : List ℕ)
-      → AreOf apid sizes js ws
-      → oldest js ≡ Some m
-      → AreOf apid sizes (read_in js m) ws
-  of_read [] ws m are is = absurd (let none : None ≡ Some m = is in cc)
-  of_read (j ∷ js) [] m are is = absurd are
-  of_read (Waiting n ∷ js) (w ∷ ws) m are is =
-      let same : n ≡ m = cc in
-      let text : m ≡ text_of w = sym (ap text_of are.0 ∙ same) in
-      (ap (λ (t : List ℕ). record { apid = apid; sizes = sizes; message = t }) text, are.1)
-  of_read (Claimed ∷ js) (w ∷ ws) m are is = absurd are.0
-  of_read (Committed r ∷ js) (w ∷ ws) m are is =
-      let x : Job = Committed (record { apid = apid; sizes = sizes; message = m }) in
-      let next : claimed_in (Committed r ∷ js) ≡ suc (claimed_in js) = omega arith in
-      let behind : oldest js ≡ Some m =
-      ap (λ (n : ℕ). option_and_then message_in (slice_get (Committed r ∷ js) n)) (sym next)
-      ∙ is in
-      subst (λ (n : ℕ). AreOf apid sizes (set (Committed r ∷ js) n x) (w ∷ ws)) (sym next)
-      (are.0, of_read js ws m are.1 behind)
-
-  -- a dropped one in its place
-  of_dropped : (js : List Job) (ws : List (Option (List ℕ)))
-      → AreOf apid sizes js ws
-      → AreOf apid sizes (read_in js []) (set ws (claimed_in js) None)
-  of_dropped [] [] are = tt
-  of_dropped [] (w ∷ ws) are = absurd are
-  of_dropped (j ∷ js) [] are = absurd are
-  of_dropped (Waiting n ∷ js) (w ∷ ws) are = (refl, are.1)
-  of_dropped (Claimed ∷ js) (w ∷ ws) are = absurd are.0
-  of_dropped (Committed r ∷ js) (w ∷ ws) are =
-      let x : Job = Committed (record { apid = apid; sizes = sizes; message = [] }) in
-      let next : claimed_in (Committed r ∷ js) ≡ suc (claimed_in js) = omega arith in
-      subst (λ (n : ℕ). AreOf apid sizes (set (Committed r ∷ js) n x) (set (w ∷ ws) n None))
-      (sym next) (are.0, of_dropped js ws are.1)
+use Rattle.lpt_acts.specs.Acts.{On, Back, Within}
 
 -- ---- nodes
 
@@ -319,11 +249,15 @@ module _ (c : Config) (first : Contents) (s : Service) (q : IsQueued c first s) 
   makes (Do (Finish Down name)) own can = record { jobs = q.jobs; memories = q.memories }
   makes (Do (Accept Up b)) own can = accepts b
   makes (Do (Accept Down b)) own can = record { jobs = q.jobs; memories = q.memories }
-  makes (Do (Tick Ground)) own can = record { jobs = q.jobs; memories = q.memories }
-  makes (Do (Tick Craft)) own can = record { jobs = q.jobs; memories = q.memories }
-  makes (Do (Expire Ground)) own can = record { jobs = q.jobs; memories = q.memories }
-  makes (Do (Expire Craft)) own can = record {
-    jobs = keeps (expired_of Craft c d (due c d)).0 (expired_keeps c d (due c d));
+  makes (Do (Tick Ground turn)) own can = record { jobs = q.jobs; memories = q.memories }
+  makes (Do (Tick Craft On)) own can = record { jobs = q.jobs; memories = q.memories }
+  makes (Do (Tick Craft (Back n))) own can = record { jobs = q.jobs; memories = q.memories }
+  makes (Do (Tick Craft (Within l))) own can = record { jobs = q.jobs; memories = q.memories }
+  makes (Do (Expire Ground which)) own can = record { jobs = q.jobs; memories = q.memories }
+  makes (Do (Expire Craft which)) own can = record {
+    jobs =
+        keeps (expired_of Craft c d (which_ends c d which)).0
+        (expired_keeps c d (which_ends c d which));
     memories = q.memories;
   }
   makes (Do (Claim w)) own can = absurd own
@@ -362,6 +296,17 @@ module _ (c : Config) (first : Contents) (s : Service) (q : IsQueued c first s) 
       subst (λ (js : List Job). Jobbed js s.waits) (sym (stands m none))
       (of_read c.apid (sizes_of ms) d.jobs.jobs s.waits m q.jobs is)
 
+  -- what stands at the front is refused
+  refuses : (code : FailureCode) (h : Head)
+      → refusal_apply_of h ≡ None
+      → Jobbed (executed_so c d (λ r. Refused code) h).0.jobs.jobs (drop 1 s.waits)
+  refuses code NoJob none = absurd cc
+  refuses code NotReady none = absurd cc
+  refuses code (Ready r) none =
+      subst (λ (x : Jobs). Jobbed x.jobs (drop 1 s.waits))
+      (sym (executed_keeps c d r (Refused code)))
+      (of_rest c.apid (sizes_of ms) d.jobs.jobs s.waits q.jobs)
+
   turns : (x : Turn) → CanTurn c s x → IsQueued c first (turned c s x)
   turns (Makes x) can = makes x can.0 can.1
   turns Reads can =
@@ -380,6 +325,8 @@ module _ (c : Config) (first : Contents) (s : Service) (q : IsQueued c first s) 
     jobs = of_rest c.apid (sizes_of ms) d.jobs.jobs s.waits q.jobs;
     memories = q.memories;
   }
+  turns (Refuses code) can =
+      record { jobs = refuses code (head_of d.jobs.jobs) can; memories = q.memories }
 
 -- all turns
 pub queued : (c : Config) (first : Contents) (s : Service) (xs : List Turn)

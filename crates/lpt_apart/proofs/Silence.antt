@@ -19,7 +19,7 @@ use Rattle.lpt_node.specs.Nodes.{NodeData, message_at}
 use Rattle.lpt_node.specs.Accepting.{accepted}
 use Rattle.lpt_node.specs.Requests.{plain_made}
 use Rattle.lpt_node.specs.Sending.{refusal_send_of}
-use Rattle.lpt_node.specs.Times.{expired}
+use Rattle.lpt_node.specs.Times.{expired_of, which_ends}
 use Rattle.lpt_model.specs.State.{as_list}
 use Rattle.lpt_model.specs.Tickets.{ticket_of}
 use Rattle.lpt_journal.proofs.CountLemmas.{same_name-comm}
@@ -126,10 +126,12 @@ none_step c e (Accept way b) d name can stays mute none =
     let a : Arrival = arrival_in c way b in
     let side : Side = receiver_side way in
     none_put d name e.on_the_way Down (as_list (accepted side c (node_at e side) a).1.packet) none
-none_step c e (Tick side) d name can stays mute none =
+none_step c e (Tick side turn) d name can stays mute none =
     ap (has_part d name) (same_ways e side _) ∙ none
-none_step c e (Expire side) d name can stays mute none =
-    none_put d name e.on_the_way Down (as_list (expired side c (node_at e side)).1.packet) none
+none_step c e (Expire side which) d name can stays mute none =
+    none_put d name e.on_the_way Down
+    (as_list (expired_of side c (node_at e side)
+    (which_ends c (node_at e side) which)).1.packet) none
 none_step c e (Claim w) d name can stays mute none = none
 none_step c e (Commit w) d name can stays mute none = go (ticket_of e.tickets w) where
   go : (o : Option Job) → has_part d name (committed_on c e w o).on_the_way ≡ false

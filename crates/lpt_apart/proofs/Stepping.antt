@@ -3,7 +3,7 @@ use Rattle.std.proofs.Common.{◌≡◌, ap, subst, refl, false, List, [], ◌�
 use Rattle.lpt_memory.specs.Memories.{Contents}
 use Rattle.lpt_events.specs.Configs.{IsConfig}
 use Rattle.lpt_events.specs.declared.config.Config.{Config}
-use Rattle.lpt_events.specs.declared.event.Event.{Event}
+use Rattle.lpt_acts.specs.Acts.{Act}
 use Rattle.lpt_events.specs.declared.lane.Lane.{Lane}
 use Rattle.lpt_events.specs.declared.lane.Lane.TheVariants.{S1, S2, G1, G2}
 use Rattle.lpt_link.specs.Links.{hand_of, empty_link}
@@ -23,7 +23,7 @@ use Rattle.lpt_apart.proofs.Ties.{ends_of, IsTied, Came, Follows, Leads}
 
 -- two ends that are tied to a world follow one after a step
 step : (c : Config) (first : Contents) (s : State) (ways : List PutOut) (log : Log)
-    (es : List Event) (x : Step)
+    (es : List Act) (x : Step)
     → IsConfig c
     → IsTied c first s ways log es
     → CanHappen c (ends_of s ways log) x
@@ -39,8 +39,10 @@ step c first s ways log es (Plain source flags service subtype body) good t can 
 step c first s ways log es (Finish d name) good t can =
     finish c first s ways log es good t d name can
 step c first s ways log es (Accept d b) good t can = accept c first s ways log es good t d b can
-step c first s ways log es (Tick side) good t can = tick c first s ways log es good t side can
-step c first s ways log es (Expire side) good t can = expire c first s ways log es good t side can
+step c first s ways log es (Tick side turn) good t can =
+    tick c first s ways log es good t side turn can
+step c first s ways log es (Expire side which) good t can =
+    expire c first s ways log es good t side which can
 step c first s ways log es (Claim w) good t can = claim c first s ways log es good t w can
 step c first s ways log es (Commit w) good t can = commit c first s ways log es good t w can
 step c first s ways log es Apply good t can = apply c first s ways log es good t can

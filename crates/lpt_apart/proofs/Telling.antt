@@ -1,5 +1,5 @@
 -- What a journal tells with one event more is what the nodes of a world that shows it say.
-use Rattle.std.proofs.Common.{◌≡◌, ◌∙◌, ap, sym, ℕ, List, ◌∷◌, length, is_some}
+use Rattle.std.proofs.Common.{◌≡◌, ◌∙◌, ap, sym, ℕ, List, ◌∷◌, length, is_some, Option}
 use Rattle.std.specs.List.{find}
 use Rattle.lpt_packet.specs.declared.direction.Direction.{Direction}
 use Rattle.lpt_packet.specs.Names.{Name}
@@ -11,8 +11,7 @@ use Rattle.lpt_events.specs.Sides.{receiver_side, direction_to}
 use Rattle.lpt_events.specs.declared.config.Config.{Config}
 use Rattle.lpt_events.specs.declared.entry.Opening.{Opening}
 use Rattle.lpt_events.specs.declared.entry.Release.{Release}
-use Rattle.lpt_events.specs.declared.event.Event.{Event}
-use Rattle.lpt_events.specs.declared.event.Event.TheVariants.{Plain, Deliver, Expire, Apply}
+use Rattle.lpt_acts.specs.Acts.{Act, Plain, Deliver, Expire, Apply}
 use Rattle.lpt_events.specs.declared.lane.Lane.{Lane}
 use Rattle.lpt_events.specs.declared.reply.Answer.{Answer}
 use Rattle.lpt_events.specs.declared.reply.Answer.TheVariants.{Delivered, Expired}
@@ -23,7 +22,7 @@ use Rattle.lpt_node.specs.Accepting.{accepted}
 use Rattle.lpt_node.specs.Jobs.{executed}
 use Rattle.lpt_node.specs.Nodes.{NodeData}
 use Rattle.lpt_node.specs.Requests.{plain_made}
-use Rattle.lpt_node.specs.Times.{expired}
+use Rattle.lpt_node.specs.Times.{expired_of, which_ends}
 use Rattle.lpt_node.specs.declared.accepted.Accepted.{Accepted}
 use Rattle.lpt_node.specs.declared.expired.Expired.{Expired as Ended}
 use Rattle.lpt_model.specs.State.{State, end_of, as_list, arrival_held, add_release, add_opening, released_of}
@@ -45,7 +44,7 @@ use Rattle.lpt_apart.specs.Whole.{came_by, is_reported}
 use Rattle.lpt_apart.proofs.Logs.{opened_told, opened_of_it, released_told, put_some-answer}
 use Rattle.lpt_apart.proofs.Ties.{IsLonger}
 
-module _ (c : Config) (first : Contents) (s : State) (log : Log) (es : List Event)
+module _ (c : Config) (first : Contents) (s : State) (log : Log) (es : List Act)
     (shown : Shows s (views c first (recorded c first es)))
     (tells : told c (recorded c first es) ≡ log) where
   abbrev h : History
@@ -62,18 +61,21 @@ module _ (c : Config) (first : Contents) (s : State) (log : Log) (es : List Even
       tells
 
   -- what a node gives up for its age is aborted
-  pub expiry_told : (side : Side)
-      → IsLonger c first s es (Expire side)
-      → told c (recorded c first (Expire side ∷ es))
-      ≡ Aborted (direction_to side) (expired side c (end_of s side)).1.name ∷ log
-  expiry_told side more =
-      let x : NodeData × Ended = expired side c (end_of s side) in
-      let answered : Expired (direction_to side) x.1.name ≡ answer c first h (Expire side) =
+  pub expiry_told : (side : Side) (which : Option Name)
+      → IsLonger c first s es (Expire side which)
+      → told c (recorded c first (Expire side which ∷ es))
+      ≡ Aborted (direction_to side)
+      (expired_of side c (end_of s side) (which_ends c (end_of s side) which)).1.name
+      ∷ log
+  expiry_told side which more =
+      let x : NodeData × Ended =
+      expired_of side c (end_of s side) (which_ends c (end_of s side) which) in
+      let answered : Expired (direction_to side) x.1.name ≡ answer c first h (Expire side which) =
       sym
       (put_some-answer (length s.link.packets) (Expired (direction_to side) x.1.name)
       (as_list x.1.packet))
       ∙ ap (λ (r : Reply). r.answer) more.answered in
-      ap (λ (a : Answer). with_ended (Expire side) a (told c h)) (sym answered)
+      ap (λ (a : Answer). with_ended (Expire side which) a (told c h)) (sym answered)
       ∙ ap (λ (l : Log). Aborted (direction_to side) x.1.name ∷ l) tells
 
   -- the spacecraft has executed a request, and opened the report of data that it made, or none

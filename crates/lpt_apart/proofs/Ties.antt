@@ -5,10 +5,9 @@ use Rattle.lpt_packet.specs.declared.direction.Direction.{Direction}
 use Rattle.lpt_packet.specs.Names.{Name}
 use Rattle.lpt_memory.specs.Memories.{Contents}
 use Rattle.lpt_events.specs.Configs.{IsConfig}
-use Rattle.lpt_events.specs.Events.{IsEvent}
+use Rattle.lpt_acts.specs.Acts.{IsAct, Act}
 use Rattle.lpt_events.specs.declared.config.Config.{Config}
 use Rattle.lpt_events.specs.declared.entry.Release.{Release}
-use Rattle.lpt_events.specs.declared.event.Event.{Event}
 use Rattle.lpt_events.specs.declared.lane.Lane.{Lane}
 use Rattle.lpt_link.specs.Links.{hand_of}
 use Rattle.lpt_model.specs.State.{State, after, refusal_of, IsReady}
@@ -45,7 +44,7 @@ ends_of s ways log = record {
 -- a world shows a legal journal, no lane has a packet, all that may be handed over is held, and the
 -- journal tells this log
 pub record IsTied (c : Config) (first : Contents) (s : State) (ways : List PutOut) (log : Log)
-    (es : List Event) : Type 0 where
+    (es : List Act) : Type 0 where
   pub legal : Legal c first es
   pub shown : Shows s (views c first (recorded c first es))
   pub hands : (l : Lane) → hand_of s.link l ≡ None
@@ -55,7 +54,7 @@ pub record IsTied (c : Config) (first : Contents) (s : State) (ways : List PutOu
 -- two ends are tied to some world
 pub record Follows (c : Config) (first : Contents) (e : Ends) : Type 0 where
   pub state : State
-  pub events : List Event
+  pub events : List Act
   pub tied : IsTied c first state e.on_the_way e.log events
   pub is : ends_of state e.on_the_way e.log ≡ e
 
@@ -71,7 +70,7 @@ pub record Leads (c : Config) (first : Contents) (e : Ends) (parts : Came) : Typ
 
 -- ---- legal journals fit
 
-jobs_fit : (c : Config) (first : Contents) (es : List Event)
+jobs_fit : (c : Config) (first : Contents) (es : List Act)
     → Legal c first es
     → JobsFit (jobs_view c first (recorded c first es)) (ticket c (recorded c first es))
 jobs_fit c first es legal =
@@ -98,7 +97,7 @@ jobs_fit c first es legal =
           };
     }
 
-fits : (c : Config) (first : Contents) (es : List Event)
+fits : (c : Config) (first : Contents) (es : List Act)
     → IsConfig c
     → Legal c first es
     → Fits c first (recorded c first es)
@@ -111,8 +110,8 @@ fits c first es good legal = record {
 
 -- the journal is legal with one event more, which is answered as it says, and is shown; what the
 -- nodes ask for besides holds
-pub record IsLonger (c : Config) (first : Contents) (s : State) (es : List Event)
-    (e : Event) : Type 0 where
+pub record IsLonger (c : Config) (first : Contents) (s : State) (es : List Act)
+    (e : Act) : Type 0 where
   pub ready : IsReady c s e
   pub answered : (after c (length (recorded c first es)) s e).1
       ≡ reply c first (recorded c first es) e
@@ -121,11 +120,11 @@ pub record IsLonger (c : Config) (first : Contents) (s : State) (es : List Event
       (views c first (recorded c first (e ∷ es)))
 
 -- what a world that shows a journal doesn't refuse can be done
-pub longer : (c : Config) (first : Contents) (s : State) (es : List Event) (e : Event)
+pub longer : (c : Config) (first : Contents) (s : State) (es : List Act) (e : Act)
     → IsConfig c
     → Legal c first es
     → Shows s (views c first (recorded c first es))
-    → IsEvent e
+    → IsAct e
     → refusal_of c s e ≡ None
     → IsLonger c first s es e
 longer c first s es e good legal shown ranged free =
@@ -141,7 +140,7 @@ longer c first s es e good legal shown ranged free =
     }
 
 -- a world that shows a journal doesn't refuse what is legal after it
-pub not_refused : (c : Config) (first : Contents) (s : State) (es : List Event) (e : Event)
+pub not_refused : (c : Config) (first : Contents) (s : State) (es : List Act) (e : Act)
     → IsConfig c
     → Shows s (views c first (recorded c first es))
     → Legal c first (e ∷ es)

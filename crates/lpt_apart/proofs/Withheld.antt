@@ -15,7 +15,7 @@ use Rattle.lpt_apart.proofs.Dues.{all_due}
 use Rattle.lpt_apart.proofs.Stepping.{lead}
 use Rattle.lpt_apart.proofs.Ties.{Came, Leads}
 use Rattle.lpt_events.specs.declared.entry.Opening.{Opening}
-use Rattle.lpt_events.specs.declared.event.Event.{Event}
+use Rattle.lpt_acts.specs.Acts.{Act}
 use Rattle.lpt_events.specs.declared.outcome.Outcome.TheVariants.{Released}
 use Rattle.lpt_journal.specs.Due.{due}
 use Rattle.lpt_journal.specs.Journal.{History}
@@ -29,7 +29,7 @@ use Rattle.lpt_apart.specs.Told.{told}
 -- ---- what came whole isn't awaited
 
 -- what came whole isn't awaited
-not_awaited : (c : Config) (first : Contents) (es : List Event)
+not_awaited : (c : Config) (first : Contents) (es : List Act)
     → IsConfig c
     → Legal c first es
     → (d : Direction) (name : Name) (m : List ℕ)

@@ -1,7 +1,8 @@
--- Two ends apart, each with a clock of its own.
+-- Two ends apart, each with a clock and limits of its own.
 --
 -- All else of their configurations is the same.
 use Rattle.std.specs.Prelude.{ℕ, ◌+◌, List, [], ◌∷◌, ⊤}
+use Rattle.lpt_acts.specs.Acts.{Limits, with_limits}
 use Rattle.lpt_memory.specs.Memories.{Contents}
 use Rattle.lpt_events.specs.Configs.{IsConfig}
 use Rattle.lpt_events.specs.declared.config.Config.{Config}
@@ -11,19 +12,29 @@ use Rattle.lpt_apart.specs.Moves.{Pair, Move, no_pair, moved, CanMove}
 use Rattle.lpt_apart.specs.Worlds.{IsPromised}
 
 -- a configuration whose clock begins so many ticks later
---
--- Assumed: Both ends have one configuration, but for the numbers at which their clocks begin.
 abbrev pub later : (ticks : ℕ) → Config → Config
 later ticks c = record c { clock = ticks + c.clock }
 
--- two new ends, whose clocks begin so many ticks later
-abbrev pub no_pair_later : Config → Contents → (on_ground on_craft : ℕ) → Pair
+-- what an end has of its own: by how many ticks its clock begins later, and its limits
+pub record Own : Type 0 where
+  pub ticks : ℕ
+  pub limits : Limits
+
+-- the configuration of an end that has this of its own
+--
+-- Assumed: Both ends have the same APID, part size and mode.
+abbrev pub own_config : Own → Config → Config
+own_config o c = with_limits o.limits (later o.ticks c)
+
+-- two new ends; ground's clock begins so many ticks later, and the limits are its own; the
+-- spacecraft has this of its own
+abbrev pub no_pair_later : Config → Contents → (on_ground : ℕ) → (on_craft : Own) → Pair
 no_pair_later c first g k =
     record (no_pair c first) {
       ends =
           record (no_ends c first) {
             on_ground = no_data (later g c);
-            on_craft = no_data (later k c);
+            on_craft = no_data (own_config k c);
           };
     }
 
@@ -37,11 +48,11 @@ abbrev pub CanAll : Config → Pair → List Move → Type 0
 CanAll c p [] = ⊤
 CanAll c p (x ∷ xs) = CanAll c p xs × CanMove c (after_all c p xs) x
 
--- whatever two ends did whose clocks began so many ticks later, they keep the promise
+-- whatever two ends did that have clocks and limits of their own, they keep the promise
 abbrev pub EndsWithClocksKeepThePromise : Type 0
 EndsWithClocksKeepThePromise =
-    (c : Config) (first : Contents) (g k : ℕ) (xs : List Move)
+    (c : Config) (first : Contents) (g : ℕ) (k : Own) (xs : List Move)
     → IsConfig (later g c)
-    → IsConfig (later k c)
+    → IsConfig (own_config k c)
     → CanAll c (no_pair_later c first g k) xs
     → IsPromised c first (after_all c (no_pair_later c first g k) xs).ends

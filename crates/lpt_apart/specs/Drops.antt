@@ -1,4 +1,4 @@
--- Two ends apart whose spacecraft reads a request at once, and drops some.
+-- Two ends apart whose spacecraft reads a request at once, and drops or refuses some.
 --
 -- A world has no such event. So what is said of these ends is a promise of its own: of requests,
 -- and of the memories.
@@ -17,27 +17,29 @@ use Rattle.lpt_jobs.specs.Jobs.{Ready, claimed_in, head_of, without_front}
 use Rattle.lpt_journal.specs.Jobs.{left_by}
 use Rattle.lpt_model.specs.State.{as_list}
 use Rattle.lpt_node.specs.Accepting.{accepted}
-use Rattle.lpt_node.specs.Jobs.{claimed, committed, refusal_apply, refusal_claim}
+use Rattle.lpt_node.specs.Jobs.{Execution, claimed, committed, refusal_apply, refusal_claim, refused_front}
 use Rattle.lpt_node.specs.Nodes.{NodeData}
-use Rattle.lpt_apart.specs.Clocks.{later, no_pair_later}
-use Rattle.lpt_apart.specs.Ends.{Ends}
+use Rattle.lpt_apart.specs.Clocks.{Own, later, own_config, no_pair_later}
+use Rattle.lpt_apart.specs.Ends.{Ends, put_out}
 use Rattle.lpt_apart.specs.Facts.{Fact, Aborted, Asked, Log, Released, awaited}
 use Rattle.lpt_apart.specs.Moves.{CanMove, Do, Move, Pair, moved}
-use Rattle.lpt_apart.specs.Steps.{Accept, Apply, Claim, Commit, Restart}
+use Rattle.lpt_apart.specs.Steps.{Accept, Apply, Claim, Commit, Restart, with_report}
+use Rattle.lpt_pus.specs.declared.failure_code.FailureCode.{FailureCode}
 
 -- ---- what is done
 
 -- The ends make a move. The spacecraft reads the oldest request that wasn't read; it drops that
--- one; or it lets the oldest of all go, which was read.
+-- one; or it lets the oldest of all go, which was read, or refuses it with a failure code.
 pub data Turn : Type 0 where
   Makes : Move → Turn
   Reads : Turn
   Drops : Turn
   LetsGo : Turn
+  Refuses : FailureCode → Turn
 
--- Two ends apart. The requests that the spacecraft released and neither executed nor let go since
--- it was last restarted, the oldest first; in the place of one that was dropped there is none. And
--- those that it executed, in their order.
+-- Two ends apart. The requests that the spacecraft released and neither executed, let go nor
+-- refused since it was last restarted, the oldest first; in the place of one that was dropped there
+-- is none. And those that it executed, in their order.
 pub record Service : Type 0 where
   pub pair : Pair
   pub waits : List (Option (List ℕ))
@@ -55,6 +57,7 @@ CanTurn c s (Makes x) = IsNoWork x × CanMove c s.pair x
 CanTurn c s Reads = refusal_claim s.pair.ends.on_craft ≡ None
 CanTurn c s Drops = refusal_claim s.pair.ends.on_craft ≡ None
 CanTurn c s LetsGo = refusal_apply s.pair.ends.on_craft ≡ None
+CanTurn c s (Refuses code) = refusal_apply s.pair.ends.on_craft ≡ None
 
 -- ---- what it makes of them
 
@@ -99,6 +102,14 @@ read_as c e message =
 abbrev pub with_craft : Pair → NodeData → Pair
 with_craft p d = record p { ends = record p.ends { on_craft = d } }
 
+-- the ends once the oldest of all was refused: the reports of that are put out
+abbrev pub refused_on : Ends → NodeData × Execution → Ends
+refused_on e x = record e {
+  on_craft = x.0;
+  on_the_way = put_out e.on_the_way Down None x.1.packets;
+  log = with_report e.log x.1.opened;
+}
+
 -- what a turn makes of two ends: one that is dropped is read as a message of no octets
 abbrev pub turned : Config → Service → Turn → Service
 turned c s (Makes x) = record {
@@ -117,6 +128,12 @@ turned c s Drops = record s {
 turned c s LetsGo = record s {
   pair = with_craft s.pair
       (record s.pair.ends.on_craft { jobs = without_front s.pair.ends.on_craft.jobs });
+  waits = drop 1 s.waits;
+}
+turned c s (Refuses code) = record s {
+  pair = record s.pair {
+    ends = refused_on s.pair.ends (refused_front c s.pair.ends.on_craft code);
+  };
   waits = drop 1 s.waits;
 }
 
@@ -152,9 +169,9 @@ AllSent [] = ⊤
 AllSent (x ∷ log) = AllSent log × IsSent x log
 
 -- Each request that was released was sent by ground. The memories are their first content, changed
--- by the executed requests; these were released in their order, and none of them was dropped. What
--- the spacecraft executes next, once it was read, is the oldest request, or a message of no octets
--- where that was dropped.
+-- by the executed requests; these were released in their order, and none of them was dropped or
+-- refused. What the spacecraft executes next, once it was read, is the oldest request, or a message
+-- of no octets where that was dropped.
 pub record IsServed (c : Config) (first : Contents) (s : Service) : Type 0 where
   pub sent : AllSent s.pair.ends.log
   pub memories : s.pair.ends.memories ≡ left_by c.apid s.done first
@@ -163,15 +180,15 @@ pub record IsServed (c : Config) (first : Contents) (s : Service) : Type 0 where
       → slice_get s.waits 0 ≡ Some w
       → r ≡ reading_for c.apid s.pair.ends.memories (text_of w)
 
--- two new ends, whose clocks begin so many ticks later
-abbrev pub no_service : Config → Contents → (on_ground on_craft : ℕ) → Service
+-- two new ends; the spacecraft has this of its own
+abbrev pub no_service : Config → Contents → (on_ground : ℕ) → (on_craft : Own) → Service
 no_service c first g k = record { pair = no_pair_later c first g k; waits = []; done = [] }
 
--- whatever two ends did that read a request at once, and dropped some
+-- whatever two ends did that read a request at once, and dropped or refused some
 abbrev pub EndsThatDropServe : Type 0
 EndsThatDropServe =
-    (c : Config) (first : Contents) (g k : ℕ) (xs : List Turn)
+    (c : Config) (first : Contents) (g : ℕ) (k : Own) (xs : List Turn)
     → IsConfig (later g c)
-    → IsConfig (later k c)
+    → IsConfig (own_config k c)
     → CanTurnAll c (no_service c first g k) xs
     → IsServed c first (turned_all c (no_service c first g k) xs)

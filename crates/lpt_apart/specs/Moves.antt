@@ -9,10 +9,10 @@ use Rattle.lpt_packet.specs.declared.direction.Direction.TheVariants.{Up, Down}
 use Rattle.lpt_packet.specs.Names.{Name}
 use Rattle.lpt_memory.specs.Memories.{Contents}
 use Rattle.lpt_events.specs.Configs.{IsConfig}
-use Rattle.lpt_events.specs.Events.{IsEvent}
+use Rattle.lpt_acts.specs.Acts.{IsAct}
 use Rattle.lpt_events.specs.Sides.{sender_side, receiver_side}
 use Rattle.lpt_events.specs.declared.config.Config.{Config}
-use Rattle.lpt_events.specs.declared.event.Event.TheVariants as event
+use Rattle.lpt_acts.specs.Acts as act
 use Rattle.lpt_ledger.specs.Marks.{Marks}
 use Rattle.lpt_node.specs.Restarts.{retired}
 use Rattle.lpt_node.specs.Nodes.{NodeData}
@@ -71,12 +71,12 @@ moved c p (Free d name) = freed_by p d name
 -- A step can happen as before, but a name is retired where its receiver has freed it. A receiver
 -- frees a name where it is over.
 --
--- Assumed: A name is freed only when its message is closed, no reception of it is open and no part
--- of it comes any more: first at its receiver, then at its sender.
+-- Assumed: A name is freed first at its receiver, later at its sender, and only when its message is
+-- closed, no reception of it is open and no part of it comes any more.
 abbrev pub CanMove : Config → Pair → Move → Type 0
-CanMove c p (Do (Retire d name)) = IsEvent (event.Retire d name) × (p.freed d name ≡ true)
+CanMove c p (Do (Retire d name)) = IsAct (act.Retire d name) × (p.freed d name ≡ true)
 CanMove c p (Do x) = CanHappen c p.ends x
-CanMove c p (Free d name) = IsEvent (event.Retire d name) × IsOver p.ends d name
+CanMove c p (Free d name) = IsAct (act.Retire d name) × IsOver p.ends d name
 
 -- two ends after these moves, the newest of which stands first
 abbrev pub came_to : Config → Contents → List Move → Pair

@@ -1,12 +1,12 @@
 -- The steps of two ends that the events of a world are: so whatever a world does, two ends can do.
-use Rattle.std.specs.Prelude.{◌≡◌, ℕ, List, [], ◌∷◌, slice_get, Option, Some, None}
+use Rattle.std.specs.Prelude.{◌≡◌, ℕ, List, [], ◌∷◌, slice_get, Option, Some, None, ⊤}
 use Rattle.std.specs.Option.{option_map_or}
 use Rattle.lpt_memory.specs.Memories.{Contents}
 use Rattle.lpt_events.specs.Configs.{IsConfig}
 use Rattle.lpt_events.specs.Lanes.{lane_direction}
 use Rattle.lpt_events.specs.declared.config.Config.{Config}
-use Rattle.lpt_events.specs.declared.event.Event.{Event}
-use Rattle.lpt_events.specs.declared.event.Event.TheVariants as event
+use Rattle.lpt_acts.specs.Acts.{Act}
+use Rattle.lpt_acts.specs.Acts as act
 use Rattle.lpt_events.specs.declared.lane.Lane.{Lane}
 use Rattle.lpt_model.specs.State.{State}
 use Rattle.lpt_journal.specs.Hands.{hand}
@@ -30,23 +30,23 @@ octets_held h l =
 
 -- The step that an event is after this history: what a lane delivers is handed over. What the link
 -- does by itself is none.
-abbrev pub step_of : History → Event → Option Step
-step_of h (event.Open d name m) = Some (Open d name m)
-step_of h (event.Send d name k) = Some (Send d name k)
-step_of h (event.Plain source flags service subtype body) =
+abbrev pub step_of : History → Act → Option Step
+step_of h (act.Open d name m) = Some (Open d name m)
+step_of h (act.Send d name k) = Some (Send d name k)
+step_of h (act.Plain source flags service subtype body) =
     Some (Plain source flags service subtype body)
-step_of h (event.Finish d name) = Some (Finish d name)
-step_of h (event.Lose n) = None
-step_of h (event.Damage d b) = None
-step_of h (event.Take l n) = None
-step_of h (event.Deliver l) = Some (Accept (lane_direction l) (octets_held h l))
-step_of h (event.Tick side) = Some (Tick side)
-step_of h (event.Expire side) = Some (Expire side)
-step_of h (event.Claim w) = Some (Claim w)
-step_of h (event.Commit w) = Some (Commit w)
-step_of h event.Apply = Some Apply
-step_of h (event.Retire d name) = Some (Retire d name)
-step_of h (event.Restart side) = Some (Restart side)
+step_of h (act.Finish d name) = Some (Finish d name)
+step_of h (act.Lose n) = None
+step_of h (act.Damage d b) = None
+step_of h (act.Take l n) = None
+step_of h (act.Deliver l) = Some (Accept (lane_direction l) (octets_held h l))
+step_of h (act.Tick side turn) = Some (Tick side turn)
+step_of h (act.Expire side which) = Some (Expire side which)
+step_of h (act.Claim w) = Some (Claim w)
+step_of h (act.Commit w) = Some (Commit w)
+step_of h act.Apply = Some Apply
+step_of h (act.Retire d name) = Some (Retire d name)
+step_of h (act.Restart side) = Some (Restart side)
 
 -- steps with one more, or none
 abbrev pub with_step : Option Step → List Step → List Step
@@ -54,12 +54,12 @@ with_step None xs = xs
 with_step (Some x) xs = x ∷ xs
 
 -- the steps that a journal is
-abbrev pub steps_of : Config → Contents → List Event → List Step
+abbrev pub steps_of : Config → Contents → List Act → List Step
 steps_of c first [] = []
 steps_of c first (e ∷ es) = with_step (step_of (recorded c first es) e) (steps_of c first es)
 
 -- two ends have the nodes, jobs and memories of a world that shows this journal, and its log
-pub record AreEndsOf (c : Config) (first : Contents) (es : List Event) (e : Ends) : Type 0 where
+pub record AreEndsOf (c : Config) (first : Contents) (es : List Act) (e : Ends) : Type 0 where
   pub world : State
   pub shown : Shows world (views c first (recorded c first es))
   pub ground : world.on_ground ≡ e.on_ground
@@ -69,15 +69,25 @@ pub record AreEndsOf (c : Config) (first : Contents) (es : List Event) (e : Ends
   pub log : told c (recorded c first es) ≡ e.log
 
 -- two ends can do the steps that a journal is, and then have what a world has
-pub record AreSteps (c : Config) (first : Contents) (es : List Event) : Type 0 where
+pub record AreSteps (c : Config) (first : Contents) (es : List Act) : Type 0 where
   pub can : CanRun c first (steps_of c first es)
   pub are : AreEndsOf c first es (reached c first (steps_of c first es))
+
+-- no clock is set back by an act, as none is in a world
+abbrev pub IsForward : Act → Type 0
+IsForward (act.Tick side (act.Back n)) = ⊥
+IsForward _ = ⊤
+
+abbrev pub AllForward : List Act → Type 0
+AllForward [] = ⊤
+AllForward (e ∷ es) = IsForward e × AllForward es
 
 -- whatever a world does
 abbrev pub WorldsAreEnds : Type 0
 WorldsAreEnds =
-    (c : Config) (first : Contents) (es : List Event)
+    (c : Config) (first : Contents) (es : List Act)
     → IsConfig c
+    → AllForward es
     → Legal c first es
     → AreSteps c first es
 

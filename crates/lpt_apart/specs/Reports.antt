@@ -1,12 +1,16 @@
--- What two ends apart put out of requests, of which they drop some: nothing of one that was
--- dropped, and its reports of one that is executed.
+-- What two ends apart put out of requests, of which they drop or refuse some: nothing of one that
+-- was dropped, its reports of one that is executed, and those of its failure of one that is
+-- refused.
 use Rattle.std.specs.Prelude.{◌≡◌, ℕ, List, [], ◌∷◌, ◌++◌, Option, Some, None}
 use Rattle.std.specs.List.{slice_get}
 use Rattle.lpt_packet.specs.declared.direction.Direction.TheVariants.{Down}
 use Rattle.lpt_memory.specs.Memories.{Contents}
 use Rattle.lpt_events.specs.declared.config.Config.{Config}
+use Rattle.lpt_execution.specs.declared.ending.Ending.TheVariants.{Refused}
 use Rattle.lpt_node.specs.Jobs.{Execution, ending_at, executed_ending}
-use Rattle.lpt_apart.specs.Drops.{CanTurnAll, Makes, Service, Turn, no_service, reading_for, turned, turned_all}
+use Rattle.lpt_pus.specs.declared.failure_code.FailureCode.{FailureCode}
+use Rattle.lpt_apart.specs.Clocks.{Own}
+use Rattle.lpt_apart.specs.Drops.{CanTurnAll, Makes, Refuses, Service, Turn, no_service, reading_for, text_of, turned, turned_all}
 use Rattle.lpt_apart.specs.Ends.{put_out}
 use Rattle.lpt_apart.specs.Facts.{Executed}
 use Rattle.lpt_apart.specs.Moves.{Do}
@@ -47,15 +51,39 @@ IsTold c None s new = ⊥
 IsTold c (Some None) s new = PassesOver s new
 IsTold c (Some (Some m)) s new = IsReported c m s new
 
+-- what becomes of a request that was read for these memories and is refused
+abbrev pub refusal_of : Config → Service → FailureCode → (request : List ℕ) → Execution
+refusal_of c s code m =
+    (executed_ending c s.pair.ends.on_craft (reading_for c.apid s.pair.ends.memories m)
+    (Refused code)).1
+
+-- a request is refused: none is executed, and what is put out and opened are the reports of this
+-- failure
+pub record IsTurnedDown (c : Config) (code : FailureCode) (m : List ℕ) (s new : Service)
+    : Type 0 where
+  pub done : new.done ≡ s.done
+  pub ways : new.pair.ends.on_the_way
+      ≡ put_out s.pair.ends.on_the_way Down None (refusal_of c s code m).packets
+  pub log : new.pair.ends.log ≡ with_report s.pair.ends.log (refusal_of c s code m).opened
+  pub memories : new.pair.ends.memories ≡ s.pair.ends.memories
+
+-- of what waits first; in the place of one that was dropped, of a message of no octets
+abbrev pub IsToldRefused : Config → FailureCode → Option (Option (List ℕ)) → (s new : Service)
+    → Type 0
+IsToldRefused c code None s new = ⊥
+IsToldRefused c code (Some w) s new = IsTurnedDown c code (text_of w) s new
+
 -- what a turn puts out of requests; other moves execute none
 abbrev pub IsToldOf : Config → Service → Turn → Type 0
 IsToldOf c s (Makes (Do Apply)) = IsTold c (slice_get s.waits 0) s (turned c s (Makes (Do Apply)))
 IsToldOf c s (Makes x) = (turned c s (Makes x)).done ≡ s.done
+IsToldOf c s (Refuses code) =
+    IsToldRefused c code (slice_get s.waits 0) s (turned c s (Refuses code))
 IsToldOf c s x = SaysNothing s (turned c s x)
 
 -- whatever turns two ends took before
 abbrev pub DroppedIsNotReported : Type 0
 DroppedIsNotReported =
-    (c : Config) (first : Contents) (g k : ℕ) (x : Turn) (xs : List Turn)
+    (c : Config) (first : Contents) (g : ℕ) (k : Own) (x : Turn) (xs : List Turn)
     → CanTurnAll c (no_service c first g k) (x ∷ xs)
     → IsToldOf c (turned_all c (no_service c first g k) xs) x

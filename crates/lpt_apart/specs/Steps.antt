@@ -10,10 +10,10 @@ use Rattle.lpt_packet.specs.Names.{Name}
 use Rattle.lpt_memory.specs.Memories.{Contents, sizes_of}
 use Rattle.lpt_memory.specs.Readings.{Job}
 use Rattle.lpt_events.specs.Arrivals.{Arrival, NotRead, AnIdle, Foreign, ARequest, AReport, NoPart, APart, AnAbort, arrival_in}
-use Rattle.lpt_events.specs.Events.{IsEvent}
+use Rattle.lpt_acts.specs.Acts.{IsAct, Setting, On, Back, Within}
 use Rattle.lpt_events.specs.Sides.{sender_side, receiver_side, direction_to}
 use Rattle.lpt_events.specs.declared.config.Config.{Config}
-use Rattle.lpt_events.specs.declared.event.Event.TheVariants as event
+use Rattle.lpt_acts.specs.Acts as act
 use Rattle.lpt_events.specs.declared.side.Side.{Side}
 use Rattle.lpt_events.specs.declared.side.Side.TheVariants.{Ground, Craft}
 use Rattle.lpt_events.specs.declared.worker.Worker.{Worker}
@@ -27,7 +27,7 @@ use Rattle.lpt_node.specs.Jobs.{Execution, refusal_claim, claimed, committed, re
 use Rattle.lpt_node.specs.Nodes.{NodeData}
 use Rattle.lpt_node.specs.Requests.{refusal_plain, plain_made}
 use Rattle.lpt_node.specs.Sending.{refusal_open, opened, refusal_send, sent, refusal_finish, closed}
-use Rattle.lpt_node.specs.Times.{refusal_tick, ticked, refusal_expire, expired}
+use Rattle.lpt_node.specs.Times.{refusal_tick, can_set_back, turned_so, refusal_end, which_ends, expired_of}
 use Rattle.lpt_model.specs.State.{as_list, released_of}
 use Rattle.lpt_model.specs.Tickets.{ticket_of, with_ticket}
 use Rattle.lpt_apart.specs.Ends.{PutOut, Ends, no_ends, node_at, with_node, put_out, without}
@@ -37,20 +37,21 @@ use Rattle.lpt_apart.specs.Facts.{Opened, Asked, Released, Aborted, Executed, Re
 
 -- The node that sends in a direction takes a message, puts a part out, or lets a message go; ground
 -- puts a plain request out; octets are handed to the node that receives in a direction; the node of
--- a side sets its clock on, or gives the reception up that is due; a worker of the spacecraft
--- claims a request, or hands its reading in; the spacecraft executes its oldest request; both nodes
--- free a name; the node of a side is restarted.
+-- a side sets its clock on, or back, or has other limits from then on, or gives the reception up
+-- that is due, or the open one of a name before its time; a worker of the spacecraft claims a
+-- request, or hands its reading in; the spacecraft executes its oldest request; both nodes free a
+-- name; the node of a side is restarted.
 --
--- Assumed: Memories, names and clocks survive a restart: what a call changes is saved before its
--- packets are sent, and a call that wasn't saved counts as not made.
+-- Assumed: Memories, names and clocks survive a restart: what a call changes is saved, whole or not
+-- at all, before its packets are sent; calls that a reset undoes don't count.
 pub data Step : Type 0 where
   Open : Direction → Name → (message : List ℕ) → Step
   Send : Direction → Name → (k : ℕ) → Step
   Plain : (source flags service subtype : ℕ) → (body : List ℕ) → Step
   Finish : Direction → Name → Step
   Accept : Direction → (octets : List ℕ) → Step
-  Tick : Side → Step
-  Expire : Side → Step
+  Tick : Side → Setting → Step
+  Expire : Side → Option Name → Step
   Claim : Worker → Step
   Commit : Worker → Step
   Apply : Step
@@ -80,9 +81,9 @@ is_harmless (AnAbort name reason) = true
 
 -- the network may hand octets to the node that receives in this direction
 --
--- Assumed: What reads as a plain request or a part was sent by the other end, a part since its
--- receiver last freed its name: damage never passes the 16-bit checksum, no packet's content is
--- taken for a packet, nobody forges.
+-- Assumed: Each plain request or part that comes was sent by the other end, and a part after its
+-- receiver last freed its name: no damage passes the 16-bit checksum, no packet's content is taken
+-- for a packet, nobody forges.
 abbrev pub MayCome : Config → Ends → Direction → List ℕ → Type 0
 MayCome c e d b = IsOnTheWay e d b ⊎ (is_harmless (arrival_in c d b) ≡ true)
 
@@ -93,25 +94,31 @@ pub record IsOver (e : Ends) (d : Direction) (name : Name) : Type 0 where
   pub closed : state_at (node_at e (sender_side d)).sending.ledger name ≡ Closed
   pub unheard : is_some (maps.get (node_at e (receiver_side d)).receiving.entries name) ≡ false
 
+-- a clock can turn so: it isn't at its end; or it can be set back
+abbrev pub CanTurn : Setting → NodeData → Type 0
+CanTurn On d = refusal_tick d ≡ None
+CanTurn (Back n) d = can_set_back n d ≡ true
+CanTurn (Within l) d = ⊤
+
 -- a step can happen: its numbers are of their types, and the node doesn't refuse it
 abbrev pub CanHappen : Config → Ends → Step → Type 0
 CanHappen c e (Open d name m) =
-    IsEvent (event.Open d name m)
+    IsAct (act.Open d name m)
     × (refusal_open c (node_at e (sender_side d)) name (length m) ≡ None)
 CanHappen c e (Send d name k) =
-    IsEvent (event.Send d name k) × (refusal_send c (node_at e (sender_side d)) name k ≡ None)
+    IsAct (act.Send d name k) × (refusal_send c (node_at e (sender_side d)) name k ≡ None)
 CanHappen c e (Plain source flags service subtype body) =
-    IsEvent (event.Plain source flags service subtype body)
+    IsAct (act.Plain source flags service subtype body)
     × (refusal_plain c service subtype (length body) ≡ None)
 CanHappen c e (Finish d name) =
-    IsEvent (event.Finish d name) × (refusal_finish (node_at e (sender_side d)) name ≡ None)
+    IsAct (act.Finish d name) × (refusal_finish (node_at e (sender_side d)) name ≡ None)
 CanHappen c e (Accept d b) = MayCome c e d b
-CanHappen c e (Tick side) = refusal_tick (node_at e side) ≡ None
-CanHappen c e (Expire side) = refusal_expire c (node_at e side) ≡ None
+CanHappen c e (Tick side turn) = CanTurn turn (node_at e side)
+CanHappen c e (Expire side which) = refusal_end c (node_at e side) which ≡ None
 CanHappen c e (Claim w) = (ticket_of e.tickets w ≡ None) × (refusal_claim e.on_craft ≡ None)
 CanHappen c e (Commit w) = is_some (ticket_of e.tickets w) ≡ true
 CanHappen c e Apply = refusal_apply e.on_craft ≡ None
-CanHappen c e (Retire d name) = IsEvent (event.Retire d name) × IsOver e d name
+CanHappen c e (Retire d name) = IsAct (act.Retire d name) × IsOver e d name
 CanHappen c e (Restart side) = ⊤
 
 -- ---- what a step does
@@ -215,14 +222,18 @@ after c e (Finish d name) =
 after c e (Accept d b) =
     accepted_on e d
     (accepted (receiver_side d) c (node_at e (receiver_side d)) (arrival_in c d b))
-after c e (Tick side) = with_node e side (ticked (node_at e side))
-after c e (Expire side) = expired_on e side (expired side c (node_at e side))
+after c e (Tick side turn) = with_node e side (turned_so turn (node_at e side))
+after c e (Expire side which) =
+    expired_on e side
+    (expired_of side c (node_at e side) (which_ends c (node_at e side) which))
 after c e (Claim w) = claimed_on e w (claimed e.on_craft)
 after c e (Commit w) = committed_on c e w (ticket_of e.tickets w)
 after c e Apply = executed_on e (executed c e.on_craft e.memories)
 after c e (Retire d name) = retired_on e d name
 after c e (Restart side) =
-    record (with_node e side (restarted (node_at e side))) { log = Restarted side ∷ e.log }
+    record (with_node e side (restarted (node_at e side))) {
+      log = Restarted side ∷ e.log;
+    }
 
 -- ---- runs
 

@@ -3,8 +3,7 @@ use Rattle.std.specs.Prelude.{List, [], ◌∷◌}
 use Rattle.lpt_events.specs.declared.config.Config.{Config}
 use Rattle.lpt_events.specs.declared.entry.Opening.{Opening}
 use Rattle.lpt_events.specs.declared.entry.Release.{Release}
-use Rattle.lpt_events.specs.declared.event.Event.{Event}
-use Rattle.lpt_events.specs.declared.event.Event.TheVariants.{Plain, Deliver, Expire, Apply, Retire, Restart}
+use Rattle.lpt_acts.specs.Acts.{Act, Plain, Deliver, Expire, Apply, Retire, Restart}
 use Rattle.lpt_events.specs.declared.reply.Answer.{Answer}
 use Rattle.lpt_events.specs.declared.reply.Answer.TheVariants.{Delivered, Expired}
 use Rattle.lpt_events.specs.Lanes.{lane_direction}
@@ -23,9 +22,9 @@ with_releases [] log = log
 with_releases (r ∷ rs) log = with_releases rs (Released r.of r.message ∷ log)
 
 -- the log with the reception that an event's answer says expired or was broken off
-abbrev pub with_ended : Event → Answer → Log → Log
+abbrev pub with_ended : Act → Answer → Log → Log
 with_ended (Deliver l) (Delivered o) log = with_abortion (lane_direction l) o log
-with_ended (Expire side) (Expired d name) log = Aborted d name ∷ log
+with_ended (Expire side which) (Expired d name) log = Aborted d name ∷ log
 with_ended _ answer log = log
 
 -- the log with what was asked by these packets
@@ -34,7 +33,7 @@ with_asked [] log = log
 with_asked (p ∷ ps) log = with_asked ps (Asked p.octets ∷ log)
 
 -- the log with what an event, which puts these packets, is besides
-abbrev pub with_event : Event → List SentPacket → Log → Log
+abbrev pub with_event : Act → List SentPacket → Log → Log
 with_event (Plain source flags service subtype body) puts log = with_asked puts log
 with_event Apply puts log = Executed ∷ log
 with_event (Retire d name) puts log = Retired d name ∷ log

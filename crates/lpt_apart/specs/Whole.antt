@@ -11,7 +11,7 @@ use Rattle.lpt_events.specs.Configs.{IsConfig}
 use Rattle.lpt_events.specs.Lanes.{same_direction}
 use Rattle.lpt_events.specs.Sides.{same_side, receiver_side}
 use Rattle.lpt_events.specs.declared.config.Config.{Config}
-use Rattle.lpt_events.specs.declared.event.Event.{Event}
+use Rattle.lpt_acts.specs.Acts.{Act}
 use Rattle.lpt_events.specs.declared.outcome.Outcome.{Outcome}
 use Rattle.lpt_events.specs.declared.reply.Answer.TheVariants.{Delivered}
 use Rattle.lpt_node.specs.Accepting.{accepted}
@@ -19,11 +19,11 @@ use Rattle.lpt_node.specs.Jobs.{executed}
 use Rattle.lpt_journal.specs.Legal.{Legal}
 use Rattle.lpt_journal.specs.Replies.{recorded}
 use Rattle.lpt_journal.specs.Whole as journal
-use Rattle.lpt_apart.specs.Clocks.{later, no_pair_later, after_all, CanAll}
+use Rattle.lpt_apart.specs.Clocks.{Own, later, own_config, no_pair_later, after_all, CanAll}
 use Rattle.lpt_apart.specs.Ends.{Ends, node_at}
 use Rattle.lpt_apart.specs.Facts.{Fact, Opened, Released, Aborted, Retired, Log, is_same, is_of_it}
 use Rattle.lpt_apart.specs.Moves.{Pair, Move, Do, Free, came_to, CanMoveAll}
-use Rattle.lpt_apart.specs.Plays.{steps_of, moves_of}
+use Rattle.lpt_apart.specs.Plays.{AllForward, steps_of, moves_of}
 use Rattle.lpt_apart.specs.Steps.{Step, Open, Accept, Apply, Restart, reached, CanRun}
 
 -- ---- what came
@@ -142,12 +142,12 @@ EndsApartWithholdNothing =
     → CanMoveAll c first xs
     → WithholdsNothing c (came_to c first xs).ends.log (came_in c first xs)
 
--- and where their clocks begin so many ticks later
+-- and where they have clocks and limits of their own
 abbrev pub EndsWithClocksWithholdNothing : Type 0
 EndsWithClocksWithholdNothing =
-    (c : Config) (first : Contents) (g k : ℕ) (xs : List Move)
+    (c : Config) (first : Contents) (g : ℕ) (k : Own) (xs : List Move)
     → IsConfig (later g c)
-    → IsConfig (later k c)
+    → IsConfig (own_config k c)
     → CanAll c (no_pair_later c first g k) xs
     → WithholdsNothing c (after_all c (no_pair_later c first g k) xs).ends.log
     (came_since c (no_pair_later c first g k) xs)
@@ -157,8 +157,9 @@ EndsWithClocksWithholdNothing =
 -- the parts that came to a world come by the steps that its journal is
 abbrev pub WorldsBringTheSame : Type 0
 WorldsBringTheSame =
-    (c : Config) (first : Contents) (es : List Event) (d : Direction) (name : Name) (k : ℕ)
+    (c : Config) (first : Contents) (es : List Act) (d : Direction) (name : Name) (k : ℕ)
     → IsConfig c
+    → AllForward es
     → Legal c first es
     → came c first (steps_of c first es) d name k ≡ journal.came c (recorded c first es) d name k
 

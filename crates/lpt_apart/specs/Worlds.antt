@@ -5,7 +5,7 @@ use Rattle.lpt_memory.specs.Memories.{Contents}
 use Rattle.lpt_memory.specs.Readings.{Job, Source}
 use Rattle.lpt_events.specs.Configs.{IsConfig}
 use Rattle.lpt_events.specs.declared.config.Config.{Config}
-use Rattle.lpt_events.specs.declared.event.Event.{Event}
+use Rattle.lpt_acts.specs.Acts.{Act}
 use Rattle.lpt_events.specs.declared.worker.Worker.{Worker}
 use Rattle.lpt_jobs.specs.Jobs.{head_of, is_claimed, Ready}
 use Rattle.lpt_node.specs.Jobs.{FrontIsFor}
@@ -32,7 +32,7 @@ pub record IsReadyNode (c : Config) (e : Ends) : Type 0 where
 
 -- there is a legal journal, and a world that shows it has these two nodes, jobs, memories and log
 pub record IsAWorld (c : Config) (first : Contents) (e : Ends) : Type 0 where
-  pub events : List Event
+  pub events : List Act
   pub world : State
   pub legal : Legal c first events
   pub shown : Shows world (views c first (recorded c first events))

@@ -36,7 +36,7 @@ pub fn ends_apart_keep_the_promise()
     ensures { EndsApartKeepThePromise }
 {}
 
-/// So do such ends whose clocks begin at numbers of their own. All else of their configurations is
+/// So do such ends with clocks and limits of their own. All else of their configurations is
 /// the same.
 pub fn ends_with_clocks_keep_the_promise()
     ensures { EndsWithClocksKeepThePromise }
@@ -68,7 +68,7 @@ pub fn ends_apart_withhold_nothing()
     ensures { EndsApartWithholdNothing }
 {}
 
-/// And so it is if their clocks begin at numbers of their own.
+/// And so it is if they have clocks and limits of their own.
 pub fn ends_with_clocks_withhold_nothing()
     ensures { EndsWithClocksWithholdNothing }
 {}
@@ -83,11 +83,11 @@ pub fn moves_bring_the_same()
     ensures { MovesBringTheSame }
 {}
 
-/// Take two ends apart that read a request at once, and drop some of them: before they are read,
-/// if a message of no octets is read in their place, or once they stand at the front and were
-/// read. Each request that was released is one that ground asked, or the message last opened under
-/// its name. The memories are their first content, changed by the executed requests in order of
-/// release, and what was dropped isn't among these.
+/// Take two ends apart that read a request at once, and drop some of them: before they are read, if
+/// a message of no octets is read in their place, or once they stand at the front and were read,
+/// when they may also be refused. Each request that was released is one that ground asked, or the
+/// message last opened under its name. The memories are their first content, changed by the
+/// executed requests in order of release, and what was dropped or refused isn't among these.
 pub fn ends_that_drop_serve()
     ensures { EndsThatDropServe }
 {}
@@ -102,7 +102,7 @@ pub fn ends_that_drop_withhold_no_request()
 /// Whatever such ends did before, nothing is put out and nothing is opened of a request that was
 /// dropped: neither when it is dropped nor when its place is passed over. What is put out if a
 /// request is executed are the reports of this request, as it was read, and it is the newest of
-/// those that were executed.
+/// those that were executed; if it is refused, those of its failure.
 pub fn dropped_is_not_reported()
     ensures { DroppedIsNotReported }
 {}

@@ -1,13 +1,14 @@
 -- The steps that a journal is, and the log that it tells, by the lists: these compute.
-use Rattle.std.proofs.Common.{◌≡◌, ◌∙◌, ap, sym, refl, List, [], ◌∷◌, ◌++◌, length, drop}
+use Rattle.std.proofs.Common.{◌≡◌, ◌∙◌, ap, sym, refl, Bool, true, false, ◌&&◌, List, [], ◌∷◌, ◌++◌, length, drop}
+use Rattle.lpt_packet.proofs.BoolLemmas.{and_left, and_right}
 use Rattle.lpt_events.specs.declared.config.Config.{Config}
 use Rattle.lpt_events.specs.declared.entry.Release.{Release}
-use Rattle.lpt_events.specs.declared.event.Event.{Event}
+use Rattle.lpt_acts.specs.Acts.{Act, Back, On, Tick, Within}
 use Rattle.lpt_journal.specs.Journal.{Recorded, History, with_all}
 use Rattle.lpt_journal.specs.Releases.{released_by, releases}
 use Rattle.lpt_journal.specs.Replies.{recorded}
 use Rattle.lpt_apart.specs.Facts.{Log}
-use Rattle.lpt_apart.specs.Plays.{step_of, with_step, steps_of}
+use Rattle.lpt_apart.specs.Plays.{AllForward, IsForward, step_of, with_step, steps_of}
 use Rattle.lpt_apart.specs.Steps.{Step}
 use Rattle.lpt_apart.specs.Told.{with_openings, with_releases, with_ended, with_event, told}
 use Rattle.lpt_journal_examples.specs.Passes.{usual_memories}
@@ -17,12 +18,12 @@ use Rattle.lpt_journal_examples.proofs.ListedReleases.{releases_listed, releases
 -- ---- steps
 
 -- the steps that a journal is, by the lists
-abbrev pub steps_listed : Config → List Event → List Step
+abbrev pub steps_listed : Config → List Act → List Step
 steps_listed c [] = []
 steps_listed c (e ∷ es) = with_step (step_of (recorded_listed c es) e) (steps_listed c es)
 
 -- they are the same
-pub steps_is : (c : Config) (es : List Event)
+pub steps_is : (c : Config) (es : List Act)
     → steps_of c usual_memories es ≡ steps_listed c es
 steps_is c [] = refl
 steps_is c (e ∷ es) = λ i. with_step (step_of (recorded_is c es i) e) (steps_is c es i)
@@ -65,6 +66,31 @@ told_is c (x ∷ h) = λ i.
     (with_ended x.event x.reply.answer (with_releases (newly_is c x h i) (told_is c h i))))
 
 -- the log of a journal, by the lists
-pub told_of : (c : Config) (es : List Event)
+pub told_of : (c : Config) (es : List Act)
     → told c (recorded c usual_memories es) ≡ told_listed c (recorded_listed c es)
 told_of c es = ap (told c) (recorded_is c es) ∙ told_is c (recorded_listed c es)
+
+-- ---- clocks
+
+-- an act sets no clock back
+abbrev is_forward : Act → Bool
+is_forward (Tick side (Back n)) = false
+is_forward _ = true
+
+-- none of them does
+abbrev pub are_forward : List Act → Bool
+are_forward [] = true
+are_forward (e ∷ es) = is_forward e && are_forward es
+
+act_is_forward : (e : Act) → is_forward e ≡ true → IsForward e
+act_is_forward (Tick side On) is = tt
+act_is_forward (Tick side (Back n)) is = absurd cc
+act_is_forward (Tick side (Within l)) is = tt
+act_is_forward e is = tt
+
+pub all_are_forward : (es : List Act) → are_forward es ≡ true → AllForward es
+all_are_forward [] is = tt
+all_are_forward (e ∷ es) is = (
+  act_is_forward e (and_left (is_forward e) (are_forward es) is),
+  all_are_forward es (and_right (is_forward e) (are_forward es) is),
+)

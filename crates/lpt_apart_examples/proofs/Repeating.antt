@@ -4,7 +4,7 @@ use Rattle.std.specs.FinMap as maps
 use Rattle.lpt_packet.specs.declared.direction.Direction.TheVariants.{Up}
 use Rattle.lpt_packet.specs.Names.{name_cmp, IsName}
 use Rattle.lpt_packet.specs.Numbers.{IsOctets}
-use Rattle.lpt_events.specs.declared.event.Event.TheVariants as event
+use Rattle.lpt_acts.specs.Acts as act
 use Rattle.lpt_events.specs.declared.side.Side.TheVariants.{Ground}
 use Rattle.lpt_ledger.specs.Marks.{Mark, Marks, Opened}
 use Rattle.lpt_ledger.specs.States.{state_at, state_of, closed_state}
@@ -52,10 +52,10 @@ named : IsName (own 7)
 named = record { source_fits = omega arith; id_fits = omega arith }
 
 long_octets : IsOctets m20
-long_octets = (usual_pass (event.Open Up (own 7) m20 ∷ []) refl).legal.1.in_range.1
+long_octets = (usual_pass (act.Open Up (own 7) m20 ∷ []) refl).legal.1.in_range.1
 
 short_octets : IsOctets m9
-short_octets = (usual_pass (event.Open Up (own 7) m9 ∷ []) refl).legal.1.in_range.1
+short_octets = (usual_pass (act.Open Up (own 7) m9 ∷ []) refl).legal.1.in_range.1
 
 -- ---- nodes
 
@@ -86,12 +86,14 @@ shut =
     (get_insert new.sending.ledger (own 7) Opened (own 7))
 
 -- a name that was taken out of a ledger is free, so that a message can be opened
-opens : (ledger : Marks) (messages : Messages) (n : ℕ)
+opens : (ledger : Marks) (messages : Messages) (limit n : ℕ)
     → maps.get ledger (own 7) ≡ None
     → maps.len messages ≡ 0
-    → refusal_open_in usual (state_at ledger (own 7)) (maps.len messages) n
-    ≡ refusal_open_in usual (state_of None) 0 n
-opens ledger messages n free none = λ i. refusal_open_in usual (state_of (free i)) (none i) n
+    → limit ≡ usual.outgoing
+    → refusal_open_in usual limit (state_at ledger (own 7)) (maps.len messages) n
+    ≡ refusal_open_in usual usual.outgoing (state_of None) 0 n
+opens ledger messages limit n free none same =
+    λ i. refusal_open_in usual (same i) (state_of (free i)) (none i) n
 
 -- ---- the run
 
@@ -115,8 +117,8 @@ begins =
       tt,
       (
         (named, long_octets),
-        opens new.sending.ledger new.sending.messages 20 (maps.get-empty name_cmp (own 7))
-            (maps.len-empty name_cmp (List ℕ)),
+        opens new.sending.ledger new.sending.messages new.outgoing 20
+            (maps.get-empty name_cmp (own 7)) (maps.len-empty name_cmp (List ℕ)) refl,
       ),
     )
     refl in
@@ -203,8 +205,11 @@ late_lines_change_nothing =
       (
         (named, short_octets),
         opens (after_all usual start retired).ends.on_ground.sending.ledger
-            (after_all usual start retired).ends.on_ground.sending.messages 9 free_again
-            (maps.len-empty name_cmp (List ℕ)),
+            (after_all usual start retired).ends.on_ground.sending.messages
+            (after_all usual start retired).ends.on_ground.outgoing 9 free_again
+            (maps.len-empty name_cmp (List ℕ))
+            (ap (λ (o : Option (List ℕ)).
+            (sent_of Ground usual opened_first (own 7) 1 o).0.outgoing) has_first),
       ),
     )
     refl in

@@ -12,8 +12,7 @@ use Rattle.lpt_memory.specs.Meanings.{body_meaning, meaning}
 use Rattle.lpt_memory.specs.Requests.{front_load_area, front_head, request_in}
 use Rattle.lpt_ledger.specs.LeastFree.{first_of_numbers}
 use Rattle.lpt_events.specs.Arrivals.{AnAbort, arrival, arrival_in}
-use Rattle.lpt_events.specs.declared.event.Event.{Event}
-use Rattle.lpt_events.specs.declared.event.Event.TheVariants.{Open, Send, Plain, Finish, Lose, Take, Deliver, Claim, Commit, Apply, Retire, Restart}
+use Rattle.lpt_acts.specs.Acts.{Act, Open, Send, Plain, Finish, Lose, Take, Deliver, Claim, Commit, Apply, Retire, Restart}
 use Rattle.lpt_events.specs.declared.lane.Lane.TheVariants.{S1}
 use Rattle.lpt_events.specs.declared.side.Side.TheVariants.{Craft}
 use Rattle.lpt_events.specs.declared.worker.Worker.TheVariants.{W1}
@@ -22,7 +21,7 @@ use Rattle.lpt_journal.specs.Replies.{recorded}
 use Rattle.lpt_journal.specs.Whole as whole
 use Rattle.lpt_apart.specs.Ends.{Ends}
 use Rattle.lpt_apart.specs.Moves.{Pair, Move, Do, came_to, CanMoveAll}
-use Rattle.lpt_apart.specs.Plays.{steps_of, moves_of}
+use Rattle.lpt_apart.specs.Plays.{AllForward, steps_of, moves_of}
 use Rattle.lpt_apart.specs.Steps as steps
 use Rattle.lpt_apart.specs.Told.{told}
 use Rattle.lpt_apart.specs.Whole.{came_in, CameWhole}
@@ -33,12 +32,12 @@ use Rattle.lpt_journal_examples.specs.Passes.{IsPass, usual, usual_memories, loa
 use Rattle.lpt_journal_examples.proofs.LegalRows.{usual_pass}
 use Rattle.lpt_journal_examples.proofs.Listed.{recorded_is}
 use Rattle.lpt_apart_examples.specs.Runs.{forged, worked, worked_log}
-use Rattle.lpt_apart_examples.proofs.ListedSteps.{steps_is, told_of}
+use Rattle.lpt_apart_examples.proofs.ListedSteps.{all_are_forward, steps_is, told_of}
 use Rattle.lpt_apart_examples.proofs.Swapped.{swapped, swapped_came}
 
 -- ---- a world that does the same, but that the message is finished
 
-abbrev journal : List Event
+abbrev journal : List Act
 journal =
     Plain 1 0 6 2 load ∷ Take S1 0 ∷ Deliver S1 ∷ Claim W1 ∷ Commit W1 ∷ Apply
     ∷ Take S1 0 ∷ Deliver S1
@@ -51,12 +50,16 @@ journal =
     ∷ Restart Craft
     ∷ Send Up (own 7) 2 ∷ Take S1 6 ∷ Deliver S1 ∷ Take S1 5 ∷ Deliver S1 ∷ []
 
--- none of its events is refused
+-- none of its acts is refused
 pub passes : IsPass usual journal
 unfolding seen spelling checksum octets_in shift_all tc_field tc_verdict command_in tm_field
     tm_verdict body_of part_verdict first_of_numbers front_load_area front_head request_in
     body_meaning meaning arrival
 passes = usual_pass journal refl
+
+-- and none sets a clock back
+forward : AllForward (reverse journal)
+forward = all_are_forward (reverse journal) refl
 
 -- what stands behind the forged report, and what before it
 abbrev behind : List Move
@@ -125,8 +128,8 @@ pub record IsRun : Type 0 where
 
 pub runs : IsRun
 runs =
-    let es : List Event = reverse journal in
-    let world = worlds_are_ends usual usual_memories es passes.configured passes.legal in
+    let es : List Act = reverse journal in
+    let world = worlds_are_ends usual usual_memories es passes.configured forward passes.legal in
     let moves = steps_are_moves usual usual_memories (steps_of usual usual_memories es) world.can in
     let it =
     swapped usual usual_memories behind before (own 7) forged Expired reads
@@ -140,7 +143,8 @@ runs =
     ∙ ap (λ (ms : List Move). came_in usual usual_memories ms Up (own 7) k) (sym finished)
     ∙ moves_bring_the_same usual usual_memories (steps_of usual usual_memories es) Up (own 7) k
     world.can
-    ∙ worlds_bring_the_same usual usual_memories es Up (own 7) k passes.configured passes.legal
+    ∙ worlds_bring_the_same usual usual_memories es Up (own 7) k passes.configured forward
+    passes.legal
     ∙ it in
     let same : (came_to usual usual_memories (reverse worked)).ends
     ≡ (came_to usual usual_memories (moves_of (steps_of usual usual_memories es))).ends =

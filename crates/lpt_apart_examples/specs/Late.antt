@@ -3,6 +3,7 @@ use Rattle.std.specs.Prelude.{◌≡◌, ℕ, true, List, [], ◌∷◌}
 use Rattle.lpt_packet.specs.declared.direction.Direction.TheVariants.{Up}
 use Rattle.lpt_events.specs.declared.side.Side.TheVariants.{Ground}
 use Rattle.lpt_node.specs.Sending.{sent}
+use Rattle.lpt_acts.specs.Acts.{limits_of}
 use Rattle.lpt_apart.specs.Clocks.{after_all, no_pair_later}
 use Rattle.lpt_apart.specs.Moves.{CanMove, Move, Pair, Do, Free}
 use Rattle.lpt_apart.specs.Steps.{Open, Send, Accept, Retire, Restart}
@@ -12,7 +13,7 @@ use Rattle.lpt_journal_examples.specs.Passes.{own, m20, m9, usual, usual_memorie
 
 -- two new ends
 abbrev pub start : Pair
-start = no_pair_later usual usual_memories 0 0
+start = no_pair_later usual usual_memories 0 (record { ticks = 0; limits = limits_of usual })
 
 -- ---- what is made
 
