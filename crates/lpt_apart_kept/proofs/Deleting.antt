@@ -6,32 +6,32 @@ use Rattle.lpt_apart.specs.Moves.{CanMove, Move, Pair, moved}
 use Rattle.lpt_apart.specs.Whole.{came_since, WithholdsNothing}
 use Rattle.lpt_apart.specs.Worlds.{IsPromised}
 use Rattle.lpt_apart.proofs.Clocks.{begun_later, ends_with_clocks_withhold_nothing, joined, reached_keep}
-use Rattle.lpt_apart_kept.specs.Deeds.{with_memories, with_read}
+use Rattle.lpt_acts.specs.Acts.{limits_of}
+use Rattle.lpt_apart_kept.specs.Deeds.{end_of, with_memories, with_read}
 use Rattle.lpt_apart_kept.specs.Resets.{CanLive, CanLiveAll, Deed, Lived, Make, MakeForgotten, Reset, ResetEndsKeepThePromise, Write, just_written, left_without, lived, lived_all, made, made_forgotten, side_of}
+use Rattle.lpt_apart_kept.proofs.Readings.{bound_within}
 use Rattle.lpt_apart_kept.proofs.Local.{Aboard, aboard, is_of_craft, is_of_ground, next_aboard, next_ground}
 use Rattle.lpt_events.specs.declared.config.Config.{Config}
 use Rattle.lpt_events.specs.declared.side.Side.{Side}
 use Rattle.lpt_events.specs.declared.side.Side.TheVariants.{Ground, Craft}
 use Rattle.lpt_node.specs.Nodes.{NodeData, NodeView}
-use Rattle.lpt_node.specs.Restarts.{restarted}
-use Rattle.lpt_state.specs.Lastings.{IsEnd, restarted_node}
+use Rattle.lpt_node.specs.Restarts.{node_within, limits_at, restarted}
+use Rattle.lpt_state.specs.Lastings.{IsBoundAlike, IsEnd, restarted_as}
 use Rattle.lpt_state.specs.Spellings.{spelled}
 use Rattle.lpt_state.specs.Verdicts.{reading}
 use Rattle.lpt_state.specs.declared.fault.StateFault.{StateFault}
-use Rattle.lpt_state.proofs.LawLemmas.{written_is_read}
+use Rattle.lpt_state.proofs.LawLemmas.{written_is_read_as}
 
 module _ (c : Config) (start : Pair) where
   -- two ends after these moves
   abbrev at : List Move → Pair
   at xs = after_all c start xs
 
-  -- an end as it can be written
-  abbrev view : Side → NodeData → NodeView
-  view side n = record { side = side; config = c; at = n }
-
-  -- what is read of octets is the restart of this end
+  -- what is read of octets is the restart of this end, within the limits of the configuration in
+  -- which they are read
   abbrev IsWritten : (side : Side) → NodeData → List ℕ → Type 0
-  IsWritten side n b = reading side c b ≡ Ok (restarted_node (view side n))
+  IsWritten side n b =
+      (d : Config) → IsBoundAlike c d → reading side d b ≡ Ok (restarted_as d (end_of c side n))
 
   -- what each list of moves has of each end
   record IsLived (l : Lived) : Type 0 where
@@ -134,8 +134,10 @@ module _ (c : Config) (start : Pair) where
       → restarted m ≡ restarted n
       → IsWritten side n b
       → IsWritten side m b
-  still_written side n m b same w =
-      w ∙ ap (λ (d : NodeData). Ok (record { side = side; config = c; at = d })) (sym same)
+  still_written side n m b same w = λ d alike.
+      w d alike
+      ∙ ap (λ (x : NodeData).
+      Ok (record { side = side; config = d; at = node_within (limits_of d) x })) (sym same)
 
   forgets_ground : (l : Lived) (x : Move)
       → side_of x ≡ Ground
@@ -207,12 +209,13 @@ module _ (c : Config) (start : Pair) where
 
   is_written : (side : Side) (n m : NodeData)
       → n ≡ m
-      → IsEnd (view side n)
+      → IsEnd (end_of c side n)
       → n.boot + 1 < 2 ^ 64
-      → IsWritten side m (spelled (view side n))
+      → IsWritten side m (spelled (end_of c side n))
   is_written side n m same is_end left =
-      subst (λ (d : NodeData). IsWritten side d (spelled (view side n))) same
-      (written_is_read (view side n) is_end left)
+      subst (λ (x : NodeData). IsWritten side x (spelled (end_of c side n))) same
+      (λ d alike. written_is_read_as (end_of c side n) d is_end left
+      (bound_within (limits_at n) c d alike))
 
   writes : (l : Lived) (side : Side)
       → IsLived l
@@ -249,23 +252,24 @@ module _ (c : Config) (start : Pair) where
 
   -- ---- resets
 
-  resets_ground : (l : Lived)
+  resets_ground : (l : Lived) (d : Config)
       → IsLived l
-      → CanLive c start l (Reset Ground)
-      → IsLived (lived c l (Reset Ground))
-  resets_ground l r can =
+      → CanLive c start l (Reset Ground d)
+      → IsLived (lived c l (Reset Ground d))
+  resets_ground l d r can =
       let n : NodeData = (at l.but_ground).ends.on_ground in
-      let read : reading Ground c l.kept.ground_octets ≡ Ok (restarted_node (view Ground n)) =
-      r.ground_written in
+      let read : reading Ground d l.kept.ground_octets ≡ Ok (restarted_as d (end_of c Ground n)) =
+      r.ground_written d can.1 in
       record {
-        can = (can, tt);
+        can = ((can.0, tt), tt);
         ground = ap (λ (x : Result NodeView StateFault).
             (with_read l.kept.pair Ground x).ends.on_ground) read;
         craft =
             ap (λ (x : Result NodeView StateFault).
             aboard (with_read l.kept.pair Ground x).ends) read
             ∙ r.craft ∙ sym r.craft_still;
-        ground_still = ap (λ (d : NodeData). restarted d) r.ground_back;
+        ground_still =
+            ap (λ (x : NodeData). node_within (limits_of d) (restarted x)) r.ground_back;
         ground_back = r.ground_back;
         craft_still = refl;
         craft_back = refl;
@@ -277,16 +281,16 @@ module _ (c : Config) (start : Pair) where
             r.memories_written ∙ ap (λ (a : Aboard). a.memories) (sym r.craft_back);
       }
 
-  resets_craft : (l : Lived)
+  resets_craft : (l : Lived) (d : Config)
       → IsLived l
-      → CanLive c start l (Reset Craft)
-      → IsLived (lived c l (Reset Craft))
-  resets_craft l r can =
+      → CanLive c start l (Reset Craft d)
+      → IsLived (lived c l (Reset Craft d))
+  resets_craft l d r can =
       let n : NodeData = (at l.but_craft).ends.on_craft in
-      let read : reading Craft c l.kept.craft_octets ≡ Ok (restarted_node (view Craft n)) =
-      r.craft_written in
+      let read : reading Craft d l.kept.craft_octets ≡ Ok (restarted_as d (end_of c Craft n)) =
+      r.craft_written d can.1 in
       record {
-        can = (can.0, tt);
+        can = ((can.0.0, tt), tt);
         ground =
             ap (λ (x : Result NodeView StateFault).
             (with_read l.kept.pair Craft x).ends.on_ground) read
@@ -295,14 +299,14 @@ module _ (c : Config) (start : Pair) where
             ap (λ (x : Result NodeView StateFault).
             aboard (with_memories (with_read l.kept.pair Craft x) l.kept.memories).ends) read
             ∙ (λ i. record {
-              node = restarted n;
-              tickets = can.1 i;
+              node = node_within (limits_of d) (restarted n);
+              tickets = can.0.1 i;
               memories = r.memories_written i;
             });
         ground_still = refl;
         ground_back = refl;
         craft_still = ap (λ (a : Aboard). record {
-          node = restarted a.node;
+          node = node_within (limits_of d) (restarted a.node);
           tickets = a.tickets;
           memories = a.memories;
         }) r.craft_back;
@@ -320,8 +324,8 @@ module _ (c : Config) (start : Pair) where
       forgets_by l x (side_of x) refl r can.0
       (record { node = can.1.node; memories = can.1.memories })
   lives l (Write side) r can = writes l side r can
-  lives l (Reset Ground) r can = resets_ground l r can
-  lives l (Reset Craft) r can = resets_craft l r can
+  lives l (Reset Ground d) r can = resets_ground l d r can
+  lives l (Reset Craft d) r can = resets_craft l d r can
 
   lives_all : (l : Lived) (xs : List Deed)
       → IsLived l

@@ -11,7 +11,7 @@ use Rattle.lpt_node.specs.Accepting.{accepted}
 use Rattle.lpt_node.specs.Nodes.{NodeData}
 use Rattle.lpt_node.specs.Receivers.{ReceiverState, received, received_from, after_offer, if_free, table_in, parts_with, kept_of}
 use Rattle.lpt_node.specs.Receiving.{after_received, parted, receiver_of}
-use Rattle.lpt_node.specs.Times.{expired, expired_of, due}
+use Rattle.lpt_node.specs.Times.{expired_of}
 use Rattle.lpt_reception.specs.Received.{Parts}
 use Rattle.lpt_table.specs.Offering as offering
 use Rattle.lpt_table.specs.Offering.{OfferKind, offered}
@@ -56,8 +56,7 @@ none_of_delivery c d (AnAbort name reason) = refl
 none_of_delivery c d (APart q) = of_part c d q
 
 -- nor of a reception that it gives up
-pub none_of_expiry : (c : Config) (d : NodeData) → (expired Ground c d).1.packet ≡ None
-none_of_expiry c d = go (due c d) where
-  go : (o : Option Name) → (expired_of Ground c d o).1.packet ≡ None
-  go None = refl
-  go (Some name) = refl
+pub none_of_expiry : (c : Config) (d : NodeData) (o : Option Name)
+    → (expired_of Ground c d o).1.packet ≡ None
+none_of_expiry c d None = refl
+none_of_expiry c d (Some name) = refl

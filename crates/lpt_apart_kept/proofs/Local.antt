@@ -83,10 +83,10 @@ module _ (c : Config) where
   is_of_ground p (Do (Finish Down name)) is = absurd cc
   is_of_ground p (Do (Accept Up b)) is = absurd cc
   is_of_ground p (Do (Accept Down b)) is = record { next = refl; leaves = refl }
-  is_of_ground p (Do (Tick Ground)) is = record { next = refl; leaves = refl }
-  is_of_ground p (Do (Tick Craft)) is = absurd cc
-  is_of_ground p (Do (Expire Ground)) is = record { next = refl; leaves = refl }
-  is_of_ground p (Do (Expire Craft)) is = absurd cc
+  is_of_ground p (Do (Tick Ground turn)) is = record { next = refl; leaves = refl }
+  is_of_ground p (Do (Tick Craft turn)) is = absurd cc
+  is_of_ground p (Do (Expire Ground which)) is = record { next = refl; leaves = refl }
+  is_of_ground p (Do (Expire Craft which)) is = absurd cc
   is_of_ground p (Do (Claim w)) is = absurd cc
   is_of_ground p (Do (Commit w)) is = absurd cc
   is_of_ground p (Do Apply) is = absurd cc
@@ -107,10 +107,10 @@ module _ (c : Config) where
   is_of_craft p (Do (Finish Down name)) is = record { next = refl; leaves = refl }
   is_of_craft p (Do (Accept Up b)) is = record { next = refl; leaves = refl }
   is_of_craft p (Do (Accept Down b)) is = absurd cc
-  is_of_craft p (Do (Tick Ground)) is = absurd cc
-  is_of_craft p (Do (Tick Craft)) is = record { next = refl; leaves = refl }
-  is_of_craft p (Do (Expire Ground)) is = absurd cc
-  is_of_craft p (Do (Expire Craft)) is = record { next = refl; leaves = refl }
+  is_of_craft p (Do (Tick Ground turn)) is = absurd cc
+  is_of_craft p (Do (Tick Craft turn)) is = record { next = refl; leaves = refl }
+  is_of_craft p (Do (Expire Ground which)) is = absurd cc
+  is_of_craft p (Do (Expire Craft which)) is = record { next = refl; leaves = refl }
   is_of_craft p (Do (Claim w)) is = record { next = refl; leaves = refl }
   is_of_craft p (Do (Commit w)) is = record {
     next =

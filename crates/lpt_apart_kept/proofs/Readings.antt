@@ -1,36 +1,54 @@
--- A reading back is a restart, so two ends that are written and read back make moves alone.
+-- A reading back is a restart within limits, so two ends that are written and read back make moves
+-- alone.
 use Rattle.std.proofs.Common.{◌≡◌, ◌∙◌, ap, sym, subst, refl, ℕ, List, [], ◌∷◌, Ok}
+use Rattle.lpt_acts.specs.Acts.{Limits, with_limits}
 use Rattle.lpt_apart.specs.Clocks.{CanAll, after_all, no_pair_later}
-use Rattle.lpt_apart.specs.Moves.{CanMove, Do, Move, Pair, moved}
-use Rattle.lpt_apart.specs.Steps.{Restart}
+use Rattle.lpt_apart.specs.Moves.{CanMove, Move, Pair, moved}
 use Rattle.lpt_apart.specs.Worlds.{IsPromised}
 use Rattle.lpt_apart.proofs.Clocks.{begun_later, joined, reached_keep}
 use Rattle.lpt_events.specs.declared.config.Config.{Config}
 use Rattle.lpt_events.specs.declared.side.Side.{Side}
 use Rattle.lpt_events.specs.declared.side.Side.TheVariants.{Ground, Craft}
-use Rattle.lpt_state.specs.Lastings.{restarted_node}
+use Rattle.lpt_node.specs.Restarts.{limits_at}
+use Rattle.lpt_state.specs.Lastings.{IsBoundAlike, restarted_as}
 use Rattle.lpt_state.specs.Spellings.{spelled}
 use Rattle.lpt_state.specs.Verdicts.{reading}
-use Rattle.lpt_state.proofs.LawLemmas.{written_is_read}
-use Rattle.lpt_apart_kept.specs.Deeds.{after_deeds, CanDoAll, Deed, done, end_at, IsKept, Kept, KeptEndsKeepThePromise, Make, Write, ReadBack, ReadingsAreRestarts, with_memories, with_read}
+use Rattle.lpt_state.proofs.LawLemmas.{written_is_read_as}
+use Rattle.lpt_apart.specs.Ends.{node_at}
+use Rattle.lpt_apart_kept.specs.Deeds.{after_deeds, CanDoAll, Deed, done, end_at, IsKept, Kept, KeptEndsKeepThePromise, Make, Write, ReadBack, ReadingsAreRestarts, with_restart, with_memories, with_read}
 
 -- ---- a reading back
 
+-- an end's own limits are none of what it is bound to
+pub bound_within : (l : Limits) (c d : Config)
+    → IsBoundAlike c d
+    → IsBoundAlike (with_limits l c) d
+bound_within l c d alike = record {
+  apid = alike.apid;
+  source = alike.source;
+  part_size = alike.part_size;
+  mode = alike.mode;
+}
+
 -- what was written is read
-read_is : (c : Config) (k : Kept) (side : Side) (b : List ℕ)
+read_is : (c d : Config) (k : Kept) (side : Side) (b : List ℕ)
     → IsKept c k side
+    → IsBoundAlike c d
     → spelled (end_at c k.pair side) ≡ b
-    → reading side c b ≡ Ok (restarted_node (end_at c k.pair side))
-read_is c k side b is same =
-    subst (λ (x : List ℕ). reading side c x ≡ Ok (restarted_node (end_at c k.pair side))) same
-    (written_is_read (end_at c k.pair side) is.is_end is.boot_left)
+    → reading side d b ≡ Ok (restarted_as d (end_at c k.pair side))
+read_is c d k side b is alike same =
+    subst (λ (x : List ℕ). reading side d x ≡ Ok (restarted_as d (end_at c k.pair side))) same
+    (written_is_read_as (end_at c k.pair side) d is.is_end is.boot_left
+    (bound_within (limits_at (node_at k.pair.ends side)) c d alike))
 
 pub readings_are_restarts : ReadingsAreRestarts
-readings_are_restarts c k Ground is =
+readings_are_restarts c d k Ground is alike =
     ap (with_read k.pair Ground)
-    (read_is c k Ground k.ground_octets is (ap (λ (x : Kept). x.ground_octets) is.same))
-readings_are_restarts c k Craft is =
-    let read = read_is c k Craft k.craft_octets is (ap (λ (x : Kept). x.craft_octets) is.same) in
+    (read_is c d k Ground k.ground_octets is alike
+    (ap (λ (x : Kept). x.ground_octets) is.same))
+readings_are_restarts c d k Craft is alike =
+    let read = read_is c d k Craft k.craft_octets is alike
+    (ap (λ (x : Kept). x.craft_octets) is.same) in
     let memories : k.pair.ends.memories ≡ k.memories = ap (λ (x : Kept). x.memories) is.same in
     λ i. with_memories (with_read k.pair Craft (read i)) ((sym memories) i)
 
@@ -41,7 +59,7 @@ moves_of : List Deed → List Move
 moves_of [] = []
 moves_of (Make x ∷ xs) = x ∷ moves_of xs
 moves_of (Write side ∷ xs) = moves_of xs
-moves_of (ReadBack side ∷ xs) = Do (Restart side) ∷ moves_of xs
+moves_of (ReadBack side d ∷ xs) = with_restart d side (moves_of xs)
 
 -- they can be made, and come to the same ends
 record AreMoves (c : Config) (k : Kept) (xs : List Deed) : Type 0 where
@@ -64,12 +82,12 @@ deeds_are_moves c k (Make x ∷ xs) can =
 deeds_are_moves c k (Write side ∷ xs) can =
     let rest : AreMoves c k xs = deeds_are_moves c k xs can.0 in
     record { can = rest.can; are = written_pair c (after_deeds c k xs) side ∙ rest.are }
-deeds_are_moves c k (ReadBack side ∷ xs) can =
+deeds_are_moves c k (ReadBack side d ∷ xs) can =
     let rest : AreMoves c k xs = deeds_are_moves c k xs can.0 in
     record {
-      can = (rest.can, tt);
-      are = readings_are_restarts c (after_deeds c k xs) side can.1
-          ∙ ap (λ (p : Pair). moved c p (Do (Restart side))) rest.are;
+      can = ((rest.can, tt), tt);
+      are = readings_are_restarts c d (after_deeds c k xs) side can.1.0 can.1.1
+          ∙ ap (λ (p : Pair). after_all c p (with_restart d side [])) rest.are;
     }
 
 pub kept_ends_keep_the_promise : KeptEndsKeepThePromise

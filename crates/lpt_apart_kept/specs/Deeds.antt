@@ -1,22 +1,24 @@
 -- Two ends apart, of each of which its state is written down now and then, and read back when its
--- machine was reset.
+-- machine was reset, within the limits that it had or within others.
 --
 -- What an end did and didn't write is no move: nothing of it was acted on or sent, so it is as if
 -- it hadn't come to it.
 use Rattle.std.specs.Prelude.{◌≡◌, ℕ, ◌+◌, ◌<◌, ◌^◌, List, [], ◌∷◌, Result, Ok, Err, ⊤}
-use Rattle.lpt_apart.specs.Clocks.{later, no_pair_later}
+use Rattle.lpt_acts.specs.Acts.{Within, limits_of, with_limits}
+use Rattle.lpt_apart.specs.Clocks.{Own, after_all, later, no_pair_later, own_config}
 use Rattle.lpt_apart.specs.Ends.{node_at, with_node}
 use Rattle.lpt_apart.specs.Facts.{Restarted}
 use Rattle.lpt_apart.specs.Moves.{CanMove, Do, Move, Pair, moved}
-use Rattle.lpt_apart.specs.Steps.{Restart}
+use Rattle.lpt_apart.specs.Steps.{Restart, Tick}
 use Rattle.lpt_apart.specs.Worlds.{IsPromised}
 use Rattle.lpt_events.specs.Configs.{IsConfig}
 use Rattle.lpt_events.specs.declared.config.Config.{Config}
 use Rattle.lpt_events.specs.declared.side.Side.{Side}
 use Rattle.lpt_events.specs.declared.side.Side.TheVariants.{Ground, Craft}
 use Rattle.lpt_memory.specs.Memories.{Contents}
-use Rattle.lpt_node.specs.Nodes.{NodeView}
-use Rattle.lpt_state.specs.Lastings.{IsEnd}
+use Rattle.lpt_node.specs.Nodes.{NodeData, NodeView}
+use Rattle.lpt_node.specs.Restarts.{limits_at}
+use Rattle.lpt_state.specs.Lastings.{IsBoundAlike, IsEnd}
 use Rattle.lpt_state.specs.Spellings.{spelled}
 use Rattle.lpt_state.specs.Verdicts.{reading}
 use Rattle.lpt_state.specs.declared.fault.StateFault.{StateFault}
@@ -31,9 +33,13 @@ pub record Kept : Type 0 where
   pub craft_octets : List ℕ
   pub memories : Contents
 
+-- an end as it can be written: its limits are its own
+abbrev pub end_of : Config → Side → NodeData → NodeView
+end_of c side n = record { side = side; config = with_limits (limits_at n) c; at = n }
+
 -- the end of a side
 abbrev pub end_at : Config → Pair → Side → NodeView
-end_at c p side = record { side = side; config = c; at = node_at p.ends side }
+end_at c p side = end_of c side (node_at p.ends side)
 
 -- the state of a side's end is written, and with the spacecraft's the memories
 abbrev pub written : Config → Kept → Side → Kept
@@ -64,8 +70,8 @@ with_read p side (Err fault) = p
 abbrev pub with_memories : Pair → Contents → Pair
 with_memories p ms = record p { ends = record p.ends { memories = ms } }
 
--- the end of a side is read back from what was last written of it, the spacecraft's with its
--- memories
+-- the end of a side is read back, in this configuration, from what was last written of it, the
+-- spacecraft's with its memories
 abbrev pub read_back : Config → Kept → Side → Kept
 read_back c k Ground =
     record k { pair = with_read k.pair Ground (reading Ground c k.ground_octets) }
@@ -76,24 +82,26 @@ read_back c k Craft =
 
 -- ---- what may be done
 
--- two ends make a move; the state of a side's end is written; or that end is read back
+-- two ends make a move; the state of a side's end is written; or that end is read back in a
+-- configuration
 pub data Deed : Type 0 where
   Make : Move → Deed
   Write : Side → Deed
-  ReadBack : Side → Deed
+  ReadBack : Side → Config → Deed
 
 -- what a deed makes of them
 abbrev pub done : Config → Kept → Deed → Kept
 done c k (Make x) = record k { pair = moved c k.pair x }
 done c k (Write side) = written c k side
-done c k (ReadBack side) = read_back c k side
+done c k (ReadBack side d) = read_back d k side
 
 -- A move can be made as before, and a state can be written at any time. An end can be read back if
--- nothing happened at it since it was written.
+-- nothing happened at it since it was written, in a configuration that differs in limits and first
+-- clock alone.
 abbrev pub CanDo : Config → Kept → Deed → Type 0
 CanDo c k (Make x) = CanMove c k.pair x
 CanDo c k (Write side) = ⊤
-CanDo c k (ReadBack side) = IsKept c k side
+CanDo c k (ReadBack side d) = IsKept c k side × IsBoundAlike c d
 
 -- two ends after these deeds, the newest of which stands first
 abbrev pub after_deeds : Config → Kept → List Deed → Kept
@@ -107,19 +115,25 @@ CanDoAll c k (x ∷ xs) = CanDoAll c k xs × CanDo c (after_deeds c k xs) x
 
 -- ---- the laws
 
--- a reading back is a restart
+-- these moves, after which the end of a side is restarted and then has the limits of this
+-- configuration; the newest stands first
+abbrev pub with_restart : Config → Side → List Move → List Move
+with_restart d side xs = Do (Tick side (Within (limits_of d))) ∷ Do (Restart side) ∷ xs
+
+-- a reading back is a restart within the limits of the configuration in which it is read
 abbrev pub ReadingsAreRestarts : Type 0
 ReadingsAreRestarts =
-    (c : Config) (k : Kept) (side : Side)
+    (c d : Config) (k : Kept) (side : Side)
     → IsKept c k side
-    → (read_back c k side).pair ≡ moved c k.pair (Do (Restart side))
+    → IsBoundAlike c d
+    → (read_back d k side).pair ≡ after_all c k.pair (with_restart d side [])
 
--- whatever was done with two new ends, whose clocks began so many ticks later
+-- whatever was done with two new ends that have clocks and limits of their own
 abbrev pub KeptEndsKeepThePromise : Type 0
 KeptEndsKeepThePromise =
-    (c : Config) (first : Contents) (g t : ℕ) (k : Kept) (xs : List Deed)
+    (c : Config) (first : Contents) (g : ℕ) (t : Own) (k : Kept) (xs : List Deed)
     → IsConfig (later g c)
-    → IsConfig (later t c)
+    → IsConfig (own_config t c)
     → k.pair ≡ no_pair_later c first g t
     → CanDoAll c k xs
     → IsPromised c first (after_deeds c k xs).pair.ends

@@ -4,13 +4,13 @@
 -- What a machine did since it was last written is deleted by its reset from what was done. So what
 -- was done is a history of two ends apart, whatever was deleted of it.
 use Rattle.std.specs.Prelude.{◌≡◌, ℕ, ◌+◌, ◌<◌, ◌^◌, List, [], ◌∷◌, ⊤}
-use Rattle.lpt_apart.specs.Clocks.{CanAll, after_all, later, no_pair_later}
+use Rattle.lpt_apart.specs.Clocks.{CanAll, Own, after_all, later, no_pair_later, own_config}
 use Rattle.lpt_apart.specs.Ends.{node_at}
 use Rattle.lpt_apart.specs.Moves.{CanMove, Do, Free, Move, Pair, moved}
 use Rattle.lpt_apart.specs.Steps.{Accept, Apply, Claim, Commit, Expire, Finish, Open, Plain, Restart, Retire, Send, Tick}
 use Rattle.lpt_apart.specs.Whole.{came_since, WithholdsNothing}
 use Rattle.lpt_apart.specs.Worlds.{IsPromised}
-use Rattle.lpt_apart_kept.specs.Deeds.{Kept, end_at, read_back, written}
+use Rattle.lpt_apart_kept.specs.Deeds.{Kept, end_at, read_back, with_restart, written}
 use Rattle.lpt_events.specs.Configs.{IsConfig}
 use Rattle.lpt_events.specs.Sides.{receiver_side, sender_side}
 use Rattle.lpt_events.specs.declared.config.Config.{Config}
@@ -20,7 +20,7 @@ use Rattle.lpt_memory.specs.Memories.{Contents}
 use Rattle.lpt_node.specs.Restarts.{restarted}
 use Rattle.lpt_packet.specs.Names.{Name}
 use Rattle.lpt_packet.specs.declared.direction.Direction.{Direction}
-use Rattle.lpt_state.specs.Lastings.{IsEnd}
+use Rattle.lpt_state.specs.Lastings.{IsBoundAlike, IsEnd}
 
 -- ---- what is deleted
 
@@ -31,8 +31,8 @@ side_of (Do (Send d name k)) = sender_side d
 side_of (Do (Plain source flags service subtype body)) = Ground
 side_of (Do (Finish d name)) = sender_side d
 side_of (Do (Accept d b)) = receiver_side d
-side_of (Do (Tick side)) = side
-side_of (Do (Expire side)) = side
+side_of (Do (Tick side turn)) = side
+side_of (Do (Expire side which)) = side
 side_of (Do (Claim w)) = Craft
 side_of (Do (Commit w)) = Craft
 side_of (Do Apply) = Craft
@@ -51,12 +51,12 @@ pub record Lived : Type 0 where
   pub but_both : List Move
 
 -- a machine makes a move; it makes one that a restart of it forgets; it is written; or it is
--- reset and read back
+-- reset and read back in a configuration
 pub data Deed : Type 0 where
   Make : Move → Deed
   MakeForgotten : Move → Deed
   Write : Side → Deed
-  Reset : Side → Deed
+  Reset : Side → Config → Deed
 
 -- the machines after a move
 abbrev pub with_move : Config → Kept → Move → Kept
@@ -99,15 +99,15 @@ lived c l (Write Craft) = record l {
   but_craft = l.moves;
   but_both = l.but_ground;
 }
-lived c l (Reset Ground) = record l {
-  kept = read_back c l.kept Ground;
-  moves = Do (Restart Ground) ∷ l.but_ground;
-  but_craft = Do (Restart Ground) ∷ l.but_both;
+lived c l (Reset Ground d) = record l {
+  kept = read_back d l.kept Ground;
+  moves = with_restart d Ground l.but_ground;
+  but_craft = with_restart d Ground l.but_both;
 }
-lived c l (Reset Craft) = record l {
-  kept = read_back c l.kept Craft;
-  moves = Do (Restart Craft) ∷ l.but_craft;
-  but_ground = Do (Restart Craft) ∷ l.but_both;
+lived c l (Reset Craft d) = record l {
+  kept = read_back d l.kept Craft;
+  moves = with_restart d Craft l.but_craft;
+  but_ground = with_restart d Craft l.but_both;
 }
 
 -- ---- what may be done
@@ -140,14 +140,15 @@ CanReset c start l Craft =
     CanAll c start l.but_craft
     × (l.kept.pair.ends.tickets ≡ (after_all c start l.but_craft).ends.tickets)
 
--- a deed can be done after what is left
+-- A deed can be done after what is left. A machine is read back in a configuration that differs in
+-- limits and first clock alone.
 abbrev pub CanLive : Config → (start : Pair) → Lived → Deed → Type 0
 CanLive c start l (Make x) = CanMove c (after_all c start l.moves) x
 CanLive c start l (MakeForgotten x) =
     CanMove c (after_all c start l.moves) x
     × IsForgotten c (after_all c start (left_without l (side_of x))) x
 CanLive c start l (Write side) = IsWritable c l.kept.pair side
-CanLive c start l (Reset side) = CanReset c start l side
+CanLive c start l (Reset side d) = CanReset c start l side × IsBoundAlike c d
 
 -- after these deeds, the newest of which stands first
 abbrev pub lived_all : Config → Lived → List Deed → Lived
@@ -198,9 +199,9 @@ pub record IsLeft (c : Config) (first : Contents) (start : Pair) (l : Lived) : T
 -- once or again and again
 abbrev pub ResetEndsKeepThePromise : Type 0
 ResetEndsKeepThePromise =
-    (c : Config) (first : Contents) (g t : ℕ) (k : Kept) (xs : List Deed)
+    (c : Config) (first : Contents) (g : ℕ) (t : Own) (k : Kept) (xs : List Deed)
     → IsConfig (later g c)
-    → IsConfig (later t c)
+    → IsConfig (own_config t c)
     → k.pair ≡ no_pair_later c first g t
     → IsWritable c k.pair Ground
     → IsWritable c k.pair Craft

@@ -13,7 +13,7 @@ use Rattle.lpt_events.specs.declared.side.Side.{Side}
 use Rattle.lpt_node.specs.Jobs.{executed}
 use Rattle.lpt_node.specs.Nodes.{NodeData}
 use Rattle.lpt_node.specs.Requests.{plain_made}
-use Rattle.lpt_node.specs.Times.{expired}
+use Rattle.lpt_node.specs.Times.{expired_of, which_ends}
 use Rattle.lpt_journal.proofs.CountLemmas.{same_name-comm}
 use Rattle.lpt_model.specs.State.{as_list}
 use Rattle.lpt_model.specs.Tickets.{ticket_of}
@@ -80,10 +80,11 @@ part_before c e (Plain source flags service subtype body) p name own tagged at =
     ((plain_made c e.on_ground source flags service subtype body).1 ∷ []) tagged at
 part_before c e (Finish way i) p name own tagged at = same_there e (sender_side way) _ p at
 part_before c e (Accept way b) p name own tagged at = absurd own
-part_before c e (Tick side) p name own tagged at = same_there e side _ p at
-part_before c e (Expire side) p name own tagged at =
+part_before c e (Tick side turn) p name own tagged at = same_there e side _ p at
+part_before c e (Expire side which) p name own tagged at =
     put_before e.on_the_way p name Down
-    (as_list (expired side c (node_at e side)).1.packet) tagged at
+    (as_list (expired_of side c (node_at e side)
+    (which_ends c (node_at e side) which)).1.packet) tagged at
 part_before c e (Claim w) p name own tagged at = at
 part_before c e (Commit w) p name own tagged at = go (ticket_of e.tickets w) at where
   go : (o : Option Job) → There (committed_on c e w o).on_the_way p → There e.on_the_way p

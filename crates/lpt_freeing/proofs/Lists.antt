@@ -7,9 +7,11 @@ use Rattle.lpt_events.specs.Sides.{sender_side}
 use Rattle.lpt_events.specs.declared.config.Config.{Config}
 use Rattle.lpt_events.specs.declared.side.Side.{Side}
 use Rattle.lpt_events.specs.declared.side.Side.TheVariants.{Ground, Craft}
+use Rattle.lpt_acts.specs.Acts.{Within, limits_of}
 use Rattle.lpt_apart.specs.Clocks.{after_all}
 use Rattle.lpt_apart.specs.Moves.{CanMove, Do, Move, Pair, moved}
-use Rattle.lpt_apart.specs.Steps.{Accept, Retire, Restart, Send, Step}
+use Rattle.lpt_apart.specs.Steps.{Accept, Retire, Restart, Send, Step, Tick}
+use Rattle.lpt_apart_kept.specs.Deeds.{with_restart}
 use Rattle.lpt_apart_kept.specs.Resets.{Lived, Reset, Write, left_without, lived, made, made_forgotten, side_of}
 use Rattle.lpt_freeing.specs.Freeing.{IsOwn, part_line}
 use Rattle.lpt_freeing.specs.Lines.{Line}
@@ -244,35 +246,68 @@ module _ (c : Config) (start : Pair) where
     craft_back = t.craft;
   }
 
+  -- behind other moves the end of a side is restarted, and has other limits
+  restarts : (xs : List Move) (ls : List Line) (d : Config) (side : Side)
+      → IsSound c start xs ls
+      → IsSound c start (with_restart d side xs) ls
+  restarts xs ls d side sound =
+      sound_move c start (Do (Restart side) ∷ xs) ls (Do (Tick side (Within (limits_of d))))
+      (sound_move c start xs ls (Do (Restart side)) sound (record { can = tt; first = tt }))
+      (record { can = tt; first = tt })
+
+  -- the same end in both
+  ground_restarts : (xs ys : List Move) (d : Config)
+      → SameGround c start xs ys
+      → SameGround c start (with_restart d Ground xs) (with_restart d Ground ys)
+  ground_restarts xs ys d same =
+      ground_both c start (Do (Tick Ground (Within (limits_of d)))) (Do (Restart Ground) ∷ xs)
+      (Do (Restart Ground) ∷ ys) refl
+      (ground_both c start (Do (Restart Ground)) xs ys refl same)
+
+  craft_restarts : (xs ys : List Move) (d : Config)
+      → SameCraft c start xs ys
+      → SameCraft c start (with_restart d Craft xs) (with_restart d Craft ys)
+  craft_restarts xs ys d same =
+      craft_both c start (Do (Tick Craft (Within (limits_of d)))) (Do (Restart Craft) ∷ xs)
+      (Do (Restart Craft) ∷ ys) refl
+      (craft_both c start (Do (Restart Craft)) xs ys refl same)
+
+  -- the other end in both
+  ground_restarts_beside : (xs : List Move) (d : Config)
+      → SameGround c start (with_restart d Craft xs) xs
+  ground_restarts_beside xs d =
+      ground_beside c start (Do (Tick Craft (Within (limits_of d)))) (Do (Restart Craft) ∷ xs) xs
+      refl
+      (ground_beside c start (Do (Restart Craft)) xs xs refl (ground_itself c start xs))
+
+  craft_restarts_beside : (xs : List Move) (d : Config)
+      → SameCraft c start (with_restart d Ground xs) xs
+  craft_restarts_beside xs d =
+      craft_beside c start (Do (Tick Ground (Within (limits_of d)))) (Do (Restart Ground) ∷ xs) xs
+      refl
+      (craft_beside c start (Do (Restart Ground)) xs xs refl (craft_itself c start xs))
+
   -- once a machine is reset
-  pub resets : (l : Lived) (ls : List Line) (side : Side)
+  pub resets : (l : Lived) (ls : List Line) (side : Side) (d : Config)
       → IsTold l ls
-      → IsTold (lived c l (Reset side)) ls
-  resets l ls Ground t =
-      let x : Move = Do (Restart Ground) in
-      record {
-        all = sound_move c start l.but_ground ls x t.no_ground (record { can = tt; first = tt });
-        no_ground = t.no_ground;
-        no_craft = sound_move c start l.but_both ls x t.no_both (record { can = tt; first = tt });
-        no_both = t.no_both;
-        ground = ground_both c start x l.but_ground l.but_both refl t.ground_back;
-        ground_back = t.ground_back;
-        craft = craft_beside c start x l.but_ground l.but_ground refl
-            (craft_itself c start l.but_ground);
-        craft_back = craft_beside c start x l.but_both l.but_both refl
-            (craft_itself c start l.but_both);
-      }
-  resets l ls Craft t =
-      let x : Move = Do (Restart Craft) in
-      record {
-        all = sound_move c start l.but_craft ls x t.no_craft (record { can = tt; first = tt });
-        no_ground = sound_move c start l.but_both ls x t.no_both (record { can = tt; first = tt });
-        no_craft = t.no_craft;
-        no_both = t.no_both;
-        ground = ground_beside c start x l.but_craft l.but_craft refl
-            (ground_itself c start l.but_craft);
-        ground_back = ground_beside c start x l.but_both l.but_both refl
-            (ground_itself c start l.but_both);
-        craft = craft_both c start x l.but_craft l.but_both refl t.craft_back;
-        craft_back = t.craft_back;
-      }
+      → IsTold (lived c l (Reset side d)) ls
+  resets l ls Ground d t = record {
+    all = restarts l.but_ground ls d Ground t.no_ground;
+    no_ground = t.no_ground;
+    no_craft = restarts l.but_both ls d Ground t.no_both;
+    no_both = t.no_both;
+    ground = ground_restarts l.but_ground l.but_both d t.ground_back;
+    ground_back = t.ground_back;
+    craft = craft_restarts_beside l.but_ground d;
+    craft_back = craft_restarts_beside l.but_both d;
+  }
+  resets l ls Craft d t = record {
+    all = restarts l.but_craft ls d Craft t.no_craft;
+    no_ground = restarts l.but_both ls d Craft t.no_both;
+    no_craft = t.no_craft;
+    no_both = t.no_both;
+    ground = ground_restarts_beside l.but_craft d;
+    ground_back = ground_restarts_beside l.but_both d;
+    craft = craft_restarts l.but_craft l.but_both d t.craft_back;
+    craft_back = t.craft_back;
+  }

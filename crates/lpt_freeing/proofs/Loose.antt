@@ -17,7 +17,7 @@ use Rattle.lpt_events.specs.declared.worker.Worker.{Worker}
 use Rattle.lpt_node.specs.Accepting.{accepted}
 use Rattle.lpt_node.specs.Jobs.{executed}
 use Rattle.lpt_node.specs.Requests.{plain_made}
-use Rattle.lpt_node.specs.Times.{expired}
+use Rattle.lpt_node.specs.Times.{expired_of, which_ends}
 use Rattle.lpt_model.specs.State.{as_list}
 use Rattle.lpt_model.specs.Tickets.{ticket_of}
 use Rattle.lpt_apart.specs.Ends.{Ends, PutOut, put_out, is_part, without}
@@ -147,13 +147,17 @@ ground_ways c (Do (Accept Down b)) p q of node same =
     put_down p.ends.on_the_way (as_list (accepted Ground c p.ends.on_ground a).1.packet)
     ∙ same
     ∙ sym (put_down q.ends.on_the_way (as_list (accepted Ground c q.ends.on_ground a).1.packet))
-ground_ways c (Do (Tick Ground)) p q of node same = same
-ground_ways c (Do (Tick Craft)) p q of node same = absurd cc
-ground_ways c (Do (Expire Ground)) p q of node same =
-    put_down p.ends.on_the_way (as_list (expired Ground c p.ends.on_ground).1.packet)
+ground_ways c (Do (Tick Ground turn)) p q of node same = same
+ground_ways c (Do (Tick Craft turn)) p q of node same = absurd cc
+ground_ways c (Do (Expire Ground which)) p q of node same =
+    put_down p.ends.on_the_way
+    (as_list (expired_of Ground c p.ends.on_ground
+    (which_ends c p.ends.on_ground which)).1.packet)
     ∙ same
-    ∙ sym (put_down q.ends.on_the_way (as_list (expired Ground c q.ends.on_ground).1.packet))
-ground_ways c (Do (Expire Craft)) p q of node same = absurd cc
+    ∙ sym (put_down q.ends.on_the_way
+    (as_list (expired_of Ground c q.ends.on_ground
+    (which_ends c q.ends.on_ground which)).1.packet))
+ground_ways c (Do (Expire Craft which)) p q of node same = absurd cc
 ground_ways c (Do (Claim w)) p q of node same = absurd cc
 ground_ways c (Do (Commit w)) p q of node same = absurd cc
 ground_ways c (Do Apply) p q of node same = absurd cc
@@ -183,11 +187,13 @@ ground_left c (Do (Accept Up b)) p of =
     put_down p.ends.on_the_way
     (as_list (accepted Craft c p.ends.on_craft (arrival_in c Up b)).1.packet)
 ground_left c (Do (Accept Down b)) p of = absurd cc
-ground_left c (Do (Tick Ground)) p of = absurd cc
-ground_left c (Do (Tick Craft)) p of = refl
-ground_left c (Do (Expire Ground)) p of = absurd cc
-ground_left c (Do (Expire Craft)) p of =
-    put_down p.ends.on_the_way (as_list (expired Craft c p.ends.on_craft).1.packet)
+ground_left c (Do (Tick Ground turn)) p of = absurd cc
+ground_left c (Do (Tick Craft turn)) p of = refl
+ground_left c (Do (Expire Ground which)) p of = absurd cc
+ground_left c (Do (Expire Craft which)) p of =
+    put_down p.ends.on_the_way
+    (as_list (expired_of Craft c p.ends.on_craft
+    (which_ends c p.ends.on_craft which)).1.packet)
 ground_left c (Do (Claim w)) p of = refl
 ground_left c (Do (Commit w)) p of = go (ticket_of p.ends.tickets w) where
   go : (o : Option Job)
@@ -228,13 +234,18 @@ craft_ways c (Do (Accept Up b)) p q of node same =
     ∙ (λ i. put_out (same i) Down None (as_list (accepted Craft c ((node i).node) a).1.packet))
     ∙ sym (put_own q.ends.on_the_way (as_list (accepted Craft c q.ends.on_craft a).1.packet))
 craft_ways c (Do (Accept Down b)) p q of node same = absurd cc
-craft_ways c (Do (Tick Ground)) p q of node same = absurd cc
-craft_ways c (Do (Tick Craft)) p q of node same = same
-craft_ways c (Do (Expire Ground)) p q of node same = absurd cc
-craft_ways c (Do (Expire Craft)) p q of node same =
-    put_own p.ends.on_the_way (as_list (expired Craft c p.ends.on_craft).1.packet)
-    ∙ (λ i. put_out (same i) Down None (as_list (expired Craft c ((node i).node)).1.packet))
-    ∙ sym (put_own q.ends.on_the_way (as_list (expired Craft c q.ends.on_craft).1.packet))
+craft_ways c (Do (Tick Ground turn)) p q of node same = absurd cc
+craft_ways c (Do (Tick Craft turn)) p q of node same = same
+craft_ways c (Do (Expire Ground which)) p q of node same = absurd cc
+craft_ways c (Do (Expire Craft which)) p q of node same =
+    put_own p.ends.on_the_way
+    (as_list (expired_of Craft c p.ends.on_craft
+    (which_ends c p.ends.on_craft which)).1.packet)
+    ∙ (λ i. put_out (same i) Down None
+    (as_list (expired_of Craft c (node i).node (which_ends c (node i).node which)).1.packet))
+    ∙ sym (put_own q.ends.on_the_way
+    (as_list (expired_of Craft c q.ends.on_craft
+    (which_ends c q.ends.on_craft which)).1.packet))
 craft_ways c (Do (Claim w)) p q of node same = same
 craft_ways c (Do (Commit w)) p q of node same =
     ap (loose_in Down) (commits_nothing c p.ends (ticket_of p.ends.tickets w) w) ∙ same
@@ -269,12 +280,12 @@ craft_left c (Do (Accept Up b)) p of = absurd cc
 craft_left c (Do (Accept Down b)) p of =
     ap (λ (o : Option (List ℕ)). loose_in Down (put_out p.ends.on_the_way Down None (as_list o)))
     (none_of_delivery c p.ends.on_ground (arrival_in c Down b))
-craft_left c (Do (Tick Ground)) p of = refl
-craft_left c (Do (Tick Craft)) p of = absurd cc
-craft_left c (Do (Expire Ground)) p of =
+craft_left c (Do (Tick Ground turn)) p of = refl
+craft_left c (Do (Tick Craft turn)) p of = absurd cc
+craft_left c (Do (Expire Ground which)) p of =
     ap (λ (o : Option (List ℕ)). loose_in Down (put_out p.ends.on_the_way Down None (as_list o)))
-    (none_of_expiry c p.ends.on_ground)
-craft_left c (Do (Expire Craft)) p of = absurd cc
+    (none_of_expiry c p.ends.on_ground (which_ends c p.ends.on_ground which))
+craft_left c (Do (Expire Craft which)) p of = absurd cc
 craft_left c (Do (Claim w)) p of = absurd cc
 craft_left c (Do (Commit w)) p of = absurd cc
 craft_left c (Do Apply) p of = absurd cc

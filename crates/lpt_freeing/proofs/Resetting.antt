@@ -160,13 +160,13 @@ module _ (c : Config) (k : Kept) where
   }
   goes_on s (Keeps side) it can =
       record { can = (it.can, can); told = keeps c k.pair (after s.deeds) s.said side it.told }
-  goes_on s (Resets Ground) it can = record {
-    can = (it.can, it.told.no_ground.can);
-    told = resets c k.pair (after s.deeds) s.said Ground it.told;
+  goes_on s (Resets Ground d) it can = record {
+    can = (it.can, (it.told.no_ground.can, can.1));
+    told = resets c k.pair (after s.deeds) s.said Ground d it.told;
   }
-  goes_on s (Resets Craft) it can = record {
-    can = (it.can, (it.told.no_craft.can, can));
-    told = resets c k.pair (after s.deeds) s.said Craft it.told;
+  goes_on s (Resets Craft d) it can = record {
+    can = (it.can, ((it.told.no_craft.can, can.0), can.1));
+    told = resets c k.pair (after s.deeds) s.said Craft d it.told;
   }
 
   goes_all : (xs : List Doing)

@@ -2,6 +2,7 @@
 -- answers and says the same.
 use Rattle.std.proofs.Common.{◌≡◌, ◌∙◌, ap, sym, subst, refl, ℕ, ◌+◌, ◌<◌, ◌==◌, Bool, true, false, not, ◌&&◌, if◌then◌else◌, inr, List, ◌∷◌, length, Option, Some, None, is_some}
 use Rattle.std.specs.FinMap as maps
+use Rattle.lpt_acts.specs.Acts.{On, Back, Within}
 use Rattle.lpt_packet.specs.declared.direction.Direction.{Direction}
 use Rattle.lpt_packet.specs.declared.direction.Direction.TheVariants.{Up, Down}
 use Rattle.lpt_packet.specs.Names.{Name}
@@ -14,7 +15,7 @@ use Rattle.lpt_model.specs.Tickets.{ticket_of}
 use Rattle.lpt_node.specs.Jobs.{refusal_claim, refusal_apply}
 use Rattle.lpt_node.specs.Nodes.{NodeData}
 use Rattle.lpt_node.specs.Sending.{refusal_finish, refusal_open, refusal_send, sent}
-use Rattle.lpt_node.specs.Times.{refusal_expire, refusal_tick}
+use Rattle.lpt_node.specs.Times.{refusal_tick, refusal_end, can_set_back}
 use Rattle.lpt_apart.specs.Clocks.{after_all}
 use Rattle.lpt_apart.specs.Ends.{Ends, PutOut}
 use Rattle.lpt_apart.specs.Moves.{CanMove, Do, Free, Move, Pair}
@@ -300,14 +301,19 @@ module _ (c : Config) (start : Pair) where
   can_same (Finish Down name) xs ys steady s can =
       (can.0, ap (λ (a : Aboard). refusal_finish a.node name) (sym s.has) ∙ can.1)
   can_same (Accept d b) xs ys steady s can = absurd steady
-  can_same (Tick Ground) xs ys steady s can =
+  can_same (Tick Ground On) xs ys steady s can =
       ap (λ (n : NodeData). refusal_tick n) (sym s.node) ∙ can
-  can_same (Tick Craft) xs ys steady s can =
+  can_same (Tick Craft On) xs ys steady s can =
       ap (λ (a : Aboard). refusal_tick a.node) (sym s.has) ∙ can
-  can_same (Expire Ground) xs ys steady s can =
-      ap (λ (n : NodeData). refusal_expire c n) (sym s.node) ∙ can
-  can_same (Expire Craft) xs ys steady s can =
-      ap (λ (a : Aboard). refusal_expire c a.node) (sym s.has) ∙ can
+  can_same (Tick Ground (Back n)) xs ys steady s can =
+      ap (λ (d : NodeData). can_set_back n d) (sym s.node) ∙ can
+  can_same (Tick Craft (Back n)) xs ys steady s can =
+      ap (λ (a : Aboard). can_set_back n a.node) (sym s.has) ∙ can
+  can_same (Tick side (Within l)) xs ys steady s can = can
+  can_same (Expire Ground which) xs ys steady s can =
+      ap (λ (n : NodeData). refusal_end c n which) (sym s.node) ∙ can
+  can_same (Expire Craft which) xs ys steady s can =
+      ap (λ (a : Aboard). refusal_end c a.node which) (sym s.has) ∙ can
   can_same (Claim w) xs ys steady s can = (
     ap (λ (a : Aboard). ticket_of a.tickets w) (sym s.has) ∙ can.0,
     ap (λ (a : Aboard). refusal_claim a.node) (sym s.has) ∙ can.1,

@@ -14,7 +14,7 @@ use Rattle.lpt_events.specs.declared.side.Side.TheVariants.{Ground, Craft}
 use Rattle.lpt_node.specs.Jobs.{executed}
 use Rattle.lpt_node.specs.Nodes.{NodeData}
 use Rattle.lpt_node.specs.Accepting.{accepted}
-use Rattle.lpt_node.specs.Times.{expired}
+use Rattle.lpt_node.specs.Times.{expired_of, which_ends}
 use Rattle.lpt_model.specs.State.{as_list}
 use Rattle.lpt_model.specs.Tickets.{ticket_of}
 use Rattle.lpt_journal.proofs.CountLemmas.{same_name-comm}
@@ -121,9 +121,10 @@ there_step c e (Accept way b) p stays at =
     let a : Arrival = arrival_in c way b in
     let side : Side = receiver_side way in
     there_put e.on_the_way p Down None (as_list (accepted side c (node_at e side) a).1.packet) at
-there_step c e (Tick side) p stays at = there_same e side _ p at
-there_step c e (Expire side) p stays at =
-    there_put e.on_the_way p Down None (as_list (expired side c (node_at e side)).1.packet) at
+there_step c e (Tick side turn) p stays at = there_same e side _ p at
+there_step c e (Expire side which) p stays at =
+    there_put e.on_the_way p Down None
+    (as_list (expired_of side c (node_at e side) (which_ends c (node_at e side) which)).1.packet) at
 there_step c e (Claim w) p stays at = at
 there_step c e (Commit w) p stays at = go (ticket_of e.tickets w) where
   go : (o : Option Job) → There (committed_on c e w o).on_the_way p

@@ -8,7 +8,7 @@ use Rattle.lpt_events.specs.Configs.{IsConfig}
 use Rattle.lpt_events.specs.Sides.{sender_side}
 use Rattle.lpt_events.specs.declared.config.Config.{Config}
 use Rattle.lpt_node.specs.Sending.{sent}
-use Rattle.lpt_apart.specs.Clocks.{later, no_pair_later, after_all, CanAll}
+use Rattle.lpt_apart.specs.Clocks.{Own, later, own_config, no_pair_later, after_all, CanAll}
 use Rattle.lpt_apart.specs.Ends.{node_at}
 use Rattle.lpt_apart.specs.Moves.{CanMove, Do, Move, Pair, no_pair}
 use Rattle.lpt_apart.specs.Plays.{moves_of}
@@ -99,12 +99,12 @@ pub record FreesInOrder (c : Config) (first : Contents) (start : Pair)
   pub promised : IsPromised c first (after_all c start xs).ends
   pub whole : WithholdsNothing c (after_all c start xs).ends.log (came_since c start xs)
 
--- whatever two new ends did that free names by lines, whose clocks began so many ticks later
+-- whatever two new ends did that free names by lines, and have clocks and limits of their own
 abbrev pub LinesFreeInOrder : Type 0
 LinesFreeInOrder =
-    (c : Config) (first : Contents) (g k : ℕ) (xs : List Act)
+    (c : Config) (first : Contents) (g : ℕ) (k : Own) (xs : List Act)
     → IsConfig (later g c)
-    → IsConfig (later k c)
+    → IsConfig (own_config k c)
     → CanActAll c (no_pair_later c first g k) xs
     → FreesInOrder c first (no_pair_later c first g k)
     (with_acts c (no_pair_later c first g k) xs).moves

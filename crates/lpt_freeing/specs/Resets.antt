@@ -12,11 +12,12 @@ use Rattle.lpt_events.specs.Sides.{receiver_side, sender_side}
 use Rattle.lpt_events.specs.declared.config.Config.{Config}
 use Rattle.lpt_events.specs.declared.side.Side.{Side}
 use Rattle.lpt_events.specs.declared.side.Side.TheVariants.{Ground, Craft}
-use Rattle.lpt_apart.specs.Clocks.{later, no_pair_later, after_all}
+use Rattle.lpt_apart.specs.Clocks.{Own, later, own_config, no_pair_later, after_all}
 use Rattle.lpt_apart.specs.Moves.{CanMove, Do, Move, Pair}
 use Rattle.lpt_apart.specs.Steps.{Accept, Finish, Plain, Send, Step, is_harmless}
 use Rattle.lpt_apart_kept.specs.Deeds.{Kept}
 use Rattle.lpt_apart_kept.specs.Resets.{CanLiveAll, Deed, IsLeft, IsWritable, Lived, Make, MakeForgotten, Reset, Write, just_written, left_without, lived_all, side_of}
+use Rattle.lpt_state.specs.Lastings.{IsBoundAlike}
 use Rattle.lpt_freeing.specs.Freeing.{Act, Comes, Hears, IsOwn, Makes, Says, Sends, part_line}
 use Rattle.lpt_freeing.specs.Lines.{Finished, Freed, Line, MaySay, Packet, Part, answer}
 
@@ -36,12 +37,12 @@ machines c k ds = lived_all c (just_written c k) ds
 -- ---- what is done
 
 -- an end does as before; it makes a step that a restart forgets; its state is kept, with the turns
--- of its names; or its machine is reset
+-- of its names; or its machine is reset, and the end read back in a configuration
 pub data Doing : Type 0 where
   Does : Act → Doing
   Forgets : Step → Doing
   Keeps : Side → Doing
-  Resets : Side → Doing
+  Resets : Side → Config → Doing
 
 -- deeds with the move of an answer, or none
 abbrev pub with_deed : Option Move → List Deed → List Deed
@@ -66,7 +67,7 @@ abbrev pub gone_on : Config → Kept → Story → Doing → Story
 gone_on c k s (Does x) = done_by c k.pair (machines c k s.deeds) s x
 gone_on c k s (Forgets x) = record s { deeds = MakeForgotten (Do x) ∷ s.deeds }
 gone_on c k s (Keeps side) = record s { deeds = Write side ∷ s.deeds }
-gone_on c k s (Resets side) = record s { deeds = Reset side ∷ s.deeds }
+gone_on c k s (Resets side d) = record s { deeds = Reset side d ∷ s.deeds }
 
 -- ---- when it can be done
 
@@ -111,7 +112,8 @@ HasItsJobs c start l Craft =
     l.kept.pair.ends.tickets ≡ (after_all c start l.but_craft).ends.tickets
 
 -- What a restart forgets an end could do as it was kept, too. Its state can be kept where it can be
--- written. A machine can be reset at any time.
+-- written. A machine can be reset at any time, and its end read back in a configuration that
+-- differs in limits and first clock alone.
 abbrev pub CanGoOn : Config → Kept → Story → Doing → Type 0
 CanGoOn c k s (Does x) = CanDo c k.pair (machines c k s.deeds) s.said x
 CanGoOn c k s (Forgets x) =
@@ -119,7 +121,8 @@ CanGoOn c k s (Forgets x) =
     × CanMove c (after_all c k.pair (machines c k s.deeds).moves) (Do x)
     × CanMove c (after_all c k.pair (left_without (machines c k s.deeds) (side_of (Do x)))) (Do x)
 CanGoOn c k s (Keeps side) = IsWritable c (machines c k s.deeds).kept.pair side
-CanGoOn c k s (Resets side) = HasItsJobs c k.pair (machines c k s.deeds) side
+CanGoOn c k s (Resets side d) =
+    HasItsJobs c k.pair (machines c k s.deeds) side × IsBoundAlike c d
 
 -- the story of these doings, the newest of which stands first
 abbrev pub gone_all : Config → Kept → List Doing → Story
@@ -143,9 +146,9 @@ pub record FreesThroughResets (c : Config) (first : Contents) (k : Kept)
 -- whatever was done with two new ends that were kept, whenever their machines were reset
 abbrev pub LinesFreeThroughResets : Type 0
 LinesFreeThroughResets =
-    (c : Config) (first : Contents) (g t : ℕ) (k : Kept) (xs : List Doing)
+    (c : Config) (first : Contents) (g : ℕ) (t : Own) (k : Kept) (xs : List Doing)
     → IsConfig (later g c)
-    → IsConfig (later t c)
+    → IsConfig (own_config t c)
     → k.pair ≡ no_pair_later c first g t
     → IsWritable c k.pair Ground
     → IsWritable c k.pair Craft

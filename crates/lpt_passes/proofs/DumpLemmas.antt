@@ -14,8 +14,8 @@ use Rattle.lpt_events.specs.Configs.{IsConfig}
 use Rattle.lpt_events.specs.Sides.{receiver_side}
 use Rattle.lpt_events.specs.declared.config.Config.{Config}
 use Rattle.lpt_events.specs.declared.entry.Opening.{Opening}
-use Rattle.lpt_events.specs.declared.event.Event.{Event}
-use Rattle.lpt_events.specs.declared.event.Event.TheVariants as event
+use Rattle.lpt_acts.specs.Acts.{Act}
+use Rattle.lpt_acts.specs.Acts as act
 use Rattle.lpt_events.specs.declared.outcome.Outcome.{Outcome}
 use Rattle.lpt_events.specs.declared.outcome.Outcome.TheVariants.{Broken}
 use Rattle.lpt_events.specs.declared.side.Side.TheVariants.{Ground, Craft}
@@ -88,16 +88,16 @@ opened_dump c first xs name m to body good can opens is =
     let k : Marks = but.on_craft in
     let f = but.less.leads.follows in
     let s : State = f.state in
-    let es : List Event = f.events in
+    let es : List Act = f.events in
     let h : History = recorded c first es in
     let opened_by : Ends → Option (Name × List ℕ) =
     λ e. (node_jobs.executed c e.on_craft e.memories).0.1.opened in
     let can_whole : refusal_apply w.on_craft ≡ None =
     subst (λ (e : Ends). refusal_apply e.on_craft ≡ None) (sym but.is) can.1 in
-    let free : refusal_of c s event.Apply ≡ None =
+    let free : refusal_of c s act.Apply ≡ None =
     ap (option_map node_fault) (ap (λ (e : Ends). refusal_apply e.on_craft) f.is ∙ can_whole) in
-    let more : IsLonger c first s es event.Apply =
-    longer c first s es event.Apply good f.tied.legal f.tied.shown tt free in
+    let more : IsLonger c first s es act.Apply =
+    longer c first s es act.Apply good f.tied.legal f.tied.shown tt free in
     let o = (node_jobs.executed c s.on_craft s.memories).0.1.opened in
     let same : o ≡ Some (name, m) =
     ap opened_by f.is
@@ -105,16 +105,16 @@ opened_dump c first xs name m to body good can opens is =
     (executed_less c k w.on_craft w.memories (head_of w.on_craft.jobs.jobs)))
     ∙ ap opened_by but.is
     ∙ opens in
-    let made : add_opening (opened h) (length h) o ≡ opened (entry c first h event.Apply ∷ h) =
+    let made : add_opening (opened h) (length h) o ≡ opened (entry c first h act.Apply ∷ h) =
     ap (λ (os : List Opening). add_opening os (length h) o) (sym f.tied.shown.opened)
     ∙ more.shown.opened in
     let it =
     told_so (front_opens c first h) name m
     (opened_told (opened h) (length h) o (front_opens c first h) [] made
     ∙ ap (λ (x : Option (Name × List ℕ)). with_report [] x) same) in
-    let was : WasOpened c first (event.Apply ∷ es) m = record {
+    let was : WasOpened c first (act.Apply ∷ es) m = record {
       number = 0;
-      entry = entry c first h event.Apply;
+      entry = entry c first h act.Apply;
       is_there = refl;
       applies = refl;
       place = 0;
@@ -122,12 +122,12 @@ opened_dump c first xs name m to body good can opens is =
       opens = it.1;
       is = it.2;
     } in
-    of_journal c first (recorded c first (event.Apply ∷ es)) _ to body
+    of_journal c first (recorded c first (act.Apply ∷ es)) _ to body
     ((λ i. executed (Executed ∷ with_report ((sym (ap (λ (e : Ends). e.log) but.is)) i)
     ((opens ∙ sym same) i)))
     ∙ sym (ap executed (execution_told c first s w.log es f.tied.shown f.tied.tells more))
-    ∙ executed_told c first (event.Apply ∷ es) more.legal)
-    (opened_dump_is_memory c first (event.Apply ∷ es) m to body good more.legal was is)
+    ∙ executed_told c first (act.Apply ∷ es) more.legal)
+    (opened_dump_is_memory c first (act.Apply ∷ es) m to body good more.legal was is)
 
 -- ---- what was dumped stays so
 
@@ -247,9 +247,9 @@ new_opening c p (Do (Accept d b)) name m k e =
     name m k e in
     inl
     (released_stood p.ends.log (released_of d x.1.outcome) x.1.released name m before.0 before.1)
-new_opening c p (Do (Tick Ground)) name m k e = inl (k, e)
-new_opening c p (Do (Tick Craft)) name m k e = inl (k, e)
-new_opening c p (Do (Expire side)) name m k e =
+new_opening c p (Do (Tick Ground turn)) name m k e = inl (k, e)
+new_opening c p (Do (Tick Craft turn)) name m k e = inl (k, e)
+new_opening c p (Do (Expire side which)) name m k e =
     inl (stood _ (Opened Down name m) p.ends.log k (λ same. cc) e)
 new_opening c p (Do (Claim w)) name m k e = inl (k, e)
 new_opening c p (Do (Commit w)) name m k e =

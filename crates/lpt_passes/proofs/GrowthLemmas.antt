@@ -21,7 +21,7 @@ use Rattle.lpt_node.specs.Jobs.{Execution}
 use Rattle.lpt_node.specs.Jobs as node_jobs
 use Rattle.lpt_node.specs.Nodes.{NodeData}
 use Rattle.lpt_node.specs.Requests.{plain_made}
-use Rattle.lpt_node.specs.Times.{expired}
+use Rattle.lpt_node.specs.Times.{expired_of, which_ends}
 use Rattle.lpt_model.specs.State.{released_of}
 use Rattle.lpt_model.specs.Tickets.{ticket_of}
 use Rattle.lpt_apart.specs.Ends.{Ends, node_at}
@@ -106,10 +106,11 @@ move_grows c p (Do (Finish Down name)) = same p.ends.log
 move_grows c p (Do (Accept d b)) =
     accept_grows p.ends d
     (accepted (receiver_side d) c (node_at p.ends (receiver_side d)) (arrival_in c d b))
-move_grows c p (Do (Tick Ground)) = same p.ends.log
-move_grows c p (Do (Tick Craft)) = same p.ends.log
-move_grows c p (Do (Expire side)) =
-    expire_grows p.ends side (expired side c (node_at p.ends side))
+move_grows c p (Do (Tick Ground turn)) = same p.ends.log
+move_grows c p (Do (Tick Craft turn)) = same p.ends.log
+move_grows c p (Do (Expire side which)) =
+    expire_grows p.ends side
+    (expired_of side c (node_at p.ends side) (which_ends c (node_at p.ends side) which))
 move_grows c p (Do (Claim w)) = same p.ends.log
 move_grows c p (Do (Commit w)) = commit_grows c p.ends w (ticket_of p.ends.tickets w)
 move_grows c p (Do Apply) =

@@ -10,7 +10,7 @@ use Rattle.lpt_verify.specs.declared.report.Report.{Report as Verification}
 use Rattle.lpt_events.specs.Configs.{IsConfig}
 use Rattle.lpt_events.specs.declared.config.Config.{Config}
 use Rattle.lpt_events.specs.declared.entry.Release.{Release}
-use Rattle.lpt_events.specs.declared.event.Event.{Event}
+use Rattle.lpt_acts.specs.Acts.{Act}
 use Rattle.lpt_refinement.specs.Shows.{sent_packet}
 use Rattle.lpt_journal.specs.Jobs.{executed as was_executed, left_by}
 use Rattle.lpt_journal.specs.Journal.{History}
@@ -44,7 +44,7 @@ mapped f (x ∷ xs) (suc k) y e = mapped f xs k y e
 
 -- what is on its way down was put on the link of a world, whose journal tells the log
 record WasPut (c : Config) (first : Contents) (p : Pair) (b : List ℕ) : Type 0 where
-  events : List Event
+  events : List Act
   legal : Legal c first events
   number : ℕ
   put : slice_get (sent (recorded c first events)) number
@@ -59,7 +59,7 @@ was_put : (c : Config) (first : Contents) (xs : List Move) (b : List ℕ)
 was_put c first xs b good can way =
     let but = (apart c first xs good can).but in
     let f = but.less.leads.follows in
-    let es : List Event = f.events in
+    let es : List Act = f.events in
     let there : slice_get but.whole.on_the_way way.place ≡ Some way.packet =
     ap (λ (e : Ends). slice_get e.on_the_way way.place) but.is ∙ way.there in
     let held =

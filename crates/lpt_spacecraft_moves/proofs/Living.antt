@@ -13,7 +13,7 @@ use Rattle.lpt_node.specs.Restarts.{restarted}
 use Rattle.lpt_state.specs.Lastings.{restarted_node}
 use Rattle.lpt_state.specs.Verdicts.{reading}
 use Rattle.lpt_state.proofs.LawLemmas.{written_is_read}
-use Rattle.lpt_apart.specs.Clocks.{after_all, later, no_pair_later, CanAll}
+use Rattle.lpt_apart.specs.Clocks.{after_all, later, no_pair_later, own_config, CanAll}
 use Rattle.lpt_apart.specs.Facts.{AllDue}
 use Rattle.lpt_apart.specs.Moves.{Pair, Move, Do, Free, CanMove, moved}
 use Rattle.lpt_apart.specs.Steps.{Accept, Expire, Finish, Open, Plain, Restart, Retire, Send, Tick}
@@ -22,7 +22,7 @@ use Rattle.lpt_apart.specs.Worlds.{IsPromised}
 use Rattle.lpt_apart.proofs.Clocks.{ends_with_clocks_keep_the_promise, ends_with_clocks_withhold_nothing}
 use Rattle.lpt_spacecraft.specs.Flights.{Flight, Input, Astray, Came, Cleared, Ticked, new_flight}
 use Rattle.lpt_spacecraft.specs.Serving.{Onboard, new_end}
-use Rattle.lpt_spacecraft_moves.specs.Lives.{behind, done, done_all, joined_new, view_of, CanDo, CanDoAll, Deed, GroundAndSpacecraftKeepThePromise, IsOfGround, IsStarted, Joined, KeepsThePromise, Makes, Starts, Takes}
+use Rattle.lpt_spacecraft_moves.specs.Lives.{behind, craft_own, done, done_all, joined_new, view_of, CanDo, CanDoAll, Deed, GroundAndSpacecraftKeepThePromise, IsOfGround, IsStarted, Joined, KeepsThePromise, Makes, Starts, Takes}
 use Rattle.lpt_spacecraft_moves.specs.Moves.{after_moves, CanMakeAll, IsCraftOf, MayBring, ReleasesOctets}
 use Rattle.lpt_spacecraft_moves.proofs.InputRuns.{input-moves}
 use Rattle.lpt_spacecraft_moves.proofs.OctetLogs.{octets_on, released_octets, AreOfOctets}
@@ -44,9 +44,9 @@ ground_leaves c p s (Do (Finish Up name)) own at =
     record { node = at.node; memories = at.memories; tickets = at.tickets; idle = at.idle }
 ground_leaves c p s (Do (Accept Down b)) own at =
     record { node = at.node; memories = at.memories; tickets = at.tickets; idle = at.idle }
-ground_leaves c p s (Do (Tick Ground)) own at =
+ground_leaves c p s (Do (Tick Ground turn)) own at =
     record { node = at.node; memories = at.memories; tickets = at.tickets; idle = at.idle }
-ground_leaves c p s (Do (Expire Ground)) own at =
+ground_leaves c p s (Do (Expire Ground which)) own at =
     record { node = at.node; memories = at.memories; tickets = at.tickets; idle = at.idle }
 ground_leaves c p s (Do (Retire Up name)) own at =
     record { node = at.node; memories = at.memories; tickets = at.tickets; idle = at.idle }
@@ -143,7 +143,7 @@ led c start j (x ∷ xs) at can =
 module _ (c : Config) (first : Contents) (ticks reuse : ℕ) (good : IsConfig c)
     (good_g : IsConfig (later ticks c)) where
   abbrev start : Pair
-  start = no_pair_later c first ticks 0
+  start = no_pair_later c first ticks (craft_own c)
 
   begun : AreLed c start (joined_new c first ticks reuse)
   begun =
@@ -159,13 +159,13 @@ module _ (c : Config) (first : Contents) (ticks reuse : ℕ) (good : IsConfig c)
         };
       }
 
-  good_k : IsConfig (later 0 c)
+  good_k : IsConfig (own_config (craft_own c) c)
   good_k = subst (λ (n : ℕ). IsConfig (record c { clock = n })) (omega arith) good
 
   promised : (xs : List Move)
       → CanAll c start xs
       → IsPromised c first (after_all c start xs).ends
-  promised xs can = ends_with_clocks_keep_the_promise c first ticks 0 xs good_g good_k can
+  promised xs can = ends_with_clocks_keep_the_promise c first ticks (craft_own c) xs good_g good_k can
 
   -- what the spacecraft releases of what may come is octets
   octets : (xs : List Move) (f : Flight) (x : Input)
@@ -192,7 +192,8 @@ module _ (c : Config) (first : Contents) (ticks reuse : ℕ) (good : IsConfig c)
         promised = subst (λ (p : Pair). IsPromised c first p.ends) (sym led.at) all;
         whole = subst (λ (p : Pair). WithholdsNothing c p.ends.log (came_since c start j.moves))
             (sym led.at)
-            (ends_with_clocks_withhold_nothing c first ticks 0 j.moves good_g good_k led.can);
+            (ends_with_clocks_withhold_nothing c first ticks (craft_own c) j.moves good_g good_k
+            led.can);
         goes_on = λ x may.
             input-moves c j.pair j.flight x good led.craft may
             (octets j.moves j.flight x led.can
@@ -203,5 +204,5 @@ module _ (c : Config) (first : Contents) (ticks reuse : ℕ) (good : IsConfig c)
 pub ground_and_spacecraft_keep_the_promise : GroundAndSpacecraftKeepThePromise
 ground_and_spacecraft_keep_the_promise c first ticks reuse xs good good_g can =
     keeps c first ticks reuse good good_g (done_all c (joined_new c first ticks reuse) xs)
-    (led c (no_pair_later c first ticks 0) (joined_new c first ticks reuse) xs
+    (led c (no_pair_later c first ticks (craft_own c)) (joined_new c first ticks reuse) xs
     (begun c first ticks reuse good good_g) can)

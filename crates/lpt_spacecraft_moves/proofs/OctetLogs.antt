@@ -176,9 +176,9 @@ octets_on c p (Do (Accept Down b)) can all =
     abortion_octets Down x.1.outcome
     (with_release p.ends.log (released_of Down x.1.outcome) x.1.released)
     (release_octets p.ends.log (released_of Down x.1.outcome) x.1.released all)
-octets_on c p (Do (Tick Ground)) can all = all
-octets_on c p (Do (Tick Craft)) can all = all
-octets_on c p (Do (Expire side)) can all = (all, tt)
+octets_on c p (Do (Tick Ground turn)) can all = all
+octets_on c p (Do (Tick Craft turn)) can all = all
+octets_on c p (Do (Expire side which)) can all = (all, tt)
 octets_on c p (Do (Claim w)) can all = all
 octets_on c p (Do (Commit w)) can all = go (ticket_of p.ends.tickets w) where
   go : (o : Option Job) → AreOfOctets (committed_on c p.ends w o).log

@@ -147,7 +147,7 @@ opened_at c d ms r x octets sizes e =
     (answer_fits r.apid ms r.message octets) in
     let made = made_reports c peer d.sending d.clock rs
     (message_sendable r.apid r.message end
-    (ending_fits c.part_size (is_some free) (nat_lt (maps.len d.sending.messages) c.outgoing)
+    (ending_fits c.part_size (is_some free) (nat_lt (maps.len d.sending.messages) d.outgoing)
     (answer (meant r) ms) fits)) in
     let is = opened_is free (large_packets c.part_size xs) x e in
     let long = large_fits c.part_size xs x.1 is.1.0 made is.1.1 in

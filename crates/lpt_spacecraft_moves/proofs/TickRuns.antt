@@ -1,6 +1,7 @@
 -- A tick, and the receptions that are given up then.
 use Rattle.std.proofs.Common.{◌≡◌, ◌∙◌, ap, refl, ℕ, zero, suc, [], ◌∷◌, ◌++◌, Option, Some, None}
 use Rattle.std.specs.Prelude.{reverse, option_to_list}
+use Rattle.lpt_acts.specs.Acts.{On}
 use Rattle.lpt_packet.specs.declared.direction.Direction.TheVariants.{Down}
 use Rattle.lpt_packet.specs.Names.{Name}
 use Rattle.lpt_events.specs.declared.config.Config.{Config}
@@ -35,7 +36,7 @@ expire_run c p s (Some name) node memories tickets is =
     let same : expired Craft c p.ends.on_craft ≡ made_of c s.node (Some name) =
     ap (expired Craft c) node ∙ ap (made_of c s.node) is in
     record {
-      moves = Do (Expire Craft) ∷ [];
+      moves = Do (Expire Craft None) ∷ [];
       own = (tt, tt);
       can = (ap (refusal_expire c) node ∙ ap refusal_expire_of is, tt);
       node = ap (λ (x : NodeData × Expired). x.0) same;
@@ -86,7 +87,7 @@ tick_run : (c : Config) (p : Pair) (s : Onboard) (o : Option NodeFault)
     → refusal_tick s.node ≡ o
     → Reaches c p (record { node = ticked_by s.node o; memories = s.memories }) []
 tick_run c p s None node memories tickets is = record {
-  moves = Do (Tick Craft) ∷ [];
+  moves = Do (Tick Craft On) ∷ [];
   own = (tt, tt);
   can = (ap refusal_tick node ∙ is, tt);
   node = ap ticked node;

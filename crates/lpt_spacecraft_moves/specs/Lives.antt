@@ -9,7 +9,8 @@ use Rattle.lpt_node.specs.Nodes.{NodeView}
 use Rattle.lpt_state.specs.Lastings.{IsEnd}
 use Rattle.lpt_state.specs.Spellings.{spelled}
 use Rattle.lpt_state.specs.Verdicts.{reading}
-use Rattle.lpt_apart.specs.Clocks.{later, no_pair_later}
+use Rattle.lpt_acts.specs.Acts.{limits_of}
+use Rattle.lpt_apart.specs.Clocks.{Own, later, no_pair_later}
 use Rattle.lpt_apart.specs.Moves.{Pair, Move, Do, Free, CanMove, moved}
 use Rattle.lpt_apart.specs.Steps.{Accept, Expire, Finish, Open, Plain, Restart, Retire, Send, Tick}
 use Rattle.lpt_apart.specs.Whole.{came_since, WithholdsNothing}
@@ -32,8 +33,8 @@ IsOfGround (Do (Send Up name k)) = ⊤
 IsOfGround (Do (Plain source flags service subtype body)) = ⊤
 IsOfGround (Do (Finish Up name)) = ⊤
 IsOfGround (Do (Accept Down b)) = ⊤
-IsOfGround (Do (Tick Ground)) = ⊤
-IsOfGround (Do (Expire Ground)) = ⊤
+IsOfGround (Do (Tick Ground turn)) = ⊤
+IsOfGround (Do (Expire Ground which)) = ⊤
 IsOfGround (Do (Retire Up name)) = ⊤
 IsOfGround (Do (Restart Ground)) = ⊤
 IsOfGround (Free Down name) = ⊤
@@ -60,8 +61,8 @@ view_of c s = record { side = Craft; config = c; at = s.node }
 -- What was kept of an end last is this state, with its memories; the other was made of that, and of
 -- the memories that were kept. A number is left for a start.
 --
--- Assumed: `lpt spacecraft` is started again with what it kept last, and its memories were named in
--- the order of their identifiers.
+-- Assumed: `lpt spacecraft` is started again with what it kept last and within the same limits, and
+-- its memories were named in the order of their identifiers.
 pub record IsStarted (c : Config) (s t : Onboard) : Type 0 where
   pub state : List ℕ
   pub kept : state ≡ spelled (view_of c s)
@@ -108,12 +109,17 @@ CanDoAll c j (x ∷ xs) = CanDoAll c j xs × CanDo c (done_all c j xs) x
 
 -- ---- the law
 
+-- what the spacecraft has of its own: the clock and the limits of the configuration
+abbrev pub craft_own : Config → Own
+craft_own c = record { ticks = 0; limits = limits_of c }
+
 -- two new ends, of which ground's clock began so many ticks later
 --
--- Assumed: Ground's clock begins at no smaller number than the spacecraft's.
+-- Assumed: Ground's clock begins at no smaller number than the spacecraft's, as with one `clock` in
+-- both configurations.
 abbrev pub joined_new : Config → Contents → (ticks reuse : ℕ) → Joined
 joined_new c first ticks reuse = record {
-  pair = no_pair_later c first ticks 0;
+  pair = no_pair_later c first ticks (craft_own c);
   flight = new_flight reuse (new_end c first);
   moves = [];
 }

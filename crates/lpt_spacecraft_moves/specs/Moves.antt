@@ -73,8 +73,8 @@ abbrev pub IsOfCraft : Move → Type 0
 IsOfCraft (Do (Send Down name k)) = ⊤
 IsOfCraft (Do (Finish Down name)) = ⊤
 IsOfCraft (Do (Accept Up b)) = ⊤
-IsOfCraft (Do (Tick Craft)) = ⊤
-IsOfCraft (Do (Expire Craft)) = ⊤
+IsOfCraft (Do (Tick Craft turn)) = ⊤
+IsOfCraft (Do (Expire Craft which)) = ⊤
 IsOfCraft (Do (Claim w)) = ⊤
 IsOfCraft (Do (Commit w)) = ⊤
 IsOfCraft (Do Apply) = ⊤
