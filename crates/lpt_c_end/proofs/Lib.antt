@@ -6,3 +6,4 @@ pub mod InOrder
 pub mod MemoryLemmas
 mod NextLemmas
 pub mod ReadyLemmas
+pub mod RefusingLemmas

@@ -8,6 +8,7 @@ use Rattle.lpt_events.specs.declared.config.Config.{Config}
 use Rattle.lpt_events.specs.declared.side.Side.{Side}
 use Rattle.lpt_events.specs.Lanes.{same_direction}
 use Rattle.lpt_execution.specs.declared.ending.Ending.{Ending}
+use Rattle.lpt_execution.specs.declared.ending.Ending.TheVariants.{Refused}
 use Rattle.lpt_jobs.specs.declared.job.Job.{Job}
 use Rattle.lpt_jobs.specs.declared.job.Job.TheVariants.{Waiting, Claimed, Committed}
 use Rattle.lpt_jobs.specs.Jobs.{head_of, Head, NoJob, NotReady, Ready, after_commit, claimed_in, unclaimed, without_front}
@@ -15,6 +16,7 @@ use Rattle.lpt_memory.specs.Meanings.{Sizes}
 use Rattle.lpt_memory.specs.Ranges.{MeaningFits}
 use Rattle.lpt_memory.specs.Memories.{Contents, sizes_of, effect}
 use Rattle.lpt_packet.specs.declared.direction.Direction.{Direction}
+use Rattle.lpt_pus.specs.declared.failure_code.FailureCode.{FailureCode}
 use Rattle.lpt_node.specs.declared.accepted.Accepted.{Accepted}
 use Rattle.lpt_node.specs.declared.expired.Expired.{Expired}
 use Rattle.lpt_node.specs.Accepting.{accepted}
@@ -23,12 +25,12 @@ use Rattle.lpt_node.proofs.JobLemmas.{jobs_accepted}
 use Rattle.lpt_memory.proofs.MeaningLemmas.{meaning-fits}
 use Rattle.lpt_memory.proofs.PutLemmas.{sizes_of-effect}
 use Rattle.lpt_memory.specs.Readings.{Source, meant, Job as Ticket}
-use Rattle.lpt_node.specs.Jobs.{FrontIsFor, IsReadFor, Execution, claimed, claimed_of, committed, ending_given, executed, executed_given, executed_of, executed_so, with_opened}
+use Rattle.lpt_node.specs.Jobs.{FrontIsFor, IsReadFor, Execution, claimed, claimed_of, committed, ending_given, executed, executed_given, executed_of, executed_so, refused_front, with_opened}
 use Rattle.lpt_node.specs.Nodes.{NodeData, NodeView, direction_from, message_at}
 use Rattle.lpt_node.specs.Receiving.{with_report}
 use Rattle.lpt_node.specs.Requests.{plain_made}
 use Rattle.lpt_node.specs.Sending.{opened, sent, sent_of, closed}
-use Rattle.lpt_node.specs.Times.{ticked, expired, expired_of, due}
+use Rattle.lpt_node.specs.Times.{clock_back, ticked, expired, expired_of, due, given_up}
 use Rattle.lpt_c_end.specs.Changes.{ticked_by}
 use Rattle.lpt_c_end.specs.Ready.{IsReading, IsReady}
 
@@ -149,6 +151,14 @@ pub ready_ticked_by : (n new : NodeView) (own : Option Sizes) (ticks : ℕ)
 ready_ticked_by n new own ticks config at is = becomes n new own _ config at
     (λ apid sizes all. all) is
 
+pub ready_rebased : (n new : NodeView) (own : Option Sizes) (ticks : ℕ)
+    → new.config ≡ n.config
+    → new.at ≡ clock_back ticks n.at
+    → IsReady n own
+    → IsReady new own
+ready_rebased n new own ticks config at is = becomes n new own _ config at
+    (λ apid sizes all. all) is
+
 pub ready_opened : {A B : Type 0} (r : Result A B) (n new : NodeView) (own : Option Sizes)
     (name : Name) (m : List ℕ)
     → new.config ≡ n.config
@@ -226,6 +236,16 @@ pub ready_expired : (n new : NodeView) (own : Option Sizes) (side : Side) (c : C
 ready_expired n new own side c r config is_so is =
     becomes n new own _ config (ap (λ (x : NodeData × Expired). x.0) is_so)
     (keeps_expired side c n.at (due c n.at)) is
+
+pub ready_given_up : (n new : NodeView) (own : Option Sizes) (side : Side) (c : Config)
+    (r : Expired) (name : Name)
+    → new.config ≡ n.config
+    → (new.at, r) ≡ given_up side c n.at name
+    → IsReady n own
+    → IsReady new own
+ready_given_up n new own side c r name config is_so is =
+    becomes n new own _ config (ap (λ (x : NodeData × Expired). x.0) is_so)
+    (keeps_expired side c n.at (Some name)) is
 
 -- ---- jobs that are read and executed
 
@@ -352,3 +372,13 @@ pub ready_given : (n new : NodeView) (own : Option Sizes) (octets : List ℕ) (x
 ready_given n new own octets x config is_so is =
     becomes n new own _ config (ap (λ (y : NodeData × Execution). y.0) is_so)
     (given_keeps n.config n.at (ending_given n.config n.at octets) (head_of n.at.jobs.jobs)) is
+
+-- what stands first is refused
+pub ready_refused : (n new : NodeView) (own : Option Sizes) (code : FailureCode) (x : Execution)
+    → new.config ≡ n.config
+    → (new.at, x) ≡ refused_front n.config n.at code
+    → IsReady n own
+    → IsReady new own
+ready_refused n new own code x config is_so is =
+    becomes n new own _ config (ap (λ (y : NodeData × Execution). y.0) is_so)
+    (given_keeps n.config n.at (λ r. Refused code) (head_of n.at.jobs.jobs)) is

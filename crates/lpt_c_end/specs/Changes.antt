@@ -14,7 +14,7 @@ use Rattle.lpt_node.specs.Jobs.{Execution, claimed, committed, executed, not_exe
 use Rattle.lpt_node.specs.Nodes.{NodeData, NodeView, new_node}
 use Rattle.lpt_node.specs.Requests.{plain_made}
 use Rattle.lpt_node.specs.Sending.{opened, sent, closed}
-use Rattle.lpt_node.specs.Times.{ticked, expired}
+use Rattle.lpt_node.specs.Times.{ticked, expired, clock_back, given_up}
 use Rattle.lpt_c_end.specs.Contents.{memories_of}
 use Rattle.lpt_c_end.specs.Words.{direction_from}
 use Rattle.lpt_c_end.specs.Kept.{sizes_in}
@@ -91,6 +91,15 @@ expiry e = expired e.side e.config e.node.at
 abbrev pub IsExpired : End → End → Type 0
 IsExpired e = Makes (expiry e).0 (option_to_list (expiry e).1.packet) e
 
+-- what the node does where the reception of a name is given up before its time
+abbrev pub giving_up : Name → End → NodeData × Expired
+giving_up name e = given_up e.side e.config e.node.at name
+
+-- the reception of a name was given up, and a report of it is to be sent
+abbrev pub IsGivenUp : Name → End → End → Type 0
+IsGivenUp name e =
+    Makes (giving_up name e).0 (option_to_list (giving_up name e).1.packet) e
+
 -- ---- sending
 
 -- a message was taken to be sent
@@ -127,6 +136,10 @@ pub record IsLetGo (e new : End) : Type 0 where
   pub fixed : IsFixed e new
 
 -- ---- the clock, names, and a restart
+
+-- the clock is as many ticks back, and each tick of the past with it
+abbrev pub IsRebased : (ticks : ℕ) → End → End → Type 0
+IsRebased ticks e = Becomes (clock_back ticks e.node.at) e
 
 -- the clock is one tick on
 abbrev pub IsTicked : End → End → Type 0

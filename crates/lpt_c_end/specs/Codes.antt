@@ -55,6 +55,10 @@ config_code (Some fault) = Some (configured.code_of fault)
 abbrev pub range : ℕ
 range = 102
 
+-- the clock, or a tick at which a reception last took a part, would go below 0
+abbrev pub clock_start : ℕ
+clock_start = 125
+
 -- the buffer is too short
 abbrev pub room : ℕ
 room = 103

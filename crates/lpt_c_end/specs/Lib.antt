@@ -16,6 +16,7 @@ pub mod Keeping
 pub mod Kept
 pub mod Ready
 pub mod Refusals
+pub mod Refusing
 pub mod Sizes
 pub mod Views
 pub mod Walks

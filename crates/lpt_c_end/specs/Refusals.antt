@@ -10,9 +10,9 @@ use Rattle.lpt_packet.specs.Names.{Name}
 use Rattle.lpt_node.specs.Restarts.{may_retire}
 use Rattle.lpt_node.specs.Requests.{refusal_plain}
 use Rattle.lpt_node.specs.Sending.{refusal_open, refusal_send, refusal_finish}
-use Rattle.lpt_node.specs.Times.{refusal_tick, refusal_expire}
+use Rattle.lpt_node.specs.Times.{can_set_back, refusal_tick, refusal_expire, refusal_give_up}
 use Rattle.lpt_node.specs.Jobs.{refusal_claim, refusal_apply}
-use Rattle.lpt_c_end.specs.Codes.{node_code, clock_end, config_code, still_open, bad_memories, range, empty, no_number, nothing, unsent}
+use Rattle.lpt_c_end.specs.Codes.{node_code, clock_end, clock_start, config_code, still_open, bad_memories, range, empty, no_number, nothing, unsent}
 use Rattle.lpt_c_end.specs.Contents.{can_be}
 use Rattle.lpt_c_end.specs.Kept.{here_refusal, memories_refusal}
 use Rattle.lpt_c_end.specs.Words.{side_from, direction_from, config_from}
@@ -62,6 +62,14 @@ tick_refusal e = node_code (refusal_tick e.node.at)
 abbrev pub ticks_refusal : (ticks : ℕ) → End → Option ℕ
 ticks_refusal ticks e =
     if nat_lt greatest_clock (e.node.at.clock + ticks) then Some clock_end else None
+
+-- it isn't set so many ticks back
+abbrev pub rebase_refusal : (ticks : ℕ) → End → Option ℕ
+rebase_refusal ticks e = if can_set_back ticks e.node.at then None else Some clock_start
+
+-- the reception of a name isn't given up
+abbrev pub give_up_refusal : Name → End → Option ℕ
+give_up_refusal name e = node_code (refusal_give_up e.node.at name)
 
 -- no reception is given up
 abbrev pub expire_refusal : End → Option ℕ

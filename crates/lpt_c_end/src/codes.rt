@@ -68,3 +68,6 @@ pub(crate) const ELSEWHERE: u32 = 119;
 
 // Fewer octets than a request reads, or more.
 pub(crate) const READ_LENGTH: u32 = 120;
+
+// The clock, or a tick at which a reception last took a part, would go below 0.
+pub(crate) const CLOCK_START: u32 = 125;

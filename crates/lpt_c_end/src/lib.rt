@@ -13,9 +13,9 @@
 //! value, which is passed as a pointer is. A handle is empty only while a call has its end, so no
 //! call of C answers 106.
 //!
-//! `LptAddress` owns the handle behind its address, and `LptHeld` the end. Their functions that move
-//! ownership, and those of `BoxFields`, seven in all, are proved by hand, and all else is plain code
-//! above `take` and `put`.
+//! `LptAddress` owns the handle behind its address, and `LptHeld` the end. Their functions that
+//! move ownership, and those of `BoxFields`, seven in all, are proved by hand, and all else is
+//! plain code above `take` and `put`.
 #![tactic(auto)]
 
 mod accessing;
@@ -37,6 +37,7 @@ mod memories;
 mod order;
 mod outbox;
 mod receiving;
+mod refusing;
 mod requesting;
 mod sending;
 mod sizing;
@@ -57,11 +58,14 @@ pub use handle::{LptEnd, LptHeld};
 pub use keeping::{lpt_end_resume, lpt_end_state};
 pub use making::{lpt_end_free, lpt_end_new};
 pub use memories::LptMemory;
-pub use receiving::{lpt_end_expire, lpt_end_packet, lpt_end_released};
+pub use receiving::{lpt_end_expire, lpt_end_give_up, lpt_end_packet, lpt_end_released};
+pub use refusing::lpt_end_refuse;
 pub use requesting::lpt_end_plain;
 pub use sending::{lpt_end_finish, lpt_end_open, lpt_end_outgoing, lpt_end_part, lpt_end_sent};
 pub use sizing::{LptSize, lpt_end_new_sized, lpt_end_resume_sized};
-pub use upkeep::{lpt_end_name, lpt_end_restart, lpt_end_retire, lpt_end_tick, lpt_end_tick_many};
+pub use upkeep::{
+    lpt_end_name, lpt_end_rebase, lpt_end_restart, lpt_end_retire, lpt_end_tick, lpt_end_tick_many,
+};
 pub use viewing::{LptView, lpt_end_view};
 pub use walking::{LptReception, LptSender, lpt_end_missing, lpt_end_reception, lpt_end_sender};
 pub use words::{LptApplied, LptConfig, LptName, LptOutcome};

@@ -3,20 +3,21 @@
 ghost use Rattle.std.specs.Prelude.{◌≡◌, ◌+◌, ◌<◌, ◌^◌, IfOk, OnOk, OnErr};
 ghost use Rattle.lpt_jobs.specs.Jobs.{numbered};
 ghost use Rattle.lpt_c_end.specs.Calls.{IfBoth, IfHeld, IsTold, released_of};
-ghost use Rattle.lpt_c_end.specs.Changes.{IsDelivered, IsExpired, IsSame, delivery, expiry};
+ghost use Rattle.lpt_c_end.specs.Changes.{IsDelivered, IsExpired, IsGivenUp, IsSame, delivery, expiry};
 ghost use Rattle.lpt_c_end.specs.Codes.{IsAnswer};
 ghost use Rattle.lpt_c_end.specs.Copies.{code_for, left_by, needed_by};
-ghost use Rattle.lpt_c_end.specs.Refusals.{expire_refusal, packet_refusal, refusal_by};
-ghost use Rattle.lpt_c_end.specs.Words.{name_word};
+ghost use Rattle.lpt_c_end.specs.Refusals.{expire_refusal, give_up_refusal, packet_refusal, refusal_by};
+ghost use Rattle.lpt_c_end.specs.Words.{name_from, name_word};
 
-use crate::codes::{DONE, EMPTY, MEMORY, NO_NUMBER, NOTHING};
+use crate::codes::{DONE, EMPTY, MEMORY, NO_NUMBER, NOT_OPEN, NOTHING};
 use crate::copying::copy_out;
 use crate::end::End;
 use crate::handle::{LptEnd, put, take};
 use crate::outbox::put_last;
-use crate::words::{LptName, LptOutcome, name_word_of, words_of};
+use crate::words::{LptName, LptOutcome, name_of, name_word_of, words_of};
 use lpt_events::Outcome;
 use lpt_node::{Accepted, Ask, Expired};
+use lpt_packet::Name;
 use std::alloc::{AllocError, Global};
 
 /// Takes the octets of a packet that was delivered to this end, and says what became of them.
@@ -80,6 +81,25 @@ pub fn lpt_end_expire(alloc: Global, end: &mut LptEnd, name: &mut LptName) -> u3
         return EMPTY;
     };
     let code = held.expire(name);
+    put(end, held);
+    code
+}
+
+/// Gives the open reception of a name up before its time, as `lpt_end_expire` does one that is due;
+/// at the spacecraft a report of it is to be sent.
+///
+/// 0; 106 if the handle is empty; 45 if no reception of the name is open; 58 when out of memory.
+/// Then nothing has changed.
+pub fn lpt_end_give_up(alloc: Global, end: &mut LptEnd, name: &LptName) -> u32
+    ensures code { IsAnswer (refusal_by (give_up_refusal (name_from name.now)) end.old.held.value) result }
+    ensures done { result ≡ 0
+        → IfBoth (IsGivenUp (name_from name.now)) end.old.held.value end.new.held.value }
+    ensures refused { ¬ (result ≡ 0) → IfBoth IsSame end.old.held.value end.new.held.value }
+{
+    let Some(mut held) = take(alloc, end) else {
+        return EMPTY;
+    };
+    let code = held.give_up(name_of(name));
     put(end, held);
     code
 }
@@ -148,6 +168,27 @@ impl End {
                 } = expired;
                 put_last(&mut self.outbox, packet);
                 *name = name_word_of(ended);
+                DONE
+            }
+            Err(_) => MEMORY,
+        }
+    }
+
+    // Gives the open reception of a name up before its time.
+    fn give_up(&mut self, name: Name) -> u32
+        ensures code { IsAnswer (give_up_refusal name self.old) result }
+        ensures done { result ≡ 0 → IsGivenUp name self.old self.new }
+        ensures refused { ¬ (result ≡ 0) → IsSame self.old self.new }
+    {
+        if !self.node.is_open_reception(name) {
+            return NOT_OPEN;
+        }
+        if self.make_place().is_err() {
+            return MEMORY;
+        }
+        match self.node.give_up(name) {
+            Ok(Expired { packet, .. }) => {
+                put_last(&mut self.outbox, packet);
                 DONE
             }
             Err(_) => MEMORY,

@@ -3,12 +3,12 @@
 ghost use Rattle.std.specs.Prelude.{◌≡◌, ◌+◌, ◌<◌, ◌^◌};
 ghost use Rattle.lpt_node.specs.Restarts.{may_retire};
 ghost use Rattle.lpt_c_end.specs.Calls.{IfBoth, state_of, state_told};
-ghost use Rattle.lpt_c_end.specs.Changes.{IsRestarted, IsRetired, IsSame, IsTicked, IsTickedBy, ticked_by};
+ghost use Rattle.lpt_c_end.specs.Changes.{IsRebased, IsRestarted, IsRetired, IsSame, IsTicked, IsTickedBy, ticked_by};
 ghost use Rattle.lpt_c_end.specs.Codes.{answer};
-ghost use Rattle.lpt_c_end.specs.Refusals.{name_refusal, refusal_by, restart_refusal, retire_refusal, tick_refusal, ticks_refusal};
+ghost use Rattle.lpt_c_end.specs.Refusals.{name_refusal, rebase_refusal, refusal_by, restart_refusal, retire_refusal, tick_refusal, ticks_refusal};
 ghost use Rattle.lpt_c_end.specs.Words.{name_from, state_word};
 
-use crate::codes::{CLOCK_END, DONE, EMPTY, NO_NUMBER, RANGE, STILL_OPEN};
+use crate::codes::{CLOCK_END, CLOCK_START, DONE, EMPTY, NO_NUMBER, RANGE, STILL_OPEN};
 use crate::end::End;
 use crate::handle::{LptEnd, put, take};
 use crate::words::{LptName, direction_of, name_of};
@@ -52,12 +52,31 @@ pub fn lpt_end_tick_many(alloc: Global, end: &mut LptEnd, ticks: u32) -> u32
     code
 }
 
+/// Sets the clock back by as many ticks, and with it the tick from which on each reception is due:
+/// how long it is until then stays the same, and so does all else. So a clock doesn't come to its
+/// end.
+///
+/// 0; 106 if the handle is empty; 125 if the clock is below that, or an open reception last took a
+/// part at a tick below that: nothing has changed then.
+pub fn lpt_end_rebase(alloc: Global, end: &mut LptEnd, ticks: u32) -> u32
+    ensures code { result ≡ answer (refusal_by (rebase_refusal ticks) end.old.held.value) }
+    ensures done { result ≡ 0 → IfBoth (IsRebased ticks) end.old.held.value end.new.held.value }
+    ensures refused { ¬ (result ≡ 0) → IfBoth IsSame end.old.held.value end.new.held.value }
+{
+    let Some(mut held) = take(alloc, end) else {
+        return EMPTY;
+    };
+    let code = held.rebase(ticks);
+    put(end, held);
+    code
+}
+
 /// Makes the name of a transaction free at this end, so that it can be used again: up if
 /// `direction` is 0, down if it is 1. A name that is free stays so.
 ///
-/// 0; 106 if the handle is empty; 102 if the direction is above 1; 55 if the end sends in
-/// this direction and a message of this name is open, or receives in it and a reception of this name
-/// is: nothing has changed then.
+/// 0; 106 if the handle is empty; 102 if the direction is above 1; 55 if the end sends in this
+/// direction and a message of this name is open, or receives in it and a reception of this name is:
+/// nothing has changed then.
 pub fn lpt_end_retire(alloc: Global, end: &mut LptEnd, direction: u32, name: &LptName) -> u32
     ensures code { result ≡ answer (refusal_by (retire_refusal direction (name_from name.now)) end.old.held.value) }
     ensures done { result ≡ 0
@@ -104,8 +123,8 @@ pub fn lpt_end_name(
 }
 
 /// Restarts the end: its open messages are closed and let go, its open receptions and its jobs
-/// dropped, and it counts from 0 again. It knows the names and the clock as before. What was released
-/// last, and the packets that are to be sent, stay.
+/// dropped, and it counts from 0 again. It knows the names and the clock as before. What was
+/// released last, and the packets that are to be sent, stay.
 ///
 /// 0; 106 if the handle is empty; 108 if no number is left for a start: nothing has changed
 /// then.
@@ -145,6 +164,20 @@ impl End {
             return CLOCK_END;
         }
         set_on(&mut self.node, ticks);
+        DONE
+    }
+
+    // Sets the clock as many ticks back.
+    #[tactic(auto, using(crate::proofs::ReadyLemmas::ready_rebased))]
+    fn rebase(&mut self, ticks: u32) -> u32
+        ensures code { result ≡ answer (rebase_refusal ticks self.old) }
+        ensures done { result ≡ 0 → IsRebased ticks self.old self.new }
+        ensures refused { ¬ (result ≡ 0) → IsSame self.old self.new }
+    {
+        if !self.node.can_set_back(ticks) {
+            return CLOCK_START;
+        }
+        self.node.set_back(ticks);
         DONE
     }
 

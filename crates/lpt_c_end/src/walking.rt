@@ -127,7 +127,7 @@ impl End {
         ensures { MatchOption result (reception_name number self.now ≡ None)
             (λ r. IsReceptionTold number r self.now) }
     {
-        let table = self.node.receptions();
+        let (_config, table) = (self.node.config(), self.node.receptions());
         let name = open_name(table, number)?;
         let Some(filling) = table.reception(name) else {
             unreachable!()
