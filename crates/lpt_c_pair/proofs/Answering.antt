@@ -1,8 +1,9 @@
 -- No refusal has the number 0.
-use Rattle.std.proofs.Common.{◌≡◌, ap, sym, refl, ℕ, ◌+◌, nat_lt, ◌==◌, Bool, true, false, if◌then◌else◌, List, length, Option, Some, None, arith}
+use Rattle.std.proofs.Common.{◌≡◌, ap, sym, refl, ℕ, ◌+◌, nat_lt, nat_le, ◌==◌, ◌&&◌, Bool, true, false, if◌then◌else◌, List, length, Option, Some, None, arith}
 use Rattle.lpt_c_end.specs.Accesses.{first_read, given_refusal, length_refusal, unready}
-use Rattle.lpt_c_end.specs.Codes.{node_code, clock_end, IsAnswer, answer, range, nothing}
-use Rattle.lpt_c_end.specs.Refusals.{open_refusal, part_refusal, plain_refusal, finish_refusal, sent_refusal, expire_refusal, tick_refusal, ticks_refusal, read_refusal, execute_refusal, ground_refusal, sending_refusal}
+use Rattle.lpt_c_end.specs.Codes.{node_code, clock_end, clock_start, IsAnswer, answer, range, nothing}
+use Rattle.lpt_c_end.specs.Refusals.{open_refusal, part_refusal, plain_refusal, finish_refusal, sent_refusal, expire_refusal, give_up_refusal, tick_refusal, ticks_refusal, rebase_refusal, read_refusal, execute_refusal, ground_refusal, sending_refusal}
+use Rattle.lpt_c_end.specs.Refusing.{refuse_refusal}
 use Rattle.lpt_c_end.specs.Kept.{elsewhere_refusal, here_refusal, memories_refusal}
 use Rattle.lpt_c_end.specs.declared.kept.Kept.{Kept}
 use Rattle.lpt_c_end.specs.declared.kept.Kept.TheVariants.{Nowhere, Here, Elsewhere}
@@ -17,7 +18,7 @@ use Rattle.lpt_node.specs.Faults.{node_fault}
 use Rattle.lpt_node.specs.Jobs.{refusal_claim, refusal_apply}
 use Rattle.lpt_node.specs.Requests.{refusal_plain}
 use Rattle.lpt_node.specs.Sending.{refusal_open, refusal_send, refusal_finish}
-use Rattle.lpt_node.specs.Times.{refusal_tick, refusal_expire}
+use Rattle.lpt_node.specs.Times.{can_set_back, refusal_tick, refusal_expire, refusal_give_up}
 use Rattle.lpt_node.specs.declared.fault.NodeFault.{NodeFault}
 use Rattle.lpt_node.specs.declared.fault.NodeFault.TheVariants.{InUse, Short, Long, TooMany, NotOpen, NoSuchPart, NothingDue, NoJob, NotReady, ClockEnd, Memory, PartRequest}
 
@@ -52,6 +53,14 @@ of_test : (b : Bool) (n : ℕ) (r : Option ℕ) → (n ≡ 0 → ⊥) → IsNoZe
     → IsNoZero (if b then Some n else r)
 of_test true n r never rest = of_number n never
 of_test false n r never rest = rest
+
+of_lack : (b : Bool) (n : ℕ) → (n ≡ 0 → ⊥) → IsNoZero (if b then None else Some n)
+of_lack true n never e = cc
+of_lack false n never e = of_number n never e
+
+of_range : (b : Bool) (r : Option ℕ) → IsNoZero r → IsNoZero (if b then r else Some range)
+of_range true r rest = rest
+of_range false r rest = of_number range (λ e. omega arith)
 
 of_side : (s : Side) (r : Option ℕ) → IsNoZero r → IsNoZero (ground_refusal s r)
 of_side Ground r rest = rest
@@ -118,10 +127,14 @@ zero_is_done e = record {
       answered_by (sent_refusal e)
       (of_test (length e.outbox.items == 0) nothing None (λ z. omega arith) (λ z. cc));
   expired = answered (expire_refusal e) (of_node (refusal_expire e.config e.node.at));
+  given_up = λ name.
+      answered (give_up_refusal name e) (of_node (refusal_give_up e.node.at name));
   ticked = answered_by (tick_refusal e) (of_node (refusal_tick e.node.at));
   ticked_many = λ ticks. answered_by (ticks_refusal ticks e)
       (of_test (nat_lt greatest_clock (e.node.at.clock + ticks)) clock_end None (λ z. omega arith)
       (λ z. cc));
+  clock_back = λ ticks. answered_by (rebase_refusal ticks e)
+      (of_lack (can_set_back ticks e.node.at) clock_start (λ z. omega arith));
   read = answered (read_refusal e) (of_memories e.memories (node_code (refusal_claim e.node.at))
       (of_node (refusal_claim e.node.at)));
   executed =
@@ -135,4 +148,9 @@ zero_is_done e = record {
       (of_elsewhere e.memories (sending_refusal read e.outbox.items)
       (of_sending read e.outbox.items (of_length (unready e) (first_read e) octets
       (of_node (refusal_apply e.node.at)))));
+  read_dropped = answered_by (unready e) (of_node (refusal_apply e.node.at));
+  refused = λ number. answered (refuse_refusal number e)
+      (of_range (nat_le 1 number && nat_le number 8)
+      (sending_refusal (unready e) e.outbox.items)
+      (of_sending (unready e) e.outbox.items (of_node (refusal_apply e.node.at))));
 }

@@ -4,7 +4,7 @@ use Rattle.lpt_apart.specs.Clocks.{after_all, CanAll}
 use Rattle.lpt_apart.specs.Ends.{Ends, put_out}
 use Rattle.lpt_apart.specs.Moves.{Pair, CanMove, freed_by, retired_by}
 use Rattle.lpt_c_end.specs.Accesses.{first_read, length_refusal, unready}
-use Rattle.lpt_c_end.specs.Changes.{IsFixed, delivery, expiry, read_by}
+use Rattle.lpt_c_end.specs.Changes.{IsFixed, delivery, expiry, giving_up, read_by}
 use Rattle.lpt_c_end.specs.Codes.{elsewhere, node_code, range, no_job}
 use Rattle.lpt_c_end.specs.Contents.{memories_of}
 use Rattle.lpt_c_end.specs.Keeping.{IsResumedWith}
@@ -17,13 +17,13 @@ use Rattle.lpt_c_end.specs.declared.kept.Kept.{Kept}
 use Rattle.lpt_c_end.specs.declared.kept.Kept.TheVariants.{Nowhere, Here, Elsewhere}
 use Rattle.lpt_c_end.proofs.ReadyLemmas.{front_ready}
 use Rattle.lpt_c_pair.specs.Outboxes.{AllOnTheWay, NoneWaits}
-use Rattle.lpt_c_pair.specs.Pairs.{AreEndsOf, IsEndOf, Place, InEnd, WithProgram, kept_in, Call, Open, Part, Plain, Finish, LetGo, Packet, Expire, Tick, Read, Execute, ExecuteGiven, Retire, RetireFree, Restart, Resume, ResumeSized, freeing, moves, IsMoveOfGround, IsMoveOfCraft, CallsAreMoves}
-use Rattle.lpt_c_pair.proofs.Clockless.{refuses_open, refuses_send, sends, refuses_plain, asks, takes, refuses_expire, expires, reads, executes, executes_over}
+use Rattle.lpt_c_pair.specs.Pairs.{AreEndsOf, IsEndOf, Place, InEnd, WithProgram, kept_in, Call, Open, Part, Plain, Finish, LetGo, Packet, Expire, GiveUp, Tick, Rebase, Read, Execute, ExecuteGiven, Retire, RetireFree, Restart, Resume, ResumeSized, freeing, moves, IsMoveOfGround, IsMoveOfCraft, CallsAreMoves}
+use Rattle.lpt_c_pair.proofs.Clockless.{refuses_open, refuses_send, sends, refuses_plain, asks, takes, refuses_expire, expires, gives_up, reads, executes, executes_over}
 use Rattle.lpt_c_pair.proofs.GivenLemmas.{executed_sizes, not_short}
 use Rattle.lpt_c_pair.proofs.Resuming.{resumed_node}
 use Rattle.lpt_apart_kept.proofs.GroundReports.{none_of_delivery, none_of_expiry}
 use Rattle.lpt_c_pair.proofs.Waiting.{stays, beside, adds, replaces, lets_go, freed_other, freed_this, as_listed, none_more}
-use Rattle.lpt_c_pair.proofs.Lemmas.{free_stays, no_fault, not_refused, not_unsent, sizes_kept, refusal_kept, ground_becomes, craft_becomes, craft_fixed}
+use Rattle.lpt_c_pair.proofs.Lemmas.{can_back, free_stays, no_fault, not_refused, not_unsent, sizes_kept, refusal_kept, ground_becomes, craft_becomes, craft_fixed}
 use Rattle.lpt_packet.specs.declared.direction.Direction.{Direction}
 use Rattle.lpt_packet.specs.declared.direction.Direction.TheVariants.{Up, Down}
 use Rattle.lpt_packet.specs.Names.{Name}
@@ -45,7 +45,7 @@ use Rattle.lpt_node.proofs.GivenLemmas.{given_over}
 use Rattle.lpt_node.specs.Nodes.{NodeData}
 use Rattle.lpt_node.specs.Requests.{refusal_plain, plain_made}
 use Rattle.lpt_node.specs.Sending.{refusal_open, opened, refusal_send, sent, refusal_finish, closed}
-use Rattle.lpt_node.specs.Times.{refusal_tick, ticked, refusal_expire, expired}
+use Rattle.lpt_node.specs.Times.{can_set_back, clock_back, due, refusal_tick, ticked, refusal_expire, refusal_give_up, expired, expired_of, which_ends}
 use Rattle.lpt_model.specs.State.{as_list}
 use Rattle.lpt_model.specs.Tickets.{Tickets, ticket_of, with_ticket}
 
@@ -233,13 +233,30 @@ module _ (c : Config) (p : Pair) (g k : End) (are : AreEndsOf c p g k) where
         (as_list (expired Ground c p.ends.on_ground).1.packet) refl
         (none_more g.outbox.items new.outbox.items (expiry g).1.packet
         (ap (λ (x : NodeData × Expired). x.1.packet) (expires are.ground)
-        ∙ none_of_expiry c p.ends.on_ground) done.1.outbox)).0
+        ∙ none_of_expiry c p.ends.on_ground (due c p.ends.on_ground)) done.1.outbox)).0
         (beside_stays (after_all c p (moves Ground Expire)).ends new.outbox.items
         (as_list (expired Ground c p.ends.on_ground).1.packet) refl
         (none_more g.outbox.items new.outbox.items (expiry g).1.packet
         (ap (λ (x : NodeData × Expired). x.1.packet) (expires are.ground)
-        ∙ none_of_expiry c p.ends.on_ground) done.1.outbox)).1,
+        ∙ none_of_expiry c p.ends.on_ground (due c p.ends.on_ground)) done.1.outbox)).1,
   )
+  on_ground (GiveUp name) new done vow =
+      let none : refusal_give_up g.node.at name ≡ None =
+      no_fault (refusal_give_up g.node.at name) done.0 in
+      let which : Option Name = which_ends c p.ends.on_ground (Some name) in
+      let made : giving_up name g ≡ expired_of Ground c p.ends.on_ground which =
+      gives_up are.ground name none in
+      let f : Pair = after_all c p (moves Ground (GiveUp name)) in
+      let ways = beside_stays f.ends new.outbox.items
+      (as_list (expired_of Ground c p.ends.on_ground which).1.packet) refl
+      (none_more g.outbox.items new.outbox.items (giving_up name g).1.packet
+      (ap (λ (x : NodeData × Expired). x.1.packet) made
+      ∙ none_of_expiry c p.ends.on_ground which) done.1.outbox) in (
+        (tt, sym (λ i. refusal_give_up (are.ground.node i) name) ∙ none),
+        ground_becomes c p f g new k are done.1.fixed
+            (done.1.node ∙ ap (λ (x : NodeData × Expired). x.0) made) refl refl refl ways.0
+            ways.1,
+      )
   on_ground Tick new done vow = (
     (tt, sym (λ i. refusal_tick (are.ground.node i)) ∙ no_fault (refusal_tick g.node.at) done.0),
     ground_becomes c p (after_all c p (moves Ground (Tick))) g new k are done.1.fixed
@@ -249,6 +266,18 @@ module _ (c : Config) (p : Pair) (g k : End) (are : AreEndsOf c p g k) where
         (quiet_ground (after_all c p (moves Ground Tick)).ends new.outbox.items refl
         done.1.outbox).1,
   )
+  on_ground (Rebase ticks) new done vow =
+      let f : Pair = after_all c p (moves Ground (Rebase ticks)) in
+      let ways = quiet_ground f.ends new.outbox.items refl done.1.outbox in (
+        (
+          tt,
+          sym (λ i. can_set_back ticks (are.ground.node i))
+              ∙ can_back (can_set_back ticks g.node.at) done.0,
+        ),
+        ground_becomes c p f g new k are done.1.fixed
+            (done.1.node ∙ ap (λ (n : NodeData). clock_back ticks n) are.ground.node) refl refl
+            refl ways.0 ways.1,
+      )
   on_ground Read new done vow =
       absurd (let both : Some no_job ≡ None =
       sym (ap (λ (o : Kept). memories_refusal o (node_code
@@ -282,11 +311,11 @@ module _ (c : Config) (p : Pair) (g k : End) (are : AreEndsOf c p g k) where
   )
   on_ground (Resume config state ms content) new done vow =
       let f : Ends = (after_all c p (moves Ground (Resume config state ms content))).ends in (
-        (tt, tt),
+        ((tt, tt), tt),
         record {
           ground = record {
             side = done.side ∙ are.ground.side;
-            ticks = vow.ticks;
+            own = vow.own;
             config = done.config ∙ vow.configured;
             node = resumed_node c Ground p.ends.on_ground Nowhere g new config state
                 (memories_of g.side ms content) are.ground vow done;
@@ -338,7 +367,7 @@ module _ (c : Config) (p : Pair) (g k : End) (are : AreEndsOf c p g k) where
       are.craft.memories ∙ ap (λ (w : Place). kept_in w p.ends.memories) at in
       let is : IsEndOf c Craft p.ends.on_craft (Here p.ends.memories) k = record {
         side = are.craft.side;
-        ticks = are.craft.ticks;
+        own = are.craft.own;
         config = are.craft.config;
         node = are.craft.node;
         memories = held;
@@ -527,6 +556,26 @@ module _ (c : Config) (p : Pair) (g k : End) (are : AreEndsOf c p g k) where
         ∙ ap (λ (x : NodeData × Expired). k.outbox.items ++ as_list x.1.packet)
         (expires are.craft)) are.downwards),
   )
+  on_craft (GiveUp name) new done vow =
+      let none : refusal_give_up k.node.at name ≡ None =
+      no_fault (refusal_give_up k.node.at name) done.0 in
+      let which : Option Name = which_ends c p.ends.on_craft (Some name) in
+      let made : giving_up name k ≡ expired_of Craft c p.ends.on_craft which =
+      gives_up are.craft name none in
+      let f : Pair = after_all c p (moves Craft (GiveUp name)) in
+      let packets : List (List ℕ) =
+      as_list (expired_of Craft c p.ends.on_craft which).1.packet in (
+        (tt, sym (λ i. refusal_give_up (are.craft.node i) name) ∙ none),
+        craft_fixed c p f g k new are done.1.fixed
+            (done.1.node ∙ ap (λ (x : NodeData × Expired). x.0) made) refl refl refl
+            (beside p.ends f.ends Up Down None g.outbox.items packets refl are.upwards)
+            (adds p.ends f.ends Down None k.outbox.items new.outbox.items packets refl
+            (done.1.outbox
+            ∙ ap (λ (xs : List (List ℕ)). k.outbox.items ++ xs)
+            (as_listed (giving_up name k).1.packet)
+            ∙ ap (λ (x : NodeData × Expired). k.outbox.items ++ as_list x.1.packet) made)
+            are.downwards),
+      )
   on_craft Tick new done vow = (
     (tt, sym (λ i. refusal_tick (are.craft.node i)) ∙ no_fault (refusal_tick k.node.at) done.0),
     craft_fixed c p (after_all c p (moves Craft (Tick))) g k new are done.1.fixed
@@ -534,6 +583,18 @@ module _ (c : Config) (p : Pair) (g k : End) (are : AreEndsOf c p g k) where
         (quiet_craft (after_all c p (moves Craft Tick)).ends new.outbox.items refl done.1.outbox).0
         (quiet_craft (after_all c p (moves Craft Tick)).ends new.outbox.items refl done.1.outbox).1,
   )
+  on_craft (Rebase ticks) new done vow =
+      let f : Pair = after_all c p (moves Craft (Rebase ticks)) in
+      let ways = quiet_craft f.ends new.outbox.items refl done.1.outbox in (
+        (
+          tt,
+          sym (λ i. can_set_back ticks (are.craft.node i))
+              ∙ can_back (can_set_back ticks k.node.at) done.0,
+        ),
+        craft_fixed c p f g k new are done.1.fixed
+            (done.1.node ∙ ap (λ (n : NodeData). clock_back ticks n) are.craft.node) refl refl
+            refl ways.0 ways.1,
+      )
   on_craft Read new done vow =
       let none : node_code (refusal_claim k.node.at) ≡ None =
       sym (ap (λ (o : Kept). memories_refusal o (node_code
@@ -586,13 +647,13 @@ module _ (c : Config) (p : Pair) (g k : End) (are : AreEndsOf c p g k) where
   )
   on_craft (Resume config state ms content) new done vow =
       let f : Ends = (after_all c p (moves Craft (Resume config state ms content))).ends in (
-        (tt, tt),
+        ((tt, tt), tt),
         record {
           ground = are.ground;
           place = are.place;
           craft = record {
             side = done.side ∙ are.craft.side;
-            ticks = vow.ticks;
+            own = vow.own;
             config = done.config ∙ vow.configured;
             node = resumed_node c Craft p.ends.on_craft (kept_in are.place p.ends.memories) k new
                 config state (memories_of k.side ms content) are.craft vow done;
@@ -605,13 +666,13 @@ module _ (c : Config) (p : Pair) (g k : End) (are : AreEndsOf c p g k) where
       )
   on_craft (ResumeSized config state sizes) new done vow =
       let f : Ends = (after_all c p (moves Craft (ResumeSized config state sizes))).ends in (
-        (tt, tt),
+        ((tt, tt), tt),
         record {
           ground = are.ground;
           place = are.place;
           craft = record {
             side = done.side;
-            ticks = vow.ticks;
+            own = vow.own;
             config = done.config ∙ vow.configured;
             node = resumed_node c Craft p.ends.on_craft (kept_in are.place p.ends.memories) k new
                 config state (kept_as sizes) are.craft vow

@@ -12,7 +12,7 @@ use Rattle.lpt_c_end.specs.Words.{direction_from as direction_by}
 use Rattle.lpt_c_end.specs.declared.end.End.{End}
 use Rattle.lpt_c_end.specs.declared.kept.Kept.{Kept}
 use Rattle.lpt_c_end.specs.declared.kept.Kept.TheVariants.{Nowhere, Here, Elsewhere}
-use Rattle.lpt_c_pair.specs.Pairs.{Call, Open, Part, Plain, Finish, LetGo, Packet, Expire, Tick, Read, Execute, ExecuteGiven, Retire, RetireFree, Restart, Resume, ResumeSized, IsDone}
+use Rattle.lpt_c_pair.specs.Pairs.{Call, Open, Part, Plain, Finish, LetGo, Packet, Expire, GiveUp, Tick, Rebase, Read, Execute, ExecuteGiven, Retire, RetireFree, Restart, Resume, ResumeSized, IsDone}
 use Rattle.lpt_c_pair.specs.Programs.{Told, IsTold}
 use Rattle.lpt_apart.proofs.Handed.{put_in_place, waits}
 use Rattle.lpt_c_pair.proofs.Lemmas.{no_fault}
@@ -32,7 +32,7 @@ use Rattle.lpt_node.specs.Receiving.{with_report}
 use Rattle.lpt_node.specs.Requests.{plain_made}
 use Rattle.lpt_node.specs.Restarts.{retired}
 use Rattle.lpt_node.specs.Sending.{closed, opened, sent, sent_of}
-use Rattle.lpt_node.specs.Times.{due, expired, expired_of, ticked}
+use Rattle.lpt_node.specs.Times.{clock_back, due, expired, expired_of, given_up, ticked}
 use Rattle.lpt_node.proofs.JobLemmas.{jobs_accepted}
 use Rattle.lpt_packet.specs.Names.{Name}
 use Rattle.lpt_packet.specs.declared.direction.Direction.{Direction}
@@ -151,8 +151,13 @@ front_stays e new (Packet b) r done on front =
 front_stays e new Expire r done on front =
     leaves r e.node.at (expired e.side e.config e.node.at).0 new.node.at done.1.node
     (expired_leaves e.side e.config e.node.at (due e.config e.node.at)) front
+front_stays e new (GiveUp name) r done on front =
+    leaves r e.node.at (given_up e.side e.config e.node.at name).0 new.node.at done.1.node
+    (expired_leaves e.side e.config e.node.at (Some name)) front
 front_stays e new Tick r done on front =
     leaves r e.node.at (ticked e.node.at) new.node.at done.1.node refl front
+front_stays e new (Rebase ticks) r done on front =
+    leaves r e.node.at (clock_back ticks e.node.at) new.node.at done.1.node refl front
 front_stays e new Read r done on front =
     ap (λ (x : NodeData). head_of x.jobs.jobs) done.1.node
     ∙ reads_leaves r e.config e.node.at (sizes_in e.memories)

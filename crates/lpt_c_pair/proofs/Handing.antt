@@ -17,7 +17,7 @@ use Rattle.lpt_c_end.specs.declared.words.LptApplied.{LptApplied}
 use Rattle.lpt_c_end.specs.declared.words.LptOutcome.{LptOutcome}
 use Rattle.lpt_c_end.specs.Words.{applied_words, words}
 use Rattle.lpt_c_pair.specs.Handed.{AllLeave, ExecutionsAreTold, GivenExecutionsAreTold, IsExecutedSo, IsHanded, LeavesReleased, MessagesAreHanded, MessagesStay}
-use Rattle.lpt_c_pair.specs.Pairs.{AreEndsOf, Call, Open, Part, Plain, Finish, LetGo, Packet, Expire, Tick, Read, Execute, ExecuteGiven, Retire, RetireFree, Restart, Resume, ResumeSized, InEnd, IsDone, IsEndOf, Place, WithProgram, end_of, kept_in}
+use Rattle.lpt_c_pair.specs.Pairs.{AreEndsOf, Call, Open, Part, Plain, Finish, LetGo, Packet, Expire, GiveUp, Tick, Rebase, Read, Execute, ExecuteGiven, Retire, RetireFree, Restart, Resume, ResumeSized, InEnd, IsDone, IsEndOf, Place, WithProgram, end_of, kept_in}
 use Rattle.lpt_c_pair.specs.Runs.{Turn, Standing, CanTurnBy, CanStand, KeepsThePromise, stood, turned_by}
 use Rattle.lpt_c_pair.proofs.Clockless.{executes, executes_over, takes}
 use Rattle.lpt_c_pair.proofs.GivenLemmas.{not_short}
@@ -152,7 +152,9 @@ released_stays (Finish name) e new done may = done.1.released
 released_stays LetGo e new done may = done.1.released
 released_stays (Packet b) e new done may = absurd may
 released_stays Expire e new done may = done.1.released
+released_stays (GiveUp name) e new done may = done.1.released
 released_stays Tick e new done may = done.1.released
+released_stays (Rebase ticks) e new done may = done.1.released
 released_stays Read e new done may = done.1.released
 released_stays Execute e new done may = done.1.released
 released_stays (ExecuteGiven octets) e new done may = done.1.released
@@ -276,7 +278,7 @@ module _ (c : Config) (first : Contents) (s : Standing) where
       let is : IsEndOf c Craft s.pair.ends.on_craft (Here s.pair.ends.memories) s.on_craft =
       record {
         side = are.craft.side;
-        ticks = are.craft.ticks;
+        own = are.craft.own;
         config = are.craft.config;
         node = are.craft.node;
         memories = held;

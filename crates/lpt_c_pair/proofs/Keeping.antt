@@ -1,7 +1,7 @@
 -- The memories of a program that drops requests.
 use Rattle.std.proofs.Common.{◌≡◌, ◌∙◌, ap, sym, subst, refl, ℕ, List, [], ◌∷◌, ◌++◌}
 use Rattle.std.specs.Prelude.{⊤}
-use Rattle.lpt_apart.specs.Clocks.{after_all, later}
+use Rattle.lpt_apart.specs.Clocks.{after_all, later, Own, own_config}
 use Rattle.lpt_apart.specs.Drops.{Service, IsServed, no_service, turned_all}
 use Rattle.lpt_apart.specs.Moves.{Pair}
 use Rattle.lpt_c_end.specs.Changes.{IsNew}
@@ -10,10 +10,10 @@ use Rattle.lpt_c_end.specs.declared.end.End.{End}
 use Rattle.lpt_c_end.specs.declared.memories.LptMemory.{LptMemory}
 use Rattle.lpt_c_end.specs.declared.sizing.LptSize.{LptSize}
 use Rattle.lpt_c_pair.specs.Keepers.{Act, Does, Gives, Keeper, Puts, Settles, TakesBack, Writes, CanKeep, CanKeepAll, ProgramsThatDropServe, deeds_of, giving, kept, kept_all, new_keeper, program_of, stood_by}
-use Rattle.lpt_c_pair.specs.Pairs.{Call, Open, Part, Plain, Finish, LetGo, Packet, Expire, Tick, Read, Execute, ExecuteGiven, Retire, RetireFree, Restart, Resume, ResumeSized, moves}
+use Rattle.lpt_c_pair.specs.Pairs.{Call, Open, Part, Plain, Finish, LetGo, Packet, Expire, GiveUp, Tick, Rebase, Read, Execute, ExecuteGiven, Retire, RetireFree, Restart, Resume, ResumeSized, moves}
 use Rattle.lpt_c_pair.specs.Programs as program
 use Rattle.lpt_c_pair.specs.Programs.{Program, Told, acted, put_told}
-use Rattle.lpt_c_pair.specs.Services.{Calls, Deed, Drops, DropsRead, turns, turns_of}
+use Rattle.lpt_c_pair.specs.Services.{Calls, Deed, Drops, DropsRead, Refuses, turns, turns_of}
 use Rattle.lpt_c_pair.specs.Withheld.{ProgramsThatDropWithholdNoRequest}
 use Rattle.lpt_c_pair.proofs.Leaving.{craft_leaves, ground_leaves}
 use Rattle.lpt_c_pair.proofs.Programs.{IsOwn, calls_craft, calls_ground, gives, none_told, starts, vow_of, writes}
@@ -35,7 +35,9 @@ same_ghost c s side (Finish name) = refl
 same_ghost c s side LetGo = refl
 same_ghost c s side (Packet b) = refl
 same_ghost c s side Expire = refl
+same_ghost c s side (GiveUp name) = refl
 same_ghost c s side Tick = refl
+same_ghost c s side (Rebase ticks) = refl
 same_ghost c s side Read = refl
 same_ghost c s side Execute = refl
 same_ghost c s side (ExecuteGiven octets) = refl
@@ -152,6 +154,16 @@ module _ (c : Config) (start : Service) where
     };
     back = none_back k.ahead k.owed k.stood (ghost k) can.1;
   }
+  does k deeds (Refuses code new) r can = record {
+    led = led_on c start k.serving (turns_of deeds) (Refuses code new) r.led can.0;
+    own = record {
+      sizes = r.own.sizes;
+      place = can.0.1.fixed.memories ∙ r.own.place;
+      same = r.own.same;
+      told = none_told c k.ahead new can.1;
+    };
+    back = none_back k.ahead k.owed k.stood (ghost k) can.1;
+  }
 
   -- ---- writes
 
@@ -239,13 +251,13 @@ module _ (c : Config) (start : Service) where
   all_acts k (x ∷ xs) r can = acts (kept_all c k xs) xs x (all_acts k xs r can.0) can.1
 
 -- what was done with two new ends is so
-all_kept : (c : Config) (a b : ℕ) (none : List LptMemory) (nothing : List ℕ) (sizes : List LptSize)
-    (first : Contents) (g k : End) (xs : List Act)
+all_kept : (c : Config) (a : ℕ) (b : Own) (none : List LptMemory) (nothing : List ℕ)
+    (sizes : List LptSize) (first : Contents) (g k : End) (xs : List Act)
     → IsConfig (later a c)
-    → IsConfig (later b c)
+    → IsConfig (own_config b c)
     → sizes_said sizes ≡ sizes_of first
     → IsNew Ground (later a c) none nothing g
-    → IsNewSized (later b c) sizes k
+    → IsNewSized (own_config b c) sizes k
     → CanKeepAll c (new_keeper c first a b g k) xs
     → IsKept c (no_service c first a b) (kept_all c (new_keeper c first a b g k) xs) (deeds_of xs)
 all_kept c a b none nothing sizes first g k xs good_g good_k same new_g new_k can =

@@ -10,7 +10,7 @@ use Rattle.lpt_c_end.specs.Words.{direction_from as direction_by}
 use Rattle.lpt_c_end.specs.declared.end.End.{End}
 use Rattle.lpt_c_end.specs.declared.kept.Kept.{Kept}
 use Rattle.lpt_c_end.specs.declared.kept.Kept.TheVariants.{Nowhere, Elsewhere}
-use Rattle.lpt_c_pair.specs.Pairs.{Call, Open, Part, Plain, Finish, LetGo, Packet, Expire, Tick, Read, Execute, ExecuteGiven, Retire, RetireFree, Restart, Resume, ResumeSized, IsDone, Promises, freeing, moves}
+use Rattle.lpt_c_pair.specs.Pairs.{Call, Open, Part, Plain, Finish, LetGo, Packet, Expire, GiveUp, Tick, Rebase, Read, Execute, ExecuteGiven, Retire, RetireFree, Restart, Resume, ResumeSized, IsDone, Promises, freeing, moves}
 use Rattle.lpt_c_pair.specs.Programs.{Program, MayCall}
 use Rattle.lpt_events.specs.declared.config.Config.{Config}
 use Rattle.lpt_events.specs.declared.side.Side.{Side}
@@ -41,7 +41,9 @@ module _ (c : Config) (p : Pair) where
   ground_leaves g new LetGo none done = refl
   ground_leaves g new (Packet b) none done = refl
   ground_leaves g new Expire none done = refl
+  ground_leaves g new (GiveUp name) none done = refl
   ground_leaves g new Tick none done = refl
+  ground_leaves g new (Rebase ticks) none done = refl
   ground_leaves g new Read none done =
       absurd (let both : Some no_job ≡ None =
       sym (ap (λ (o : Kept). memories_refusal o (node_code
@@ -88,7 +90,11 @@ module _ (c : Config) (p : Pair) where
       record { memories = refl; place = done.fixed.memories ∙ at }
   craft_leaves g k new sizes q Expire at done vow may =
       record { memories = refl; place = done.1.fixed.memories ∙ at }
+  craft_leaves g k new sizes q (GiveUp name) at done vow may =
+      record { memories = refl; place = done.1.fixed.memories ∙ at }
   craft_leaves g k new sizes q Tick at done vow may =
+      record { memories = refl; place = done.1.fixed.memories ∙ at }
+  craft_leaves g k new sizes q (Rebase ticks) at done vow may =
       record { memories = refl; place = done.1.fixed.memories ∙ at }
   craft_leaves g k new sizes q Read at done vow may =
       record { memories = refl; place = done.1.fixed.memories ∙ at }

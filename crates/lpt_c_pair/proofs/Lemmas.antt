@@ -3,7 +3,7 @@ use Rattle.std.proofs.Common.{◌≡◌, ◌∙◌, ap, sym, refl, ℕ, Bool, tr
 use Rattle.std.specs.FinMap as maps
 use Rattle.lpt_apart.specs.Moves.{Pair}
 use Rattle.lpt_c_end.specs.Changes.{IsFixed}
-use Rattle.lpt_c_end.specs.Codes.{node_code}
+use Rattle.lpt_c_end.specs.Codes.{clock_start, node_code}
 use Rattle.lpt_c_end.specs.Refusals.{sending_refusal}
 use Rattle.lpt_c_end.specs.declared.end.End.{End}
 use Rattle.lpt_c_end.specs.Kept.{memories_refusal, sizes_in}
@@ -41,6 +41,11 @@ pub not_refused : (b : Bool) (code : ℕ) (o : Option ℕ)
     → o ≡ None
 not_refused true code o e = absurd cc
 not_refused false code o e = e
+
+-- a clock that isn't refused to be set back can be
+pub can_back : (b : Bool) → (if b then None else Some clock_start) ≡ None → b ≡ true
+can_back true e = refl
+can_back false e = absurd cc
 
 -- where packets may wait, what isn't refused wasn't before
 pub not_unsent : (o : Option ℕ) (packets : List (List ℕ)) → sending_refusal o packets ≡ None
@@ -124,7 +129,7 @@ pub ground_becomes : (c : Config) (p q : Pair) (g new k : End)
 ground_becomes c p q g new k are fixed node craft memories tickets up down = record {
   ground = record {
     side = fixed.side ∙ are.ground.side;
-    ticks = are.ground.ticks;
+    own = are.ground.own;
     config = fixed.config ∙ are.ground.config;
     node = node;
     memories = fixed.memories ∙ are.ground.memories;
@@ -132,7 +137,7 @@ ground_becomes c p q g new k are fixed node craft memories tickets up down = rec
   place = are.place;
   craft = record {
     side = are.craft.side;
-    ticks = are.craft.ticks;
+    own = are.craft.own;
     config = are.craft.config;
     node = are.craft.node ∙ sym craft;
     memories = are.craft.memories ∙ ap (kept_in are.place) (sym memories);
@@ -157,7 +162,7 @@ pub craft_becomes : (c : Config) (p q : Pair) (g k new : End)
 craft_becomes c p q g k new are side config node on_ground memories tickets up down = record {
   ground = record {
     side = are.ground.side;
-    ticks = are.ground.ticks;
+    own = are.ground.own;
     config = are.ground.config;
     node = are.ground.node ∙ sym on_ground;
     memories = are.ground.memories;
@@ -165,7 +170,7 @@ craft_becomes c p q g k new are side config node on_ground memories tickets up d
   place = are.place;
   craft = record {
     side = side ∙ are.craft.side;
-    ticks = are.craft.ticks;
+    own = are.craft.own;
     config = config ∙ are.craft.config;
     node = node;
     memories = memories;

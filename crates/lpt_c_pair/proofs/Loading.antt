@@ -94,7 +94,7 @@ module _ (e new : End) (ms : Contents) (message : List ℕ) where
     executed_ending e.config d s
         (ending e.config.part_size
         (is_some (least_free_in d.sending.ledger (request_source s.apid s.message)))
-        (nat_lt (map.len d.sending.messages) e.config.outgoing) (answer m ms)),
+        (nat_lt (map.len d.sending.messages) d.outgoing) (answer m ms)),
     Here (effect m ms),
   )
 

@@ -5,7 +5,8 @@ use Rattle.lpt_c_pair.specs.Keepers.{Act, Does, Gives, Keeper, Puts, Settles, Ta
 use Rattle.lpt_c_pair.specs.Outages.{Acts, Event, Keeps, Lived, Machines, ResetProgramsThatDropServe, ResetsCraft, ResetsGround, Stays, CanLive, CanLiveAll, actor, did, just_begun, lived_through, lived_all, machines_of, did_for_good}
 use Rattle.lpt_c_pair.specs.Pairs.{Call}
 use Rattle.lpt_c_pair.specs.Programs.{Told, put_told}
-use Rattle.lpt_c_pair.specs.Services.{Calls, Drops, DropsRead}
+use Rattle.lpt_c_pair.specs.Services.{Calls, Drops, DropsRead, Refuses}
+use Rattle.lpt_pus.specs.declared.failure_code.FailureCode.{FailureCode}
 use Rattle.lpt_c_pair.proofs.Keeping.{programs_that_drop_serve, programs_that_drop_withhold_no_request}
 use Rattle.lpt_events.specs.declared.config.Config.{Config}
 use Rattle.lpt_events.specs.declared.side.Side.{Side}
@@ -172,6 +173,15 @@ module _ (c : Config) (start : Keeper) where
     leaves_run = λ k. refl;
   }
 
+  of_refusal : (code : FailureCode) (new : End) → IsOfCraft (Does (Refuses code new))
+  of_refusal code new = record {
+    next = λ a. record a { end = new };
+    of_machines = λ l. refl;
+    of_run = λ k. refl;
+    leaves_machines = λ l. refl;
+    leaves_run = λ k. refl;
+  }
+
   of_writes : (t : Told) → IsOfCraft (Writes t)
   of_writes t = record {
     next = λ a. record a {
@@ -256,6 +266,8 @@ module _ (c : Config) (start : Keeper) where
   does l (Does (Drops new)) r can = by_craft l (Does (Drops new)) refl (of_drop new) r can
   does l (Does (DropsRead new)) r can =
       by_craft l (Does (DropsRead new)) refl (of_read_drop new) r can
+  does l (Does (Refuses code new)) r can =
+      by_craft l (Does (Refuses code new)) refl (of_refusal code new) r can
   does l (Writes t) r can = by_craft l (Writes t) refl (of_writes t) r can
   does l (Gives octets owed new) r can =
       by_craft l (Gives octets owed new) refl (of_gives octets owed new) r can

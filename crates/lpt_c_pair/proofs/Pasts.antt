@@ -5,7 +5,7 @@ use Rattle.lpt_c_end.specs.Contents.{memories_told}
 use Rattle.lpt_c_end.specs.declared.end.End.{End}
 use Rattle.lpt_c_pair.specs.Pairs.{Call}
 use Rattle.lpt_c_pair.specs.Pasts.{Past, Event, Does, Keeps, Resets, CanGo, CanGoAll, ResetEndsThatDropServe, again, did, end_after, just_begun, reset_by, went, went_all}
-use Rattle.lpt_c_pair.specs.Services.{Calls, Deed, Drops, DropsRead, Serving, CanServeAll, no_serving, served_all}
+use Rattle.lpt_c_pair.specs.Services.{Calls, Deed, Drops, DropsRead, Refuses, Serving, CanServeAll, no_serving, served_all}
 use Rattle.lpt_c_pair.proofs.Servicing.{ends_of_c_that_drop_serve, ends_of_c_that_drop_withhold_no_request}
 use Rattle.lpt_events.specs.declared.config.Config.{Config}
 use Rattle.lpt_events.specs.declared.side.Side.{Side}
@@ -121,6 +121,8 @@ module _ (c : Config) (start : Serving) where
       craft_did p (Drops new) (record { end = λ ys. refl; other = λ ys. refl }) can so
   goes p (Does (DropsRead new)) can so =
       craft_did p (DropsRead new) (record { end = λ ys. refl; other = λ ys. refl }) can so
+  goes p (Does (Refuses code new)) can so =
+      craft_did p (Refuses code new) (record { end = λ ys. refl; other = λ ys. refl }) can so
   goes p (Keeps Ground) can so = record {
     can = so.can;
     ground = so.ground;

@@ -1,6 +1,6 @@
 -- The memories of the spacecraft's program, whatever it and the two ends do.
 use Rattle.std.proofs.Common.{◌≡◌, ◌∙◌, ap, sym, subst, refl, ℕ, ◌+◌, List, [], ◌∷◌, ◌++◌, length, Option, Some, None, arith}
-use Rattle.lpt_apart.specs.Clocks.{later}
+use Rattle.lpt_apart.specs.Clocks.{later, Own, own_config}
 use Rattle.lpt_apart.proofs.Clocks.{reached_keep}
 use Rattle.lpt_c_end.specs.Accesses.{first_read, length_refusal, unready}
 use Rattle.lpt_c_end.specs.Changes.{IsNew}
@@ -13,7 +13,7 @@ use Rattle.lpt_c_end.specs.declared.kept.Kept.{Kept}
 use Rattle.lpt_c_end.specs.declared.kept.Kept.TheVariants.{Nowhere, Elsewhere}
 use Rattle.lpt_c_end.specs.declared.memories.LptMemory.{LptMemory}
 use Rattle.lpt_c_end.specs.declared.sizing.LptSize.{LptSize}
-use Rattle.lpt_c_pair.specs.Pairs.{WithProgram, Call, Open, Part, Plain, Finish, LetGo, Packet, Expire, Tick, Read, Execute, ExecuteGiven, Retire, RetireFree, Restart, Resume, ResumeSized, IsDone}
+use Rattle.lpt_c_pair.specs.Pairs.{WithProgram, Call, Open, Part, Plain, Finish, LetGo, Packet, Expire, GiveUp, Tick, Rebase, Read, Execute, ExecuteGiven, Retire, RetireFree, Restart, Resume, ResumeSized, IsDone}
 use Rattle.lpt_c_pair.specs.Programs.{Told, IsTold, AreTold, put_told, Program, Act, Calls, Writes, Gives, Puts, Settles, acted, came_by, CanAct, CanActAll, MayCall, ProgramsKeepTheirMemories, started}
 use Rattle.lpt_c_pair.proofs.GivenLemmas.{not_short}
 use Rattle.lpt_c_pair.proofs.Lemmas.{IsRead, no_fault, not_unsent, was_read}
@@ -97,8 +97,12 @@ module _ (c : Config) where
       still_told 0 p.ahead p.ends.on_craft new (Packet b) done tt told
   told_after p sizes new Expire at done may told =
       still_told 0 p.ahead p.ends.on_craft new Expire done tt told
+  told_after p sizes new (GiveUp name) at done may told =
+      still_told 0 p.ahead p.ends.on_craft new (GiveUp name) done tt told
   told_after p sizes new Tick at done may told =
       still_told 0 p.ahead p.ends.on_craft new Tick done tt told
+  told_after p sizes new (Rebase ticks) at done may told =
+      still_told 0 p.ahead p.ends.on_craft new (Rebase ticks) done tt told
   told_after p sizes new Read at done may told =
       still_told 0 p.ahead p.ends.on_craft new Read done tt told
   told_after p sizes new (Retire direction name) at done may told =
@@ -274,14 +278,14 @@ module _ (c : Config) (first : Contents) where
   all_acts p (x ∷ xs) r can = acts (came_by c p xs) x (all_acts p xs r can.0) can.1
 
 -- two new ends, and memories that nothing was written over
-pub starts : (c : Config) (a b : ℕ) (none : List LptMemory) (nothing : List ℕ)
+pub starts : (c : Config) (a : ℕ) (b : Own) (none : List LptMemory) (nothing : List ℕ)
     (sizes : List LptSize) (first : Contents)
     (g k : End)
     → IsConfig (later a c)
-    → IsConfig (later b c)
+    → IsConfig (own_config b c)
     → sizes_said sizes ≡ sizes_of first
     → IsNew Ground (later a c) none nothing g
-    → IsNewSized (later b c) sizes k
+    → IsNewSized (own_config b c) sizes k
     → IsKeeping c first (started c first a b g k)
 starts c a b none nothing sizes first g k good_g good_k same new_g new_k =
     let known : k.memories ≡ Elsewhere (sizes_of first) = new_k.memories ∙ ap Elsewhere same in

@@ -1,6 +1,7 @@
 -- Two ends behind handles keep the promise, whatever calls are made of them.
 use Rattle.std.proofs.Common.{ap, sym, subst, refl, ℕ, List, [], ◌∷◌}
-use Rattle.lpt_apart.specs.Clocks.{later, no_pair_later}
+use Rattle.lpt_acts.specs.Acts.{limits_of}
+use Rattle.lpt_apart.specs.Clocks.{later, no_pair_later, Own, own_config}
 use Rattle.lpt_apart.specs.Ends.{Ends}
 use Rattle.lpt_apart.proofs.Clocks.{IsReached, joined, begun_later, reached_keep}
 use Rattle.lpt_c_end.specs.Changes.{IsNew, IsNewWith}
@@ -43,13 +44,13 @@ stand c first s [] r can = r
 stand c first s (t ∷ ts) r can =
     turn c first (stood c s ts) t.side t.call t.new (stand c first s ts r can.0) can.1
 
-pub begins : (c : Config) (a b : ℕ) (none : List LptMemory) (nothing : List ℕ) (w : Place)
+pub begins : (c : Config) (a : ℕ) (b : Own) (none : List LptMemory) (nothing : List ℕ) (w : Place)
     (first : Contents)
     (g k : End)
     → IsConfig (later a c)
-    → IsConfig (later b c)
+    → IsConfig (own_config b c)
     → IsNew Ground (later a c) none nothing g
-    → IsNewWith Craft (later b c) (kept_in w first) k
+    → IsNewWith Craft (own_config b c) (kept_in w first) k
     → IsStood c first (begun c first a b g k)
 begins c a b none nothing w first g k good_g good_k new_g new_k =
     let ends : Ends = (no_pair_later c first a b).ends in
@@ -58,7 +59,7 @@ begins c a b none nothing w first g k good_g good_k new_g new_k =
       ends = record {
         ground = record {
           side = new_g.side;
-          ticks = a;
+          own = record { ticks = a; limits = limits_of c };
           config = new_g.config;
           node = ap (λ (n : NodeView). n.at) new_g.node;
           memories = new_g.memories;
@@ -66,7 +67,7 @@ begins c a b none nothing w first g k good_g good_k new_g new_k =
         place = w;
         craft = record {
           side = new_k.side;
-          ticks = b;
+          own = b;
           config = new_k.config;
           node = ap (λ (n : NodeView). n.at) new_k.node;
           memories = new_k.memories;
@@ -80,14 +81,14 @@ begins c a b none nothing w first g k good_g good_k new_g new_k =
     }
 
 -- wherever the spacecraft's memories are
-keeps : (c : Config) (a b : ℕ) (none : List LptMemory) (nothing : List ℕ) (w : Place)
+keeps : (c : Config) (a : ℕ) (b : Own) (none : List LptMemory) (nothing : List ℕ) (w : Place)
     (first : Contents)
     (g k : End)
     (ts : List Turn)
     → IsConfig (later a c)
-    → IsConfig (later b c)
+    → IsConfig (own_config b c)
     → IsNew Ground (later a c) none nothing g
-    → IsNewWith Craft (later b c) (kept_in w first) k
+    → IsNewWith Craft (own_config b c) (kept_in w first) k
     → CanStand c (begun c first a b g k) ts
     → KeepsThePromise c first (stood c (begun c first a b g k) ts)
 keeps c a b none nothing w first g k ts good_g good_k new_g new_k can =

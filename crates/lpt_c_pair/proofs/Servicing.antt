@@ -1,6 +1,6 @@
 -- Two ends behind handles that drop requests are two ends apart that do.
-use Rattle.std.proofs.Common.{◌≡◌, ◌∙◌, ap, sym, subst, refl, ℕ, List, [], ◌∷◌, ◌++◌, Option, Some, None}
-use Rattle.lpt_apart.specs.Clocks.{CanAll, after_all, later}
+use Rattle.std.proofs.Common.{◌≡◌, ◌∙◌, ap, sym, subst, refl, ℕ, Bool, true, false, ◌&&◌, nat_le, if◌then◌else◌, List, [], ◌∷◌, ◌++◌, Option, Some, None}
+use Rattle.lpt_apart.specs.Clocks.{CanAll, after_all, later, Own, own_config}
 use Rattle.lpt_apart.specs.Drops as apart
 use Rattle.lpt_apart.specs.Drops.{Service, CanTurn, CanTurnAll, IsNoWork, no_service, turned, turned_all}
 use Rattle.lpt_apart.specs.Ends.{Ends}
@@ -9,22 +9,24 @@ use Rattle.lpt_apart.specs.Uploads.{came_with, WithholdsNoRequest}
 use Rattle.lpt_apart.proofs.Mirroring.{ends_that_drop_serve, ends_that_drop_withhold_no_request}
 use Rattle.lpt_c_end.specs.Accesses.{unready}
 use Rattle.lpt_c_end.specs.Changes.{IsDropped, IsFixed, IsNew, IsReadDropped, read_as_by}
-use Rattle.lpt_c_end.specs.Codes.{no_job, node_code}
+use Rattle.lpt_c_end.specs.Codes.{no_job, node_code, range}
 use Rattle.lpt_c_end.specs.Contents.{memories_told}
 use Rattle.lpt_c_end.specs.Kept.{memories_refusal, sizes_in}
-use Rattle.lpt_c_end.specs.Refusals.{read_refusal}
+use Rattle.lpt_c_end.specs.Refusals.{read_refusal, sending_refusal}
+use Rattle.lpt_c_end.specs.Refusing.{IsRefusedAs, refuse_refusal}
 use Rattle.lpt_c_end.specs.Words.{direction_from as direction_by}
 use Rattle.lpt_c_end.specs.declared.end.End.{End}
 use Rattle.lpt_c_end.specs.declared.kept.Kept.{Kept}
 use Rattle.lpt_c_end.specs.declared.memories.LptMemory.{LptMemory}
-use Rattle.lpt_c_pair.specs.Pairs.{AreEndsOf, Call, Open, Part, Plain, Finish, InEnd, LetGo, Packet, Expire, Tick, Read, Execute, ExecuteGiven, Retire, RetireFree, Restart, Resume, ResumeSized, IsDone, freeing, moves}
-use Rattle.lpt_c_pair.specs.Services.{Calls, Deed, Drops, DropsRead, EndsOfCThatDropServe, Serving, CanServe, CanServeAll, no_serving, served, served_all, standing, turns, turns_by, turns_of}
+use Rattle.lpt_c_pair.specs.Pairs.{AreEndsOf, Call, Open, Part, Plain, Finish, InEnd, LetGo, Packet, Expire, GiveUp, Tick, Rebase, Read, Execute, ExecuteGiven, Retire, RetireFree, Restart, Resume, ResumeSized, IsDone, freeing, moves}
+use Rattle.lpt_c_pair.specs.Services.{Calls, Deed, Drops, DropsRead, Refuses, EndsOfCThatDropServe, Serving, CanServe, CanServeAll, no_serving, served, served_all, standing, turns, turns_by, turns_of}
 use Rattle.lpt_c_pair.specs.Runs.{CanTurnBy}
 use Rattle.lpt_c_pair.specs.Withheld.{EndsOfCThatDropWithholdNoRequest}
 use Rattle.lpt_c_pair.proofs.Calls.{calls_are_moves}
-use Rattle.lpt_c_pair.proofs.Lemmas.{craft_fixed, no_fault, refusal_kept, sizes_kept}
+use Rattle.lpt_c_pair.proofs.Clockless.{refuses_front}
+use Rattle.lpt_c_pair.proofs.Lemmas.{craft_fixed, no_fault, not_unsent, refusal_kept, sizes_kept}
 use Rattle.lpt_c_pair.proofs.Running.{begins}
-use Rattle.lpt_c_pair.proofs.Waiting.{stays}
+use Rattle.lpt_c_pair.proofs.Waiting.{beside, replaces, stays}
 use Rattle.lpt_events.specs.Configs.{IsConfig}
 use Rattle.lpt_events.specs.declared.config.Config.{Config}
 use Rattle.lpt_events.specs.declared.side.Side.{Side}
@@ -35,9 +37,11 @@ use Rattle.lpt_memory.specs.Meanings.{Sizes}
 use Rattle.lpt_memory.specs.Memories.{Contents}
 use Rattle.lpt_memory.specs.Readings.{Job}
 use Rattle.lpt_model.specs.Tickets.{Tickets, with_ticket}
-use Rattle.lpt_node.specs.Jobs.{claimed, refusal_apply, refusal_claim}
+use Rattle.lpt_node.specs.Jobs.{Execution, claimed, refusal_apply, refusal_claim, refused_front}
 use Rattle.lpt_node.specs.Nodes.{NodeData}
 use Rattle.lpt_packet.specs.Names.{Name}
+use Rattle.lpt_pus.specs.Codes.{number_of}
+use Rattle.lpt_pus.specs.declared.failure_code.FailureCode.{FailureCode}
 use Rattle.lpt_packet.specs.declared.direction.Direction.{Direction}
 use Rattle.lpt_packet.specs.declared.direction.Direction.TheVariants.{Up, Down}
 
@@ -72,7 +76,9 @@ module _ (c : Config) (s : Service) (side : Side) (g k : End) where
   by_moves LetGo read w = record { can = tt; ends = w.1 }
   by_moves (Packet b) read w = record { can = (tt, (tt, w.0.1)); ends = w.1 }
   by_moves Expire read w = record { can = (tt, (tt, w.0.1)); ends = w.1 }
+  by_moves (GiveUp name) read w = record { can = (tt, (tt, w.0.1)); ends = w.1 }
   by_moves Tick read w = record { can = (tt, (tt, w.0.1)); ends = w.1 }
+  by_moves (Rebase ticks) read w = record { can = (tt, (tt, w.0.1)); ends = w.1 }
   by_moves Read read w = read refl
   by_moves Execute read w = record { can = (tt, (tt, w.0.1)); ends = w.1 }
   by_moves (ExecuteGiven octets) read w = record { can = (tt, (tt, w.0.1)); ends = w.1 }
@@ -81,9 +87,9 @@ module _ (c : Config) (s : Service) (side : Side) (g k : End) where
   by_moves (RetireFree direction name) read w = record { can = tt; ends = w.1 }
   by_moves Restart read w = record { can = (tt, (tt, w.0.1)); ends = w.1 }
   by_moves (Resume config state ms content) read w =
-      record { can = (tt, (tt, w.0.1)); ends = w.1 }
+      record { can = ((tt, (tt, w.0.0.1)), (tt, w.0.1)); ends = w.1 }
   by_moves (ResumeSized config state sizes) read w =
-      record { can = (tt, (tt, w.0.1)); ends = w.1 }
+      record { can = ((tt, (tt, w.0.0.1)), (tt, w.0.1)); ends = w.1 }
 
 -- a request is read by the spacecraft
 reads_craft : (c : Config) (s : Service) (g k new : End)
@@ -148,7 +154,7 @@ module _ (c : Config) (s : Service) (g k new : End) (are : AreEndsOf c s.pair g 
             (done.node
             ∙ (λ i. read_as_by [] (are.craft.config i) (sizes_in (are.craft.memories i))
             (are.craft.node i))
-            ∙ ap (λ (o : Option Sizes). read_as_by [] (later are.craft.ticks c) o d)
+            ∙ ap (λ (o : Option Sizes). read_as_by [] (own_config are.craft.own c) o d)
             (sizes_kept are.place ms))
             done.fixed done.outbox,
       )
@@ -163,6 +169,32 @@ module _ (c : Config) (s : Service) (g k new : End) (are : AreEndsOf c s.pair g 
         ∙ ap (λ (n : NodeData). record n { jobs = without_front n.jobs }) are.craft.node)
         done.fixed done.outbox,
   )
+
+  -- a number in its range is refused by nothing else
+  in_range : (b : Bool) (o : Option ℕ) → (if b then o else Some range) ≡ None → o ≡ None
+  in_range true o is = is
+  in_range false o is = absurd cc
+
+  refuses : (code : FailureCode)
+      → refuse_refusal (number_of code) k ≡ None
+      → IsRefusedAs code k new
+      → CanTurn c s (apart.Refuses code)
+      × AreEndsOf c (turned c s (apart.Refuses code)).pair g new
+  refuses code allowed done =
+      let unsent : sending_refusal (unready k) k.outbox.items ≡ None =
+      in_range (nat_le 1 (number_of code) && nat_le (number_of code) 8)
+      (sending_refusal (unready k) k.outbox.items) allowed in
+      let none : unready k ≡ None = not_unsent (unready k) k.outbox.items unsent in
+      let x : NodeData × Execution = refused_front c d code in
+      let same : refused_front k.config k.node.at code ≡ x = refuses_front are.craft code in
+      let q : Pair = (turned c s (apart.Refuses code)).pair in (
+        sym (λ i. refusal_apply (are.craft.node i)) ∙ no_fault (refusal_apply k.node.at) none,
+        craft_fixed c s.pair q g k new are done.fixed
+            (done.node ∙ ap (λ (y : NodeData × Execution). y.0) same) refl refl refl
+            (beside s.pair.ends q.ends Up Down None g.outbox.items x.1.packets refl are.upwards)
+            (replaces s.pair.ends q.ends Down None new.outbox.items x.1.packets refl
+            (done.outbox ∙ ap (λ (y : NodeData × Execution). y.1.packets) same)),
+      )
 
 -- ---- whatever is done
 
@@ -228,6 +260,10 @@ led_on c start s all (DropsRead new) r can =
     let w = drops_read c s.service s.on_ground s.on_craft new r.ends can.0 can.1 in
     let b = behind c start s.service all (apart.LetsGo ∷ []) r.can r.is (tt, w.0) in
     record { can = b.can; is = b.is; ends = w.1 }
+led_on c start s all (Refuses code new) r can =
+    let w = refuses c s.service s.on_ground s.on_craft new r.ends code can.0 can.1 in
+    let b = behind c start s.service all (apart.Refuses code ∷ []) r.can r.is (tt, w.0) in
+    record { can = b.can; is = b.is; ends = w.1 }
 
 led : (c : Config) (start : Service) (s : Serving) (xs : List Deed)
     → IsLed c start s []
@@ -240,8 +276,8 @@ led c start s (x ∷ xs) r can =
 -- ---- what is promised
 
 -- the ends are led there from two new ones
-module _ (c : Config) (a b : ℕ) (first : Contents) (good_a : IsConfig (later a c))
-    (good_b : IsConfig (later b c)) (s : Serving) (all : List apart.Turn)
+module _ (c : Config) (a : ℕ) (b : Own) (first : Contents) (good_a : IsConfig (later a c))
+    (good_b : IsConfig (own_config b c)) (s : Serving) (all : List apart.Turn)
     (r : IsLed c (no_service c first a b) s all) where
   pub led_serves : apart.IsServed c first s.service
   led_serves =
@@ -256,12 +292,12 @@ module _ (c : Config) (a b : ℕ) (first : Contents) (good_a : IsConfig (later a
       (ends_that_drop_withhold_no_request c first a b all good_a good_b r.can)
 
 -- two new ends are led by what is done
-led_so : (c : Config) (a b : ℕ) (none : List LptMemory) (nothing : List ℕ) (ms : List LptMemory)
-    (content : List ℕ) (g k : End) (xs : List Deed)
+led_so : (c : Config) (a : ℕ) (b : Own) (none : List LptMemory) (nothing : List ℕ)
+    (ms : List LptMemory) (content : List ℕ) (g k : End) (xs : List Deed)
     → IsConfig (later a c)
-    → IsConfig (later b c)
+    → IsConfig (own_config b c)
     → IsNew Ground (later a c) none nothing g
-    → IsNew Craft (later b c) ms content k
+    → IsNew Craft (own_config b c) ms content k
     → CanServeAll c (no_serving c (memories_told content ms) a b g k) xs
     → IsLed c (no_service c (memories_told content ms) a b)
     (served_all c (no_serving c (memories_told content ms) a b g k) xs) (turns_of xs)

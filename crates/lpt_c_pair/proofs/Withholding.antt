@@ -1,6 +1,6 @@
 -- What came whole to two ends behind handles was released.
 use Rattle.std.proofs.Common.{◌≡◌, ◌∙◌, ap, sym, subst, refl, ℕ, List, [], ◌∷◌, ◌++◌}
-use Rattle.lpt_apart.specs.Clocks.{later, no_pair_later, after_all, CanAll}
+use Rattle.lpt_apart.specs.Clocks.{later, no_pair_later, after_all, CanAll, Own, own_config}
 use Rattle.lpt_apart.specs.Moves.{Pair, Move, moved, CanMove}
 use Rattle.lpt_apart.specs.Whole.{came_since, WithholdsNothing}
 use Rattle.lpt_apart.proofs.Clocks.{ends_with_clocks_withhold_nothing}
@@ -79,9 +79,9 @@ module _ (c : Config) (p : Pair) where
       led_on (stood c s ts) t.side t.call t.new (moves_of ts) (all_led s ts r can.0) can.1
 
 -- whatever calls were made of two ends that begin so
-withhold : (c : Config) (first : Contents) (a b : ℕ) (g k : End) (ts : List Turn)
+withhold : (c : Config) (first : Contents) (a : ℕ) (b : Own) (g k : End) (ts : List Turn)
     → IsConfig (later a c)
-    → IsConfig (later b c)
+    → IsConfig (own_config b c)
     → AreEndsOf c (no_pair_later c first a b) g k
     → CanStand c (begun c first a b g k) ts
     → WithholdsNothing c (stood c (begun c first a b g k) ts).pair.ends.log

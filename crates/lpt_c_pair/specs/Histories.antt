@@ -4,7 +4,7 @@
 -- A reset deletes the calls that its program made since it last kept its end. So what is left is a
 -- run of calls.
 use Rattle.std.specs.Prelude.{◌≡◌, ◌⊎◌, ℕ, List, [], ◌∷◌, ⊤}
-use Rattle.lpt_apart.specs.Clocks.{later}
+use Rattle.lpt_apart.specs.Clocks.{later, Own, own_config}
 use Rattle.lpt_apart.specs.Whole.{came_since, WithholdsNothing}
 use Rattle.lpt_c_end.specs.Changes.{IsNew}
 use Rattle.lpt_c_end.specs.Contents.{memories_told}
@@ -151,13 +151,13 @@ pub record IsLeft (c : Config) (first : Contents) (start : Standing) (h : Histor
 -- whatever calls were made of two ends that were new, whenever machines were reset
 abbrev pub ResetEndsOfCKeepThePromise : Type 0
 ResetEndsOfCKeepThePromise =
-    (c : Config) (a b : ℕ)
+    (c : Config) (a : ℕ) (b : Own)
     (none : List LptMemory) (nothing : List ℕ) (ms : List LptMemory) (content : List ℕ)
     (g k : End) (xs : List Deed)
     → IsConfig (later a c)
-    → IsConfig (later b c)
+    → IsConfig (own_config b c)
     → IsNew Ground (later a c) none nothing g
-    → IsNew Craft (later b c) ms content k
+    → IsNew Craft (own_config b c) ms content k
     → CanGoOnAll c (begun c (memories_told content ms) a b g k)
     (just_begun (begun c (memories_told content ms) a b g k)) xs
     → IsLeft c (memories_told content ms) (begun c (memories_told content ms) a b g k)

@@ -1,7 +1,7 @@
 -- Two ends behind handles, where the spacecraft's program has the memories, and drops requests that
 -- it doesn't execute.
 use Rattle.std.specs.Prelude.{◌≡◌, ℕ, List, [], ◌∷◌, ◌++◌, ⊤}
-use Rattle.lpt_apart.specs.Clocks.{later}
+use Rattle.lpt_apart.specs.Clocks.{later, Own, own_config}
 use Rattle.lpt_c_end.specs.Changes.{IsNew}
 use Rattle.lpt_c_end.specs.Sizes.{sizes_said, IsNewSized}
 use Rattle.lpt_c_end.specs.declared.end.End.{End}
@@ -10,7 +10,7 @@ use Rattle.lpt_c_end.specs.declared.sizing.LptSize.{LptSize}
 use Rattle.lpt_c_pair.specs.Pairs.{ExecuteGiven}
 use Rattle.lpt_c_pair.specs.Programs as program
 use Rattle.lpt_c_pair.specs.Programs.{Program, Told, CanAct, MayCall, put_told}
-use Rattle.lpt_c_pair.specs.Services.{Calls, Deed, Drops, DropsRead, Serving, CanServe, KeepsItsService, no_serving, served, standing}
+use Rattle.lpt_c_pair.specs.Services.{Calls, Deed, Drops, DropsRead, Refuses, Serving, CanServe, KeepsItsService, no_serving, served, standing}
 use Rattle.lpt_events.specs.Configs.{IsConfig}
 use Rattle.lpt_events.specs.declared.config.Config.{Config}
 use Rattle.lpt_events.specs.declared.side.Side.TheVariants.{Ground, Craft}
@@ -51,11 +51,12 @@ program_of k = record {
 abbrev pub giving : (octets : List ℕ) → End → Deed
 giving octets new = Calls (record { side = Craft; call = ExecuteGiven octets; new = new })
 
--- a request is dropped where nothing was written ahead, or that was put back
+-- a request is dropped or refused where nothing was written ahead, or that was put back
 abbrev pub MayDo : Keeper → Deed → Type 0
 MayDo k (Calls t) = MayCall (program_of k) t.side t.call
 MayDo k (Drops new) = k.ahead ≡ []
 MayDo k (DropsRead new) = k.ahead ≡ []
+MayDo k (Refuses code new) = k.ahead ≡ []
 
 -- an act can be done: as of a program that drops nothing
 abbrev pub CanKeep : Config → Keeper → Act → Type 0
@@ -112,7 +113,7 @@ deeds_of (Settles ∷ xs) = deeds_of xs
 deeds_of (TakesBack ∷ xs) = deeds_of xs
 
 -- two new ends, and memories that nothing was written over
-abbrev pub new_keeper : Config → Contents → (ticks_ground ticks_craft : ℕ)
+abbrev pub new_keeper : Config → Contents → (ticks_ground : ℕ) → (own_craft : Own)
     → (on_ground on_craft : End)
     → Keeper
 new_keeper c first a b g k = record {
@@ -133,13 +134,13 @@ pub record KeepsItsOwn (c : Config) (first : Contents) (k : Keeper) : Type 0 whe
 -- whatever was done with two new ends, and with memories that begin so
 abbrev pub ProgramsThatDropServe : Type 0
 ProgramsThatDropServe =
-    (c : Config) (a b : ℕ)
+    (c : Config) (a : ℕ) (b : Own)
     (none : List LptMemory) (nothing : List ℕ) (sizes : List LptSize) (first : Contents)
     (g k : End) (xs : List Act)
     → IsConfig (later a c)
-    → IsConfig (later b c)
+    → IsConfig (own_config b c)
     → sizes_said sizes ≡ sizes_of first
     → IsNew Ground (later a c) none nothing g
-    → IsNewSized (later b c) sizes k
+    → IsNewSized (own_config b c) sizes k
     → CanKeepAll c (new_keeper c first a b g k) xs
     → KeepsItsOwn c first (kept_all c (new_keeper c first a b g k) xs)

@@ -4,7 +4,7 @@
 -- A reset deletes what its program did since it last kept its end, but for what was written over
 -- memories: those stay as they are.
 use Rattle.std.specs.Prelude.{◌≡◌, ℕ, List, [], ◌∷◌, ◌++◌, ⊤}
-use Rattle.lpt_apart.specs.Clocks.{later}
+use Rattle.lpt_apart.specs.Clocks.{later, Own, own_config}
 use Rattle.lpt_apart.specs.Uploads.{came_with, WithholdsNoRequest}
 use Rattle.lpt_c_end.specs.Changes.{IsNew}
 use Rattle.lpt_c_end.specs.Sizes.{sizes_said, IsNewSized}
@@ -206,14 +206,14 @@ pub record IsLeft (c : Config) (first : Contents) (start : Keeper) (l : Lived) :
 -- machines were reset
 abbrev pub ResetProgramsThatDropServe : Type 0
 ResetProgramsThatDropServe =
-    (c : Config) (a b : ℕ)
+    (c : Config) (a : ℕ) (b : Own)
     (none : List LptMemory) (nothing : List ℕ) (sizes : List LptSize) (first : Contents)
     (g k : End) (xs : List Event)
     → IsConfig (later a c)
-    → IsConfig (later b c)
+    → IsConfig (own_config b c)
     → sizes_said sizes ≡ sizes_of first
     → IsNew Ground (later a c) none nothing g
-    → IsNewSized (later b c) sizes k
+    → IsNewSized (own_config b c) sizes k
     → CanLiveAll c (new_keeper c first a b g k) (just_begun (new_keeper c first a b g k)) xs
     → IsLeft c first (new_keeper c first a b g k)
     (lived_all c (new_keeper c first a b g k) (just_begun (new_keeper c first a b g k)) xs)

@@ -1,14 +1,17 @@
 -- Two ends behind handles of C as two ends apart.
-use Rattle.std.specs.Prelude.{◌≡◌, ℕ, ◌+◌, ◌<◌, ◌^◌, List, [], ◌∷◌, None, ⊤}
-use Rattle.lpt_apart.specs.Clocks.{later, after_all, CanAll}
+use Rattle.std.specs.Prelude.{◌≡◌, ℕ, ◌+◌, ◌<◌, ◌^◌, List, [], ◌∷◌, None, Some, ⊤}
+use Rattle.lpt_acts.specs.Acts as act
+use Rattle.lpt_acts.specs.Acts.{Back, IsAct, On}
+use Rattle.lpt_apart.specs.Clocks.{Own, own_config, after_all, CanAll}
 use Rattle.lpt_apart.specs.Moves.{Pair, Move, Do, Free, CanMove}
 use Rattle.lpt_apart.specs.Steps as step
 use Rattle.lpt_apart.specs.Steps.{MayCome}
+use Rattle.lpt_apart_kept.specs.Deeds.{with_restart}
 use Rattle.lpt_c_end.specs.Accesses.{IsExecutedGiven, given_refusal}
-use Rattle.lpt_c_end.specs.Changes.{IsOpened, IsPartMade, IsPlainMade, IsFinished, IsLetGo, IsDelivered, IsExpired, IsTicked, IsRead, IsExecuted, IsRetired, IsRestarted}
+use Rattle.lpt_c_end.specs.Changes.{IsOpened, IsPartMade, IsPlainMade, IsFinished, IsLetGo, IsDelivered, IsExpired, IsGivenUp, IsTicked, IsRebased, IsRead, IsExecuted, IsRetired, IsRestarted}
 use Rattle.lpt_c_end.specs.Contents.{memories_of}
 use Rattle.lpt_c_end.specs.Keeping.{IsResumed, ReadsAsRestarted}
-use Rattle.lpt_c_end.specs.Refusals.{open_refusal, part_refusal, plain_refusal, finish_refusal, sent_refusal, expire_refusal, tick_refusal, read_refusal, execute_refusal}
+use Rattle.lpt_c_end.specs.Refusals.{open_refusal, part_refusal, plain_refusal, finish_refusal, sent_refusal, expire_refusal, give_up_refusal, tick_refusal, rebase_refusal, read_refusal, execute_refusal}
 use Rattle.lpt_c_end.specs.Sizes.{kept_as, IsResumedSized}
 use Rattle.lpt_c_end.specs.Words.{direction_from as direction_by}
 use Rattle.lpt_c_end.specs.declared.end.End.{End}
@@ -20,10 +23,8 @@ use Rattle.lpt_c_pair.specs.Outboxes.{AllOnTheWay, NoneWaits}
 use Rattle.lpt_packet.specs.declared.direction.Direction.{Direction}
 use Rattle.lpt_packet.specs.declared.direction.Direction.TheVariants.{Up, Down}
 use Rattle.lpt_packet.specs.Names.{Name}
-use Rattle.lpt_events.specs.Events.{IsEvent}
 use Rattle.lpt_events.specs.Sides.{direction_to}
 use Rattle.lpt_events.specs.declared.config.Config.{Config}
-use Rattle.lpt_events.specs.declared.event.Event.TheVariants as event
 use Rattle.lpt_events.specs.declared.side.Side.{Side}
 use Rattle.lpt_events.specs.declared.side.Side.TheVariants.{Ground, Craft}
 use Rattle.lpt_events.specs.declared.worker.Worker.TheVariants.{W1}
@@ -49,12 +50,12 @@ kept_in InEnd ms = Here ms
 kept_in WithProgram ms = Elsewhere (sizes_of ms)
 
 -- an end of this side has this node and these memories, and its configuration is this but for the
--- clock that it began with
+-- clock that it began with and its limits
 pub record IsEndOf (c : Config) (s : Side) (n : NodeData) (kept : Kept)
     (e : End) : Type 0 where
   pub side : e.side ≡ s
-  pub ticks : ℕ
-  pub config : e.config ≡ later ticks c
+  pub own : Own
+  pub config : e.config ≡ own_config own c
   pub node : e.node.at ≡ n
   pub memories : e.memories ≡ kept
 
@@ -75,7 +76,7 @@ pub record AreEndsOf (c : Config) (p : Pair) (on_ground on_craft : End) : Type 0
 -- also one that is free. An end is restored from its state, in place of the one that its program
 -- had.
 --
--- Assumed: A C program drops no request, by `lpt_end_drop` or `lpt_end_drop_read`.
+-- Assumed: A C program drops or refuses no request.
 pub data Call : Type 0 where
   Open : Name → (message : List ℕ) → Call
   Part : Name → (k : ℕ) → Call
@@ -84,7 +85,9 @@ pub data Call : Type 0 where
   LetGo : Call
   Packet : (octets : List ℕ) → Call
   Expire : Call
+  GiveUp : Name → Call
   Tick : Call
+  Rebase : (ticks : ℕ) → Call
   Read : Call
   Execute : Call
   ExecuteGiven : (octets : List ℕ) → Call
@@ -105,7 +108,9 @@ IsDone (Finish name) e new = (finish_refusal name e ≡ None) × IsFinished name
 IsDone LetGo e new = (sent_refusal e ≡ None) × IsLetGo e new
 IsDone (Packet b) e new = IsDelivered b e new
 IsDone Expire e new = (expire_refusal e ≡ None) × IsExpired e new
+IsDone (GiveUp name) e new = (give_up_refusal name e ≡ None) × IsGivenUp name e new
 IsDone Tick e new = (tick_refusal e ≡ None) × IsTicked e new
+IsDone (Rebase ticks) e new = (rebase_refusal ticks e ≡ None) × IsRebased ticks e new
 IsDone Read e new = (read_refusal e ≡ None) × IsRead e new
 IsDone Execute e new = (execute_refusal e ≡ None) × IsExecuted e new
 IsDone (ExecuteGiven octets) e new =
@@ -134,28 +139,30 @@ moves side (Plain source flags service subtype body) =
 moves side (Finish name) = Do (step.Finish (direction_from side) name) ∷ []
 moves side LetGo = []
 moves side (Packet b) = Do (step.Accept (direction_to side) b) ∷ []
-moves side Expire = Do (step.Expire side) ∷ []
-moves side Tick = Do (step.Tick side) ∷ []
+moves side Expire = Do (step.Expire side None) ∷ []
+moves side (GiveUp name) = Do (step.Expire side (Some name)) ∷ []
+moves side Tick = Do (step.Tick side On) ∷ []
+moves side (Rebase ticks) = Do (step.Tick side (Back ticks)) ∷ []
 moves side Read = Do (step.Commit W1) ∷ Do (step.Claim W1) ∷ []
 moves side Execute = Do step.Apply ∷ []
 moves side (ExecuteGiven octets) = Do step.Apply ∷ []
 moves side (Retire direction name) = freeing side (direction_by direction) name ∷ []
 moves side (RetireFree direction name) = []
 moves side Restart = Do (step.Restart side) ∷ []
-moves side (Resume config state ms content) = Do (step.Restart side) ∷ []
-moves side (ResumeSized config state sizes) = Do (step.Restart side) ∷ []
+moves side (Resume config state ms content) = with_restart config side []
+moves side (ResumeSized config state sizes) = with_restart config side []
 
 -- ---- what the program promises
 
 -- what was kept of an end is this state, which reads as its restart, and these memories, in
 -- whatever order they are told; nothing happened at it since, and a number is left for a start
 --
--- Assumed: Memories, names and clocks survive a restart: what a call changes is saved before its
--- packets are sent, and a call that wasn't saved counts as not made.
+-- Assumed: Memories, names and clocks survive a restart: what a call changes is saved, whole or not
+-- at all, before its packets are sent; calls that a reset undoes don't count.
 pub record IsKept (c : Config) (e : End) (config : Config) (state : List ℕ)
     (kept : Kept) : Type 0 where
-  pub ticks : ℕ
-  pub configured : config ≡ later ticks c
+  pub own : Own
+  pub configured : config ≡ own_config own c
   pub state_is : state ≡ spelled e.node
   pub reads : ReadsAsRestarted e
   pub number_left : e.node.at.boot + 1 < 2 ^ 64
@@ -168,21 +175,23 @@ end_of Craft g k = k
 
 -- A name's numbers and octets are of their types. Octets that are handed over were put out by the
 -- other end and may come still, or are no part and no request. Octets that a request is given are
--- those that the program's memories have where it reads. A name is freed at its receiver
--- where it is over, and at its sender after that, and none of its parts waits at its sender; or it
--- is free there as `lpt_end_name` tells it. An end is restored from what was kept of it, in a
--- configuration that is the same but for the clock. What an end did and wasn't kept is no call:
+-- those that the program's memories have where it reads. A name is freed at its receiver where it
+-- is over, and at its sender after that, and none of its parts waits at its sender; or it is free
+-- there as `lpt_end_name` tells it. An end is restored from what was kept of it, in a configuration
+-- that is the same but for the clock and limits. What an end did and wasn't kept is no call:
 -- nothing of it was acted on or sent.
 abbrev pub Promises : Config → Pair → (on_ground on_craft : End) → Side → Call → Type 0
-Promises c p g k side (Open name m) = IsEvent (event.Open (direction_from side) name m)
-Promises c p g k side (Part name n) = IsEvent (event.Send (direction_from side) name n)
+Promises c p g k side (Open name m) = IsAct (act.Open (direction_from side) name m)
+Promises c p g k side (Part name n) = IsAct (act.Send (direction_from side) name n)
 Promises c p g k side (Plain source flags service subtype body) =
-    IsEvent (event.Plain source flags service subtype body)
-Promises c p g k side (Finish name) = IsEvent (event.Finish (direction_from side) name)
+    IsAct (act.Plain source flags service subtype body)
+Promises c p g k side (Finish name) = IsAct (act.Finish (direction_from side) name)
 Promises c p g k side LetGo = ⊤
 Promises c p g k side (Packet b) = MayCome c p.ends (direction_to side) b
 Promises c p g k side Expire = ⊤
+Promises c p g k side (GiveUp name) = ⊤
 Promises c p g k side Tick = ⊤
+Promises c p g k side (Rebase ticks) = ⊤
 Promises c p g k side Read = ⊤
 Promises c p g k side Execute = ⊤
 Promises c p g k side (ExecuteGiven octets) =

@@ -3,14 +3,14 @@
 -- A reset deletes what its program did since it last kept its end. So what is left is a run that
 -- drops requests.
 use Rattle.std.specs.Prelude.{◌≡◌, ℕ, List, [], ◌∷◌, ⊤}
-use Rattle.lpt_apart.specs.Clocks.{later}
+use Rattle.lpt_apart.specs.Clocks.{later, Own, own_config}
 use Rattle.lpt_apart.specs.Uploads.{came_with, WithholdsNoRequest}
 use Rattle.lpt_c_end.specs.Changes.{IsNew}
 use Rattle.lpt_c_end.specs.Contents.{memories_told}
 use Rattle.lpt_c_end.specs.declared.end.End.{End}
 use Rattle.lpt_c_end.specs.declared.memories.LptMemory.{LptMemory}
 use Rattle.lpt_c_pair.specs.Pairs.{Resume}
-use Rattle.lpt_c_pair.specs.Services.{Calls, Deed, Drops, DropsRead, Serving, CanServeAll, KeepsItsService, no_serving, served_all, turns_of}
+use Rattle.lpt_c_pair.specs.Services.{Calls, Deed, Drops, DropsRead, Refuses, Serving, CanServeAll, KeepsItsService, no_serving, served_all, turns_of}
 use Rattle.lpt_events.specs.Configs.{IsConfig}
 use Rattle.lpt_events.specs.declared.config.Config.{Config}
 use Rattle.lpt_events.specs.declared.side.Side.{Side}
@@ -41,12 +41,14 @@ abbrev pub doer : Deed → Side
 doer (Calls t) = t.side
 doer (Drops new) = Craft
 doer (DropsRead new) = Craft
+doer (Refuses code new) = Craft
 
 -- what its end became
 abbrev pub end_after : Deed → End
 end_after (Calls t) = t.new
 end_after (Drops new) = new
 end_after (DropsRead new) = new
+end_after (Refuses code new) = new
 
 -- the call that makes an end again
 abbrev pub again : Side → Config → List ℕ → List LptMemory → List ℕ → End → Deed
@@ -123,13 +125,13 @@ pub record IsLeft (c : Config) (first : Contents) (start : Serving) (p : Past) :
 -- whatever was done with two ends that were new, drops among it, whenever machines were reset
 abbrev pub ResetEndsThatDropServe : Type 0
 ResetEndsThatDropServe =
-    (c : Config) (a b : ℕ)
+    (c : Config) (a : ℕ) (b : Own)
     (none : List LptMemory) (nothing : List ℕ) (ms : List LptMemory) (content : List ℕ)
     (g k : End) (xs : List Event)
     → IsConfig (later a c)
-    → IsConfig (later b c)
+    → IsConfig (own_config b c)
     → IsNew Ground (later a c) none nothing g
-    → IsNew Craft (later b c) ms content k
+    → IsNew Craft (own_config b c) ms content k
     → CanGoAll c (no_serving c (memories_told content ms) a b g k)
     (just_begun (no_serving c (memories_told content ms) a b g k)) xs
     → IsLeft c (memories_told content ms) (no_serving c (memories_told content ms) a b g k)

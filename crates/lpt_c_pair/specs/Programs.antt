@@ -1,7 +1,7 @@
 -- Two ends behind handles, where the spacecraft's program has the memories: what it writes, and
 -- what they are.
 use Rattle.std.specs.Prelude.{◌≡◌, ℕ, ◌+◌, List, [], ◌∷◌, ◌++◌, length, Ok, Err, Some, ⊤}
-use Rattle.lpt_apart.specs.Clocks.{later}
+use Rattle.lpt_apart.specs.Clocks.{later, Own, own_config}
 use Rattle.lpt_apart.specs.Facts.{executed}
 use Rattle.lpt_c_end.specs.Accesses.{IsAccess, written_by}
 use Rattle.lpt_c_end.specs.Changes.{IsNew}
@@ -102,8 +102,9 @@ pub record IsGiven (p : Program) (octets : List ℕ) (owed : List Told) : Type 0
 -- next, and nothing while it owes something. While it does, its memories change only where all
 -- that is owed makes the same of them.
 --
--- Assumed: A C program that has the memories itself writes them in one of two orders, and nothing
--- else writes there.
+-- Assumed: A C program that has the memories itself keeps each load's writes, or the octets that
+-- they replace, before it writes (redo or undo); a torn write changes only octets of its load;
+-- nothing else writes there.
 abbrev pub CanAct : Config → Program → Act → Type 0
 CanAct c p (Calls t) = CanTurnBy c p.ends t.side t.call t.new × MayCall p t.side t.call
 CanAct c p (Writes t) = (p.owed ≡ []) × IsTold (length p.ahead) t p.ends.on_craft
@@ -125,7 +126,7 @@ CanActAll c p (x ∷ xs) = CanActAll c p xs × CanAct c (came_by c p xs) x
 -- ---- the law
 
 -- two new ends, and memories that nothing was written over
-abbrev pub started : Config → Contents → (ticks_ground ticks_craft : ℕ)
+abbrev pub started : Config → Contents → (ticks_ground : ℕ) → (own_craft : Own)
     → (on_ground on_craft : End)
     → Program
 started c first a b g k =
@@ -141,13 +142,13 @@ pub record KeepsItsMemories (c : Config) (first : Contents) (p : Program) : Type
 -- whatever was done with two new ends, and with memories that begin so
 abbrev pub ProgramsKeepTheirMemories : Type 0
 ProgramsKeepTheirMemories =
-    (c : Config) (a b : ℕ)
+    (c : Config) (a : ℕ) (b : Own)
     (none : List LptMemory) (nothing : List ℕ) (sizes : List LptSize) (first : Contents)
     (g k : End) (xs : List Act)
     → IsConfig (later a c)
-    → IsConfig (later b c)
+    → IsConfig (own_config b c)
     → sizes_said sizes ≡ sizes_of first
     → IsNew Ground (later a c) none nothing g
-    → IsNewSized (later b c) sizes k
+    → IsNewSized (own_config b c) sizes k
     → CanActAll c (started c first a b g k) xs
     → KeepsItsMemories c first (came_by c (started c first a b g k) xs)

@@ -4,7 +4,7 @@
 -- A reset deletes what its program did since it last kept its end, but for what was written over
 -- memories: those stay as they are.
 use Rattle.std.specs.Prelude.{◌≡◌, ℕ, List, [], ◌∷◌, ◌++◌, ⊤}
-use Rattle.lpt_apart.specs.Clocks.{later}
+use Rattle.lpt_apart.specs.Clocks.{later, Own, own_config}
 use Rattle.lpt_apart.specs.Whole.{came_since, WithholdsNothing}
 use Rattle.lpt_c_end.specs.Changes.{IsNew}
 use Rattle.lpt_c_end.specs.Sizes.{sizes_said, IsNewSized}
@@ -194,14 +194,14 @@ pub record IsLeft (c : Config) (first : Contents) (start : Program) (l : Lived) 
 -- whatever was done with two new ends and with memories that begin so, whenever machines were reset
 abbrev pub ResetProgramsKeepTheirMemories : Type 0
 ResetProgramsKeepTheirMemories =
-    (c : Config) (a b : ℕ)
+    (c : Config) (a : ℕ) (b : Own)
     (none : List LptMemory) (nothing : List ℕ) (sizes : List LptSize) (first : Contents)
     (g k : End) (xs : List Deed)
     → IsConfig (later a c)
-    → IsConfig (later b c)
+    → IsConfig (own_config b c)
     → sizes_said sizes ≡ sizes_of first
     → IsNew Ground (later a c) none nothing g
-    → IsNewSized (later b c) sizes k
+    → IsNewSized (own_config b c) sizes k
     → CanLiveAll c (started c first a b g k) (just_begun (started c first a b g k)) xs
     → IsLeft c first (started c first a b g k)
     (lived_all c (started c first a b g k) (just_begun (started c first a b g k)) xs)

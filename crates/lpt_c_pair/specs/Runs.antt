@@ -1,6 +1,6 @@
 -- Runs of two ends behind handles, and what is promised of them.
 use Rattle.std.specs.Prelude.{ℕ, List, [], ◌∷◌, ⊤}
-use Rattle.lpt_apart.specs.Clocks.{later, no_pair_later, after_all}
+use Rattle.lpt_apart.specs.Clocks.{later, no_pair_later, after_all, Own, own_config}
 use Rattle.lpt_apart.specs.Moves.{Pair}
 use Rattle.lpt_apart.specs.Worlds.{IsPromised}
 use Rattle.lpt_c_end.specs.Changes.{IsNew}
@@ -26,8 +26,8 @@ pub record Standing : Type 0 where
   pub on_ground : End
   pub on_craft : End
 
--- two new ends, whose clocks begin so many ticks later
-abbrev pub begun : Config → Contents → (ticks_ground ticks_craft : ℕ)
+-- two new ends; ground's clock begins so many ticks later, and the spacecraft has this of its own
+abbrev pub begun : Config → Contents → (ticks_ground : ℕ) → (own_craft : Own)
     → (on_ground on_craft : End)
     → Standing
 begun c first a b g k = record { pair = no_pair_later c first a b; on_ground = g; on_craft = k }
@@ -67,16 +67,17 @@ pub record KeepsThePromise (c : Config) (first : Contents) (s : Standing) : Type
   pub ends : AreEndsOf c s.pair s.on_ground s.on_craft
   pub promised : IsPromised c first s.pair.ends
 
--- whatever calls were made of two ends that were new, each with a clock of its own
+-- whatever calls were made of two ends that were new, each with a clock and limits of its own:
+-- those of the configuration are ground's
 abbrev pub EndsOfCKeepThePromise : Type 0
 EndsOfCKeepThePromise =
-    (c : Config) (a b : ℕ)
+    (c : Config) (a : ℕ) (b : Own)
     (none : List LptMemory) (nothing : List ℕ) (ms : List LptMemory) (content : List ℕ)
     (g k : End) (ts : List Turn)
     → IsConfig (later a c)
-    → IsConfig (later b c)
+    → IsConfig (own_config b c)
     → IsNew Ground (later a c) none nothing g
-    → IsNew Craft (later b c) ms content k
+    → IsNew Craft (own_config b c) ms content k
     → CanStand c (begun c (memories_told content ms) a b g k) ts
     → KeepsThePromise c (memories_told content ms)
     (stood c (begun c (memories_told content ms) a b g k) ts)

@@ -1,7 +1,8 @@
--- Two ends behind handles, whose spacecraft's program drops requests that it doesn't execute.
+-- Two ends behind handles, whose spacecraft's program drops or refuses requests that it doesn't
+-- execute.
 use Rattle.std.specs.Prelude.{◌≡◌, ℕ, List, [], ◌∷◌, ◌++◌, None, ⊤, Some}
 use Rattle.std.specs.List.{slice_get}
-use Rattle.lpt_apart.specs.Clocks.{later}
+use Rattle.lpt_apart.specs.Clocks.{later, Own, own_config}
 use Rattle.lpt_apart.specs.Drops as apart
 use Rattle.lpt_apart.specs.Drops.{Service, CanTurnAll, IsServed, no_service, turned, turned_all}
 use Rattle.lpt_apart.specs.Moves.{Move}
@@ -9,6 +10,7 @@ use Rattle.lpt_c_end.specs.Accesses.{unready}
 use Rattle.lpt_c_end.specs.Changes.{execution_of, IsDropped, IsNew, IsReadDropped}
 use Rattle.lpt_c_end.specs.Contents.{memories_told}
 use Rattle.lpt_c_end.specs.Refusals.{read_refusal}
+use Rattle.lpt_c_end.specs.Refusing.{IsRefusedAs, refuse_refusal}
 use Rattle.lpt_c_end.specs.declared.end.End.{End}
 use Rattle.lpt_c_end.specs.declared.memories.LptMemory.{LptMemory}
 use Rattle.lpt_c_pair.specs.Drops.{PassesOver}
@@ -20,6 +22,8 @@ use Rattle.lpt_events.specs.declared.side.Side.{Side}
 use Rattle.lpt_events.specs.declared.side.Side.TheVariants.{Ground, Craft}
 use Rattle.lpt_memory.specs.Memories.{Contents}
 use Rattle.lpt_node.specs.Jobs.{executed_given}
+use Rattle.lpt_pus.specs.Codes.{number_of}
+use Rattle.lpt_pus.specs.declared.failure_code.FailureCode.{FailureCode}
 
 -- two ends behind handles, and the ends apart that they are, with the requests that wait
 pub record Serving : Type 0 where
@@ -27,23 +31,26 @@ pub record Serving : Type 0 where
   pub on_ground : End
   pub on_craft : End
 
--- a call that answered 0; or `lpt_end_drop` did, or `lpt_end_drop_read`, and the spacecraft's end
--- became this
+-- a call that answered 0; or `lpt_end_drop` did, `lpt_end_drop_read`, or `lpt_end_refuse`, and the
+-- spacecraft's end became this
 pub data Deed : Type 0 where
   Calls : Turn → Deed
   Drops : (new : End) → Deed
   DropsRead : (new : End) → Deed
+  Refuses : FailureCode → (new : End) → Deed
 
 -- the ends alone
 abbrev pub standing : Serving → Standing
 standing s =
     record { pair = s.service.pair; on_ground = s.on_ground; on_craft = s.on_craft }
 
--- a call is made as before; a drop isn't refused
+-- a call is made as before; a drop, or a refusal of a request, isn't itself refused
 abbrev pub CanServe : Config → Serving → Deed → Type 0
 CanServe c s (Calls t) = CanTurnBy c (standing s) t.side t.call t.new
 CanServe c s (Drops new) = (read_refusal s.on_craft ≡ None) × IsDropped s.on_craft new
 CanServe c s (DropsRead new) = (unready s.on_craft ≡ None) × IsReadDropped s.on_craft new
+CanServe c s (Refuses code new) =
+    (refuse_refusal (number_of code) s.on_craft ≡ None) × IsRefusedAs code s.on_craft new
 
 -- moves as turns
 abbrev pub made : List Move → List apart.Turn
@@ -60,6 +67,7 @@ abbrev pub turns_by : Deed → List apart.Turn
 turns_by (Calls t) = turns t.side t.call
 turns_by (Drops new) = apart.Drops ∷ []
 turns_by (DropsRead new) = apart.LetsGo ∷ []
+turns_by (Refuses code new) = apart.Refuses code ∷ []
 
 -- and of deeds
 abbrev pub turns_of : List Deed → List apart.Turn
@@ -78,6 +86,7 @@ abbrev pub served : Config → Serving → Deed → Serving
 served c s (Calls t) = with_end s (turned_all c s.service (turns t.side t.call)) t.side t.new
 served c s (Drops new) = with_end s (turned c s.service apart.Drops) Craft new
 served c s (DropsRead new) = with_end s (turned c s.service apart.LetsGo) Craft new
+served c s (Refuses code new) = with_end s (turned c s.service (apart.Refuses code)) Craft new
 
 -- after these deeds, the newest of which stands first
 abbrev pub served_all : Config → Serving → List Deed → Serving
@@ -90,7 +99,7 @@ CanServeAll c s [] = ⊤
 CanServeAll c s (x ∷ xs) = CanServeAll c s xs × CanServe c (served_all c s xs) x
 
 -- two new ends
-abbrev pub no_serving : Config → Contents → (ticks_ground ticks_craft : ℕ)
+abbrev pub no_serving : Config → Contents → (ticks_ground : ℕ) → (own_craft : Own)
     → (on_ground on_craft : End)
     → Serving
 no_serving c first a b g k =
@@ -98,7 +107,7 @@ no_serving c first a b g k =
 
 -- The ends are two ends apart. Each request that was released was sent by ground. The spacecraft's
 -- memories are their first content, changed by the executed requests in order of release; none that
--- was dropped is among these.
+-- was dropped or refused is among these.
 pub record KeepsItsService (c : Config) (first : Contents) (s : Serving) : Type 0 where
   pub ends : AreEndsOf c s.service.pair s.on_ground s.on_craft
   pub served : IsServed c first s.service
@@ -106,13 +115,13 @@ pub record KeepsItsService (c : Config) (first : Contents) (s : Serving) : Type 
 -- whatever calls were made of two ends that were new, drops among them
 abbrev pub EndsOfCThatDropServe : Type 0
 EndsOfCThatDropServe =
-    (c : Config) (a b : ℕ)
+    (c : Config) (a : ℕ) (b : Own)
     (none : List LptMemory) (nothing : List ℕ) (ms : List LptMemory) (content : List ℕ)
     (g k : End) (xs : List Deed)
     → IsConfig (later a c)
-    → IsConfig (later b c)
+    → IsConfig (own_config b c)
     → IsNew Ground (later a c) none nothing g
-    → IsNew Craft (later b c) ms content k
+    → IsNew Craft (own_config b c) ms content k
     → CanServeAll c (no_serving c (memories_told content ms) a b g k) xs
     → KeepsItsService c (memories_told content ms)
     (served_all c (no_serving c (memories_told content ms) a b g k) xs)

@@ -1,6 +1,6 @@
 -- Two ends behind handles withhold nothing that came whole.
 use Rattle.std.specs.Prelude.{◌≡◌, ℕ, List, [], ◌∷◌, ◌++◌}
-use Rattle.lpt_apart.specs.Clocks.{later, no_pair_later}
+use Rattle.lpt_apart.specs.Clocks.{later, no_pair_later, Own, own_config}
 use Rattle.lpt_apart.specs.Drops.{no_service}
 use Rattle.lpt_apart.specs.Moves.{Move}
 use Rattle.lpt_apart.specs.Uploads.{came_with, WithholdsNoRequest}
@@ -42,13 +42,13 @@ turns_of (Settles ∷ xs) = turns_of xs
 -- off.
 abbrev pub EndsOfCWithholdNothing : Type 0
 EndsOfCWithholdNothing =
-    (c : Config) (a b : ℕ)
+    (c : Config) (a : ℕ) (b : Own)
     (none : List LptMemory) (nothing : List ℕ) (ms : List LptMemory) (content : List ℕ)
     (g k : End) (ts : List Turn)
     → IsConfig (later a c)
-    → IsConfig (later b c)
+    → IsConfig (own_config b c)
     → IsNew Ground (later a c) none nothing g
-    → IsNew Craft (later b c) ms content k
+    → IsNew Craft (own_config b c) ms content k
     → CanStand c (begun c (memories_told content ms) a b g k) ts
     → WithholdsNothing c
     (stood c (begun c (memories_told content ms) a b g k) ts).pair.ends.log
@@ -57,14 +57,14 @@ EndsOfCWithholdNothing =
 -- the same where the spacecraft's program has the memories
 abbrev pub ProgramsWithholdNothing : Type 0
 ProgramsWithholdNothing =
-    (c : Config) (a b : ℕ)
+    (c : Config) (a : ℕ) (b : Own)
     (none : List LptMemory) (nothing : List ℕ) (sizes : List LptSize) (first : Contents)
     (g k : End) (xs : List Act)
     → IsConfig (later a c)
-    → IsConfig (later b c)
+    → IsConfig (own_config b c)
     → sizes_said sizes ≡ sizes_of first
     → IsNew Ground (later a c) none nothing g
-    → IsNewSized (later b c) sizes k
+    → IsNewSized (own_config b c) sizes k
     → CanActAll c (started c first a b g k) xs
     → WithholdsNothing c (came_by c (started c first a b g k) xs).ends.pair.ends.log
     (came_since c (no_pair_later c first a b) (moves_of (turns_of xs)))
@@ -77,13 +77,13 @@ ProgramsWithholdNothing =
 -- its reception expired or was broken off.
 abbrev pub EndsOfCThatDropWithholdNoRequest : Type 0
 EndsOfCThatDropWithholdNoRequest =
-    (c : Config) (a b : ℕ)
+    (c : Config) (a : ℕ) (b : Own)
     (none : List LptMemory) (nothing : List ℕ) (ms : List LptMemory) (content : List ℕ)
     (g k : End) (xs : List Deed)
     → IsConfig (later a c)
-    → IsConfig (later b c)
+    → IsConfig (own_config b c)
     → IsNew Ground (later a c) none nothing g
-    → IsNew Craft (later b c) ms content k
+    → IsNew Craft (own_config b c) ms content k
     → CanServeAll c (no_serving c (memories_told content ms) a b g k) xs
     → WithholdsNoRequest c
     (served_all c (no_serving c (memories_told content ms) a b g k) xs).service.pair.ends.log
@@ -92,14 +92,14 @@ EndsOfCThatDropWithholdNoRequest =
 -- the same where the spacecraft's program has the memories
 abbrev pub ProgramsThatDropWithholdNoRequest : Type 0
 ProgramsThatDropWithholdNoRequest =
-    (c : Config) (a b : ℕ)
+    (c : Config) (a : ℕ) (b : Own)
     (none : List LptMemory) (nothing : List ℕ) (sizes : List LptSize) (first : Contents)
     (g k : End) (xs : List keeper.Act)
     → IsConfig (later a c)
-    → IsConfig (later b c)
+    → IsConfig (own_config b c)
     → sizes_said sizes ≡ sizes_of first
     → IsNew Ground (later a c) none nothing g
-    → IsNewSized (later b c) sizes k
+    → IsNewSized (own_config b c) sizes k
     → keeper.CanKeepAll c (keeper.new_keeper c first a b g k) xs
     → WithholdsNoRequest c
     (keeper.kept_all c (keeper.new_keeper c first a b g k) xs).serving.service.pair.ends.log

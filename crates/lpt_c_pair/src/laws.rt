@@ -121,13 +121,14 @@ pub fn dropped_is_never_executed()
 
 /// A program that serves other services drops their requests, and keeps this. Take two new ends, of
 /// which the spacecraft's has its memories, and any list of calls of them that answered 0,
-/// `lpt_end_drop` and `lpt_end_drop_read` among them, the programs keeping what they promise. Then
-/// the ends are two ends apart. Each request that was released is one that ground asked, or the
-/// message last opened under its name. The spacecraft's memories are their first content, changed
-/// by the executed requests in order of release, and none that was dropped is among these.
+/// `lpt_end_drop`, `lpt_end_drop_read` and `lpt_end_refuse` among them, the programs keeping what
+/// they promise. Then the ends are two ends apart. Each request that was released is one that
+/// ground asked, or the message last opened under its name. The spacecraft's memories are their
+/// first content, changed by the executed requests in order of release, and none that was dropped
+/// or refused is among these.
 ///
-/// So it is too if its program has the memories. It may put back what it wrote ahead of a
-/// request that it then drops. And so it is of what is left if either machine is reset, once or
+/// So it is too if its program has the memories. It may put back what it wrote ahead of a request
+/// that it then drops or refuses. And so it is of what is left if either machine is reset, once or
 /// again and again, wherever the memories are, as `resets_keep_the_promise` says it of ends that
 /// drop nothing.
 pub fn ends_of_c_that_drop_serve()

@@ -23,7 +23,7 @@ use Rattle.lpt_c_pair.specs.Histories.{AreCareful, just_begun}
 use Rattle.lpt_c_pair.specs.Pairs.{Execute, Packet, Plain, Read}
 use Rattle.lpt_c_pair.specs.Runs.{CanStand, CanTurnBy, Standing, begun, stood}
 use Rattle.lpt_c_pair.proofs.Histories.{careful_programs_may_be_reset}
-use Rattle.lpt_c_pair_examples.specs.Called.{CallsCanBe, calls_made, called_and_reset, content, memory}
+use Rattle.lpt_c_pair_examples.specs.Called.{CallsCanBe, calls_made, called_and_reset, content, memory, usual_own}
 use Rattle.lpt_c_pair_examples.proofs.Computed.{asked, octets, opens_nothing, packet_is, source}
 use Rattle.lpt_c_pair_examples.proofs.Own.{again_behind, before, behind, executes_it, first_kept, is_with_load, last_kept, resumes_it, with_load}
 use Rattle.lpt_c_pair_examples.proofs.Stages.{asked_end, asks, none_read, one_read, one_waits, reads, takes, takes_again}
@@ -50,7 +50,7 @@ module _ (g k : End) (new_g : IsNew Ground usual [] [] g)
   again = again_behind k new_k 1 [] none_read
 
   abbrev start : Standing
-  start = begun usual (memories_told content memory) 0 0 g k
+  start = begun usual (memories_told content memory) 0 usual_own g k
 
   -- ---- the run
 

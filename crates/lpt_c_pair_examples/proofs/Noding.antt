@@ -20,12 +20,12 @@ use Rattle.lpt_events.specs.declared.side.Side.TheVariants.{Ground, Craft}
 use Rattle.lpt_execution.specs.Reporting.{request_source}
 use Rattle.lpt_node.specs.Nodes.{NodeData, is_open, no_data}
 use Rattle.lpt_node.specs.Restarts.{NoneOpen}
-use Rattle.lpt_state.specs.Lastings.{AreRuns, IsEnd}
+use Rattle.lpt_state.specs.Lastings.{AreRuns, IsBoundAlike, IsEnd}
 use Rattle.lpt_apart.specs.Clocks.{CanAll, after_all}
 use Rattle.lpt_apart.specs.Facts.{Asked, Executed, Released, Restarted}
 use Rattle.lpt_apart.specs.Moves.{CanMove, Do}
 use Rattle.lpt_apart.specs.Steps.{Accept, with_report}
-use Rattle.lpt_apart_kept.specs.Deeds.{CanDoAll}
+use Rattle.lpt_apart_kept.specs.Deeds.{CanDoAll, end_of}
 use Rattle.lpt_apart_kept.specs.Resets.{IsWritable, just_written, CanLiveAll}
 use Rattle.lpt_c_pair_examples.specs.Nodes.{NodesCanBe, deeds, lives, moves, new_pair, unwritten}
 use Rattle.lpt_c_pair_examples.proofs.Computed.{asked, executes, no_runs, octets, opens_nothing, packet_is, with_jobs}
@@ -84,7 +84,7 @@ node_fits : (side : Side) (d : NodeData)
     → NoneOpen d.receiving.ledger
     → d.boot ≡ 0
     → d.clock ≡ 0
-    → IsEnd (record { side = side; config = usual; at = d })
+    → IsEnd (end_of usual side d)
 node_fits side d sent received none boot clock = record {
   fits = record {
     boot_fits = omega (arith, boot);
@@ -93,6 +93,7 @@ node_fits side d sent received none boot clock = record {
     received_fit = received;
   };
   none_open = none;
+  own_limits = refl;
 }
 
 none_open : NoneOpen (no_data usual).receiving.ledger
@@ -107,17 +108,20 @@ ground_fits = record {
 
 craft_fits : IsWritable usual (after_all usual new_pair moves) Craft
 craft_fits =
-    let fits : IsEnd (record { side = Craft; config = usual; at = with_jobs 1 [] }) =
+    let fits : IsEnd (end_of usual Craft (with_jobs 1 [])) =
     node_fits Craft (with_jobs 1 []) no_runs no_runs none_open refl refl in
     let left : 0 + 1 < 2 ^ 64 = omega arith in
     record {
       is_end =
-          subst (λ (d : NodeData). IsEnd (record { side = Craft; config = usual; at = d }))
-          (sym craft_is) fits;
+          subst (λ (d : NodeData). IsEnd (end_of usual Craft d)) (sym craft_is) fits;
       boot_left = subst (λ (d : NodeData). d.boot + 1 < 2 ^ 64) (sym craft_is) left;
     }
 
 -- ---- the runs
+
+-- the configuration in which it is read is the same
+bound : IsBoundAlike usual usual
+bound = record { apid = refl; source = refl; part_size = refl; mode = refl }
 
 reads_back : CanDoAll usual unwritten deeds
 reads_back = (
@@ -128,7 +132,7 @@ reads_back = (
     ),
     tt,
   ),
-  record { same = refl; is_end = craft_fits.is_end; boot_left = craft_fits.boot_left },
+  (record { same = refl; is_end = craft_fits.is_end; boot_left = craft_fits.boot_left }, bound),
 )
 
 resets : CanLiveAll usual new_pair (just_written usual unwritten) lives
@@ -149,7 +153,7 @@ resets = (
     ),
     comes_again,
   ),
-  (can_move, refl),
+  ((can_move, refl), bound),
 )
 
 pub nodes_can_be : NodesCanBe

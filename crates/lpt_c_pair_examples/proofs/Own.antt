@@ -146,8 +146,8 @@ module _ (k : End) (new_k : IsNew Craft usual memory content k) where
       let new : End = again_behind first [] none_read in (
         subst (λ (s : Side). IsResumedWith s e.config (spelled e.node)
             (memories_of s memory loaded_content) new) (sym new_k.side)
-            (resumes e first [] refl new last_kept new_k.side new_k.side refl refl refl refl
+            (resumes e first [] refl new_k.config new last_kept new_k.side new_k.side refl refl refl refl
             refl),
-        is_kept e first [] refl (memories_of e.side memory loaded_content) new_k.config
+        is_kept e first [] refl new_k.config (memories_of e.side memory loaded_content)
             (λ i. memories_of (new_k.side i) memory loaded_content),
       )

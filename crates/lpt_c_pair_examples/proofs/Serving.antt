@@ -14,7 +14,7 @@ use Rattle.lpt_c_end.specs.Contents.{memories_told}
 use Rattle.lpt_c_end.specs.declared.end.End.{End}
 use Rattle.lpt_c_pair.specs.Pasts.{CanGoAll, just_begun}
 use Rattle.lpt_c_pair.specs.Services.{CanServeAll, Deed, Serving, no_serving}
-use Rattle.lpt_c_pair_examples.specs.Called.{content, memory}
+use Rattle.lpt_c_pair_examples.specs.Called.{content, memory, usual_own}
 use Rattle.lpt_c_pair_examples.specs.Dropped.{DroppedCanBe, dropped_and_reset, dropped_once}
 use Rattle.lpt_c_pair_examples.proofs.Computed.{asked, nothing, octets, packet_is, source}
 use Rattle.lpt_c_pair_examples.proofs.Own.{again_behind, before, behind, executes_it, first_kept, passes_it, resumes_it, ticked_behind, ticks}
@@ -73,7 +73,7 @@ module _ (g k : End) (new_g : IsNew Ground usual [] [] g)
   -- ---- the run
 
   abbrev start : Serving
-  start = no_serving usual (memories_told content memory) 0 0 g k
+  start = no_serving usual (memories_told content memory) 0 usual_own g k
 
   abbrev run : List Deed
   run = dropped_once asked_for taken dropped again read passed done

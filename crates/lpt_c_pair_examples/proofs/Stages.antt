@@ -3,6 +3,8 @@ use Rattle.std.proofs.Common.{◌≡◌, ◌∙◌, ap, sym, subst, refl, ℕ, �
 use Rattle.std.specs.Prelude.{All, option_to_list}
 use Rattle.std.specs.FinMap.{get-empty}
 use Rattle.std.proofs.lemmas.List.Elements.{All-cons, All-nil}
+use Rattle.lpt_acts.specs.Acts.{limits_of}
+use Rattle.lpt_c_pair_examples.specs.Called.{usual_own}
 use Rattle.lpt_packet.specs.Names.{name_cmp}
 use Rattle.lpt_ledger.specs.States.{state_of}
 use Rattle.lpt_memory.specs.Meanings.{Sizes}
@@ -226,7 +228,8 @@ module _ (kept : Kept) (has : sizes_in kept ≡ Some one)
 -- ---- states
 
 -- an end of which a state can be written, with these requests
-module _ (e : End) (first : ℕ) (jobs : List Job) (node : e.node.at ≡ with_jobs first jobs) where
+module _ (e : End) (first : ℕ) (jobs : List Job) (node : e.node.at ≡ with_jobs first jobs)
+    (usually : e.config ≡ usual) where
   can_be_kept : IsEnd (record e.node { at = with_jobs first jobs })
   can_be_kept = record {
     fits = record {
@@ -236,6 +239,7 @@ module _ (e : End) (first : ℕ) (jobs : List Job) (node : e.node.at ≡ with_jo
       received_fit = no_runs;
     };
     none_open = λ name. ap (λ o. is_open (state_of o)) (get-empty name_cmp name);
+    own_limits = sym (ap limits_of (e.same_config ∙ usually));
   }
 
   is_end : IsEnd e.node
@@ -271,12 +275,11 @@ module _ (e : End) (first : ℕ) (jobs : List Job) (node : e.node.at ≡ with_jo
 
   -- what was kept of it is this
   pub is_kept : (kept : Kept)
-      → e.config ≡ usual
       → kept ≡ e.memories
       → IsKept usual e e.config (spelled e.node) kept
-  is_kept kept config memories = record {
-    ticks = 0;
-    configured = config;
+  is_kept kept memories = record {
+    own = usual_own;
+    configured = usually;
     state_is = refl;
     reads = λ left.
         (λ i. reading (sym e.same_side i) (sym e.same_config i) (spelled e.node))

@@ -1,5 +1,6 @@
 -- The worked run that drops a request over which it had written, computed by the definitions.
 use Rattle.std.proofs.Common.{◌≡◌, refl, List, [], ◌∷◌, None, inl, arith}
+use Rattle.lpt_c_pair_examples.specs.Called.{usual_own}
 use Rattle.lpt_packet.specs.Checksums.{checksum, octets_in, shift_all}
 use Rattle.lpt_packet.specs.Packets.{seen, spelling}
 use Rattle.lpt_packet.specs.declared.direction.Direction.TheVariants.{Up}
@@ -50,7 +51,7 @@ module _ (g k : End) (new_g : IsNew Ground usual [] [] g) (new_k : IsNewSized us
   resumed = craft_again k new_k 2 [] none_read
 
   abbrev start : Keeper
-  start = new_keeper usual usual_memories 0 0 g k
+  start = new_keeper usual usual_memories 0 usual_own g k
 
   -- the request that was read is let go
   lets_go : (unready read ≡ None) × IsReadDropped read let_go

@@ -2,6 +2,7 @@
 use Rattle.std.proofs.Common.{◌≡◌, ◌∙◌, ap, sym, refl, ℕ, ◌+◌, ◌==◌, if◌then◌else◌, List, [], ◌∷◌, Some, None, Err, inl, arith}
 use Rattle.std.specs.Prelude.{slice_get}
 use Rattle.std.specs.Option.{option_map}
+use Rattle.lpt_c_pair_examples.specs.Called.{usual_own}
 use Rattle.lpt_packet.specs.Checksums.{checksum, octets_in, shift_all}
 use Rattle.lpt_packet.specs.Packets.{seen, spelling}
 use Rattle.lpt_packet.specs.declared.direction.Direction.TheVariants.{Up}
@@ -97,9 +98,9 @@ module _ (k : End) (new_k : IsNewSized usual sizes k) where
       × IsKept usual e e.config (spelled e.node) (kept_as sizes)
   resumes_it first jobs all =
       let e : End = craft first jobs all in (
-        resumes e first jobs refl (craft_again first jobs all) (kept_as sizes) new_k.side
+        resumes e first jobs refl new_k.config (craft_again first jobs all) (kept_as sizes) new_k.side
             new_k.side refl refl new_k.memories refl refl,
-        is_kept e first jobs refl (kept_as sizes) new_k.config (sym new_k.memories),
+        is_kept e first jobs refl new_k.config (kept_as sizes) (sym new_k.memories),
       )
 
 -- what the load reads of memories
@@ -128,7 +129,7 @@ module _ (g k : End) (new_g : IsNew Ground usual [] [] g) (new_k : IsNewSized us
   again_before = craft_again k new_k 0 (Committed source ∷ []) one_done
 
   abbrev start : Program
-  start = started usual usual_memories 0 0 g k
+  start = started usual usual_memories 0 usual_own g k
 
   -- up to the execution
   can_give : CanActAll usual start (Gives [] (load_told ∷ []) given

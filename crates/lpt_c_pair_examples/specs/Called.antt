@@ -1,5 +1,7 @@
 -- A worked run of two ends behind handles, of which the spacecraft's has its memory.
 use Rattle.std.specs.Prelude.{◌≡◌, ℕ, List, [], ◌∷◌, ◌++◌, None, replicate}
+use Rattle.lpt_acts.specs.Acts.{limits_of}
+use Rattle.lpt_apart.specs.Clocks.{Own}
 use Rattle.lpt_apart.specs.Facts.{Asked, Executed, Log, Released, Restarted}
 use Rattle.lpt_c_end.specs.Changes.{IsNew}
 use Rattle.lpt_c_end.specs.Contents.{memories_told}
@@ -12,6 +14,10 @@ use Rattle.lpt_c_pair.specs.Runs.{Standing, Turn, CanStand, begun, stood}
 use Rattle.lpt_events.specs.declared.side.Side.TheVariants.{Ground, Craft}
 use Rattle.lpt_journal_examples.specs.Passes.{load, load_packet, loaded_memories, usual}
 use Rattle.lpt_state.specs.Spellings.{spelled}
+
+-- what the spacecraft has of its own: the clock and the limits of the configuration
+abbrev pub usual_own : Own
+usual_own = record { ticks = 0; limits = limits_of usual }
 
 -- the one memory, its first content, and that with the load
 abbrev pub memory : List LptMemory
@@ -86,4 +92,4 @@ CallsCanBe =
     (g k : End)
     → IsNew Ground usual [] [] g
     → IsNew Craft usual memory content k
-    → CanBeCalled (begun usual (memories_told content memory) 0 0 g k)
+    → CanBeCalled (begun usual (memories_told content memory) 0 usual_own g k)

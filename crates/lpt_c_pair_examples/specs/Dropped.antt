@@ -8,7 +8,7 @@ use Rattle.lpt_c_pair.specs.Pairs.{Execute, Packet, Plain, Read, Tick}
 use Rattle.lpt_c_pair.specs.Pasts.{Does, Event, Keeps, Resets, CanGoAll, just_begun, went_all}
 use Rattle.lpt_c_pair.specs.Services.{Calls, Deed, Drops, Serving, CanServeAll, no_serving, served_all}
 use Rattle.lpt_events.specs.declared.side.Side.TheVariants.{Ground, Craft}
-use Rattle.lpt_c_pair_examples.specs.Called.{content, loaded_content, memory}
+use Rattle.lpt_c_pair_examples.specs.Called.{content, loaded_content, memory, usual_own}
 use Rattle.lpt_journal_examples.specs.Passes.{load, load_packet, loaded_memories, usual}
 use Rattle.lpt_state.specs.Spellings.{spelled}
 
@@ -75,4 +75,4 @@ DroppedCanBe =
     (g k : End)
     → IsNew Ground usual [] [] g
     → IsNew Craft usual memory content k
-    → CanBeDropped (no_serving usual (memories_told content memory) 0 0 g k)
+    → CanBeDropped (no_serving usual (memories_told content memory) 0 usual_own g k)

@@ -3,12 +3,12 @@
 use Rattle.std.specs.Prelude.{◌≡◌, List, [], ◌∷◌}
 use Rattle.lpt_apart.specs.Clocks.{after_all, no_pair_later}
 use Rattle.lpt_apart.specs.Moves.{Do, Move, Pair}
-use Rattle.lpt_apart.specs.Steps.{Accept, Apply, Claim, Commit, Plain, Restart}
+use Rattle.lpt_apart.specs.Steps.{Accept, Apply, Claim, Commit, Plain}
 use Rattle.lpt_apart_kept.specs.Deeds as kept
-use Rattle.lpt_apart_kept.specs.Deeds.{Kept, CanDoAll}
+use Rattle.lpt_apart_kept.specs.Deeds.{Kept, CanDoAll, with_restart}
 use Rattle.lpt_apart_kept.specs.Resets as reset
 use Rattle.lpt_apart_kept.specs.Resets.{CanLiveAll, just_written, lived_all}
-use Rattle.lpt_c_pair_examples.specs.Called.{called_log}
+use Rattle.lpt_c_pair_examples.specs.Called.{called_log, usual_own}
 use Rattle.lpt_events.specs.declared.side.Side.TheVariants.{Ground, Craft}
 use Rattle.lpt_events.specs.declared.worker.Worker.TheVariants.{W1}
 use Rattle.lpt_journal_examples.specs.Passes.{load, load_packet, loaded_memories, usual, usual_memories}
@@ -16,7 +16,7 @@ use Rattle.lpt_packet.specs.declared.direction.Direction.TheVariants.{Up}
 
 -- two new ends, of which nothing was written
 abbrev pub new_pair : Pair
-new_pair = no_pair_later usual usual_memories 0 0
+new_pair = no_pair_later usual usual_memories 0 usual_own
 
 abbrev pub unwritten : Kept
 unwritten = record {
@@ -40,7 +40,7 @@ moves =
 -- the same, after which the spacecraft's end is written and read back
 abbrev pub deeds : List kept.Deed
 deeds =
-    kept.ReadBack Craft
+    kept.ReadBack Craft usual
     ∷ kept.Write Craft
     ∷ kept.Make (Do Apply)
     ∷ kept.Make (Do (Commit W1))
@@ -53,7 +53,7 @@ deeds =
 -- packet has come once more: that is deleted
 abbrev pub lives : List reset.Deed
 lives =
-    reset.Reset Craft
+    reset.Reset Craft usual
     ∷ reset.Make (Do (Accept Up load_packet))
     ∷ reset.Write Craft
     ∷ reset.Make (Do Apply)
@@ -69,7 +69,7 @@ pub record NodesCanBe : Type 0 where
   pub read_back : CanDoAll usual unwritten deeds
   pub reset : CanLiveAll usual new_pair (just_written usual unwritten) lives
   pub left : (lived_all usual (just_written usual unwritten) lives).moves
-      ≡ Do (Restart Craft) ∷ moves
-  pub log : (after_all usual new_pair (Do (Restart Craft) ∷ moves)).ends.log ≡ called_log
-  pub memories : (after_all usual new_pair (Do (Restart Craft) ∷ moves)).ends.memories
+      ≡ with_restart usual Craft moves
+  pub log : (after_all usual new_pair (with_restart usual Craft moves)).ends.log ≡ called_log
+  pub memories : (after_all usual new_pair (with_restart usual Craft moves)).ends.memories
       ≡ loaded_memories

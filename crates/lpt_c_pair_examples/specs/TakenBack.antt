@@ -1,6 +1,7 @@
 -- A worked run of two ends behind handles, whose spacecraft's program has the memories, drops a
 -- request over which it had written, and is reset.
 use Rattle.std.specs.Prelude.{◌≡◌, List, [], ◌∷◌}
+use Rattle.lpt_c_pair_examples.specs.Called.{usual_own}
 use Rattle.lpt_c_end.specs.Changes.{IsNew}
 use Rattle.lpt_c_end.specs.Sizes.{IsNewSized}
 use Rattle.lpt_c_end.specs.declared.end.End.{End}
@@ -68,4 +69,4 @@ WrittenCanBeTakenBack =
     (g k : End)
     → IsNew Ground usual [] [] g
     → IsNewSized usual sizes k
-    → CanBeTakenBack (new_keeper usual usual_memories 0 0 g k)
+    → CanBeTakenBack (new_keeper usual usual_memories 0 usual_own g k)

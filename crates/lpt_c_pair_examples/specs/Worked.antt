@@ -9,7 +9,7 @@ use Rattle.lpt_c_pair.specs.Programs.{Act, Calls, Gives, Program, Puts, Settles,
 use Rattle.lpt_c_pair.specs.Resets.{Deed, Does, Keeps, ResetsCraft, AreCareful, CanLiveAll, just_begun, lived_all}
 use Rattle.lpt_c_pair.specs.Runs.{CanStand}
 use Rattle.lpt_c_pair.specs.Withheld.{turns_of}
-use Rattle.lpt_c_pair_examples.specs.Called.{called_log}
+use Rattle.lpt_c_pair_examples.specs.Called.{called_log, usual_own}
 use Rattle.lpt_events.specs.declared.side.Side.TheVariants.{Ground, Craft}
 use Rattle.lpt_journal_examples.specs.Passes.{load, load_packet, loaded_memories, usual, usual_memories}
 use Rattle.lpt_memory.specs.Memories.{Contents}
@@ -64,7 +64,7 @@ WorkedCanBe =
     (g k : End)
     → IsNew Ground usual [] [] g
     → IsNewSized usual sizes k
-    → CanBe (started usual usual_memories 0 0 g k)
+    → CanBe (started usual usual_memories 0 usual_own g k)
 
 -- ---- a reset
 
@@ -109,7 +109,7 @@ TornCanBeRedone =
     (g k : End)
     → IsNew Ground usual [] [] g
     → IsNewSized usual sizes k
-    → CanBeRedone (started usual usual_memories 0 0 g k)
+    → CanBeRedone (started usual usual_memories 0 usual_own g k)
 
 -- The end is kept before the load is written; the machine is reset once it is written and before
 -- the request is executed; what stood there is put back; and the end is made again. The newest
@@ -139,4 +139,4 @@ WrittenCanBePutBack =
     (g k : End)
     → IsNew Ground usual [] [] g
     → IsNewSized usual sizes k
-    → CanBePutBack (started usual usual_memories 0 0 g k)
+    → CanBePutBack (started usual usual_memories 0 usual_own g k)
