@@ -149,9 +149,10 @@ enum LptFault {
     /* Of an end: packets that wait must be sent first. */
     LPT_E_UNSENT = 110,
 
-    /* The octets are no state of this end, for the first of these reasons: they are fewer than 57;
+    /* The octets are no state of this end, for the first of these reasons: they are fewer than 45;
        don't begin with a state's tag; have another version; aren't as many as they say; are the
-       other side's; have another configuration; have a wrong checksum, or names out of order. */
+       other side's; have another APID, part size or mode; have a wrong checksum, or names out of
+       order. */
     LPT_E_STATE_SHORT = 111,
     LPT_E_STATE_TAG = 112,
     LPT_E_STATE_VERSION = 113,
@@ -172,7 +173,9 @@ enum LptFault {
        several ones, and its packets have no checksum. */
     LPT_E_LAYOUT = 122,
     LPT_E_ENDED = 123,
-    LPT_E_UNSURE = 124
+    LPT_E_UNSURE = 124,
+    /* Of an end: the clock, or the tick at which a reception last got a part, would go below 0. */
+    LPT_E_CLOCK_START = 125
 };
 
 /* The name of what a call answered, as docs/C.md has it; "unknown" of another number. */
@@ -298,6 +301,8 @@ static inline const char *lpt_fault_name(uint32_t fault) {
         return "ended";
     case LPT_E_UNSURE:
         return "unsure";
+    case LPT_E_CLOCK_START:
+        return "clock start";
     default:
         return "unknown";
     }
@@ -323,7 +328,7 @@ enum LptPartKind {
    them. STRAY: an octet with which no such piece begins. */
 enum LptPieceKind { LPT_PIECE_WHOLE = 1, LPT_PIECE_DAMAGED = 2, LPT_PIECE_STRAY = 3 };
 
-/* Why a reception was aborted: no part came for as long as the timeout; in strict mode a part came
+/* Why a reception was aborted: it expired or was given up; in strict mode a part came
    that isn't the next; a part contradicts another. */
 enum LptReason { LPT_REASON_EXPIRED = 1, LPT_REASON_DISCONTINUITY = 2, LPT_REASON_CONFLICT = 3 };
 
@@ -604,8 +609,7 @@ LPT_MUST_USE
 uint32_t lpt_build_part(uint32_t kind, uint16_t id, uint16_t number, size_t octets_len,
                         uint32_t part_size, uint8_t *out, size_t out_len, size_t *needed);
 
-/* What an abortion report says: of which transaction, and why: 1 expired, 2 discontinuity, 3
-   conflict. */
+/* What an abortion report says: of which transaction, and why, an LptReason. */
 typedef struct LptAbort {
     uint16_t id;
     uint16_t reason;

@@ -15,10 +15,9 @@
  *   - only one call at a time uses an end, and none is made in an interrupt or a signal handler.
  *     An end may go to another thread if a lock, or the start or end of a thread, stands between.
  *     Calls of different ends may run at once only if the three functions that give memory may;
- *   - octets handed to lpt_end_packet that read as a part or as a plain request were put out by the
- *     other end (or in its place by a pass of lpt_ground.h), a part since its name was last freed at
- *     this end: nobody forges packets, no damage passes the checksum, and no packet's content is
- *     taken for a packet;
+ *   - each part or plain request that is handed to lpt_end_packet was made by the other end (or in
+ *     its place by a pass of lpt_ground.h), a part after this end last freed its name: nobody
+ *     forges packets, no damage passes the checksum, and no packet's content is taken for a packet;
  *   - the rules at lpt_end_new, lpt_end_packet and lpt_end_retire, for the two ends of a link;
  *   - a program that has the memories itself reads them as lpt_end_access says, before
  *     lpt_end_execute_given, and writes them before that call, or after it and before the next
@@ -52,11 +51,10 @@ enum LptMode { LPT_MODE_ANY = 0, LPT_MODE_STRICT = 1 };
 typedef struct LptEnd LptEnd;
 
 /*
- * What is fixed about an end. Both ends of a link have the same values, but for the clock: APID,
- * part size and mode because packets are made and joined by them, the other three because what is
- * proved is proved of one configuration. So an end that is restored from a state has the values of
- * the end whose state it is; otherwise lpt_end_resume returns LPT_E_STATE_CONFIG. To change one,
- * make both ends anew; they forget which names were used.
+ * What is fixed about an end. Both ends of a link have the same APID, part size and mode, because
+ * packets are made and joined by them. The other values are an end's own. An end that is restored
+ * from a state may have another timeout and other limits than before; if its APID, part size or mode
+ * is another, lpt_end_resume returns LPT_E_STATE_CONFIG.
  */
 typedef struct LptConfig {
     uint16_t apid;       /* of all packets, 0 to 2046 */
@@ -206,6 +204,15 @@ uint32_t lpt_end_released(LptEnd *end, uint8_t *out, size_t out_len, size_t *nee
  */
 LPT_MUST_USE
 uint32_t lpt_end_expire(LptEnd *end, LptName *name);
+
+/*
+ * Gives up the open reception of a name before its time, as lpt_end_expire does one that is due,
+ * for example if the sender was reset. At a spacecraft's end, a report of it waits to be sent,
+ * with the reason of an expiry.
+ * LPT_DONE; LPT_E_NOT_OPEN if no reception of the name is open; LPT_E_ALLOCATION.
+ */
+LPT_MUST_USE
+uint32_t lpt_end_give_up(LptEnd *end, const LptName *name);
 
 /* ---- sending ---- */
 
@@ -423,9 +430,21 @@ uint32_t lpt_end_execute_given(LptEnd *end, const uint8_t *octets, size_t octets
                                LptApplied *applied);
 
 /*
+ * Refuses the oldest request, which must have been read, in place of executing it: it is never
+ * executed, and a report that it failed, with the failure code of this number (LptFailure, 1 to 8),
+ * waits to be sent to its source. *applied is as of an execution that was refused with that code.
+ * Use it if the request can't be carried out here: it reads more than the program can at once, or
+ * its memory can't be read or written. If some of it was written, write the old octets back first.
+ * What is no telecommand of the end's APID has no report.
+ * LPT_DONE, and *applied is written; LPT_E_RANGE for another number; LPT_E_NO_JOB, as always on
+ * ground; LPT_E_NOT_READ; LPT_E_UNSENT; LPT_E_ALLOCATION.
+ */
+LPT_MUST_USE
+uint32_t lpt_end_refuse(LptEnd *end, uint16_t number, LptApplied *applied);
+
+/*
  * Drops the oldest request, which must have been read, in place of executing it: it is never
- * executed, and no report of it is made. Use it if the request's memory can't be read or written.
- * If some of it was written, write the old octets back first.
+ * executed, and no report of it is made, so its source isn't told (lpt_end_refuse tells it).
  * LPT_DONE; LPT_E_NO_JOB, as always on ground; LPT_E_NOT_READ.
  */
 LPT_MUST_USE
@@ -442,6 +461,13 @@ uint32_t lpt_end_tick(LptEnd *end);
    LPT_DONE, also for 0 ticks; LPT_E_CLOCK_END if the clock would go past 4,294,967,295. */
 LPT_MUST_USE
 uint32_t lpt_end_tick_many(LptEnd *end, uint32_t ticks);
+
+/* Moves the clock back by several ticks, and with it each reception's `due`, so that each is due
+   after as many ticks as before. All else stays. So a clock never has to end. The most that it goes
+   back is the least of the clock and of each open reception's `due` less the timeout.
+   LPT_DONE, also for 0 ticks; LPT_E_CLOCK_START if it would go back further. */
+LPT_MUST_USE
+uint32_t lpt_end_rebase(LptEnd *end, uint32_t ticks);
 
 /*
  * Frees the name of a transaction at this end. A name may be used again only when both ends have
@@ -549,7 +575,7 @@ uint32_t lpt_end_restart(LptEnd *end);
  * was. The state is the names that the end knows, its clock, and the number of its start.
  * lpt_end_memory copies memories. docs/FORMATS.md has the octets, and docs/C.md says when to keep
  * them. The call allocates nothing.
- * LPT_DONE; LPT_E_ROOM. At LPT_DONE and LPT_E_ROOM *needed is the state's length: 57, and 6 for
+ * LPT_DONE; LPT_E_ROOM. At LPT_DONE and LPT_E_ROOM *needed is the state's length: 45, and 6 for
  * each run of names, of which there are at most as many as names in use.
  */
 LPT_MUST_USE
@@ -558,7 +584,8 @@ uint32_t lpt_end_state(LptEnd *end, uint8_t *out, size_t out_len, size_t *needed
 /*
  * Restores an end from a state, in place of lpt_end_new. The end is as lpt_end_restart would have
  * left the end whose state it is, with nothing released and nothing to be sent. The memories are
- * those of that end, in any order. The clock is the state's, and the configuration's is ignored.
+ * those of that end, in any order. The clock is the state's, and the configuration's is ignored; the
+ * timeout and the limits are the configuration's.
  * LPT_DONE, and *end is its address; LPT_E_RANGE for another side or mode; LPT_E_CONFIG_APID to
  * LPT_E_CONFIG_OUTGOING; LPT_E_MEMORIES as with lpt_end_new; LPT_E_STATE_SHORT to
  * LPT_E_STATE_CHECKSUM, in that order; LPT_E_NO_NUMBER if the state's start was the last possible;

@@ -46,14 +46,14 @@ typedef struct LptJob {
                            reported, or 10, so that a report of the start settles a load too; of
                            dumps and checks 0. Other flags up to 15 may be added */
     uint16_t apid;      /* of all packets, 0 to 2046 */
-    uint16_t source;    /* the job's own: reports go to it, and no packet can come any more of an
-                           earlier job that had it */
+    uint16_t source;    /* the job's own: reports go to it. No packet of an earlier job with it can
+                           still come */
     uint16_t count;     /* the first request's sequence count, 0 to 16,383 */
-    uint32_t part_size; /* of the link, 4 to 1024 octets, of dumps 7 to 1024, of checks 6 to 1024:
-                           a load has as many octets at most, a dump 6 less, and a check 4,000.
-                           Below 7 or 6 a report comes in parts, and settles nothing */
-    uint32_t tries;     /* after so many waits in a row that settled nothing it is given up, at
-                           least 1 */
+    uint32_t part_size; /* of the link: for loads 4 to 1024, dumps 7 to 1024, checks 6 to 1024, as a
+                           report must fit one packet. A load has at most so many octets, a dump 6
+                           less, a check 4,000 */
+    uint32_t tries;     /* at least 1: the pass is given up after so many waits in a row that settled
+                           nothing */
 } LptJob;
 
 /* Octets of a memory. */
@@ -81,8 +81,9 @@ void lpt_ground_free(LptGround *pass);
 
 /* ---- what it does next ---- */
 
-/* What a pass does next. From 3 on it is at its end; if a packet that comes later settles a request,
-   it may be completed, and after LPT_STEP_GIVEN_UP the next lpt_ground_quiet begins a round. */
+/* What a pass does next. From 3 on it is at its end. A later packet that settles a request may
+   complete it; after LPT_STEP_GIVEN_UP the next lpt_ground_quiet then, and only then, begins a
+   round. */
 enum LptStep {
     LPT_STEP_SEND = 1,      /* it sends a packet */
     LPT_STEP_LISTEN = 2,    /* it listens */
@@ -135,14 +136,16 @@ uint32_t lpt_ground_sent(LptGround *pass);
 
 /*
  * Takes a packet that came. A report to the job's source settles an open request if it says that the
- * request failed, or that the load was carried out, or if it has the octets or the checksum that the
- * dump or the check asked for. Anything else is passed over. LPT_DONE; LPT_E_ALLOCATION.
+ * request failed, or that the load completed (with flags 10, that it started), or if it has the
+ * octets or the checksum that were asked for. Anything else is passed over.
+ * LPT_DONE; LPT_E_ALLOCATION.
  */
 LPT_MUST_USE
 uint32_t lpt_ground_packet(LptGround *pass, const uint8_t *octets, size_t octets_len);
 
-/* Notes that no packet came for as long as the program waits: a new round begins. It sends all open
-   requests, and all of them again until it has sent at least 8 packets. It returns LPT_DONE. */
+/* Notes that no packet came while the program waited: the pass is given up (as `tries` says), or a
+   round begins. It sends all open requests, and all of them again until it has sent at least 8
+   packets. At the end it does nothing. It returns LPT_DONE. */
 LPT_MUST_USE
 uint32_t lpt_ground_quiet(LptGround *pass);
 
@@ -170,7 +173,7 @@ enum LptFateState { LPT_FATE_OPEN = 0, LPT_FATE_COMPLETED = 1, LPT_FATE_FAILED =
 /* What became of a request. */
 typedef struct LptFate {
     uint32_t state; /* an LptFateState */
-    uint32_t code;  /* why it failed, an LptFailure; 0 if it didn't */
+    uint32_t code;  /* the report's failure code, an LptFailure or another; 0 if it didn't fail */
 } LptFate;
 
 /* Tells what became of a request, by its number from 0. LPT_DONE, and *fate is written;

@@ -14,7 +14,8 @@
  *
  * Each call returns LPT_DONE, or the number of the first thing that is wrong, in the order of its
  * comment. If it isn't LPT_DONE, the call has written nothing through a pointer but what its comment
- * says. LPT_E_ALLOCATION (out of memory) comes last, and nothing has changed then. The caller
+ * says. LPT_E_ALLOCATION (out of memory) comes last, and nothing has changed then (but see
+ * lpt_reader_message). The caller
  * promises what include/lpt_end.h says of addresses, threads and memory.
  */
 #ifndef LPT_READER_H
@@ -68,8 +69,8 @@ enum LptItemKind {
     LPT_ITEM_FAULTY = 3
 };
 
-/* A body that should be a part's, and can't be read as one with the part size; the others are those
-   of LptPartKind. */
+/* LptItem's `part` is an LptPartKind, or this if the body should be a part's but doesn't fit the part
+   size. */
 enum { LPT_PART_UNREAD = 4 };
 
 /* What stands next. What its kind doesn't have is 0. */
@@ -77,8 +78,8 @@ typedef struct LptItem {
     uint64_t place;   /* how many octets of the archive stand in front of it; 2^64 - 1 if more do */
     uint64_t stray;   /* how many of them, right in front of it, are no packet */
     size_t length;    /* its octets; the end has none */
-    size_t time_at;   /* where the time stands, or would */
-    size_t body_at;   /* where what is behind the secondary header stands */
+    size_t time_at;   /* the time's offset in the item, if it has one */
+    size_t body_at;   /* the offset in the item of what is behind the secondary header */
     size_t body_len;  /* how many octets that has, without a checksum */
     size_t part_len;  /* how many octets the part has, at the body's end */
     uint32_t kind;    /* an LptItemKind */
@@ -109,8 +110,8 @@ uint32_t lpt_reader_next(LptReader *reader, LptItem *item);
 
 /*
  * Copies the octets of the item that lpt_reader_next told last to the front of a buffer, and leaves
- * the rest of the buffer as it was. LPT_DONE; LPT_E_NOTHING if it told none, or the end, or octets were
- * taken since; LPT_E_ROOM. At LPT_DONE and LPT_E_ROOM *needed is how many they are, as LptItem's length.
+ * the rest of the buffer as it was. LPT_DONE; LPT_E_NOTHING if it told none, the end or LPT_E_MORE,
+ * or octets were taken since; LPT_E_ROOM. At LPT_DONE and LPT_E_ROOM *needed is how many they are, as LptItem's length.
  */
 LPT_MUST_USE
 uint32_t lpt_reader_octets(LptReader *reader, uint8_t *out, size_t out_len, size_t *needed);
@@ -118,10 +119,10 @@ uint32_t lpt_reader_octets(LptReader *reader, uint8_t *out, size_t out_len, size
 /* ---- the messages that become whole ---- */
 
 /*
- * Makes a reader of an archive whose messages are joined, as `lpt join --each` joins those of
- * packets of an APID that go in a direction, an LptDirection. The rest is as in lpt_reader_new; the
- * archive is cut as the packets of the direction are laid out. If `any` is 1, and not 0, a message
- * is told whatever it is, as with --any. Its messages are told by lpt_reader_message: a packet that
+ * Makes a reader of an archive whose messages are joined, as `lpt join --each` does, of one
+ * APID and one LptDirection. The archive is cut by the layout of that direction; the rest is as in
+ * lpt_reader_new. If `any` is 1, and not 0, a message is told even if it is no packet of the
+ * direction, as with --any. Its messages are told by lpt_reader_message: a packet that
  * lpt_reader_next tells isn't joined.
  * LPT_E_RANGE for another direction or another `any`; otherwise what lpt_reader_new returns.
  */
@@ -129,9 +130,9 @@ LPT_MUST_USE
 uint32_t lpt_reader_new_join(LptReader **reader, uint32_t direction, uint16_t apid, uint32_t any,
                              uint32_t part_size, const uint8_t *layout, size_t layout_len);
 
-/* What becomes of messages: at the end, nothing more; with a packet or one that fails a test,
-   nothing; a message is whole; parts are given up that weren't; parts are, and a message is whole;
-   a message is whole, and not told, as it is no packet of the direction (if `any` is 0). */
+/* END: the archive ends. NONE: nothing happened. WHOLE: a message is whole. MISSING: an incomplete
+   message's parts are given up. OVERTAKES: both. UNFIT: a message is whole, but no packet of the
+   direction (if `any` is 0), so it isn't told. */
 enum LptMessageKind {
     LPT_MESSAGE_END = 0,
     LPT_MESSAGE_NONE = 1,
@@ -141,12 +142,12 @@ enum LptMessageKind {
     LPT_MESSAGE_UNFIT = 5
 };
 
-/* What becomes with what stands next. What its kind doesn't have is 0. */
+/* What happened with what stands next. What its kind doesn't have is 0, and `first` 2^64 - 1. */
 typedef struct LptMessage {
     uint64_t place;     /* of the packet with which it becomes so; at the end, the archive's length */
     uint64_t first;     /* where the packet of the first part stands that is given up; 2^64 - 1 if
                            there is none */
-    size_t length;      /* the octets of a whole message */
+    size_t length;      /* of WHOLE and OVERTAKES, the message's octets */
     size_t highest;     /* the greatest number of the parts that are given up */
     uint32_t kind;      /* an LptMessageKind */
     uint32_t direction; /* an LptDirection */
@@ -162,8 +163,8 @@ typedef struct LptMessage {
  * what becomes of messages with it. At the end it tells at each call what is left of the next name,
  * in the order of their users and identifiers, and then LPT_MESSAGE_END again and again.
  * LPT_DONE, and *message is written; LPT_E_NOTHING if lpt_reader_new made the reader; LPT_E_MORE if
- * it depends on octets that haven't been taken yet; LPT_E_ALLOCATION: then each call from then on
- * returns this, since what was joined is lost.
+ * it depends on octets that haven't been taken yet; LPT_E_ALLOCATION: then each later call of
+ * lpt_reader_message returns this, since what was joined is lost.
  */
 LPT_MUST_USE
 uint32_t lpt_reader_message(LptReader *reader, LptMessage *message);
@@ -178,8 +179,8 @@ uint32_t lpt_reader_message_octets(LptReader *reader, uint8_t *out, size_t out_l
 
 /*
  * Says whether the part of a number, from 1 on, is missing among those that the last LPT_DONE of
- * lpt_reader_message told to be given up: 1 or 0. Missing are all behind `highest`, up to the last
- * one, whose number isn't known if `last` is 0.
+ * lpt_reader_message told to be given up: 1 or 0. Any number above `highest` gives 1: so ask up to
+ * `last`, or, if that is 0, up to `highest`.
  * LPT_DONE; LPT_E_NOTHING if that told of none; LPT_E_RANGE for number 0.
  */
 LPT_MUST_USE

@@ -16,8 +16,8 @@ _H = TypeVar("_H", bound="Handle")
 
 
 class WrongThread(RuntimeError):
-    """An end or a job is used by another thread than the one that made it, or within another of its
-    calls."""
+    """An end, a job or an archive is used by another thread than the one that made it, or within
+    another of its calls."""
 
 
 class Handle:

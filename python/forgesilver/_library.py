@@ -135,6 +135,7 @@ _OF_END: dict[str, tuple[Any, ...]] = {
     "lpt_end_packet": (POINTER, *_READ, POINTER),
     "lpt_end_released": (POINTER, *_WRITE),
     "lpt_end_expire": (POINTER, POINTER),
+    "lpt_end_give_up": (POINTER, POINTER),
     "lpt_end_open": (POINTER, POINTER, *_READ),
     "lpt_end_part": (POINTER, POINTER, U16),
     "lpt_end_plain": (POINTER, U16, U8, U8, U8, *_READ),
@@ -147,6 +148,7 @@ _OF_END: dict[str, tuple[Any, ...]] = {
     "lpt_end_memory_range": (POINTER, U8, U32, *_READ),
     "lpt_end_tick": (POINTER,),
     "lpt_end_tick_many": (POINTER, U32),
+    "lpt_end_rebase": (POINTER, U32),
     "lpt_end_retire": (POINTER, U32, POINTER),
     "lpt_end_name": (POINTER, U32, POINTER, POINTER),
     "lpt_end_closed": (POINTER, U32, POINTER, POINTER),
@@ -165,6 +167,7 @@ _OF_END: dict[str, tuple[Any, ...]] = {
     "lpt_end_access": (POINTER, SIZE, POINTER),
     "lpt_end_access_octets": (POINTER, SIZE, *_WRITE),
     "lpt_end_execute_given": (POINTER, *_READ, POINTER),
+    "lpt_end_refuse": (POINTER, U16, POINTER),
     "lpt_end_drop_read": (POINTER,),
 }
 _OF_GROUND: dict[str, tuple[Any, ...]] = {

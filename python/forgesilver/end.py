@@ -34,14 +34,16 @@ _NO_JOB, _NOTHING_DUE = 51, 50
 
 @dataclass(frozen=True)
 class Config:
-    """What is fixed about an end. Both ends of a link have the same values, but for the clock.
+    """What is fixed about an end. Both ends of a link have the same APID, part size and mode; the
+    other values are an end's own. An end that is restored from a state may have another timeout and
+    other limits than before.
 
     - apid: of all packets, 0 to 2046
     - part_size: in octets, 4 to 1,024
     - timeout: of a reception, in ticks, 1 to 65,535
     - receptions: how many may be open, 1 to 64
     - outgoing: how many messages may be open for sending, 1 to 64
-    - clock: its first value, in ticks, 0 to 4,294,967,295
+    - clock: its first value, in ticks, 0 to 4,294,967,295; a restored end has its state's
     - mode: in which order the end takes parts
     """
 
@@ -165,9 +167,10 @@ class End(Handle):
         16, of 1 to 1,048,576 octets each. Ground's has none.
 
         A new end is no restart of an old one: it doesn't know which names were used. So make the
-        other end anew too, and let no older packet come. A state of `End.state` restores one as a restart would, but
-        nothing waits to be sent. Raises `Range`, `ConfigApid` to
-        `ConfigOutgoing`, or `Memories`; of a state `StateShort` to `StateOrder`, or `NoNumber`.
+        other end anew too, and let no older packet come. `state`, from `End.state`, restores one
+        as after a restart, with nothing to send: the clock is the state's, timeout and limits are
+        this configuration's. Give the saved memories too; their sizes aren't compared. Raises
+        `Range`, `ConfigApid` to `ConfigOutgoing`, or `Memories`; of a state `StateShort` to `StateOrder`, or `NoNumber`.
         """
         super().__init__()
         self._length, place = 0, _library.POINTER()
@@ -221,6 +224,13 @@ class End(Handle):
             return None
         raise_fault(fault)
         return Name(name.source, name.id)
+
+    def give_up(self, name: Named) -> None:
+        """Gives up the open reception of a name before its time, as `expire` does one that is due,
+        for example if its sender was reset. Its name is closed until `retire`. At a spacecraft a report
+        of it, with the reason of an expiry, waits to be sent. Raises `NotOpen` or `Allocation`."""
+        named = _c_name(name)
+        self._done(_end.lpt_end_give_up, byref(named))
 
     # ---- sending ----
 
@@ -314,9 +324,15 @@ class End(Handle):
         out = _library.LptApplied()
         if self._unless(_NO_JOB, self._call(_end.lpt_end_execute, byref(out))):
             return None
-        kind = AppliedKind(out.kind)
-        name = Name(out.name.source, out.name.id) if kind is AppliedKind.OPENED else None
-        return Applied(kind, name, Failure(out.value) if kind is AppliedKind.REFUSED else None)
+        return _applied_of(out)
+
+    def refuse(self, failure: Failure) -> Optional[Applied]:
+        """Refuses the oldest request, which must have been read, in place of `execute`: it is never
+        executed, and a report of this failure waits to be sent. Says the same as an execution that
+        was refused; None if there is no request. Raises `NotRead`, `Unsent` or `Allocation`."""
+        out = _library.LptApplied()
+        call = self._call(_end.lpt_end_refuse, int(Failure(failure)), byref(out))
+        return None if self._unless(_NO_JOB, call) else _applied_of(out)
 
     def asked(self) -> Optional[tuple[int, int]]:
         """The service type and the message subtype of the oldest request that wasn't read; None if
@@ -410,6 +426,12 @@ class End(Handle):
         it would go past its greatest value."""
         self._done(_end.lpt_end_tick_many, number(ticks, 0xFFFFFFFF, "the ticks"))
 
+    def rebase(self, ticks: int) -> None:
+        """Moves the clock back by so many ticks. Each reception is still due after as many ticks as
+        before. So a clock never has to end. Raises `ClockStart`, and leaves the clock, if it or the
+        tick at which an open reception last got a part would go below 0."""
+        self._done(_end.lpt_end_rebase, number(ticks, 0xFFFFFFFF, "the ticks"))
+
     def retire(self, direction: Direction, name: Named) -> None:
         """Frees the name of a transaction at this end. A name may be used again only when both ends
         have freed it, in this order: the sender's message is closed; no part of it can come any
@@ -479,20 +501,20 @@ class End(Handle):
             at += 1
 
     def restart(self) -> None:
-        """Restarts the end. It closes open messages and their names, drops its open receptions, whose names are free
-        again, and the released requests that it keeps, and counts its packets from
-        0. Other names, the clock and the memories stay, and so do the message that was released
+        """Restarts the end. It closes open messages and their names, drops open receptions and frees
+        their names, drops the released requests that it keeps, and counts its packets from 0. Other
+        names, the clock and the memories stay, and so do the message that was released
         last and the packets that wait to be sent. Raises `NoNumber`."""
         self._done(_end.lpt_end_restart)
         self._report = None
 
     def state(self) -> bytes:
         """What outlasts the end's process, besides the memories: `End(.., state=..)` restores an
-        end from it. Write it before you act on a call's result or send anything; a spacecraft in
-        one write with the memories, and not while a request is released and not executed (`serve`
-        says how). Then the promise holds through a stop at any place. For each call docs/C.md says
-        whether a write is needed, under "Saving the state". The library takes no memory for it."""
-        return self._copied(_end.lpt_end_state, Room(57)) or b""
+        end from it. Write it before you act on a call's result or send anything. A spacecraft writes
+        its memories with it, never between a release and its execution (`serve` says how). Then
+        the promise holds through a stop at any place. For each call docs/C.md says whether a write
+        is needed, under "Saving the state". It never raises `Allocation`."""
+        return self._copied(_end.lpt_end_state, Room(45)) or b""
 
     @staticmethod
     def _unless(expected: int, fault: int) -> bool:
@@ -529,6 +551,13 @@ def _memories_of(memories: Mapping[int, Octets]) -> tuple[Any, bytes]:
         at += piece.nbytes
         pieces.append(piece)
     return listed, b"".join(pieces)
+
+
+def _applied_of(out: Any) -> Applied:
+    """What the library says became of a request."""
+    kind = AppliedKind(out.kind)
+    name = Name(out.name.source, out.name.id) if kind is AppliedKind.OPENED else None
+    return Applied(kind, name, Failure(out.value) if kind is AppliedKind.REFUSED else None)
 
 
 def _outcome_of(out: Any) -> Outcome:

@@ -273,13 +273,13 @@ class NoReport(Fault, ValueError):
 
 
 class Empty(Fault, ValueError):
-    """The end was closed."""
+    """It was closed."""
 
     number = 106
 
 
 class NoNumber(Fault, ValueError):
-    """No number is left for a job, or for a restart."""
+    """No number is left for a released request, or for a restart."""
 
     number = 108
 
@@ -297,7 +297,7 @@ class Unsent(Fault, ValueError):
 
 
 class StateShort(Fault, ValueError):
-    """The state has fewer than 57 octets."""
+    """The state has fewer than 45 octets."""
 
     number = 111
 
@@ -327,7 +327,7 @@ class StateSide(Fault, ValueError):
 
 
 class StateConfig(Fault, ValueError):
-    """The state is of another configuration."""
+    """The state is of another APID, part size or mode."""
 
     number = 116
 
@@ -379,6 +379,12 @@ class Unsure(Fault, ValueError):
     """The message may be of parts of several ones, and its packets have no checksum."""
 
     number = 124
+
+
+class ClockStart(Fault, ValueError):
+    """The clock, or the tick at which a reception last got a part, would go below 0."""
+
+    number = 125
 
 
 #: Each fault by its number.

@@ -118,8 +118,8 @@ class Job(Handle):
         self._done(_ground.lpt_ground_sent)
 
     def outgoing(self) -> Iterator[bytes]:
-        """The packets that are to be sent now, one by one. Each is noted as sent as it is given; one
-        that isn't sent then is as one that the link loses. So feed what comes between two of them."""
+        """The packets that are to be sent now, one by one. Each counts as sent when it is given: if
+        you don't send it, it is as if it were lost. Feed what comes in between."""
         while True:
             packet = self.first()
             if packet is None:
@@ -165,8 +165,8 @@ class Job(Handle):
             at += 1
 
     def reports(self) -> Iterator[bytes]:
-        """The packets that settled requests. A program that keeps them may feed them to the same job
-        after a restart, with the same source and count, which then goes on where it was."""
+        """The packets that settled requests. Keep them: after a restart make the job again, with the
+        same source and count, and feed them to it; it then goes on where it was."""
         room = Room(self._most)
         for at in range(self.progress.requests):
             packet = self._copied(_ground.lpt_ground_report, room, at)
@@ -174,8 +174,8 @@ class Job(Handle):
                 yield packet
 
     def dumped(self) -> Optional[list[Loaded]]:
-        """The areas of a dump with their octets; None if not all have come. Of another job each area
-        has no octets."""
+        """The areas of a dump with their octets; None before all have come. A completed job
+        of another kind gives areas without octets."""
         if self.next() is not Step.COMPLETED:
             return None
         room = Room(self._most)
@@ -190,7 +190,8 @@ class Job(Handle):
         return found
 
     def agrees(self, octets: Octets) -> bool:
-        """Whether a check got the checksums of these octets, which are its areas' octets one after the other. One differing area in 65,536 is taken for the same."""
+        """Whether a check got the checksums of these octets, its areas' octets one after the other.
+        One differing area in 65,536 is taken for the same."""
         given, told = Given(octets), U32(0)
         self._done(_ground.lpt_ground_agrees, given.at, given.len, byref(told))
         return bool(told.value)

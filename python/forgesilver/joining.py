@@ -60,8 +60,8 @@ class NotJoined(ValueError):
 
 
 class SkippedWarning(UserWarning):
-    """Parts were skipped: of another size; or, if no APID was given, of another APID than that of the
-    first part."""
+    """Parts were skipped, of another size or, without a given APID, of another one than the first part's;
+    or octets, if packets have no checksum."""
 
 
 def join(
@@ -119,7 +119,7 @@ def _said_of(it: Joined) -> str:
     if it.message is not None:
         return f"{who}: whole, {len(it.message)} octets"
     if it.fault is not None:
-        return f"{who}: joined to what is no packet of its direction, {it.fault}: any=True takes it"
+        return f"{who}: the joined octets are no packet of its direction, {it.fault}: any=True gives them"
     why = "parts contradict one another, missing parts" if it.is_contradicted else "missing parts"
     return f"{who}: {why} {it.missing}"
 
