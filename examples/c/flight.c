@@ -1,7 +1,7 @@
 /*
  * A spacecraft whose memory is the program's own: an array, reached by two functions, as a flight
  * computer's is by its drivers. Ground loads octets into it, dumps them, and asks for their
- * checksum. One load goes to a page that can't be written: it is dropped.
+ * checksum. One load goes to a page that can't be written: it is refused, and ground is told.
  *
  *   cc -Iinclude examples/c/flight.c examples/c/memory/pool.c build/liblpt_end.a build/liblpt.a \
  *       -o flight && ./flight
@@ -33,7 +33,7 @@ static bool memory_read(uint32_t address, uint8_t *out, size_t len) {
 }
 
 /* Does what the oldest request asks of the memory, and then executes it. What it reads stands in
-   one buffer; a request that reads more than that, or whose memory fails, is dropped. Loads have
+   one buffer; a request that reads more than that, or whose memory fails, is refused. Loads have
    one area here, so there is nothing to put back. */
 static uint32_t work(LptApplied *applied) {
     static uint8_t octets[SIZE];
@@ -54,7 +54,7 @@ static uint32_t work(LptApplied *applied) {
         printf("  %s %u at %u: %s\n", access.write != 0 ? "write" : "read", (unsigned)access.len,
                (unsigned)access.address, is_done ? "done" : "failed");
         if (!is_done) {
-            return lpt_end_drop_read(spacecraft); /* and report it by a service of your own */
+            return lpt_end_refuse(spacecraft, LPT_FAILURE_OUT_OF_RANGE, applied);
         }
     }
     if (fault != LPT_E_NOTHING) {

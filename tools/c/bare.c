@@ -155,6 +155,7 @@ static void ends(void) {
     EXPECT(lpt_end_packet(craft, packet, needed, &outcome) == LPT_DONE);
     EXPECT(lpt_end_reception(craft, 0, &reception) == LPT_DONE && reception.last == 2);
     EXPECT(lpt_end_missing(craft, &NAME, 0, &number) == LPT_DONE && number == 1);
+    EXPECT(lpt_end_give_up(craft, &NAME) == LPT_DONE && lpt_end_rebase(craft, 0) == LPT_DONE);
     EXPECT(lpt_end_memory_range(craft, 1, sizeof OCTETS, NULL, 0) == LPT_DONE);
     EXPECT(lpt_end_memory_range(craft, 1, 1, packet, 2) == LPT_DONE && packet[1] == 3);
     EXPECT(lpt_end_state(ground, NULL, 0, &needed) == LPT_E_ROOM && needed <= sizeof state);
@@ -186,13 +187,17 @@ static void elsewhere(void) {
     EXPECT(lpt_end_outgoing(ground, packet, sizeof packet, &needed) == LPT_DONE);
     EXPECT(lpt_end_packet(craft, packet, needed, &outcome) == LPT_DONE);
     EXPECT(lpt_end_packet(craft, packet, needed, &outcome) == LPT_DONE);
+    EXPECT(lpt_end_packet(craft, packet, needed, &outcome) == LPT_DONE);
     EXPECT(lpt_end_read(craft) == LPT_DONE && lpt_end_read(craft) == LPT_DONE);
+    EXPECT(lpt_end_read(craft) == LPT_DONE);
     EXPECT(lpt_end_access(craft, 0, &access) == LPT_DONE && access.write == 1 && access.len == 4);
     EXPECT(lpt_end_access_octets(craft, 0, NULL, 0, &needed) == LPT_E_ROOM && needed == 4);
     EXPECT(lpt_end_access_octets(craft, 0, body, sizeof body, &needed) == LPT_DONE);
     EXPECT(memcmp(body, OCTETS, needed) == 0);
     EXPECT(lpt_end_execute_given(craft, NULL, 0, &applied) == LPT_DONE);
     EXPECT(applied.kind == LPT_APPLIED_CARRIED_OUT && lpt_end_drop_read(craft) == LPT_DONE);
+    EXPECT(lpt_end_refuse(craft, LPT_FAILURE_OUT_OF_RANGE, &applied) == LPT_DONE);
+    EXPECT(applied.kind == LPT_APPLIED_REFUSED);
     EXPECT(lpt_end_state(craft, packet, sizeof packet, &needed) == LPT_DONE);
     lpt_end_free(craft);
     EXPECT(lpt_end_resume_sized(&craft, &config, NULL, 0, &size, 1) == LPT_E_STATE_SHORT);

@@ -593,10 +593,10 @@ static void new_start(void) {
 /* The state of a ground end at start 0 and tick 1 that has used name 7 of source 1: written by
    hand, its checksum computed elsewhere. */
 static const uint8_t STATE[] = {
-    0x4c, 0x50, 0x54, 0x53, 0x01, 0x00, 0x00, 0x64, 0x00, 0x00, 0x00, 0x00, 0x00, 0x08, 0x00, 0x00,
-    0x00, 0x13, 0x00, 0x00, 0x00, 0x02, 0x00, 0x00, 0x00, 0x02, 0x00, 0x00, 0x00, 0x00, 0x00, 0x00,
-    0x00, 0x00, 0x00, 0x00, 0x00, 0x00, 0x01, 0x00, 0x00, 0x00, 0x00, 0x00, 0x00, 0x00, 0x01, 0x00,
-    0x00, 0x00, 0x00, 0x00, 0x00, 0x00, 0x00, 0x00, 0x01, 0x00, 0x07, 0x00, 0x07, 0x9e, 0xaa};
+    0x4c, 0x50, 0x54, 0x53, 0x02, 0x00, 0x00, 0x64, 0x00, 0x00, 0x00, 0x00, 0x00, 0x08, 0x00, 0x00,
+    0x00, 0x00, 0x00, 0x00, 0x00, 0x00, 0x00, 0x00, 0x00, 0x00, 0x01, 0x00, 0x00, 0x00, 0x00, 0x00,
+    0x00, 0x00, 0x01, 0x00, 0x00, 0x00, 0x00, 0x00, 0x00, 0x00, 0x00, 0x00, 0x01, 0x00, 0x07, 0x00,
+    0x07, 0xb9, 0xfb};
 
 /* Makes a ground end of octets. */
 static uint32_t resumed(LptEnd **end, const uint8_t *state, size_t len) {
@@ -635,7 +635,7 @@ static void kept(void) {
     DONE(lpt_end_restart(ground));
     DONE(lpt_end_state(ground, packet, sizeof packet, &packet_len));
     DONE(lpt_end_state(again, got, sizeof got, &len));
-    EXPECT(packet_is(got, len) && got[34] == 1);
+    EXPECT(packet_is(got, len) && got[22] == 1);
     lpt_end_free(again);
     lpt_end_free(ground);
 }
@@ -691,17 +691,17 @@ static void refused_states(void) {
         uint32_t want = at < 4    ? LPT_E_STATE_TAG
                         : at < 5  ? LPT_E_STATE_VERSION
                         : at < 6  ? LPT_E_STATE_SIDE
-                        : at < 27 ? LPT_E_STATE_CONFIG
-                        : at < 39 ? LPT_E_STATE_CHECKSUM
-                        : at < 55 ? LPT_E_STATE_LENGTH
+                        : at < 15 ? LPT_E_STATE_CONFIG
+                        : at < 27 ? LPT_E_STATE_CHECKSUM
+                        : at < 43 ? LPT_E_STATE_LENGTH
                                   : LPT_E_STATE_CHECKSUM;
         state[at] ^= 4;
         EXPECT(resumed(&end, state, sizeof state) == want && end == NULL);
         state[at] ^= 4;
-        EXPECT(resumed(&end, state, at) == (at < 57 ? LPT_E_STATE_SHORT : LPT_E_STATE_LENGTH));
+        EXPECT(resumed(&end, state, at) == (at < 45 ? LPT_E_STATE_SHORT : LPT_E_STATE_LENGTH));
     }
-    EXPECT(resumed_with(&end, 58, 8, 1) == LPT_E_STATE_ORDER); /* names 8 to 7 */
-    EXPECT(resumed_with(&end, 27, 0xff, 8) == LPT_E_NO_NUMBER);  /* no start follows */
+    EXPECT(resumed_with(&end, 46, 8, 1) == LPT_E_STATE_ORDER); /* names 8 to 7 */
+    EXPECT(resumed_with(&end, 15, 0xff, 8) == LPT_E_NO_NUMBER);  /* no start follows */
     EXPECT(lpt_end_resume(&end, LPT_SIDE_SPACECRAFT, &CONFIG, STATE, sizeof STATE, MEMORIES, 1,
                           MEMORY, sizeof MEMORY) == LPT_E_STATE_SIDE);
     EXPECT(lpt_end_resume(&end, LPT_SIDE_SPACECRAFT, &CONFIG, STATE, 0, MEMORIES, 0, MEMORY, 0) ==
@@ -711,10 +711,141 @@ static void refused_states(void) {
     EXPECT(lpt_end_resume(&end, LPT_SIDE_GROUND, &other, STATE, 0, MEMORIES, 0, MEMORY, 0) ==
            LPT_E_CONFIG_APID);
     other = CONFIG;
+    other.part_size = 12;
+    EXPECT(lpt_end_resume(&end, LPT_SIDE_GROUND, &other, STATE, sizeof STATE, MEMORIES, 0, MEMORY,
+                          0) == LPT_E_STATE_CONFIG);
+}
+
+/* An end is made again with other limits than it had: of them alone it goes on. */
+static void other_limits(void) {
+    LptConfig other = CONFIG;
+    LptEnd *ground = NULL, *craft = NULL, *again = NULL;
+    LptName name = NONE;
+    size_t len = 0;
     other.clock = 77;
-    DONE(lpt_end_resume(&end, LPT_SIDE_GROUND, &other, STATE, sizeof STATE, MEMORIES, 0, MEMORY,
-                        0));
-    lpt_end_free(end);
+    other.timeout = 3;
+    other.receptions = 1;
+    other.outgoing = 1;
+    make(&ground, LPT_SIDE_GROUND, &CONFIG);
+    make(&craft, LPT_SIDE_SPACECRAFT, &CONFIG);
+    DONE(lpt_end_tick_many(craft, 16));
+    DONE(lpt_end_state(craft, got, sizeof got, &len));
+    DONE(lpt_end_resume(&again, LPT_SIDE_SPACECRAFT, &other, got, len, MEMORIES, 1, MEMORY,
+                        sizeof MEMORY));
+    DONE(lpt_end_open(ground, &NAME, message, 20));
+    DONE(lpt_end_open(ground, &OTHER, message, 20));
+    EXPECT(told(carry(ground, again, &NAME, 1), LPT_OUTCOME_KEPT, &NAME, 1, 0));
+    EXPECT(told(carry(ground, again, &OTHER, 1), LPT_OUTCOME_IGNORED, &NONE, LPT_WHY_NO_ROOM, 0));
+    DONE(lpt_end_open(again, &NAME, message, 20));
+    EXPECT(lpt_end_open(again, &OTHER, message, 20) == LPT_E_TOO_MANY);
+    DONE(lpt_end_tick_many(again, 2));
+    EXPECT(lpt_end_expire(again, &name) == LPT_E_NOTHING_DUE);
+    DONE(lpt_end_tick(again));
+    EXPECT(lpt_end_expire(again, &name) == LPT_DONE && same(name, &NAME));
+    EXPECT(take_packet(again) && packet_is(ABORTED, sizeof ABORTED));
+    lpt_end_free(ground);
+    lpt_end_free(craft);
+    lpt_end_free(again);
+}
+
+/* A clock that is at its end is set back, and each reception with it. */
+static void rebased(void) {
+    LptConfig config = CONFIG;
+    LptEnd *ground = NULL, *craft = NULL;
+    LptName name = NONE;
+    LptView view = {9, 9, 9, 9, 9, 9};
+    config.clock = 4294967290u;
+    make(&ground, LPT_SIDE_GROUND, &CONFIG);
+    make(&craft, LPT_SIDE_SPACECRAFT, &config);
+    DONE(lpt_end_open(ground, &NAME, message, 20));
+    EXPECT(told(carry(ground, craft, &NAME, 1), LPT_OUTCOME_KEPT, &NAME, 1, 0));
+    DONE(lpt_end_tick_many(craft, 5));
+    EXPECT(lpt_end_tick(craft) == LPT_E_CLOCK_END);
+    EXPECT(lpt_end_rebase(craft, 4294967291u) == LPT_E_CLOCK_START);
+    EXPECT(has(craft, 4294967295u, 0, 0, 0, 0));
+    DONE(lpt_end_rebase(craft, 4294967290u));
+    EXPECT(has(craft, 5, 0, 0, 0, 0));
+    EXPECT(lpt_end_view(craft, &view) == LPT_DONE && view.next_due == 19);
+    DONE(lpt_end_rebase(craft, 0));
+    EXPECT(lpt_end_rebase(craft, 1) == LPT_E_CLOCK_START);
+    DONE(lpt_end_tick_many(craft, 13));
+    EXPECT(lpt_end_expire(craft, &name) == LPT_E_NOTHING_DUE);
+    DONE(lpt_end_tick(craft));
+    EXPECT(lpt_end_expire(craft, &name) == LPT_DONE && same(name, &NAME));
+    EXPECT(take_packet(craft) && packet_is(ABORTED, sizeof ABORTED));
+    DONE(lpt_end_rebase(craft, 19));
+    EXPECT(lpt_end_rebase(craft, 1) == LPT_E_CLOCK_START && has(craft, 0, 0, 0, 0, 0));
+    DONE(lpt_end_tick_many(ground, 7));
+    EXPECT(lpt_end_rebase(ground, 8) == LPT_E_CLOCK_START);
+    DONE(lpt_end_rebase(ground, 7));
+    lpt_end_free(ground);
+    lpt_end_free(craft);
+}
+
+/* A reception is given up before its time, and no other; the report is that of one that was due. */
+static void given_up(void) {
+    LptEnd *ground = NULL, *craft = NULL;
+    uint32_t is = 99;
+    make(&ground, LPT_SIDE_GROUND, &CONFIG);
+    make(&craft, LPT_SIDE_SPACECRAFT, &CONFIG);
+    EXPECT(lpt_end_give_up(craft, &NAME) == LPT_E_NOT_OPEN);
+    DONE(lpt_end_tick_many(craft, 19));
+    DONE(lpt_end_open(ground, &NAME, message, 20));
+    DONE(lpt_end_open(ground, &OTHER, message, 20));
+    EXPECT(told(carry(ground, craft, &OTHER, 1), LPT_OUTCOME_KEPT, &OTHER, 1, 0));
+    EXPECT(told(carry(ground, craft, &NAME, 1), LPT_OUTCOME_KEPT, &NAME, 1, 0));
+    EXPECT(lpt_end_give_up(craft, named(8)) == LPT_E_NOT_OPEN);
+    EXPECT(lpt_end_give_up(ground, &NAME) == LPT_E_NOT_OPEN);
+    DONE(lpt_end_give_up(craft, &NAME));
+    EXPECT(lpt_end_give_up(craft, &NAME) == LPT_E_NOT_OPEN);
+    EXPECT(take_packet(craft) && packet_is(ABORTED, sizeof ABORTED) && !take_packet(craft));
+    EXPECT(told(taken(ground, ABORTED, sizeof ABORTED), LPT_OUTCOME_ABORT_NOTED, &NAME, 1, 0));
+    EXPECT(lpt_end_name(craft, LPT_DIRECTION_UP, &NAME, &is) == LPT_DONE && is == LPT_NAME_CLOSED);
+    EXPECT(told(carry(ground, craft, &OTHER, 2), LPT_OUTCOME_KEPT, &OTHER, 2, 0));
+    lpt_end_free(ground);
+    lpt_end_free(craft);
+}
+
+/* A request that was read is refused with a failure code, and its source is told. */
+static void refused(void) {
+    uint8_t dump[] = {1, 1, 0, 0, 0, 0, 0, 1};
+    LptTcHead head = {100, 5, 3, 6, 5, 1};
+    LptApplied applied = {9, NAME, 9};
+    LptReport report = {0, 9, 9};
+    LptTm tm = {{0, 0, 0, 0, 0, 0, 0, 0}, 0, 0};
+    LptEnd *ground = NULL, *craft = NULL;
+    uint32_t request = 0;
+    make(&ground, LPT_SIDE_GROUND, &CONFIG);
+    make(&craft, LPT_SIDE_SPACECRAFT, &CONFIG);
+    EXPECT(lpt_end_refuse(ground, 6, &applied) == LPT_E_NO_JOB);
+    EXPECT(lpt_end_refuse(craft, 6, &applied) == LPT_E_NO_JOB);
+    EXPECT(lpt_end_refuse(craft, 0, &applied) == LPT_E_RANGE);
+    EXPECT(lpt_end_refuse(craft, 9, &applied) == LPT_E_RANGE);
+    command(craft, head, dump, sizeof dump);
+    DONE(lpt_request_id(&head, &request));
+    EXPECT(lpt_end_refuse(craft, 6, &applied) == LPT_E_NOT_READ && applied.kind == 9);
+    DONE(lpt_end_read(craft));
+    DONE(lpt_end_refuse(craft, LPT_FAILURE_REPLY_TOO_LONG, &applied));
+    EXPECT(applied.kind == LPT_APPLIED_REFUSED && applied.value == 6 && same(applied.name, &NONE));
+    EXPECT(take_packet(craft) && packet[7] == 1 && packet[8] == 1);
+    EXPECT(take_packet(craft) && packet[7] == 1 && packet[8] == 4);
+    DONE(lpt_read_tm(packet, packet_len, &tm));
+    DONE(lpt_read_report(4, packet + tm.at, tm.len, &report));
+    EXPECT(report.request == request && report.failed == 1 && report.code == 6);
+    EXPECT(tm.head.destination == 1 && !take_packet(craft));
+    EXPECT(lpt_end_refuse(craft, 6, &applied) == LPT_E_NO_JOB);
+    head.flags = 0;
+    command(craft, head, dump, sizeof dump);
+    command(craft, head, dump, sizeof dump);
+    DONE(lpt_end_read(craft));
+    DONE(lpt_end_read(craft));
+    DONE(lpt_end_refuse(craft, LPT_FAILURE_UNKNOWN_TYPE, &applied));
+    EXPECT(lpt_end_refuse(craft, 4, &applied) == LPT_E_UNSENT && applied.value == 1);
+    EXPECT(take_packet(craft) && packet[8] == 2 && !take_packet(craft));
+    DONE(lpt_end_execute(craft, &applied));
+    EXPECT(applied.kind == LPT_APPLIED_CARRIED_OUT);
+    lpt_end_free(ground);
+    lpt_end_free(craft);
 }
 
 /* A message of 20 octets, which is no telecommand, is released. */
@@ -836,6 +967,10 @@ int main(void) {
     kept();
     closed_names();
     refused_states();
+    other_limits();
+    rebased();
+    given_up();
+    refused();
     dropped();
     open_ones();
     executed();

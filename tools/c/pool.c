@@ -72,18 +72,20 @@ static long freed_behind = -1;
         }                                                                                          \
     } while (0)
 
-/* A message up with a lost part, an expiry and its report; a message down; a request that is
-   executed, also where the memories are with the program; all by calls that are made again. */
+/* A message up with a lost part, an expiry and its report; one whose reception is given up; a
+   message down; a request that is executed, also where the memories are with the program, and one
+   that is refused; all by calls that are made again. */
 static void link_pass(void) {
     static const LptConfig config = {100, 64, 2, 4, 4, 0, LPT_MODE_ANY};
     static const LptMemory memories[] = {{1, 0, 60}, {2, 60, 40}};
     static const LptSize sizes[] = {{1, 60}, {2, 40}};
     static const uint8_t dump[] = {1, 1, 0, 0, 0, 0, 0, 8};
-    static const LptName joined = {1, 5}, lost = {2, 5}, down = {1, 7};
+    static const LptName joined = {1, 5}, lost = {2, 5}, early = {3, 5}, down = {1, 7};
     LptApplied applied = {0, {0, 0}, 0};
     LptEnd *ground = NULL, *craft = NULL;
     LptOutcome told = {0, {0, 0}, 0, 0};
-    size_t len = 0;
+    uint8_t request[64 + 23] = {0};
+    size_t len = 0, request_len = 0;
     LptName name = {0, 0};
     uint16_t k;
     STEP(lpt_end_new(&ground, LPT_SIDE_GROUND, &config, memories, 0, memory, 0));
@@ -112,6 +114,14 @@ static void link_pass(void) {
     EXPECT(lpt_end_sent(craft) == LPT_DONE);
     STEP(lpt_end_packet(ground, packet, len, &told));
     EXPECT(told.kind == LPT_OUTCOME_ABORT_NOTED && told.name.source == 2 && told.first == 1);
+    STEP(lpt_end_open(ground, &early, message, 300));
+    STEP(lpt_end_part(ground, &early, 1));
+    EXPECT(lpt_end_outgoing(ground, packet, sizeof packet, &len) == LPT_DONE);
+    EXPECT(lpt_end_sent(ground) == LPT_DONE);
+    STEP(lpt_end_packet(craft, packet, len, &told));
+    STEP(lpt_end_give_up(craft, &early));
+    EXPECT(lpt_end_outgoing(craft, packet, sizeof packet, &len) == LPT_DONE);
+    EXPECT(lpt_end_sent(craft) == LPT_DONE);
     STEP(lpt_end_part(craft, &down, 1));
     STEP(lpt_end_part(craft, &down, 2));
     while (lpt_end_outgoing(craft, packet, sizeof packet, &len) == LPT_DONE) {
@@ -137,18 +147,27 @@ static void link_pass(void) {
     craft = NULL;
     STEP(lpt_end_resume(&craft, LPT_SIDE_SPACECRAFT, &config, got, len, memories, 2, memory, 100));
     STEP(lpt_end_state(craft, packet, sizeof packet, &len));
-    EXPECT(packet[34] == got[34] + 1);
+    EXPECT(packet[22] == got[22] + 1);
     lpt_end_free(craft);
     craft = NULL;
     STEP(lpt_end_new_sized(&craft, &config, sizes, 2));
     EXPECT(lpt_end_outgoing(ground, packet, sizeof packet, &len) == LPT_DONE);
     STEP(lpt_end_packet(craft, packet, len, &told));
     STEP(lpt_end_packet(craft, packet, len, &told));
+    memcpy(request, packet, len);
+    request_len = len;
     STEP(lpt_end_read(craft));
     STEP(lpt_end_read(craft));
     STEP(lpt_end_execute_given(craft, memory, 8, &applied));
     EXPECT(applied.kind == LPT_APPLIED_CARRIED_OUT);
+    while (lpt_end_sent(craft) == LPT_DONE) {
+    }
+    STEP(lpt_end_refuse(craft, LPT_FAILURE_OUT_OF_RANGE, &applied));
+    EXPECT(applied.kind == LPT_APPLIED_REFUSED && applied.value == 4);
+    STEP(lpt_end_packet(craft, request, request_len, &told));
+    STEP(lpt_end_read(craft));
     STEP(lpt_end_drop_read(craft));
+    EXPECT(lpt_end_rebase(craft, 0) == LPT_DONE);
     STEP(lpt_end_state(craft, got, sizeof got, &len));
     lpt_end_free(craft);
     craft = NULL;

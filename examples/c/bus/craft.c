@@ -74,8 +74,9 @@ static void execute(void) {
     must(lpt_end_read(node.end) == LPT_DONE, "no request");
     if (!prepare(octets, sizeof octets, &read)) {
         node.kept.owed_len = 0;
-        must(lpt_end_drop_read(node.end) == LPT_DONE, "a request stays");
-        node_note(&node, "drop");
+        must(lpt_end_refuse(node.end, LPT_FAILURE_REPLY_TOO_LONG, &applied) == LPT_DONE,
+             "a request stays");
+        node_note(&node, "refuse");
         return;
     }
     must(lpt_end_execute_given(node.end, octets, read, &applied) == LPT_DONE,
