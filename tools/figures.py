@@ -59,7 +59,7 @@ def figures():
         Figure("docs/ASSURANCE.md", "what the headline says: ", " of the", len(read)),
         Figure("docs/ASSURANCE.md", " of the ", " files in `specs/`", len(specs())),
         Figure("docs/ASSURANCE.md", " files in `specs/`, with ", " lines", sum(len(reading.lines(it)) for it in read)),
-        Figure("docs/ASSURANCE.md", "lpt_c_pair/specs/Histories` lists ", " of their files", len(resets)),
+        Figure("docs/ASSURANCE.md", "lpt_c_pair/specs/Histories` lists the ", " files", len(resets)),
         Figure("docs/CLAIMS.md", "3. The ", " wrong bodies in `must-fail/`", edits),
         Figure("docs/ARCHITECTURE.md", "The ", " crates stand in layers", crates),
     ]

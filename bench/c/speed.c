@@ -147,7 +147,7 @@ static void join_plain(void) {
 
 /* ---- the state of an end ---- */
 
-enum { NAMES = 65536, STATES = 20, STATE = 57 + 6 * NAMES };
+enum { NAMES = 65536, STATES = 20, STATE = 45 + 6 * NAMES };
 static uint8_t state[STATE];
 
 /* What it takes to write the state of an end, and to make one of it, of which so many names were used,

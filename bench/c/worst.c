@@ -16,7 +16,7 @@
 #include <time.h>
 
 enum { APID = 100, LONG = 65542, MEMORY = 1048576, AREAS = 255, AREA = 65535 };
-enum { RUNS = 32768, STATE = 57 + 12 * RUNS, STREAM = 131084, QUEUE = 49152 };
+enum { RUNS = 32768, STATE = 45 + 12 * RUNS, STREAM = 131084, QUEUE = 49152 };
 enum { FUNCTIONS = 100, CALLS = 400000 };
 
 static uint8_t message[LONG], packet[LONG], body[LONG], out[70000], stream[STREAM];
@@ -212,9 +212,9 @@ static size_t written_state(uint8_t side, const LptConfig *c) {
     DONE(lpt_end_new(&end, side, c, memories, 16, content, sizeof content));
     DONE(lpt_end_state(end, state, STATE, &len));
     lpt_end_free(end);
-    state[39 + 6] = state[47 + 6] = (uint8_t)(RUNS >> 8);
+    state[27 + 6] = state[35 + 6] = (uint8_t)(RUNS >> 8);
     for (k = 0; k < 2 * RUNS; k++) {
-        uint8_t *run = state + 55 + 6 * k;
+        uint8_t *run = state + 43 + 6 * k;
         size_t id = k % RUNS * 2;
         run[0] = 0, run[1] = 1;
         run[2] = run[4] = (uint8_t)(id >> 8), run[3] = run[5] = (uint8_t)id;
@@ -313,8 +313,12 @@ static void receptions(void) {
     TIMED(lpt_end_finish, "65542 octets", lpt_end_finish(ground, &name), LPT_DONE);
     TIMED(lpt_end_tick, "", lpt_end_tick(craft), LPT_DONE);
     TIMED(lpt_end_tick_many, "4294967294 ticks", lpt_end_tick_many(craft, 4294967294u), LPT_DONE);
-    for (id = 0; id < 62; id++) {
-        TIMED(lpt_end_expire, "62 receptions of 65542 octets",
+    TIMED(lpt_end_rebase, "62 receptions", lpt_end_rebase(craft, 0), LPT_DONE);
+    name = named(1, 61);
+    TIMED(lpt_end_give_up, "62 receptions of 65542 octets",
+          lpt_end_give_up(craft, &name), LPT_DONE);
+    for (id = 0; id < 61; id++) {
+        TIMED(lpt_end_expire, "61 receptions of 65542 octets",
               lpt_end_expire(craft, &name), LPT_DONE);
     }
     begin();
@@ -398,6 +402,8 @@ static void requests(int is_sized) {
     TIMED(lpt_end_read, "a check of 255 areas", lpt_end_read(craft), LPT_DONE);
     ask(ground, craft, 5, 9, check, sizeof check);
     TIMED(lpt_end_drop, "a request of 65542 octets", lpt_end_drop(craft), LPT_DONE);
+    ask(ground, craft, 6, 9, check, sizeof check);
+    TIMED(lpt_end_read, "a check of 255 areas", lpt_end_read(craft), LPT_DONE);
     flush(craft);
     if (is_sized) {
         TIMED(lpt_end_access_octets, "65519 octets",
@@ -432,6 +438,8 @@ static void requests(int is_sized) {
         TIMED(lpt_end_memory_range, "1 MiB",
               lpt_end_memory_range(craft, 1, 0, given, MEMORY), LPT_DONE);
     }
+    TIMED(lpt_end_refuse, "a check of 255 areas",
+          lpt_end_refuse(craft, LPT_FAILURE_REPLY_TOO_LONG, &applied), LPT_DONE);
     lpt_end_free(ground);
     lpt_end_free(craft);
 }

@@ -4,8 +4,8 @@ from .nodes import Node
 from .packets import Name, checksum
 from .settings import Settings  # noqa: F401: given out with these
 
-TAG, VERSION = b"LPTS", 1
-LEAST = 57
+TAG, VERSION = b"LPTS", 2
+LEAST = 45
 GREATEST_BOOT = 2**64 - 1
 # What can be wrong with octets, in the order of the tests.
 FAULTS = ["Short", "Tag", "Version", "Length", "Side", "Config", "Checksum", "Boot", "Order"]
@@ -27,10 +27,9 @@ def runs(names):
 
 
 def configured(settings):
-    """The octets of a configuration."""
-    numbers = settings.part_size, settings.timeout, settings.receptions, settings.outgoing
+    """The octets of what an end is bound to of a configuration."""
     front = settings.apid.to_bytes(2, "big") + settings.source.to_bytes(2, "big")
-    return front + b"".join(it.to_bytes(4, "big") for it in numbers) + bytes([settings.mode == "strict"])
+    return front + settings.part_size.to_bytes(4, "big") + bytes([settings.mode == "strict"])
 
 
 def spelled(node, settings):
@@ -52,7 +51,7 @@ def ascend(found):
 
 
 def read(settings, is_craft, octets):
-    """The node that a restart leaves of the one whose state this is."""
+    """The node that a restart leaves of the one whose state this is, within the limits of these settings."""
 
     def want(is_so, fault):
         if not is_so:
@@ -61,19 +60,19 @@ def read(settings, is_craft, octets):
     want(len(octets) >= LEAST, "Short")
     want(octets[:4] == TAG, "Tag")
     want(octets[4] == VERSION, "Version")
-    counts = [int.from_bytes(octets[at : at + 8], "big") for at in (39, 47)]
+    counts = [int.from_bytes(octets[at : at + 8], "big") for at in (27, 35)]
     want(len(octets) == LEAST + 6 * sum(counts), "Length")
     want(octets[5] == is_craft, "Side")
-    want(octets[6:27] == configured(settings), "Config")
+    want(octets[6:15] == configured(settings), "Config")
     want(octets[-2:] == checksum(octets[:-2]), "Checksum")
-    boot = int.from_bytes(octets[27:35], "big")
+    boot = int.from_bytes(octets[15:23], "big")
     want(boot < GREATEST_BOOT, "Boot")
-    words = [int.from_bytes(octets[at : at + 2], "big") for at in range(55, len(octets) - 2, 2)]
+    words = [int.from_bytes(octets[at : at + 2], "big") for at in range(43, len(octets) - 2, 2)]
     found = [tuple(words[at : at + 3]) for at in range(0, len(words), 3)]
     sent, received = found[: counts[0]], found[counts[0] :]
     want(ascend(sent) and ascend(received), "Order")
     node = Node(settings, is_craft)
-    node.boot, node.clock = boot + 1, int.from_bytes(octets[35:39], "big")
+    node.boot, node.clock = boot + 1, int.from_bytes(octets[23:27], "big")
     for names, those in ((node.closed, sent), (node.ended, received)):
         names.update(Name(source, it) for source, first, last in those for it in range(first, last + 1))
     return node
