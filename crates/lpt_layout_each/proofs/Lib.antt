@@ -1,3 +1,4 @@
+mod AloneLemmas
 pub mod EachLemmas
 pub mod FitLemmas
 pub mod HeldsLemmas

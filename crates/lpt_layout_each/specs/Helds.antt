@@ -1,12 +1,13 @@
 -- What is kept, as the code has it.
-use Rattle.std.specs.Prelude.{◌≡◌, ℕ, Bool, List, Option, Some, None}
+use Rattle.std.specs.Prelude.{◌≡◌, ℕ, ◌+◌, ◌==◌, ◌&&◌, nat_le, Bool, true, false, if◌then◌else◌, List, Option, Some, None}
 use Rattle.std.specs.Option.{option_map}
 use Rattle.std.specs.BTreeMap.{get, IsOrdered}
 use Rattle.lpt_part.specs.Parts.{Piece}
 use Rattle.lpt_layout_join.specs.declared.came.CameAs.{CameAs}
+use Rattle.lpt_layout_join.specs.declared.order.Order.{Order}
 use Rattle.lpt_carried.specs.declared.name.Name.{Name}
 use Rattle.lpt_carried.specs.declared.reading.Reading.{Reading}
-use Rattle.lpt_layout_join.specs.Came.{Came}
+use Rattle.lpt_layout_join.specs.Came.{Came, nothing_came}
 use Rattle.lpt_layout_join.specs.CameInside.{Shows}
 use Rattle.lpt_layout_join.specs.CountsInside.{shown}
 use Rattle.lpt_layout_each.specs.declared.course.CourseAs.{CourseAs}
@@ -18,7 +19,7 @@ use Rattle.lpt_layout_each.specs.declared.run.RunTurnAs.{RunTurnAs}
 use Rattle.lpt_layout_each.specs.declared.run.RunTurnAs.TheVariants as ran
 use Rattle.lpt_layout_each.specs.declared.turn.Turn as code
 use Rattle.lpt_layout_each.specs.declared.turn.Turn.TheVariants as turned
-use Rattle.lpt_layout_each.specs.Eaches.{Course, Ends, Goes, Held, Run, RunTurn, Turn, Waits, GivesUp, Gives, alone, counts_of, held, more, nothing, seed}
+use Rattle.lpt_layout_each.specs.Eaches.{Course, Ends, Goes, Held, Run, RunTurn, Turn, Waits, GivesUp, Gives, alone, begun, counts_of, held, more, no_run, nothing, seed}
 use Rattle.lpt_layout_join.specs.Names.{name_cmp}
 use Rattle.lpt_layout_each.specs.News.{News, Unfit, dropped}
 use Rattle.lpt_layout_each.specs.Told.{news_of}
@@ -68,10 +69,37 @@ abbrev pub IsRunTurn : RunTurnAs → RunTurn → Type 0
 IsRunTurn (ran.Goes g) now = (r : Run) × IsRun r g × (now ≡ Goes r)
 IsRunTurn (ran.Ends s m sure) now = (c : Came) × Shows c s × (now ≡ Ends c m sure)
 
+-- what is held of a name, of which these parts came alone: in this order, and nothing else
+abbrev pub first_course : Order → Came → Course
+first_course o c = record {
+  held = begun None c;
+  run = record { order = o; came = c };
+  stale = false;
+  gave = false;
+}
+
+-- where they were given up
+abbrev pub broken_course : Held → Course
+broken_course h = record { held = h; run = no_run; stale = false; gave = false }
+
+-- these parts came in their order: those that are kept so, or all that are held
+abbrev pub IsRunOf : (alone : Bool) → Course → RunAs → Type 0
+IsRunOf false c g = IsRun c.run g
+IsRunOf true c g =
+    (c ≡ first_course g.order c.held.new) × Shows nothing_came g.came
+    × (g.order.count ≡ 0 → c.held.new ≡ nothing_came)
+
+-- whether a part of this number is the next of those that came alone, or one of these again
+abbrev pub goes_on : Order → (number : ℕ) → Bool
+goes_on o n = if n == 1 then o.count == 0 else nat_le n (o.count + 1)
+
+abbrev pub goes_on_alone : CourseAs → (number : ℕ) → Bool
+goes_on_alone g n = g.alone && goes_on g.run.order n
+
 -- this is kept, by its order too
 pub record Follows (c : Course) (g : CourseAs) : Type 0 where
   pub held : Holds c.held g.held
-  pub run : IsRun c.run g.run
+  pub run : IsRunOf g.alone c g.run
   pub stale : g.stale ≡ c.stale
   pub gave : g.gave ≡ c.gave
 

@@ -8,7 +8,7 @@ ghost use Rattle.lpt_carried.specs.declared.reading.Reading.{Reading};
 ghost use Rattle.lpt_layout_join.specs.Came.{Came};
 ghost use Rattle.lpt_layout_join.specs.CameInside.{Shows};
 ghost use Rattle.lpt_layout_each.specs.Eaches as each;
-ghost use Rattle.lpt_layout_each.specs.Helds.{Follows, Holds, IsRun, ShowsSome, Steps};
+ghost use Rattle.lpt_layout_each.specs.Helds.{Follows, Holds, IsRun, ShowsSome, Steps, goes_on_alone};
 ghost use Rattle.lpt_layout_each.specs.Told.{news_of};
 
 use crate::NewsAs;
@@ -26,6 +26,9 @@ pub(crate) struct CourseAs {
     pub(crate) held: HeldAs,
     // What came in the order of its numbers.
     pub(crate) run: RunAs,
+    // Whether nothing else came of the name: its parts are what is held, and aren't kept a second
+    // time.
+    pub(crate) alone: bool,
     // Whether some of what came behind the last message came before that.
     pub(crate) stale: bool,
     // Whether a message was given out since that began.
@@ -37,9 +40,11 @@ impl CourseAs {
     pub(crate) fn behind(alloc: Global, last: Option<CameAs>) -> CourseAs
         ensures { (l : Option Came) → ShowsSome l last → Follows (each.fresh l) result }
     {
+        let alone = last.is_none();
         CourseAs {
             held: HeldAs::behind(alloc, last),
             run: RunAs::none(alloc),
+            alone,
             stale: false,
             gave: false,
         }
@@ -75,9 +80,32 @@ impl CourseAs {
         ensures { (c : each.Course) → Follows c self → IfOk result (λ r.
             Steps r (each.step reading.now any missing c (piece part.now))) }
     {
+        if self.goes_on_alone(part.number) {
+            return self.add_alone(alloc, reading, any, missing, place, part);
+        }
+        self.take_apart(alloc, reading, any, missing, place, part)
+    }
+
+    // Takes a part of a name of which others came than a run. The only error is out of memory.
+    fn take_apart(
+        self,
+        alloc: Global,
+        reading: &Reading,
+        any: bool,
+        missing: u64,
+        place: u64,
+        part: &PartAs<'_>,
+    ) -> Result<(CourseAs, Option<NewsAs>), AllocError>
+        requires number { 1 ≤ part.now.number }
+        requires short { length part.now.octets.now ≤ longest_packet }
+        requires apart { goes_on_alone self part.now.number ≡ false }
+        ensures { (c : each.Course) → Follows c self → IfOk result (λ r.
+            Steps r (each.step reading.now any missing c (piece part.now))) }
+    {
         let CourseAs {
             held,
             run,
+            alone: _,
             stale,
             gave,
         } = self;
@@ -86,6 +114,7 @@ impl CourseAs {
                 let course = CourseAs {
                     held,
                     run,
+                    alone: false,
                     stale,
                     gave,
                 };
@@ -95,6 +124,7 @@ impl CourseAs {
                 let course = CourseAs {
                     held,
                     run: RunAs::none(alloc),
+                    alone: false,
                     stale,
                     gave,
                 };
@@ -119,12 +149,14 @@ impl CourseAs {
     ) -> Result<(CourseAs, Option<NewsAs>), AllocError>
         requires number { 1 ≤ part.now.number }
         requires short { length part.now.octets.now ≤ longest_packet }
+        requires apart { self.alone ≡ false }
         ensures { (c : each.Course) → Follows c self → IfOk result (λ o.
             Steps o (each.go_on reading.now any again c (piece part.now))) }
     {
         let CourseAs {
             held,
             run,
+            alone: _,
             stale,
             gave,
         } = self;
@@ -147,6 +179,7 @@ impl CourseAs {
     ) -> Result<(CourseAs, Option<NewsAs>), AllocError>
         requires number { 1 ≤ part.now.number }
         requires short { length part.now.octets.now ≤ longest_packet }
+        requires apart { self.alone ≡ false }
         ensures { (c : each.Course) (d : Came) → Follows c self → Shows d whole.0
             → IfOk result (λ o. Steps o (each.end_by reading.now any c (piece part.now) d whole.1
             (each.repeats c part.now.number whole.1))) }
@@ -202,12 +235,14 @@ fn course_by(held: HeldAs, run: RunAs, stale: bool, gave: bool, news: &Option<Ne
         None => CourseAs {
             held,
             run,
+            alone: false,
             stale,
             gave,
         },
         Some(told) => CourseAs {
             held,
             run,
+            alone: false,
             stale: false,
             gave: gave || is_given(told),
         },

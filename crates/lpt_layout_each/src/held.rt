@@ -1,6 +1,6 @@
 //! What is kept of one name.
 
-ghost use Rattle.std.specs.Prelude.{◌≡◌, ◌≤◌, ◌==◌, Bool, Option, length, IfOk};
+ghost use Rattle.std.specs.Prelude.{◌≡◌, ◌≤◌, ◌==◌, Bool, Option, None, length, IfOk};
 ghost use Rattle.lpt_packet.specs.Sizes.{longest_packet};
 ghost use Rattle.lpt_part.specs.Parts.{Piece};
 ghost use Rattle.lpt_layout.specs.Parts.{piece};
@@ -42,6 +42,17 @@ impl HeldAs {
             last,
             all,
             new: CameAs::new(alloc),
+        }
+    }
+
+    // These came, and no message before them.
+    pub(crate) fn first(new: CameAs) -> HeldAs
+        ensures { (c : Came) → Shows c new → Holds (each.begun None c) result }
+    {
+        HeldAs {
+            last: None,
+            all: None,
+            new,
         }
     }
 
@@ -155,7 +166,7 @@ fn turn_of_all(
 }
 
 // This part alone came behind a message. The only error is out of memory.
-fn begin(
+pub(crate) fn begin(
     alloc: Global,
     last: Option<CameAs>,
     place: u64,

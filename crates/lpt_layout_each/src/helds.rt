@@ -22,7 +22,7 @@ use std::alloc::{AllocError, Global};
 use std::collections::BTreeMap;
 
 /// What is kept of each name while the packets of a stream come. Of a name it takes as much memory
-/// as four `CameAs`.
+/// as four `CameAs`; as one, while its parts come in their order and nothing else came of it.
 #[derive(Drop)]
 pub struct HeldsAs {
     pub(crate) kept: BTreeMap<Name, CourseAs>,

@@ -10,6 +10,7 @@
 //! or `pop_left` for one name after the other.
 #![tactic(auto)]
 
+mod alone;
 mod course;
 mod each;
 mod held;

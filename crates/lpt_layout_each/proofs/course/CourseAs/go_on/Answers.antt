@@ -3,6 +3,7 @@ use Rattle.lpt_layout.specs.Parts.{piece}
 use Rattle.lpt_layout_each.specs.Eaches.{course_by, gather, gave_before}
 use Rattle.lpt_layout_each.specs.Helds.{Follows}
 use Rattle.lpt_layout_each.specs.News.{News}
+use Rattle.lpt_layout_each.proofs.AloneLemmas.{run-kept}
 use Rattle.lpt_layout_each.proofs.course.CourseAs.go_on.Goals as goal
 
 pub returns : goal.returns
@@ -19,6 +20,7 @@ returns c = λ k h.
           (c.since-gave.ensures k h.gave)
           (subst (λ (o : Option News).
           Follows (course_by k.run c.staleness-stale.result c.since-gave.result g.0 o) now)
-          took.tells (c.course_by.ensures g.0 k.run took.holds h.run)));
+          took.tells (c.course_by.ensures g.0 k.run took.holds
+          (run-kept c.args.self.alone k c.args.self.run c.requires.apart h.run))));
       tells = took.tells;
     }
