@@ -1,67 +1,120 @@
--- What is read and told of the profile's packets where parts are joined.
-use Rattle.std.proofs.Common.{◌≡◌, ◌∙◌, ap, sym, subst, ℕ, false, List, [], ◌++◌, Option, Some, None}
+-- At the profile's own layouts what is read in place of a packet is what the profile reads.
+use Rattle.std.proofs.Common.{◌≡◌, ◌∙◌, ap, subst, refl, ℕ, false, List, [], ◌∷◌, ◌++◌, append-nil, Option, Some, None, Result, Ok, Err}
+use Rattle.std.specs.List.{AllByRecursion}
+use Rattle.std.specs.Option.{option_map}
+use Rattle.std.specs.Result.{result_ok}
+use Rattle.lpt_packet.specs.Numbers.{IsOctets}
+use Rattle.lpt_events.specs.Arrivals.{arrival}
 use Rattle.lpt_events.specs.NamedParts.{NamedPart}
-use Rattle.lpt_stream.specs.declared.piece_kind.PieceKind.{PieceKind}
-use Rattle.lpt_stream.specs.declared.piece_kind.PieceKind.TheVariants.{Whole, Damaged, Stray}
-use Rattle.lpt_stream.specs.Pieces.{packet_before}
-use Rattle.lpt_join.specs.Offers.{named_in, piece_in}
+use Rattle.lpt_events.specs.Sides.{receiver_side}
+use Rattle.lpt_carried.specs.declared.reading.Reading.{Reading}
+use Rattle.lpt_carried.specs.declared.skip.Skip.{Skip}
+use Rattle.lpt_carried.specs.Carried.{Named, carried}
+use Rattle.lpt_carried.specs.Own.{in_own}
 use Rattle.lpt_join.specs.declared.transaction.Transaction.{Transaction}
-use Rattle.lpt_each.specs.News.{Event, Hears}
-use Rattle.lpt_each.specs.Streams.{events, events_from, told_by}
-use Rattle.lpt_each.proofs.TellLemmas.{events-next, hears-more}
-use Rattle.lpt_extract.specs.declared.joins.InPlace.{InPlace}
-use Rattle.lpt_extract.specs.declared.joins.InPlace.TheVariants.{Itself}
-use Rattle.lpt_extract.specs.JoinedInside.{IsInPlace, IsRead}
-use Rattle.lpt_extract.specs.OwnJoined.{messages_in, own_reads, reads_by}
-use Rattle.lpt_extract.proofs.JoinedLemmas.{place-read}
+use Rattle.lpt_join.specs.Offers.{piece_in}
+use Rattle.lpt_layout_join.specs.Own.{own_reading}
+use Rattle.lpt_layout_join.proofs.OwnLemmas.{OwnParts, arrived-part, is-own}
+use Rattle.lpt_each.specs.News as profile_news
+use Rattle.lpt_each.specs.Streams as profile
+use Rattle.lpt_each.proofs.TellLemmas as profile_tells
+use Rattle.lpt_layout_each.specs.News.{Event, News, Given, Dropped, Unfit, Overtaken, messages_of}
+use Rattle.lpt_layout_each.specs.Own.{AreOwnEvents, IsOwnNews}
+use Rattle.lpt_layout_each.specs.Streams.{events, told_by}
+use Rattle.lpt_layout_each.proofs.TellLemmas.{events-next}
+use Rattle.lpt_extract.specs.LayoutJoined.{layout_reads, messages_in, reads_by}
+use Rattle.lpt_extract.specs.OwnJoined as own
 
-nothing_named : (q : NamedPart) → ◌≡◌ {A = Option NamedPart} (Some q) None → ⊥
-nothing_named q h = cc
+-- ---- lists
 
-module _ (s t : Transaction) (same : s ≡ t) (bs : List (List ℕ)) (k : PieceKind) (b : List ℕ) where
-  -- what is told behind what was told before
-  pub told-on : (heard hear hears : Option (List Event))
-      → Hears heard hear (events t false bs)
-      → Hears hear hears (events_from s false bs (packet_before k b []))
-      → Hears heard hears (events t false (bs ++ packet_before k b []))
-  told-on heard hear hears was more =
-      subst (Hears heard hears) (sym (events-next t false [] bs (packet_before k b [])))
-      (hears-more heard hear hears (events t false bs) _ was
-      (subst (λ (x : Transaction). Hears hear hears (events_from x false bs (packet_before k b [])))
-      same more))
+all-more : (bs : List (List ℕ)) (b : List ℕ)
+    → AllByRecursion IsOctets bs
+    → IsOctets b
+    → AllByRecursion IsOctets (bs ++ b ∷ [])
+all-more [] b all here = (here, tt)
+all-more (x ∷ bs) b all here = (all.0, all-more bs b all.1 here)
 
-  -- a piece that carries no part is read itself
-  place-itself : (x : Transaction) (j : PieceKind)
-      → None ≡ named_in x j b
-      → IsInPlace (own_reads x) bs j b Itself
-  place-itself x Whole none = λ e. ap (reads_by x bs b) (sym none)
-  place-itself x Damaged none = λ e. absurd cc
-  place-itself x Stray none = λ e. absurd cc
+-- what comes behind events that are alike
+events-behind : (ws xs : List Event) (vs ys : List profile_news.Event)
+    → AreOwnEvents ws vs
+    → AreOwnEvents (ws ++ xs) (vs ++ ys)
+    → AreOwnEvents xs ys
+events-behind [] xs [] ys h k = k
+events-behind (w ∷ ws) xs (v ∷ vs) ys h k = events-behind ws xs vs ys h.2 k.2
+events-behind [] xs (v ∷ vs) ys h k = absurd h
+events-behind (w ∷ ws) xs [] ys h k = absurd h
 
-  pub placed-itself : None ≡ named_in s k b → IsInPlace (own_reads t) bs k b Itself
-  placed-itself none =
-      subst (λ (x : Transaction). IsInPlace (own_reads x) bs k b Itself) same
-      (place-itself s k none)
+-- the message that is given out, and those of events
+message-alike : (w : News) (v : profile_news.News)
+    → IsOwnNews w v
+    → messages_of w ≡ profile_news.messages_of v
+message-alike (Given m) (profile_news.Given b) h = ap (λ (m : List ℕ). m ∷ []) h
+message-alike (Dropped c l) (profile_news.Dropped d e) h = refl
+message-alike (Unfit e) (profile_news.Unfit f) h = refl
+message-alike (Overtaken c l m) (profile_news.Overtaken d e b) h =
+    ap (λ (m : List ℕ). m ∷ []) h.2
+message-alike (Given m) (profile_news.Dropped d e) h = absurd h
+message-alike (Given m) (profile_news.Unfit f) h = absurd h
+message-alike (Given m) (profile_news.Overtaken d e w) h = absurd h
+message-alike (Dropped c l) (profile_news.Given w) h = absurd h
+message-alike (Dropped c l) (profile_news.Unfit f) h = absurd h
+message-alike (Dropped c l) (profile_news.Overtaken d e w) h = absurd h
+message-alike (Unfit e) (profile_news.Given w) h = absurd h
+message-alike (Unfit e) (profile_news.Dropped d f) h = absurd h
+message-alike (Unfit e) (profile_news.Overtaken d f w) h = absurd h
+message-alike (Overtaken c l m) (profile_news.Given w) h = absurd h
+message-alike (Overtaken c l m) (profile_news.Dropped d e) h = absurd h
+message-alike (Overtaken c l m) (profile_news.Unfit f) h = absurd h
 
-  -- and in place of one that does what becomes whole with it
-  place-part : (u : Transaction) (j : PieceKind) (q : NamedPart) (es : List Event) (x : InPlace)
-      → Some q ≡ named_in u j b
-      → (Some q ≡ piece_in u b → es ≡ told_by u false bs b (piece_in u b))
-      → IsRead (messages_in es) x
-      → IsInPlace (own_reads u) bs j b x
-  place-part u Whole q es x some told read =
-      place-read (own_reads u) bs b (messages_in es) x
-      (sym (ap (reads_by u bs b) some)
-      ∙ ap (λ p. messages_in (told_by u false bs b p)) some
-      ∙ sym (ap messages_in (told some))) read
-  place-part u Damaged q es x some told read = absurd (nothing_named q some)
-  place-part u Stray q es x some told read = absurd (nothing_named q some)
+messages-same : (es : List Event) (ds : List profile_news.Event)
+    → AreOwnEvents es ds
+    → messages_in es ≡ own.messages_in ds
+messages-same [] [] h = refl
+messages-same (e ∷ es) (d ∷ ds) h =
+    let here = message-alike e.1 d.1 h.1 in
+    let rest = messages-same es ds h.2 in
+    λ i. here i ++ rest i
+messages-same [] (d ∷ ds) h = absurd h
+messages-same (e ∷ es) [] h = absurd h
 
-  pub placed-part : (q : NamedPart) (es : List Event) (x : InPlace)
-      → Some q ≡ named_in s k b
-      → (Some q ≡ piece_in s b → es ≡ told_by s false bs b (piece_in s b))
-      → IsRead (messages_in es) x
-      → IsInPlace (own_reads t) bs k b x
-  placed-part q es x some told read =
-      subst (λ (u : Transaction). IsInPlace (own_reads u) bs k b x) same
-      (place-part s k q es x some told read)
+-- ---- a packet
+
+module _ (t : Transaction) (law : OwnParts) (before : List (List ℕ)) (b : List ℕ)
+    (octets : IsOctets b) where
+  abbrev r : Reading
+  r = own_reading t
+
+  -- the part that it carries
+  arrives : option_map in_own (result_ok (carried r b)) ≡ piece_in t b
+  arrives =
+      law r t.part_size b (is-own t) octets
+      ∙ arrived-part (arrival (receiver_side t.direction) t.apid t.part_size b)
+
+  read-by : (v : Result Named Skip) (o : Option NamedPart)
+      → option_map in_own (result_ok v) ≡ o
+      → AreOwnEvents (told_by r false before b v) (profile.told_by t false before b o)
+      → reads_by r before b v ≡ own.reads_by t before b o
+  read-by (Ok c) (Some q) e h =
+      messages-same (told_by r false before b (Ok c)) (profile.told_by t false before b (Some q)) h
+  read-by (Err x) None e h = refl
+  read-by (Ok c) None e h = absurd cc
+  read-by (Err x) (Some q) e h = absurd cc
+
+  -- what is told with it, by what is told with it and of those before it
+  pub read-own : ((packets : List (List ℕ)) → AllByRecursion IsOctets packets
+      → AreOwnEvents (events r false packets) (profile.events t false packets))
+      → AllByRecursion IsOctets before
+      → layout_reads r before b ≡ own.own_reads t before b
+  read-own alike all =
+      read-by (carried r b) (piece_in t b) arrives
+      (events-behind (events r false before) (told_by r false before b (carried r b))
+      (profile.events t false before) (profile.told_by t false before b (piece_in t b))
+      (alike before all)
+      (subst (λ (es : List Event). AreOwnEvents es
+      (profile.events t false before ++ profile.told_by t false before b (piece_in t b)))
+      (events-next r false [] before b)
+      (subst (AreOwnEvents (events r false (before ++ b ∷ [])))
+      (profile_tells.events-next t false [] before (b ∷ [])
+      ∙ ap (λ es. profile.events t false before ++ es)
+      (append-nil (profile.told_by t false before b (piece_in t b))))
+      (alike (before ++ b ∷ []) (all-more before b all octets)))))

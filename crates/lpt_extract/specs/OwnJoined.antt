@@ -1,23 +1,17 @@
--- What is read in place of the profile's packets where dump reports may come in parts.
-use Rattle.std.specs.Prelude.{ℕ, false, List, [], ◌∷◌, Option, Some, None}
+-- What is read in place of the profile's packets where dump reports may come in parts, in the
+-- profile's words.
+use Rattle.std.specs.Prelude.{ℕ, false, List, ◌∷◌, [], Option, Some, None}
 use Rattle.std.specs.List.{flat_map}
 use Rattle.lpt_events.specs.NamedParts.{NamedPart}
 use Rattle.lpt_join.specs.Offers.{piece_in}
 use Rattle.lpt_join.specs.declared.transaction.Transaction.{Transaction}
-use Rattle.lpt_each.specs.News.{Event, News, Given, Dropped, Unfit, Overtaken}
+use Rattle.lpt_each.specs.News.{Event, messages_of}
 use Rattle.lpt_each.specs.Streams.{told_by}
 use Rattle.lpt_extract.specs.Joined.{Reads}
 
--- the message that became whole, where one did
-abbrev pub message_of : News → List (List ℕ)
-message_of (Given m) = m ∷ []
-message_of (Dropped came ended) = []
-message_of (Unfit e) = []
-message_of (Overtaken came ended m) = m ∷ []
-
--- the messages that did
+-- the messages that became whole
 abbrev pub messages_in : List Event → List (List ℕ)
-messages_in es = flat_map (λ e. message_of e.1) es
+messages_in es = flat_map (λ e. messages_of e.1) es
 
 -- what is read in place of a packet behind others: the packet itself, or where it carries a part,
 -- the message that becomes whole with it

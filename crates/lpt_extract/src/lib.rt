@@ -7,8 +7,8 @@
 //! counts what was passed over, skipped, or no packet.
 //!
 //! The main type is `Wanted`. The first call is `extract_stream`, with a stream of packets, a sink
-//! for the octets, and a `Listener`, who is told of each area; or `extract_joined`, if reports
-//! may come in parts, and `extract_joined_as` if these are a mission's.
+//! for the octets, and a `Listener`, who is told of each area; or `extract_joined_as`, if reports
+//! may come in parts, of the profile (`Reading::own`) or of a mission's layout.
 #![tactic(auto)]
 
 mod cover;
@@ -22,7 +22,6 @@ mod joins;
 pub mod laws;
 mod layout_joins;
 mod notice;
-mod own_joins;
 mod report;
 mod seen_area;
 mod taking;
@@ -34,11 +33,9 @@ pub use extracting::extract_stream;
 pub use joining::Hearers;
 pub use layout_joins::extract_joined_as;
 pub use lpt_carried::Reading;
-pub use lpt_each::{Name, News, Taker, Transaction};
 pub use lpt_layout::Layout;
 pub use lpt_layout_each::TakerAs;
 pub use lpt_text::{Sink, Source, StreamFault};
 pub use notice::{Listener, Notice, Span};
-pub use own_joins::extract_joined;
 pub use tally::{Others, Tally};
 pub use wanted::{Place, Wanted};

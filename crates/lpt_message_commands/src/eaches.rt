@@ -3,16 +3,18 @@
 ghost use Rattle.std.specs.Prelude.{◌≡◌, IfErr};
 ghost use Rattle.lpt_events.specs.Configs.{IsConfig};
 
-use crate::joins::{tell, tell_of, tell_skips, tell_unfit, wanted_of};
-use lpt_command_line::JoinWords;
-use lpt_each::{Came, News, Taker, each_stream};
+use crate::joins::tell;
+use crate::layout_joins::{tell_skips, unfit_text, who};
+use lpt_carried::{Name, Reading};
+use lpt_command_line::{JoinWords, Span};
 use lpt_events::Config;
 use lpt_io::{
     Failure, Fault, Machine, Packets, Status, Voice, opened_packets, packets_end, write_beside,
 };
-use lpt_join::{Transaction, missing_list};
-use lpt_packet::{Direction, Name};
-use lpt_skips::Skips;
+use lpt_join::{PartNumbers, missing_list};
+use lpt_layout_each::{CameAs, NewsAs, TakerAs, each_as};
+use lpt_part::Kind;
+use lpt_skips::{Skips, Wanted};
 use lpt_text::StreamFault;
 use std::alloc::{AllocError, Global};
 use std::collections::BTreeMap;
@@ -25,9 +27,7 @@ use std::rt::Files;
 struct Folder<'a, R: Machine> {
     rt: &'a R,
     voice: Voice,
-    config: &'a Config,
-    words: &'a JoinWords<'a>,
-    path: &'a str,
+    words: EachWords<'a>,
     // How many messages of each name were written.
     counts: BTreeMap<Name, u64>,
     // Whether a part came, and whether parts never became whole.
@@ -37,16 +37,16 @@ struct Folder<'a, R: Machine> {
     failure: Option<Failure>,
 }
 
-impl<R: Machine> Taker for Folder<'_, R> {
+impl<R: Machine> TakerAs for Folder<'_, R> {
     ghost use Rattle.std.specs.Prelude.{None};
 
     ghost heard = { λ _. None };
 
-    fn take(&mut self, name: Name, news: &News) -> Result<(), StreamFault> {
+    fn take(&mut self, name: Name, news: &NewsAs) -> Result<(), StreamFault> {
         self.came = true;
         match news {
-            News::Given(message) => self.write_given(name, message.as_slice()),
-            News::Overtaken(_, message) => {
+            NewsAs::Given(message) => self.write_given(name, message.as_slice()),
+            NewsAs::Overtaken(_, message) => {
                 self.tell_given_up(name, news)?;
                 self.write_given(name, message.as_slice())
             }
@@ -72,28 +72,23 @@ impl<R: Machine> Folder<'_, R> {
     }
 
     // Says and notes that parts never became whole. The only error is out of memory.
-    fn tell_given_up(&mut self, name: Name, news: &News) -> Result<(), StreamFault>
+    fn tell_given_up(&mut self, name: Name, news: &NewsAs) -> Result<(), StreamFault>
         ensures { IfErr result (λ e. e ≡ StreamFault.Memory) }
     {
         self.lost = true;
-        match self.tell(name, news) {
+        self.voice.clear(self.rt);
+        let from = self.words.span.from.unwrap_or(0);
+        match tell_lost(
+            self.rt,
+            self.words.user,
+            &self.words.reading,
+            from,
+            name,
+            news,
+        ) {
             Ok(()) => Ok(()),
             Err(_) => Err(StreamFault::Memory),
         }
-    }
-
-    // Says what never became whole. The only error is out of memory.
-    fn tell(&self, name: Name, news: &News) -> Result<(), AllocError> {
-        self.voice.clear(self.rt);
-        let behind = self.words.span.from.unwrap_or(0);
-        tell_lost(
-            self.rt,
-            self.config,
-            self.words.direction,
-            behind,
-            name,
-            news,
-        )
     }
 
     // Writes a message into a new file: all of it, or there is none of that name.
@@ -104,24 +99,17 @@ impl<R: Machine> Folder<'_, R> {
             Some(count) => *count,
             None => 0,
         };
-        let path = match self.path_of(name, number) {
-            Ok(path) => path,
-            Err(_) => return Err(Failure::from(Fault::Memory)),
+        let (folder, direction) = (self.words.path, self.words.reading.direction.word());
+        let (user, id) = (name.user, name.id);
+        let path = format!(in self.rt.alloc(); "{folder}/{direction}-{user}-{id}.{number}");
+        let Ok(path) = path else {
+            return Err(Failure::from(Fault::Memory));
         };
         write_new(self.rt, path.as_str(), message)?;
         match self.counts.insert(name, number.saturating_add(1)) {
             Ok(_) => Ok(()),
             Err(_) => Err(Failure::from(Fault::Memory)),
         }
-    }
-
-    // The path of this message of a name.
-    fn path_of(&self, name: Name, number: u64) -> Result<String, AllocError> {
-        let folder = self.path;
-        let direction = self.words.direction.word();
-        let source = name.source;
-        let id = name.id;
-        format!(in self.rt.alloc(); "{folder}/{direction}-{source}-{id}.{number}")
     }
 }
 
@@ -140,37 +128,45 @@ pub fn write_new(
     write_beside(rt, path, octets)
 }
 
-/// Says what of a name never became whole, in a stream behind so many octets. The only error is out
-/// of memory.
+/// Says what of a name never became whole, if this source is configured and packets are taken
+/// from this octet on. The only error is out of memory.
 pub fn tell_lost(
     rt: &(impl Eprint + AllocGlobal),
-    config: &Config,
-    direction: Direction,
-    behind: u64,
+    user: u32,
+    reading: &Reading,
+    from: u64,
     name: Name,
-    news: &News,
+    news: &NewsAs,
 ) -> Result<(), AllocError> {
+    let who = who(rt.alloc(), user, reading, Some(name))?;
     match news {
-        News::Given(_) => Ok(()),
-        News::Dropped(came) | News::Overtaken(came, _) => {
-            let text = missing_text(rt.alloc(), behind, name, came);
-            tell_of(rt, config, direction, name, text)
+        NewsAs::Given(_) => Ok(()),
+        NewsAs::Dropped(came) | NewsAs::Overtaken(came, _) => {
+            tell(rt, missing_text(rt.alloc(), &who, name, came, from))
         }
-        News::Unfit(misfit) => tell_unfit(rt, config, direction, name, *misfit),
+        NewsAs::Unfit(misfit) => tell(rt, unfit_text(rt.alloc(), &who, *misfit)),
     }
 }
 
-// Which parts of a message are missing, as a list for `split --each`, and from where on others of
-// it came. The only error is out of memory.
-fn missing_text(alloc: Global, behind: u64, name: Name, came: &Came) -> Result<String, AllocError> {
-    let id = name.id;
-    let list = missing_list(alloc, &came.numbers)?;
-    let place = came.place.unwrap_or(0).saturating_add(behind);
-    format!(in alloc; "from octet {place} on, missing parts: {id}:{list}")
+/// How every message is asked for.
+#[derive(Clone, Copy)]
+pub struct EachWords<'a> {
+    /// The source that is configured.
+    pub user: u32,
+    /// How parts are read.
+    pub reading: Reading,
+    /// Whether what is joined needn't be a packet.
+    pub any: bool,
+    /// Which octets of the packets are read.
+    pub span: Span,
+    /// The paths of the packets.
+    pub files: &'a [&'a str],
+    /// The path of the folder.
+    pub path: &'a str,
 }
 
-/// Writes every message that packets carry, each into a file of its own in this folder, which is
-/// made if it isn't there.
+/// Writes every message that packets of the profile carry, each into a file of its own in the
+/// folder at this path, which is made if it isn't there.
 ///
 /// Errors: `Read` if the packets can't be opened or read, or their capture is wrong; `Write`
 /// if the folder can't be made, or a message can't be written into a file that isn't there yet;
@@ -178,7 +174,7 @@ fn missing_text(alloc: Global, behind: u64, name: Name, came: &Came) -> Result<S
 pub fn join_each<'a, R: Machine>(
     rt: &'a R,
     voice: Voice,
-    config: &'a Config,
+    config: &Config,
     words: &'a JoinWords<'a>,
     path: &'a str,
 ) -> Result<Status, Failure>
@@ -186,48 +182,45 @@ pub fn join_each<'a, R: Machine>(
 {
     let span = words.span;
     let mut source = opened_packets(rt, voice, &words.files, span.from, span.to)?;
-    let status = match fs::create_dir_all(rt, path) {
-        Ok(()) => write_each(rt, voice, config, words, path, &mut source),
-        Err(error) => {
-            let place = format!(in rt.alloc(); "{path}: {error}");
-            Err(Failure::at(Fault::Write, place))
-        }
+    let words = EachWords {
+        user: u32::from(config.source),
+        reading: Reading::own(words.direction, config.apid, config.part_size),
+        any: words.any,
+        span,
+        files: words.files.as_slice(),
+        path,
     };
+    let status = write_each(rt, voice, words, &mut source);
     drop(source);
     status
 }
 
-// The same of packets that were opened, into a folder that is there.
-fn write_each<'a, R: Machine>(
+/// The same of packets that were opened.
+///
+/// Errors: `Read` if they can't be read, or their capture is wrong; the others of `join_each`.
+pub fn write_each<'a, R: Machine>(
     rt: &'a R,
     voice: Voice,
-    config: &'a Config,
-    words: &'a JoinWords<'a>,
-    path: &'a str,
+    words: EachWords<'a>,
     source: &mut Packets<R>,
-) -> Result<Status, Failure>
-    requires { IsConfig config.now }
-{
+) -> Result<Status, Failure> {
+    if let Err(error) = fs::create_dir_all(rt, words.path) {
+        let path = words.path;
+        let place = format!(in rt.alloc(); "{path}: {error}");
+        return Err(Failure::at(Fault::Write, place));
+    }
     let mut folder = Folder {
         rt,
         voice,
-        config,
         words,
-        path,
         counts: BTreeMap::new(rt.alloc()),
         came: false,
         lost: false,
         failure: None,
     };
-    let transaction = Transaction {
-        direction: words.direction,
-        name: Name { source: 0, id: 0 },
-        apid: config.apid,
-        part_size: config.part_size,
-    };
-    let ended = each_stream(rt.alloc(), &transaction, words.any, source, &mut folder);
+    let ended = each_as(rt.alloc(), &words.reading, words.any, source, &mut folder);
     let failed = matches!(ended, Err(StreamFault::Read));
-    let failure = match packets_end(rt, voice, source, &words.files, failed) {
+    let failure = match packets_end(rt, voice, source, words.files, failed) {
         Some(failure) => Some(failure),
         None => folder.failure.take(),
     };
@@ -235,23 +228,20 @@ fn write_each<'a, R: Machine>(
     drop(folder);
     match failure {
         Some(failure) => Err(failure),
-        None => status_of(rt, config, words, came, lost, ended),
+        None => status_of(rt, &words, came, lost, ended),
     }
 }
 
 // The status of a join that ended so.
 fn status_of(
     rt: &(impl Eprint + AllocGlobal),
-    config: &Config,
-    words: &JoinWords<'_>,
+    words: &EachWords<'_>,
     came: bool,
     lost: bool,
     ended: Result<Skips, StreamFault>,
-) -> Result<Status, Failure>
-    requires { IsConfig config.now }
-{
+) -> Result<Status, Failure> {
     match ended {
-        Ok(skips) => match told(rt, config, words, came, lost, &skips) {
+        Ok(skips) => match told(rt, words, came, lost, &skips) {
             Ok(status) => Ok(status),
             Err(_) => Err(Failure::from(Fault::Memory)),
         },
@@ -264,22 +254,66 @@ fn status_of(
 // is out of memory.
 fn told(
     rt: &(impl Eprint + AllocGlobal),
-    config: &Config,
-    words: &JoinWords<'_>,
+    words: &EachWords<'_>,
     came: bool,
     lost: bool,
     skips: &Skips,
-) -> Result<Status, AllocError>
-    requires { IsConfig config.now }
-{
-    if came && !lost && !skips.loses(&wanted_of(config, words, None)) {
+) -> Result<Status, AllocError> {
+    let wanted = Wanted {
+        reading: words.reading,
+        name: None,
+    };
+    if came && !lost && !skips.loses(&wanted) {
         return Ok(Status::Done);
     }
     if !came {
-        let direction = words.direction.word();
+        let direction = words.reading.direction.word();
         let text = format!(in rt.alloc(); "{direction}: no part of a message came");
         tell(rt, text)?;
     }
-    tell_skips(rt, config, words, None, skips)?;
+    tell_skips(rt, words.user, &wanted, words.span.from, skips)?;
     Ok(Status::Refused)
+}
+
+// Which parts of a message are missing, as a list for `split --each`, and from where on others of
+// it came, where that is known. The only error is out of memory.
+fn missing_text(
+    alloc: Global,
+    who: &str,
+    name: Name,
+    came: &CameAs,
+    from: u64,
+) -> Result<String, AllocError> {
+    let numbers = numbers_of(alloc, came)?;
+    let list = missing_list(alloc, &numbers);
+    drop(numbers);
+    let (id, list) = (name.id, list?);
+    match came.began() {
+        Some(began) => {
+            let place = began.saturating_add(from);
+            format!(in alloc; "{who}: from octet {place} on, missing parts: {id}:{list}")
+        }
+        None => format!(in alloc; "{who}: missing parts: {id}:{list}"),
+    }
+}
+
+// The numbers of the parts that came, up to 65,542.
+fn numbers_of(alloc: Global, came: &CameAs) -> Result<PartNumbers, AllocError> {
+    let mut numbers = PartNumbers::new(alloc);
+    let end = match came.last() {
+        Some(last) => last.number,
+        None => 0,
+    };
+    let highest = came.highest().min(65_542) as u32;
+    for number in 1..highest + 1 {
+        let kind = if number == end {
+            Kind::Last
+        } else {
+            Kind::Middle
+        };
+        if came.has(number) {
+            numbers.add(number, kind)?;
+        }
+    }
+    Ok(numbers)
 }

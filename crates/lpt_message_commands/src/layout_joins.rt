@@ -1,7 +1,7 @@
 //! Messages joined of packets of a mission's layout, from files to standard output.
 
+use crate::eaches::{EachWords, write_each};
 use crate::joins::{contradicting, foreign, tell};
-use crate::layout_eaches::join_each;
 use lpt_carried::{Layouts, Name, Reading};
 use lpt_command_line::{JoinLayoutWords, WideName, WordFault, name_within};
 use lpt_events::Config;
@@ -40,7 +40,17 @@ pub fn join<R: Machine>(
     let span = words.span;
     let mut source = opened_packets(rt, voice, &words.files, span.from, span.to)?;
     let status = match words.each {
-        Some(path) => join_each(rt, voice, user, &reading, words, path, &mut source),
+        Some(path) => {
+            let each = EachWords {
+                user,
+                reading,
+                any: words.any,
+                span,
+                files: words.files.as_slice(),
+                path,
+            };
+            write_each(rt, voice, each, &mut source)
+        }
         None => {
             let wanted = Wanted { reading, name };
             join_from(rt, voice, user, &wanted, words, &mut source)
@@ -166,22 +176,21 @@ fn told(
     if !loses && matches!(report.end, Some(JoinEnd::Written(_))) {
         return Ok(status);
     }
-    tell_skips(rt, source, wanted, words, &report.skips)?;
+    tell_skips(rt, source, wanted, words.span.from, &report.skips)?;
     Ok(if loses { Status::Refused } else { status })
 }
 
-/// Says on standard error what was passed over, and why, if these parts were wanted and this source
-/// is configured. The only error is out of memory.
+/// Says on standard error what was passed over, and why, if these parts were wanted, this source is
+/// configured and packets are taken from this octet on. The only error is out of memory.
 pub fn tell_skips(
     rt: &(impl Eprint + AllocGlobal),
     source: u32,
     wanted: &Wanted,
-    words: &JoinLayoutWords<'_>,
+    from: Option<u64>,
     skips: &Skips,
 ) -> Result<(), AllocError> {
     let source = source_of(source, &wanted.reading);
-    let from = words.span.from.unwrap_or(0);
-    for line in skips.lines(rt.alloc(), wanted, source, from)? {
+    for line in skips.lines(rt.alloc(), wanted, source, from.unwrap_or(0))? {
         tell_place(rt, line.as_str());
     }
     Ok(())

@@ -10,7 +10,6 @@ mod extract_joins;
 mod extract_notices;
 mod extracts;
 mod joins;
-mod layout_eaches;
 mod layout_joins;
 mod split_eaches;
 mod splits;
