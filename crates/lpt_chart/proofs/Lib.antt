@@ -5,3 +5,4 @@ pub mod JournalFlights
 pub mod PictureLemmas
 pub mod ShapeTags
 pub mod TagLemmas
+pub mod ToldLemmas

@@ -1,6 +1,5 @@
 -- What loops over entries, columns and own packets draw.
 use Rattle.std.proofs.Common.{◌≡◌, ◌∙◌, ℕ, ◌+◌, ◌<◌, ◌++◌, List, ◌∷◌, drop, take, length, ap, sym, append_assoc, add-one, Option, get_or, fold}
-use Rattle.std.specs.Prelude.{◌*◌, ◌/◌, ◌%◌}
 use Rattle.std.proofs.Math.Seq.{drop-cons}
 use Rattle.lpt_events.specs.declared.entry.Entry.{Entry}
 use Rattle.lpt_events.specs.declared.side.Side.{Side}
@@ -9,9 +8,6 @@ use Rattle.lpt_chart.specs.declared.marks.Track.{Track}
 use Rattle.lpt_chart.specs.declared.marks.Refusal.{Refusal}
 use Rattle.lpt_chart.specs.Events.{after, after_all, before, refusal_row}
 use Rattle.lpt_chart.specs.Pictures.{Picture, all_bars, bar_up_to, own_put, reported}
-use Rattle.lpt_chart.specs.declared.shape.Shape.{Shape}
-use Rattle.lpt_chart.specs.declared.style.Style.{Style}
-use Rattle.lpt_chart.specs.Charts.{key_shapes, legend_shapes}
 
 -- the rest of a list begins with its next element
 pub drop_step : {A : Type 0} (xs : List A) (i : ℕ) (d : A)
@@ -54,14 +50,3 @@ column_step front side here i columns d within =
     append_assoc front (bar_up_to side here i (get_or columns i d))
     (all_bars side here (i + 1) (drop (i + 1) columns))
     ∙ ap (λ c. front ++ all_bars side here i c) (sym (drop_step columns i d within))
-
--- a sample, and those after it
-pub key_step : (front : List Shape) (i : ℕ) (styles : List Style) (d : Style)
-    → i < length styles
-    → (front ++ key_shapes (24 + 250 * (i % 3)) (2 * (i / 3)) (get_or styles i d))
-    ++ legend_shapes (i + 1) (drop (i + 1) styles)
-    ≡ front ++ legend_shapes i (drop i styles)
-key_step front i styles d within =
-    append_assoc front (key_shapes (24 + 250 * (i % 3)) (2 * (i / 3)) (get_or styles i d))
-    (legend_shapes (i + 1) (drop (i + 1) styles))
-    ∙ ap (λ c. front ++ legend_shapes i c) (sym (drop_step styles i d within))

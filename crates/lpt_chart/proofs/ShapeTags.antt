@@ -1,5 +1,5 @@
 -- Each '<' of a picture opens or closes an element.
-use Rattle.std.proofs.Common.{refl, ℕ, List, [], ◌∷◌, ◌++◌, length, take}
+use Rattle.std.proofs.Common.{refl, subst, sym, ℕ, List, [], ◌∷◌, ◌++◌, length, take}
 use Rattle.std.specs.Prelude.{◌-◌, codes, decimal, nat_lt}
 use Rattle.std.specs.List.{flat_map}
 use Rattle.lpt_packet.specs.declared.direction.Direction.TheVariants.{Up, Down}
@@ -14,9 +14,8 @@ use Rattle.lpt_chart.specs.declared.style.Letters.TheVariants.{Title, Grey, Plac
 use Rattle.lpt_chart.specs.declared.svg.TheConstants.{DESC_HEAD, LETTERS_HEAD}
 use Rattle.lpt_chart.specs.declared.style.Style.TheVariants.{Paper, Ground, Ink, InkEdge, Life, Hair, Lane, Way, WayAgain, WayNoise, InHand, Waiting, Late, Cross, Expired, Hollow, Kept, Dashed, Noted, Ring, Retiring, Opened, Finished, Sender, Reception, JobWaits, JobHollow, JobFilled, Tick, Restart, Refused, Filled, Noise, Light, JobEdge}
 use Rattle.lpt_chart.specs.declared.style.Weight.TheVariants.{Quiet, Plain, Strong}
-use Rattle.lpt_chart.specs.Charts.{chart_shapes, chart_text, keys_of, picture_text}
+use Rattle.lpt_chart.specs.Charts.{IsChart, IsPicture}
 use Rattle.lpt_chart.specs.Events.{picture}
-use Rattle.lpt_chart.specs.Frames.{frame_of, whole_high}
 use Rattle.lpt_chart.specs.Pictures.{Picture}
 use Rattle.lpt_chart.specs.Shapes.{closing_text, end_text, escaped, opening_text, seen_text, shape_text, sign_steps, size_text, view_text}
 use Rattle.lpt_chart.specs.Styles.{letters_text, style_text}
@@ -284,22 +283,26 @@ opening-tagged wide high title counts =
     (escaped-tagged title)) refl)
     (escaped-tagged counts)) refl
 
-picture-tagged : (events : ℕ) (c : Choice) (title : List ℕ) (p : Picture)
-    → Tagged (picture_text events c title p)
-unfolding picture_text
-picture-tagged events c title p =
-    let f = frame_of c title p in
-    let keys = keys_of f p in
+picture-tagged : (events : ℕ) (c : Choice) (title : List ℕ) (p : Picture) (text : List ℕ)
+    → IsPicture events c title p text
+    → Tagged text
+picture-tagged events c title p text k =
     let counts = counts_words events (length p.sent) (length p.flights) (length p.losses) in
-    let head = opening_text f.wide (whole_high f (length keys)) title counts in
-    let text = flat_map shape_text (chart_shapes f keys counts c title p) in
-    tagged-append (head ++ text) closing_text
-    (tagged-append head text (opening-tagged f.wide (whole_high f (length keys)) title counts)
-    (shapes-tagged (chart_shapes f keys counts c title p))) refl
+    let head = opening_text k.wide k.high title counts in
+    let front = flat_map shape_text k.front in
+    let rows = flat_map shape_text k.rows in
+    let legend = flat_map shape_text k.legend in
+    subst Tagged (sym k.written)
+    (tagged-append (((head ++ front) ++ rows) ++ legend) closing_text
+    (tagged-append ((head ++ front) ++ rows) legend
+    (tagged-append (head ++ front) rows
+    (tagged-append head front (opening-tagged k.wide k.high title counts) (shapes-tagged k.front))
+    (shapes-tagged k.rows)) (shapes-tagged k.legend)) refl)
 
 pub chart-tagged : (source : ℕ) (c : Choice) (title : List ℕ) (kinds : List Kind)
     (opened : List Opening) (journal : List Entry)
-    (refused : List Refusal)
-    → Tagged (chart_text source c title kinds opened journal refused)
-chart-tagged source c title kinds opened journal refused =
-    picture-tagged (length journal) c title (picture source kinds opened journal refused)
+    (refused : List Refusal) (text : List ℕ)
+    → IsChart source c title kinds opened journal refused text
+    → Tagged text
+chart-tagged source c title kinds opened journal refused text k =
+    picture-tagged (length journal) c title (picture source kinds opened journal refused) text k

@@ -1,12 +1,12 @@
 //! How deliveries, losses, and packets that stay on the link are drawn.
 
-ghost use Rattle.std.specs.Prelude.{◌≡◌, ◌<◌, ◌^◌, ◌++◌, IfOk, OnOk};
-ghost use Rattle.lpt_chart.specs.Rows.{bead_shapes, end_shapes, held_shapes, loss_shapes, open_shapes, packet, path_shapes, released_shapes, stub_shapes, tip, waiting_shapes, way_style};
+ghost use Rattle.std.specs.Prelude.{◌≡◌, ◌+◌, ◌<◌, ◌^◌, ◌∷◌, ◌++◌, [], decimal, IfOk, OnOk};
+ghost use Rattle.lpt_chart.specs.Rows.{At, bead_told, end_told, held_told, loss_told, packet_told, path_told, told, told_in};
 
 use crate::frame::{Frame, half, holds, lane_x, middle_x, side_x, toward, y_of};
 use crate::marks::{Held, Sent};
 use crate::row::start_x;
-use crate::shape::{Shape, Sign, add, add_bead, add_if, add_number};
+use crate::shape::{Shape, Sign, add, add_bead, add_number, draw, draw_if};
 use crate::style::{Letters, Style};
 use crate::words::packet_words;
 use lpt_events::{Lane, Outcome, Side};
@@ -14,10 +14,7 @@ use lpt_packet::{Direction, Octets};
 use std::alloc::{AllocError, Global};
 
 // The style of a packet's way: dotted where it is noise, and dashed where a lane took it before.
-#[tactic(auto, unfolding(crate::specs::Rows::way_style))]
-fn way_style(sent: Sent) -> Style
-    ensures { result ≡ way_style sent }
-{
+fn way_style(sent: Sent) -> Style {
     if sent.noise {
         Style::WayNoise(sent.direction)
     } else if sent.gone {
@@ -29,7 +26,7 @@ fn way_style(sent: Sent) -> Style
 
 // The beginning of a packet's group.
 fn packet(alloc: Global, words: &[Octets], number: u64) -> Result<Shape, AllocError>
-    ensures { IfOk result (λ s. s ≡ packet words.now number) }
+    ensures { IfOk result (λ s. told_in s ≡ packet_told words.now number ∷ []) }
 {
     let words = match words.get(number as usize) {
         Some(words) => packet_words(alloc, words.as_slice(), number)?,
@@ -51,13 +48,11 @@ fn add_stub(
 ) -> Result<(), AllocError>
     requires near { x < 2 ^ 40 }
     requires high { end < 2 ^ 40 }
-    ensures { OnOk result
-        (out.new.items ≡ out.old.items ++ stub_shapes x y to end number direction style) }
+    ensures { OnOk result (told out.new.items ≡ told out.old.items ++ At (end + 4) (decimal number) ∷ []) }
 {
-    add(out, Shape::Line(x, y, toward(x, to, 24, 0), end, style))?;
+    draw(out, Shape::Line(x, y, toward(x, to, 24, 0), end, style))?;
     add_number(
         out,
-        true,
         toward(x, to, 36, 16),
         end + 4,
         Letters::Bead(direction),
@@ -67,7 +62,7 @@ fn add_stub(
 
 // Adds a line of a packet from a point at one height to another at a later one: whole where both
 // heights are drawn, a stub at the one that is drawn, and else nothing.
-#[tactic(auto, unfolding(crate::specs::Rows::path_shapes))]
+#[tactic(auto, unfolding(crate::specs::Rows::path_told, crate::specs::Frames::y_of))]
 fn add_path(
     out: &mut Vec<Shape>,
     frame: Frame,
@@ -82,11 +77,11 @@ fn add_path(
     requires from { x < 2 ^ 40 }
     requires to { to < 2 ^ 40 }
     ensures { OnOk result
-        (out.new.items ≡ out.old.items ++ path_shapes frame number direction x at to end style) }
+        (told out.new.items ≡ told out.old.items ++ path_told frame number at end) }
 {
     let (y, y_end) = (y_of(at), y_of(end));
     match (holds(frame, at), holds(frame, end)) {
-        (true, true) => add(out, Shape::Line(x, y, to, y_end, style)),
+        (true, true) => draw(out, Shape::Line(x, y, to, y_end, style)),
         (true, false) => add_stub(out, number, direction, x, y, to, y + 7, style),
         (false, true) => add_stub(out, number, direction, to, y_end, x, y_end - 7, style),
         (false, false) => Ok(()),
@@ -94,9 +89,8 @@ fn add_path(
 }
 
 // Where a way ends, in front of the bead: an arrow, or a bar where nothing was made of the packet.
-#[tactic(auto, unfolding(crate::specs::Rows::tip))]
 fn tip(frame: Frame, direction: Direction, to: u32, number: u64, outcome: Outcome) -> Shape
-    ensures { result ≡ tip frame direction to number outcome }
+    ensures { told_in result ≡ [] }
 {
     let (y, before) = (y_of(to), half(number) + 4);
     let (x, sign) = match direction {
@@ -120,11 +114,11 @@ pub(crate) fn add_released(
     number: u64,
     direction: Direction,
 ) -> Result<(), AllocError>
-    ensures { OnOk result (out.new.items ≡ out.old.items ++ released_shapes x to number direction) }
+    ensures { OnOk result (told out.new.items ≡ told out.old.items ++ bead_told to number) }
 {
     let (half, ring) = (half(number), Style::Ring(direction));
     let (left, top) = (x.saturating_sub(half + 3), y_of(to) - 10);
-    add(out, Shape::Box(left, top, 2 * half + 6, 20, 10, ring))?;
+    draw(out, Shape::Box(left, top, 2 * half + 6, 20, 10, ring))?;
     add_bead(
         out,
         x,
@@ -138,7 +132,6 @@ pub(crate) fn add_released(
 
 // The bead of a delivery: in a ring where a message is released, square where a report is noted,
 // dashed where nothing came of it.
-#[tactic(auto, unfolding(crate::specs::Rows::bead_shapes))]
 fn add_outcome(
     out: &mut Vec<Shape>,
     x: u64,
@@ -147,7 +140,7 @@ fn add_outcome(
     direction: Direction,
     outcome: Outcome,
 ) -> Result<(), AllocError>
-    ensures { OnOk result (out.new.items ≡ out.old.items ++ bead_shapes x to number direction outcome) }
+    ensures { OnOk result (told out.new.items ≡ told out.old.items ++ bead_told to number) }
 {
     let white = Letters::BeadWhite;
     match outcome {
@@ -177,7 +170,7 @@ fn add_end(
     outcome: Option<Outcome>,
 ) -> Result<(), AllocError>
     ensures { OnOk result
-        (out.new.items ≡ out.old.items ++ end_shapes frame lane to number outcome) }
+        (told out.new.items ≡ told out.old.items ++ end_told frame to number outcome) }
 {
     let Some(outcome) = outcome else {
         return Ok(());
@@ -190,11 +183,11 @@ fn add_end(
         lane_x(frame, lane),
         side_x(frame, Side::receiver(direction)),
     );
-    add(
+    draw(
         out,
         Shape::Line(x, y_of(to), end, y_of(to), Style::Way(direction)),
     )?;
-    add(out, tip(frame, direction, to, number, outcome))?;
+    draw(out, tip(frame, direction, to, number, outcome))?;
     add_outcome(out, end, to, number, direction, outcome)
 }
 
@@ -209,7 +202,7 @@ pub(crate) fn add_held(
     held: Option<Held>,
 ) -> Result<(), AllocError>
     ensures { OnOk result
-        (out.new.items ≡ out.old.items ++ held_shapes frame words.now lane to outcome held) }
+        (told out.new.items ≡ told out.old.items ++ held_told frame words.now to outcome held) }
 {
     let Some(held) = held else {
         return Ok(());
@@ -225,7 +218,7 @@ pub(crate) fn add_held(
     add_path(out, frame, number, d, from, sent.at, x, at, way_style(sent))?;
     add_path(out, frame, number, d, x, at, x, to, Style::InHand(d))?;
     add_end(out, frame, lane, to, number, outcome)?;
-    add(out, Shape::GroupEnd)
+    draw(out, Shape::GroupEnd)
 }
 
 /// Adds a loss, if one of its heights is drawn: a line to a cross in the middle of the link.
@@ -235,7 +228,7 @@ pub(crate) fn add_loss(
     words: &[Octets],
     loss: Held,
 ) -> Result<(), AllocError>
-    ensures { OnOk result (out.new.items ≡ out.old.items ++ loss_shapes frame words.now loss) }
+    ensures { OnOk result (told out.new.items ≡ told out.old.items ++ loss_told frame words.now loss) }
 {
     let (number, at, sent) = (loss.number, loss.at, loss.sent);
     if !(holds(frame, sent.at) || holds(frame, at)) {
@@ -252,8 +245,8 @@ pub(crate) fn add_loss(
     add(out, group)?;
     add_path(out, frame, number, d, from, sent.at, to, at, style)?;
     let cross = Shape::Sign(to, y_of(at), Sign::Cross, Style::Cross);
-    add_if(out, holds(frame, at), cross)?;
-    add(out, Shape::GroupEnd)
+    draw_if(out, holds(frame, at), cross)?;
+    draw(out, Shape::GroupEnd)
 }
 
 // Adds a short line with a ring at its end.
@@ -264,11 +257,11 @@ pub(crate) fn add_open(
     at: u32,
     direction: Direction,
 ) -> Result<(), AllocError>
-    ensures { OnOk result (out.new.items ≡ out.old.items ++ open_shapes x end at direction) }
+    ensures { OnOk result (told out.new.items ≡ told out.old.items) }
 {
     let (y, left) = (y_of(at), end.saturating_sub(3));
-    add(out, Shape::Line(x, y, end, y, Style::Waiting(direction)))?;
-    add(
+    draw(out, Shape::Line(x, y, end, y, Style::Waiting(direction)))?;
+    draw(
         out,
         Shape::Box(left, y - 3, 6, 6, 3, Style::Hollow(direction)),
     )
@@ -276,7 +269,7 @@ pub(crate) fn add_open(
 
 /// Adds a short line for a packet that is on the link to the end.
 pub(crate) fn add_waiting(out: &mut Vec<Shape>, frame: Frame, sent: Sent) -> Result<(), AllocError>
-    ensures { OnOk result (out.new.items ≡ out.old.items ++ waiting_shapes frame sent) }
+    ensures { OnOk result (told out.new.items ≡ told out.old.items) }
 {
     if sent.gone || !holds(frame, sent.at) {
         return Ok(());

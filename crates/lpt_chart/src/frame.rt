@@ -1,7 +1,7 @@
 //! Which rows are drawn, and where things stand in a picture, in whole pixels.
 
 ghost use Rattle.std.specs.Prelude.{◌≡◌, ◌<◌, ◌≤◌, ◌^◌, length, nat_le, nat_lt, position};
-ghost use Rattle.lpt_chart.specs.Frames.{bar_x, foot_y, frame_of, half, height_of, hidden_above, lane_x, legend_high, middle_x, row_end, rows_high, shows, side_x, toward, whole_high, wide_of, widest_at, y_of};
+ghost use Rattle.lpt_chart.specs.Frames.{IsFrame, height_of, hidden_above, row_end, shows, y_of};
 
 use crate::marks::{Choice, Row};
 use crate::picture::{Picture, is_side};
@@ -78,16 +78,14 @@ fn height_of(picture: &Picture, row: usize) -> u32
 // The width of so many letters.
 fn wide_of(letters: u32) -> u32
     requires { letters ≤ 60 }
-    ensures value { result ≡ wide_of letters }
-    ensures small { result ≤ 500 }
+    ensures { result ≤ 500 }
 {
     (29 * letters + 3) / 4
 }
 
 // How many letters the widest row has at a side, 16 at least, and 60 at most.
 fn widest_at(side: Side, rows: &[Row]) -> u32
-    ensures value { result ≡ widest_at side rows.now }
-    ensures small { result ≤ 60 }
+    ensures { result ≤ 60 }
 {
     let mut widest = 16;
     for row in rows {
@@ -99,9 +97,8 @@ fn widest_at(side: Side, rows: &[Row]) -> u32
 }
 
 /// The frame of a picture. Its columns have 12 pixels each.
-#[tactic(auto, unfolding(crate::specs::Frames::frame_of))]
 pub(crate) fn frame_of(choice: Choice, title: &[u8], picture: &Picture) -> Frame
-    ensures { result ≡ frame_of choice title.now picture.now }
+    ensures { IsFrame choice picture.now result }
 {
     let rows = picture.rows.as_slice();
     let words = 60 + wide_of(widest_at(Side::Ground, rows));
@@ -132,10 +129,8 @@ pub(crate) fn y_of(at: u32) -> u64
 }
 
 /// A node's line of life.
-#[tactic(auto, unfolding(crate::specs::Frames::side_x))]
 pub(crate) fn side_x(frame: Frame, side: Side) -> u64
-    ensures value { result ≡ side_x frame side }
-    ensures small { result < 2 ^ 33 }
+    ensures { result < 2 ^ 33 }
 {
     match side {
         Side::Ground => u64::from(frame.left),
@@ -144,19 +139,15 @@ pub(crate) fn side_x(frame: Frame, side: Side) -> u64
 }
 
 /// The middle of the link.
-#[tactic(auto, unfolding(crate::specs::Frames::middle_x))]
 pub(crate) fn middle_x(frame: Frame) -> u64
-    ensures value { result ≡ middle_x frame }
-    ensures small { result < 2 ^ 33 }
+    ensures { result < 2 ^ 33 }
 {
     u64::from(frame.left) + 190
 }
 
 /// A lane.
-#[tactic(auto, unfolding(crate::specs::Frames::lane_x))]
 pub(crate) fn lane_x(frame: Frame, lane: Lane) -> u64
-    ensures value { result ≡ lane_x frame lane }
-    ensures small { result < 2 ^ 33 }
+    ensures { result < 2 ^ 33 }
 {
     match lane {
         Lane::S1 => u64::from(frame.left) + 340,
@@ -167,10 +158,8 @@ pub(crate) fn lane_x(frame: Frame, lane: Lane) -> u64
 }
 
 /// The left edge of a column.
-#[tactic(auto, unfolding(crate::specs::Frames::bar_x))]
 pub(crate) fn bar_x(frame: Frame, side: Side, column: u64) -> u64
-    ensures value { result ≡ bar_x frame side column }
-    ensures small { result < 2 ^ 40 }
+    ensures { result < 2 ^ 40 }
 {
     let outward = 12 * column.min(63);
     match side {
@@ -180,10 +169,8 @@ pub(crate) fn bar_x(frame: Frame, side: Side, column: u64) -> u64
 }
 
 /// Half the width of a bead with this number.
-#[tactic(auto, unfolding(crate::specs::Frames::half))]
 pub(crate) fn half(number: u64) -> u64
-    ensures value { result ≡ half number }
-    ensures small { result ≤ 17 }
+    ensures { result ≤ 17 }
 {
     if number < 10 {
         7
@@ -204,10 +191,8 @@ pub(crate) fn holds(frame: Frame, at: u32) -> bool
 }
 
 /// So far from a point toward another, or beside it if both are one above the other.
-#[tactic(auto, unfolding(crate::specs::Frames::toward))]
 pub(crate) fn toward(x: u64, to: u64, far: u8, beside: u8) -> u64
     requires { x < 2 ^ 40 }
-    ensures { result ≡ toward x to far beside }
 {
     if x < to {
         x + u64::from(far)
@@ -226,19 +211,15 @@ pub(crate) fn shows(frame: Frame, first: u32, last: u32) -> bool
 }
 
 /// The height of the rows that are drawn.
-#[tactic(auto, unfolding(crate::specs::Frames::rows_high))]
 pub(crate) fn rows_high(frame: Frame) -> u64
-    ensures value { result ≡ rows_high frame }
-    ensures small { result < 2 ^ 40 }
+    ensures { result < 2 ^ 40 }
 {
     11 * u64::from(frame.bottom.saturating_sub(frame.top))
 }
 
 /// The top of the nodes' boxes below the rows.
-#[tactic(auto, unfolding(crate::specs::Frames::foot_y))]
 pub(crate) fn foot_y(frame: Frame) -> u64
-    ensures value { result ≡ foot_y frame }
-    ensures small { result < 2 ^ 41 }
+    ensures { result < 2 ^ 41 }
 {
     u64::from(frame.window) + rows_high(frame) + 8
 }
@@ -246,8 +227,7 @@ pub(crate) fn foot_y(frame: Frame) -> u64
 /// The height of a legend of so many samples, three in a row.
 pub(crate) fn legend_high(keys: usize) -> u64
     requires { keys ≤ 25 }
-    ensures value { result ≡ legend_high keys }
-    ensures small { result ≤ 198 }
+    ensures { result ≤ 198 }
 {
     22 * ((keys as u64 + 2) / 3)
 }
@@ -255,7 +235,6 @@ pub(crate) fn legend_high(keys: usize) -> u64
 /// The height of a picture with such a legend.
 pub(crate) fn whole_high(frame: Frame, keys: usize) -> u64
     requires { keys ≤ 25 }
-    ensures { result ≡ whole_high frame keys }
 {
     foot_y(frame) + 44 + legend_high(keys) + 20
 }

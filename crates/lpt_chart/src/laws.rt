@@ -7,7 +7,7 @@ ghost use Rattle.lpt_chart.specs.declared.marks.Choice.{Choice};
 ghost use Rattle.lpt_chart.specs.declared.marks.Kind.{Kind};
 ghost use Rattle.lpt_chart.specs.declared.marks.Opened.{Opened};
 ghost use Rattle.lpt_chart.specs.declared.marks.Refusal.{Refusal};
-ghost use Rattle.lpt_chart.specs.Charts.{chart_text};
+ghost use Rattle.lpt_chart.specs.Charts.{IsChart};
 ghost use Rattle.lpt_chart.specs.Events.{DrawsDeliveries, DrawsReleases};
 ghost use Rattle.lpt_chart.specs.Shapes.{escaped, is_plain, is_tagged};
 
@@ -31,6 +31,7 @@ pub fn escaped_texts_are_plain()
 /// `text`, `path` and `rect`.
 pub fn each_element_is_known()
     ensures { (source : ℕ) (c : Choice) (title : List ℕ) (kinds : List Kind) (opened : List Opened)
-        (journal : List Entry) (refused : List Refusal)
-        → is_tagged (chart_text source c title kinds opened journal refused) ≡ true }
+        (journal : List Entry) (refused : List Refusal) (text : List ℕ)
+        → IsChart source c title kinds opened journal refused text
+        → is_tagged text ≡ true }
 {}

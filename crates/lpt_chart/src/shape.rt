@@ -1,7 +1,8 @@
 //! The shapes that a picture is made of: what is drawn, where, and how it looks.
 
 ghost use Rattle.std.specs.Prelude.{◌≡◌, ◌<◌, ◌^◌, ◌∷◌, ◌++◌, [], decimal, OnOk};
-ghost use Rattle.lpt_chart.specs.Rows.{bead, where_so};
+ghost use Rattle.lpt_chart.specs.Frames.{y_of};
+ghost use Rattle.lpt_chart.specs.Rows.{At, bead_told, told, told_in, where_so};
 
 use crate::frame::{half, y_of};
 use crate::style::{Letters, Style};
@@ -40,18 +41,30 @@ pub(crate) enum Shape {
 }
 
 // Adds a shape.
+#[tactic(auto, using(crate::proofs::ToldLemmas::told_more), unfolding(crate::specs::Rows::told))]
 pub(crate) fn add(out: &mut Vec<Shape>, shape: Shape) -> Result<(), AllocError>
-    ensures { OnOk result (out.new.items ≡ out.old.items ++ shape ∷ []) }
+    ensures { OnOk result (told out.new.items ≡ told out.old.items ++ told_in shape) }
 {
     out.push(shape)?;
     Ok(())
 }
 
-// Adds a shape, where this is so.
-pub(crate) fn add_if(out: &mut Vec<Shape>, so: bool, shape: Shape) -> Result<(), AllocError>
-    ensures { OnOk result (out.new.items ≡ out.old.items ++ where_so so shape) }
+// Adds a shape that tells nothing.
+#[tactic(auto, using(crate::proofs::ToldLemmas::told_silent), unfolding(crate::specs::Rows::told))]
+pub(crate) fn draw(out: &mut Vec<Shape>, shape: Shape) -> Result<(), AllocError>
+    requires { told_in shape ≡ [] }
+    ensures { OnOk result (told out.new.items ≡ told out.old.items) }
 {
-    if so { add(out, shape) } else { Ok(()) }
+    out.push(shape)?;
+    Ok(())
+}
+
+// Adds a shape that tells nothing, where this is so.
+pub(crate) fn draw_if(out: &mut Vec<Shape>, so: bool, shape: Shape) -> Result<(), AllocError>
+    requires { told_in shape ≡ [] }
+    ensures { OnOk result (told out.new.items ≡ told out.old.items) }
+{
+    if so { draw(out, shape) } else { Ok(()) }
 }
 
 // Adds words at a point.
@@ -63,33 +76,27 @@ pub(crate) fn add_text(
     most: u64,
     words: &[u8],
 ) -> Result<(), AllocError>
-    ensures { OnOk result (out.new.items ≡ out.old.items ++ Shape.Text x y letters most words.now ∷ []) }
+    ensures { OnOk result (told out.new.items ≡ told out.old.items ++ At y words.now ∷ []) }
 {
     let words = Octets::from_vec(Vec::from_slice(*out.allocator(), words)?);
     add(out, Shape::Text(x, y, letters, most, words))
 }
 
-// Adds a number at a point, where this is so.
+// Adds a number at a point.
 pub(crate) fn add_number(
     out: &mut Vec<Shape>,
-    so: bool,
     x: u64,
     y: u64,
     letters: Letters,
     number: u64,
 ) -> Result<(), AllocError>
-    ensures { OnOk result
-        (out.new.items ≡ out.old.items ++ where_so so (Shape.Text x y letters 60 (decimal number))) }
+    ensures { OnOk result (told out.new.items ≡ told out.old.items ++ At y (decimal number) ∷ []) }
 {
-    if !so {
-        return Ok(());
-    }
     let words = format!(in *out.allocator(); "{number}")?;
     add_text(out, x, y, letters, 60, words.as_bytes())
 }
 
 // Adds a bead, in the row of a height: a packet's number in a box with corners of this radius.
-#[tactic(auto, unfolding(crate::specs::Rows::bead))]
 pub(crate) fn add_bead(
     out: &mut Vec<Shape>,
     x: u64,
@@ -99,10 +106,10 @@ pub(crate) fn add_bead(
     style: Style,
     letters: Letters,
 ) -> Result<(), AllocError>
-    ensures { OnOk result (out.new.items ≡ out.old.items ++ bead x at number round style letters) }
+    ensures { OnOk result (told out.new.items ≡ told out.old.items ++ bead_told at number) }
 {
     let (half, y) = (half(number), y_of(at));
     let left = x.saturating_sub(half);
-    add(out, Shape::Box(left, y - 7, 2 * half, 14, round, style))?;
-    add_number(out, true, x, y + 4, letters, number)
+    draw(out, Shape::Box(left, y - 7, 2 * half, 14, round, style))?;
+    add_number(out, x, y + 4, letters, number)
 }

@@ -2,12 +2,12 @@
 
 ghost use Rattle.std.specs.Prelude.{◌≡◌, ◌<◌, ◌-◌, ◌++◌, length, take, IfOk, OnOk, [], string_bytes};
 ghost use Rattle.std.specs.List.{flat_map};
-ghost use Rattle.lpt_chart.specs.Charts.{chart_text, picture_text};
-ghost use Rattle.lpt_chart.specs.Shapes.{escaped, escaped_octet, opening_text, seen_text, shape_text, sign_steps, view_text};
+ghost use Rattle.lpt_chart.specs.Charts.{IsChart, IsPicture};
+ghost use Rattle.lpt_chart.specs.Words.{counts_words};
+ghost use Rattle.lpt_chart.specs.Shapes.{closing_text, escaped, escaped_octet, opening_text, seen_text, shape_text, sign_steps, view_text};
 
 use crate::drawing::draw_journal;
-use crate::frame::{frame_of, whole_high};
-use crate::layout::{add_chart, keys_of};
+use crate::layout::{Layers, layers_of};
 use crate::marks::{Choice, Kind, Opened, Refusal};
 use crate::picture::Picture;
 use crate::shape::{Shape, Sign};
@@ -178,8 +178,37 @@ fn print_opening(
     Ok(out)
 }
 
+// The text of all shapes, with the title and how much has happened.
+fn print_layers(
+    alloc: Global,
+    title: &[u8],
+    counts: &[u8],
+    layers: &Layers,
+) -> Result<String, AllocError>
+    ensures { IfOk result (λ t. string_bytes t
+        ≡ opening_text layers.now.wide layers.now.high title.now counts.now
+        ++ flat_map shape_text layers.now.front.items
+        ++ flat_map shape_text layers.now.rows.items
+        ++ flat_map shape_text layers.now.legend.items ++ closing_text) }
+{
+    let mut out = print_opening(alloc, layers.wide, layers.high, title, counts)?;
+    write_shapes(&mut out, layers.front.as_slice())?;
+    write_shapes(&mut out, layers.rows.as_slice())?;
+    write_shapes(&mut out, layers.legend.as_slice())?;
+    out.push_str("</svg>\n")?;
+    Ok(out)
+}
+
+// How much has happened.
+fn counts_of(alloc: Global, events: u64, picture: &Picture) -> Result<String, AllocError>
+    ensures { IfOk result (λ t. string_bytes t ≡ counts_words events (length picture.now.sent)
+        (length picture.now.flights) (length picture.now.losses)) }
+{
+    let (packets, flights) = (picture.sent.len() as u64, picture.flights.len() as u64);
+    counts_words(alloc, events, packets, flights, picture.losses.len() as u64)
+}
+
 // A picture of so many events.
-#[tactic(auto, unfolding(crate::specs::Charts::picture_text))]
 fn print_picture(
     alloc: Global,
     events: u64,
@@ -187,20 +216,12 @@ fn print_picture(
     title: &[u8],
     picture: &Picture,
 ) -> Result<String, AllocError>
-    ensures { IfOk result (λ t. string_bytes t ≡ picture_text events choice title.now picture.now) }
+    ensures { IfOk result (λ t. IsPicture events choice title.now picture.now (string_bytes t)) }
 {
-    let frame = frame_of(choice, title, picture);
-    let keys = keys_of(alloc, frame, picture)?;
-    let (packets, flights) = (picture.sent.len() as u64, picture.flights.len() as u64);
-    let counts = counts_words(alloc, events, packets, flights, picture.losses.len() as u64)?;
-    let (keys, counts) = (keys.as_slice(), counts.as_bytes());
-    let mut shapes = Vec::new(alloc);
-    add_chart(&mut shapes, frame, keys, counts, choice, title, picture)?;
-    let (wide, high) = (u64::from(frame.wide), whole_high(frame, keys.len()));
-    let mut out = print_opening(alloc, wide, high, title, counts)?;
-    write_shapes(&mut out, shapes.as_slice())?;
-    out.push_str("</svg>\n")?;
-    Ok(out)
+    let counts = counts_of(alloc, events, picture)?;
+    let layers = layers_of(alloc, choice, title, counts.as_bytes(), picture)?;
+    let text = print_layers(alloc, title, counts.as_bytes(), &layers)?;
+    Ok(text)
 }
 
 /// The picture of a journal, as one SVG: rows, packets on their ways, what is open at the nodes. The
@@ -220,8 +241,8 @@ pub fn chart(
     journal: &[Entry],
     refused: &[Refusal],
 ) -> Result<String, AllocError>
-    ensures { IfOk result (λ t. string_bytes t
-        ≡ chart_text source choice title.now kinds.now opened.now journal.now refused.now) }
+    ensures { IfOk result (λ t. IsChart source choice title.now kinds.now opened.now journal.now
+        refused.now (string_bytes t)) }
 {
     let picture = draw_journal(alloc, source, kinds, opened, journal, refused)?;
     print_picture(alloc, journal.len() as u64, choice, title, &picture)

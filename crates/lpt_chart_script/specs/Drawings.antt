@@ -4,7 +4,7 @@ use Rattle.lpt_chart.specs.declared.marks.Choice.{Choice}
 use Rattle.lpt_chart.specs.declared.marks.Refusal.{Refusal}
 use Rattle.lpt_chart.specs.declared.marks.Kind.{Kind}
 use Rattle.lpt_chart.specs.declared.marks.Opened.{Opened}
-use Rattle.lpt_chart.specs.Charts.{chart_text}
+use Rattle.lpt_chart.specs.Charts.{IsChart}
 use Rattle.lpt_chart.specs.Pictures.{kind_in}
 use Rattle.lpt_part.specs.Splitting.{part_count}
 use Rattle.lpt_journal.specs.Link.{sent}
@@ -97,12 +97,12 @@ opening_told p o = record { place = o.place; parts = min (part_count (length o.m
 abbrev pub openings_of : Shown → List Opened
 openings_of w = map (opening_told w.config.part_size) (opened (history w))
 
--- the picture of what a script left
-abbrev pub run_text : Choice → (all : Bool) → (title : List ℕ) → Run → List ℕ
-run_text c all title run =
-    chart_text run.world.config.source c title (kinds_of run.world)
+-- a text is the picture of what a script left
+abbrev pub IsRunChart : Choice → (all : Bool) → (title : List ℕ) → Run → (text : List ℕ) → Type 0
+IsRunChart c all title run text =
+    IsChart run.world.config.source c title (kinds_of run.world)
     (openings_of run.world) run.world.journal
-    (drawn_refusals all run.refused)
+    (drawn_refusals all run.refused) text
 
 -- how a script's run ended whose text was read to this end
 abbrev pub ended : End → ℕ → Result ScriptEnd ScriptFault
@@ -117,7 +117,7 @@ run_end end refused None = ended end refused
 
 -- the drawing of what these octets leave of a world, which were read to this end
 pub record IsDrawn (w : Shown) (c : Choice) (all : Bool) (end : End) (text : List ℕ) (d : Drawing) : Type 0 where
-  pub picture : string_bytes d.picture ≡ run_text c all (title_of text) (text_run w text)
+  pub picture : IsRunChart c all (title_of text) (text_run w text) (string_bytes d.picture)
   pub ran : d.ran ≡ run_end end (length (text_run w text).refused) (text_run w text).bad
   pub events : d.events ≡ length (text_run w text).world.journal
 

@@ -1,7 +1,7 @@
 //! The picture of a script's run.
 
 ghost use Rattle.std.specs.Prelude.{◌≡◌, ◌≢◌, ◌↔◌, [], Err, IfOk, IsErrOf, IsSome, string_bytes};
-ghost use Rattle.lpt_chart.specs.Charts.{chart_text};
+ghost use Rattle.lpt_chart.specs.Charts.{IsChart};
 ghost use Rattle.lpt_chart_script.specs.Drawings.{Draws, IsDrawing, IsDrawn, drawn_refusals, kinds_of, openings_of, run_end};
 ghost use Rattle.lpt_chart_script.specs.Titles.{title_of};
 ghost use Rattle.lpt_events.specs.Configs.{config_fault};
@@ -149,10 +149,9 @@ fn print_run(
     text: &[u8],
     refused: &[Refusal],
 ) -> Result<String, AllocError>
-    ensures { IfOk result (λ t. string_bytes t
-        ≡ chart_text world.now.config.source choice (title_of text.now) (kinds_of world.now)
-        (openings_of world.now)
-        world.now.journal (drawn_refusals all refused.now)) }
+    ensures { IfOk result (λ t. IsChart world.now.config.source choice (title_of text.now)
+        (kinds_of world.now) (openings_of world.now) world.now.journal
+        (drawn_refusals all refused.now) (string_bytes t)) }
 {
     let title = title_of(alloc, text)?;
     let (kinds, opened) = (kinds_of(alloc, world)?, openings_of(alloc, world)?);
