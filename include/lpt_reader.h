@@ -116,6 +116,16 @@ uint32_t lpt_reader_next(LptReader *reader, LptItem *item);
 LPT_MUST_USE
 uint32_t lpt_reader_octets(LptReader *reader, uint8_t *out, size_t out_len, size_t *needed);
 
+/*
+ * Copies the date of the packet that lpt_reader_next told last to the front of a buffer, and leaves
+ * the rest as it was: that of its time by the layout's time code, as `lpt list` prints it, without a
+ * 0 behind it. LPT_DONE; LPT_E_NOTHING if it told no packet whose time has a code, or octets were
+ * taken since; LPT_E_ALLOCATION; LPT_E_NOTHING if the time says no date; LPT_E_ROOM. At LPT_DONE and
+ * LPT_E_ROOM *needed is how many octets it has.
+ */
+LPT_MUST_USE
+uint32_t lpt_reader_date(LptReader *reader, uint8_t *out, size_t out_len, size_t *needed);
+
 /* ---- the messages that become whole ---- */
 
 /*
@@ -186,6 +196,44 @@ uint32_t lpt_reader_message_octets(LptReader *reader, uint8_t *out, size_t out_l
 LPT_MUST_USE
 uint32_t lpt_reader_missing(LptReader *reader, uint32_t number, uint32_t *missing);
 
+/* ---- the areas of memories that a message names ---- */
+
+/* An area that a message of the memory service names (docs/FORMATS.md): a load, a dump or a check; or
+   the report of a dump, or of a check. */
+typedef struct LptNamed {
+    size_t at;         /* where its octets stand in the message; 0 if that has none */
+    size_t length;     /* how many octets it has */
+    uint32_t address;  /* the address of the first one */
+    uint32_t fault;    /* LPT_E_RANGE if it ends behind the last address, 2^32 - 1; else LPT_E_CHECKSUM
+                          if the message has its octets, and they have another checksum; or 0 */
+    uint16_t checksum; /* the checksum that the message has of them, or 0 */
+    uint8_t memory;
+    uint8_t areas;     /* how many areas the message names */
+} LptNamed;
+
+/*
+ * Tells what `lpt list` says of the areas that a message names: the memory, how many they are, and
+ * address and length of the first. What stands behind that isn't looked at; the rest of *first is 0.
+ * The message is a packet of the reader's layout: the octets of an item, or of a message that was
+ * joined. It doesn't depend on what the reader was fed.
+ * LPT_DONE, and *first is written; of octets that fail a test, what LptItem has as fault;
+ * LPT_E_NOTHING if they name no area.
+ */
+LPT_MUST_USE
+uint32_t lpt_reader_areas(LptReader *reader, const uint8_t *octets, size_t octets_len,
+                          LptNamed *first);
+
+/*
+ * Tells one of the areas that a message names, by its number from 0. `lpt extract` takes those of
+ * dump reports whose `fault` is 0.
+ * LPT_DONE, and *area is written; of octets that fail a test, what LptItem has as fault;
+ * LPT_E_NOTHING if they are no such message; LPT_E_NO_REPORT if its body isn't read as areas with
+ * nothing behind them; LPT_E_RANGE if it has none of this number.
+ */
+LPT_MUST_USE
+uint32_t lpt_reader_area(LptReader *reader, const uint8_t *octets, size_t octets_len, size_t number,
+                         LptNamed *area);
+
 /* ---- the structures as the archive has them: size, alignment, offsets ---- */
 
 LPT_LAYOUT(LptItem, 96, 8);
@@ -221,6 +269,14 @@ LPT_FIELD(LptMessage, user, 40);
 LPT_FIELD(LptMessage, id, 44);
 LPT_FIELD(LptMessage, last, 48);
 LPT_FIELD(LptMessage, fault, 52);
+LPT_LAYOUT(LptNamed, 32, 8);
+LPT_FIELD(LptNamed, at, 0);
+LPT_FIELD(LptNamed, length, 8);
+LPT_FIELD(LptNamed, address, 16);
+LPT_FIELD(LptNamed, fault, 20);
+LPT_FIELD(LptNamed, checksum, 24);
+LPT_FIELD(LptNamed, memory, 26);
+LPT_FIELD(LptNamed, areas, 27);
 
 #ifdef __cplusplus
 }

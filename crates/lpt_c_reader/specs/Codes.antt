@@ -6,6 +6,10 @@ use Rattle.lpt_c_reader.specs.declared.archives.Archive.{Archive}
 abbrev pub all_done : ℕ
 all_done = 0
 
+-- a checksum isn't that of its octets
+abbrev pub wrong_checksum : ℕ
+wrong_checksum = 6
+
 -- a packet of the other type
 abbrev pub wrong_type : ℕ
 wrong_type = 12
@@ -25,6 +29,10 @@ room = 103
 -- it depends on octets that may still come
 abbrev pub more : ℕ
 more = 104
+
+-- the body is no such report or request
+abbrev pub no_report : ℕ
+no_report = 105
 
 -- the handle holds no archive
 abbrev pub empty : ℕ

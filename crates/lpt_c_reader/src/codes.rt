@@ -3,6 +3,9 @@
 // Done.
 pub(crate) const DONE: u32 = 0;
 
+// A wrong checksum.
+pub(crate) const CHECKSUM: u32 = 6;
+
 // A packet of the other type.
 pub(crate) const WRONG_TYPE: u32 = 12;
 
@@ -17,6 +20,9 @@ pub(crate) const ROOM: u32 = 103;
 
 // It depends on octets that may still come.
 pub(crate) const MORE: u32 = 104;
+
+// A body that is no such report or request.
+pub(crate) const NO_REPORT: u32 = 105;
 
 // A handle that holds no archive.
 pub(crate) const EMPTY: u32 = 106;

@@ -1,9 +1,12 @@
 //! What is proved of what is told, however an archive is cut: functions with empty bodies.
 
 ghost use Rattle.lpt_c_reader.specs.Laws.{MessagesAsEach, ToldOneWay};
+ghost use Rattle.lpt_c_reader.specs.Lines.{ListedAsItems};
+ghost use Rattle.lpt_c_reader.specs.WorkedItems.{ItemsCanBe};
 
 use lpt_reader::laws::told_one_way;
 use lpt_reader_each::laws::{each_is_told, leaving_begins};
+use lpt_stream::laws::streams_are_cut_one_way;
 
 /// Of an archive that was fed to its end the same packets are told, at the same places, however it
 /// was cut when it was fed.
@@ -23,3 +26,18 @@ pub fn messages_are_told_as_each()
     leaving_begins();
     each_is_told();
 }
+
+/// From `lpt_reader_new` on, up to an item of kind 0, the items that `lpt_reader_next` writes, with
+/// the octets that are copied of each, have the lines that `lpt_list::list_stream` writes of the
+/// archive, by its layouts, in words and as JSON, however it was cut when it was fed.
+pub fn items_are_listed()
+    ensures { ListedAsItems }
+{
+    streams_are_cut_one_way();
+}
+
+/// Of whatever new reader of the profile: an archive of one packet is fed and ended, the packet is
+/// told, with its octets, and then the end.
+pub fn items_can_be()
+    ensures { ItemsCanBe }
+{}

@@ -16,10 +16,12 @@
 
 mod address;
 mod archives;
+mod areas;
 mod box_fields;
 mod choice;
 mod codes;
 mod copying;
+mod dates;
 mod handle;
 mod items;
 mod joining;
@@ -27,10 +29,14 @@ pub mod laws;
 mod making;
 mod making_join;
 mod messages;
+mod naming;
 mod reading;
+mod seen;
 mod telling;
 
 pub use address::LptReaderAddress;
+pub use areas::{LptNamed, lpt_reader_area, lpt_reader_areas};
+pub use dates::lpt_reader_date;
 pub use handle::{LptReader, LptReaderHeld};
 pub use items::LptItem;
 pub use joining::{lpt_reader_message, lpt_reader_message_octets, lpt_reader_missing};

@@ -10,10 +10,11 @@ ghost use Rattle.lpt_c_reader.specs.Items.{end_item, faulty, packet_item, part_n
 
 use crate::choice::{direction_of, kind_in, part_at};
 use crate::items::LptItem;
+use crate::seen::places_in;
 use lpt_carried::{Layouts, Tailored};
 use lpt_events::part_kind;
 use lpt_layout::{Kind, Layout, Message, PacketAs, SeenAs, read_packet_as, read_tc_as, read_tm_as};
-use lpt_packet::{PRIMARY_HEADER, PacketKind};
+use lpt_packet::PacketKind;
 
 // What is told of octets at this place, behind so many that are no packet.
 pub(crate) fn packet_item(layouts: &Layouts, place: u64, stray: u64, octets: &[u8]) -> LptItem
@@ -108,9 +109,9 @@ fn with_field(tailored: &Tailored, packet: &PacketAs<'_>, item: LptItem) -> LptI
 fn with_header(layout: &Layout, message: &Message<'_>, item: LptItem) -> LptItem
     ensures { result ≡ with_header layout.now (said message.now) item }
 {
-    let body_at = PRIMARY_HEADER + layout.header();
+    let (time_at, body_at) = places_in(layout);
     LptItem {
-        time_at: body_at - usize::from(layout.spare) - usize::from(layout.time),
+        time_at,
         body_at,
         body_len: message.body.len(),
         kind: 1,
