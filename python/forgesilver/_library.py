@@ -58,6 +58,9 @@ LptMessage = _structure(
     "LptMessage", place=U64, first=U64, length=SIZE, highest=SIZE, kind=U32, direction=U32,
     user=U32, id=U32, last=U32, fault=U32,
 )
+LptNamed = _structure(
+    "LptNamed", at=SIZE, length=SIZE, address=U32, fault=U32, checksum=U16, memory=U8, areas=U8
+)
 LptAbort = _structure("LptAbort", id=U16, reason=U16)
 LptReport = _structure("LptReport", request=U32, failed=U16, code=U16)
 LptRange = _structure("LptRange", address=U32, len=U16)
@@ -192,6 +195,9 @@ _OF_READER: dict[str, tuple[Any, ...]] = {
     "lpt_reader_end": (POINTER,),
     "lpt_reader_next": (POINTER, POINTER),
     "lpt_reader_octets": (POINTER, *_WRITE),
+    "lpt_reader_date": (POINTER, *_WRITE),
+    "lpt_reader_areas": (POINTER, *_READ, POINTER),
+    "lpt_reader_area": (POINTER, *_READ, SIZE, POINTER),
     "lpt_reader_new_join": (POINTER, U32, U16, U32, U32, *_READ),
     "lpt_reader_message": (POINTER, POINTER),
     "lpt_reader_message_octets": (POINTER, *_WRITE),

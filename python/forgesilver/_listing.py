@@ -4,7 +4,6 @@ from __future__ import annotations
 
 from typing import TYPE_CHECKING, Any, Optional
 
-from ._layouts import date_text
 from .faults import Fault, NoSecondary, Segmented
 from .kinds import ItemKind, PacketKind, PartKind
 from .packets import crc16
@@ -16,10 +15,8 @@ from .reports import read_report
 if TYPE_CHECKING:
     from .archive import Listed
 
-MEMORY = 6
 _PARTS = {PartKind.FIRST: "first", PartKind.INTERMEDIATE: "middle", PartKind.LAST: "last"}
 _FLAGS = ("continuation", "first", "last", "unsegmented")
-_HAVE_AREAS = {PacketKind.TC: (2, 5, 9), PacketKind.TM: (6, 10)}
 
 
 def items_of(it: Listed) -> dict[str, Any]:
@@ -42,15 +39,6 @@ def is_whole(octets: bytes, fault: type[Fault]) -> bool:
 def ends_in_checksum(octets: bytes) -> bool:
     """Whether octets end in the checksum of those before."""
     return len(octets) >= 8 and crc16(octets[:-2]) == int.from_bytes(octets[-2:], "big")
-
-
-def areas_of(packet: PacketKind, service: int, subtype: int, body: bytes) -> dict[str, int]:
-    """The memory, the number of areas, and the first area of a request or report of a memory."""
-    length = int.from_bytes(body[6:8], "big")
-    if service != MEMORY or subtype not in _HAVE_AREAS[packet] or len(body) < 8 or not body[1] or not length:
-        return {}
-    address = int.from_bytes(body[2:6], "big")
-    return {"memory_id": body[0], "areas": body[1], "start_address": address, "area_length": length}
 
 
 def _primary(packet: PacketKind, apid: int, count: int) -> dict[str, Any]:
@@ -87,12 +75,11 @@ def _secondary(it: Listed) -> dict[str, Any]:
 
 def _time_of(it: Listed) -> dict[str, Any]:
     """The time, and its date."""
-    code = it.headers.code if it.headers is not None else None
-    if code is None and 1 <= len(it.time) <= 4:
+    has_code = it.headers is not None and it.headers.has_code
+    if not has_code and 1 <= len(it.time) <= 4:
         return {"time": int.from_bytes(it.time, "big")}
     found = {"time": it.time.hex()} if it.time else {}
-    date = date_text(code, it.time) if code is not None else None
-    return found if date is None else {**found, "date": date}
+    return found if it.date_text is None else {**found, "date": it.date_text}
 
 
 def _carried(it: Listed) -> dict[str, Any]:
@@ -107,7 +94,7 @@ def _carried(it: Listed) -> dict[str, Any]:
         return _report_of(it.subtype, it.body)
     if it.packet is PacketKind.TM and (it.service, it.subtype) == (TRANSFER, ABORTED):
         return _abort_of(it.body)
-    return areas_of(it.packet, it.service, it.subtype, it.body)
+    return it.areas
 
 
 def _report_of(subtype: int, body: bytes) -> dict[str, Any]:

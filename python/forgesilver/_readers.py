@@ -3,11 +3,11 @@
 from __future__ import annotations
 
 from ctypes import byref
-from typing import Any, BinaryIO, Iterator, NamedTuple, Optional, Union
+from typing import Any, BinaryIO, Callable, Iterator, NamedTuple, Optional, Union
 
 from . import _library
 from ._library import U32, Given, Octets, Room, has_octets, view_of
-from .faults import BY_NUMBER, Fault, More, raise_fault
+from .faults import BY_NUMBER, Fault, More, NoReport, Nothing, raise_fault
 from .kinds import Direction, MessageKind
 from .packets import reader_of
 
@@ -39,6 +39,17 @@ class News(NamedTuple):
     first: Optional[int] = None
 
 
+class Named(NamedTuple):
+    """An area of a memory that a message names: its octets, if the message has them, and the number
+    of why it isn't taken, or 0."""
+
+    memory: int
+    start: int
+    length: int
+    octets: bytes
+    fault: int
+
+
 _NOTHING: list[News] = []
 
 
@@ -59,6 +70,10 @@ class Reader:
         if self.at is not None:
             self._free(self.at)
             self.at = None
+
+    def call(self, function: Any, *words: Any) -> int:
+        """Calls a function of the library on it."""
+        return function(self.at, *words)  # type: ignore[no-any-return]
 
     def feed(self, octets: Octets) -> None:
         """Hands over what comes next."""
@@ -161,3 +176,28 @@ def _runs_of(reader: Reader, told: Any) -> str:
     if not told.last:
         runs.append(f"{first}-")
     return ",".join(runs)
+
+
+def first_area(call: Callable[..., int], octets: bytes) -> dict[str, int]:
+    """What `lpt list --json` says of the areas that a packet names, by calls on a reader."""
+    given, it = Given(octets), _library.LptNamed()
+    fault = call(_reader.lpt_reader_areas, given.at, given.len, byref(it))
+    if fault == Nothing.number:
+        return {}
+    raise_fault(fault)
+    found = {"memory_id": it.memory, "areas": it.areas}
+    return {**found, "start_address": it.address, "area_length": it.length}
+
+
+def areas_in(call: Callable[..., int], octets: bytes) -> Optional[list[Named]]:
+    """The areas that a message names; None if they aren't read."""
+    given, it = Given(octets), _library.LptNamed()
+    found: list[Named] = []
+    while not found or len(found) < it.areas:
+        fault = call(_reader.lpt_reader_area, given.at, given.len, len(found), byref(it))
+        if fault == NoReport.number:
+            return None
+        raise_fault(fault)
+        own = octets[it.at : it.at + it.length] if it.at else b""
+        found.append(Named(it.memory, it.address, it.length, own, it.fault))
+    return found

@@ -13,20 +13,21 @@ from typing import Any, BinaryIO, Iterator, Optional, Union
 
 from . import _library
 from ._handle import Handle
-from ._layouts import Headers, cut_by, date_text, headers_of
+from ._layouts import Headers, cut_by, headers_of
 from ._library import Given, Octets, Room, has_octets, number
 from ._listing import is_whole, items_of
-from ._readers import UNREAD, News, Reader, joiner, step, told_by
+from ._readers import UNREAD, News, Reader, areas_in, first_area, joiner, step, told_by
 from .faults import BY_NUMBER, Empty, Fault, More, raise_fault
 from .images import Image, Picture
-from .joining import Counts, warn
+from .joining import Counts, is_dump_report, warn
 from .kinds import Direction, ItemKind, PacketKind, PartKind
+from .memory import SERVICE as MEMORY
 from .outcomes import Outcomes, PassedOver, Requests
 from .packets import GREATEST_APID, reader_of
 
 _reader = _library.reader
-# How many octets are read at a time.
-_CHUNK = 65536
+# How many octets are read at a time, and those of the longest date.
+_CHUNK, _DATE = 65536, 32
 
 #: An archive: its path, its octets, or a binary file.
 Source = Union[str, pathlib.Path, Octets, BinaryIO]
@@ -45,6 +46,7 @@ class Listed:
     - user: the source ID of a telecommand, the destination ID of telemetry, 0 if there is none
     - part: which part it carries, with `id`, `number` and `part_octets`; `is_unread` if it should be
       one, and isn't read as one of the part size
+    - date_text, areas: what the rows of `to_dict` have of its date, and of the areas that it names
     """
 
     kind: ItemKind
@@ -69,17 +71,17 @@ class Listed:
     fault: Optional[type[Fault]] = None
     spare: bytes = b""
     headers: Optional[Headers] = field(default=None, compare=False, repr=False)
+    date_text: Optional[str] = field(default=None, compare=False, repr=False)
+    areas: dict[str, int] = field(default_factory=dict, compare=False, repr=False)
 
     @property
     def date(self) -> Optional[datetime.datetime]:
         """The date that the time is by the layout's time code, without a time zone, rounded down to
         microseconds; of a leap second, which `to_dict` has, the last one in front of it. None if it has
         none."""
-        code = self.headers.code if self.headers is not None else None
-        text = date_text(code, self.time) if code is not None else None
-        if text is None:
+        if self.date_text is None:
             return None
-        second, _, fraction = text.partition(".")
+        second, _, fraction = self.date_text.partition(".")
         if second.endswith(":60"):
             second, fraction = f"{second[:-2]}59", "999999"
         return datetime.datetime.fromisoformat(f"{second}.{fraction[:6]:0<6}")
@@ -357,7 +359,9 @@ class Archive(Handle):
         if it.kind is not ItemKind.PACKET or it.packet is not PacketKind.TM:
             return
         is_part = it.part is not None or it.is_unread
-        picture.take(place, it.apid, is_part, it.service, it.subtype, it.body)
+        is_dump = is_dump_report(it.packet, it.service, it.subtype)
+        areas = areas_in(self._call, it.octets) if is_dump else None
+        picture.take(place, it.apid, is_part, it.body if is_dump else None, areas)
 
     # ---- requests ----
 
@@ -422,7 +426,10 @@ class Archive(Handle):
             fault = self._call(_reader.lpt_reader_next, byref(item))
         raise_fault(fault)
         self._is_over = item.kind == ItemKind.END
-        return _listed(item, b"" if self._is_over else self._last(item.length), self._headers)
+        if self._is_over:
+            return _listed(item, b"", self._headers)
+        octets = self._last(item.length)
+        return _listed(item, octets, self._headers, self._date(item), self._areas(item, octets))
 
     def _step(self, reader: Reader) -> list[News]:
         """What becomes of messages with what stands next."""
@@ -448,6 +455,18 @@ class Archive(Handle):
             beside.feed(chunk)
         elif beside is not None:
             beside.end()
+
+    def _date(self, item: Any) -> Optional[str]:
+        """The date of what was told last."""
+        if item.kind != ItemKind.PACKET or not self._headers[item.packet].has_code:
+            return None
+        text = self._copied(_reader.lpt_reader_date, Room(_DATE))
+        return None if text is None else text.decode()
+
+    def _areas(self, item: Any, octets: bytes) -> dict[str, int]:
+        """The memory that it names, how many areas, and the first."""
+        is_named = item.kind == ItemKind.PACKET and item.service == MEMORY
+        return first_area(self._call, octets) if is_named else {}
 
     def _last(self, length: int) -> bytes:
         """The octets of what was told last."""
@@ -482,7 +501,10 @@ def _is_strange(it: Listed, direction: Direction) -> bool:
     return direction is Direction.UP or it.packet is not None
 
 
-def _listed(item: Any, octets: bytes, headers: "tuple[Headers, Headers]") -> Listed:
+def _listed(
+    item: Any, octets: bytes, headers: "tuple[Headers, Headers]", date: Optional[str] = None,
+    areas: Optional[dict[str, int]] = None,
+) -> Listed:
     """What the library told."""
     kind, part = ItemKind(item.kind), item.part
     fault = BY_NUMBER.get(item.fault)
@@ -496,5 +518,5 @@ def _listed(item: Any, octets: bytes, headers: "tuple[Headers, Headers]") -> Lis
         front[item.time_at : behind], front[item.body_at :],
         PartKind(part) if 0 < part < UNREAD else None, item.id, item.number,
         front[len(front) - item.part_len :], part == UNREAD, fault,
-        front[behind : item.body_at], headers[item.packet],
+        front[behind : item.body_at], headers[item.packet], date, areas or {},
     )

@@ -6,16 +6,17 @@ from dataclasses import dataclass, field
 from typing import TYPE_CHECKING, Iterable, Iterator, Optional, Union
 
 from ._library import Octets, number
+from ._readers import Named, areas_in, lister
+from .faults import Range
 from .joining import Joined, Packets, _given, choice_of, is_dump_report
 from .kinds import Direction, PacketKind
-from .memory import Loaded
-from .packets import GREATEST_APID, Telemetry, crc16, read_message
+from .packets import GREATEST_APID, Telemetry, read_message
 from .parts import part_size_of
 
 if TYPE_CHECKING:
     from .archive import Missing
 
-_LAST_ADDRESS, _LONGEST = 0xFFFFFFFF, 1 << 28
+_LAST_ADDRESS, _LONGEST, _LONGEST_PART = 0xFFFFFFFF, 1 << 28, 1024
 
 
 @dataclass(frozen=True)
@@ -108,36 +109,33 @@ class Picture:
         self.stray, self.damaged = self.stray + stray, self.damaged + is_damaged
 
     def take(
-        self, place: int, apid: int, is_part: bool, service: int, subtype: int, body: Octets
+        self, place: int, apid: int, is_part: bool, body: Optional[Octets],
+        areas: Optional[list[Named]],
     ) -> None:
-        """Takes what telemetry gives."""
+        """Takes what telemetry gives: if it is a dump report, its body, and the areas of that, if
+        they are read."""
         if is_part and apid == self.apid:
             self.parts = self.parts.plus(place)
-        if not is_dump_report(PacketKind.TM, service, subtype):
+        if body is None:
             return
         if apid != self.apid:
             self.of_apids = self.of_apids.plus(apid)
-            return
-        body = bytes(body)
-        areas = _areas_in(body)
-        if areas is None:
-            self.passed.append(Passed(place, "unread", None, len(body)))
-        elif body[0] != self.memory:
-            self.of_memories = self.of_memories.plus(body[0])
+        elif areas is None:
+            self.passed.append(Passed(place, "unread", None, len(bytes(body))))
+        elif areas[0].memory != self.memory:
+            self.of_memories = self.of_memories.plus(areas[0].memory)
         else:
-            for area, checksum in areas:
-                self._put(place, area, checksum)
+            for area in areas:
+                self._put(place, area)
 
-    def _put(self, place: int, area: Loaded, checksum: int) -> None:
+    def _put(self, place: int, area: Named) -> None:
         """Takes an area."""
-        octets, length = bytes(area.octets), len(area.octets)
-        is_over = area.start + length - 1 > _LAST_ADDRESS
-        if is_over or crc16(octets) != checksum:
-            why = "end" if is_over else "checksum"
-            self.passed.append(Passed(place, why, area.start, length))
+        if area.fault:
+            why = "end" if area.fault == Range.number else "checksum"
+            self.passed.append(Passed(place, why, area.start, area.length))
             return
         first = max(area.start, self.start) - self.start
-        octets = octets[max(self.start - area.start, 0) :]
+        octets = area.octets[max(self.start - area.start, 0) :]
         end = first + len(octets)
         self.end = max(self.end, end if octets else 0)
         if octets and self.end <= _LONGEST:
@@ -183,7 +181,7 @@ def image_of(
     given: Iterable[Union[Joined, bytes]], memory: int, apid: int, start: int, fill: int
 ) -> Image:
     """The image, by what a stream gives: dump reports, and what was joined."""
-    picture, lost = Picture(memory, apid, start, fill), 0
+    picture, lost, reader = Picture(memory, apid, start, fill), 0, lister(b"", _LONGEST_PART)
     for it in given:
         message = it.message if isinstance(it, Joined) else it
         if isinstance(it, Joined) and (it.direction is Direction.UP or message is None):
@@ -191,24 +189,10 @@ def image_of(
             continue
         report = read_message(message) if message is not None else None
         if isinstance(report, Telemetry) and is_dump(apid, report):
-            picture.take(0, report.apid, False, report.service, report.subtype, report.body)
+            areas = areas_in(reader.call, bytes(message or b""))
+            picture.take(0, report.apid, False, report.body, areas)
     image = picture.image()
     return Image(memory, start, image.octets, image.missing, image.passed_over + lost)
-
-
-def _areas_in(body: bytes) -> Optional[list[tuple[Loaded, int]]]:
-    """The areas of a dump report, each with its checksum; None if the report isn't read."""
-    at, found = 2, []
-    for _ in range(body[1] if len(body) > 1 else 0):
-        start = int.from_bytes(body[at : at + 4], "big")
-        size = int.from_bytes(body[at + 4 : at + 6], "big")
-        after = at + 8 + size
-        if size == 0 or after > len(body):
-            return None
-        octets = body[at + 6 : after - 2]
-        found.append((Loaded(start, octets), int.from_bytes(body[after - 2 : after], "big")))
-        at = after
-    return found if found and at == len(body) else None
 
 
 def _gaps(came: bytes, start: int) -> Iterator[tuple[int, int]]:

@@ -5,9 +5,8 @@ from __future__ import annotations
 from dataclasses import dataclass, field, replace
 from typing import TYPE_CHECKING, Any, Iterator, Optional
 
-from ._listing import areas_of
 from .faults import Fault
-from .kinds import Acknowledge, PacketKind, ReportKind
+from .kinds import Acknowledge, ReportKind
 from .reports import SERVICE, read_report
 
 if TYPE_CHECKING:
@@ -149,9 +148,8 @@ class Requests:
         if it.part is not None or it.is_unread:
             return "parts"
         key = it.user, it.octets[:4].hex()
-        areas = areas_of(PacketKind.TC, it.service, it.subtype, it.body)
         head = it.apid, it.count, it.flags, it.service, it.subtype
-        self.asked.append(replace(RequestOutcome(key[1], *head, source=it.user), **areas))
+        self.asked.append(replace(RequestOutcome(key[1], *head, source=it.user), **it.areas))
         self.told[key] = {}
         self.sharers[key] = self.sharers.get(key, 0) + 1
         return ""

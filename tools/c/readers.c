@@ -411,6 +411,111 @@ static void scarce(void) {
     EXPECT(given == 0);
 }
 
+/* Telemetry whose time is a date; the report of a dump of three areas: one that is right, one that
+   ends behind the last address, and one with a wrong checksum; a load, a check of two areas, the
+   report of one, and a load whose body is short. */
+static const uint8_t DATED[] = {0x08, 0x64, 0xc0, 0x00, 0x00, 0x0f, 0x20, 0x11, 0x02, 0x00, 0x00,
+                                0x00, 0x07, 0x21, 0x22, 0x23, 0x24, 0x25, 0x26, 0x27, 0x08, 0x9d};
+static const uint8_t DUMPED[] = {
+    0x08, 0x64, 0xc0, 0x01, 0x00, 0x2c, 0x20, 0x06, 0x06, 0x00, 0x00, 0x00, 0x07,
+    0x00, 0x00, 0x00, 0x00, 0x09, 0x03, 0x00, 0x00, 0x00, 0x10, 0x00, 0x02, 0x61,
+    0x62, 0x69, 0xf0, 0xff, 0xff, 0xff, 0xff, 0x00, 0x02, 0x63, 0x64, 0x6f, 0x54,
+    0xff, 0xff, 0xff, 0xfe, 0x00, 0x02, 0x65, 0x66, 0x12, 0x34, 0xbe, 0xc0};
+static const uint8_t LOAD[] = {0x18, 0x64, 0xc0, 0x02, 0x00, 0x12, 0x20, 0x06, 0x02,
+                               0x00, 0x07, 0x09, 0x01, 0x00, 0x00, 0x00, 0x10, 0x00,
+                               0x02, 0x61, 0x62, 0x69, 0xf0, 0xfe, 0x29};
+static const uint8_t CHECK[] = {0x18, 0x64, 0xc0, 0x03, 0x00, 0x14, 0x20, 0x06, 0x09,
+                                0x00, 0x07, 0x09, 0x02, 0x00, 0x00, 0x00, 0x10, 0xff,
+                                0xff, 0xff, 0xff, 0xff, 0xff, 0x00, 0x01, 0xe9, 0x58};
+static const uint8_t CHECKED[] = {0x08, 0x64, 0xc0, 0x04, 0x00, 0x16, 0x20, 0x06, 0x0a, 0x00,
+                                  0x00, 0x00, 0x07, 0x00, 0x00, 0x00, 0x00, 0x09, 0x01, 0x00,
+                                  0x00, 0x00, 0x10, 0x00, 0x02, 0x56, 0x78, 0xa6, 0xe5};
+static const uint8_t SHORT_LOAD[] = {0x18, 0x64, 0xc0, 0x05, 0x00, 0x11, 0x20, 0x06,
+                                     0x02, 0x00, 0x07, 0x09, 0x01, 0x00, 0x00, 0x00,
+                                     0x10, 0x00, 0x02, 0x61, 0x62, 0x69, 0xf2, 0x56};
+
+/* The date of what was told last, and what has none. */
+static void dates(void) {
+    static const char DATE[] = "1975-08-13T20:35:48.145113408";
+    LptReader *reader = reader_of("[telemetry]\ntime = \"cuc 4 3\"\n");
+    LptItem item = NONE;
+    uint8_t copy[40] = {0};
+    size_t needed = 7;
+    uint32_t fault = LPT_E_ALLOCATION;
+    long at;
+    EXPECT(lpt_reader_date(reader, copy, sizeof copy, &needed) == LPT_E_NOTHING && needed == 7);
+    DONE(lpt_reader_feed(reader, DATED, sizeof DATED));
+    DONE(lpt_reader_feed(reader, LOAD, sizeof LOAD));
+    DONE(lpt_reader_next(reader, &item));
+    EXPECT(item.time_len == 7 && item.service == 17);
+    EXPECT(lpt_reader_date(reader, copy, 28, &needed) == LPT_E_ROOM && needed == 29);
+    EXPECT(copy[0] == 0);
+    for (at = 0; fault == LPT_E_ALLOCATION && at < 100; at++) {
+        refused_at = at;
+        needed = 7;
+        fault = lpt_reader_date(reader, copy, sizeof copy, &needed);
+        refused_at = -1;
+        EXPECT(fault == LPT_DONE || (needed == 7 && copy[0] == 0));
+    }
+    EXPECT(fault == LPT_DONE && at > 1 && needed == 29 && memcmp(copy, DATE, 30) == 0);
+    DONE(lpt_reader_next(reader, &item));
+    EXPECT(item.service == 6 && item.time_len == 0);
+    EXPECT(lpt_reader_date(reader, copy, sizeof copy, &needed) == LPT_E_NOTHING);
+    lpt_reader_free(reader);
+
+    reader = reader_of("");
+    DONE(lpt_reader_feed(reader, REPORT, sizeof REPORT));
+    DONE(lpt_reader_next(reader, &item));
+    EXPECT(item.time_len == 4);
+    EXPECT(lpt_reader_date(reader, copy, sizeof copy, &needed) == LPT_E_NOTHING);
+    lpt_reader_free(reader);
+    EXPECT(given == 0);
+}
+
+/* Whether an area is this, of so many of memory 9. */
+static int named(const LptNamed *area, uint8_t areas, uint32_t address, size_t length, size_t at,
+                 uint16_t checksum, uint32_t fault) {
+    return area->memory == 9 && area->areas == areas && area->address == address &&
+           area->length == length && area->at == at && area->checksum == checksum &&
+           area->fault == fault;
+}
+
+/* The areas that messages name. */
+static void areas(void) {
+    LptReader *reader = reader_of("");
+    LptNamed area = {0, 0, 0, 0, 0, 0, 0};
+    DONE(lpt_reader_areas(reader, DUMPED, sizeof DUMPED, &area));
+    EXPECT(named(&area, 3, 16, 2, 0, 0, 0));
+    DONE(lpt_reader_area(reader, DUMPED, sizeof DUMPED, 0, &area));
+    EXPECT(named(&area, 3, 16, 2, 25, 0x69f0, 0) && memcmp(DUMPED + area.at, "ab", 2) == 0);
+    DONE(lpt_reader_area(reader, DUMPED, sizeof DUMPED, 1, &area));
+    EXPECT(named(&area, 3, 0xffffffff, 2, 35, 0x6f54, LPT_E_RANGE));
+    DONE(lpt_reader_area(reader, DUMPED, sizeof DUMPED, 2, &area));
+    EXPECT(named(&area, 3, 0xfffffffe, 2, 45, 0x1234, LPT_E_CHECKSUM));
+    EXPECT(lpt_reader_area(reader, DUMPED, sizeof DUMPED, 3, &area) == LPT_E_RANGE);
+    EXPECT(named(&area, 3, 0xfffffffe, 2, 45, 0x1234, LPT_E_CHECKSUM));
+    DONE(lpt_reader_area(reader, LOAD, sizeof LOAD, 0, &area));
+    EXPECT(named(&area, 1, 16, 2, 19, 0x69f0, 0));
+    DONE(lpt_reader_area(reader, CHECK, sizeof CHECK, 0, &area));
+    EXPECT(named(&area, 2, 16, 65535, 0, 0, 0));
+    DONE(lpt_reader_area(reader, CHECK, sizeof CHECK, 1, &area));
+    EXPECT(named(&area, 2, 0xffffffff, 1, 0, 0, 0));
+    DONE(lpt_reader_area(reader, CHECKED, sizeof CHECKED, 0, &area));
+    EXPECT(named(&area, 1, 16, 2, 0, 0x5678, 0));
+    DONE(lpt_reader_areas(reader, SHORT_LOAD, sizeof SHORT_LOAD, &area));
+    EXPECT(named(&area, 1, 16, 2, 0, 0, 0));
+    EXPECT(lpt_reader_area(reader, SHORT_LOAD, sizeof SHORT_LOAD, 0, &area) == LPT_E_NO_REPORT);
+    EXPECT(lpt_reader_areas(reader, REPORT, sizeof REPORT, &area) == LPT_E_NOTHING);
+    EXPECT(lpt_reader_area(reader, REPORT, sizeof REPORT, 0, &area) == LPT_E_NOTHING);
+    EXPECT(lpt_reader_areas(reader, IDLE, sizeof IDLE, &area) == LPT_E_NOTHING);
+    EXPECT(lpt_reader_areas(reader, DAMAGED, sizeof DAMAGED, &area) == LPT_E_CHECKSUM);
+    EXPECT(lpt_reader_area(reader, STRAY, sizeof STRAY, 0, &area) == LPT_E_SHORT);
+    EXPECT(lpt_reader_area(reader, NULL, 0, 0, &area) == LPT_E_SHORT);
+    EXPECT(named(&area, 1, 16, 2, 0, 0, 0));
+    lpt_reader_free(reader);
+    EXPECT(given == 0);
+}
+
 int main(void) {
     each_octet();
     strays();
@@ -419,6 +524,8 @@ int main(void) {
     messages();
     missing();
     lost();
+    dates();
+    areas();
     scarce();
     printf("%u passed, %u failed\n", passed, failed);
     return failed != 0;
