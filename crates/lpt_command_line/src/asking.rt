@@ -53,7 +53,7 @@ const ACK: Named = Named {
 };
 
 /// `verify`.
-const VERIFY: Row = Row {
+pub(crate) static VERIFY: Row = Row {
     name: "verify",
     about: "List requests with what verification reports say about them",
     words: &[
@@ -82,7 +82,7 @@ const VERIFY: Row = Row {
 };
 
 /// `compare`.
-const COMPARE: Row = Row {
+pub(crate) static COMPARE: Row = Row {
     name: "compare",
     about: "Compare a file with the checksums in check reports",
     words: &[
@@ -101,7 +101,7 @@ const COMPARE: Row = Row {
 };
 
 /// `checksum`.
-const CHECKSUM: Row = Row {
+pub(crate) static CHECKSUM: Row = Row {
     name: "checksum",
     about: "Print the checksum that a check report has for a file",
     words: &[Word {
@@ -131,51 +131,50 @@ const CHECKSUM: Row = Row {
     configured: Configured::No,
 };
 
-/// The commands that look at reports.
-pub(crate) static COMPARISONS: [Row; 3] = [VERIFY, COMPARE, CHECKSUM];
+/// `request load`.
+pub(crate) static REQUEST_LOAD: Row = Row {
+    name: "load",
+    about: "Load octets into a memory",
+    words: &[
+        MEMORY,
+        ADDRESS,
+        Word {
+            name: "FILE",
+            value: TEXT,
+            need: Need::Else(&["-"]),
+            help: "The octets' file, or - for standard input",
+        },
+    ],
+    named: &[
+        Named {
+            name: "area",
+            value: TEXT,
+            behind: &["ADDRESS", "FILE"],
+            action: ArgAction::Append,
+            other: &[],
+            help: "Load another file to another address, in the same requests",
+        },
+        EACH,
+        ACK,
+        COUNT,
+    ],
+    configured: Configured::Packets,
+};
 
-/// The commands below `request`.
-pub(crate) static REQUEST_ROWS: [Row; 3] = [
-    Row {
-        name: "load",
-        about: "Load octets into a memory",
-        words: &[
-            MEMORY,
-            ADDRESS,
-            Word {
-                name: "FILE",
-                value: TEXT,
-                need: Need::Else(&["-"]),
-                help: "The octets' file, or - for standard input",
-            },
-        ],
-        named: &[
-            Named {
-                name: "area",
-                value: TEXT,
-                behind: &["ADDRESS", "FILE"],
-                action: ArgAction::Append,
-                other: &[],
-                help: "Load another file to another address, in the same requests",
-            },
-            EACH,
-            ACK,
-            COUNT,
-        ],
-        configured: Configured::Packets,
-    },
-    Row {
-        name: "dump",
-        about: "Ask for octets of a memory",
-        words: &[MEMORY, PLACES],
-        named: &[EACH, ACK, COUNT],
-        configured: Configured::Packets,
-    },
-    Row {
-        name: "check",
-        about: "Ask for checksums of a memory",
-        words: &[MEMORY, PLACES],
-        named: &[EACH, ACK, COUNT],
-        configured: Configured::Packets,
-    },
-];
+/// `request dump`.
+pub(crate) static REQUEST_DUMP: Row = Row {
+    name: "dump",
+    about: "Ask for octets of a memory",
+    words: &[MEMORY, PLACES],
+    named: &[EACH, ACK, COUNT],
+    configured: Configured::Packets,
+};
+
+/// `request check`.
+pub(crate) static REQUEST_CHECK: Row = Row {
+    name: "check",
+    about: "Ask for checksums of a memory",
+    words: &[MEMORY, PLACES],
+    named: &[EACH, ACK, COUNT],
+    configured: Configured::Packets,
+};

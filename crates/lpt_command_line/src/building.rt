@@ -1,9 +1,12 @@
 //! The program as clap reads it, from the rows of its commands.
 
-use crate::asking::{COMPARISONS, REQUEST_ROWS};
-use crate::commands::COMMANDS;
-use crate::grounds::{GROUND_ROWS, PASS_ROWS};
-use crate::passes::PASSES;
+use crate::asking::{CHECKSUM, COMPARE, REQUEST_CHECK, REQUEST_DUMP, REQUEST_LOAD, VERIFY};
+use crate::commands::{CHART, DECODE, EXTRACT, JOIN, LINT, LIST, RUN, SHELL, SPLIT, THREADS};
+use crate::grounds::{
+    GROUND_CHECK, GROUND_DUMP, GROUND_LOAD, GROUND_PATCH, GROUND_WORDS, PASS_CHECK, PASS_DUMP,
+    PASS_LOAD, PASS_PATCH, PASS_WORDS,
+};
+use crate::passes::{LINK, SPACECRAFT};
 use crate::row::{Configured, Family, Named, Row, Word};
 use crate::setting_words::{PASS_SETTINGS, SETTINGS};
 use clap::builder::ValueParser;
@@ -60,9 +63,13 @@ pub(crate) fn program<'a>(alloc: Global, asked: Option<&str>) -> Result<Command<
 
 // The commands of the program of this name, or all.
 fn commands_named<'a>(alloc: Global, name: Option<&str>) -> Result<Vec<Command<'a>>, AllocError> {
-    let mut commands = commands_of(alloc, name, &COMMANDS)?;
-    add_commands(alloc, name, &mut commands, &PASSES)?;
-    add_commands(alloc, name, &mut commands, &COMPARISONS)?;
+    let mut commands = Vec::new(alloc);
+    let scripts = [&RUN, &THREADS, &SHELL, &LINT, &CHART];
+    add_commands(alloc, name, &mut commands, &scripts, &[])?;
+    let packets = [&DECODE, &LIST, &SPLIT, &JOIN, &EXTRACT];
+    add_commands(alloc, name, &mut commands, &packets, &[])?;
+    let passes = [&SPACECRAFT, &LINK, &VERIFY, &COMPARE, &CHECKSUM];
+    add_commands(alloc, name, &mut commands, &passes, &[])?;
     add_ground(alloc, name, &mut commands)?;
     add_pass(alloc, name, &mut commands)?;
     add_request(alloc, name, &mut commands)?;
@@ -78,7 +85,8 @@ fn add_ground<'a>(
     let family = Family {
         name: "ground",
         about: "Send requests to a memory until reports settle them",
-        below: &GROUND_ROWS,
+        below: &[&GROUND_LOAD, &GROUND_DUMP, &GROUND_CHECK, &GROUND_PATCH],
+        shared: &GROUND_WORDS,
     };
     add_family(alloc, asked, commands, family)
 }
@@ -92,7 +100,8 @@ fn add_pass<'a>(
     let family = Family {
         name: "pass",
         about: "Carry requests to a spacecraft over links that lose, all in one process",
-        below: &PASS_ROWS,
+        below: &[&PASS_LOAD, &PASS_DUMP, &PASS_CHECK, &PASS_PATCH],
+        shared: &PASS_WORDS,
     };
     add_family(alloc, asked, commands, family)
 }
@@ -106,7 +115,8 @@ fn add_request<'a>(
     let family = Family {
         name: "request",
         about: "Write telecommands that load, dump or check a memory",
-        below: &REQUEST_ROWS,
+        below: &[&REQUEST_LOAD, &REQUEST_DUMP, &REQUEST_CHECK],
+        shared: &[],
     };
     add_family(alloc, asked, commands, family)
 }
@@ -116,7 +126,7 @@ fn add_family<'a>(
     alloc: Global,
     asked: Option<&str>,
     commands: &mut Vec<Command<'a>>,
-    family: Family,
+    family: Family<'_>,
 ) -> Result<(), AllocError> {
     if is_meant(asked, family.name) {
         commands.push(family_of(alloc, family)?)?;
@@ -133,8 +143,9 @@ fn is_meant(asked: Option<&str>, name: &str) -> bool {
 }
 
 // A command with those below it.
-fn family_of<'a>(alloc: Global, family: Family) -> Result<Command<'a>, AllocError> {
-    let below = commands_of(alloc, None, family.below)?;
+fn family_of<'a>(alloc: Global, family: Family<'_>) -> Result<Command<'a>, AllocError> {
+    let mut below = Vec::new(alloc);
+    add_commands(alloc, None, &mut below, family.below, family.shared)?;
     Command::new(alloc, family.name)
         .about(family.about)
         .arg_required_else_help(true)
@@ -142,51 +153,58 @@ fn family_of<'a>(alloc: Global, family: Family) -> Result<Command<'a>, AllocErro
         .subcommands(below)
 }
 
-// The commands of these rows of this name, or all.
-fn commands_of<'a>(
-    alloc: Global,
-    name: Option<&str>,
-    rows: &'a [Row],
-) -> Result<Vec<Command<'a>>, AllocError> {
-    let mut commands = Vec::new(alloc);
-    add_commands(alloc, name, &mut commands, rows)?;
-    Ok(commands)
-}
-
-// Adds them.
+// Adds the commands of these rows of this name, or all, each with these words after its own.
 fn add_commands<'a>(
     alloc: Global,
     name: Option<&str>,
     commands: &mut Vec<Command<'a>>,
-    rows: &'a [Row],
+    rows: &[&'a Row],
+    shared: &'a [Named],
 ) -> Result<(), AllocError> {
     for row in rows {
         if is_meant(name, row.name) {
-            commands.push(command_of(alloc, row)?)?;
+            commands.push(command_of(alloc, row, shared)?)?;
         }
     }
     Ok(())
 }
 
-// A command with its words.
-fn command_of<'a>(alloc: Global, row: &'a Row) -> Result<Command<'a>, AllocError> {
-    let words = words_of(alloc, row)?;
+// A command with its words, and with these after its own.
+fn command_of<'a>(
+    alloc: Global,
+    row: &'a Row,
+    shared: &'a [Named],
+) -> Result<Command<'a>, AllocError> {
+    let words = words_of(alloc, row, shared)?;
     Command::new(alloc, row.name).about(row.about).args(words)
 }
 
-// The words of a command.
-fn words_of<'a>(alloc: Global, row: &'a Row) -> Result<Vec<Arg<'a>>, AllocError> {
+// The words of a command, with these after its own.
+fn words_of<'a>(
+    alloc: Global,
+    row: &'a Row,
+    shared: &'a [Named],
+) -> Result<Vec<Arg<'a>>, AllocError> {
     let mut words = Vec::new(alloc);
     for word in row.words {
         words.push(word_of(alloc, word))?;
     }
-    for named in row.named {
-        words.push(named_of(alloc, named))?;
-    }
-    for named in settings_of(row.configured) {
-        words.push(named_of(alloc, named))?;
-    }
+    add_named(alloc, &mut words, row.named)?;
+    add_named(alloc, &mut words, shared)?;
+    add_named(alloc, &mut words, settings_of(row.configured))?;
     Ok(words)
+}
+
+// Adds the words that are given behind these names.
+fn add_named<'a>(
+    alloc: Global,
+    words: &mut Vec<Arg<'a>>,
+    list: &'a [Named],
+) -> Result<(), AllocError> {
+    for named in list {
+        words.push(named_of(alloc, named))?;
+    }
+    Ok(())
 }
 
 // The words of a configuration that a command takes.

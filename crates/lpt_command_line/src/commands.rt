@@ -79,260 +79,276 @@ pub(crate) const COUNT: Named = Named {
     help: "The sequence count of the first packet, 0 to 16383",
 };
 
-/// The commands without others below them.
-pub(crate) static COMMANDS: [Row; 10] = [
-    Row {
-        name: "run",
-        about: "Run a script of the simulator",
-        words: &[SCRIPT],
-        named: &[],
-        configured: Configured::Nodes,
-    },
-    Row {
-        name: "threads",
-        about: "Run a script, then let ten threads send and deliver what is open",
-        words: &[SCRIPT],
-        named: &[],
-        configured: Configured::Nodes,
-    },
-    Row {
-        name: "shell",
-        about: "Run a script's lines as you type them",
-        words: &[],
-        named: &[],
-        configured: Configured::Nodes,
-    },
-    Row {
-        name: "lint",
-        about: "Print which lines of a script can't be read, and why",
-        words: &[SCRIPT],
-        named: &[],
-        configured: Configured::No,
-    },
-    Row {
-        name: "chart",
-        about: "Draw a script's run, or a file of packets, as an SVG picture",
-        words: &[Word {
-            help: "The script, or the packets if --stream is given; - for standard input",
-            ..SCRIPT
-        }],
-        named: &[
-            Named {
-                name: "stream",
-                value: ValueParser::Bool,
-                behind: &[],
-                action: ArgAction::SetTrue,
-                other: &[],
-                help: "Draw packets instead of a script, a row for each transaction",
-            },
-            Named {
-                name: "from",
-                value: U64,
-                behind: &["N"],
-                action: ArgAction::Set,
-                other: &[],
-                help: "Begin at this event of the run, or at this octet of the packets",
-            },
-            Named {
-                name: "to",
-                value: U64,
-                behind: &["N"],
-                action: ArgAction::Set,
-                other: &[],
-                help: "End with this event of the run, or before this octet of the packets",
-            },
-            Named {
-                name: "refused",
-                value: ValueParser::Bool,
-                behind: &[],
-                action: ArgAction::SetTrue,
-                other: &[],
-                help: "Draw refused lines too; not with --stream",
-            },
-        ],
-        configured: Configured::Nodes,
-    },
-    Row {
-        name: "decode",
-        about: "Decode a packet given in hexadecimal",
-        words: &[Word {
-            name: "HEX",
+/// `run`.
+pub(crate) static RUN: Row = Row {
+    name: "run",
+    about: "Run a script of the simulator",
+    words: &[SCRIPT],
+    named: &[],
+    configured: Configured::Nodes,
+};
+
+/// `threads`.
+pub(crate) static THREADS: Row = Row {
+    name: "threads",
+    about: "Run a script, then let ten threads send and deliver what is open",
+    words: &[SCRIPT],
+    named: &[],
+    configured: Configured::Nodes,
+};
+
+/// `shell`.
+pub(crate) static SHELL: Row = Row {
+    name: "shell",
+    about: "Run a script's lines as you type them",
+    words: &[],
+    named: &[],
+    configured: Configured::Nodes,
+};
+
+/// `lint`.
+pub(crate) static LINT: Row = Row {
+    name: "lint",
+    about: "Print which lines of a script can't be read, and why",
+    words: &[SCRIPT],
+    named: &[],
+    configured: Configured::No,
+};
+
+/// `chart`.
+pub(crate) static CHART: Row = Row {
+    name: "chart",
+    about: "Draw a script's run, or a file of packets, as an SVG picture",
+    words: &[Word {
+        help: "The script, or the packets if --stream is given; - for standard input",
+        ..SCRIPT
+    }],
+    named: &[
+        Named {
+            name: "stream",
+            value: ValueParser::Bool,
+            behind: &[],
+            action: ArgAction::SetTrue,
+            other: &[],
+            help: "Draw packets instead of a script, a row for each transaction",
+        },
+        Named {
+            name: "from",
+            value: U64,
+            behind: &["N"],
+            action: ArgAction::Set,
+            other: &[],
+            help: "Begin at this event of the run, or at this octet of the packets",
+        },
+        Named {
+            name: "to",
+            value: U64,
+            behind: &["N"],
+            action: ArgAction::Set,
+            other: &[],
+            help: "End with this event of the run, or before this octet of the packets",
+        },
+        Named {
+            name: "refused",
+            value: ValueParser::Bool,
+            behind: &[],
+            action: ArgAction::SetTrue,
+            other: &[],
+            help: "Draw refused lines too; not with --stream",
+        },
+    ],
+    configured: Configured::Nodes,
+};
+
+/// `decode`.
+pub(crate) static DECODE: Row = Row {
+    name: "decode",
+    about: "Decode a packet given in hexadecimal",
+    words: &[Word {
+        name: "HEX",
+        value: TEXT,
+        need: Need::One,
+        help: "Octets as hexadecimal digits, or - for standard input",
+    }],
+    named: &[MORE, LAYOUT],
+    configured: Configured::Packets,
+};
+
+/// `list`.
+pub(crate) static LIST: Row = Row {
+    name: "list",
+    about: "List the packets of a file or a pipe",
+    words: &[PACKETS],
+    named: &[
+        JSON,
+        Named {
+            name: "strict",
+            value: ValueParser::Bool,
+            behind: &[],
+            action: ArgAction::SetTrue,
+            other: &[],
+            help: "Stop at damage, or octets that are no packet",
+        },
+        FROM,
+        TO,
+        LAYOUT,
+        QUIET,
+    ],
+    configured: Configured::Packets,
+};
+
+/// `split`.
+pub(crate) static SPLIT: Row = Row {
+    name: "split",
+    about: "Split a message into parts, and write their packets",
+    words: &[
+        DIRECTION,
+        Word {
+            name: "ID",
             value: TEXT,
             need: Need::One,
-            help: "Octets as hexadecimal digits, or - for standard input",
-        }],
-        named: &[MORE, LAYOUT],
-        configured: Configured::Packets,
-    },
-    Row {
-        name: "list",
-        about: "List the packets of a file or a pipe",
-        words: &[PACKETS],
-        named: &[
-            JSON,
-            Named {
-                name: "strict",
-                value: ValueParser::Bool,
-                behind: &[],
-                action: ArgAction::SetTrue,
-                other: &[],
-                help: "Stop at damage, or octets that are no packet",
-            },
-            FROM,
-            TO,
-            LAYOUT,
-            QUIET,
-        ],
-        configured: Configured::Packets,
-    },
-    Row {
-        name: "split",
-        about: "Split a message into parts, and write their packets",
-        words: &[
-            DIRECTION,
-            Word {
-                name: "ID",
-                value: TEXT,
-                need: Need::One,
-                help: "The message's ID or SOURCE/ID, each 0 to 65535 or as wide as --layout says",
-            },
-            Word {
-                name: "FILE",
-                value: TEXT,
-                need: Need::Else(&["-"]),
-                help: "The message's file, or - for standard input",
-            },
-        ],
-        named: &[
-            Named {
-                name: "parts",
-                value: TEXT,
-                behind: &["LIST"],
-                action: ArgAction::Append,
-                other: &["1-"],
-                help: "The parts to write, such as 3,7-9,12-; with --each ID:LIST",
-            },
-            COUNT,
-            Named {
-                name: "each",
-                value: ValueParser::Bool,
-                behind: &[],
-                action: ArgAction::SetTrue,
-                other: &[],
-                help: "Split each packet of the file; the IDs count up from this one",
-            },
-            Named {
-                name: "whole",
-                value: ValueParser::Bool,
-                behind: &[],
-                action: ArgAction::SetTrue,
-                other: &[],
-                help: "Write a message that fits in one part as it is, unsplit",
-            },
-            Named {
-                name: "pcap",
-                value: ValueParser::Bool,
-                behind: &[],
-                action: ArgAction::SetTrue,
-                other: &[],
-                help: "Write the packets as a pcap capture; not with --each",
-            },
-            LAYOUT,
-        ],
-        configured: Configured::Packets,
-    },
-    Row {
-        name: "join",
-        about: "Join the parts that packets carry, and write the message",
-        words: &[DIRECTION, PACKETS],
-        named: &[
-            Named {
-                name: "id",
-                value: TEXT,
-                behind: &["ID"],
-                action: ArgAction::Set,
-                other: &[],
-                help: "The message's ID or SOURCE/ID; needed if parts of several messages came",
-            },
-            Named {
-                name: "first",
-                value: ValueParser::Bool,
-                behind: &[],
-                action: ArgAction::SetTrue,
-                other: &[],
-                help: "Write the first message that is whole, whatever comes after it",
-            },
-            Named {
-                name: "any",
-                value: ValueParser::Bool,
-                behind: &[],
-                action: ArgAction::SetTrue,
-                other: &[],
-                help: "Write the joined message even if it is no packet",
-            },
-            Named {
-                name: "each",
-                value: TEXT,
-                behind: &["DIR"],
-                action: ArgAction::Set,
-                other: &[],
-                help: "Write each message to a file of its own in this folder; not with --id or --first",
-            },
-            FROM,
-            TO,
-            LAYOUT,
-            QUIET,
-        ],
-        configured: Configured::Packets,
-    },
-    Row {
-        name: "extract",
-        about: "Extract octets of memory from dump reports",
-        words: &[PACKETS],
-        named: &[
-            Named {
-                name: "at",
-                value: U8,
-                behind: &["MEMORY"],
-                action: ArgAction::Set,
-                other: &[],
-                help: "Write an image of this memory, each area at its address",
-            },
-            Named {
-                name: "from",
-                value: TEXT,
-                behind: &["ADDRESS"],
-                action: ArgAction::Set,
-                other: &[],
-                help: "The address at which the image begins; 0 if not given",
-            },
-            Named {
-                name: "fill",
-                value: U8,
-                behind: &["OCTET"],
-                action: ArgAction::Set,
-                other: &[],
-                help: "The octet for addresses that no area covers, 0 to 255; 0 if not given",
-            },
-            Named {
-                name: "whole",
-                value: ValueParser::Bool,
-                behind: &[],
-                action: ArgAction::SetTrue,
-                other: &[],
-                help: "Write the image only if nothing of it is missing or was passed over",
-            },
-            Named {
-                name: "join",
-                value: ValueParser::Bool,
-                behind: &[],
-                action: ArgAction::SetTrue,
-                other: &[],
-                help: "Also take dump reports that came in parts",
-            },
-            LAYOUT,
-            QUIET,
-        ],
-        configured: Configured::Packets,
-    },
-];
+            help: "The message's ID or SOURCE/ID, each 0 to 65535 or as wide as --layout says",
+        },
+        Word {
+            name: "FILE",
+            value: TEXT,
+            need: Need::Else(&["-"]),
+            help: "The message's file, or - for standard input",
+        },
+    ],
+    named: &[
+        Named {
+            name: "parts",
+            value: TEXT,
+            behind: &["LIST"],
+            action: ArgAction::Append,
+            other: &["1-"],
+            help: "The parts to write, such as 3,7-9,12-; with --each ID:LIST",
+        },
+        COUNT,
+        Named {
+            name: "each",
+            value: ValueParser::Bool,
+            behind: &[],
+            action: ArgAction::SetTrue,
+            other: &[],
+            help: "Split each packet of the file; the IDs count up from this one",
+        },
+        Named {
+            name: "whole",
+            value: ValueParser::Bool,
+            behind: &[],
+            action: ArgAction::SetTrue,
+            other: &[],
+            help: "Write a message that fits in one part as it is, unsplit",
+        },
+        Named {
+            name: "pcap",
+            value: ValueParser::Bool,
+            behind: &[],
+            action: ArgAction::SetTrue,
+            other: &[],
+            help: "Write the packets as a pcap capture; not with --each",
+        },
+        LAYOUT,
+    ],
+    configured: Configured::Packets,
+};
+
+/// `join`.
+pub(crate) static JOIN: Row = Row {
+    name: "join",
+    about: "Join the parts that packets carry, and write the message",
+    words: &[DIRECTION, PACKETS],
+    named: &[
+        Named {
+            name: "id",
+            value: TEXT,
+            behind: &["ID"],
+            action: ArgAction::Set,
+            other: &[],
+            help: "The message's ID or SOURCE/ID; needed if parts of several messages came",
+        },
+        Named {
+            name: "first",
+            value: ValueParser::Bool,
+            behind: &[],
+            action: ArgAction::SetTrue,
+            other: &[],
+            help: "Write the first message that is whole, whatever comes after it",
+        },
+        Named {
+            name: "any",
+            value: ValueParser::Bool,
+            behind: &[],
+            action: ArgAction::SetTrue,
+            other: &[],
+            help: "Write the joined message even if it is no packet",
+        },
+        Named {
+            name: "each",
+            value: TEXT,
+            behind: &["DIR"],
+            action: ArgAction::Set,
+            other: &[],
+            help: "Write each message to a file of its own in this folder; not with --id or --first",
+        },
+        FROM,
+        TO,
+        LAYOUT,
+        QUIET,
+    ],
+    configured: Configured::Packets,
+};
+
+/// `extract`.
+pub(crate) static EXTRACT: Row = Row {
+    name: "extract",
+    about: "Extract octets of memory from dump reports",
+    words: &[PACKETS],
+    named: &[
+        Named {
+            name: "at",
+            value: U8,
+            behind: &["MEMORY"],
+            action: ArgAction::Set,
+            other: &[],
+            help: "Write an image of this memory, each area at its address",
+        },
+        Named {
+            name: "from",
+            value: TEXT,
+            behind: &["ADDRESS"],
+            action: ArgAction::Set,
+            other: &[],
+            help: "The address at which the image begins; 0 if not given",
+        },
+        Named {
+            name: "fill",
+            value: U8,
+            behind: &["OCTET"],
+            action: ArgAction::Set,
+            other: &[],
+            help: "The octet for addresses that no area covers, 0 to 255; 0 if not given",
+        },
+        Named {
+            name: "whole",
+            value: ValueParser::Bool,
+            behind: &[],
+            action: ArgAction::SetTrue,
+            other: &[],
+            help: "Write the image only if nothing of it is missing or was passed over",
+        },
+        Named {
+            name: "join",
+            value: ValueParser::Bool,
+            behind: &[],
+            action: ArgAction::SetTrue,
+            other: &[],
+            help: "Also take dump reports that came in parts",
+        },
+        LAYOUT,
+        QUIET,
+    ],
+    configured: Configured::Packets,
+};

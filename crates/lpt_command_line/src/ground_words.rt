@@ -168,7 +168,7 @@ fn source_in<'a>(matches: &ArgMatches<'a>) -> Result<SourceWords<'a>, WordFault<
         (Some(_), Some(_)) => Err(WordFault::Beside("--source <N>", "--passes <FILE>")),
         (Some(source), None) => Ok(SourceWords::Given(source)),
         (None, Some(path)) => Ok(SourceWords::Next(path)),
-        (None, None) => Err(WordFault::Wanted("--source <N>")),
+        (None, None) => Err(WordFault::Wanted("--source <N>' or '--passes <FILE>")),
     }
 }
 

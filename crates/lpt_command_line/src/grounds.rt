@@ -167,165 +167,97 @@ const TO: Named = Named {
     help: "Where the octets are written once all have come; must be given",
 };
 
-/// The commands below `ground`.
-pub(crate) static GROUND_ROWS: [Row; 4] = [
-    Row {
-        name: "load",
-        about: "Load a file into a memory, and end once all of it is there",
-        words: &[MEMORY, ADDRESS, FILE],
-        named: &[
-            AREA, LARGE, NAME, NAMES, PASSES, ACK, VERIFY, COUNT, WAIT, LOAD_TRIES, UP, JOB, CHART,
-            RESYNC, JSON, QUIET,
-        ],
-        configured: Configured::Pass,
-    },
-    Row {
-        name: "dump",
-        about: "Fetch octets of a memory, and write them once all have come",
-        words: &[MEMORY, ADDRESS, LENGTH],
-        named: &[
-            TO,
-            DUMPED_AREA,
-            PASSES,
-            COUNT,
-            WAIT,
-            TRIES,
-            UP,
-            JOB,
-            CHART,
-            RESYNC,
-            JSON,
-            QUIET,
-        ],
-        configured: Configured::Pass,
-    },
-    Row {
-        name: "check",
-        about: "Compare a file with checksums of a memory",
-        words: &[MEMORY, ADDRESS, FILE],
-        named: &[
-            AREA, PASSES, COUNT, WAIT, TRIES, UP, JOB, CHART, RESYNC, JSON, QUIET,
-        ],
-        configured: Configured::Pass,
-    },
-    Row {
-        name: "patch",
-        about: "Load the files of a list into memories, and end once all of them are there",
-        words: &[LIST],
-        named: &[
-            PASSES, ACK, VERIFY, COUNT, WAIT, TRIES, UP, JOB, CHART, RESYNC, JSON, QUIET,
-        ],
-        configured: Configured::Pass,
-    },
+/// The words that each command below `ground` takes after its own.
+pub(crate) static GROUND_WORDS: [Named; 6] = [UP, JOB, CHART, RESYNC, JSON, QUIET];
+
+/// `ground load`.
+pub(crate) static GROUND_LOAD: Row = Row {
+    name: "load",
+    about: "Load a file into a memory, and end once all of it is there",
+    words: &[MEMORY, ADDRESS, FILE],
+    named: &[
+        AREA, LARGE, NAME, NAMES, PASSES, ACK, VERIFY, COUNT, WAIT, LOAD_TRIES,
+    ],
+    configured: Configured::Pass,
+};
+
+/// `ground dump`.
+pub(crate) static GROUND_DUMP: Row = Row {
+    name: "dump",
+    about: "Fetch octets of a memory, and write them once all have come",
+    words: &[MEMORY, ADDRESS, LENGTH],
+    named: &[TO, DUMPED_AREA, PASSES, COUNT, WAIT, TRIES],
+    configured: Configured::Pass,
+};
+
+/// `ground check`.
+pub(crate) static GROUND_CHECK: Row = Row {
+    name: "check",
+    about: "Compare a file with checksums of a memory",
+    words: &[MEMORY, ADDRESS, FILE],
+    named: &[AREA, PASSES, COUNT, WAIT, TRIES],
+    configured: Configured::Pass,
+};
+
+/// `ground patch`.
+pub(crate) static GROUND_PATCH: Row = Row {
+    name: "patch",
+    about: "Load the files of a list into memories, and end once all of them are there",
+    words: &[LIST],
+    named: &[PASSES, ACK, VERIFY, COUNT, WAIT, TRIES],
+    configured: Configured::Pass,
+};
+
+/// The words that each command below `pass` takes after its own.
+pub(crate) static PASS_WORDS: [Named; 12] = [
+    JOB,
+    CHART,
+    JSON,
+    CRAFT_MEMORY,
+    SAVE,
+    STATE,
+    LOSE,
+    REPEAT,
+    DAMAGE,
+    DELAY,
+    SEED,
+    QUIET,
 ];
 
-/// The commands below `pass`.
-pub(crate) static PASS_ROWS: [Row; 4] = [
-    Row {
-        name: "load",
-        about: "Load a file into a memory over links that lose",
-        words: &[MEMORY, ADDRESS, FILE],
-        named: &[
-            AREA,
-            LARGE,
-            NAME,
-            NAMES,
-            PASSES,
-            ACK,
-            VERIFY,
-            COUNT,
-            SHORT_WAIT,
-            LOAD_TRIES,
-            JOB,
-            CHART,
-            JSON,
-            CRAFT_MEMORY,
-            SAVE,
-            STATE,
-            LOSE,
-            REPEAT,
-            DAMAGE,
-            DELAY,
-            SEED,
-            QUIET,
-        ],
-        configured: Configured::Pass,
-    },
-    Row {
-        name: "dump",
-        about: "Fetch octets of a memory over links that lose",
-        words: &[MEMORY, ADDRESS, LENGTH],
-        named: &[
-            TO,
-            DUMPED_AREA,
-            PASSES,
-            COUNT,
-            SHORT_WAIT,
-            TRIES,
-            JOB,
-            CHART,
-            JSON,
-            CRAFT_MEMORY,
-            SAVE,
-            STATE,
-            LOSE,
-            REPEAT,
-            DAMAGE,
-            DELAY,
-            SEED,
-            QUIET,
-        ],
-        configured: Configured::Pass,
-    },
-    Row {
-        name: "check",
-        about: "Compare a file with checksums of a memory over links that lose",
-        words: &[MEMORY, ADDRESS, FILE],
-        named: &[
-            AREA,
-            PASSES,
-            COUNT,
-            SHORT_WAIT,
-            TRIES,
-            JOB,
-            CHART,
-            JSON,
-            CRAFT_MEMORY,
-            SAVE,
-            STATE,
-            LOSE,
-            REPEAT,
-            DAMAGE,
-            DELAY,
-            SEED,
-            QUIET,
-        ],
-        configured: Configured::Pass,
-    },
-    Row {
-        name: "patch",
-        about: "Load the files of a list into memories over links that lose",
-        words: &[LIST],
-        named: &[
-            PASSES,
-            ACK,
-            VERIFY,
-            COUNT,
-            SHORT_WAIT,
-            TRIES,
-            JOB,
-            CHART,
-            JSON,
-            CRAFT_MEMORY,
-            SAVE,
-            STATE,
-            LOSE,
-            REPEAT,
-            DAMAGE,
-            DELAY,
-            SEED,
-            QUIET,
-        ],
-        configured: Configured::Pass,
-    },
-];
+/// `pass load`.
+pub(crate) static PASS_LOAD: Row = Row {
+    name: "load",
+    about: "Load a file into a memory over links that lose",
+    words: &[MEMORY, ADDRESS, FILE],
+    named: &[
+        AREA, LARGE, NAME, NAMES, PASSES, ACK, VERIFY, COUNT, SHORT_WAIT, LOAD_TRIES,
+    ],
+    configured: Configured::Pass,
+};
+
+/// `pass dump`.
+pub(crate) static PASS_DUMP: Row = Row {
+    name: "dump",
+    about: "Fetch octets of a memory over links that lose",
+    words: &[MEMORY, ADDRESS, LENGTH],
+    named: &[TO, DUMPED_AREA, PASSES, COUNT, SHORT_WAIT, TRIES],
+    configured: Configured::Pass,
+};
+
+/// `pass check`.
+pub(crate) static PASS_CHECK: Row = Row {
+    name: "check",
+    about: "Compare a file with checksums of a memory over links that lose",
+    words: &[MEMORY, ADDRESS, FILE],
+    named: &[AREA, PASSES, COUNT, SHORT_WAIT, TRIES],
+    configured: Configured::Pass,
+};
+
+/// `pass patch`.
+pub(crate) static PASS_PATCH: Row = Row {
+    name: "patch",
+    about: "Load the files of a list into memories over links that lose",
+    words: &[LIST],
+    named: &[PASSES, ACK, VERIFY, COUNT, SHORT_WAIT, TRIES],
+    configured: Configured::Pass,
+};

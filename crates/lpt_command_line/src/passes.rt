@@ -87,7 +87,7 @@ pub(crate) const RESYNC: Named = Named {
 };
 
 /// `link`.
-const LINK: Row = Row {
+pub(crate) static LINK: Row = Row {
     name: "link",
     about: "Lose, repeat, delay and damage packets, as a link does",
     words: &[PACKETS],
@@ -96,7 +96,7 @@ const LINK: Row = Row {
 };
 
 /// `spacecraft`.
-const SPACECRAFT: Row = Row {
+pub(crate) static SPACECRAFT: Row = Row {
     name: "spacecraft",
     about: "Play the spacecraft: take packets, execute requests, write reports",
     words: &[],
@@ -140,6 +140,3 @@ const SPACECRAFT: Row = Row {
     ],
     configured: Configured::Nodes,
 };
-
-/// The commands of a pass.
-pub(crate) static PASSES: [Row; 2] = [SPACECRAFT, LINK];

@@ -33,13 +33,15 @@ pub(crate) enum Configured {
 
 /// A command with commands below it, and without words of its own.
 #[derive(Clone, Copy)]
-pub(crate) struct Family {
+pub(crate) struct Family<'f> {
     /// Its name.
     pub(crate) name: &'static str,
     /// What the commands below it do.
     pub(crate) about: &'static str,
     /// The commands below it.
-    pub(crate) below: &'static [Row],
+    pub(crate) below: &'f [&'static Row],
+    /// The words that each of these takes behind a name, after its own.
+    pub(crate) shared: &'static [Named],
 }
 
 /// A word that is given by its place.

@@ -23,7 +23,7 @@ pub struct VerifyWords<'a> {
 
 /// What the words of `verify` ask for.
 ///
-/// Errors: `Missing`, `Twice`, `Beside`, `Memory`.
+/// Errors: `Missing`, `Beside`, `Twice`, `Memory`.
 pub fn verify_words<'a>(
     alloc: Global,
     matches: &ArgMatches<'a>,
@@ -31,11 +31,11 @@ pub fn verify_words<'a>(
     let requests = matches.get_str("REQUESTS").ok_or(WordFault::Missing)?;
     let reports = paths_in(alloc, matches, "REPORTS")?;
     let (json, open) = (matches.get_flag("json"), matches.get_flag("open"));
-    if requests == STANDARD && reports.contains(&STANDARD) {
-        return Err(WordFault::Twice);
-    }
     if requests == STANDARD && open {
         return Err(WordFault::Beside(STANDARD, "--open"));
+    }
+    if requests == STANDARD && reports.contains(&STANDARD) {
+        return Err(WordFault::Twice);
     }
     if json && open {
         return Err(WordFault::Beside("--json", "--open"));

@@ -45,7 +45,12 @@ pub fn tell_front(rt: &(impl Eprint + AllocGlobal), layouts: &Layouts, octets: &
 /// The same by this project's profile.
 pub fn tell_own_front(rt: &(impl Eprint + AllocGlobal), octets: &[u8]) {
     let hint = fit_hint(told_in(&Layouts::own(), octets));
-    tell_other(rt, "the profile", " in a file for --layout", hint);
+    tell_other(
+        rt,
+        "the profile",
+        " for its table in a file for --layout",
+        hint,
+    );
 }
 
 /// The kind of part whose message type stands in a packet of the profile, and how long the

@@ -205,7 +205,7 @@ fn list_status(rt: &(impl Eprint + AllocGlobal), voice: Voice, listed: Listed) -
         }
         ListEnd::Stopped(place) => {
             if let Ok(text) = format!(in rt.alloc();
-                "octet {place}: no packet begins here, so reading ended"
+                "octet {place}: no sound packet begins here, so reading ended"
             ) {
                 tell_place(rt, text.as_str());
             }
