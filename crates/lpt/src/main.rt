@@ -2,39 +2,13 @@
 //! did, splits messages into packets and joins them, writes requests to a memory, and says what
 //! octets and streams are as packets.
 //!
-//! The commands of the two ends stand here, since they use threads of the host. The others stand in
-//! the crates below, and take the handles that they use.
+//! The commands stand in the crates below, and take the handles that they use.
 #![tactic(auto)]
 
 ghost use Rattle.lpt_events.specs.Configs.{IsConfig};
 
-mod errands;
-mod ground_charts;
-mod ground_lines;
-mod ground_notes;
-mod ground_puts;
-mod ground_sources;
-mod ground_told;
-mod ground_wires;
-mod grounds;
-mod inbox;
-mod keeping;
-mod locking;
-mod logging;
-mod memories;
-mod outputs;
-mod passing;
-mod patches;
-mod pieces;
-mod pipe;
-mod same_files;
-mod serving;
-mod ticker;
-mod uplinks;
-mod wires;
-
-use grounds::ground;
 use lpt_command_line::{Command, CommandLine, JoinWords, read_words};
+use lpt_end_commands::{ground, pass, spacecraft};
 use lpt_events::Config;
 use lpt_io::{Failure, Fault, Machine, Status, Terminals, Voice, config_of, explained, tell_end};
 use lpt_message_commands::{extract, join, join_each, join_layout, split, split_all};
@@ -42,8 +16,6 @@ use lpt_packet_commands::{
     checksum, compare, decode, glance, link, list, request, screen_of, verify,
 };
 use lpt_simulator_commands::{RunKind, answer, chart, lint, run};
-use passing::pass;
-use serving::spacecraft;
 use std::io::IsTerminal;
 use std::process::{self, ExitCode};
 use std::rt::Env;

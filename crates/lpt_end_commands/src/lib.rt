@@ -1,0 +1,36 @@
+//! The commands of the two ends: ground's, the spacecraft's, and both in one process.
+//!
+//! They use threads, files and standard input and output of the machine, so they take the runtime
+//! that `main` is given. The first call is `ground`.
+#![tactic(auto)]
+
+mod errands;
+mod ground_charts;
+mod ground_lines;
+mod ground_notes;
+mod ground_puts;
+mod ground_sources;
+mod ground_told;
+mod ground_wires;
+mod grounds;
+mod inbox;
+mod keeping;
+mod locking;
+mod logging;
+mod memories;
+mod outputs;
+mod passing;
+mod patches;
+mod pieces;
+mod pipe;
+mod same_files;
+mod serving;
+mod ticker;
+mod uplinks;
+mod wires;
+
+pub use grounds::ground;
+pub use lpt_command_line::{GroundWords, PassWords, SettingWords, SpacecraftWords};
+pub use lpt_io::{Failure, Status, Voice};
+pub use passing::pass;
+pub use serving::spacecraft;
