@@ -19,9 +19,9 @@ class Form(NamedTuple):
     spare: int = 0
     checksum: bool = True
 
-    def text(self):
+    def text(self, size=SIZE):
         """Its file."""
-        return f"[telemetry]\n{self.keys}\npart_size = {SIZE}\n"
+        return f"[telemetry]\n{self.keys}\npart_size = {size}\n"
 
     def packet(self, service, subtype, body):
         """A packet of it."""
@@ -30,9 +30,9 @@ class Form(NamedTuple):
         octets = (0x0800 | APID).to_bytes(2, "big") + b"\xc0\x00" + length.to_bytes(2, "big") + field
         return octets + binascii.crc_hqx(octets, 0xFFFF).to_bytes(2, "big") if self.checksum else octets
 
-    def parts(self, message):
+    def parts(self, message, size=SIZE):
         """The packets of a message's parts, named 7."""
-        pieces = [message[at : at + SIZE] for at in range(0, len(message), SIZE)]
+        pieces = [message[at : at + size] for at in range(0, len(message), size)]
         subtypes = [1] + [2] * (len(pieces) - 2) + [3]
         numbered = enumerate(zip(subtypes, pieces), 1)
         return b"".join(self.packet(13, it, b"\x00\x07" + k.to_bytes(2, "big") + piece) for k, (it, piece) in numbered)
