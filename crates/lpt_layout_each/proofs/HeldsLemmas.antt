@@ -1,5 +1,5 @@
 -- What is kept of each name, a packet further.
-use Rattle.std.proofs.Common.{◌≡◌, ◌∙◌, ap, sym, subst, refl, ℕ, Bool, true, false, if◌then◌else◌, List, [], ◌∷◌, ◌++◌, Option, Some, None, Ok, Err}
+use Rattle.std.proofs.Common.{◌≡◌, ◌∙◌, ap, sym, subst, refl, ℕ, Bool, true, false, if◌then◌else◌, List, [], ◌∷◌, ◌++◌, append-nil, append_assoc, Option, Some, None, Ok, Err}
 use Rattle.std.specs.Option.{option_map}
 use Rattle.std.specs.BTreeMap.{BTreeMap, get, IsOrdered}
 use Rattle.lpt_part.specs.Parts.{Piece}
@@ -10,13 +10,14 @@ use Rattle.lpt_carried.specs.Carried.{Named, carried, name_of, part_of, same_nam
 use Rattle.lpt_layout_each.specs.declared.course.CourseAs.{CourseAs}
 use Rattle.lpt_layout_each.specs.declared.helds.HeldsAs.{HeldsAs}
 use Rattle.lpt_layout_each.specs.declared.news.NewsAs.{NewsAs}
+use Rattle.lpt_layout_join.specs.Came.{nothing_came}
 use Rattle.lpt_layout_join.specs.Counts.{Counted, all_counted, counted, nothing_counted}
 use Rattle.lpt_layout_join.specs.CountsInside.{shown}
-use Rattle.lpt_layout_each.specs.Eaches.{Course, counts_of, held, held_from, listed, missing_at, nothing, step, step_of}
+use Rattle.lpt_layout_each.specs.Eaches.{Course, counts_of, held, held_from, listed, missing_at, news_from, nothing, step, step_of}
 use Rattle.lpt_layout_each.specs.Helds.{Follows, HoldsEach, IsHeld}
 use Rattle.lpt_layout_join.specs.Names.{name_cmp}
 use Rattle.lpt_layout_each.specs.News.{News}
-use Rattle.lpt_layout_each.specs.Streams.{of, told, told_by}
+use Rattle.lpt_layout_each.specs.Streams.{of, told, told_by, waiting}
 use Rattle.lpt_layout_each.specs.Told.{news_of}
 use Rattle.lpt_carried.proofs.NameLemmas.{same_name-refl, same_name-true}
 
@@ -44,7 +45,7 @@ module _ (r : Reading) (any : Bool) (n : Name) where
   makes bs b o = (step_of r any (missing_at r (counts_of r bs) b) (held r any n bs) o).0
 
   -- a packet that carries no part of it
-  held-other : (bs : List (List ℕ)) (b : List ℕ)
+  pub held-other : (bs : List (List ℕ)) (b : List ℕ)
       → part_of n (carried r b) ≡ None
       → held r any n (bs ++ b ∷ []) ≡ held r any n bs
   held-other bs b none = held_from-next nothing_counted nothing bs b ∙ ap (makes bs b) none
@@ -55,6 +56,34 @@ module _ (r : Reading) (any : Bool) (n : Name) where
       → held r any n (bs ++ b ∷ [])
       ≡ (step r any (missing_at r (counts_of r bs) b) (held r any n bs) q).0
   held-part bs b q some = held_from-next nothing_counted nothing bs b ∙ ap (makes bs b) some
+
+  -- what is told of it, packets behind packets
+  pub news_from-append : (k : Counted) (c : Course) (bs cs : List (List ℕ))
+      → news_from r any n k c (bs ++ cs)
+      ≡ news_from r any n k c bs
+      ++ news_from r any n (all_counted r k bs) (held_from r any n k c bs) cs
+  news_from-append k c [] cs = refl
+  news_from-append k c (b ∷ bs) cs =
+      let said = listed (step_of r any (missing_at r k b) c (part_of n (carried r b))).1 in
+      let next = (step_of r any (missing_at r k b) c (part_of n (carried r b))).0 in
+      let i = counted r k b in
+      ap (λ (ws : List News). said ++ ws) (news_from-append i next bs cs)
+      ∙ sym (append_assoc said (news_from r any n i next bs)
+      (news_from r any n (all_counted r i bs) (held_from r any n i next bs) cs))
+
+  -- one more
+  pub news-next : (bs : List (List ℕ)) (b : List ℕ)
+      → news_from r any n nothing_counted nothing (bs ++ b ∷ [])
+      ≡ news_from r any n nothing_counted nothing bs
+      ++ listed
+      (step_of r any (missing_at r (counts_of r bs) b) (held r any n bs) (part_of n (carried r b))).1
+  news-next bs b =
+      news_from-append nothing_counted nothing bs (b ∷ [])
+      ∙ ap (λ (ws : List News). news_from r any n nothing_counted nothing bs ++ ws) (append-nil _)
+
+-- nothing is left of a name of which nothing came
+pub waiting-none : waiting nothing_came ≡ record { count = 0; highest = 0 }
+waiting-none = refl
 
 -- ---- of each
 

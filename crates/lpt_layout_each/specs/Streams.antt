@@ -7,6 +7,8 @@ use Rattle.lpt_carried.specs.declared.reading.Reading.{Reading}
 use Rattle.lpt_carried.specs.declared.skip.Skip.{Skip}
 use Rattle.lpt_skips.specs.declared.wanted.Wanted.{Wanted}
 use Rattle.lpt_carried.specs.Carried.{Named, carried, name_of, part_of, same_name}
+use Rattle.lpt_layout_join.specs.Came.{Came, count_in, highest}
+use Rattle.lpt_layout_each.specs.declared.waiting.WaitingAs.{WaitingAs}
 use Rattle.lpt_layout_each.specs.Eaches.{counts_of, held, left, listed, missing_at, step_of}
 use Rattle.lpt_layout_join.specs.Names.{name_cmp}
 use Rattle.lpt_layout_each.specs.News.{Event, Hears, HearsPart, News}
@@ -40,6 +42,14 @@ events r any bs = events_from r any [] bs
 -- what is left of a name behind packets
 abbrev pub left_of : Reading → (any : Bool) → List (List ℕ) → Name → List Event
 left_of r any bs n = of n (left (held r any n bs))
+
+-- of how many numbers these are parts, and the greatest of these, 0 where there are none
+abbrev pub waiting : Came → WaitingAs
+waiting c = record { count = count_in c.parts; highest = highest c.parts }
+
+-- the same of what is left of a name behind packets
+abbrev pub waiting_of : Reading → (any : Bool) → List (List ℕ) → Name → WaitingAs
+waiting_of r any bs n = waiting (held r any n bs).held.new
 
 -- this is what is left of each name, in the order of names
 pub record Leaves (r : Reading) (any : Bool) (bs : List (List ℕ))

@@ -49,7 +49,7 @@ impl CourseAs {
     {
         let order = self.run.order.with(part.number, missing);
         let mut came = self.into_new();
-        came.take_from(alloc, place, part)?;
+        came.take_from(place, part)?;
         if came.against().is_some() {
             let held = begin(alloc, None, place, part)?;
             return Ok((

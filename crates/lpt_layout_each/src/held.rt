@@ -9,9 +9,10 @@ ghost use Rattle.lpt_layout_join.specs.Came.{Came, highest, message_of, nothing_
 ghost use Rattle.lpt_layout_join.specs.CameInside.{Shows};
 ghost use Rattle.lpt_layout_each.specs.Eaches as each;
 ghost use Rattle.lpt_layout_each.specs.Helds.{Holds, IsTurnOfAll, ShowsSome, Takes};
+ghost use Rattle.lpt_layout_each.specs.Streams.{waiting};
 
-use crate::NewsAs;
 use crate::turn::{Turn, alone, turn_with};
+use crate::{NewsAs, WaitingAs};
 use lpt_carried::Reading;
 use lpt_layout::{Octets, PartAs};
 use lpt_layout_join::CameAs;
@@ -61,6 +62,16 @@ impl HeldAs {
         ensures { (h : each.Held) → Holds h self.now → result ≡ (highest h.new.parts == 0) }
     {
         self.new.highest() == 0
+    }
+
+    // How much is left.
+    pub(crate) fn waiting(&self) -> WaitingAs
+        ensures { (h : each.Held) → Holds h self.now → result ≡ waiting h.new }
+    {
+        WaitingAs {
+            count: self.new.count(),
+            highest: self.new.highest(),
+        }
     }
 
     // What is left.

@@ -10,11 +10,11 @@ ghost use Rattle.lpt_carried.specs.Carried.{carried, named, same_name};
 ghost use Rattle.lpt_layout_each.specs.Eaches.{held};
 ghost use Rattle.lpt_layout_each.specs.Helds.{Follows, HoldsEach};
 ghost use Rattle.lpt_layout_join.specs.Names.{name_cmp};
-ghost use Rattle.lpt_layout_each.specs.Streams.{told_by};
+ghost use Rattle.lpt_layout_each.specs.Streams.{told_by, waiting_of};
 ghost use Rattle.lpt_layout_each.specs.Told.{events_of};
 
-use crate::NewsAs;
 use crate::course::CourseAs;
+use crate::{NewsAs, WaitingAs};
 use lpt_carried::{CarriedPart, Name, Reading};
 use lpt_layout_join::Counts;
 use lpt_text::StreamFault;
@@ -91,6 +91,20 @@ impl HeldsAs {
         match helds.counts.take(reading, octets) {
             Ok(()) => Ok(helds),
             Err(_) => Err(StreamFault::Memory),
+        }
+    }
+
+    /// What is left of a name: what `leave_as` tells of it, as two numbers.
+    pub fn waiting(&self, name: Name) -> WaitingAs
+        ensures { (r : Reading) (any : Bool) (bs : List (List ℕ)) → HoldsEach r any bs self.now
+            → result ≡ waiting_of r any bs name }
+    {
+        match self.kept.get(&name) {
+            Some(held) => held.waiting(),
+            None => WaitingAs {
+                count: 0,
+                highest: 0,
+            },
         }
     }
 

@@ -1,6 +1,6 @@
-//! The messages of a mission's layout among the packets of a stream, each of every name, in the
-//! order in which they become whole, and what never becomes whole: as `lpt_each` has them of this
-//! project's own profile.
+//! The messages of a mission's layout, or of the profile's, among the packets of a stream, each of
+//! every name, in the order in which they become whole, and what never becomes whole. `lpt_each`
+//! says the same in the profile's words.
 //!
 //! A name is used again: behind a whole message the next one begins. Parts of the last message that
 //! come again late do no harm, and a next message that has parts of the last one is joined too.
@@ -21,6 +21,7 @@ mod lefts;
 mod news;
 mod run;
 mod turn;
+mod waiting;
 
 pub use each::each_as;
 pub use helds::HeldsAs;
@@ -32,3 +33,4 @@ pub use lpt_layout_join::{CameAs, MisfitAs};
 pub use lpt_skips::Skips;
 pub use lpt_text::{Source, StreamFault};
 pub use news::{NewsAs, TakerAs};
+pub use waiting::WaitingAs;

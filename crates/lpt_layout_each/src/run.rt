@@ -57,7 +57,7 @@ impl RunAs {
         }
         let RunAs { order, mut came } = run;
         let order = order.with(part.number, missing);
-        came.take(alloc, 0, part)?;
+        came.take(0, part)?;
         if came.against().is_some() {
             return Ok(RunTurnAs::Goes(RunAs::none(alloc)));
         }

@@ -42,7 +42,7 @@ pub(crate) fn turn_with(
         → IsTurn again c (piece part.now) t (turn reading.now any again c (piece part.now))) }
 {
     let mut came = came;
-    came.take_from(alloc, place, part)?;
+    came.take_from(place, part)?;
     if came.against().is_some() {
         return Ok(Turn::Broken(came));
     }
@@ -62,6 +62,6 @@ pub(crate) fn alone(alloc: Global, place: u64, part: &PartAs<'_>) -> Result<Came
     ensures { IfOk result (Shows (alone (piece part.now))) }
 {
     let mut came = CameAs::new(alloc);
-    came.take_from(alloc, place, part)?;
+    came.take_from(place, part)?;
     Ok(came)
 }

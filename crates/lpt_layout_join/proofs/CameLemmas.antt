@@ -1,13 +1,16 @@
 -- What came of one transaction, with a part more.
-use Rattle.std.proofs.Common.{◌≡◌, ◌≢◌, ◌∙◌, ap, sym, refl, ℕ, suc, ◌-◌, ◌<◌, ◌≤◌, ◌==◌, max, Bool, true, false, if◌then◌else◌, List, [], ◌∷◌, ◌++◌, length, arith}
+use Rattle.std.proofs.Common.{◌≡◌, ◌≢◌, ◌∙◌, ap, sym, refl, ℕ, suc, ◌+◌, ◌-◌, ◌<◌, ◌≤◌, ◌==◌, max, Bool, true, false, if◌then◌else◌, List, [], ◌∷◌, ◌++◌, length, arith}
 use Rattle.std.specs.Prelude.{Option, Some, None}
 use Rattle.std.specs.Option.{option_or}
 use Rattle.std.proofs.lemmas.Bool.{eqb-true, eqb-false}
+use Rattle.std.proofs.lemmas.List.{get_or_past}
 use Rattle.lpt_part.specs.Parts.{Piece}
 use Rattle.lpt_layout_join.specs.declared.came.CameAs.{CameAs}
 use Rattle.lpt_layout_join.specs.declared.last_part.LastPart.{LastPart}
-use Rattle.lpt_layout_join.specs.Came.{Came, at, first_told, joined_by, message_of, octets_told, size_told, last_told, octets_of, highest}
-use Rattle.lpt_layout_join.specs.CameInside.{Shows, part_at}
+use Rattle.lpt_layout_join.specs.Came.{Came, count_in, count_to, first_told, joined_by, message_of, octets_told, size_told, last_told, octets_of, highest}
+use Rattle.lpt_layout_join.specs.CameInside.{Shows, highest_in, part_at}
+use Rattle.lpt_layout_join.specs.Slots.{IsSound, at, octets_at}
+use Rattle.lpt_layout_join.proofs.PutLemmas.{count-same}
 use Rattle.lpt_layout_join.proofs.SlotLemmas.{joined-none}
 
 or-assoc : {A : Type 0} → (a b c : Option A)
@@ -47,16 +50,18 @@ octets-more qs q n same e =
 pub shows-more : (c : Came) (old new : CameAs) (q : Piece)
     → Shows c old
     → 1 ≤ q.number
-    → ((i : ℕ) → i ≢ q.number - 1 → at new.slots.items i ≡ at old.slots.items i)
-    → at new.slots.items (q.number - 1)
-    ≡ option_or (at old.slots.items (q.number - 1)) (Some q.octets)
-    → length new.slots.items ≡ max q.number (length old.slots.items)
+    → IsSound new.slots
+    → ((i : ℕ) → i ≢ q.number - 1 → at new.slots i ≡ at old.slots i)
+    → at new.slots (q.number - 1)
+    ≡ option_or (at old.slots (q.number - 1)) (Some q.octets)
+    → highest_in new ≡ max q.number (highest_in old)
     → new.size ≡ option_or old.size (size_told q)
     → new.last ≡ option_or old.last (last_told q)
     → new.against ≡ old.against
-    → at new.slots.items new.missing ≡ None
+    → at new.slots new.missing ≡ None
     → Shows (record c { parts = c.parts ++ q ∷ [] }) new
-shows-more c old new q h some others here len size last against missing = record {
+shows-more c old new q h some sound others here len size last against missing = record {
+  sound = sound;
   parts_are = λ n least. part n least (q.number == n) refl;
   size_is = size ∙ ap (λ o. option_or o (size_told q)) h.size_is
       ∙ sym (first_told-more size_told c.parts q);
@@ -70,8 +75,8 @@ shows-more c old new q h some others here len size last against missing = record
       → part_at new n ≡ octets_of (c.parts ++ q ∷ []) n
   part n least true e =
       let is : q.number ≡ n = eqb-true q.number n e in
-      ap (λ (k : ℕ). at new.slots.items (k - 1)) (sym is) ∙ here
-      ∙ ap (λ (k : ℕ). option_or (at old.slots.items (k - 1)) (Some q.octets)) is
+      ap (λ (k : ℕ). at new.slots (k - 1)) (sym is) ∙ here
+      ∙ ap (λ (k : ℕ). option_or (at old.slots (k - 1)) (Some q.octets)) is
       ∙ ap (λ o. option_or o (Some q.octets)) (h.parts_are n least)
       ∙ sym (octets-more c.parts q n true e)
   part n least false e =
@@ -90,6 +95,20 @@ message-missing c s last h is less =
     let k = s.missing in
     let place : suc k - 1 ≡ k = omega arith in
     let none : octets_of c.parts (suc k) ≡ None =
-    sym (h.parts_are (suc k) (omega arith)) ∙ ap (at s.slots.items) place ∙ h.missing_is in
+    sym (h.parts_are (suc k) (omega arith)) ∙ ap (at s.slots) place ∙ h.missing_is in
     sym (ap (joined_by (octets_of c.parts)) (sym h.last_is ∙ is)
     ∙ joined-none (octets_of c.parts) k last.number none less)
+
+-- how many parts are held
+pub count-shown : (c : Came) (s : CameAs) → Shows c s → s.slots.count ≡ count_in c.parts
+count-shown c s h =
+    h.sound.count_is
+    ∙ ap (count_to (λ n. at s.slots (n - 1))) h.highest_is
+    ∙ count-same (λ n. at s.slots (n - 1)) (octets_of c.parts) (highest c.parts)
+    (λ n a b. h.parts_are n a)
+
+-- behind the last part that is kept there is none
+pub behind-last : (s : CameAs) (n : ℕ) → highest_in s ≤ n → part_at s (n + 1) ≡ None
+behind-last s n h =
+    ap (octets_at s.slots.octets.items)
+    (get_or_past s.slots.spans.items (n + 1 - 1) None (omega (arith, h)))

@@ -11,6 +11,7 @@ pub mod MoreLemmas
 pub mod NameLemmas
 pub mod OwnLemmas
 pub mod PartsLemmas
+mod PutLemmas
 pub mod SeveralLemmas
 pub mod SlotLemmas
 pub mod StreamLemmas

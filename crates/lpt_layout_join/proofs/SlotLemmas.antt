@@ -2,14 +2,17 @@
 use Rattle.std.proofs.Common.{◌≡◌, ◌∙◌, ap, refl, sym, inl, inr, ℕ, zero, suc, ◌+◌, ◌-◌, ◌<◌, ◌≤◌, Bool, true, false, if◌then◌else◌, List, [], ◌∷◌, ◌++◌, arith}
 use Rattle.std.specs.Prelude.{Option, Some, None}
 use Rattle.std.proofs.lemmas.Bool.Decides.{eqb_tells}
-use Rattle.lpt_layout_join.specs.Came.{at, and_more, is_other, joined, none_other}
+use Rattle.lpt_layout_join.specs.declared.slots.Span.{Span}
+use Rattle.lpt_layout_join.specs.Came.{and_more, is_other, joined, none_other}
+use Rattle.lpt_layout_join.specs.Slots.{span_in}
 
 -- an empty place behind the others changes nothing
-pub at-behind : (xs : List (Option (List ℕ))) (i : ℕ) → at (xs ++ None ∷ []) i ≡ at xs i
-at-behind [] zero = refl
-at-behind [] (suc i) = refl
-at-behind (x ∷ xs) zero = refl
-at-behind (x ∷ xs) (suc i) = at-behind xs i
+pub span-behind : (xs : List (Option Span)) (i : ℕ)
+    → span_in (xs ++ None ∷ []) i ≡ span_in xs i
+span-behind [] zero = refl
+span-behind [] (suc i) = refl
+span-behind (x ∷ xs) zero = refl
+span-behind (x ∷ xs) (suc i) = span-behind xs i
 
 no_more : (o : Option (List ℕ)) → and_more o None ≡ None
 no_more (Some x) = refl

@@ -1,5 +1,5 @@
 -- What came of one transaction: the parts that agree, and the first that doesn't.
-use Rattle.std.specs.Prelude.{ℕ, zero, suc, ◌==◌, ◌||◌, ◌&&◌, max, nat_le, nat_lt, Bool, true, false, not, if◌then◌else◌, List, [], ◌∷◌, ◌++◌, length, Option, Some, None, is_some, bytes_eq, slice_index_or}
+use Rattle.std.specs.Prelude.{ℕ, zero, suc, ◌+◌, ◌==◌, ◌||◌, ◌&&◌, max, nat_le, nat_lt, Bool, true, false, not, if◌then◌else◌, List, [], ◌∷◌, ◌++◌, length, Option, Some, None, is_some, bytes_eq}
 use Rattle.std.specs.Option.{option_or}
 use Rattle.lpt_part.specs.declared.kind.Kind.{Kind}
 use Rattle.lpt_part.specs.declared.kind.Kind.TheVariants.{First, Middle, Last}
@@ -47,6 +47,15 @@ last_of qs = first_told last_told qs
 abbrev pub highest : List Piece → ℕ
 highest [] = 0
 highest (q ∷ qs) = max q.number (highest qs)
+
+-- how many of the parts 1 to n are there
+abbrev pub count_to : (ℕ → Option (List ℕ)) → ℕ → ℕ
+count_to part zero = 0
+count_to part (suc n) = count_to part n + (if is_some (part (suc n)) then 1 else 0)
+
+-- how many numbers have a part
+abbrev pub count_in : List Piece → ℕ
+count_in qs = count_to (octets_of qs) (highest qs)
 
 -- ---- what contradicts
 
@@ -161,10 +170,6 @@ abbrev pub message_of : List Piece → Option (List ℕ)
 message_of qs = joined_by (octets_of qs) (last_of qs)
 
 -- ---- what is held
-
--- the octets at a place; none where the part hasn't come
-abbrev pub at : List (Option (List ℕ)) → ℕ → Option (List ℕ)
-at slots i = slice_index_or slots i None
 
 -- a length is no more than the longest packet's
 abbrev pub is_small : Option ℕ → Bool

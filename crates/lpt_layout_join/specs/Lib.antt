@@ -11,4 +11,5 @@ pub mod Names
 pub mod Orders
 pub mod Own
 pub mod Readers
+pub mod Slots
 pub mod Writes

@@ -4,21 +4,23 @@ ghost use Rattle.std.specs.Prelude.{◌≡◌, ◌≤◌, ◌-◌, length, true}
 ghost use Rattle.lpt_packet.specs.Sizes.{longest_packet};
 ghost use Rattle.lpt_layout.specs.Parts.{piece};
 ghost use Rattle.lpt_part.specs.Parts.{length_test};
-ghost use Rattle.lpt_layout_join.specs.Came.{at, is_small, is_small_last, other_end, other_octets, other_size};
+ghost use Rattle.lpt_layout_join.specs.Slots.{at};
+ghost use Rattle.lpt_layout_join.specs.Came.{is_small, is_small_last, other_end, other_octets, other_size};
 
 use crate::LastPart;
-use lpt_layout::{Octets, PartAs};
+use crate::slots::Slots;
+use lpt_layout::PartAs;
 use lpt_packet::LONGEST_PACKET;
 use lpt_part::Kind;
 
 // Whether other octets are kept of a part's number.
-pub(crate) fn other_octets(slots: &[Option<Octets>], part: &PartAs<'_>) -> bool
+pub(crate) fn other_octets(slots: &Slots, part: &PartAs<'_>) -> bool
     requires { 1 ≤ part.now.number }
     ensures { result ≡ other_octets (at slots.now (part.now.number - 1)) part.now.octets.now }
 {
-    match slots.get(part.number as usize - 1) {
-        Some(Some(octets)) => octets.as_slice() != part.octets,
-        _ => false,
+    match slots.part_at(part.number as usize - 1) {
+        Some(octets) => octets != part.octets,
+        None => false,
     }
 }
 

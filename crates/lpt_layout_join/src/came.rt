@@ -6,19 +6,19 @@ ghost use Rattle.lpt_layout_join.specs.Came.{is_small, is_small_last};
 use crate::LastPart;
 use crate::against::{other_end, other_octets, other_size};
 use crate::last_part::{ends_in, last_told, size_told};
-use crate::slots::{has_slot, joined, next_empty, none_other, put};
+use crate::slots::Slots;
 use lpt_layout::{Octets, PartAs};
 use std::alloc::{AllocError, Global};
 
 /// What came of one transaction: the parts that agree with those before them, in any order, and the
 /// place of the first that doesn't. After that one nothing more is taken.
 ///
-/// It takes as much memory as the parts' octets, and some 40 octets for each number up to the
-/// greatest.
+/// It takes at most twice as much memory as the parts' octets, and 24 octets for each number up to
+/// the greatest.
 #[derive(Drop)]
 pub struct CameAs {
     // The octets of each part, at its number less one.
-    slots: Vec<Option<Octets>>,
+    slots: Slots,
     // The first place where no octets are.
     missing: usize,
     size: Option<usize>,
@@ -34,15 +34,15 @@ impl CameAs {
     ghost use Rattle.std.specs.Option.{option_or};
     ghost use Rattle.lpt_packet.specs.Sizes.{longest_packet};
     ghost use Rattle.lpt_layout.specs.Parts.{piece};
-    ghost use Rattle.lpt_layout_join.specs.Came.{Came, nothing_came, are_of, has_part, highest, is_against, last_of, message_of, octets_of, size_of, step};
-    ghost use Rattle.lpt_layout_join.specs.CameInside.{Shows, last_in, part_at};
+    ghost use Rattle.lpt_layout_join.specs.Came.{Came, nothing_came, are_of, count_in, has_part, highest, is_against, last_of, message_of, octets_of, size_of, step};
+    ghost use Rattle.lpt_layout_join.specs.CameInside.{Shows, highest_in, last_in, part_at};
 
     /// Nothing has come.
     pub fn new(alloc: Global) -> CameAs
         ensures { Shows nothing_came result }
     {
         CameAs {
-            slots: Vec::new(alloc),
+            slots: Slots::new(alloc),
             missing: 0,
             size: None,
             last: None,
@@ -52,7 +52,7 @@ impl CameAs {
     }
 
     /// Takes a part whose packet stands at this place. The only error is out of memory.
-    pub fn take(&mut self, alloc: Global, place: u64, part: &PartAs<'_>) -> Result<(), AllocError>
+    pub fn take(&mut self, place: u64, part: &PartAs<'_>) -> Result<(), AllocError>
         requires number { 1 ≤ part.now.number }
         requires short { length part.now.octets.now ≤ longest_packet }
         ensures came { (c : Came) → Shows c self.old
@@ -66,24 +66,19 @@ impl CameAs {
             self.against = Some(place);
             return Ok(());
         }
-        self.keep(alloc, part)
+        self.keep(part)
     }
 
     /// Takes a part whose packet stands at this place, from which on they are told. The only error
     /// is out of memory.
-    pub fn take_from(
-        &mut self,
-        alloc: Global,
-        place: u64,
-        part: &PartAs<'_>,
-    ) -> Result<(), AllocError>
+    pub fn take_from(&mut self, place: u64, part: &PartAs<'_>) -> Result<(), AllocError>
         requires number { 1 ≤ part.now.number }
         requires short { length part.now.octets.now ≤ longest_packet }
         ensures came { (c : Came) → Shows c self.old
             → OnOk result (Shows (step c 0 (piece part.now)) self.new) }
         ensures began { OnOk result (self.new.began ≡ option_or self.old.began (Some place)) }
     {
-        self.take(alloc, 0, part)?;
+        self.take(0, part)?;
         self.began = self.began.or(Some(place));
         Ok(())
     }
@@ -100,24 +95,24 @@ impl CameAs {
         requires number { 1 ≤ part.now.number }
         requires short { length part.now.octets.now ≤ longest_packet }
         ensures { result ≡ is_against (part_at self.now part.now.number) self.now.size self.now.last
-            (length self.now.slots.items) (piece part.now) }
+            (highest_in self.now) (piece part.now) }
     {
         let _small = (self.size, self.last);
         other_octets(&self.slots, part)
             || other_size(self.size, part)
-            || other_end(self.last, self.slots.len(), part)
+            || other_end(self.last, self.slots.spans.len(), part)
     }
 
     // Keeps a part that agrees. The only error is out of memory.
-    fn keep(&mut self, alloc: Global, part: &PartAs<'_>) -> Result<(), AllocError>
+    fn keep(&mut self, part: &PartAs<'_>) -> Result<(), AllocError>
         requires number { 1 ≤ part.now.number }
         requires short { length part.now.octets.now ≤ longest_packet }
         ensures came { (c : Came) → Shows c self.old → c.against ≡ None
             → OnOk result (Shows (record c { parts = c.parts ++ piece part.now ∷ [] }) self.new) }
         ensures began { OnOk result (self.new.began ≡ self.old.began) }
     {
-        put(alloc, &mut self.slots, part)?;
-        self.missing = next_empty(&self.slots, self.missing);
+        self.slots.put(part)?;
+        self.missing = self.slots.next_empty(self.missing);
         let size = self.size.or(size_told(part));
         let last = self.last.or(last_told(part));
         self.size = size;
@@ -131,7 +126,7 @@ impl CameAs {
     {
         match self.last {
             Some(last) if self.missing < last.number as usize => Ok(None),
-            Some(last) => joined(alloc, &self.slots, last.number as usize),
+            Some(last) => self.slots.joined(alloc, last.number as usize),
             None => Ok(None),
         }
     }
@@ -141,7 +136,8 @@ impl CameAs {
         ensures { (c d : Came) → Shows c self.now → Shows d whole.now
             → result ≡ are_of c.parts d.parts }
     {
-        ends_in(self.last, self.slots.len(), whole.last) && none_other(&self.slots, &whole.slots)
+        ends_in(self.last, self.slots.spans.len(), whole.last)
+            && self.slots.none_other(&whole.slots)
     }
 
     /// The place of the packet of the first part that contradicts those before it.
@@ -165,11 +161,18 @@ impl CameAs {
         self.last
     }
 
+    /// Of how many numbers parts came.
+    pub fn count(&self) -> usize
+        ensures { (c : Came) → Shows c self.now → result ≡ count_in c.parts }
+    {
+        self.slots.count
+    }
+
     /// The greatest number of a part that came, 0 if none did.
     pub fn highest(&self) -> usize
         ensures { (c : Came) → Shows c self.now → result ≡ highest c.parts }
     {
-        self.slots.len()
+        self.slots.spans.len()
     }
 
     /// Whether this very part came.
@@ -197,7 +200,7 @@ impl CameAs {
         requires { 1 ≤ number }
         ensures { result ≡ is_some (part_at self.now number) }
     {
-        has_slot(&self.slots, number as usize - 1)
+        self.slots.has_part(number as usize - 1)
     }
 
     /// The last part that is kept.
@@ -209,8 +212,8 @@ impl CameAs {
 
     /// Up to which number parts are kept.
     pub fn kept_highest(&self) -> usize
-        ensures { result ≡ length self.now.slots.items }
+        ensures { result ≡ highest_in self.now }
     {
-        self.slots.len()
+        self.slots.spans.len()
     }
 }

@@ -55,13 +55,7 @@ impl Gathering {
     /// Adds a part of the transaction that a packet carries which stands at a place of the stream,
     /// or beyond 2^64 - 1 if it is that, and up to which so many sequence counts are missing.
     /// The only error is out of memory.
-    pub fn add(
-        self,
-        alloc: Global,
-        missing: u64,
-        place: u64,
-        part: &PartAs<'_>,
-    ) -> Result<Gathering, AllocError>
+    pub fn add(self, missing: u64, place: u64, part: &PartAs<'_>) -> Result<Gathering, AllocError>
         requires number { 1 ≤ part.now.number }
         requires within { part.now.number ≤ longest_packet }
         requires short { length part.now.octets.now ≤ longest_packet }
@@ -78,7 +72,7 @@ impl Gathering {
             mut numbers,
             against,
         } = self;
-        came.take(alloc, 0, part)?;
+        came.take(0, part)?;
         numbers.add(part.number, part.kind)?;
         let is_against = came.against().is_some();
         let order = order_with(order, is_against, part.number, missing);

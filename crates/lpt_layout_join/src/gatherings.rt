@@ -68,7 +68,7 @@ impl Gatherings {
             gatherings.has_more = true;
             return Ok(gatherings);
         };
-        let gathering = gathering.add(alloc, missing, place, &part.part)?;
+        let gathering = gathering.add(missing, place, &part.part)?;
         gatherings.put(name, gathering)?;
         Ok(gatherings)
     }

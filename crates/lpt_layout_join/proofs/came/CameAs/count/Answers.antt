@@ -1,0 +1,5 @@
+use Rattle.lpt_layout_join.proofs.CameLemmas.{count-shown}
+use Rattle.lpt_layout_join.proofs.came.CameAs.count.Goals as goal
+
+pub returns : goal.returns
+returns c = λ came h. count-shown came c.args.self.now h
