@@ -1,6 +1,5 @@
 -- A row counts the messages that its transaction's packets give out, and has what they leave.
-use Rattle.std.proofs.Common.{◌≡◌, ◌≢◌, ◌∙◌, ap, sym, refl, subst, arith, ℕ, ◌+◌, ◌<◌, ◌≤◌, nat_lt, ◌==◌, cond, if◌then◌else◌, Bool, true, false, ◌&&◌, List, [], ◌∷◌, ◌++◌, filter, length, get_or, set, Option, Some, None, append-nil, append_assoc, length-append}
-use Rattle.std.specs.Option.{option_map, option_or}
+use Rattle.std.proofs.Common.{◌≡◌, ◌≢◌, ◌∙◌, ap, sym, refl, subst, arith, ℕ, ◌+◌, ◌<◌, ◌≤◌, nat_lt, ◌==◌, cond, if◌then◌else◌, Bool, true, false, ◌&&◌, List, [], ◌∷◌, ◌++◌, filter, length, get_or, set, Option, Some, None, Ok, Err, Result, append-nil, append_assoc, length-append}
 use Rattle.std.proofs.lemmas.List.{get_or_append_left, get_or_past, get_or-set_other, get_or-set_same}
 use Rattle.std.proofs.lemmas.List.Concat.{flat_map-append}
 use Rattle.std.proofs.lemmas.List.Elements.{filter-append}
@@ -8,34 +7,33 @@ use Rattle.std.proofs.lemmas.List.Folds.{position_or_len-set, position_or_len_pu
 use Rattle.std.proofs.lemmas.List.Sums.{passes_at_first, prefix_len-le-length}
 use Rattle.std.proofs.Math.Seq.{get_or-append_seam}
 use Rattle.lpt_packet.proofs.BoolLemmas.{and_left, and_right}
-use Rattle.lpt_packet.proofs.NameLemmas.{same_name-refl, same_name-true}
 use Rattle.lpt_packet.specs.declared.direction.Direction.{Direction}
 use Rattle.lpt_packet.specs.declared.direction.Direction.TheVariants.{Up, Down}
-use Rattle.lpt_packet.specs.Names.{Name, same_name}
 use Rattle.lpt_events.proofs.LaneLemmas.{same_direction-refl, same_direction-true}
 use Rattle.lpt_events.specs.Lanes.{same_direction}
-use Rattle.lpt_events.specs.NamedParts.{NamedPart}
 use Rattle.lpt_stream.specs.declared.piece_kind.PieceKind.{PieceKind}
 use Rattle.lpt_stream.specs.declared.piece_kind.PieceKind.TheVariants as piece
 use Rattle.lpt_stream.specs.Pieces.{Piece, packet_before, packets_of, up_to_limit}
 use Rattle.lpt_stream.proofs.CutLemmas.{packets-next}
-use Rattle.lpt_join.specs.Offers.{offered, piece_in}
-use Rattle.lpt_join.specs.Several.{of_name}
-use Rattle.lpt_join.proofs.OtherLemmas.{apart_carried, none_carried}
-use Rattle.lpt_each.specs.Eaches.{held, listed, news_from, nothing as none, step_of}
-use Rattle.lpt_each.specs.News.{News, Given, Dropped, Unfit, Overtaken, messages_in, messages_of}
-use Rattle.lpt_each.specs.Streams.{of, waiting}
-use Rattle.lpt_each.proofs.CameLemmas.{waiting-none}
-use Rattle.lpt_each.proofs.HeldsLemmas.{held-other}
-use Rattle.lpt_each.proofs.SieveLemmas.{news_from-append}
-use Rattle.lpt_glance.specs.declared.row.Counts.{Counts}
+use Rattle.lpt_carried.proofs.NameLemmas.{same_name-refl, same_name-true}
+use Rattle.lpt_carried.specs.Carried.{Named, carried, name_of, part_of, same_name}
+use Rattle.lpt_carried.specs.declared.name.Name.{Name}
+use Rattle.lpt_carried.specs.declared.skip.Skip.{Skip}
+use Rattle.lpt_layout_each.specs.Eaches.{counts_of, held, listed, missing_at, step_of}
+use Rattle.lpt_layout_each.specs.News.{News, Given, Dropped, Unfit, Overtaken, messages_in, messages_of}
+use Rattle.lpt_layout_each.specs.Streams.{of, waiting}
+use Rattle.lpt_layout_each.proofs.HeldsLemmas.{held-other, news-next, waiting-none}
+use Rattle.lpt_glance.specs.declared.fate.Fate.{Fate}
 use Rattle.lpt_glance.specs.declared.row.Row.{Row}
 use Rattle.lpt_glance.specs.declared.view.View.{View}
-use Rattle.lpt_glance.specs.Fates.{Fate, fresh, one_more, with_told}
-use Rattle.lpt_glance.specs.Laws.{CountsEach, IsCounted, gives_up, row_at, told_of}
-use Rattle.lpt_glance.specs.Looks.{Seen, carried, fate_of, is_of, nothing, opened, row_of, rows_with, seen_from, stepped, way, with_piece}
+use Rattle.lpt_glance.specs.Fates.{effect_in, fresh, gives, loses, more_if}
+use Rattle.lpt_glance.specs.Laws.{CountsEach, IsCounted, gives_up, news_of_name, row_at}
+use Rattle.lpt_glance.specs.Looks.{Seen, added, fate_by, fate_in, fate_of, is_of, nothing, opened, reading, row_of, rows_with, seen_from, stepped, with_piece}
 use Rattle.lpt_glance.proofs.RowLemmas.{row-own, row-within}
-use Rattle.lpt_glance.proofs.WayLemmas.{down-alone, up-alone}
+
+and_none : (t : Bool) → (t && false) ≡ false
+and_none true = refl
+and_none false = refl
 
 no_true : true ≡ false → ⊥
 no_true e = cc
@@ -147,7 +145,7 @@ module _ (f : Fate) (rows : List Row) where
 
 -- ---- what is told
 
-limit : (a k : ℕ) → a ≡ up_to_limit k → one_more a ≡ up_to_limit (k + 1)
+limit : (a k : ℕ) → a ≡ up_to_limit k → more_if true a ≡ up_to_limit (k + 1)
 limit a k e = grind arith
 
 module _ (n : Name) (ws : List News) where
@@ -167,158 +165,149 @@ module _ (n : Name) (ws : List News) where
   none-more : (k a : ℕ) → a ≡ k + 0 → a ≡ k
   none-more k a e = omega (arith, e)
 
-  whole-with : (o : Option News) (c : Counts)
-      → c.whole ≡ up_to_limit (length (messages_in ws))
-      → (with_told (of n (listed o)) c).whole
+  whole-with : (o : Option News) (a : ℕ)
+      → a ≡ up_to_limit (length (messages_in ws))
+      → more_if (gives (effect_in (of n (listed o)))) a
       ≡ up_to_limit (length (messages_in (ws ++ listed o)))
-  whole-with None c e =
+  whole-with None a e =
       e ∙ ap (λ (vs : List News). up_to_limit (length (messages_in vs))) (sym (append-nil ws))
-  whole-with (Some (Given m)) c e =
-      limit c.whole (length (messages_in ws)) e ∙ ap up_to_limit (sym (more (Given m ∷ [])))
-  whole-with (Some (Dropped came ended)) c e =
-      e ∙ ap up_to_limit (sym (none-more _ _ (more (Dropped came ended ∷ []))))
-  whole-with (Some (Unfit x)) c e =
+  whole-with (Some (Given m)) a e =
+      limit a (length (messages_in ws)) e ∙ ap up_to_limit (sym (more (Given m ∷ [])))
+  whole-with (Some (Dropped parts last)) a e =
+      e ∙ ap up_to_limit (sym (none-more _ _ (more (Dropped parts last ∷ []))))
+  whole-with (Some (Unfit x)) a e =
       e ∙ ap up_to_limit (sym (none-more _ _ (more (Unfit x ∷ []))))
-  whole-with (Some (Overtaken came ended m)) c e =
-      limit c.whole (length (messages_in ws)) e
-      ∙ ap up_to_limit (sym (more (Overtaken came ended m ∷ [])))
+  whole-with (Some (Overtaken parts last m)) a e =
+      limit a (length (messages_in ws)) e
+      ∙ ap up_to_limit (sym (more (Overtaken parts last m ∷ [])))
 
-  given_up-with : (o : Option News) (c : Counts)
-      → c.given_up ≡ up_to_limit (length (filter gives_up ws))
-      → (with_told (of n (listed o)) c).given_up
+  given_up-with : (o : Option News) (a : ℕ)
+      → a ≡ up_to_limit (length (filter gives_up ws))
+      → more_if (loses (effect_in (of n (listed o)))) a
       ≡ up_to_limit (length (filter gives_up (ws ++ listed o)))
-  given_up-with None c e =
+  given_up-with None a e =
       e ∙ ap (λ (vs : List News). up_to_limit (length (filter gives_up vs))) (sym (append-nil ws))
-  given_up-with (Some (Given m)) c e =
+  given_up-with (Some (Given m)) a e =
       e ∙ ap up_to_limit (sym (none-more _ _ (lost (Given m ∷ []))))
-  given_up-with (Some (Dropped came ended)) c e =
-      limit c.given_up (length (filter gives_up ws)) e
-      ∙ ap up_to_limit (sym (lost (Dropped came ended ∷ [])))
-  given_up-with (Some (Unfit x)) c e =
-      limit c.given_up (length (filter gives_up ws)) e
-      ∙ ap up_to_limit (sym (lost (Unfit x ∷ [])))
-  given_up-with (Some (Overtaken came ended m)) c e =
-      limit c.given_up (length (filter gives_up ws)) e
-      ∙ ap up_to_limit (sym (lost (Overtaken came ended m ∷ [])))
+  given_up-with (Some (Dropped parts last)) a e =
+      limit a (length (filter gives_up ws)) e
+      ∙ ap up_to_limit (sym (lost (Dropped parts last ∷ [])))
+  given_up-with (Some (Unfit x)) a e =
+      limit a (length (filter gives_up ws)) e ∙ ap up_to_limit (sym (lost (Unfit x ∷ [])))
+  given_up-with (Some (Overtaken parts last m)) a e =
+      limit a (length (filter gives_up ws)) e
+      ∙ ap up_to_limit (sym (lost (Overtaken parts last m ∷ [])))
 
 -- ---- a packet more
 
 module _ (v : View) (d : Direction) (n : Name) (bs : List (List ℕ)) (b : List ℕ) where
-  told-next : news_from (of_name (way v d) n) false none (bs ++ b ∷ [])
-      ≡ news_from (of_name (way v d) n) false none bs
-      ++ listed (step_of (of_name (way v d) n) false (held (of_name (way v d) n) false bs)
-      (offered (of_name (way v d) n) b)).1
-  told-next =
-      let t = of_name (way v d) n in
-      news_from-append t false none bs (b ∷ [])
-      ∙ ap (λ (ws : List News). news_from t false none bs ++ ws) (append-nil _)
-
-  counted-other : (r : Row) → offered (of_name (way v d) n) b ≡ None → IsCounted v d n bs r
+  -- it carries no part of the transaction
+  counted-other : (r : Row) → part_of n (carried (reading v d) b) ≡ None → IsCounted v d n bs r
       → IsCounted v d n (bs ++ b ∷ []) r
   counted-other r gone h =
-      let t = of_name (way v d) n in
-      let same : news_from t false none (bs ++ b ∷ []) ≡ news_from t false none bs =
-      told-next ∙ (λ j. news_from t false none bs
-      ++ listed (step_of t false (held t false bs) (gone j)).1)
-      ∙ append-nil (news_from t false none bs) in record {
+      let t = reading v d in
+      let same : news_of_name v d n (bs ++ b ∷ []) ≡ news_of_name v d n bs =
+      news-next t false n bs b
+      ∙ (λ j. news_of_name v d n bs
+      ++ listed (step_of t false (missing_at t (counts_of t bs) b) (held t false n bs) (gone j)).1)
+      ∙ append-nil (news_of_name v d n bs) in record {
         whole = h.whole
             ∙ ap (λ (ws : List News). up_to_limit (length (messages_in ws))) (sym same);
         given_up = h.given_up
             ∙ ap (λ (ws : List News). up_to_limit (length (filter gives_up ws))) (sym same);
-        left = h.left ∙ ap (λ c. waiting c.held.new) (sym (held-other t false bs b gone));
+        left = h.left ∙ ap (λ c. waiting c.held.new) (sym (held-other t false n bs b gone));
       }
 
 -- of a part, the row of its own transaction
-counted-own : (v : View) (d : Direction) (q : NamedPart) (bs : List (List ℕ)) (b : List ℕ)
+counted-own : (v : View) (d : Direction) (c : Named) (bs : List (List ℕ)) (b : List ℕ)
     (rows : List Row)
-    → IsCounted v d q.name bs (row_at d q.name rows)
-    → IsCounted v d q.name (bs ++ b ∷ []) (row_at d q.name (rows_with (fate_of v bs b d q) rows))
-counted-own v d q bs b rows h =
-    let f = fate_of v bs b d q in
-    let n = q.name in
-    let t = of_name (way v d) n in
-    subst (λ (r : Row). IsCounted v d n (bs ++ b ∷ []) r) (sym (at-own f rows)) (record {
-      whole = ap (λ (r : Row). (with_told f.told r.counts).whole) (own-was f rows)
-          ∙ whole-with n (told_of v d n bs)
-          (step_of t false (held t false bs) (offered t b)).1 (row_at d n rows).counts h.whole
+    → IsCounted v d (name_of c) bs (row_at d (name_of c) rows)
+    → IsCounted v d (name_of c) (bs ++ b ∷ [])
+    (row_at d (name_of c) (rows_with (fate_by d (reading v d) bs b c) rows))
+counted-own v d c bs b rows h =
+    let r = reading v d in
+    let n = name_of c in
+    let f = fate_by d r bs b c in
+    let o = (step_of r false (missing_at r (counts_of r bs) b) (held r false n bs)
+    (part_of n (carried r b))).1 in
+    subst (λ (row : Row). IsCounted v d n (bs ++ b ∷ []) row) (sym (at-own f rows)) (record {
+      whole = ap (λ (row : Row). more_if (gives f.effect) row.whole) (own-was f rows)
+          ∙ whole-with n (news_of_name v d n bs) o (row_at d n rows).whole h.whole
           ∙ ap (λ (ws : List News). up_to_limit (length (messages_in ws)))
-          (sym (told-next v d n bs b));
-      given_up = ap (λ (r : Row). (with_told f.told r.counts).given_up) (own-was f rows)
-          ∙ given_up-with n (told_of v d n bs)
-          (step_of t false (held t false bs) (offered t b)).1 (row_at d n rows).counts h.given_up
+          (sym (news-next r false n bs b));
+      given_up = ap (λ (row : Row). more_if (loses f.effect) row.given_up) (own-was f rows)
+          ∙ given_up-with n (news_of_name v d n bs) o (row_at d n rows).given_up h.given_up
           ∙ ap (λ (ws : List News). up_to_limit (length (filter gives_up ws)))
-          (sym (told-next v d n bs b));
+          (sym (news-next r false n bs b));
       left = refl;
     })
 
--- of each transaction that of its row
-abbrev Counted : View → List (List ℕ) → List Row → Type 0
-Counted v bs rows = (d : Direction) (n : Name) → IsCounted v d n bs (row_at d n rows)
+-- of each transaction of a direction that of its row
+abbrev CountedTo : View → Direction → List (List ℕ) → List Row → Type 0
+CountedTo v d bs rows = (n : Name) → IsCounted v d n bs (row_at d n rows)
 
-module _ (v : View) (bs : List (List ℕ)) (b : List ℕ) (rows : List Row)
-    (h : Counted v bs rows) where
-  offered-apart : (e d : Direction) (n : Name) (q : NamedPart) → Some q ≡ piece_in (way v e) b
-      → (same_direction e d && same_name q.name n) ≡ false
-      → offered (of_name (way v d) n) b ≡ None
-  offered-apart Up Up n q some other = apart_carried (of_name (way v Up) n) b q (sym some) other
-  offered-apart Up Down n q some other =
-      none_carried (of_name (way v Down) n) b (sym (up-alone v b q some))
-  offered-apart Down Up n q some other =
-      none_carried (of_name (way v Up) n) b (sym (down-alone v b q some))
-  offered-apart Down Down n q some other =
-      apart_carried (of_name (way v Down) n) b q (sym some) other
+module _ (v : View) (bs : List (List ℕ)) (b : List ℕ) (s : Seen) where
+  -- with what a packet carries in the direction
+  counted-to : (d : Direction) → CountedTo v d bs s.rows
+      → CountedTo v d (bs ++ b ∷ []) (added (fate_in d (reading v d) bs b) s).rows
+  counted-to d h = go (carried (reading v d) b) refl where
+    go : (w : Result Named Skip) → carried (reading v d) b ≡ w
+        → CountedTo v d (bs ++ b ∷ []) (added (fate_of d (reading v d) bs b w) s).rows
+    go (Err e) is n =
+        counted-other v d n bs b (row_at d n s.rows) (ap (part_of n) is) (h n)
+    go (Ok c) is n = at (same_name (name_of c) n) refl where
+      f : Fate
+      f = fate_by d (reading v d) bs b c
 
-  counted-part : (e : Direction) (q : NamedPart) → Some q ≡ piece_in (way v e) b
-      → Counted v (bs ++ b ∷ []) (rows_with (fate_of v bs b e q) rows)
-  counted-part e q some d n = go (same_direction e d && same_name q.name n) refl where
-    now : List Row
-    now = rows_with (fate_of v bs b e q) rows
+      at : (same : Bool) → same_name (name_of c) n ≡ same
+          → IsCounted v d n (bs ++ b ∷ []) (row_at d n (rows_with f s.rows))
+      at true same =
+          subst (λ (m : Name). IsCounted v d m (bs ++ b ∷ []) (row_at d m (rows_with f s.rows)))
+          (same_name-true (name_of c) n same) (counted-own v d c bs b s.rows (h (name_of c)))
+      at false other =
+          subst (λ (row : Row). IsCounted v d n (bs ++ b ∷ []) row)
+          (sym (at-other f s.rows d n
+          (ap (λ (t : Bool). same_direction d d && t) other ∙ and_none (same_direction d d))))
+          (counted-other v d n bs b (row_at d n s.rows)
+          (ap (part_of n) is
+          ∙ ap (λ (t : Bool). if t then Some c.piece else None) other) (h n))
 
-    go : (same : Bool) → (same_direction e d && same_name q.name n) ≡ same
-        → IsCounted v d n (bs ++ b ∷ []) (row_at d n now)
-    go true is =
-        let way = same_direction-true e d (and_left (same_direction e d) (same_name q.name n) is) in
-        let name = same_name-true q.name n
-        (and_right (same_direction e d) (same_name q.name n) is) in
-        subst (λ (k : Direction). IsCounted v k n (bs ++ b ∷ []) (row_at k n now)) way
-        (subst (λ (k : Name). IsCounted v e k (bs ++ b ∷ []) (row_at e k now)) name
-        (counted-own v e q bs b rows (h e q.name)))
-    go false is =
-        subst (λ (r : Row). IsCounted v d n (bs ++ b ∷ []) r)
-        (sym (at-other (fate_of v bs b e q) rows d n is))
-        (counted-other v d n bs b (row_at d n rows) (offered-apart e d n q some is) (h d n))
-
-  counted-none : piece_in (way v Up) b ≡ None → piece_in (way v Down) b ≡ None
-      → Counted v (bs ++ b ∷ []) rows
-  counted-none up down Up n =
-      counted-other v Up n bs b (row_at Up n rows)
-      (none_carried (of_name (way v Up) n) b up) (h Up n)
-  counted-none up down Down n =
-      counted-other v Down n bs b (row_at Down n rows)
-      (none_carried (of_name (way v Down) n) b down) (h Down n)
+  -- with what it carries in the other one
+  counted-apart : (e d : Direction) (cs : List (List ℕ)) → same_direction e d ≡ false
+      → CountedTo v d cs s.rows
+      → CountedTo v d cs (added (fate_in e (reading v e) bs b) s).rows
+  counted-apart e d cs other h = go (carried (reading v e) b) where
+    go : (w : Result Named Skip)
+        → CountedTo v d cs (added (fate_of e (reading v e) bs b w) s).rows
+    go (Err x) n = h n
+    go (Ok c) n =
+        subst (λ (row : Row). IsCounted v d n cs row)
+        (sym (at-other (fate_by e (reading v e) bs b c) s.rows d n
+        (ap (λ (t : Bool). t && same_name (name_of c) n) other))) (h n)
 
 -- ---- a piece more
 
-module _ (v : View) (bs : List (List ℕ)) (s : Seen) (h : Counted v bs s.rows) where
-  counted-piece : (k : PieceKind) (b : List ℕ)
-      → Counted v (bs ++ packet_before k b [])
-      (with_piece v bs s (record { kind = k; octets = b })).rows
-  counted-piece piece.Whole b =
-      go (piece_in (way v Up) b) (piece_in (way v Down) b) refl refl where
-        x : Piece
-        x = record { kind = piece.Whole; octets = b }
+-- of each transaction that of its row
+abbrev Counted : View → List (List ℕ) → List Row → Type 0
+Counted v bs rows = (d : Direction) → CountedTo v d bs rows
 
-        go : (u w : Option NamedPart) → piece_in (way v Up) b ≡ u → piece_in (way v Down) b ≡ w
-            → Counted v (bs ++ b ∷ [])
-            (carried v bs x (option_or (option_map (λ q. (Up, q)) u)
-            (option_map (λ q. (Down, q)) w)) s).rows
-        go (Some q) w up down = counted-part v bs b s.rows h Up q (sym up)
-        go None (Some q) up down = counted-part v bs b s.rows h Down q (sym down)
-        go None None up down = counted-none v bs b s.rows h up down
-  counted-piece piece.Damaged b =
-      subst (λ (cs : List (List ℕ)). Counted v cs s.rows) (sym (append-nil bs)) h
-  counted-piece piece.Stray b =
-      subst (λ (cs : List (List ℕ)). Counted v cs s.rows) (sym (append-nil bs)) h
+counted-piece : (v : View) (bs : List (List ℕ)) (s : Seen) (k : PieceKind) (b : List ℕ)
+    → Counted v bs s.rows
+    → Counted v (bs ++ packet_before k b [])
+    (with_piece v bs s (record { kind = k; octets = b })).rows
+counted-piece v bs s piece.Whole b h = go where
+  mid : Seen
+  mid = added (fate_in Up v.up bs b) s
+
+  go : Counted v (bs ++ b ∷ []) (added (fate_in Down v.down bs b) mid).rows
+  go Up =
+      counted-apart v bs b mid Down Up (bs ++ b ∷ []) refl (counted-to v bs b s Up (h Up))
+  go Down =
+      counted-to v bs b mid Down (counted-apart v bs b s Up Down bs refl (h Down))
+counted-piece v bs s piece.Damaged b h =
+    subst (λ (cs : List (List ℕ)). Counted v cs s.rows) (sym (append-nil bs)) h
+counted-piece v bs s piece.Stray b h =
+    subst (λ (cs : List (List ℕ)). Counted v cs s.rows) (sym (append-nil bs)) h
 
 counted-from : (v : View) (before : List Piece) (s : Seen) (xs : List Piece)
     → Counted v (packets_of before) s.rows
@@ -331,7 +320,7 @@ counted-from v before s (x ∷ xs) h =
     (seen_from v (before ++ x ∷ []) now xs).rows) (append_assoc before (x ∷ []) xs)
     (counted-from v (before ++ x ∷ []) now xs
     (subst (λ (bs : List (List ℕ)). Counted v bs now.rows) (sym (packets-next before x))
-    (counted-piece v (packets_of before) s h x.kind x.octets)))
+    (counted-piece v (packets_of before) s x.kind x.octets h)))
 
 pub counts_each : (v : View) (pieces : List Piece) → CountsEach v pieces
 counts_each v pieces =

@@ -1,48 +1,52 @@
 -- The marks of parts are the stream's parts, in the rows of their transactions.
-use Rattle.std.proofs.Common.{◌≡◌, ◌∙◌, ap, sym, refl, ℕ, zero, suc, ◌+◌, nat_lt, nat_le, ◌==◌, cond, Bool, true, false, ◌||◌, if◌then◌else◌, List, [], ◌∷◌, ◌++◌, filter, length, map, get_or, set, Option, Some, None, append_assoc, append-nil}
-use Rattle.std.specs.Option.{option_map}
+use Rattle.std.proofs.Common.{◌≡◌, ◌∙◌, ap, sym, refl, ℕ, zero, suc, ◌+◌, ◌-◌, nat_lt, ◌==◌, cond, Bool, true, false, ◌&&◌, ◌||◌, if◌then◌else◌, List, [], ◌∷◌, ◌++◌, filter, length, map, get_or, set, Option, Some, None, Ok, Err, Result, append_assoc, append-nil}
+use Rattle.std.specs.Prelude.{is_none}
+use Rattle.std.specs.Option.{option_map, option_map_or}
 use Rattle.std.proofs.lemmas.Option.{slice_get-get_or}
 use Rattle.lpt_packet.specs.declared.direction.Direction.{Direction}
-use Rattle.lpt_packet.specs.Names.{Name}
+use Rattle.lpt_packet.specs.declared.direction.Direction.TheVariants.{Up, Down}
 use Rattle.lpt_stream.specs.declared.piece_kind.PieceKind.{PieceKind}
 use Rattle.lpt_stream.specs.declared.piece_kind.PieceKind.TheVariants as piece
 use Rattle.lpt_stream.specs.Pieces.{Piece, keeps_step, packets_of, up_to_limit}
-use Rattle.lpt_each.specs.declared.waiting.Waiting.{Waiting}
-use Rattle.lpt_each.specs.News.{Event, News, Given, Dropped, Unfit, Overtaken}
+use Rattle.lpt_carried.specs.Carried.{Named, carried}
+use Rattle.lpt_carried.specs.declared.name.Name.{Name}
+use Rattle.lpt_carried.specs.declared.reading.Reading.{Reading}
+use Rattle.lpt_carried.specs.declared.skip.Skip.{Skip}
+use Rattle.lpt_layout_each.specs.declared.waiting.WaitingAs.{WaitingAs}
+use Rattle.lpt_glance.specs.declared.fate.Effect.{Effect}
+use Rattle.lpt_glance.specs.declared.fate.Effect.TheVariants as effect
+use Rattle.lpt_glance.specs.declared.fate.Fate.{Fate}
 use Rattle.lpt_glance.specs.declared.mark.Key.{Key}
 use Rattle.lpt_glance.specs.declared.mark.Key.TheVariants as key
 use Rattle.lpt_glance.specs.declared.mark.Mark.{Mark}
 use Rattle.lpt_glance.specs.declared.row.Row.{Row}
 use Rattle.lpt_glance.specs.declared.view.View.{View}
-use Rattle.lpt_glance.specs.Fates.{Fate, fresh, key_of_news, key_with, quiet_key}
-use Rattle.lpt_glance.specs.Laws.{Drawn, DrawsParts, drawn_of, named_at, parts_from, told_by}
-use Rattle.lpt_glance.specs.Looks.{Directed, Seen, bare, carried, code_of, fate_of, key_of, mark_of, nothing, opened, part_of, passed, row_of, rows_with, seen, seen_from, stepped, with_piece}
-use Rattle.lpt_glance.specs.Heads.{is_part}
+use Rattle.lpt_glance.specs.Fates.{fresh, key_of_effect, quiet_key}
+use Rattle.lpt_glance.specs.Laws.{Drawn, DrawsParts, drawn_by, named_at, part_at, parts_at, parts_from}
+use Rattle.lpt_glance.specs.Looks.{Seen, added, bare, code_of, fate_of, fate_to, is_part, key_of, mark_of, nothing, opened, passed, row_of, rows_with, seen, seen_from, stepped, with_piece}
 use Rattle.lpt_glance.proofs.RowLemmas.{row-own, row-within}
 
 -- ---- a part is drawn as one
 
 -- whether it is a part that is drawn so
 abbrev is_of_part : Key → Bool
-is_of_part k = nat_le (code_of k) 5
+is_of_part k = nat_lt (code_of k) 6
 
-quiet-part : (was now : Waiting) (n : ℕ) → is_of_part (quiet_key was now n) ≡ true
-quiet-part was now n = go (now.count == was.count) (nat_lt (was.highest + 1) n) where
+quiet-part : (was now : WaitingAs) (n : ℕ) → is_of_part (quiet_key was now n) ≡ true
+quiet-part was now n = go (now.count == was.count) (nat_lt was.highest (n - 1)) where
   go : (same far : Bool)
       → is_of_part (if same then key.Again else if far then key.Ahead else key.New) ≡ true
   go true far = refl
   go false true = refl
   go false false = refl
 
-news-part : (w : News) → is_of_part (key_of_news w) ≡ true
-news-part (Given m) = refl
-news-part (Dropped came ended) = refl
-news-part (Unfit e) = refl
-news-part (Overtaken came ended m) = refl
-
-key-part : (es : List Event) (k : Key) → is_of_part k ≡ true → is_of_part (key_with es k) ≡ true
-key-part [] k h = h
-key-part (e ∷ es) k h = news-part e.1
+key-part : (o : Option Effect) (k : Key) → is_of_part k ≡ true
+    → is_of_part (option_map_or key_of_effect o k) ≡ true
+key-part None k h = h
+key-part (Some effect.Whole) k h = refl
+key-part (Some effect.Against) k h = refl
+key-part (Some effect.Unfit) k h = refl
+key-part (Some effect.Overtakes) k h = refl
 
 -- ---- whose rows are
 
@@ -97,12 +101,15 @@ module _ (f : Fate) (rows : List Row) where
       ≡ Some (f.direction, f.name)
   own-with = named-with (row_of f.direction f.name rows) ∙ its-own f.direction f.name rows
 
+extends-added : (o : Option Fate) (s : Seen) → Extends s.rows (added o s).rows
+extends-added None s i t h = h
+extends-added (Some f) s i t h = extends-with f s.rows i t h
+
 extends-piece : (v : View) (bs : List (List ℕ)) (s : Seen) (x : Piece)
     → Extends s.rows (with_piece v bs s x).rows
-extends-piece v bs s x = go (part_of v x.kind x.octets) where
-  go : (o : Option Directed) → Extends s.rows (carried v bs x o s).rows
-  go None i t h = h
-  go (Some y) i t h = extends-with (fate_of v bs x.octets y.0 y.1) s.rows i t h
+extends-piece v bs s x i t h =
+    let up = fate_to v Up bs x.kind x.octets in
+    extends-added (fate_to v Down bs x.kind x.octets) (added up s) i t (extends-added up s i t h)
 
 extends-from : (v : View) (before : List Piece) (s : Seen) (xs : List Piece)
     → Extends s.rows (seen_from v before s xs).rows
@@ -111,85 +118,120 @@ extends-from v before s (x ∷ xs) i t h =
     extends-from v (before ++ x ∷ []) (with_piece v (packets_of before) s x) xs i t
     (extends-piece v (packets_of before) s x i t h)
 
--- ---- what marks tell of parts
+-- ---- what marks say of parts
 
--- what those of the marks tell that are parts', in these rows
-abbrev told : List Row → List Mark → List Drawn
-told rows ms = map (told_by rows) (filter is_part ms)
+-- what those of the marks say that are parts', in these rows
+abbrev said : List Row → List Mark → List Drawn
+said rows ms = map (drawn_by rows) (filter is_part ms)
+
+-- the same of a part, where there is one
+abbrev said_of : (place : ℕ) → Option Fate → List Drawn
+said_of place None = []
+said_of place (Some f) =
+    record { place = place; number = f.number; of = Some (f.direction, f.name) } ∷ []
 
 module _ (rows : List Row) where
-  told-append : (ms ns : List Mark) → told rows (ms ++ ns) ≡ told rows ms ++ told rows ns
-  told-append [] ns = refl
-  told-append (m ∷ ms) ns = go (is_part m) (told-append ms ns) where
-    go : (b : Bool) → told rows (ms ++ ns) ≡ told rows ms ++ told rows ns
-        → map (told_by rows) (cond b (m ∷ filter is_part (ms ++ ns)) (filter is_part (ms ++ ns)))
-        ≡ map (told_by rows) (cond b (m ∷ filter is_part ms) (filter is_part ms)) ++ told rows ns
-    go true rest = ap (λ xs. told_by rows m ∷ xs) rest
+  said-append : (ms ns : List Mark) → said rows (ms ++ ns) ≡ said rows ms ++ said rows ns
+  said-append [] ns = refl
+  said-append (m ∷ ms) ns = go (is_part m) (said-append ms ns) where
+    go : (b : Bool) → said rows (ms ++ ns) ≡ said rows ms ++ said rows ns
+        → map (drawn_by rows) (cond b (m ∷ filter is_part (ms ++ ns)) (filter is_part (ms ++ ns)))
+        ≡ map (drawn_by rows) (cond b (m ∷ filter is_part ms) (filter is_part ms)) ++ said rows ns
+    go true rest = ap (λ xs. drawn_by rows m ∷ xs) rest
     go false rest = rest
 
-  told-bare : (place : ℕ) (k : PieceKind) → told rows (bare place (key_of k) ∷ []) ≡ []
-  told-bare place piece.Whole = refl
-  told-bare place piece.Damaged = refl
-  told-bare place piece.Stray = refl
+  said-bare : (place : ℕ) (k : PieceKind) → said rows (bare place (key_of k) ∷ []) ≡ []
+  said-bare place piece.Whole = refl
+  said-bare place piece.Damaged = refl
+  said-bare place piece.Stray = refl
 
-  -- a piece that carries no part tells nothing
-  told-passed : (k : PieceKind) (many : ℕ) (s : Seen)
-      → told rows (passed k many s).marks ≡ told rows s.marks
-  told-passed k many s = go (s.in_step || keeps_step k) where
+  -- the end of a piece says nothing of a part
+  said-passed : (k : PieceKind) (many : ℕ) (none : Bool) (s : Seen)
+      → said rows (passed k many none s).marks ≡ said rows s.marks
+  said-passed k many none s = go (none && (s.in_step || keeps_step k)) where
     go : (b : Bool)
-        → told rows (if b then s.marks ++ bare s.octets (key_of k) ∷ [] else s.marks)
-        ≡ told rows s.marks
+        → said rows (if b then s.marks ++ bare s.octets (key_of k) ∷ [] else s.marks)
+        ≡ said rows s.marks
     go true =
-        told-append s.marks (bare s.octets (key_of k) ∷ [])
-        ∙ ap (λ xs. told rows s.marks ++ xs) (told-bare s.octets k) ∙ append-nil (told rows s.marks)
+        said-append s.marks (bare s.octets (key_of k) ∷ [])
+        ∙ ap (λ xs. said rows s.marks ++ xs) (said-bare s.octets k) ∙ append-nil (said rows s.marks)
     go false = refl
 
-  -- a mark that is a part's tells of it
-  told-one : (m : Mark) → is_part m ≡ true → told rows (m ∷ []) ≡ told_by rows m ∷ []
-  told-one m h = ap (λ b. map (told_by rows) (cond b (m ∷ []) [])) h
+  -- a mark that is a part's says so
+  said-one : (m : Mark) → is_part m ≡ true → said rows (m ∷ []) ≡ drawn_by rows m ∷ []
+  said-one m h = ap (λ b. map (drawn_by rows) (cond b (m ∷ []) [])) h
 
-  told-piece : (v : View) (bs : List (List ℕ)) (s : Seen) (x : Piece)
-      → Extends (with_piece v bs s x).rows rows
-      → told rows (with_piece v bs s x).marks
-      ≡ told rows s.marks ++ drawn_of s.octets (part_of v x.kind x.octets)
-  told-piece v bs s x = go (part_of v x.kind x.octets) where
-    go : (o : Option Directed) → Extends (carried v bs x o s).rows rows
-        → told rows (carried v bs x o s).marks ≡ told rows s.marks ++ drawn_of s.octets o
-    go None ext = told-passed x.kind (length x.octets) s ∙ sym (append-nil (told rows s.marks))
-    go (Some (d, q)) ext =
-        let f = fate_of v bs x.octets d q in
-        let m = mark_of s.octets f s.rows in
-        let r = get_or (opened d q.name s.rows) (row_of d q.name s.rows) (fresh d q.name) in
-        let part : is_part m ≡ true =
-        key-part f.told _ (quiet-part r.counts.left f.left f.number) in
-        let own = ext (row_of d q.name s.rows) (d, q.name) (own-with f s.rows) in
-        told-append s.marks (m ∷ [])
-        ∙ ap (λ xs. told rows s.marks ++ xs)
-        (told-one m part
-        ∙ (λ j. record { place = s.octets; number = q.number; of = own j } ∷ []))
+  said-added : (o : Option Fate) (s : Seen) → Extends (added o s).rows rows
+      → said rows (added o s).marks ≡ said rows s.marks ++ said_of s.octets o
+  said-added None s ext = sym (append-nil (said rows s.marks))
+  said-added (Some f) s ext =
+      let m = mark_of s.octets f s.rows in
+      let r = get_or (opened f.direction f.name s.rows) (row_of f.direction f.name s.rows)
+      (fresh f.direction f.name) in
+      let part : is_part m ≡ true = key-part f.effect _ (quiet-part r.left f.left f.number) in
+      let own = ext (row_of f.direction f.name s.rows) (f.direction, f.name) (own-with f s.rows) in
+      said-append s.marks (m ∷ [])
+      ∙ ap (λ xs. said rows s.marks ++ xs)
+      (said-one m part
+      ∙ (λ j. record { place = s.octets; number = f.number; of = own j } ∷ []))
+
+octets-added : (o : Option Fate) (s : Seen) → (added o s).octets ≡ s.octets
+octets-added None s = refl
+octets-added (Some f) s = refl
+
+said-fate : (place : ℕ) (d : Direction) (r : Reading) (bs : List (List ℕ)) (b : List ℕ)
+    (w : Result Named Skip) → said_of place (fate_of d r bs b w) ≡ part_at place d w
+said-fate place d r bs b (Ok c) = refl
+said-fate place d r bs b (Err e) = refl
+
+said-parts : (v : View) (place : ℕ) (bs : List (List ℕ)) (k : PieceKind) (b : List ℕ)
+    → said_of place (fate_to v Up bs k b) ++ said_of place (fate_to v Down bs k b)
+    ≡ parts_at v place k b
+said-parts v place bs piece.Whole b =
+    let up = said-fate place Up v.up bs b (carried v.up b) in
+    let down = said-fate place Down v.down bs b (carried v.down b) in
+    λ j. up j ++ down j
+said-parts v place bs piece.Damaged b = refl
+said-parts v place bs piece.Stray b = refl
+
+-- a piece's marks say just its parts
+said-piece : (rows : List Row) (v : View) (bs : List (List ℕ)) (s : Seen) (x : Piece)
+    → Extends (with_piece v bs s x).rows rows
+    → said rows (with_piece v bs s x).marks
+    ≡ said rows s.marks ++ parts_at v s.octets x.kind x.octets
+said-piece rows v bs s x ext =
+    let up = fate_to v Up bs x.kind x.octets in
+    let down = fate_to v Down bs x.kind x.octets in
+    let mid = added up s in
+    let ext_mid : Extends mid.rows rows = λ i t h. ext i t (extends-added down mid i t h) in
+    said-passed rows x.kind (length x.octets) (is_none up && is_none down) (added down mid)
+    ∙ said-added rows down mid ext
+    ∙ ap (λ at. said rows mid.marks ++ said_of at down) (octets-added up s)
+    ∙ ap (λ ys. ys ++ said_of s.octets down) (said-added rows up s ext_mid)
+    ∙ append_assoc (said rows s.marks) (said_of s.octets up) (said_of s.octets down)
+    ∙ ap (λ ys. said rows s.marks ++ ys) (said-parts v s.octets bs x.kind x.octets)
 
 octets-piece : (v : View) (bs : List (List ℕ)) (s : Seen) (x : Piece)
     → (with_piece v bs s x).octets ≡ up_to_limit (s.octets + length x.octets)
-octets-piece v bs s x = go (part_of v x.kind x.octets) where
-  go : (o : Option Directed)
-      → (carried v bs x o s).octets ≡ up_to_limit (s.octets + length x.octets)
-  go None = refl
-  go (Some y) = refl
+octets-piece v bs s x =
+    let up = fate_to v Up bs x.kind x.octets in
+    ap (λ n. up_to_limit (n + length x.octets))
+    (octets-added (fate_to v Down bs x.kind x.octets) (added up s) ∙ octets-added up s)
 
-told-from : (v : View) (before : List Piece) (s : Seen) (xs : List Piece) (rows : List Row)
+said-from : (v : View) (before : List Piece) (s : Seen) (xs : List Piece) (rows : List Row)
     → Extends (seen_from v before s xs).rows rows
-    → told rows (seen_from v before s xs).marks ≡ told rows s.marks ++ parts_from v s.octets xs
-told-from v before s [] rows ext = sym (append-nil (told rows s.marks))
-told-from v before s (x ∷ xs) rows ext =
+    → said rows (seen_from v before s xs).marks ≡ said rows s.marks ++ parts_from v s.octets xs
+said-from v before s [] rows ext = sym (append-nil (said rows s.marks))
+said-from v before s (x ∷ xs) rows ext =
     let bs = packets_of before in
     let now = with_piece v bs s x in
-    told-from v (before ++ x ∷ []) now xs rows ext
-    ∙ ap (λ at. told rows now.marks ++ parts_from v at xs) (octets-piece v bs s x)
+    said-from v (before ++ x ∷ []) now xs rows ext
+    ∙ ap (λ at. said rows now.marks ++ parts_from v at xs) (octets-piece v bs s x)
     ∙ ap (λ ys. ys ++ parts_from v (up_to_limit (s.octets + length x.octets)) xs)
-    (told-piece rows v bs s x
+    (said-piece rows v bs s x
     (λ i t h. ext i t (extends-from v (before ++ x ∷ []) now xs i t h)))
-    ∙ append_assoc (told rows s.marks) (drawn_of s.octets (part_of v x.kind x.octets))
+    ∙ append_assoc (said rows s.marks) (parts_at v s.octets x.kind x.octets)
     (parts_from v (up_to_limit (s.octets + length x.octets)) xs)
 
 pub draws_parts : (v : View) (pieces : List Piece) → DrawsParts v pieces
-draws_parts v pieces = told-from v [] nothing pieces (seen v pieces).rows (λ i t h. h)
+draws_parts v pieces = said-from v [] nothing pieces (seen v pieces).rows (λ i t h. h)

@@ -2,4 +2,4 @@ mod CountLemmas
 mod DrawnLemmas
 mod RowLemmas
 mod SeenLemmas
-mod WayLemmas
+mod ToldLemmas

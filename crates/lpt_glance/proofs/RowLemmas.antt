@@ -7,14 +7,16 @@ use Rattle.std.proofs.lemmas.List.Sums.{passes_at_first, prefix_len-le-length}
 use Rattle.std.proofs.lemmas.List.{get_or_default, length-set}
 use Rattle.std.proofs.Math.Seq.{get_or-append_seam}
 use Rattle.lpt_packet.proofs.BoolLemmas.{and_left, and_right}
-use Rattle.lpt_packet.proofs.NameLemmas.{same_name-refl, same_name-true}
 use Rattle.lpt_packet.specs.declared.direction.Direction.{Direction}
-use Rattle.lpt_packet.specs.Names.{Name, same_name}
+use Rattle.lpt_carried.proofs.NameLemmas.{same_name-refl, same_name-true}
+use Rattle.lpt_carried.specs.Carried.{same_name}
+use Rattle.lpt_carried.specs.declared.name.Name.{Name}
 use Rattle.lpt_events.proofs.LaneLemmas.{same_direction-refl, same_direction-true}
 use Rattle.lpt_events.specs.Lanes.{same_direction}
 use Rattle.lpt_glance.specs.declared.places.Places.{Places}
 use Rattle.lpt_glance.specs.declared.row.Row.{Row}
-use Rattle.lpt_glance.specs.Fates.{Fate, fresh}
+use Rattle.lpt_glance.specs.declared.fate.Fate.{Fate}
+use Rattle.lpt_glance.specs.Fates.{fresh}
 use Rattle.lpt_glance.specs.Looks.{advanced, is_of, opened, row_of, stepped}
 use Rattle.lpt_glance.specs.Places.{Finds, place_in}
 

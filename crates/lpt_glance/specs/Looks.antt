@@ -1,61 +1,69 @@
 -- What is seen of a stream.
-use Rattle.std.specs.Prelude.{ℕ, ◌+◌, ◌&&◌, ◌||◌, nat_lt, Bool, true, false, if◌then◌else◌, List, [], ◌∷◌, ◌++◌, length, slice_index_or, slice_set, Option, Some, None}
+use Rattle.std.specs.Prelude.{ℕ, ◌+◌, ◌&&◌, ◌||◌, nat_lt, Bool, true, false, if◌then◌else◌, List, [], ◌∷◌, ◌++◌, length, slice_index_or, slice_set, Option, Some, None, is_none, Result, Ok, Err}
 use Rattle.std.specs.List.{position_or_len}
-use Rattle.std.specs.Option.{option_map, option_or}
 use Rattle.lpt_packet.specs.declared.direction.Direction.{Direction}
 use Rattle.lpt_packet.specs.declared.direction.Direction.TheVariants.{Up, Down}
-use Rattle.lpt_packet.specs.Names.{Name, no_name, same_name}
 use Rattle.lpt_events.specs.Lanes.{same_direction}
-use Rattle.lpt_events.specs.NamedParts.{NamedPart}
+use Rattle.lpt_stream.specs.declared.cut.Cut.{Cut}
+use Rattle.lpt_stream.specs.declared.cut.Cut.TheVariants.{Sealed, Framed}
 use Rattle.lpt_stream.specs.declared.piece_kind.PieceKind.{PieceKind}
 use Rattle.lpt_stream.specs.declared.piece_kind.PieceKind.TheVariants as piece
 use Rattle.lpt_stream.specs.Pieces.{Piece, keeps_step, packets_of, up_to_limit}
-use Rattle.lpt_join.specs.declared.transaction.Transaction.{Transaction}
-use Rattle.lpt_join.specs.Offers.{named_in}
-use Rattle.lpt_each.specs.Streams.{told, waiting_of}
+use Rattle.lpt_carried.specs.Carried.{Named, carried, name_of, same_name}
+use Rattle.lpt_carried.specs.declared.name.Name.{Name}
+use Rattle.lpt_carried.specs.declared.reading.Reading.{Reading}
+use Rattle.lpt_carried.specs.declared.skip.Skip.{Skip}
+use Rattle.lpt_layout_each.specs.Streams.{told, waiting_of}
+use Rattle.lpt_glance.specs.declared.fate.Fate.{Fate}
 use Rattle.lpt_glance.specs.declared.mark.Key.{Key}
 use Rattle.lpt_glance.specs.declared.mark.Key.TheVariants.{New, Ahead, Again, Against, Whole, Unfit, NoPart, Damaged, Stray}
 use Rattle.lpt_glance.specs.declared.mark.Mark.{Mark}
 use Rattle.lpt_glance.specs.declared.row.Row.{Row}
 use Rattle.lpt_glance.specs.declared.view.View.{View}
-use Rattle.lpt_glance.specs.Fates.{Fate, counted, fate, fresh, key_by}
+use Rattle.lpt_glance.specs.Fates.{counted, effect_in, fresh, key_by}
 
--- ---- the part that a piece carries
+-- ---- the part that a packet carries
 
--- a transaction of this direction, as parts are read
-abbrev pub way : View → Direction → Transaction
-way v d = record {
+-- how those of a direction are read
+abbrev pub reading : View → Direction → Reading
+reading v Up = v.up
+reading v Down = v.down
+
+-- how the stream is cut: by checksums, where all of its packets have one
+abbrev pub cut : View → Cut
+cut v = if v.up.layout.has_checksum && v.down.layout.has_checksum then Sealed else Framed
+
+-- what a part that a packet carries behind others is to its row: by what is told with it of the
+-- messages of its name, and what is left of this behind it
+abbrev pub fate_by : Direction → Reading → (before : List (List ℕ)) → List ℕ → Named → Fate
+fate_by d r before b c = record {
   direction = d;
-  name = no_name;
-  apid = v.apid;
-  part_size = v.part_size;
-  size = v.size;
+  name = name_of c;
+  number = c.piece.number;
+  effect = effect_in (told r false (name_of c) before b);
+  left = waiting_of r false (before ++ b ∷ []) (name_of c);
 }
 
--- a part and the direction of its packet
-abbrev pub Directed : Type 0
-Directed = Direction × NamedPart
+-- the same where it carries this, or none
+abbrev pub fate_of : Direction → Reading → (before : List (List ℕ)) → List ℕ → Result Named Skip
+    → Option Fate
+fate_of d r before b (Err e) = None
+fate_of d r before b (Ok c) = Some (fate_by d r before b c)
 
--- the part that a piece carries in this direction, where it does
-abbrev pub part_to : View → Direction → PieceKind → List ℕ → Option Directed
-part_to v d k b = option_map (λ q. (d, q)) (named_in (way v d) k b)
+abbrev pub fate_in : Direction → Reading → (before : List (List ℕ)) → List ℕ → Option Fate
+fate_in d r before b = fate_of d r before b (carried r b)
 
--- the part that a piece carries, where it does
-abbrev pub part_of : View → PieceKind → List ℕ → Option Directed
-part_of v k b = option_or (part_to v Up k b) (part_to v Down k b)
+-- the same of a piece, in one direction
+abbrev pub fate_to : View → Direction → (before : List (List ℕ)) → PieceKind → List ℕ → Option Fate
+fate_to v d before piece.Whole b = fate_in d (reading v d) before b
+fate_to v d before piece.Damaged b = None
+fate_to v d before piece.Stray b = None
 
 -- ---- rows
 
--- what a part of a transaction that a packet carries behind others is to its row: by what is told
--- with it of the messages of its name, and what is left of this behind it
-abbrev pub fate_of : View → (before : List (List ℕ)) → List ℕ → Direction → NamedPart → Fate
-fate_of v before b d q =
-    fate d q.name q.number (told (way v d) false q.name before b)
-    (waiting_of (way v d) false (before ++ b ∷ []) q.name)
-
 -- a row with a part more, and how that is drawn
 abbrev pub advanced : Fate → Row → Row × Key
-advanced f r = (record r { counts = counted f r.counts }, key_by f r.counts.left)
+advanced f r = (counted f r, key_by f r.left)
 
 -- whether a row is this transaction's
 abbrev pub is_of : Direction → Name → Row → Bool
@@ -96,6 +104,14 @@ code_of NoPart = 6
 code_of Damaged = 7
 code_of Stray = 8
 
+-- whether a mark is a part's
+abbrev pub is_part : Mark → Bool
+is_part m = nat_lt (code_of m.key) 6
+
+-- whether it is a packet's
+abbrev pub is_packet : Mark → Bool
+is_packet m = nat_lt (code_of m.key) 7
+
 -- how a piece that carries no part is drawn
 abbrev pub key_of : PieceKind → Key
 key_of piece.Whole = NoPart
@@ -105,6 +121,15 @@ key_of piece.Stray = Stray
 -- what is drawn of one
 abbrev pub bare : (place : ℕ) → Key → Mark
 bare place key = record { place = place; key = key; row = 0; number = 0 }
+
+-- what is drawn of a part at a place
+abbrev pub mark_of : (place : ℕ) → Fate → List Row → Mark
+mark_of place f rows = record {
+  place = place;
+  key = (stepped f rows).1;
+  row = row_of f.direction f.name rows;
+  number = f.number;
+}
 
 -- ---- the stream
 
@@ -120,43 +145,34 @@ pub record Seen : Type 0 where
 abbrev pub nothing : Seen
 nothing = record { rows = []; marks = []; in_step = true; octets = 0 }
 
--- with a piece that carries no part; of octets that are no packet the first is drawn
-abbrev pub passed : PieceKind → (many : ℕ) → Seen → Seen
-passed k many s = record {
-  rows = s.rows;
+-- with a part, where there is one
+abbrev pub added : Option Fate → Seen → Seen
+added None s = s
+added (Some f) s = record s {
+  rows = rows_with f s.rows;
+  marks = s.marks ++ mark_of s.octets f s.rows ∷ [];
+}
+
+-- behind a piece of so many octets: one that carries no part is drawn, of octets that are no packet
+-- the first
+abbrev pub passed : PieceKind → (many : ℕ) → (is_bare : Bool) → Seen → Seen
+passed k many is_bare s = record s {
   marks =
-      if s.in_step || keeps_step k then s.marks ++ bare s.octets (key_of k) ∷ [] else s.marks;
+      if is_bare && (s.in_step || keeps_step k)
+      then s.marks ++ bare s.octets (key_of k) ∷ [] else s.marks;
   in_step = keeps_step k;
   octets = up_to_limit (s.octets + many);
 }
 
--- what is drawn of a part at a place
-abbrev pub mark_of : (place : ℕ) → Fate → List Row → Mark
-mark_of place f rows = record {
-  place = place;
-  key = (stepped f rows).1;
-  row = row_of f.direction f.name rows;
-  number = f.number;
-}
-
--- with a part
-abbrev pub added : Fate → (many : ℕ) → Seen → Seen
-added f many s = record {
-  rows = rows_with f s.rows;
-  marks = s.marks ++ mark_of s.octets f s.rows ∷ [];
-  in_step = true;
-  octets = up_to_limit (s.octets + many);
-}
-
--- with a piece that carries this part, or none, behind these packets
-abbrev pub carried : View → (before : List (List ℕ)) → Piece → Option Directed → Seen → Seen
-carried v before x None s = passed x.kind (length x.octets) s
-carried v before x (Some y) s =
-    added (fate_of v before x.octets y.0 y.1) (length x.octets) s
+-- with what a piece carries in each direction
+abbrev pub with_parts : Piece → (up down : Option Fate) → Seen → Seen
+with_parts x up down s =
+    passed x.kind (length x.octets) (is_none up && is_none down) (added down (added up s))
 
 -- with a piece
 abbrev pub with_piece : View → (before : List (List ℕ)) → Seen → Piece → Seen
-with_piece v before s x = carried v before x (part_of v x.kind x.octets) s
+with_piece v before s x =
+    with_parts x (fate_to v Up before x.kind x.octets) (fate_to v Down before x.kind x.octets) s
 
 -- with pieces behind these
 abbrev pub seen_from : View → (before : List Piece) → Seen → List Piece → Seen

@@ -3,7 +3,8 @@ use Rattle.std.specs.Prelude.{◌≡◌, ℕ, List, Option, position}
 use Rattle.std.specs.BTreeMap.{get}
 use Rattle.lpt_packet.specs.declared.direction.Direction.{Direction}
 use Rattle.lpt_packet.specs.declared.direction.Direction.TheVariants.{Up, Down}
-use Rattle.lpt_packet.specs.Names.{Name, name_cmp}
+use Rattle.lpt_carried.specs.declared.name.Name.{Name}
+use Rattle.lpt_layout_join.specs.Names.{name_cmp}
 use Rattle.lpt_glance.specs.declared.places.Places.{Places}
 use Rattle.lpt_glance.specs.declared.row.Row.{Row}
 use Rattle.lpt_glance.specs.Looks.{is_of}

@@ -1,22 +1,22 @@
 //! What is drawn of a stream.
 
-ghost use Rattle.std.specs.Prelude.{◌≡◌, ◌⊎◌, ◌∷◌, ◌++◌, [], ℕ, List, Some, length, IfErr, IfOk};
-ghost use Rattle.lpt_events.specs.NamedParts.{named};
-ghost use Rattle.lpt_part.specs.Parts.{piece};
-ghost use Rattle.lpt_stream.specs.Pieces.{IsSealed, packet_before};
-ghost use Rattle.lpt_stream.specs.Reads.{IsEndless, ReadsPieces};
+ghost use Rattle.std.specs.Prelude.{◌≡◌, ◌⊎◌, ◌&&◌, ◌∷◌, ◌++◌, [], ℕ, List, IfErr, IfOk, is_none, length};
+ghost use Rattle.lpt_packet.specs.declared.direction.Direction as direction;
+ghost use Rattle.lpt_stream.specs.declared.piece_kind.PieceKind.TheVariants.{Whole};
+ghost use Rattle.lpt_stream.specs.Pieces.{IsSealedBy, packet_before};
+ghost use Rattle.lpt_stream.specs.Reads.{IsEndlessBy};
 ghost use Rattle.lpt_text.specs.Streams.{ReadEnds};
-ghost use Rattle.lpt_join.specs.Offers.{piece_in};
-ghost use Rattle.lpt_glance.specs.Looks.{added, fate_of, passed, seen, way, with_piece};
-ghost use Rattle.lpt_glance.specs.Shown.{HoldsBoth, seen_of};
+ghost use Rattle.lpt_layout_join.specs.Writes.{ReadsCut};
+ghost use Rattle.lpt_glance.specs.Looks.{added, cut, fate_in, passed, seen, with_piece};
+ghost use Rattle.lpt_glance.specs.Shown.{Holds, seen_of};
 
-use crate::both::Both;
-use crate::carried::part_of;
+use crate::fate::{Fate, take_in};
 use crate::rows::Rows;
 use crate::{Key, Mark, View};
-use lpt_packet::{Direction, Name};
-use lpt_part::Part;
-use lpt_stream::{PieceKind, PieceTaker, each_piece};
+use lpt_carried::{Cut, Direction, PieceKind};
+use lpt_layout_each::HeldsAs;
+use lpt_layout_join::Nowhere;
+use lpt_stream::{Taker, take_pieces};
 use lpt_text::{Source, StreamFault};
 use std::alloc::{AllocError, Global};
 
@@ -24,10 +24,11 @@ use std::alloc::{AllocError, Global};
 /// the first of each run; and a row for each transaction.
 #[derive(Drop)]
 pub struct Glance {
-    // How parts are read, and the rows.
+    pub(crate) view: View,
+    // What is kept of each name, in each direction.
+    pub(crate) up: HeldsAs,
+    pub(crate) down: HeldsAs,
     pub(crate) rows: Rows,
-    // What is kept of each name.
-    pub(crate) both: Both,
     // The marks, in the order of the stream.
     pub(crate) marks: Vec<Mark>,
     // Whether what comes next stands behind a packet, or octets as long as one.
@@ -36,151 +37,211 @@ pub struct Glance {
     pub(crate) octets: u64,
 }
 
-/// Reads a stream of packets to its end, and gives what is drawn of it.
+/// Reads a stream of packets to its end, and gives what is drawn of it. If all packets have a
+/// checksum, the next one is found behind octets that are none; else lengths alone cut the stream.
 ///
 /// Errors: `Read` if a read failed, or if 2^64 - 1 pieces came; `Memory`.
 pub fn look<S: Source>(alloc: Global, view: View, source: &mut S) -> Result<Glance, StreamFault>
-    ensures shows { IfOk result (λ g. ReadsPieces (S.remaining source.old)
+    ensures shows { IfOk result (λ g. ReadsCut (cut view) (S.remaining source.old)
         (S.remaining source.new) (λ pieces. seen_of g ≡ seen view pieces)) }
-    ensures reader { ReadEnds (IsEndless (S.remaining source.old) (S.remaining source.new)) result
+    ensures view { IfOk result (λ g. g.view ≡ view) }
+    ensures reader { ReadEnds
+        (IsEndlessBy (cut view) (S.remaining source.old) (S.remaining source.new)) result
         (S.failed source.old) (S.failed source.new) }
     ensures fault { IfErr result (λ e. (e ≡ StreamFault.Read) ⊎ (e ≡ StreamFault.Memory)) }
 {
-    let (rows, both, marks) = (Rows::new(alloc, view), Both::new(alloc), Vec::new(alloc));
+    let (up, down) = (HeldsAs::new(alloc), HeldsAs::new(alloc));
+    let (rows, marks) = (Rows::new(alloc), Vec::new(alloc));
     let first = Glance {
+        view,
+        up,
+        down,
         rows,
-        both,
         marks,
         in_step: true,
         octets: 0,
     };
-    let glance = each_piece(alloc, source, first, &mut ())?;
-    Ok(glance)
+    let mut out = Nowhere { failed: false };
+    match take_pieces(alloc, 0, source, first, &mut out, &mut ()) {
+        Ok(glance) => Ok(glance),
+        // None ever fails so.
+        Err(StreamFault::Write) if out.failed => Err(StreamFault::Memory),
+        Err(fault) => Err(fault),
+    }
 }
 
-impl PieceTaker<()> for Glance {
-    ghost use Rattle.std.specs.Prelude.{◌≡◌, ⊤};
+impl Taker<Nowhere, ()> for Glance {
+    ghost use Rattle.std.specs.Prelude.{◌≡◌, [], true, ⊤};
     ghost use Rattle.lpt_text.specs.declared.fault.StreamFault.TheVariants as faults;
+    ghost use Rattle.lpt_glance.specs.Looks as looks;
     ghost use Rattle.lpt_glance.specs.Shown.{Shows};
 
-    ghost takes = { λ first now old new pieces. Shows first now pieces };
+    ghost cut = { λ g. looks.cut g.view };
 
-    ghost leaves = { λ first old new pieces. ⊤ };
+    ghost is_open = { λ _. true };
 
-    ghost fails = { λ e. e ≡ faults.Memory };
+    ghost takes = { λ from first now old new pieces. Shows first now pieces };
+
+    ghost leaves = { λ from first old new pieces. ⊤ };
+
+    ghost writes = { λ from first pieces. [] };
+
+    ghost others = { λ e. e ≡ faults.Memory };
+
+    fn cut(&self) -> Cut {
+        self.view.cut()
+    }
+
+    fn is_open(&self) -> bool {
+        true
+    }
 
     fn take(
         self,
         alloc: Global,
+        _out: &mut Nowhere,
         _lent: &mut (),
         _place: u64,
         kind: PieceKind,
         octets: &[u8],
     ) -> Result<Glance, StreamFault> {
-        match self.with_piece(alloc, kind, octets) {
-            Ok(glance) => Ok(glance),
-            Err(_) => Err(StreamFault::Memory),
-        }
+        let glance = self.with_piece(alloc, kind, octets)?;
+        Ok(glance)
     }
 }
 
 impl Glance {
-    // With a piece more. The only error is out of memory, here and below.
-    fn with_piece(self, alloc: Global, kind: PieceKind, octets: &[u8]) -> Result<Glance, AllocError>
-        requires sealed { IsSealed kind octets.now }
-        requires holds { (bs : List (List ℕ)) × HoldsBoth self.rows.view bs self.both }
-        ensures view { IfOk result (λ g. g.rows.view ≡ self.rows.view) }
-        ensures holds { (bs : List (List ℕ)) → HoldsBoth self.rows.view bs self.both
-            → IfOk result (λ g. HoldsBoth self.rows.view
-            (bs ++ packet_before kind octets.now []) g.both) }
-        ensures seen { (bs : List (List ℕ)) → HoldsBoth self.rows.view bs self.both
-            → IfOk result (λ g. seen_of g ≡ with_piece self.rows.view bs (seen_of self)
+    // With a piece more.
+    //
+    // Errors: `Memory`.
+    fn with_piece(
+        self,
+        alloc: Global,
+        kind: PieceKind,
+        octets: &[u8],
+    ) -> Result<Glance, StreamFault>
+        requires { IsSealedBy (cut self.view) kind octets.now }
+        ensures view { IfOk result (λ g. g.view ≡ self.view) }
+        ensures holds { (bs : List (List ℕ)) → Holds bs self
+            → IfOk result (Holds (bs ++ packet_before kind octets.now [])) }
+        ensures seen { (bs : List (List ℕ)) → Holds bs self
+            → IfOk result (λ g. seen_of g ≡ with_piece self.view bs (seen_of self)
             (record { kind = kind; octets = octets.now })) }
+        ensures fault { IfErr result (λ e. e ≡ StreamFault.Memory) }
     {
         let many = octets.len() as u64;
-        match part_of(&self.rows.view, kind, octets) {
-            None => self.pass(kind, many),
-            Some((direction, name, part)) => self.add(alloc, direction, name, &part, many),
+        match kind {
+            PieceKind::Whole => {
+                let (glance, is_bare) = self.with_packet(alloc, octets)?;
+                Ok(glance.pass(PieceKind::Whole, many, is_bare)?)
+            }
+            PieceKind::Damaged => Ok(self.pass(PieceKind::Damaged, many, true)?),
+            PieceKind::Stray => Ok(self.pass(PieceKind::Stray, many, true)?),
         }
     }
 
-    // With a piece of so many octets that carries no part.
-    fn pass(self, kind: PieceKind, many: u64) -> Result<Glance, AllocError>
-        ensures view { IfOk result (λ g. g.rows.view ≡ self.rows.view) }
-        ensures both { IfOk result (λ g. g.both ≡ self.both) }
-        ensures seen { IfOk result (λ g. seen_of g ≡ passed kind many (seen_of self)) }
+    // With the parts that a packet carries, and whether it carries none.
+    //
+    // Errors: `Memory`.
+    fn with_packet(self, alloc: Global, octets: &[u8]) -> Result<(Glance, bool), StreamFault>
+        requires { IsSealedBy (cut self.view) Whole octets.now }
+        ensures view { IfOk result (λ r. r.0.view ≡ self.view) }
+        ensures holds { (bs : List (List ℕ)) → Holds bs self
+            → IfOk result (λ r. Holds (bs ++ octets.now ∷ []) r.0) }
+        ensures seen { (bs : List (List ℕ)) → Holds bs self → IfOk result (λ r. seen_of r.0
+            ≡ added (fate_in Direction.Down self.view.down bs octets.now)
+            (added (fate_in Direction.Up self.view.up bs octets.now) (seen_of self))) }
+        ensures bare { (bs : List (List ℕ)) → Holds bs self → IfOk result (λ r. r.1
+            ≡ (is_none (fate_in Direction.Up self.view.up bs octets.now)
+            && is_none (fate_in Direction.Down self.view.down bs octets.now))) }
+        ensures fault { IfErr result (λ e. e ≡ StreamFault.Memory) }
     {
         let Glance {
+            view,
+            up,
+            down,
             rows,
-            both,
+            marks,
+            in_step,
+            octets: at,
+        } = self;
+        let cut = view.cut();
+        let (up, above) = take_in(alloc, Direction::Up, &view.up, cut, up, at, octets)?;
+        let (down, below) = take_in(alloc, Direction::Down, &view.down, cut, down, at, octets)?;
+        let glance = Glance {
+            view,
+            up,
+            down,
+            rows,
+            marks,
+            in_step,
+            octets: at,
+        };
+        let is_bare = above.is_none() && below.is_none();
+        Ok((glance.add(above)?.add(below)?, is_bare))
+    }
+
+    // With a part, if there is one. The only error is out of memory.
+    fn add(self, fate: Option<Fate>) -> Result<Glance, AllocError>
+        ensures view { IfOk result (λ g. g.view ≡ self.view) }
+        ensures up { IfOk result (λ g. g.up ≡ self.up) }
+        ensures down { IfOk result (λ g. g.down ≡ self.down) }
+        ensures seen { IfOk result (λ g. seen_of g ≡ added fate (seen_of self)) }
+    {
+        let Some(fate) = fate else {
+            return Ok(self);
+        };
+        let Glance {
+            view,
+            up,
+            down,
+            rows,
             mut marks,
             in_step,
             octets,
         } = self;
+        let (rows, row, key) = rows.take(&fate)?;
+        marks.push(Mark {
+            place: octets,
+            key,
+            row,
+            number: fate.number,
+        })?;
+        Ok(Glance {
+            view,
+            up,
+            down,
+            rows,
+            marks,
+            in_step,
+            octets,
+        })
+    }
+
+    // Behind a piece of so many octets, which carries no part or some. The only error is out of
+    // memory.
+    fn pass(self, kind: PieceKind, many: u64, is_bare: bool) -> Result<Glance, AllocError>
+        ensures view { IfOk result (λ g. g.view ≡ self.view) }
+        ensures up { IfOk result (λ g. g.up ≡ self.up) }
+        ensures down { IfOk result (λ g. g.down ≡ self.down) }
+        ensures seen { IfOk result (λ g. seen_of g ≡ passed kind many is_bare (seen_of self)) }
+    {
+        let mut glance = self;
         let (key, stays) = match kind {
             PieceKind::Whole => (Key::NoPart, true),
             PieceKind::Damaged => (Key::Damaged, true),
             PieceKind::Stray => (Key::Stray, false),
         };
-        if in_step || stays {
-            marks.push(Mark {
-                place: octets,
+        if is_bare && (glance.in_step || stays) {
+            glance.marks.push(Mark {
+                place: glance.octets,
                 key,
                 row: 0,
                 number: 0,
             })?;
         }
-        Ok(Glance {
-            rows,
-            both,
-            marks,
-            in_step: stays,
-            octets: octets.saturating_add(many),
-        })
-    }
-
-    // With a part of this transaction, in a packet of so many octets.
-    fn add(
-        self,
-        alloc: Global,
-        direction: Direction,
-        name: Name,
-        part: &Part<'_>,
-        many: u64,
-    ) -> Result<Glance, AllocError>
-        requires holds { (bs : List (List ℕ)) × HoldsBoth self.rows.view bs self.both }
-        requires id { part.now.id ≡ name.id }
-        requires size { part.now.p ≡ self.rows.view.part_size }
-        ensures view { IfOk result (λ g. g.rows.view ≡ self.rows.view) }
-        ensures holds { (bs : List (List ℕ)) (b : List ℕ) → HoldsBoth self.rows.view bs self.both
-            → Some (named name.source (piece part.now)) ≡ piece_in (way self.rows.view direction) b
-            → IfOk result (λ g. HoldsBoth self.rows.view (bs ++ b ∷ []) g.both) }
-        ensures seen { (bs : List (List ℕ)) (b : List ℕ) → HoldsBoth self.rows.view bs self.both
-            → Some (named name.source (piece part.now)) ≡ piece_in (way self.rows.view direction) b
-            → IfOk result (λ g. seen_of g ≡ added (fate_of self.rows.view bs b direction
-            (named name.source (piece part.now))) many (seen_of self)) }
-    {
-        let Glance {
-            rows,
-            both,
-            mut marks,
-            in_step: _,
-            octets,
-        } = self;
-        let (both, told, left) = both.take(alloc, &rows.view, direction, name, octets, part)?;
-        let (rows, row, key) = rows.take(direction, name, part.number, &told, left)?;
-        marks.push(Mark {
-            place: octets,
-            key,
-            row,
-            number: part.number,
-        })?;
-        Ok(Glance {
-            rows,
-            both,
-            marks,
-            in_step: true,
-            octets: octets.saturating_add(many),
-        })
+        glance.in_step = stays;
+        glance.octets = glance.octets.saturating_add(many);
+        Ok(glance)
     }
 }

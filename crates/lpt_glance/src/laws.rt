@@ -12,9 +12,9 @@ pub fn each_part_is_drawn_once()
     ensures { (v : View) (pieces : List Piece) → DrawsParts v pieces }
 {}
 
-/// By the rule of `lpt_each` the row of a transaction counts the messages that packets give out of
-/// its name, each a packet of its direction, and how often they give parts up; and what is open in
-/// it is what they leave. Of a transaction that has no row they give out and leave nothing.
+/// By the rule of `lpt_layout_each` the row of a transaction counts the messages that packets give
+/// out of its name, each a packet of its direction, and how often they give parts up; and what is
+/// open in it is what they leave. Of a transaction that has no row they give out and leave nothing.
 pub fn rows_count_what_is_given()
     ensures { (v : View) (pieces : List Piece) → CountsEach v pieces }
 {}

@@ -36,7 +36,7 @@ pub struct Mark {
     /// In which row, of those of the transactions; 0 for what is no part.
     pub row: usize,
     /// The part's number; 0 for what is no part.
-    pub number: u16,
+    pub number: u32,
 }
 
 impl Key {

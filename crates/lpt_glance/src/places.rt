@@ -4,10 +4,12 @@ ghost use Rattle.std.specs.Prelude.{◌≡◌, [], ◌&&◌, false, Some, IfOk};
 ghost use Rattle.std.specs.BTreeMap.{get};
 ghost use Rattle.lpt_events.specs.Lanes.{same_direction};
 ghost use Rattle.lpt_packet.specs.declared.direction.Direction as declared;
-ghost use Rattle.lpt_packet.specs.Names as names;
+ghost use Rattle.lpt_carried.specs.Carried.{same_name};
+ghost use Rattle.lpt_carried.specs.declared.name.Name as names;
+ghost use Rattle.lpt_layout_join.specs.Names.{name_cmp};
 ghost use Rattle.lpt_glance.specs.Places.{place_in, Finds};
 
-use lpt_packet::{Direction, Name};
+use lpt_carried::{Direction, Name};
 use std::alloc::{AllocError, Global};
 use std::collections::BTreeMap;
 
@@ -49,7 +51,7 @@ impl Places {
     ) -> Result<Places, AllocError>
         ensures there { IfOk result (λ p. place_in p direction name ≡ Some place) }
         ensures others { IfOk result (λ p. (d : declared.Direction) (n : names.Name)
-            → (same_direction direction d && names.same_name name n) ≡ false
+            → (same_direction direction d && same_name name n) ≡ false
             → place_in p d n ≡ place_in self d n) }
     {
         let Places { up, down } = self;
@@ -72,9 +74,9 @@ fn with_place(
     name: Name,
     place: usize,
 ) -> Result<BTreeMap<Name, usize>, AllocError>
-    ensures there { IfOk result (λ p. get names.name_cmp p name ≡ Some place) }
-    ensures others { IfOk result (λ p. (n : names.Name) → names.same_name name n ≡ false
-        → get names.name_cmp p n ≡ get names.name_cmp places n) }
+    ensures there { IfOk result (λ p. get name_cmp p name ≡ Some place) }
+    ensures others { IfOk result (λ p. (n : names.Name) → same_name name n ≡ false
+        → get name_cmp p n ≡ get name_cmp places n) }
 {
     places.insert(name, place)?;
     Ok(places)

@@ -1,13 +1,28 @@
 //! How the parts of a stream are read.
 
-ghost use Rattle.lpt_part.specs.Splitting.{IsPartSize};
+ghost use Rattle.std.specs.Prelude.{◌≡◌};
+ghost use Rattle.lpt_glance.specs.Looks.{cut};
+
+use lpt_carried::{Cut, Reading};
 
 /// How the parts of a stream are read, those of both directions.
 #[derive(Clone, Copy)]
 pub struct View {
-    /// The application process identifier of their packets.
-    pub apid: u16,
-    /// The part size in octets, 4 to 1024.
-    pub part_size: u32,
-    ghost size: { IsPartSize part_size },
+    /// Those that go up.
+    pub up: Reading,
+    /// Those that come down.
+    pub down: Reading,
+}
+
+impl View {
+    // How the stream is cut: by checksums, if all of its packets have one.
+    pub(crate) fn cut(&self) -> Cut
+        ensures { result ≡ cut self.now }
+    {
+        if self.up.layout.has_checksum && self.down.layout.has_checksum {
+            Cut::Sealed
+        } else {
+            Cut::Framed
+        }
+    }
 }

@@ -1,10 +1,8 @@
 -- The row of a part's transaction, with the part.
 use Rattle.std.proofs.Common.{◌≡◌, ◌∙◌, ◌<◌, ap, sym, refl, arith, rules, length, slice_set}
 use Rattle.std.specs.Vec.{vec_len}
-use Rattle.lpt_each.specs.Helds.{events_of}
 use Rattle.lpt_glance.specs.declared.mark.Key.{Key}
 use Rattle.lpt_glance.specs.declared.row.Row.{Row}
-use Rattle.lpt_glance.specs.Fates.{fate}
 use Rattle.lpt_glance.specs.Looks.{stepped}
 use Rattle.lpt_glance.proofs.RowLemmas.{finds-set, its-name, its-place, its-step}
 use Rattle.lpt_glance.proofs.rows.Rows.take.Goals as goal
@@ -13,7 +11,7 @@ pub index_mut-requires : goal.index_mut-requires
 index_mut-requires c =
     let now = c.in_ok-rows.rows.list in
     let lt : c.in_ok-rows.row < length now.items =
-    its-place c.args.direction c.args.name c.args.self.list.items now.items
+    its-place c.args.fate.now.direction c.args.fate.now.name c.args.self.list.items now.items
     c.in_ok-rows.row c.in_ok-rows.ensures.rows c.in_ok-rows.ensures.row in
     let many : vec_len now ≡ length now.items = search rules in
     omega (arith, lt, many)
@@ -24,13 +22,14 @@ invariant_of-result c =
     let i = c.in_ok-rows.row in
     let x = c.index_mut.result.now in
     let y = c.take-key.new.self in
-    let its = its-name c.args.direction c.args.name c.args.self.list.items now.list.items i
+    let its = its-name c.args.fate.now.direction c.args.fate.now.name c.args.self.list.items
+    now.list.items i
     c.in_ok-rows.ensures.rows c.in_ok-rows.ensures.row in
     let step = c.take-key.ensures.row in
     let there = c.index_mut.ensures.value in
-    let way : y.direction ≡ c.args.direction =
+    let way : y.direction ≡ c.args.fate.now.direction =
     ap (λ (r : Row). r.direction) step ∙ ap (λ (r : Row). r.direction) there ∙ (its x).0 in
-    let name : y.name ≡ c.args.name =
+    let name : y.name ≡ c.args.fate.now.name =
     ap (λ (r : Row). r.name) step ∙ ap (λ (r : Row). r.name) there ∙ (its x).1 in
     record {
       found = finds-set now.places now.list.items i y now.found (way ∙ sym (its y).0)
@@ -39,10 +38,10 @@ invariant_of-result c =
 
 pub returns-clause-rows : goal.returns-clause-rows
 returns-clause-rows c =
-    let d = c.args.direction in
-    let n = c.args.name in
+    let d = c.args.fate.now.direction in
+    let n = c.args.fate.now.name in
     let rows = c.args.self.list.items in
-    let f = fate d n c.args.number (events_of c.args.told.now) c.args.left in
+    let f = c.args.fate.now in
     let step = its-step d n rows c.in_ok-rows.rows.list.items c.in_ok-rows.row
     c.in_ok-rows.ensures.rows c.in_ok-rows.ensures.row f c.index_mut.result.now refl refl
     c.index_mut.ensures.value in
@@ -52,10 +51,10 @@ returns-clause-rows c =
 
 pub returns-clause-key : goal.returns-clause-key
 returns-clause-key c =
-    let d = c.args.direction in
-    let n = c.args.name in
+    let d = c.args.fate.now.direction in
+    let n = c.args.fate.now.name in
     let rows = c.args.self.list.items in
-    let f = fate d n c.args.number (events_of c.args.told.now) c.args.left in
+    let f = c.args.fate.now in
     let step = its-step d n rows c.in_ok-rows.rows.list.items c.in_ok-rows.row
     c.in_ok-rows.ensures.rows c.in_ok-rows.ensures.row f c.index_mut.result.now refl refl
     c.index_mut.ensures.value in
