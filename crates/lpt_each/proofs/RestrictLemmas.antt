@@ -13,7 +13,7 @@ use Rattle.lpt_each.specs.Eaches.{Course, held, listed, news_from, nothing, step
 use Rattle.lpt_each.specs.Laws.{news_of_name}
 use Rattle.lpt_each.specs.News.{Event, News}
 use Rattle.lpt_each.specs.Streams.{events_from, of, told, told_by}
-use Rattle.lpt_each.proofs.HeldsLemmas.{held_from-next}
+use Rattle.lpt_each.proofs.SieveLemmas.{held_from-next}
 
 -- of one name
 mine : (m n : Name) (ws : List News) → same_name m n ≡ true → news_of_name n (of m ws) ≡ ws

@@ -1,78 +1,64 @@
--- What a part makes of those that came in their order.
-use Rattle.std.proofs.Common.{◌≡◌, ◌≢◌, ◌∙◌, ap, sym, refl, inl, inr, ◌⊎◌, ℕ, ◌+◌, ◌==◌, ◌<◌, ◌≤◌, nat_le, Bool, true, false, ◌||◌, if◌then◌else◌, List, Option, Some, None, arith}
+-- Parts that came in their order, with one more: none of them is a last one.
+use Rattle.std.proofs.Common.{◌≡◌, ◌∙◌, ap, sym, refl, inl, inr, ◌⊎◌, ℕ, ◌+◌, ◌==◌, nat_le, Bool, true, false, ◌||◌, if◌then◌else◌, List, Option, Some, None}
 use Rattle.std.specs.Prelude.{is_some}
 use Rattle.std.specs.FinMap as map
-use Rattle.lpt_packet.proofs.BoolLemmas.{le_true, true_le}
-use Rattle.lpt_packet.proofs.EntryLemmas.{passes_none}
+use Rattle.lpt_packet.proofs.EntryLemmas.{passes_none, none_passes, passes_some}
 use Rattle.lpt_packet.proofs.Readings.{eq_true}
 use Rattle.lpt_reception.specs.Received.{Kept, Parts, contradicts, is_last, is_whole, no_parts, with_part}
 use Rattle.lpt_reception.proofs.MessageLemmas.{whole_has}
-use Rattle.lpt_join.specs.declared.joining.Joining.{Joining}
-use Rattle.lpt_join.specs.declared.joining.Joining.TheVariants as joining
-use Rattle.lpt_join.specs.declared.transaction.Transaction.{Transaction}
-use Rattle.lpt_join.specs.Gatherings.{state}
-use Rattle.lpt_join.specs.Joins.{Joined, Missing, Complete, Broken, added, join_part, kept_by}
-use Rattle.lpt_join.proofs.SetLemmas.{get_none, not_none}
-use Rattle.lpt_each.specs.declared.run.Run as code
-use Rattle.lpt_each.specs.Eaches.{Ends, Goes, Run, higher, no_run, run_before, run_by, run_turn}
-use Rattle.lpt_each.specs.Helds.{IsRun}
+use Rattle.lpt_join.specs.Joins.{Joined, Missing, Complete, Broken, added, kept_by}
+use Rattle.lpt_join.proofs.SetLemmas.{get_none, not_none, added_cases, get_other, get_same}
+use Rattle.lpt_each.specs.Eaches.{Ends, Goes, Run, higher, no_run, run_before, run_by, run_turn, is_empty}
 use Rattle.lpt_each.specs.News.{has_end}
-use Rattle.lpt_each.proofs.CameLemmas.{end_more}
+use Rattle.std.specs.Ordering.{nat_cmp}
+use Rattle.std.proofs.lemmas.Bool.Decides.{eqb_tells}
 
-not_le : (a b : ℕ) → b < a → nat_le a b ≡ false
-not_le a b h = go (nat_le a b) refl where
-  go : (c : Bool) → nat_le a b ≡ c → c ≡ false
-  go false e = refl
-  go true e = let le = true_le a b e in absurd (omega (arith, le, h))
+no_true : true ≡ false → ⊥
+no_true h = cc
 
--- parts are missing
-pub missing_state : (j : Joining)
-    → ((m : List ℕ) → j ≢ joining.Complete m)
-    → j ≢ joining.BrokenOff
-    → (s : Parts) × (state j ≡ Missing s)
-missing_state joining.Nothing whole broken = (no_parts, refl)
-missing_state (joining.Missing f) whole broken = (f.parts, refl)
-missing_state (joining.Complete m) whole broken = absurd (whole m refl)
-missing_state joining.BrokenOff whole broken = absurd (broken refl)
+-- there are none among no parts
+pub empty-none : is_empty no_parts ≡ true
+empty-none = eq_true (map.len no_parts) 0 (map.len-empty nat_cmp Kept)
 
-pub before-one : (r : Run) (n : ℕ) → n ≡ 1 → no_run ≡ run_before r n
-before-one r n h = sym (ap (λ (b : Bool). if b then no_run else r) (eq_true n 1 h))
+-- ---- a last part among others
 
-pub before-more : (r : Run) (n : ℕ) → (n == 1) ≡ false → r ≡ run_before r n
-before-more r n h = sym (ap (λ (b : Bool). if b then no_run else r) h)
+module _ (s : Parts) (n : ℕ) (x : Kept) (absent : map.get s n ≡ None) where
+  -- what isn't the part was there before
+  still : (q : ℕ) (y : Kept) → map.get s q ≡ Some y → map.get (with_part s n x) q ≡ Some y
+  still q y at = elim (eqb_tells q n) [
+    | inl w ↦
+        let none : map.get s q ≡ None = ap (λ i. map.get s i) w.1 ∙ absent in
+        absurd cc
+    | inr w ↦ get_other s n x q w.1 ∙ at
+  ]
 
-module _ (t : Transaction) (g : code.Run) (r : Run) (x : ℕ
-    × Kept) (h : IsRun t g (run_before r x.0)) where
-  -- a part beyond the next
-  pub run-past : (g.count + 1 < x.0) → Goes no_run ≡ run_turn r x
-  unfolding run_turn
-  run-past past =
-      sym (ap (λ (b : Bool). if b then run_by (run_before r x.0).count x
-      (added (run_before r x.0).parts x.0 x.1)
-      else Goes no_run) (ap (λ (k : ℕ). nat_le x.0 (k + 1)) (sym h.count)
-      ∙ not_le x.0 (g.count + 1) past))
+  end_by : (e old : Bool)
+      → is_last x ≡ e
+      → has_end s ≡ old
+      → has_end (with_part s n x) ≡ (e || old)
+  end_by true old is was =
+      not_none (λ e. is_last e.1) (with_part s n x) n x (has_end (with_part s n x)) refl
+      (get_same s n x n refl) is
+  end_by false true is was =
+      let w = passes_some (λ e. is_last e.1) (map.entries s) (map.entries_sorted s) was in
+      not_none (λ e. is_last e.1) (with_part s n x) w.0 w.1 (has_end (with_part s n x)) refl
+      (still w.0 w.1 (map.get-entries s w.0 ∙ w.2)) w.3
+  end_by false false is was =
+      passes_none (λ e. is_last e.1) (map.entries (with_part s n x))
+      (map.entries_sorted (with_part s n x))
+      (λ q y at. elim (added_cases s n x q y (map.get-entries (with_part s n x) q ∙ at)) [
+        | inl w ↦ ap is_last w.1 ∙ is
+        | inr w ↦ none_passes (λ e. is_last e.1) (map.entries s) q y was (sym (map.get-entries s q)
+            ∙ w.1)
+      ])
 
-  -- the next, or one of them again
-  pub run-adds : (j : Joined)
-      → x.0 ≤ g.count + 1
-      → j ≡ join_part (state g.joining) (Some x)
-      → run_by g.count x j ≡ run_turn r x
-  unfolding run_turn
-  run-adds j next is =
-      (λ i. run_by (h.count i) x ((is ∙ ap (λ (k : Joined). join_part k (Some x)) h.parts) i))
-      ∙ sym (ap
-      (λ (b : Bool). if b then run_by (run_before r x.0).count x
-      (added (run_before r x.0).parts x.0 x.1)
-      else Goes no_run) (ap (λ (k : ℕ). nat_le x.0 (k + 1)) (sym h.count)
-      ∙ le_true x.0 (g.count + 1) next))
+  pub end_more : has_end (with_part s n x) ≡ (is_last x || has_end s)
+  end_more = end_by (is_last x) (has_end s) refl refl
 
 -- ---- no last part is among them
 
 same_missing : (a b : Parts) → Missing a ≡ Missing b → a ≡ b
 same_missing a b h = cc
-
-no_true : true ≡ false → ⊥
-no_true h = cc
 
 no_kept : (o : Option Kept) → is_some o ≡ false → o ≡ None
 no_kept None h = refl

@@ -17,8 +17,7 @@ use Rattle.lpt_each.specs.Eaches.{Course, Ends, Goes, Held, Run, RunTurn, Turn, 
 use Rattle.lpt_each.specs.Laws.{FirstBeforeLast, IsSentBy, Sends}
 use Rattle.lpt_each.specs.News.{News, Given, dropped}
 use Rattle.lpt_each.proofs.OwnLemmas.{gathered-of}
-use Rattle.lpt_each.proofs.RunLemmas.{IsInner, none_inner, run-cases}
-use Rattle.lpt_each.proofs.TurnLemmas.{empty-none}
+use Rattle.lpt_each.proofs.RunLemmas.{IsInner, empty-none, none_inner, run-cases}
 use Rattle.lpt_each.proofs.SieveLemmas.{Messages, Splits, all_belong-append, came-append, held_from-append, is_again, kept, news_from-append, none-from, set_of, sieved, sieved-belong, sieved-first, sieved-more, sieved-none, still_missing}
 
 -- ---- turns

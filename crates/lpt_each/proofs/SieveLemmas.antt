@@ -70,6 +70,10 @@ held_from-append t any h [] cs = refl
 held_from-append t any h (b ∷ bs) cs =
     held_from-append t any (step_of t any h (offered t b)).0 bs cs
 
+pub held_from-next : (t : Transaction) (any : Bool) (h : Course) (bs : List (List ℕ)) (b : List ℕ)
+    → held_from t any h (bs ++ b ∷ []) ≡ (step_of t any (held_from t any h bs) (offered t b)).0
+held_from-next t any h bs b = held_from-append t any h bs (b ∷ [])
+
 pub news_from-append : (t : Transaction) (any : Bool) (h : Course) (bs cs : List (List ℕ))
     → news_from t any h (bs ++ cs)
     ≡ news_from t any h bs ++ news_from t any (held_from t any h bs) cs

@@ -1,6 +1,4 @@
 pub mod Eaches
-pub mod Helds
 pub mod Laws
 pub mod News
 pub mod Streams
-pub mod Tellers

@@ -1,5 +1,5 @@
 -- What becomes of the parts of a name.
-use Rattle.std.specs.Prelude.{◌≡◌, ℕ, Bool, List, [], ◌∷◌, ◌++◌, Option, Some, None, is_some, ⊤}
+use Rattle.std.specs.Prelude.{ℕ, Bool, List, [], ◌∷◌, is_some}
 use Rattle.std.specs.List.{flat_map, list_any}
 use Rattle.std.specs.FinMap as map
 use Rattle.lpt_packet.specs.Names.{Name}
@@ -41,16 +41,3 @@ messages_in ws = flat_map messages_of ws
 -- news of a name
 abbrev pub Event : Type 0
 Event = Name × News
-
--- what is known to have been told grows by these
-abbrev pub Hears : (old new : Option (List Event)) → List Event → Type 0
-Hears None new es = ⊤
-Hears (Some xs) None es = ⊥
-Hears (Some xs) (Some ys) es = ys ≡ xs ++ es
-
--- by a front part of these
-abbrev pub HearsPart : (old new : Option (List Event)) → List Event → Type 0
-HearsPart None new es = ⊤
-HearsPart (Some xs) None es = ⊥
-HearsPart (Some xs) (Some ys) es =
-    (front : List Event) × (rest : List Event) × (es ≡ front ++ rest) × (ys ≡ xs ++ front)
