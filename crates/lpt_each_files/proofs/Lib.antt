@@ -1,0 +1,5 @@
+mod CountLemmas
+mod EndLemmas
+mod FileLemmas
+mod TakeLemmas
+mod WholeLemmas
