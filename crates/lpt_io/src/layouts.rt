@@ -6,8 +6,9 @@ ghost use Rattle.lpt_part.specs.Splitting.{IsPartSize};
 
 use crate::configuration::read_file;
 use crate::end::{Failure, tell_place};
-use lpt_carried::Layouts;
+use lpt_carried::{Layouts, Reading};
 use lpt_layout_file::{read_layouts, why_refused};
+use lpt_packet::Direction;
 use std::alloc::{AllocError, Global};
 use std::rt::Files;
 use std::str;
@@ -67,5 +68,21 @@ pub fn own_or_read(
     match path {
         Some(path) => layouts_at(rt, path),
         None => Ok(Some(Layouts::own_of(p))),
+    }
+}
+
+/// How the parts of a direction are read.
+pub fn reading_of(layouts: &Layouts, apid: u16, direction: Direction) -> Reading {
+    let tailored = layouts.tailored(direction);
+    let part_size = match tailored.part_size {
+        Some(size) if 1 <= size && size <= 65_535 => Some(size),
+        _ => None,
+    };
+    Reading {
+        direction,
+        apid,
+        layout: tailored.packets,
+        parts: tailored.parts,
+        part_size,
     }
 }

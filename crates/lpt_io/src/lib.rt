@@ -28,7 +28,7 @@ pub use input::{
     Incoming, Origin, Packets, STANDARD, file_at, input_at, name_of, octets_from, opened,
     opened_packets, packets_end, read_failure,
 };
-pub use layouts::{layouts_at, own_or_read};
+pub use layouts::{layouts_at, own_or_read, reading_of};
 pub use lpt_capture::Captured;
 pub use lpt_carried::Layouts;
 pub use lpt_command_line::{NoCommand, SettingWords, WordFault};

@@ -2,6 +2,7 @@
 
 use crate::end::Failure;
 use crate::fault::Fault;
+use lpt_disk::{Disk, part_of};
 use std::alloc::Global;
 use std::fs::{File, Metadata, OpenFile, OpenOptions};
 use std::io::{ErrorKind, Write};
@@ -16,16 +17,13 @@ const LINKS: usize = 40;
 /// Writes octets under another name, and gives them this one once all are there.
 ///
 /// Errors: `Write`; the file at this path is as it was then. `Memory`.
-pub fn write_beside(
-    rt: &(impl Files + AllocGlobal),
+pub fn write_beside<R: Files + AllocGlobal>(
+    rt: &R,
     path: &str,
     octets: &[u8],
 ) -> Result<(), Failure> {
-    let part = part_of(rt.alloc(), path)?;
-    match written(rt, part.as_str(), path, octets) {
-        Ok(()) => Ok(()),
-        Err(error) => Err(given_up(rt, part.as_str(), path, &error)),
-    }
+    let part = part_name(rt.alloc(), path)?;
+    lpt_disk::write_whole(&mut PlainDisk { rt }, part.as_str(), path, octets)
 }
 
 /// The same, and forces to the disk first the octets, and then the name. If this path is a
@@ -46,18 +44,106 @@ where
         Ok(path) => path,
         Err(error) => return Err(not_written(rt.alloc(), path, &error)),
     };
-    let part = part_of(rt.alloc(), path.as_str())?;
-    let (path, part) = (path.as_str(), part.as_str());
-    let old = match known_at(rt, path) {
-        Ok(old) => old,
-        Err(error) => return Err(not_written(rt.alloc(), path, &error)),
-    };
-    match part_opened(rt, part, old.is_some()) {
-        Ok(file) => match forced(rt, file, &old, part, path, octets) {
+    let part = part_name(rt.alloc(), path.as_str())?;
+    lpt_disk::write_for_good(&mut ForcedDisk { rt }, part.as_str(), path.as_str(), octets)
+}
+
+// The name under which a file is written first.
+fn part_name(alloc: Global, path: &str) -> Result<String, Failure> {
+    match part_of(alloc, path) {
+        Ok(part) => Ok(part),
+        Err(_) => Err(Failure::from(Fault::Memory)),
+    }
+}
+
+// The machine's files, of which none is forced to the disk.
+#[derive(Drop)]
+struct PlainDisk<'a, R> {
+    rt: &'a R,
+}
+
+impl<R: Files + AllocGlobal> Disk for PlainDisk<'_, R> {
+    ghost use Rattle.std.specs.Prelude.{None};
+
+    type Fault = Failure;
+
+    // What is there isn't known to the prover.
+    ghost found = { λ _. None };
+
+    fn put(&mut self, path: &str, like: &str, octets: &[u8]) -> Result<(), Failure> {
+        match fs::write(self.rt, path, octets) {
             Ok(()) => Ok(()),
-            Err(error) => Err(given_up(rt, part, path, &error)),
-        },
-        Err(error) => Err(not_written(rt.alloc(), part, &error)),
+            Err(error) => Err(not_written(self.rt.alloc(), like, &error)),
+        }
+    }
+
+    fn rename(&mut self, from: &str, to: &str) -> Result<(), Failure> {
+        match fs::rename(self.rt, from, to) {
+            Ok(()) => Ok(()),
+            Err(error) => Err(not_written(self.rt.alloc(), to, &error)),
+        }
+    }
+
+    fn settle(&mut self, _path: &str) -> Result<(), Failure> {
+        Ok(())
+    }
+
+    fn remove(&mut self, path: &str) {
+        let _ = fs::remove_file(self.rt, path);
+    }
+}
+
+// The machine's files, of which each is forced to the disk, and has the mode and the owner of the
+// one that it replaces.
+#[derive(Drop)]
+struct ForcedDisk<'a, R> {
+    rt: &'a R,
+}
+
+impl<R: Files + AllocGlobal> Disk for ForcedDisk<'_, R>
+where
+    R::File: AsFd,
+{
+    ghost use Rattle.std.specs.Prelude.{None};
+
+    type Fault = Failure;
+
+    // What is there isn't known to the prover.
+    ghost found = { λ _. None };
+
+    fn put(&mut self, path: &str, like: &str, octets: &[u8]) -> Result<(), Failure> {
+        let old = match known_at(self.rt, like) {
+            Ok(old) => old,
+            Err(error) => return Err(not_written(self.rt.alloc(), like, &error)),
+        };
+        let mut file = match part_opened(self.rt, path, old.is_some()) {
+            Ok(file) => file,
+            Err(error) => return Err(not_written(self.rt.alloc(), path, &error)),
+        };
+        let put = put_all(&mut file, &old, octets);
+        drop(file);
+        match put {
+            Ok(()) => Ok(()),
+            Err(error) => Err(not_written(self.rt.alloc(), like, &error)),
+        }
+    }
+
+    fn rename(&mut self, from: &str, to: &str) -> Result<(), Failure> {
+        match fs::rename(self.rt, from, to) {
+            Ok(()) => Ok(()),
+            Err(error) => Err(not_written(self.rt.alloc(), to, &error)),
+        }
+    }
+
+    fn settle(&mut self, path: &str) -> Result<(), Failure> {
+        match folder_forced(self.rt, path) {
+            Ok(()) => Ok(()),
+            Err(error) => Err(not_written(self.rt.alloc(), path, &error)),
+        }
+    }
+
+    fn remove(&mut self, path: &str) {
+        let _ = fs::remove_file(self.rt, path);
     }
 }
 
@@ -109,31 +195,10 @@ fn known_at(rt: &impl Files, path: &str) -> io::Result<Option<Metadata>> {
     }
 }
 
-// The name under which a file is written first.
-fn part_of(alloc: Global, path: &str) -> Result<String, Failure> {
-    match format!(in alloc; "{path}.part") {
-        Ok(part) => Ok(part),
-        Err(_) => Err(Failure::from(Fault::Memory)),
-    }
-}
-
 // That a file couldn't be written.
 fn not_written(alloc: Global, path: &str, error: &io::Error) -> Failure {
     let place = format!(in alloc; "{path}: {error}");
     Failure::at(Fault::Write, place)
-}
-
-// What failed, once nothing is left under the other name.
-fn given_up(rt: &(impl Files + AllocGlobal), part: &str, path: &str, error: &io::Error) -> Failure {
-    let failure = not_written(rt.alloc(), path, error);
-    let _ = fs::remove_file(rt, part);
-    failure
-}
-
-// Writes the octets under the other name, which then becomes the file's.
-fn written(rt: &impl Files, part: &str, path: &str, octets: &[u8]) -> io::Result<()> {
-    fs::write(rt, part, octets)?;
-    fs::rename(rt, part, path)
 }
 
 // A new file under the other name, in place of one that a process which died has left. Where it is
@@ -148,24 +213,8 @@ fn part_opened<R: Files>(rt: &R, part: &str, is_private: bool) -> io::Result<R::
     options.open(rt, part)
 }
 
-// Writes the octets into it, which then gets the file's name, and waits until the octets, and then
-// the name, are on the disk.
-fn forced<R: Files>(
-    rt: &R,
-    file: R::File,
-    old: &Option<Metadata>,
-    part: &str,
-    path: &str,
-    octets: &[u8],
-) -> io::Result<()>
-where
-    R::File: AsFd,
-{
-    let mut file = file;
-    let put = put_all(&mut file, old, octets);
-    drop(file);
-    put?;
-    fs::rename(rt, part, path)?;
+// Waits until the name at a path is on the disk.
+fn folder_forced<R: Files>(rt: &R, path: &str) -> io::Result<()> {
     let folder = File::open(rt, folder_of(path))?;
     let put = folder.sync_all();
     drop(folder);
