@@ -20,7 +20,7 @@ _lpt() {
     case $command:$request in
     lint:*) options='--help --version' ;;
     run:* | threads:* | shell:*) options+=' --mode' ;;
-    chart:*) options+=' --mode --stream --from --to --refused' ;;
+    chart:*) options+=' --mode --stream --from --to --refused --layout' ;;
     decode:*) options+=' --more --layout' ;;
     list:*) options+=' --json --strict --from --to --layout --quiet' ;;
     split:*) options+=' --parts --count --each --whole --pcap --layout' ;;

@@ -79,7 +79,7 @@ complete -c lpt -n 'not __lpt_at help; and not __lpt_at ground help; and not __l
 for command in run threads shell chart decode list split join extract spacecraft compare 'request load' 'request dump' 'request check'
     complete -c lpt -n "__lpt_at $command" -l config -r -F -d 'A TOML file with the configuration'
     complete -c lpt -n "__lpt_at $command" -l apid -x -d 'The APID of all packets, 0 to 2046'
-    complete -c lpt -n "__lpt_at $command" -l source -x -d 'The source to use if none is given, 0 to 65535'
+    complete -c lpt -n "__lpt_at $command" -l source -x -d 'The source of an ID that is written without one, 0 to 65535'
     complete -c lpt -n "__lpt_at $command" -l part-size -x -d 'The size of a part in octets, 4 to 1024'
 end
 for command in run threads shell chart spacecraft
@@ -89,6 +89,7 @@ complete -c lpt -n '__lpt_at chart' -l stream -d 'Draw packets instead of a scri
 complete -c lpt -n '__lpt_at chart' -l from -x -d 'Begin at this event of the run, or at this octet of the packets'
 complete -c lpt -n '__lpt_at chart' -l to -x -d 'End with this event of the run, or before this octet of the packets'
 complete -c lpt -n '__lpt_at chart' -l refused -d 'Draw refused lines too; not with --stream'
+complete -c lpt -n '__lpt_at chart' -l layout -r -F -d "A TOML file with the mission's layouts of the packets, with --stream"
 complete -c lpt -n '__lpt_at list; or __lpt_at verify' -l json -d 'Print each line as a JSON object'
 complete -c lpt -n '__lpt_at verify' -l open -d 'Write the packets of requests without a final report, in place of the list'
 complete -c lpt -n '__lpt_at decode' -l more -d 'Also print the areas of a request or report, and which segment a packet is'
@@ -154,7 +155,7 @@ for command in ground pass
     complete -c lpt -n "__lpt_at $command load; or __lpt_at $command patch" -l ack -x -a '8 10' -d 'The acknowledgement flags: with 10 a report of start counts as well'
     complete -c lpt -n "__lpt_at $command load" -l large -d 'Load the file in one step, all or nothing: by one request, as a large message'
     complete -c lpt -n "__lpt_at $command load" -l name -x -d 'The transaction ID under which a large message goes first'
-    complete -c lpt -n "__lpt_at $command load" -l names -x -d 'Give a large message up after so many IDs'
+    complete -c lpt -n "__lpt_at $command load" -l names -x -d 'Give a large message up after so many IDs, which get 4 waits, 8, 12 and so on'
     complete -c lpt -n "__lpt_at $command load; or __lpt_at $command patch" -l verify -d 'Dump the octets after the load, and compare them'
     complete -c lpt -n "__lpt_at $command dump" -l to -r -F -d 'Where the octets are written once all have come; must be given'
     complete -c lpt -n "__lpt_at $command dump" -l area -x -d 'Other octets and their file, in the same pass'

@@ -35,7 +35,7 @@ Examples:
 Statuses:
   0  everything was done
   1  something was refused, failed, differs, is open or isn't whole, nothing was found,
-     or octets are no packet (list without --strict, join and chart pass over them)
+     or octets are no packet (join, chart, and list unless --strict, pass over them)
   2  the command line, a line of the script, HEX, the configuration, a layout or a list
      of patches can't be read
   3  a file can't be read or written, or is in use or of another job, memory ran out,

@@ -5,7 +5,7 @@ use crate::compare_words::{ChecksumWords, CompareWords, checksum_words, compare_
 use crate::extract_words::{ExtractWords, extract_words};
 use crate::file_words::{JoinWords, ListWords, check_order, join_words, list_words};
 use crate::ground_words::{GroundWords, ground_words};
-use crate::layout_words::{DecodeWords, decode_words};
+use crate::layout_words::{DecodeWords, decode_words, layout_in};
 use crate::link_words::{LinkWords, link_words};
 use crate::pass_words::{PassWords, pass_words};
 use crate::request_words::{RequestWords, request_words};
@@ -40,7 +40,7 @@ pub enum Command<'a> {
     Shell,
     /// `lint SCRIPT`: the script's path, or `-` for standard input.
     Lint(&'a str),
-    /// `chart SCRIPT`.
+    /// `chart FILE`.
     Chart(ChartWords<'a>),
     /// `decode HEX`.
     Decode(DecodeWords<'a>),
@@ -88,6 +88,8 @@ pub struct ChartWords<'a> {
     pub to: Option<u64>,
     /// Whether the lines that were refused are drawn.
     pub refused: bool,
+    /// The path of the packets' layouts, if one is given.
+    pub layout: Option<&'a str>,
 }
 
 /// Why the words ask for nothing that is to be done.
@@ -190,17 +192,21 @@ fn command_of<'a>(
 
 // What the words of `chart` ask for.
 //
-// Errors: `Missing`, `Beside`, `Order`.
+// Errors: `Missing`, `Beside`, `Wanted`, `Order`.
 fn chart_words<'a>(words: &ArgMatches<'a>) -> Result<ChartWords<'a>, WordFault<'a>> {
     let chart = ChartWords {
-        script: words.get_str("SCRIPT").ok_or(WordFault::Missing)?,
+        script: words.get_str("FILE").ok_or(WordFault::Missing)?,
         stream: words.get_flag("stream"),
         from: words.get_one("from"),
         to: words.get_one("to"),
         refused: words.get_flag("refused"),
+        layout: layout_in(words),
     };
     if chart.stream && chart.refused {
         return Err(WordFault::Beside("--stream", "--refused"));
+    }
+    if chart.layout.is_some() && !chart.stream {
+        return Err(WordFault::Wanted("--stream"));
     }
     check_order(chart.from, chart.to)?;
     Ok(chart)

@@ -120,6 +120,7 @@ pub(crate) static CHART: Row = Row {
     name: "chart",
     about: "Draw a script's run, or a file of packets, as an SVG picture",
     words: &[Word {
+        name: "FILE",
         help: "The script, or the packets if --stream is given; - for standard input",
         ..SCRIPT
     }],
@@ -155,6 +156,10 @@ pub(crate) static CHART: Row = Row {
             action: ArgAction::SetTrue,
             other: &[],
             help: "Draw refused lines too; not with --stream",
+        },
+        Named {
+            help: "A TOML file with the mission's layouts of the packets, with --stream",
+            ..LAYOUT
         },
     ],
     configured: Configured::Nodes,

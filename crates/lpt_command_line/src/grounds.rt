@@ -83,7 +83,7 @@ const NAMES: Named = Named {
     behind: &["N"],
     action: ArgAction::Set,
     other: &[],
-    help: "Give a large message up after so many IDs: 4 waits, 8, and so on [default: 6]",
+    help: "Give a large message up after so many IDs, which get 4 waits, 8, 12 and so on [default: 6]",
 };
 
 const UP: Named = Named {

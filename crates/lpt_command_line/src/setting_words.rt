@@ -58,7 +58,7 @@ pub(crate) static SETTINGS: [Named; 5] = [
         behind: &["N"],
         action: ArgAction::Set,
         other: &[],
-        help: "The source to use if none is given, 0 to 65535",
+        help: "The source of an ID that is written without one, 0 to 65535",
     },
     PART_SIZE,
     Named {

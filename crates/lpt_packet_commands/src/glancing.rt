@@ -5,13 +5,18 @@ ghost use Rattle.lpt_events.specs.Configs.{IsConfig};
 use lpt_command_line::ChartWords;
 use lpt_events::Config;
 use lpt_glance::{Glance, View, draw, look};
-use lpt_io::{Failure, Fault, Machine, Status, Voice, opened_packets, packets_end, write_all_out};
+use lpt_io::{
+    Failure, Fault, Machine, Status, Voice, opened_packets, own_or_read, packets_end, reading_of,
+    write_all_out,
+};
+use lpt_packet::Direction;
 use lpt_text::StreamFault;
 
-/// Writes the picture of the packets at the path of these words, `-` for standard input.
+/// Writes the picture of the packets at the path of these words, `-` for standard input, by the
+/// layouts of a file if one is given, else by the profile.
 ///
-/// Errors: `Read` if the packets can't be opened or read, or their capture is wrong; `Write`,
-/// `Memory`.
+/// Errors: `Read` if a file can't be opened or read, or a capture is wrong; `Config` if the layouts'
+/// file is too long; `Write`, `Memory`.
 pub fn glance<R: Machine>(
     rt: &R,
     voice: Voice,
@@ -21,11 +26,14 @@ pub fn glance<R: Machine>(
     requires { IsConfig config.now }
 {
     let voice = voice.beside_output();
-    let paths = [words.script];
-    let view = View {
-        apid: config.apid,
-        part_size: config.part_size,
+    let Some(layouts) = own_or_read(rt, config.part_size, words.layout)? else {
+        return Ok(Status::Unreadable);
     };
+    let view = View {
+        up: reading_of(&layouts, config.apid, Direction::Up),
+        down: reading_of(&layouts, config.apid, Direction::Down),
+    };
+    let paths = [words.script];
     let mut source = opened_packets(rt, voice, &paths, words.from, words.to)?;
     let seen = look(rt.alloc(), view, &mut source);
     let failed = matches!(seen, Err(StreamFault::Read));
@@ -34,7 +42,7 @@ pub fn glance<R: Machine>(
     drop(source);
     match (seen, failure) {
         (Ok(glance), None) => {
-            let status = drawn(rt, config.source, glance)?;
+            let status = drawn(rt, u32::from(config.source), glance)?;
             Ok(if is_short { Status::Refused } else { status })
         }
         (Ok(glance), Some(failure)) => {
@@ -47,7 +55,7 @@ pub fn glance<R: Machine>(
 }
 
 // Writes the picture of what was seen, where names of this source are written without it.
-fn drawn(rt: &(impl Print + AllocGlobal), source: u16, glance: Glance) -> Result<Status, Failure> {
+fn drawn(rt: &(impl Print + AllocGlobal), source: u32, glance: Glance) -> Result<Status, Failure> {
     let picture = draw(rt.alloc(), source, &glance);
     drop(glance);
     match picture {
