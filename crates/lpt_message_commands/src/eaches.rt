@@ -7,29 +7,27 @@ use crate::joins::tell;
 use crate::layout_joins::{tell_skips, unfit_text, who};
 use lpt_carried::{Name, Reading};
 use lpt_command_line::{JoinWords, Span};
+use lpt_each_files::{Shelf, write_messages};
 use lpt_events::Config;
 use lpt_io::{
     Failure, Fault, Machine, Packets, Status, Voice, opened_packets, packets_end, write_beside,
 };
 use lpt_join::{PartNumbers, missing_list};
-use lpt_layout_each::{CameAs, NewsAs, TakerAs, each_as};
+use lpt_layout_each::{CameAs, NewsAs};
 use lpt_part::Kind;
 use lpt_skips::{Skips, Wanted};
 use lpt_text::StreamFault;
 use std::alloc::{AllocError, Global};
-use std::collections::BTreeMap;
 use std::fs;
 use std::rt::Files;
 
-/// A folder into which each message is written, and standard error, which is told of what never
-/// became whole.
+/// The machine's files, of which each message gets a new one, and standard error, which is told of
+/// what never became whole.
 #[derive(Drop)]
-struct Folder<'a, R: Machine> {
+struct MachineShelf<'a, R: Machine> {
     rt: &'a R,
     voice: Voice,
     words: EachWords<'a>,
-    // How many messages of each name were written.
-    counts: BTreeMap<Name, u64>,
     // Whether a part came, and whether parts never became whole.
     came: bool,
     lost: bool,
@@ -37,32 +35,35 @@ struct Folder<'a, R: Machine> {
     failure: Option<Failure>,
 }
 
-impl<R: Machine> TakerAs for Folder<'_, R> {
+impl<R: Machine> Shelf for MachineShelf<'_, R> {
     ghost use Rattle.std.specs.Prelude.{None};
 
+    // What the machine's files have isn't known to the prover.
     ghost heard = { λ _. None };
 
-    fn take(&mut self, name: Name, news: &NewsAs) -> Result<(), StreamFault> {
+    ghost files = { λ _. None };
+
+    fn take(&mut self, name: Name, news: &NewsAs, path: &str) -> Result<(), StreamFault> {
         self.came = true;
         match news {
-            NewsAs::Given(message) => self.write_given(name, message.as_slice()),
+            NewsAs::Given(message) => self.write_given(path, message.as_slice()),
             NewsAs::Overtaken(_, message) => {
                 self.tell_given_up(name, news)?;
-                self.write_given(name, message.as_slice())
+                self.write_given(path, message.as_slice())
             }
             lost => self.tell_given_up(name, lost),
         }
     }
 }
 
-impl<R: Machine> Folder<'_, R> {
-    // Writes a message that became whole.
+impl<R: Machine> MachineShelf<'_, R> {
+    // Writes a message that became whole into a new file at this path: all of it, or there is none.
     //
-    // Errors: `Write`.
-    fn write_given(&mut self, name: Name, message: &[u8]) -> Result<(), StreamFault>
+    // Errors: `Write`, also where there is a file at this path.
+    fn write_given(&mut self, path: &str, message: &[u8]) -> Result<(), StreamFault>
         ensures { IfErr result (λ e. e ≡ StreamFault.Write) }
     {
-        match self.write(name, message) {
+        match write_new(self.rt, path, message) {
             Ok(()) => Ok(()),
             Err(failure) => {
                 self.failure = Some(failure);
@@ -88,27 +89,6 @@ impl<R: Machine> Folder<'_, R> {
         ) {
             Ok(()) => Ok(()),
             Err(_) => Err(StreamFault::Memory),
-        }
-    }
-
-    // Writes a message into a new file: all of it, or there is none of that name.
-    //
-    // Errors: `Write`, also where there is a file of its name; `Memory`.
-    fn write(&mut self, name: Name, message: &[u8]) -> Result<(), Failure> {
-        let number = match self.counts.get(&name) {
-            Some(count) => *count,
-            None => 0,
-        };
-        let (folder, direction) = (self.words.path, self.words.reading.direction.word());
-        let (user, id) = (name.user, name.id);
-        let path = format!(in self.rt.alloc(); "{folder}/{direction}-{user}-{id}.{number}");
-        let Ok(path) = path else {
-            return Err(Failure::from(Fault::Memory));
-        };
-        write_new(self.rt, path.as_str(), message)?;
-        match self.counts.insert(name, number.saturating_add(1)) {
-            Ok(_) => Ok(()),
-            Err(_) => Err(Failure::from(Fault::Memory)),
         }
     }
 }
@@ -209,23 +189,30 @@ pub fn write_each<'a, R: Machine>(
         let place = format!(in rt.alloc(); "{path}: {error}");
         return Err(Failure::at(Fault::Write, place));
     }
-    let mut folder = Folder {
+    let shelf = MachineShelf {
         rt,
         voice,
         words,
-        counts: BTreeMap::new(rt.alloc()),
         came: false,
         lost: false,
         failure: None,
     };
-    let ended = each_as(rt.alloc(), &words.reading, words.any, source, &mut folder);
+    let (reading, path) = (&words.reading, words.path);
+    let (ended, shelf) = write_messages(rt.alloc(), reading, words.any, path, source, shelf);
+    let MachineShelf {
+        came,
+        lost,
+        failure,
+        ..
+    } = shelf;
     let failed = matches!(ended, Err(StreamFault::Read));
     let failure = match packets_end(rt, voice, source, words.files, failed) {
-        Some(failure) => Some(failure),
-        None => folder.failure.take(),
+        Some(first) => {
+            drop(failure);
+            Some(first)
+        }
+        None => failure,
     };
-    let (came, lost) = (folder.came, folder.lost);
-    drop(folder);
     match failure {
         Some(failure) => Err(failure),
         None => status_of(rt, &words, came, lost, ended),
@@ -241,7 +228,7 @@ fn status_of(
     ended: Result<Skips, StreamFault>,
 ) -> Result<Status, Failure> {
     match ended {
-        Ok(skips) => match told(rt, words, came, lost, &skips) {
+        Ok(skips) => match tell_outcome(rt, words, came, lost, &skips) {
             Ok(status) => Ok(status),
             Err(_) => Err(Failure::from(Fault::Memory)),
         },
@@ -252,7 +239,7 @@ fn status_of(
 // The status of a join whose stream was read to its end, after it was told where no part came, and
 // where not all is well, or what was passed over may hold messages, what that was. The only error
 // is out of memory.
-fn told(
+fn tell_outcome(
     rt: &(impl Eprint + AllocGlobal),
     words: &EachWords<'_>,
     came: bool,

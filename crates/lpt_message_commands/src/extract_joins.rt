@@ -4,12 +4,11 @@ ghost use Rattle.lpt_events.specs.Configs.{IsConfig};
 
 use crate::eaches::tell_lost;
 use crate::extract_notices::Telling;
-use crate::layout_joins::reading_of;
 use lpt_carried::{Layouts, Name, Reading};
 use lpt_command_line::ExtractWords;
 use lpt_events::Config;
 use lpt_extract::{Extracted, Hearers, Sink, TakerAs, Wanted, extract_joined_as};
-use lpt_io::{Machine, Packets, Voice};
+use lpt_io::{Machine, Packets, Voice, reading_of};
 use lpt_layout_each::NewsAs;
 use lpt_packet::Direction;
 use lpt_text::StreamFault;

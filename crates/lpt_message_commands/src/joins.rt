@@ -77,7 +77,7 @@ fn status_of(
 {
     finished?;
     match joined {
-        Ok(joined) => match told(rt, config, words, joined) {
+        Ok(joined) => match tell_outcome(rt, config, words, joined) {
             Ok(status) => Ok(status),
             Err(_) => Err(Failure::from(Fault::Memory)),
         },
@@ -121,7 +121,7 @@ fn transaction_of(config: &Config, words: &JoinWords<'_>, name: Name) -> Transac
 // The status of a join that ended so, after it was told what isn't whole, or isn't all, and where
 // nothing was written, or what was passed over may hold messages, what that was. The only error is
 // out of memory.
-fn told(
+fn tell_outcome(
     rt: &(impl Eprint + AllocGlobal),
     config: &Config,
     words: &JoinWords<'_>,

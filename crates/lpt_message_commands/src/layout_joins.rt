@@ -2,17 +2,16 @@
 
 use crate::eaches::{EachWords, write_each};
 use crate::joins::{contradicting, foreign, tell};
-use lpt_carried::{Layouts, Name, Reading};
+use lpt_carried::{Name, Reading};
 use lpt_command_line::{JoinLayoutWords, WideName, WordFault, name_within};
 use lpt_events::Config;
 use lpt_io::{
     Failure, Fault, Machine, Packets, Status, Voice, finish, first_failure, layouts_at,
-    octets_word, opened_packets, output, packets_end, tell_place, word_refused,
+    octets_word, opened_packets, output, packets_end, reading_of, tell_place, word_refused,
 };
 use lpt_join::{PartNumbers, missing_list};
 use lpt_layout::Width;
 use lpt_layout_join::{Gathering, JoinEnd, JoinReport, MisfitAs, end_of, join_as};
-use lpt_packet::Direction;
 use lpt_skips::{Skips, Wanted, name_text};
 use lpt_split::greatest;
 use lpt_text::StreamFault;
@@ -58,22 +57,6 @@ pub fn join<R: Machine>(
     };
     drop(source);
     status
-}
-
-/// How the parts of a direction are read.
-pub fn reading_of(layouts: &Layouts, apid: u16, direction: Direction) -> Reading {
-    let tailored = layouts.tailored(direction);
-    let part_size = match tailored.part_size {
-        Some(size) if 1 <= size && size <= 65_535 => Some(size),
-        _ => None,
-    };
-    Reading {
-        direction,
-        apid,
-        layout: tailored.packets,
-        parts: tailored.parts,
-        part_size,
-    }
 }
 
 // The name that the words give, where one is asked for and the layout has room for it, and this
@@ -137,7 +120,7 @@ fn status_of(
 ) -> Result<Status, Failure> {
     finished?;
     match joined {
-        Ok(report) => match told(rt, source, wanted, words, report) {
+        Ok(report) => match tell_outcome(rt, source, wanted, words, report) {
             Ok(status) => Ok(status),
             Err(_) => Err(Failure::from(Fault::Memory)),
         },
@@ -148,7 +131,7 @@ fn status_of(
 // The status of a join that ended so, after it was told what isn't whole, or isn't all, and where
 // nothing was written, or what was passed over may hold messages, what that was. The only error is
 // out of memory.
-fn told(
+fn tell_outcome(
     rt: &(impl Eprint + AllocGlobal),
     source: u32,
     wanted: &Wanted,

@@ -115,7 +115,7 @@ fn split_from<R: Machine>(
     };
     first_failure(finish(rt, out), failure)?;
     match split {
-        Ok(split) => match told(rt, &wanted, words, split) {
+        Ok(split) => match tell_outcome(rt, &wanted, words, split) {
             Ok(status) => Ok(status),
             Err(_) => Err(Failure::from(Fault::Memory)),
         },
@@ -125,7 +125,7 @@ fn split_from<R: Machine>(
 
 // The status of a split that ended so, after it was told what wasn't split. The only error is out
 // of memory.
-fn told(
+fn tell_outcome(
     rt: &(impl Eprint + AllocGlobal),
     wanted: &EachWanted<'_>,
     words: &SplitEachWords<'_>,

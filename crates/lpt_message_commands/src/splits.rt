@@ -4,13 +4,13 @@ ghost use Rattle.std.specs.Prelude.{IfOk};
 ghost use Rattle.lpt_events.specs.Configs.{IsConfig};
 ghost use Rattle.lpt_layout.specs.Parts.{IsPartSizeAs};
 
-use crate::layout_joins::{reading_of, user_of};
+use crate::layout_joins::user_of;
 use lpt_carried::{Layouts, Tailored};
 use lpt_command_line::{SplitOneWords, SplitWords, WideName, WordFault, name_within};
 use lpt_events::Config;
 use lpt_io::{
     Failure, Incoming, Machine, Status, finish, first_failure, octets_word, opened, output,
-    own_or_read, read_failure, tell_place, word_refused,
+    own_or_read, read_failure, reading_of, tell_place, word_refused,
 };
 use lpt_layout::Width;
 use lpt_layout_join::{MisfitAs, unfit};
