@@ -1,6 +1,6 @@
 //! The files in which a spacecraft is kept.
 
-ghost use Rattle.std.specs.Prelude.{None};
+ghost use Rattle.std.specs.Prelude.{◌≡◌, IfOk, None, option_map};
 
 use lpt_command_line::SpacecraftWords;
 use lpt_io::{Failure, Fault, tell_end, write_for_good};
@@ -30,7 +30,11 @@ pub fn kept_files<'a>(
     rt: &'a HostRuntime,
     words: &SpacecraftWords<'a>,
     state: Option<&'a str>,
-) -> Result<KeptFiles<HostFile<'a>>, Failure> {
+) -> Result<KeptFiles<HostFile<'a>>, Failure>
+    // The file of the state is the one at this path.
+    ensures its_path { IfOk result (λ files. option_map (λ file. file.path.now) files.state
+        ≡ option_map (λ path. path.now) state.entry) }
+{
     let mut saved = Vec::new(rt.alloc());
     if words.save {
         for (id, path) in &words.memories {
