@@ -2,7 +2,6 @@
 use Rattle.std.proofs.Common.{◌≡◌, ◌⊎◌, ◌∙◌, ap, sym, subst, refl, inl, inr, ℕ, ◌+◌, ◌-◌, ◌≤◌, ◌==◌, Bool, false, if◌then◌else◌, List, [], ◌∷◌, ◌++◌, length, Option, Some, None, Ok, arith}
 use Rattle.std.specs.Prelude.{is_none}
 use Rattle.std.proofs.lemmas.Bool.Decides.{nat_tests}
-use Rattle.std.proofs.lemmas.List.{get_or_past}
 use Rattle.lpt_carried.specs.declared.name.Name.{Name}
 use Rattle.lpt_layout_each.specs.declared.news.NewsAs.{NewsAs}
 use Rattle.lpt_layout_each.specs.declared.news.NewsAs.TheVariants as news
@@ -10,6 +9,7 @@ use Rattle.lpt_layout_each.specs.News.{Event}
 use Rattle.lpt_layout_each.specs.Told.{events_of, news_of}
 use Rattle.lpt_layout_join.specs.declared.came.CameAs.{CameAs}
 use Rattle.lpt_layout_join.specs.CameInside.{last_in, part_at}
+use Rattle.lpt_layout_join.proofs.CameLemmas.{behind-last}
 use Rattle.lpt_packet.specs.declared.direction.Direction.{Direction}
 use Rattle.lpt_c_reader.specs.Codes.{all_done, range}
 use Rattle.lpt_c_reader.specs.Messages.{as_number, came_told, direction_number, missing_by, missing_code, news_of_event, text_told, with_came, with_event, with_name, with_news}
@@ -27,9 +27,6 @@ says-along w o p e h = subst (λ x. Says w x) e h
 
 some_number : (n : ℕ) → ((n + 1) == 0) ≡ false
 some_number n = grind (arith, nat_tests)
-
-behind-last : (s : CameAs) (n : ℕ) → length s.slots.items ≤ n → part_at s (n + 1) ≡ None
-behind-last s n h = get_or_past s.slots.items (n + 1 - 1) None (omega (arith, h))
 
 -- of parts
 parts-are : (w : Written) (m : LptMessage) (s : CameAs)

@@ -8,11 +8,14 @@ pub mod Copies
 pub mod Dates
 pub mod HandleCodes
 pub mod Held
+pub mod Images
 pub mod ItemRuns
 pub mod Items
 pub mod Joining
 pub mod Laws
 pub mod LayoutTexts
+pub mod Lays
+pub mod LaysInside
 pub mod Lines
 pub mod Messages
 pub mod Named

@@ -7,7 +7,7 @@ use Rattle.lpt_layout_join.specs.declared.came.CameAs.{CameAs}
 use Rattle.lpt_layout_join.specs.declared.ending.MisfitAs.{MisfitAs}
 use Rattle.lpt_layout_join.specs.declared.ending.MisfitAs.TheVariants as misfit
 use Rattle.lpt_layout_join.specs.declared.last_part.LastPart.{LastPart}
-use Rattle.lpt_layout_join.specs.CameInside.{last_in, part_at}
+use Rattle.lpt_layout_join.specs.CameInside.{highest_in, last_in, part_at}
 use Rattle.lpt_packet.specs.declared.direction.Direction.{Direction}
 use Rattle.lpt_packet.specs.declared.direction.Direction.TheVariants.{Up, Down}
 use Rattle.lpt_packet.specs.FaultNames as of_packet
@@ -55,7 +55,7 @@ number_or (Some l) = l.number
 abbrev pub with_came : CameAs → LptMessage → LptMessage
 with_came s i = record i {
   first = place_or s.began;
-  highest = length s.slots.items;
+  highest = highest_in s;
   last = number_or (last_in s);
 }
 

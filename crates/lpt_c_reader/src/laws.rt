@@ -1,8 +1,9 @@
 //! What is proved of what is told, however an archive is cut: functions with empty bodies.
 
+ghost use Rattle.lpt_c_reader.specs.Images.{ImagesAsExtracted};
 ghost use Rattle.lpt_c_reader.specs.Laws.{MessagesAsEach, ToldOneWay};
 ghost use Rattle.lpt_c_reader.specs.Lines.{ListedAsItems};
-ghost use Rattle.lpt_c_reader.specs.WorkedItems.{ItemsCanBe};
+ghost use Rattle.lpt_c_reader.specs.WorkedItems.{ImagesCanBe, ItemsCanBe};
 
 use lpt_reader::laws::told_one_way;
 use lpt_reader_each::laws::{each_is_told, leaving_begins};
@@ -36,8 +37,26 @@ pub fn items_are_listed()
     streams_are_cut_one_way();
 }
 
+/// From a new reader on, up to an item of kind 0, whose archive is cut as `lpt extract` cuts it: if
+/// the octets of each item are laid in order by calls of `lpt_reader_lay`, over an image that may
+/// be made longer by the fill as they come, it has the octets that `lpt_extract::extract_stream`
+/// writes of the archive, up to the address that those calls told; marks have its gaps; and as many
+/// areas and reports are told not to be taken as it counts. It doesn't matter how the archive was
+/// cut when it was fed, nor how often a call was refused.
+pub fn images_are_extracted()
+    ensures { ImagesAsExtracted }
+{
+    streams_are_cut_one_way();
+}
+
 /// Of whatever new reader of the profile: an archive of one packet is fed and ended, the packet is
 /// told, with its octets, and then the end.
 pub fn items_can_be()
     ensures { ItemsCanBe }
+{}
+
+/// Of whatever new reader of the profile: an archive of one dump report is fed and ended, and its
+/// area laid over four octets.
+pub fn images_can_be()
+    ensures { ImagesCanBe }
 {}

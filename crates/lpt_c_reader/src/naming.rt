@@ -6,6 +6,7 @@ ghost use Rattle.lpt_c_reader.specs.Named.{area_range, coding_by, coding_of, fro
 ghost use Rattle.lpt_memory.specs.Requests.{front_range};
 
 use crate::codes::{CHECKSUM, DONE, RANGE};
+use crate::loaded::front_area;
 use lpt_memory::fields;
 use lpt_packet::{PacketKind, crc16};
 
@@ -115,23 +116,20 @@ fn front_named(coding: Coding, octets: &[u8]) -> Option<(Named, &[u8])>
 }
 
 // The same of an area with its octets.
-#[tactic(auto, unfolding(crate::specs::Named::front_named, lpt_memory::specs::Requests::front_load_area))]
+#[tactic(auto, unfolding(crate::specs::Named::front_named))]
 fn front_loaded(octets: &[u8]) -> Option<(Named, &[u8])>
     ensures value { option_map (λ x. (x.0, x.1.now)) result
         ≡ front_named Coding.Loaded octets.now }
     ensures size { IfSome result (λ x. x.0.size ≤ 65543) }
 {
-    let (address, rest) = fields::long(octets)?;
-    let (len, rest) = fields::word(rest)?;
-    let (own, rest) = fields::octets(rest, len)?;
-    let (checksum, rest) = fields::word(rest)?;
+    let (seen, rest) = front_area(octets)?;
     let area = Named {
-        address,
-        len: own.len() as u16,
-        checksum,
+        address: seen.address,
+        len: seen.octets.len() as u16,
+        checksum: seen.checksum,
         head: 6,
-        size: 8 + own.len() as u32,
-        fault: load_fault(address, own, checksum),
+        size: 8 + seen.octets.len() as u32,
+        fault: load_fault(seen.address, seen.octets, seen.checksum),
     };
     Some((area, rest))
 }
