@@ -1,3 +1,4 @@
+pub mod LimitRows
 pub mod ListedSteps
 pub mod Repeating
 pub mod RunRows

@@ -1,12 +1,13 @@
 //! Runs of two ends apart, and what comes of them: functions with empty bodies.
 
-ghost use Rattle.std.specs.Prelude.{◌≡◌, reverse};
+ghost use Rattle.std.specs.Prelude.{◌≡◌, ◌++◌, reverse};
 ghost use Rattle.lpt_events.specs.Configs.{IsConfig};
 ghost use Rattle.lpt_packet.specs.declared.direction.Direction.TheVariants.{Up};
 ghost use Rattle.lpt_apart.specs.Moves.{came_to, CanMoveAll};
 ghost use Rattle.lpt_apart.specs.Whole.{came_in, CameWhole};
 ghost use Rattle.lpt_journal_examples.specs.Passes.{own, m9, usual, usual_memories, loaded_memories};
 ghost use Rattle.lpt_apart_examples.specs.Late.{before_late, late_acts, late_moves, start, FreesTooEarly};
+ghost use Rattle.lpt_apart_examples.specs.Limits.{clock_moves, narrow_log, narrow_moves};
 ghost use Rattle.lpt_apart_examples.specs.Runs.{worked, worked_log};
 ghost use Rattle.lpt_freeing.specs.Freeing.{with_acts, CanActAll};
 
@@ -34,4 +35,15 @@ pub fn late_lines_change_nothing()
     ensures can { CanActAll usual start (reverse late_acts) }
     ensures moves { (with_acts usual start (reverse late_acts)).moves ≡ late_moves }
     ensures turns { FreesTooEarly before_late }
+{}
+
+/// The spacecraft's clock goes one tick on, and is set back. From then on its end has a timeout of
+/// two ticks and room for one reception. The first part of a message opens one, so that of a second
+/// message has no room. The first reception is given up before its time, that part comes again and
+/// has room, and its reception is given up too.
+pub fn limits_can_be()
+    ensures configured { IsConfig usual }
+    ensures can { CanMoveAll usual usual_memories (reverse narrow_moves ++ reverse clock_moves) }
+    ensures log { (came_to usual usual_memories
+        (reverse narrow_moves ++ reverse clock_moves)).ends.log ≡ reverse narrow_log }
 {}

@@ -1,5 +1,5 @@
 -- The definitions with the kept parts as lists in the order of numbers: these compute.
-use Rattle.std.proofs.Common.{◌≡◌, ◌∙◌, ap, refl, ℕ, ◌+◌, ◌==◌, nat_le, Bool, not, ◌&&◌, ◌||◌, if◌then◌else◌, List, [], ◌∷◌, length, Option, None}
+use Rattle.std.proofs.Common.{◌≡◌, ◌∙◌, ap, refl, ℕ, ◌+◌, ◌==◌, nat_le, Bool, not, ◌&&◌, ◌||◌, if◌then◌else◌, List, [], ◌∷◌, length, Option, Some, None}
 use Rattle.std.specs.Option.{is_some}
 use Rattle.std.specs.List.{filter}
 use Rattle.std.specs.FinMap as map
@@ -31,12 +31,12 @@ use Rattle.lpt_journal.specs.Hands.{in_hand}
 use Rattle.lpt_journal.specs.Link.{sent}
 use Rattle.lpt_journal.specs.Senders.{sender, is_free, is_open, once}
 use Rattle.lpt_journal.specs.Receivers.{with_piece, heard, has_parts, heard_names, open_names, is_closed, last_tick, limits}
-use Rattle.lpt_journal.specs.Due.{is_overdue, earliest, due}
+use Rattle.lpt_journal.specs.Due.{is_overdue, earliest, due, given_up}
 use Rattle.lpt_journal.specs.Delivery.{judged_part, judged}
 use Rattle.lpt_journal_examples.proofs.ListedSets.{Listed, with_listed, contradicts_listed, whole_listed, spelled_listed, entries-with_piece, contradicts_is, whole_is, listed, entries-heard}
 use Rattle.lpt_journal_examples.specs.Passes.{usual_memories}
 use Rattle.lpt_journal.specs.Replies.{expired_now, answer, outcome_puts, expiry_puts, puts, opens, told, entry, recorded}
-use Rattle.lpt_journal.specs.Refusals.{first_fault, refusal}
+use Rattle.lpt_journal.specs.Refusals.{expiry_fault, first_fault, refusal}
 
 -- ---- outcomes
 
@@ -118,6 +118,17 @@ due_is : (c : Config) (h : History) (d : Direction) → due c h d ≡ due_listed
 due_is c h d =
     ap (λ ids. earliest (last_tick c h d) (filter (is_overdue c h d) ids)) (names_is c h d)
 
+-- the reception that is given up, by the lists
+abbrev given_up_listed : Config → History → Direction → Option Name → Option Name
+given_up_listed c h d None = due_listed c h d
+given_up_listed c h d (Some name) = if has_listed (listed c h d name) then Some name else None
+
+given_up_is : (c : Config) (h : History) (d : Direction) (which : Option Name)
+    → given_up c h d which ≡ given_up_listed c h d which
+given_up_is c h d None = due_is c h d
+given_up_is c h d (Some name) =
+    ap (λ has. if has then Some name else None) (has_is c h d name)
+
 -- ---- refusals
 
 -- whether a transaction is clear, where this says whether its receiver has a part of it
@@ -135,16 +146,18 @@ retire_refusal h d name clear =
 
 -- why an event is refused, by the lists
 abbrev pub refusal_listed : Config → History → Act → Option StepFault
-refusal_listed c h (Expire side None) =
-    first_fault ((not (is_some (due_listed c h (direction_to side))), NothingDue) ∷ [])
+refusal_listed c h (Expire side which) =
+    first_fault
+    ((not (is_some (given_up_listed c h (direction_to side) which)), expiry_fault which) ∷ [])
 refusal_listed c h (Retire d name) =
     retire_refusal h d name (clear_where c h d name (has_listed (listed c h d name)))
 refusal_listed c h e = refusal c h e
 
 -- what refuses an event is the same by the lists
 pub refusal_is : (c : Config) (h : History) (e : Act) → refusal c h e ≡ refusal_listed c h e
-refusal_is c h (Expire side None) =
-    ap (λ o. first_fault ((not (is_some o), NothingDue) ∷ [])) (due_is c h (direction_to side))
+refusal_is c h (Expire side which) =
+    ap (λ o. first_fault ((not (is_some o), expiry_fault which) ∷ []))
+    (given_up_is c h (direction_to side) which)
 refusal_is c h (Retire d name) =
     ap (λ has. retire_refusal h d name (clear_where c h d name has)) (has_is c h d name)
 refusal_is c h e = refl
@@ -153,14 +166,15 @@ refusal_is c h e = refl
 
 abbrev answer_listed : Config → History → Act → Answer
 answer_listed c h (Deliver l) = Delivered (outcome_listed c h l)
-answer_listed c h (Expire side None) =
-    expired_now (direction_to side) (due_listed c h (direction_to side))
+answer_listed c h (Expire side which) =
+    expired_now (direction_to side) (given_up_listed c h (direction_to side) which)
 answer_listed c h e = answer c usual_memories h e
 
 abbrev puts_listed : Config → History → Act → List SentPacket
 puts_listed c h (Deliver l) =
     outcome_puts c h (receiver_side (lane_direction l)) (outcome_listed c h l)
-puts_listed c h (Expire side None) = expiry_puts c h side (due_listed c h (direction_to side))
+puts_listed c h (Expire side which) =
+    expiry_puts c h side (given_up_listed c h (direction_to side) which)
 puts_listed c h e = puts c usual_memories h e
 
 abbrev reply_listed : Config → History → Act → Reply
@@ -188,10 +202,10 @@ entry_is c h (Deliver l) =
       puts = outcome_puts c h (receiver_side (lane_direction l)) (o i);
       opens = [];
     }
-entry_is c h (Expire side None) =
-    let o = due_is c h (direction_to side) in
+entry_is c h (Expire side which) =
+    let o = given_up_is c h (direction_to side) which in
     λ i. record {
-      event = Expire side None;
+      event = Expire side which;
       reply =
           record {
             answer = expired_now (direction_to side) (o i);

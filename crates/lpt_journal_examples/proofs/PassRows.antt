@@ -6,19 +6,20 @@ use Rattle.lpt_packet.specs.Checksums.{checksum, octets_in, shift_all}
 use Rattle.lpt_packet.specs.Packets.{seen, spelling}
 use Rattle.lpt_pus.specs.Commands.{tc_field, tc_verdict}
 use Rattle.lpt_pus.specs.Telemetry.{tm_field, tm_verdict}
+use Rattle.lpt_part.specs.declared.reason.Reason.TheVariants.{Expired as TimedOut}
 use Rattle.lpt_part.specs.Parts.{body_of, part_verdict}
-use Rattle.lpt_part.specs.Aborts.{abort_verdict}
+use Rattle.lpt_part.specs.Aborts.{abort_body, abort_verdict}
 use Rattle.lpt_events.specs.Arrivals.{arrival}
-use Rattle.lpt_events.specs.declared.outcome.Outcome.TheVariants.{Ignored}
-use Rattle.lpt_events.specs.declared.outcome.Why.TheVariants.{Unreadable}
-use Rattle.lpt_events.specs.declared.reply.Answer.TheVariants.{Delivered}
+use Rattle.lpt_events.specs.declared.outcome.Outcome.TheVariants.{AbortNoted, Ignored}
+use Rattle.lpt_events.specs.declared.outcome.Why.TheVariants.{NoRoom, Unreadable}
+use Rattle.lpt_events.specs.declared.reply.Answer.TheVariants.{Clock, Delivered}
 use Rattle.lpt_journal.specs.Abortions.{abortions}
 use Rattle.lpt_journal.specs.Releases.{releases}
 use Rattle.lpt_journal.specs.Whole.{came}
 use Rattle.lpt_journal_examples.proofs.LegalRows.{usual_pass, impatient_pass}
 use Rattle.lpt_journal_examples.proofs.Listed.{recorded_is}
 use Rattle.lpt_journal_examples.proofs.ListedReleases.{releases_passed}
-use Rattle.lpt_journal_examples.specs.Passes.{IsPass, passed, answers, usual, impatient, m9, m20, out_of_order, both_ways, noisy, two_expire, own, other}
+use Rattle.lpt_journal_examples.specs.Passes.{IsPass, passed, answers, usual, impatient, m9, m20, out_of_order, both_ways, noisy, two_expire, set_back, own, other}
 
 -- ---- three parts that come in another order
 
@@ -100,3 +101,44 @@ pub two_expire-released : releases impatient (passed impatient two_expire) ≡ [
 unfolding seen spelling checksum octets_in shift_all tc_field tc_verdict body_of part_verdict
     arrival
 two_expire-released = releases_passed impatient two_expire
+
+-- ---- a clock that is set back, and limits that an end gets later
+
+pub set_back-pass : IsPass usual set_back
+unfolding seen spelling checksum octets_in shift_all tc_field tc_verdict tm_field tm_verdict body_of
+    part_verdict abort_body abort_verdict arrival
+set_back-pass = usual_pass set_back refl
+
+pub set_back-clock : slice_get (answers usual set_back) 8 ≡ Some (Clock 1)
+unfolding seen spelling checksum octets_in shift_all tc_field tc_verdict tm_field tm_verdict body_of
+    part_verdict abort_body abort_verdict arrival
+set_back-clock =
+    ap (λ h. slice_get (reverse (map (λ x. x.reply.answer) h)) 8)
+    (recorded_is usual (reverse set_back))
+
+pub set_back-crowded : slice_get (answers usual set_back) 15 ≡ Some (Delivered (Ignored NoRoom))
+unfolding seen spelling checksum octets_in shift_all tc_field tc_verdict tm_field tm_verdict body_of
+    part_verdict abort_body abort_verdict arrival
+set_back-crowded =
+    ap (λ h. slice_get (reverse (map (λ x. x.reply.answer) h)) 15)
+    (recorded_is usual (reverse set_back))
+
+pub set_back-noted : slice_get (answers usual set_back) 23
+    ≡ Some (Delivered (AbortNoted (own 8) TimedOut))
+unfolding seen spelling checksum octets_in shift_all tc_field tc_verdict tm_field tm_verdict body_of
+    part_verdict abort_body abort_verdict arrival
+set_back-noted =
+    ap (λ h. slice_get (reverse (map (λ x. x.reply.answer) h)) 23)
+    (recorded_is usual (reverse set_back))
+
+pub set_back-expired : abortions (passed usual set_back)
+    ≡ record { place = 18; direction = Up; name = own 7 }
+    ∷ record { place = 21; direction = Up; name = own 8 } ∷ []
+unfolding seen spelling checksum octets_in shift_all tc_field tc_verdict tm_field tm_verdict body_of
+    part_verdict abort_body abort_verdict arrival
+set_back-expired = ap abortions (recorded_is usual (reverse set_back))
+
+pub set_back-released : releases usual (passed usual set_back) ≡ []
+unfolding seen spelling checksum octets_in shift_all tc_field tc_verdict tm_field tm_verdict body_of
+    part_verdict abort_body abort_verdict arrival
+set_back-released = releases_passed usual set_back

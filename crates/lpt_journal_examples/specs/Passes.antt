@@ -1,12 +1,12 @@
 -- Worked passes: the configurations, the messages and the events.
-use Rattle.std.specs.Prelude.{ℕ, List, [], ◌∷◌, ◌++◌, map, replicate, reverse, None}
+use Rattle.std.specs.Prelude.{ℕ, List, [], ◌∷◌, ◌++◌, map, replicate, reverse, Some, None}
 use Rattle.lpt_memory.specs.Memories.{Contents}
 use Rattle.lpt_packet.specs.Names.{Name, named_by}
 use Rattle.lpt_packet.specs.declared.direction.Direction.TheVariants.{Up, Down}
 use Rattle.lpt_part.specs.declared.mode.Mode.TheVariants.{Any, Strict}
 use Rattle.lpt_events.specs.Configs.{IsConfig}
 use Rattle.lpt_events.specs.declared.config.Config.{Config}
-use Rattle.lpt_acts.specs.Acts.{Act, Open, Send, Plain, Finish, Lose, Damage, Take, Deliver, Tick, Expire, Claim, Commit, Apply, Retire, Restart, On}
+use Rattle.lpt_acts.specs.Acts.{Act, Open, Send, Plain, Finish, Lose, Damage, Take, Deliver, Tick, Expire, Claim, Commit, Apply, Retire, Restart, On, Back, Within}
 use Rattle.lpt_events.specs.declared.lane.Lane.TheVariants.{S1, S2, G1, G2}
 use Rattle.lpt_events.specs.declared.reply.Answer.{Answer}
 use Rattle.lpt_events.specs.declared.side.Side.TheVariants.{Ground, Craft}
@@ -142,6 +142,24 @@ two_expire =
     ∷ Take S1 0 ∷ Deliver S1
     ∷ Take S1 1 ∷ Deliver S1
     ∷ Tick Craft On ∷ Expire Craft None ∷ Expire Craft None ∷ []
+
+-- ---- a clock that is set back, and limits that an end gets later
+
+-- The spacecraft's clock is set back between two parts, and then it has a timeout of two ticks and
+-- room for one reception. The reception expires two ticks behind its last part. Another one is
+-- given up before its time; both ends note that.
+abbrev pub set_back : List Act
+set_back =
+    Open Up (own 7) m20 ∷ Send Up (own 7) 1 ∷ Send Up (own 7) 2
+    ∷ Tick Craft On ∷ Tick Craft On ∷ Tick Craft On
+    ∷ Take S1 0 ∷ Deliver S1
+    ∷ Tick Craft (Back 2)
+    ∷ Tick Craft (Within (record { timeout = 2; receptions = 1; outgoing = 8 }))
+    ∷ Take S1 1 ∷ Deliver S1
+    ∷ Open Up (own 8) m9 ∷ Send Up (own 8) 1 ∷ Take S2 2 ∷ Deliver S2
+    ∷ Tick Craft On ∷ Tick Craft On ∷ Expire Craft None
+    ∷ Take S1 2 ∷ Deliver S1 ∷ Expire Craft (Some (own 8))
+    ∷ Take G1 4 ∷ Deliver G1 ∷ []
 
 -- ---- a load that is executed
 

@@ -4,15 +4,15 @@
 ghost use Rattle.std.specs.Prelude.{◌≡◌, true, [], ◌∷◌, map, slice_get, Some, None};
 ghost use Rattle.lpt_events.specs.declared.applied.Applied.TheVariants.{Done};
 ghost use Rattle.lpt_events.specs.declared.outcome.Outcome.TheVariants.{ReportNoted, AbortNoted, Broken, Ignored};
-ghost use Rattle.lpt_events.specs.declared.outcome.Why.TheVariants.{Unreadable};
-ghost use Rattle.lpt_events.specs.declared.reply.Answer.TheVariants.{Delivered, Stale, Applied};
+ghost use Rattle.lpt_events.specs.declared.outcome.Why.TheVariants.{NoRoom, Unreadable};
+ghost use Rattle.lpt_events.specs.declared.reply.Answer.TheVariants.{Clock, Delivered, Stale, Applied};
 ghost use Rattle.lpt_packet.specs.declared.direction.Direction.TheVariants.{Up, Down};
-ghost use Rattle.lpt_part.specs.declared.reason.Reason.TheVariants.{Discontinuity};
+ghost use Rattle.lpt_part.specs.declared.reason.Reason.TheVariants.{Discontinuity, Expired};
 ghost use Rattle.lpt_journal.specs.Abortions.{abortions};
 ghost use Rattle.lpt_journal.specs.Jobs.{executed, memories};
 ghost use Rattle.lpt_journal.specs.Releases.{releases};
 ghost use Rattle.lpt_journal.specs.Whole.{came};
-ghost use Rattle.lpt_journal_examples.specs.Passes.{IsPass, passed, answers, usual, strict, impatient, m9, m20, out_of_order, second_part_missing, in_order, both_ways, noisy, two_expire, executed_load, two_loads, dump_packet, report_packet, large_report, renewed, load_packet, usual_memories, loaded_memories, cleared_memories, own, other};
+ghost use Rattle.lpt_journal_examples.specs.Passes.{IsPass, passed, answers, usual, strict, impatient, m9, m20, out_of_order, second_part_missing, in_order, both_ways, noisy, two_expire, set_back, executed_load, two_loads, dump_packet, report_packet, large_report, renewed, load_packet, usual_memories, loaded_memories, cleared_memories, own, other};
 
 /// A message of three parts is delivered with its last part first, and released: each of them came.
 pub fn out_of_order_is_legal()
@@ -82,6 +82,23 @@ pub fn two_expire_is_legal()
         ≡ record { place = 9; direction = Up; name = own 9 }
         ∷ record { place = 10; direction = Up; name = other 3 } ∷ [] }
     ensures released { releases impatient (passed impatient two_expire) ≡ [] }
+{}
+
+/// The spacecraft's clock is set back by two ticks between two parts of a message, and the time of
+/// its reception with it. Then it has a timeout of two ticks and room for one reception: a part of
+/// another message has no room, and the first reception expires two ticks behind its last part. Now
+/// that part has room; its reception is given up before its time, and ground notes the report of
+/// it.
+pub fn set_back_is_legal()
+    ensures pass { IsPass usual set_back }
+    ensures clock { slice_get (answers usual set_back) 8 ≡ Some (Clock 1) }
+    ensures crowded { slice_get (answers usual set_back) 15 ≡ Some (Delivered (Ignored NoRoom)) }
+    ensures noted { slice_get (answers usual set_back) 23
+        ≡ Some (Delivered (AbortNoted (own 8) Expired)) }
+    ensures expired { abortions (passed usual set_back)
+        ≡ record { place = 18; direction = Up; name = own 7 }
+        ∷ record { place = 21; direction = Up; name = own 8 } ∷ [] }
+    ensures released { releases usual (passed usual set_back) ≡ [] }
 {}
 
 /// A request to load four octets is claimed, committed and executed: they stand in the memory, and
