@@ -76,7 +76,7 @@ pub record AreEndsOf (c : Config) (p : Pair) (on_ground on_craft : End) : Type 0
 -- also one that is free. An end is restored from its state, in place of the one that its program
 -- had.
 --
--- Assumed: A C program drops or refuses no request.
+-- Assumed: A C program never calls `lpt_end_drop`, `lpt_end_drop_read` or `lpt_end_refuse`.
 pub data Call : Type 0 where
   Open : Name → (message : List ℕ) → Call
   Part : Name → (k : ℕ) → Call
