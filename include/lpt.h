@@ -3,15 +3,15 @@
  * memory management (ECSS-E-ST-70-41C, services 13, 1 and 6), read from and written to the caller's
  * buffers.
  *
- * No call allocates memory. One that can fail returns LPT_DONE, or the number of what is wrong; in
- * that case nothing is written through a pointer but what its comment says. docs/FORMATS.md has the
- * layouts and the faults, docs/C.md what the caller promises:
+ * No call allocates memory. A call that can fail returns LPT_DONE, or the number of what is wrong;
+ * then it has written through pointers only what its comment says. docs/FORMATS.md has the layouts
+ * and the faults, docs/C.md what the caller promises:
  *
- *   - a length is the true number of items behind its pointer, and what is read there is
- *     initialised. What a call only writes through, as `out` and `needed`, may have no value yet;
+ *   - a length is the true number of items at its pointer, and memory that a call reads is
+ *     initialised. Memory that a call only writes, as `out` and `needed`, may be uninitialised;
  *   - a pointer is null only if its length is 0, and is aligned for its type;
- *   - what a call writes to (a pointer without const) overlaps nothing else that it is passed, and
- *     nothing else writes there, or to what it reads, while it runs. For octets that already stand
+ *   - memory that a call writes (a pointer without const) overlaps no other argument, and while the
+ *     call runs nothing else writes to memory that it reads or writes. For octets that are already
  *     in their place there are the calls lpt_build_..
  *
  * Calls over different buffers may run at once, on any threads, and in interrupts or signal
@@ -34,14 +34,14 @@ extern "C" {
 #define LPT_VERSION_STRING "0.1.0"
 #define LPT_VERSION_NUMBER 1000
 
-/* Results that must be looked at. */
+/* Marks a result that the caller must use. */
 #if defined(__GNUC__)
 #define LPT_MUST_USE __attribute__((warn_unused_result))
 #else
 #define LPT_MUST_USE
 #endif
 
-/* Nothing compiles if a structure has another layout than is said here. */
+/* The header doesn't compile if the compiler lays a structure out in another way. */
 #define LPT_LAYOUT(structure, octets, alignment)                                                   \
     struct lpt_aligned_##structure {                                                               \
         char before;                                                                               \
@@ -135,14 +135,14 @@ enum LptFault {
     LPT_E_RANGE = 102,
     /* The buffer is too short: it is as it was, and `needed` says how many octets it takes. */
     LPT_E_ROOM = 103,
-    /* The octets don't say it yet: more of the stream is needed. */
+    /* The result depends on octets to come: more of the stream is needed. */
     LPT_E_MORE = 104,
     /* The body is no such report. */
     LPT_E_NO_REPORT = 105,
     /* Of an end, a pass or a reader: nothing is left of it, as after a longjmp out of a memory
        function; in Python: it was closed. */
     LPT_E_EMPTY = 106,
-    /* Of an end: its 64-bit count of released requests, or of restarts, is at its end. */
+    /* Of an end: its count of released requests, or of restarts, is at its end, 2^64. */
     LPT_E_NO_NUMBER = 108,
     /* Of an end, a pass or a reader: there is nothing to copy, to send, to drop or to tell. */
     LPT_E_NOTHING = 109,
@@ -178,7 +178,8 @@ enum LptFault {
     LPT_E_CLOCK_START = 125
 };
 
-/* The name of what a call answered, as docs/C.md has it; "unknown" of another number. */
+/* The name of what a call returned, for example "too long" of LPT_E_TOO_LONG; "unknown" for another
+   number. */
 static inline const char *lpt_fault_name(uint32_t fault) {
     switch (fault) {
     case LPT_DONE:
@@ -332,7 +333,8 @@ enum LptPieceKind { LPT_PIECE_WHOLE = 1, LPT_PIECE_DAMAGED = 2, LPT_PIECE_STRAY 
    that isn't the next; a part contradicts another. */
 enum LptReason { LPT_REASON_EXPIRED = 1, LPT_REASON_DISCONTINUITY = 2, LPT_REASON_CONFLICT = 3 };
 
-/* The name of a reason, as docs/C.md has it; "unknown" of another number. */
+/* The name of an LptReason, for example "expired" of LPT_REASON_EXPIRED; "unknown" for another
+   number. */
 static inline const char *lpt_reason_name(uint32_t reason) {
     switch (reason) {
     case LPT_REASON_EXPIRED:
@@ -399,21 +401,21 @@ LPT_MUST_USE
 uint16_t lpt_crc16_more(uint16_t crc, const uint8_t *octets, size_t octets_len);
 
 /*
- * Says how many octets the packet has that begins a stream, by the first six of them. LPT_DONE for
- * a packet, LPT_E_IDLE for an idle one, which may be skipped; at both *length is written, 7 to
- * 65,542. LPT_E_MORE if there are too few octets yet to know, LPT_E_VERSION if no packet begins so.
+ * Returns the length of the packet at the front of a stream, from its first six octets. LPT_DONE
+ * for a packet, LPT_E_IDLE for an idle one, which may be skipped; for both *length is written, 7 to
+ * 65,542. LPT_E_MORE if there are too few octets yet, LPT_E_VERSION if no packet begins with these.
  */
 LPT_MUST_USE
 uint32_t lpt_packet_length(const uint8_t *octets, size_t octets_len, size_t *length);
 
 /*
- * Finds the piece in front of octets of a stream that may be damaged. `in_step` is 1 if the
+ * Finds the piece at the front of a stream that may be damaged. `in_step` is 1 if the
  * octets begin the stream, or come right after a packet or a damaged one, and 0 after a stray
  * octet; `is_end` is 1 if nothing comes after them, and 0 if that isn't known. Any
  * number but 0 is taken as 1.
  *
  * LPT_DONE, and *kind (LPT_PIECE_WHOLE, LPT_PIECE_DAMAGED or LPT_PIECE_STRAY) and *size, its
- * octets, at least one, are written: whatever comes after won't change them. LPT_E_MORE if there
+ * octets, at least one, are written: later octets won't change them. LPT_E_MORE if there
  * are no octets, or the piece depends on octets to come: never with LPT_LOOKAHEAD octets or more,
  * nor with `is_end` and at least one.
  */
@@ -422,18 +424,18 @@ uint32_t lpt_find_piece(const uint8_t *octets, size_t octets_len, uint32_t in_st
                         uint32_t *kind, size_t *size);
 
 /*
- * Counts the stray octets in front of octets that come right after a stray one: lpt_find_piece with
- * `in_step` 0 would report LPT_PIECE_STRAY that many times in a row. A
- * call counts at most LPT_LONGEST_PACKET, and returns 0 if lpt_find_piece would report something
- * else. It is quicker than lpt_find_piece if headers among them announce long packets: `room`
- * keeps what it works out. With LPT_STRAY_ROOM numbers there each octet takes a bounded
- * time; with fewer, or with none, the answer is the same. `room` needn't be set before, nor kept.
+ * Counts the stray octets at the front of octets that come right after a stray one:
+ * lpt_find_piece with `in_step` 0 would report LPT_PIECE_STRAY that many times in a row. A call
+ * counts at most LPT_LONGEST_PACKET, and returns 0 if lpt_find_piece would report something else.
+ * It is quicker than lpt_find_piece if headers among these octets announce long packets, because it
+ * uses `room` for its calculations. With LPT_STRAY_ROOM numbers there, each octet takes a bounded
+ * time; with fewer, or none, the result is the same. `room` needn't be initialised, nor kept.
  */
 LPT_MUST_USE
 size_t lpt_count_strays(const uint8_t *octets, size_t octets_len, uint32_t is_end, uint16_t *room,
                         size_t room_len);
 
-/* A packet that was read: what stands at octets[at], len octets long, is its data field. */
+/* A packet that was read. Its data field is the len octets from octets[at] on. */
 typedef struct LptPacket {
     uint32_t kind;  /* LPT_PACKET_TM or LPT_PACKET_TC */
     uint16_t apid;  /* 0 to 2046 */
@@ -458,9 +460,9 @@ uint32_t lpt_write_packet(uint32_t kind, uint16_t apid, uint16_t count, const ui
                           size_t field_len, uint8_t *out, size_t out_len, size_t *needed);
 
 /*
- * Builds a packet in place, around a field of so many octets that stands in the buffer already, from
- * out[6] on. It stays where it is. Returns what lpt_write_packet does for those octets, and at anything
- * but LPT_DONE the buffer is as it was.
+ * Builds a packet in place: its data field, of field_len octets, is in the buffer already, from
+ * out[6] on, and stays there. Returns what lpt_write_packet returns for those octets; unless that
+ * is LPT_DONE, the buffer stays as it was.
  */
 LPT_MUST_USE
 uint32_t lpt_build_packet(uint32_t kind, uint16_t apid, uint16_t count, size_t field_len,
@@ -478,7 +480,7 @@ typedef struct LptTcHead {
     uint16_t source;
 } LptTcHead;
 
-/* A telecommand that was read: what stands at octets[at], len octets long, is its body. */
+/* A telecommand that was read. Its body is the len octets from octets[at] on. */
 typedef struct LptTc {
     LptTcHead head;
     size_t at;
@@ -500,13 +502,13 @@ LPT_MUST_USE
 uint32_t lpt_write_tc(const LptTcHead *head, const uint8_t *body, size_t body_len, uint8_t *out,
                       size_t out_len, size_t *needed);
 
-/* Builds a telecommand's packet in place, around a body of so many octets that stands in the buffer
-   already, from out[11] on: as lpt_build_packet. Returns what lpt_write_tc does. */
+/* Builds a telecommand's packet in place, as lpt_build_packet: its body, of body_len octets, is in
+   the buffer already, from out[11] on. Returns what lpt_write_tc returns. */
 LPT_MUST_USE
 uint32_t lpt_build_tc(const LptTcHead *head, size_t body_len, uint8_t *out, size_t out_len,
                       size_t *needed);
 
-/* Gives the request ID of a telecommand of this head: the first four octets of its packet.
+/* Returns the request ID of a telecommand with this head: the first four octets of its packet.
    LPT_DONE, and *id is written; LPT_E_RANGE as lpt_write_tc. */
 LPT_MUST_USE
 uint32_t lpt_request_id(const LptTcHead *head, uint32_t *id);
@@ -523,7 +525,7 @@ typedef struct LptTmHead {
     uint32_t time;
 } LptTmHead;
 
-/* Telemetry that was read: what stands at octets[at], len octets long, is its body. */
+/* Telemetry that was read. Its body is the len octets from octets[at] on. */
 typedef struct LptTm {
     LptTmHead head;
     size_t at;
@@ -544,8 +546,8 @@ LPT_MUST_USE
 uint32_t lpt_write_tm(const LptTmHead *head, const uint8_t *body, size_t body_len, uint8_t *out,
                       size_t out_len, size_t *needed);
 
-/* Builds telemetry's packet in place, around a body of so many octets that stands in the buffer
-   already, from out[17] on: as lpt_build_packet. Returns what lpt_write_tm does. */
+/* Builds telemetry's packet in place, as lpt_build_packet: its body, of body_len octets, is in the
+   buffer already, from out[17] on. Returns what lpt_write_tm returns. */
 LPT_MUST_USE
 uint32_t lpt_build_tm(const LptTmHead *head, size_t body_len, uint8_t *out, size_t out_len,
                       size_t *needed);
@@ -575,7 +577,7 @@ uint32_t lpt_slice_part(const uint8_t *message, size_t message_len, uint32_t par
                         uint16_t number, uint32_t *kind, uint8_t *out, size_t out_len,
                         size_t *needed);
 
-/* A part that was read: what stands at body[at], len octets long, are its octets. */
+/* A part that was read. Its octets are the len octets from body[at] on. */
 typedef struct LptPart {
     uint16_t id;     /* the transaction identifier */
     uint16_t number; /* from 1 */
@@ -602,9 +604,9 @@ uint32_t lpt_write_part(uint32_t kind, uint16_t id, uint16_t number, const uint8
                         size_t octets_len, uint32_t part_size, uint8_t *out, size_t out_len,
                         size_t *needed);
 
-/* Builds the body of a part in place, around so many octets that stand in the buffer already, from
-   out[4] on: as lpt_build_packet. Returns what lpt_write_part does. So a part that stands at packet[15]
-   becomes a body by packet + 11, and then a telecommand's packet by lpt_build_tc. */
+/* Builds the body of a part in place, as lpt_build_packet: the part's octets are in the buffer
+   already, from out[4] on. Returns what lpt_write_part returns. So a part at packet[15] becomes a
+   body with packet + 11 as `out`, and then a telecommand's packet by lpt_build_tc. */
 LPT_MUST_USE
 uint32_t lpt_build_part(uint32_t kind, uint16_t id, uint16_t number, size_t octets_len,
                         uint32_t part_size, uint8_t *out, size_t out_len, size_t *needed);
@@ -685,8 +687,7 @@ LPT_MUST_USE
 uint32_t lpt_write_check(uint8_t memory, const LptRange *ranges, size_t ranges_len, uint8_t *out,
                          size_t out_len, size_t *needed);
 
-/* An area of the report that answers a dump: what stands at body[at], len octets long, are its
-   octets. */
+/* An area of the report that answers a dump. Its octets are the len octets from body[at] on. */
 typedef struct LptDumped {
     uint8_t memory;
     uint8_t areas; /* how many the report has */
@@ -715,7 +716,7 @@ typedef struct LptChecked {
 LPT_MUST_USE
 uint32_t lpt_read_check(const uint8_t *body, size_t body_len, size_t number, LptChecked *out);
 
-/* ---- the structures as the archive has them: size, alignment, offsets ---- */
+/* ---- the structures as the library has them: size, alignment, offsets ---- */
 
 LPT_LAYOUT(LptPacket, 24, 8);
 LPT_FIELD(LptPacket, kind, 0);

@@ -3,27 +3,28 @@
  * spacecraft's. An end sends messages in parts, joins the parts that come, gives up receptions that
  * take too long, and knows which names are in use.
  *
- * A program holds an end by its address, an LptEnd *. lpt_end_new and its like give one, and
- * lpt_end_free takes it back. A copy of the address names the same end; what it points to belongs
- * to the library. Each call returns LPT_DONE, or the number of the first thing that is wrong, in
- * the order of its comment. If it isn't LPT_DONE, the end is as it was, and the call has written
- * nothing through a pointer but what its comment says. LPT_E_ALLOCATION (out of memory) comes last.
- * docs/FORMATS.md lists the faults, and docs/C.md explains what the caller promises:
+ * A program holds an end by its address, an LptEnd *. lpt_end_new, lpt_end_resume and their like
+ * return one, and lpt_end_free frees it. A copy of the address names the same end; what it points
+ * to belongs to the library. Each call returns LPT_DONE, or the number of the first thing that is
+ * wrong, in the order of its comment. If it isn't LPT_DONE, the end is as it was, and the call has
+ * written nothing through a pointer but what its comment says. LPT_E_ALLOCATION (out of memory)
+ * comes last. docs/FORMATS.md lists the faults, and docs/C.md explains what the caller promises:
  *
- *   - what include/lpt.h says of lengths, pointers and overlaps;
- *   - the address of an end was given by a call, and lpt_end_free hasn't taken it back;
+ *   - what include/lpt.h says about lengths, pointers and overlaps;
+ *   - the address of an end was returned by a call, and lpt_end_free hasn't freed it;
  *   - only one call at a time uses an end, and none is made in an interrupt or a signal handler.
- *     An end may go to another thread if a lock, or the start or end of a thread, stands between.
- *     Calls of different ends may run at once only if the three functions that give memory may;
+ *     Another thread may use an end if a lock, or the start or end of a thread, comes in between.
+ *     Calls on different ends may run at once only if the three memory functions may;
  *   - each part or plain request that is handed to lpt_end_packet was made by the other end (or in
- *     its place by a pass of lpt_ground.h), a part after this end last freed its name: nobody
- *     forges packets, no damage passes the checksum, and no packet's content is taken for a packet;
+ *     its place by a pass of lpt_ground.h), and each part was made after this end last freed its
+ *     name: nobody forges packets, no damage passes the checksum, and no octets within a packet are
+ *     taken for a packet on the link;
  *   - the rules at lpt_end_new, lpt_end_packet and lpt_end_retire, for the two ends of a link;
  *   - a program that has the memories itself reads them as lpt_end_access says, before
- *     lpt_end_execute_given, and writes them before that call, or after it and before the next
- *     request;
- *   - the program has the three functions that give memory, LptTried rattle_alloc(..) and so on,
- *     and they do what their comments say.
+ *     lpt_end_execute_given, and writes them before that call, or after it and before it executes
+ *     another request;
+ *   - the program has the three memory functions, LptTried rattle_alloc(..) and so on, and they do
+ *     what their comments say.
  */
 #ifndef LPT_END_H
 #define LPT_END_H
@@ -53,8 +54,8 @@ typedef struct LptEnd LptEnd;
 /*
  * What is fixed about an end. Both ends of a link have the same APID, part size and mode, because
  * packets are made and joined by them. The other values are an end's own. An end that is restored
- * from a state may have another timeout and other limits than before; if its APID, part size or mode
- * is another, lpt_end_resume returns LPT_E_STATE_CONFIG.
+ * from a state may have another timeout and other limits than before; if its APID, part size or
+ * mode is another, lpt_end_resume returns LPT_E_STATE_CONFIG.
  */
 typedef struct LptConfig {
     uint16_t apid;       /* of all packets, 0 to 2046 */
@@ -66,14 +67,15 @@ typedef struct LptConfig {
     uint32_t mode;       /* LPT_MODE_ANY or LPT_MODE_STRICT */
 } LptConfig;
 
-/* The name of a transaction within its direction. Parts with the same identifier and different
-   sources belong to different transactions. */
+/* The name of a transaction within its direction. A transaction is the transfer of one message:
+   an open message at its sender, a reception at its receiver. Parts with the same identifier and
+   different sources belong to different transactions. */
 typedef struct LptName {
     uint16_t source; /* the source ID of telecommands up, the destination ID of telemetry down */
     uint16_t id;     /* the identifier in the parts */
 } LptName;
 
-/* A memory of a new end. Its first octets are content[at], content[at + 1] and so on. */
+/* A memory of a new end. Its initial octets are content[at] to content[at + len - 1]. */
 typedef struct LptMemory {
     uint8_t id; /* its identifier */
     size_t at;
@@ -81,7 +83,7 @@ typedef struct LptMemory {
 } LptMemory;
 
 /*
- * Makes an end. A spacecraft's end has these memories, and copies their first octets from the
+ * Makes an end. A spacecraft's end has these memories, and copies their initial octets from the
  * content. Ground's end has no memories, and the call looks at neither the list nor the content.
  * A new end is no restart of an old one, because it doesn't know which names were used. So if an
  * end was lost and is made anew, make the other end anew too, and let no older packet come.
@@ -113,7 +115,8 @@ enum LptOutcomeKind {
     LPT_OUTCOME_IGNORED = 8         /* the packet changed nothing: first is the LptWhy */
 };
 
-/* The name of an outcome's kind, as docs/C.md has it; "unknown" of another number. */
+/* The name of an outcome's kind, for example "kept" of LPT_OUTCOME_KEPT; "unknown" for another
+   number. */
 static inline const char *lpt_outcome_name(uint32_t outcome) {
     switch (outcome) {
     case LPT_OUTCOME_KEPT:
@@ -148,7 +151,7 @@ enum LptWhy {
     LPT_WHY_NO_ROOM = 6       /* as many receptions are open as may be */
 };
 
-/* The name of a why; "unknown" of another number. */
+/* The name of an LptWhy; "unknown" for another number. */
 static inline const char *lpt_why_name(uint32_t why) {
     switch (why) {
     case LPT_WHY_UNREADABLE:
@@ -177,10 +180,10 @@ typedef struct LptOutcome {
 } LptOutcome;
 
 /*
- * Takes a packet that came, and tells what became of it. A message that it released can be copied
+ * Takes a packet that came, and returns what became of it. A message that it released can be copied
  * until the next packet is taken. If a spacecraft's end aborts a reception, a report of that waits
  * to be sent.
- * The link below tells where packets begin and end. Don't search damaged octets for the next
+ * The layer below must know where packets begin and end. Don't search damaged octets for the next
  * packet: a message may contain packets, and the end would take one of those as if it had been
  * sent.
  * LPT_DONE, and *outcome is written; LPT_E_NO_NUMBER; LPT_E_ALLOCATION.
@@ -197,18 +200,17 @@ LPT_MUST_USE
 uint32_t lpt_end_released(LptEnd *end, uint8_t *out, size_t out_len, size_t *needed);
 
 /*
- * Gives up a reception that got no part for as long as the timeout. If several are due, it is the
- * one that has waited longest; of those, the one with the least source, and then the least
- * identifier. At a spacecraft's end, a report of it waits to be sent.
+ * Gives up a reception to which no part came for as long as the timeout. If several are due, it is
+ * the one that has waited longest; of those, the one with the least source, and then the least
+ * identifier. At a spacecraft's end, a report of this waits to be sent.
  * LPT_DONE, and *name is its name; LPT_E_NOTHING_DUE; LPT_E_ALLOCATION.
  */
 LPT_MUST_USE
 uint32_t lpt_end_expire(LptEnd *end, LptName *name);
 
 /*
- * Gives up the open reception of a name before its time, as lpt_end_expire does one that is due,
- * for example if the sender was reset. At a spacecraft's end, a report of it waits to be sent,
- * with the reason of an expiry.
+ * Gives up the open reception of a name before it is due, for example if the sender was reset. At
+ * a spacecraft's end, a report of this waits to be sent, with the reason of an expiry.
  * LPT_DONE; LPT_E_NOT_OPEN if no reception of the name is open; LPT_E_ALLOCATION.
  */
 LPT_MUST_USE
@@ -224,17 +226,17 @@ uint32_t lpt_end_give_up(LptEnd *end, const LptName *name);
 LPT_MUST_USE
 uint32_t lpt_end_open(LptEnd *end, const LptName *name, const uint8_t *message, size_t message_len);
 
-/* Makes the packet of a part of an open message, by the part's number from 1. It goes behind the
-   packets that wait to be sent.
+/* Makes the packet of a part of an open message, by the part's number from 1, and queues it behind
+   the packets that wait to be sent.
    LPT_DONE; LPT_E_NOT_OPEN; LPT_E_NO_SUCH_PART; LPT_E_ALLOCATION. */
 LPT_MUST_USE
 uint32_t lpt_end_part(LptEnd *end, const LptName *name, uint16_t number);
 
 /*
  * Makes the packet of a plain request with this source, these acknowledgement flags, service type,
- * message subtype and body. It goes behind the packets that wait to be sent. Only ground makes
- * requests. Reports of the request go to its source. Each delivery of the packet is a request of
- * its own, so the spacecraft executes it as often as it is delivered.
+ * message subtype and body, and queues it behind the packets that wait to be sent. Only ground
+ * makes requests. Reports on the request go to its source. The spacecraft executes the request as
+ * often as the packet is delivered.
  * LPT_DONE; LPT_E_RANGE for flags above 15, and at the spacecraft; LPT_E_PART_REQUEST;
  * LPT_E_LONG_MESSAGE if the packet would be longer than the part size and 23 octets;
  * LPT_E_ALLOCATION.
@@ -266,10 +268,11 @@ enum LptAppliedKind {
     LPT_APPLIED_CARRIED_OUT = 1,
     LPT_APPLIED_OPENED = 2, /* carried out; its report is the open message `name`, sent in parts */
     LPT_APPLIED_SILENT = 3, /* no telecommand of the APID, or dropped: nothing was done */
-    LPT_APPLIED_REFUSED = 4 /* `value` is the LptFailure */
+    LPT_APPLIED_REFUSED = 4 /* it failed, and changed nothing: `value` is the LptFailure */
 };
 
-/* The name of its kind, as docs/C.md has it; "unknown" of another number. */
+/* The name of an LptAppliedKind, for example "carried out" of LPT_APPLIED_CARRIED_OUT; "unknown"
+   for another number. */
 static inline const char *lpt_applied_name(uint32_t applied) {
     switch (applied) {
     case LPT_APPLIED_CARRIED_OUT:
@@ -298,7 +301,7 @@ LPT_MUST_USE
 uint32_t lpt_end_read(LptEnd *end);
 
 /*
- * Tells the service type and message subtype of the oldest released request that wasn't read yet,
+ * Returns the service type and message subtype of the oldest released request that wasn't read yet,
  * so that a program sees whether it is for memory management (service 6) or for a service of its
  * own. LPT_DONE, and *service and *subtype are written; LPT_E_NO_JOB, as always on ground;
  * LPT_E_NOTHING if the request is no telecommand of the end's APID.
@@ -314,29 +317,31 @@ typedef struct LptArea {
 } LptArea;
 
 /*
- * Tells where a load will write: the area with this number, from 0, of the oldest released request
- * that wasn't read yet. If lpt_end_execute reports LPT_APPLIED_CARRIED_OUT of it, its areas were
- * written exactly there, in their order; otherwise none was. LPT_DONE, and *area is written;
- * LPT_E_NO_JOB, as always on ground; LPT_E_NOTHING if the request is no load, has no such area,
- * or the area's checksum is wrong.
+ * Returns where a load will write: the area with this number, from 0, of the oldest released
+ * request that wasn't read yet. If lpt_end_execute then carries it out (applied->kind is
+ * LPT_APPLIED_CARRIED_OUT), its areas were written exactly there, in their order; otherwise none
+ * was.
+ * LPT_DONE, and *area is written; LPT_E_NO_JOB, as always on ground; LPT_E_NOTHING if the request
+ * is no load, has no such area, or the area's checksum is wrong.
  */
 LPT_MUST_USE
 uint32_t lpt_end_asked_area(LptEnd *end, size_t number, LptArea *area);
 
 /*
  * Drops the oldest released request that wasn't read yet, in place of lpt_end_read: it is never
- * executed. An empty request takes its place. When its turn comes, its execution, by either call,
- * is LPT_APPLIED_SILENT, and makes no report for ground. lpt_end_drop_read drops a request that was
- * read. Less is proved of ends that drop requests: docs/C.md says what.
+ * executed. An empty request takes its place. When its turn comes, still call lpt_end_execute, or
+ * lpt_end_execute_given with no octets: applied->kind is then LPT_APPLIED_SILENT, and there is no
+ * report. lpt_end_drop_read drops a request that was read. Less is proved about ends that drop
+ * requests: docs/C.md says what.
  * LPT_DONE; LPT_E_NO_JOB, as always on ground; LPT_E_ALLOCATION.
  */
 LPT_MUST_USE
 uint32_t lpt_end_drop(LptEnd *end);
 
 /*
- * Executes the oldest request, which must have been read: does what it asks of a memory, and tells
- * what became of it. Its reports wait to be sent. A report that is too long for a packet is opened
- * as a message.
+ * Executes the oldest request, which must have been read: does what it asks of a memory, and
+ * returns what became of it. Its reports wait to be sent. A report that is too long for a packet is
+ * opened as a message.
  * LPT_DONE, and *applied is written; LPT_E_ELSEWHERE if the caller has the memories; LPT_E_NO_JOB,
  * as always on ground; LPT_E_NOT_READ; LPT_E_UNSENT; LPT_E_ALLOCATION.
  */
@@ -369,7 +374,7 @@ typedef struct LptSize {
 /*
  * Makes a spacecraft's end, in place of lpt_end_new, if the caller has the memories: the end knows
  * their identifiers and sizes, but none of their octets. lpt_end_execute_given executes its
- * requests. All else is as with lpt_end_new.
+ * requests. Everything else is as with lpt_end_new.
  * LPT_DONE, and *end is its address; LPT_E_RANGE for another mode; LPT_E_CONFIG_APID to
  * LPT_E_CONFIG_OUTGOING; LPT_E_MEMORIES if they aren't 1 to 16 with distinct identifiers, of 1 to
  * 4,294,967,295 octets each; LPT_E_ALLOCATION.
@@ -397,10 +402,11 @@ typedef struct LptAccess {
 } LptAccess;
 
 /*
- * Tells one access that the oldest request, which must have been read, makes to a memory, by the
+ * Returns one access that the oldest request, which must have been read, makes to a memory, by the
  * access's number from 0. A load writes its areas, and a dump and a check read theirs, in this
- * order. Each access lies within its memory. A wrong request makes none. LPT_DONE, and *access is
- * written; LPT_E_NO_JOB, as always on ground; LPT_E_NOT_READ; LPT_E_NOTHING if there are no more.
+ * order. Each access lies within its memory. A request with a fault makes none. LPT_DONE, and
+ * *access is written; LPT_E_NO_JOB, as always on ground; LPT_E_NOT_READ; LPT_E_NOTHING if there are
+ * no more.
  */
 LPT_MUST_USE
 uint32_t lpt_end_access(LptEnd *end, size_t number, LptAccess *access);
@@ -416,11 +422,12 @@ uint32_t lpt_end_access_octets(LptEnd *end, size_t number, uint8_t *out, size_t 
                                size_t *needed);
 
 /*
- * Executes the oldest request, which must have been read, if the caller has the memories, and tells
- * what became of it. The caller passes the octets that the request reads, those of one access
- * behind those of the one before; none if it reads nothing. What the request writes, the caller
- * either has written before this call, or has copied and writes before it executes another request:
- * docs/C.md says how either survives a reset. Its reports wait to be sent, as with lpt_end_execute.
+ * Executes the oldest request, which must have been read, if the caller has the memories, and
+ * returns what became of it. The caller passes the octets that the request reads, those of each
+ * access behind those of the one before; none if it reads nothing. The caller either has written
+ * what the request writes before this call, or has copied it and writes it before it executes
+ * another request: docs/C.md says how either survives a reset. Its reports wait to be sent, as with
+ * lpt_end_execute.
  * LPT_DONE, and *applied is written; LPT_E_ELSEWHERE if the end has the memories; LPT_E_NO_JOB, as
  * always on ground; LPT_E_NOT_READ; LPT_E_READ_LENGTH if the request reads more octets than these,
  * or fewer; LPT_E_UNSENT; LPT_E_ALLOCATION.
@@ -432,10 +439,11 @@ uint32_t lpt_end_execute_given(LptEnd *end, const uint8_t *octets, size_t octets
 /*
  * Refuses the oldest request, which must have been read, in place of executing it: it is never
  * executed, and a report that it failed, with the failure code of this number (LptFailure, 1 to 8),
- * waits to be sent to its source. *applied is as of an execution that was refused with that code.
- * Use it if the request can't be carried out here: it reads more than the program can at once, or
- * its memory can't be read or written. If some of it was written, write the old octets back first.
- * What is no telecommand of the end's APID has no report.
+ * waits to be sent to its source. *applied is as if an execution was refused with that code. Use it
+ * if the request can't be carried out here: it reads more than the program can at once, or its
+ * memory can't be read or written. If some of it was written, write the old octets back first. If
+ * the message is no telecommand of the end's APID, there is no report. Less is proved about
+ * programs that refuse or drop requests themselves: docs/C.md says what.
  * LPT_DONE, and *applied is written; LPT_E_RANGE for another number; LPT_E_NO_JOB, as always on
  * ground; LPT_E_NOT_READ; LPT_E_UNSENT; LPT_E_ALLOCATION.
  */
@@ -444,7 +452,8 @@ uint32_t lpt_end_refuse(LptEnd *end, uint16_t number, LptApplied *applied);
 
 /*
  * Drops the oldest request, which must have been read, in place of executing it: it is never
- * executed, and no report of it is made, so its source isn't told (lpt_end_refuse tells it).
+ * executed, and there is no report of this (lpt_end_refuse makes one). Put back first what it
+ * overwrote.
  * LPT_DONE; LPT_E_NO_JOB, as always on ground; LPT_E_NOT_READ.
  */
 LPT_MUST_USE
@@ -452,19 +461,20 @@ uint32_t lpt_end_drop_read(LptEnd *end);
 
 /* ---- the clock, names, and a restart ---- */
 
-/* Moves the clock on by one tick. LPT_DONE; LPT_E_CLOCK_END. */
+/* Advances the clock by one tick. LPT_DONE; LPT_E_CLOCK_END. */
 LPT_MUST_USE
 uint32_t lpt_end_tick(LptEnd *end);
 
-/* Moves the clock on by several ticks at once, in the time of one call of lpt_end_tick, and leaves
-   what that many calls would. Nothing expires meanwhile, so call lpt_end_expire afterwards.
+/* Advances the clock by several ticks at once, as that many calls of lpt_end_tick would, but in the
+   time of one. Nothing expires meanwhile, so call lpt_end_expire afterwards.
    LPT_DONE, also for 0 ticks; LPT_E_CLOCK_END if the clock would go past 4,294,967,295. */
 LPT_MUST_USE
 uint32_t lpt_end_tick_many(LptEnd *end, uint32_t ticks);
 
-/* Moves the clock back by several ticks, and with it each reception's `due`, so that each is due
-   after as many ticks as before. All else stays. So a clock never has to end. The most that it goes
-   back is the least of the clock and of each open reception's `due` less the timeout.
+/* Sets the clock back by several ticks, and with it each reception's `due`, so that each is due
+   after as many ticks as before. Everything else stays. So a clock never has to end. It can go back
+   by at most its value, and, if receptions are open, by at most the least `due` of an LptReception
+   less the timeout: no tick at which a reception last got a part may go below 0.
    LPT_DONE, also for 0 ticks; LPT_E_CLOCK_START if it would go back further. */
 LPT_MUST_USE
 uint32_t lpt_end_rebase(LptEnd *end, uint32_t ticks);
@@ -477,9 +487,9 @@ uint32_t lpt_end_rebase(LptEnd *end, uint32_t ticks);
  *      at the sender.
  *   3. This call returns LPT_DONE at the receiver's end.
  *   4. It returns LPT_DONE at the sender's end.
- * The call looks only at the names of its own end, not at the other end or at packets that wait to
- * be sent. A late report of an abortion of the old message closes the next one of its name at the
- * sender.
+ * The call checks only the names of its own end, not the other end or packets that wait to be
+ * sent. If the report that the old message was aborted comes late, it closes the next message of
+ * that name at the sender.
  * LPT_DONE, also if the name is free already; LPT_E_RANGE for another direction; LPT_E_STILL_OPEN
  * if a message or a reception of this name is open in this direction.
  */
@@ -491,17 +501,17 @@ uint32_t lpt_end_retire(LptEnd *end, uint32_t direction, const LptName *name);
 enum LptNameState { LPT_NAME_FREE = 0, LPT_NAME_OPEN = 1, LPT_NAME_CLOSED = 2 };
 
 /*
- * Tells the state of a transaction's name at this end, and changes nothing. LPT_DONE, and *state is
- * an LptNameState: of a message in the direction in which the end sends, of a reception in the
- * other. LPT_E_RANGE for another direction.
+ * Returns the state of a name at this end, and changes nothing. In the direction in which the end
+ * sends, messages use names; in the other, receptions do. LPT_DONE, and *state is an LptNameState;
+ * LPT_E_RANGE for another direction.
  */
 LPT_MUST_USE
 uint32_t lpt_end_name(LptEnd *end, uint32_t direction, const LptName *name, uint32_t *state);
 
 /*
- * Tells the first closed name of a direction from this one on, and changes nothing. Names are
+ * Returns the first closed name of a direction from this one on, and changes nothing. Names are
  * ordered by source, and then by identifier. To list all, begin with {0, 0}, and go on with the
- * name after the last answer. LPT_DONE, and *name is it; LPT_E_RANGE for another direction;
+ * name after the last one. LPT_DONE, and *name is it; LPT_E_RANGE for another direction;
  * LPT_E_NOTHING if no name is closed from there on. Its time grows with the names in use: with
  * 65,536 it takes half a millisecond if they have one source, and 4 if each has its own.
  */
@@ -518,7 +528,7 @@ typedef struct LptView {
     size_t requests;   /* requests that weren't executed yet, read or not */
 } LptView;
 
-/* Tells what the end has to do, and changes nothing. It returns LPT_DONE, and *view is written. */
+/* Returns what the end has to do, and changes nothing: LPT_DONE, and *view is written. */
 LPT_MUST_USE
 uint32_t lpt_end_view(LptEnd *end, LptView *view);
 
@@ -532,13 +542,14 @@ typedef struct LptReception {
     uint64_t due;  /* the clock's value at which it is due, unless a part comes before */
 } LptReception;
 
-/* Tells an open reception by its number from 0, ordered by source and then by identifier. LPT_DONE,
-   and *reception is written; LPT_E_NOTHING if no more are open. */
+/* Returns an open reception by its number from 0; they are ordered by source and then by
+   identifier.
+   LPT_DONE, and *reception is written; LPT_E_NOTHING if no more are open. */
 LPT_MUST_USE
 uint32_t lpt_end_reception(LptEnd *end, size_t number, LptReception *reception);
 
 /*
- * Tells the next missing part of an open reception: the least number, not below `from`, of a part
+ * Returns the next missing part of an open reception: the least number, not below `from`, of a part
  * that wasn't kept. If the last part has come, only numbers before it count.
  * LPT_DONE, and *number is that part's; LPT_E_NOT_OPEN if no reception of the name is open;
  * LPT_E_NOTHING if no part is missing from there on.
@@ -553,16 +564,16 @@ typedef struct LptSender {
     size_t len;     /* its octets */
 } LptSender;
 
-/* Tells a message that is open for sending by its number from 0, in the same order. LPT_DONE, and
+/* Returns a message that is open for sending by its number from 0, in the same order. LPT_DONE, and
    *sender is written; LPT_E_NOTHING if no more are open. */
 LPT_MUST_USE
 uint32_t lpt_end_sender(LptEnd *end, size_t number, LptSender *sender);
 
 /*
- * Restarts the end. It closes its open messages, whose names stay in use, drops its open receptions,
- * whose names are free again, and the released requests that it keeps, and counts its packets from
- * 0. Other names, the clock and the memories stay as they are, and so do the message that was
- * released last and the packets that wait to be sent.
+ * Restarts the end. It closes its open messages, whose names stay in use, drops its open
+ * receptions, whose names are free again, and the released requests that it keeps, and counts its
+ * packets from 0. Other names, the clock and the memories stay as they are, and so do the message
+ * that was released last and the packets that wait to be sent.
  * LPT_DONE; LPT_E_NO_NUMBER.
  */
 LPT_MUST_USE
@@ -572,20 +583,21 @@ uint32_t lpt_end_restart(LptEnd *end);
 
 /*
  * Copies the state of the end to the front of a buffer, and leaves the rest of the buffer as it
- * was. The state is the names that the end knows, its clock, and the number of its start.
- * lpt_end_memory copies memories. docs/FORMATS.md has the octets, and docs/C.md says when to keep
+ * was. The state is the names that the end knows, its clock, and how often it was restarted.
+ * lpt_end_memory copies memories. docs/FORMATS.md has the octets, and docs/C.md says when to save
  * them. The call allocates nothing.
  * LPT_DONE; LPT_E_ROOM. At LPT_DONE and LPT_E_ROOM *needed is the state's length: 45, and 6 for
- * each run of names, of which there are at most as many as names in use.
+ * each run of names in use: identifiers of one source and direction that follow one another. There
+ * are at most as many runs as names in use, and at most 32,768 of a source and direction.
  */
 LPT_MUST_USE
 uint32_t lpt_end_state(LptEnd *end, uint8_t *out, size_t out_len, size_t *needed);
 
 /*
- * Restores an end from a state, in place of lpt_end_new. The end is as lpt_end_restart would have
- * left the end whose state it is, with nothing released and nothing to be sent. The memories are
- * those of that end, in any order. The clock is the state's, and the configuration's is ignored; the
- * timeout and the limits are the configuration's.
+ * Restores an end from a state, in place of lpt_end_new. It is as the old end would be after
+ * lpt_end_restart, with nothing released and nothing to be sent. The memories are
+ * those of that end, in any order. The clock is the state's, and the configuration's is ignored;
+ * the timeout and the limits are the configuration's.
  * LPT_DONE, and *end is its address; LPT_E_RANGE for another side or mode; LPT_E_CONFIG_APID to
  * LPT_E_CONFIG_OUTGOING; LPT_E_MEMORIES as with lpt_end_new; LPT_E_STATE_SHORT to
  * LPT_E_STATE_CHECKSUM, in that order; LPT_E_NO_NUMBER if the state's start was the last possible;
@@ -596,7 +608,7 @@ uint32_t lpt_end_resume(LptEnd **end, uint32_t side, const LptConfig *config, co
                         size_t state_len, const LptMemory *memories, size_t memories_len,
                         const uint8_t *content, size_t content_len);
 
-/* ---- memory, which the caller's program gives ---- */
+/* ---- memory, which the caller's program provides ---- */
 
 /* The answer to a request for octets: whether there are any, and where. `at` is never null. */
 typedef struct LptTried {
@@ -604,18 +616,18 @@ typedef struct LptTried {
     void *at;
 } LptTried;
 
-/* Gives n octets that nobody else has, at an address that 16 divides, whatever `align` is, or
-   `ok` false. */
+/* Returns n octets that nothing else uses, at a multiple of 16, whatever `align` is; or `ok`
+   false. */
 LptTried rattle_alloc(size_t n, size_t align);
 
-/* Makes a given block n octets long, maybe at another place. Its first `kept` octets stay, or its
-   first n if n is less. If this fails, the block stays as it is. */
+/* Makes this block n octets long, maybe at another place. Its first `kept` octets (or n, if that is
+   less) stay as they were. If this fails, `ok` is false, and the block stays as it is. */
 LptTried rattle_realloc(void *block, size_t kept, size_t n, size_t align);
 
 /* Takes a block back. */
 void rattle_dealloc(void *block);
 
-/* ---- the structures as the archive has them: size, alignment, offsets ---- */
+/* ---- the structures as the library has them: size, alignment, offsets ---- */
 
 LPT_LAYOUT(LptConfig, 28, 4);
 LPT_FIELD(LptConfig, apid, 0);

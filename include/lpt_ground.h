@@ -1,24 +1,26 @@
 /*
- * Ground's end of a pass for large packet transfer (ECSS-E-ST-70-41C): it carries a job of loads,
- * dumps or checks of a memory (service 6) to its end. Each request is one packet, and is sent again,
- * by rounds, until a report has settled it.
+ * Ground's end of a pass for large packet transfer (ECSS-E-ST-70-41C). A pass does a job of loads,
+ * dumps or checks of a memory (service 6). Each request is one packet, and is sent again, in
+ * rounds, until a report settles it, that is, says that it completed or failed.
  *
- * A program holds a pass by its address, an LptGround *. lpt_ground_new gives one, and
- * lpt_ground_free takes it back. Between them the program asks what is next, and does it:
+ * A program holds a pass by its address, an LptGround *. lpt_ground_new returns one, and
+ * lpt_ground_free frees it. In between the program asks by lpt_ground_next what to do, and does
+ * that:
  *
- *   - LPT_STEP_SEND: it copies the packet by lpt_ground_outgoing, sends it, and says so by
- *     lpt_ground_sent, with no other call of the pass in between. Before it asks what is next, it
- *     hands over by lpt_ground_packet what came;
- *   - LPT_STEP_LISTEN: it waits for a packet, and hands it over; if none comes for so long that none
- *     can be on its way any more, for example for a second, it says so by lpt_ground_quiet, and a
- *     new round begins;
- *   - else the pass is at its end.
+ *   - LPT_STEP_SEND: copy the packet by lpt_ground_outgoing, send it, and call lpt_ground_sent,
+ *     with no other call of the pass in between. Then pass the packets that came to
+ *     lpt_ground_packet, before you ask again;
+ *   - LPT_STEP_LISTEN: wait for a packet, and pass it to lpt_ground_packet. If none comes for so
+ *     long that none can be on its way any more, for example for a second, call lpt_ground_quiet:
+ *     then a new round begins. (A call that comes too early costs packets, and counts as a wait
+ *     for `tries`, but nothing that is proved depends on it);
+ *   - any other step: the pass is at its end.
  *
  * Each call returns LPT_DONE, or the number of the first thing that is wrong, in the order of its
  * comment. If it isn't LPT_DONE, the pass is as it was, and the call has written nothing through a
  * pointer but what its comment says. LPT_E_ALLOCATION (out of memory) comes last. The caller
- * promises what include/lpt_end.h says of addresses, threads and memory. docs/C.md says what is
- * proved of a pass that ends with LPT_STEP_COMPLETED, and what is assumed.
+ * promises what include/lpt_end.h says about addresses, threads and memory. docs/C.md says what is
+ * proved about a pass that ends with LPT_STEP_COMPLETED, and what is assumed.
  */
 #ifndef LPT_GROUND_H
 #define LPT_GROUND_H
@@ -34,8 +36,7 @@ extern "C" {
 /* A pass. */
 typedef struct LptGround LptGround;
 
-/* What is asked of a memory: that it takes octets, that it tells them, that it tells their
-   checksums. */
+/* What is asked of a memory: to take octets, to report them, or to report their checksums. */
 enum LptJobKind { LPT_JOB_LOAD = 1, LPT_JOB_DUMP = 2, LPT_JOB_CHECK = 3 };
 
 /* A job: what is asked, and in which packets. */
@@ -43,17 +44,17 @@ typedef struct LptJob {
     uint32_t kind;      /* an LptJobKind */
     uint8_t memory;     /* the memory's identifier */
     uint8_t flags;      /* acknowledgement flags of the requests: of loads 8, so that completion is
-                           reported, or 10, so that a report of the start settles a load too; of
-                           dumps and checks 0. Other flags up to 15 may be added */
+                           reported, or 10 (8 and 2), so that a report of the start settles a load
+                           too; of dumps and checks 0. Other flags up to 15 may be added */
     uint16_t apid;      /* of all packets, 0 to 2046 */
-    uint16_t source;    /* the job's own: reports go to it. No packet of an earlier job with it can
-                           still come */
+    uint16_t source;    /* the job's own: reports go to it. No other request may have had it, unless
+                           this job continues one that was stopped */
     uint16_t count;     /* the first request's sequence count, 0 to 16,383 */
     uint32_t part_size; /* of the link: for loads 4 to 1024, dumps 7 to 1024, checks 6 to 1024, as a
-                           report must fit one packet. A load has at most so many octets, a dump 6
-                           less, a check 4,000 */
-    uint32_t tries;     /* at least 1: the pass is given up after so many waits in a row that settled
-                           nothing */
+                           report must fit one packet. A request loads at most part_size octets,
+                           or dumps at most part_size - 6, or checks at most 4,000 */
+    uint32_t tries;     /* at least 1: the pass is given up after so many waits in a row that
+                           settled nothing */
 } LptJob;
 
 /* Octets of a memory. */
@@ -63,10 +64,10 @@ typedef struct LptPlace {
 } LptPlace;
 
 /*
- * Makes the pass of a job of these places. The octets of a load stand in `content`, those of one
- * place behind those of the place before, and are copied; a dump and a check look at no content.
- * Each place is cut into requests of as many octets as LptJob says at part_size, and its last one
- * has the rest. Requests are numbered from 0 through all places.
+ * Makes the pass of a job of these places. The octets of a load are in `content`, those of each
+ * place behind those of the place before, and are copied; a dump and a check don't read `content`.
+ * Each place is cut into requests of as many octets as LptJob says at part_size; the last one of a
+ * place has the rest. Requests are numbered from 0 through all places.
  * LPT_DONE, and *pass is its address; LPT_E_RANGE for a number of the job that is out of its range,
  * and for flags of a load without 8; LPT_E_BAD_AREA for no place, and for one without octets or
  * with some behind the last address; LPT_E_LONG_JOB for more than 16,384 requests; LPT_E_RANGE if
@@ -82,8 +83,8 @@ void lpt_ground_free(LptGround *pass);
 /* ---- what it does next ---- */
 
 /* What a pass does next. From 3 on it is at its end. A later packet that settles a request may
-   complete it; after LPT_STEP_GIVEN_UP the next lpt_ground_quiet then, and only then, begins a
-   round. */
+   still complete the pass. If such a packet comes after LPT_STEP_GIVEN_UP, lpt_ground_quiet begins
+   a new round. */
 enum LptStep {
     LPT_STEP_SEND = 1,      /* it sends a packet */
     LPT_STEP_LISTEN = 2,    /* it listens */
@@ -94,7 +95,7 @@ enum LptStep {
     LPT_STEP_CUT_OFF = 6    /* some requests are open, and lpt_ground_close was called */
 };
 
-/* The name of a step, as docs/C.md has it; "unknown" of another number. */
+/* The name of a step, for example "given up" of LPT_STEP_GIVEN_UP; "unknown" for another number. */
 static inline const char *lpt_step_name(uint32_t step) {
     switch (step) {
     case LPT_STEP_SEND:
@@ -114,15 +115,15 @@ static inline const char *lpt_step_name(uint32_t step) {
     }
 }
 
-/* Tells what the pass does next, and changes nothing. It returns LPT_DONE, and *step is an LptStep. */
+/* Returns what the pass does next, and changes nothing: LPT_DONE, and *step is an LptStep. */
 LPT_MUST_USE
 uint32_t lpt_ground_next(LptGround *pass, uint32_t *step);
 
 /*
  * Copies the packet that is to be sent next to the front of a buffer, and leaves the rest of the
  * buffer as it was. LPT_DONE; LPT_E_NOTHING if the next step isn't LPT_STEP_SEND; LPT_E_ROOM. At
- * LPT_DONE and LPT_E_ROOM *needed is the packet's length, at most part_size and 23. The packet stays
- * the next one until lpt_ground_sent, or until a packet settles its request.
+ * LPT_DONE and LPT_E_ROOM *needed is the packet's length, at most part_size and 23. The packet
+ * stays the next one until lpt_ground_sent, or until a packet settles its request.
  */
 LPT_MUST_USE
 uint32_t lpt_ground_outgoing(LptGround *pass, uint8_t *out, size_t out_len, size_t *needed);
@@ -135,17 +136,19 @@ uint32_t lpt_ground_sent(LptGround *pass);
 /* ---- what it hears ---- */
 
 /*
- * Takes a packet that came. A report to the job's source settles an open request if it says that the
- * request failed, or that the load completed (with flags 10, that it started), or if it has the
- * octets or the checksum that were asked for. Anything else is passed over.
+ * Takes a packet that came. A report to the job's source settles an open request if it says that
+ * the request failed, or that the load completed (if the flags have 2, that it started), or if it
+ * has the octets or the checksum that were asked for. Any other packet is ignored.
  * LPT_DONE; LPT_E_ALLOCATION.
  */
 LPT_MUST_USE
 uint32_t lpt_ground_packet(LptGround *pass, const uint8_t *octets, size_t octets_len);
 
 /* Notes that no packet came while the program waited: the pass is given up (as `tries` says), or a
-   round begins. It sends all open requests, and all of them again until it has sent at least 8
-   packets. At the end it does nothing. It returns LPT_DONE. */
+   round begins. A round sends all open requests, and all of them again until it has sent at least 8
+   packets (3 open requests make 9 packets). If the pass is at its end, no round begins, except
+   after LPT_STEP_GIVEN_UP if a packet settled a request since the last call. It returns
+   LPT_DONE. */
 LPT_MUST_USE
 uint32_t lpt_ground_quiet(LptGround *pass);
 
@@ -163,7 +166,7 @@ typedef struct LptProgress {
     size_t left; /* are open: nothing is known of them */
 } LptProgress;
 
-/* Tells how far the pass is. It returns LPT_DONE, and *progress is written. */
+/* Returns how far the pass is: LPT_DONE, and *progress is written. */
 LPT_MUST_USE
 uint32_t lpt_ground_progress(LptGround *pass, LptProgress *progress);
 
@@ -176,15 +179,17 @@ typedef struct LptFate {
     uint32_t code;  /* the report's failure code, an LptFailure or another; 0 if it didn't fail */
 } LptFate;
 
-/* Tells what became of a request, by its number from 0. LPT_DONE, and *fate is written;
+/* Returns what became of a request, by its number from 0. LPT_DONE, and *fate is written;
    LPT_E_NOTHING if there is no such request. */
 LPT_MUST_USE
 uint32_t lpt_ground_fate(LptGround *pass, size_t number, LptFate *fate);
 
 /*
  * Copies the packet that settled a request, by the request's number, to the front of a buffer, and
- * leaves the rest of the buffer as it was. A program that keeps these packets may hand them to the
- * same job's pass after a restart, under the same source, and goes on where it was.
+ * leaves the rest of the buffer as it was. A program that keeps these packets may pass them to a
+ * new pass of the same job after a restart, with the same source and count, and so continues where
+ * it was. It may keep and pass all packets that came, too. A request that failed has no packet
+ * here: if the report of its failure isn't passed, the new pass sends it again.
  * LPT_DONE; LPT_E_NOTHING if there is no such request, or it is open or failed; LPT_E_ROOM. At
  * LPT_DONE and LPT_E_ROOM *needed is the packet's length.
  */
@@ -193,25 +198,26 @@ uint32_t lpt_ground_report(LptGround *pass, size_t number, uint8_t *out, size_t 
                            size_t *needed);
 
 /*
- * Copies the octets of memory that a dump got, by its number, to the front of a buffer, and leaves
- * the rest of the buffer as it was. LPT_DONE; LPT_E_NOTHING if there is no such request, or it is
- * open or failed; LPT_E_ROOM. At LPT_DONE and LPT_E_ROOM *needed is how many octets there are: none
- * of a load or a check.
+ * Copies the octets of memory that a dump got, by the request's number, to the front of a buffer,
+ * and leaves the rest of the buffer as it was. LPT_DONE; LPT_E_NOTHING if there is no such request,
+ * or it is open or failed; LPT_E_ROOM. At LPT_DONE and LPT_E_ROOM *needed is how many octets there
+ * are: 0 for a load or a check.
  */
 LPT_MUST_USE
 uint32_t lpt_ground_dumped(LptGround *pass, size_t number, uint8_t *out, size_t out_len,
                            size_t *needed);
 
 /*
- * Tells whether the checksums that checks got are those of this content: the octets of the places,
- * one place behind the other, and nothing more. It returns LPT_DONE, and *agrees is 1 if they are,
- * otherwise 0, and also 0 while a check is open. One differing area in 65,536 is taken for the same.
+ * Returns whether the checksums that checks got are those of this content: the octets of the
+ * places, one place behind the other, and nothing more. It returns LPT_DONE, and *agrees is 1 if
+ * they are, otherwise 0, and also 0 while a check is open, or if one failed. One differing area in
+ * 65,536 is taken for the same. Of a job of loads or dumps the result says nothing.
  */
 LPT_MUST_USE
 uint32_t lpt_ground_agrees(LptGround *pass, const uint8_t *content, size_t content_len,
                            uint32_t *agrees);
 
-/* ---- the structures as the archive has them: size, alignment, offsets ---- */
+/* ---- the structures as the library has them: size, alignment, offsets ---- */
 
 LPT_LAYOUT(LptJob, 20, 4);
 LPT_FIELD(LptJob, kind, 0);

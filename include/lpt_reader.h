@@ -1,22 +1,22 @@
 /*
- * A reader of archives of packets: octets as they come, however they are cut, and packet after
- * packet, each with its place and what its headers and its part say. Packets are laid out by this
- * project's profile, or as the text of a layout file says (docs/FILES.md). Octets that are no packet
- * are passed over, as `lpt list` does.
+ * A reader of archives of packets. It takes the octets in whatever pieces they come, and returns
+ * packet after packet, each with its place, the fields of its headers, and its part. Packets have
+ * this project's own headers (the profile), or those that the text of a layout file describes
+ * (docs/FILES.md). Octets that are no packet are skipped, as `lpt list` does.
  *
- * A program holds a reader by its address, an LptReader *. lpt_reader_new gives one, and
- * lpt_reader_free takes it back. Between them the program hands over octets by lpt_reader_feed, and
- * then calls lpt_reader_next until that returns LPT_E_MORE; behind the last octets it calls
- * lpt_reader_end, and then lpt_reader_next until it tells LPT_ITEM_END. What is told doesn't depend
- * on how the archive was cut. Once all was told, a reader holds fewer than LPT_LOOKAHEAD + n
- * octets, n being the length of the piece that was fed last. Its buffer doubles, so a pool needs
- * 4 * (LPT_LOOKAHEAD + n).
+ * A program holds a reader by its address, an LptReader *. lpt_reader_new returns one, and
+ * lpt_reader_free frees it. In between the program passes octets to lpt_reader_feed, and then calls
+ * lpt_reader_next until that returns LPT_E_MORE. After the last octets it calls lpt_reader_end, and
+ * then lpt_reader_next until the item is LPT_ITEM_END. The items don't depend on how the archive
+ * was cut into pieces. When lpt_reader_next has returned LPT_E_MORE, a reader holds fewer than
+ * LPT_LOOKAHEAD + n octets, where n is the length of the last piece. Its buffer doubles, so a pool
+ * needs 4 * (LPT_LOOKAHEAD + n).
  *
  * Each call returns LPT_DONE, or the number of the first thing that is wrong, in the order of its
- * comment. If it isn't LPT_DONE, the call has written nothing through a pointer but what its comment
- * says. LPT_E_ALLOCATION (out of memory) comes last, and nothing has changed then (but see
- * lpt_reader_message). The caller
- * promises what include/lpt_end.h says of addresses, threads and memory.
+ * comment. If it isn't LPT_DONE, the call has written nothing through a pointer but what its
+ * comment says. LPT_E_ALLOCATION (out of memory) comes last; then nothing has changed (but see
+ * lpt_reader_message). The caller promises what include/lpt_end.h says about addresses, threads and
+ * memory.
  */
 #ifndef LPT_READER_H
 #define LPT_READER_H
@@ -33,10 +33,10 @@ extern "C" {
 typedef struct LptReader LptReader;
 
 /*
- * Makes a reader of an archive that begins. Its packets are laid out as the text of a layout file
- * says; if `layout_len` is 0, by the profile, with parts of `part_size` octets, 4 to 1024. The part
- * size isn't looked at if there is a text: that has its own. White space alone is a text, of a layout
- * like the profile's with parts of any size.
+ * Makes a reader of an archive, which reads from its beginning. If `layout_len` is 0, packets have
+ * the profile's headers, with parts of `part_size` octets, 4 to 1024. Otherwise they are as this
+ * text of a layout file says, and `part_size` is ignored, because the text has its own. White space
+ * alone is such a text: that of the profile's headers with parts of any size.
  * LPT_DONE, and *reader is its address; without a text LPT_E_RANGE for another part size; with one
  * LPT_E_LAYOUT if it isn't UTF-8, or not what `lpt list --layout` takes; LPT_E_ALLOCATION.
  */
@@ -49,19 +49,19 @@ void lpt_reader_free(LptReader *reader);
 
 /* ---- octets ---- */
 
-/* Takes octets of the archive, which come behind those that were taken before, and copies them.
+/* Takes the octets of the archive that follow those that were taken before, and copies them.
    LPT_DONE; LPT_E_ENDED after lpt_reader_end; LPT_E_ALLOCATION. */
 LPT_MUST_USE
 uint32_t lpt_reader_feed(LptReader *reader, const uint8_t *octets, size_t octets_len);
 
-/* Notes that the archive ends behind what was taken. It returns LPT_DONE. */
+/* Notes that the archive ends after the octets that were taken. It returns LPT_DONE. */
 LPT_MUST_USE
 uint32_t lpt_reader_end(LptReader *reader);
 
-/* ---- what stands in them ---- */
+/* ---- what they contain ---- */
 
-/* What an item is: the archive's end; a packet with a secondary header of the layout; an idle packet;
-   a piece in step (lpt_find_piece) that fails a test: LptItem says which. */
+/* What an item is: the archive's end; a packet with a secondary header of the layout; an idle
+   packet; a piece in step (lpt_find_piece) that fails a test: LptItem says which. */
 enum LptItemKind {
     LPT_ITEM_END = 0,
     LPT_ITEM_PACKET = 1,
@@ -69,11 +69,11 @@ enum LptItemKind {
     LPT_ITEM_FAULTY = 3
 };
 
-/* LptItem's `part` is an LptPartKind, or this if the body should be a part's but doesn't fit the part
-   size. */
+/* LptItem's `part` is an LptPartKind, or this if the body should be a part's but doesn't fit the
+   part size. */
 enum { LPT_PART_UNREAD = 4 };
 
-/* What stands next. What its kind doesn't have is 0. */
+/* The next item of the archive. A field that its kind doesn't have is 0. */
 typedef struct LptItem {
     uint64_t place;   /* how many octets of the archive stand in front of it; 2^64 - 1 if more do */
     uint64_t stray;   /* how many of them, right in front of it, are no packet */
@@ -83,9 +83,9 @@ typedef struct LptItem {
     size_t body_len;  /* how many octets that has, without a checksum */
     size_t part_len;  /* how many octets the part has, at the body's end */
     uint32_t kind;    /* an LptItemKind */
-    uint32_t fault;   /* of LPT_ITEM_FAULTY, an LptFault: LPT_E_SHORT to LPT_E_CHECKSUM, or
-                         LPT_E_PUS_VERSION or LPT_E_SHORT_HEADER, whose packet, apid and count are
-                         told too */
+    uint32_t fault;   /* of LPT_ITEM_FAULTY, an LptFault: LPT_E_SHORT to LPT_E_CHECKSUM; or
+                         LPT_E_PUS_VERSION or LPT_E_SHORT_HEADER: only with these two are packet,
+                         apid and count given */
     uint32_t packet;  /* LPT_PACKET_TM or LPT_PACKET_TC */
     uint32_t counter; /* the message type counter */
     uint32_t user;    /* the source ID of a telecommand, the destination ID of telemetry */
@@ -94,34 +94,36 @@ typedef struct LptItem {
     uint32_t number;  /* the part's sequence number */
     uint16_t apid;
     uint16_t count;   /* the packet sequence count */
-    uint8_t flags;    /* acknowledgement flags of a telecommand, time reference status of telemetry */
+    uint8_t flags;    /* acknowledgement flags of a telecommand, time reference status of
+                         telemetry */
     uint8_t service;  /* the service type */
     uint8_t subtype;  /* the message subtype */
     uint8_t time_len; /* how many octets the time has */
 } LptItem;
 
 /*
- * Tells what stands next in the archive, and goes on behind it. LPT_DONE, and *item is written;
- * LPT_E_MORE if it depends on octets that haven't been taken yet, and *item is as it was. At the end
- * LPT_ITEM_END is told again and again.
+ * Returns the next item of the archive, and goes on behind it. LPT_DONE, and *item is written;
+ * LPT_E_MORE if the item depends on octets that haven't been taken yet, and *item stays as it was.
+ * At the end each call returns LPT_ITEM_END.
  */
 LPT_MUST_USE
 uint32_t lpt_reader_next(LptReader *reader, LptItem *item);
 
 /*
- * Copies the octets of the item that lpt_reader_next told last to the front of a buffer, and leaves
- * the rest of the buffer as it was. LPT_DONE; LPT_E_NOTHING if it told none, the end or LPT_E_MORE,
- * or octets were taken since; LPT_E_ROOM. At LPT_DONE and LPT_E_ROOM *needed is how many they are, as LptItem's length.
+ * Copies the octets of the last item of lpt_reader_next to the front of a buffer, and leaves the
+ * rest of the buffer as it was. LPT_DONE; LPT_E_NOTHING if there is none (no call yet, or the last
+ * one returned the end or LPT_E_MORE), or octets were taken since; LPT_E_ROOM. At LPT_DONE and
+ * LPT_E_ROOM *needed is how many octets there are, as LptItem's length.
  */
 LPT_MUST_USE
 uint32_t lpt_reader_octets(LptReader *reader, uint8_t *out, size_t out_len, size_t *needed);
 
 /*
- * Copies the date of the packet that lpt_reader_next told last to the front of a buffer, and leaves
- * the rest as it was: that of its time by the layout's time code, as `lpt list` prints it, without a
- * 0 behind it. LPT_DONE; LPT_E_NOTHING if it told no packet whose time has a code, or octets were
- * taken since; LPT_E_ALLOCATION; LPT_E_NOTHING if the time says no date; LPT_E_ROOM. At LPT_DONE and
- * LPT_E_ROOM *needed is how many octets it has.
+ * Copies the date of the last packet of lpt_reader_next to the front of a buffer, and leaves the
+ * rest as it was. The date is that of the packet's time by the layout's time code, as `lpt list`
+ * prints it, without a NUL at the end. LPT_DONE; LPT_E_NOTHING if the last item is no packet whose
+ * time has a code, or octets were taken since; LPT_E_ALLOCATION; LPT_E_NOTHING if the time gives no
+ * date; LPT_E_ROOM. At LPT_DONE and LPT_E_ROOM *needed is how many octets the date has.
  */
 LPT_MUST_USE
 uint32_t lpt_reader_date(LptReader *reader, uint8_t *out, size_t out_len, size_t *needed);
@@ -129,11 +131,11 @@ uint32_t lpt_reader_date(LptReader *reader, uint8_t *out, size_t out_len, size_t
 /* ---- the messages that become whole ---- */
 
 /*
- * Makes a reader of an archive whose messages are joined, as `lpt join --each` does, of one
- * APID and one LptDirection. The archive is cut by the layout of that direction; the rest is as in
- * lpt_reader_new. If `any` is 1, and not 0, a message is told even if it is no packet of the
- * direction, as with --any. Its messages are told by lpt_reader_message: a packet that
- * lpt_reader_next tells isn't joined.
+ * Makes a reader that joins the messages of one APID and one LptDirection, as `lpt join --each`
+ * does. lpt_reader_message returns them; a packet that lpt_reader_next returns isn't joined. The
+ * archive is cut by the layout of that direction; everything else is as with lpt_reader_new. If
+ * `any` is 1, and not 0, a message is returned even if it is no packet of the direction, as with
+ * --any.
  * LPT_E_RANGE for another direction or another `any`; otherwise what lpt_reader_new returns.
  */
 LPT_MUST_USE
@@ -142,7 +144,7 @@ uint32_t lpt_reader_new_join(LptReader **reader, uint32_t direction, uint16_t ap
 
 /* END: the archive ends. NONE: nothing happened. WHOLE: a message is whole. MISSING: an incomplete
    message's parts are given up. OVERTAKES: both. UNFIT: a message is whole, but no packet of the
-   direction (if `any` is 0), so it isn't told. */
+   direction (if `any` is 0), so it isn't returned. */
 enum LptMessageKind {
     LPT_MESSAGE_END = 0,
     LPT_MESSAGE_NONE = 1,
@@ -152,9 +154,11 @@ enum LptMessageKind {
     LPT_MESSAGE_UNFIT = 5
 };
 
-/* What happened with what stands next. What its kind doesn't have is 0, and `first` 2^64 - 1. */
+/* What happened with the next item. A field that its kind doesn't have is 0, and `first` 2^64 -
+   1. */
 typedef struct LptMessage {
-    uint64_t place;     /* of the packet with which it becomes so; at the end, the archive's length */
+    uint64_t place;     /* of the packet with which this happens; at the end, the archive's
+                           length */
     uint64_t first;     /* where the packet of the first part stands that is given up; 2^64 - 1 if
                            there is none */
     size_t length;      /* of WHOLE and OVERTAKES, the message's octets */
@@ -169,53 +173,54 @@ typedef struct LptMessage {
 } LptMessage;
 
 /*
- * Goes on behind what stands next in the archive, a packet or octets that fail a test, and tells
- * what becomes of messages with it. At the end it tells at each call what is left of the next name,
- * in the order of their users and identifiers, and then LPT_MESSAGE_END again and again.
+ * Reads the next item of the archive, a packet or octets that fail a test, and returns what becomes
+ * of messages with it. At the end each call returns what is left of the next name, in the order of
+ * users and identifiers, and after that LPT_MESSAGE_END.
  * LPT_DONE, and *message is written; LPT_E_NOTHING if lpt_reader_new made the reader; LPT_E_MORE if
- * it depends on octets that haven't been taken yet; LPT_E_ALLOCATION: then each later call of
- * lpt_reader_message returns this, since what was joined is lost.
+ * the item depends on octets that haven't been taken yet; LPT_E_ALLOCATION: then the joined parts
+ * are lost, and each later call of lpt_reader_message returns this too.
  */
 LPT_MUST_USE
 uint32_t lpt_reader_message(LptReader *reader, LptMessage *message);
 
 /*
- * Copies the message that the last LPT_DONE of lpt_reader_message told to the front of a buffer, and
- * leaves the rest of the buffer as it was. LPT_DONE; LPT_E_NOTHING if that told no whole message;
+ * Copies the message of the last LPT_DONE of lpt_reader_message to the front of a buffer, and
+ * leaves the rest of the buffer as it was. LPT_DONE; LPT_E_NOTHING if that was no whole message;
  * LPT_E_ROOM. At LPT_DONE and LPT_E_ROOM *needed is how many octets it has, as LptMessage's length.
  */
 LPT_MUST_USE
 uint32_t lpt_reader_message_octets(LptReader *reader, uint8_t *out, size_t out_len, size_t *needed);
 
 /*
- * Says whether the part of a number, from 1 on, is missing among those that the last LPT_DONE of
- * lpt_reader_message told to be given up: 1 or 0. Any number above `highest` gives 1: so ask up to
- * `last`, or, if that is 0, up to `highest`.
- * LPT_DONE; LPT_E_NOTHING if that told of none; LPT_E_RANGE for number 0.
+ * Returns whether the part of this number, from 1, is missing (1 or 0) from the parts that the last
+ * LPT_DONE of lpt_reader_message gave up. Above `highest` it is always 1: so ask up to `last`, or,
+ * if that is 0, up to `highest`.
+ * LPT_DONE; LPT_E_NOTHING if no parts were given up; LPT_E_RANGE for number 0.
  */
 LPT_MUST_USE
 uint32_t lpt_reader_missing(LptReader *reader, uint32_t number, uint32_t *missing);
 
 /* ---- the areas of memories that a message names ---- */
 
-/* An area that a message of the memory service names (docs/FORMATS.md): a load, a dump or a check; or
-   the report of a dump, or of a check. */
+/* An area that a message of the memory service names (docs/FORMATS.md): a load, a dump or a
+   check; or the report of a dump, or of a check. */
 typedef struct LptNamed {
     size_t at;         /* where its octets stand in the message; 0 if that has none */
     size_t length;     /* how many octets it has */
     uint32_t address;  /* the address of the first one */
-    uint32_t fault;    /* LPT_E_RANGE if it ends behind the last address, 2^32 - 1; else LPT_E_CHECKSUM
-                          if the message has its octets, and they have another checksum; or 0 */
+   uint32_t fault;    /* LPT_E_RANGE if it ends behind the last address, 2^32 - 1; else
+   LPT_E_CHECKSUM if the message has its octets, and they have another checksum; or 0 */
     uint16_t checksum; /* the checksum that the message has of them, or 0 */
     uint8_t memory;
     uint8_t areas;     /* how many areas the message names */
 } LptNamed;
 
 /*
- * Tells what `lpt list` says of the areas that a message names: the memory, how many they are, and
- * address and length of the first. What stands behind that isn't looked at; the rest of *first is 0.
+ * Returns what `lpt list` says of the areas that a message names: the memory, how many they are,
+ * and address and length of the first. The octets behind that aren't read; the rest of *first is 0.
  * The message is a packet of the reader's layout: the octets of an item, or of a message that was
- * joined. It doesn't depend on what the reader was fed.
+ * joined.
+ * The result doesn't depend on what the reader was fed.
  * LPT_DONE, and *first is written; of octets that fail a test, what LptItem has as fault;
  * LPT_E_NOTHING if they name no area.
  */
@@ -225,7 +230,7 @@ uint32_t lpt_reader_areas(LptReader *reader, const uint8_t *octets, size_t octet
 
 /*
  * Tells one of the areas that a message names, by its number from 0. `lpt extract` takes those of
- * dump reports whose `fault` is 0.
+ * dump reports whose `fault` is 0 (lpt_reader_lay).
  * LPT_DONE, and *area is written; of octets that fail a test, what LptItem has as fault;
  * LPT_E_NOTHING if they are no such message; LPT_E_NO_REPORT if its body isn't read as areas with
  * nothing behind them; LPT_E_RANGE if it has none of this number.
@@ -234,7 +239,54 @@ LPT_MUST_USE
 uint32_t lpt_reader_area(LptReader *reader, const uint8_t *octets, size_t octets_len, size_t number,
                          LptNamed *area);
 
-/* ---- the structures as the archive has them: size, alignment, offsets ---- */
+/* ---- the image of a memory ---- */
+
+/* Which image of a memory is laid. */
+typedef struct LptImage {
+    uint32_t start; /* the address of its first octet */
+    uint16_t apid;  /* the APID of the dump reports */
+    uint8_t memory;
+    uint8_t marks; /* 0; or 1, and a 1 is laid in place of each octet */
+} LptImage;
+
+/* What a message is: no dump report; a part of a message of the APID, which may be one; a dump
+   report of another APID; one whose body isn't read; one of another memory; one of the memory. */
+enum LptLaidKind {
+    LPT_LAID_OTHER = 0,
+    LPT_LAID_PART = 1,
+    LPT_LAID_APID = 2,
+    LPT_LAID_UNREAD = 3,
+    LPT_LAID_MEMORY = 4,
+    LPT_LAID_AREAS = 5
+};
+
+/* What was laid of a message. */
+typedef struct LptLaid {
+    uint64_t end;    /* the address behind the area that ends last, of those that are taken; 0 if
+                        none is */
+    size_t number;   /* the other APID or memory, or how many octets the body has that isn't read;
+                        or 0 */
+    uint32_t kind;   /* an LptLaidKind */
+    uint32_t passed; /* how many areas aren't taken: lpt_reader_area says why; 1 if it isn't read */
+} LptLaid;
+
+/*
+ * Lays the areas of a message over an image: those that `lpt extract --at` takes, if it is a dump
+ * report of the memory and the APID, as it stands in an archive or was joined. Later areas win;
+ * octets in front of `start` are left out. Fill the image before, and what is added to it, and lay
+ * each item in its order: up to the greatest `end` it is what `lpt extract --at` writes, if
+ * lpt_reader_new_join made the reader, of what goes down, or if both tables have a checksum, or
+ * telemetry has none. Over another buffer, of zeros, marks say in the same way which octets came.
+ * It
+ * doesn't depend on what the reader was fed.
+ * LPT_DONE; LPT_E_ROOM if `image_len` is less than `end` - `start`, and the image is as it was. At
+ * both *laid is written.
+ */
+LPT_MUST_USE
+uint32_t lpt_reader_lay(LptReader *reader, const uint8_t *octets, size_t octets_len,
+                        const LptImage *of, uint8_t *image, size_t image_len, LptLaid *laid);
+
+/* ---- the structures as the library has them: size, alignment, offsets ---- */
 
 LPT_LAYOUT(LptItem, 96, 8);
 LPT_FIELD(LptItem, place, 0);
@@ -277,6 +329,16 @@ LPT_FIELD(LptNamed, fault, 20);
 LPT_FIELD(LptNamed, checksum, 24);
 LPT_FIELD(LptNamed, memory, 26);
 LPT_FIELD(LptNamed, areas, 27);
+LPT_LAYOUT(LptImage, 8, 4);
+LPT_FIELD(LptImage, start, 0);
+LPT_FIELD(LptImage, apid, 4);
+LPT_FIELD(LptImage, memory, 6);
+LPT_FIELD(LptImage, marks, 7);
+LPT_LAYOUT(LptLaid, 24, 8);
+LPT_FIELD(LptLaid, end, 0);
+LPT_FIELD(LptLaid, number, 8);
+LPT_FIELD(LptLaid, kind, 16);
+LPT_FIELD(LptLaid, passed, 20);
 
 #ifdef __cplusplus
 }

@@ -17,21 +17,21 @@ The modules:
   memories and the outcomes of requests
 - joining: `join`, and `join_each` of an archive
 - images: `read_image` of an archive's dump reports
-- distributed: both of many files, on the workers of Dask
+- distributed: the same for many files, on the workers of Dask
 - memory: requests to load, dump and check a memory, and their reports
 - reports: verification reports
 - end: one end of a link, with a spacecraft's memories
-- job: a load, dump or check that ground carries to its end
-- kinds: the kinds of things
+- job: a load, dump or check that ground repeats until reports settle it
+- kinds: enumerations: kinds of packets, outcomes, reasons and so on
 - faults: an exception for each fault
 
-Octets are anything with a buffer: `bytes`, `bytearray`, `memoryview`, an array or a mapped file.
-From a `memoryview` a reader returns views, from anything else copies. Numbers out of their range
-raise `faults.Range`, and arguments of another type TypeError.
+Octets are any object with a buffer: `bytes`, `bytearray`, `memoryview`, an array or a mapped file.
+A reader returns views if it gets a `memoryview`, otherwise copies. Numbers out of their range raise
+`faults.Range`, and arguments of another type TypeError.
 
 The package looks for the libraries in the folder that FORGESILVER_LIB names. If that isn't set, it
-looks beside itself, where ./install puts them, and in build of the checkout. It compares the
-version of `liblpt` with its own; `version` says whether they are proved.
+looks beside its own files, where ./install puts them, and in `build` of the checkout. `liblpt` must
+have the package's version; `version` says whether the libraries are proved.
 """
 
 from __future__ import annotations
@@ -47,8 +47,8 @@ from .images import Image, Others, Passed, read_image
 from .job import Fate, Job, Progress
 from .joining import Joined, NotJoined, SkippedWarning, join, join_each
 from .kinds import (
-    Acknowledge, AppliedKind, Direction, Failure, FateState, ItemKind, JobKind, MessageKind, Mode,
-    NameState, OutcomeKind, PacketKind, PartKind, PieceKind, Reason, ReportKind, Side, Step, Why,
+    Acknowledge, AppliedKind, Direction, Failure, FateState, ItemKind, JobKind, LaidKind, MessageKind,
+    Mode, NameState, OutcomeKind, PacketKind, PartKind, PieceKind, Reason, ReportKind, Side, Step, Why,
 )
 from .memory import (
     Area, Check, Checked, CheckReport, Dump, DumpReport, Load, Loaded, read_check, read_data_report,
@@ -70,8 +70,8 @@ __all__ = [
     "AbortReport", "Acknowledge", "Applied", "AppliedKind", "Archive", "Area", "Check", "CheckReport",
     "Checked", "Config", "Direction", "Dump", "DumpReport", "End", "Failure", "Fate",
     "FateState", "Fault", "Image", "ItemKind", "Job", "JobKind", "Joined",
-    "LONGEST_PACKET", "Listed", "Load", "Loaded", "Message", "MessageKind", "Missing", "Mode", "Name",
-    "NameState", "NotJoined", "Others", "Outcome", "OutcomeKind", "Outcomes",
+    "LONGEST_PACKET", "LaidKind", "Listed", "Load", "Loaded", "Message", "MessageKind", "Missing",
+    "Mode", "Name", "NameState", "NotJoined", "Others", "Outcome", "OutcomeKind", "Outcomes",
     "Packet", "PacketKind", "Part", "PartKind", "Passed", "PassedOver", "PieceKind", "Progress", "Reason",
     "Reception", "ReportKind", "RequestOutcome", "Sender", "Side", "SkippedWarning", "Step",
     "Telecommand",

@@ -61,6 +61,8 @@ LptMessage = _structure(
 LptNamed = _structure(
     "LptNamed", at=SIZE, length=SIZE, address=U32, fault=U32, checksum=U16, memory=U8, areas=U8
 )
+LptImage = _structure("LptImage", start=U32, apid=U16, memory=U8, marks=U8)
+LptLaid = _structure("LptLaid", end=U64, number=SIZE, kind=U32, passed=U32)
 LptAbort = _structure("LptAbort", id=U16, reason=U16)
 LptReport = _structure("LptReport", request=U32, failed=U16, code=U16)
 LptRange = _structure("LptRange", address=U32, len=U16)
@@ -198,6 +200,7 @@ _OF_READER: dict[str, tuple[Any, ...]] = {
     "lpt_reader_date": (POINTER, *_WRITE),
     "lpt_reader_areas": (POINTER, *_READ, POINTER),
     "lpt_reader_area": (POINTER, *_READ, SIZE, POINTER),
+    "lpt_reader_lay": (POINTER, *_READ, POINTER, POINTER, SIZE, POINTER),
     "lpt_reader_new_join": (POINTER, U32, U16, U32, U32, *_READ),
     "lpt_reader_message": (POINTER, POINTER),
     "lpt_reader_message_octets": (POINTER, *_WRITE),

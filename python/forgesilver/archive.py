@@ -1,7 +1,7 @@
-"""The packets of an archive, as they come, by the profile or by a mission's layouts: what `lpt list`
-says of each; the messages that they carry, as `lpt join --each` joins them; the image of a memory,
-as `lpt extract --at` writes it; and what became of requests, as `lpt verify` says. docs/C.md says
-what is proved of the library that reads them."""
+"""Reads an archive, with this project's own headers (the profile) or by a mission's layouts: its
+packets, as `lpt list` prints them; the messages that they carry, as `lpt join --each` joins them; the
+image of a memory, as `lpt extract --at` writes it; and what became of requests, as `lpt verify` says.
+docs/C.md says what is proved about the library that reads them."""
 
 from __future__ import annotations
 
@@ -16,10 +16,10 @@ from ._handle import Handle
 from ._layouts import Headers, cut_by, headers_of
 from ._library import Given, Octets, Room, has_octets, number
 from ._listing import is_whole, items_of
-from ._readers import UNREAD, News, Reader, areas_in, first_area, joiner, step, told_by
+from ._readers import UNREAD, News, Reader, first_area, joiner, step, told_by
 from .faults import BY_NUMBER, Empty, Fault, More, raise_fault
 from .images import Image, Picture
-from .joining import Counts, is_dump_report, warn
+from .joining import Counts, warn
 from .kinds import Direction, ItemKind, PacketKind, PartKind
 from .memory import SERVICE as MEMORY
 from .outcomes import Outcomes, PassedOver, Requests
@@ -35,14 +35,16 @@ Source = Union[str, pathlib.Path, Octets, BinaryIO]
 
 @dataclass(frozen=True)
 class Listed:
-    """What stands in an archive: a packet, an idle one, octets that fail a test, or its end.
+    """An item of an archive: a packet, an idle one, octets that fail a test, or its end.
 
-    - place: how many octets stand in front of it
+    - place: how many octets are in front of it
     - stray: how many of them, right in front of it, are no packet
-    - octets: all of it, with headers and checksum; `body` is what is behind its secondary header
-    - fault: the first test that it fails, if it is FAULTY: damaged, or a sound packet of another
-      kind. Of these `packet` is None and `apid` 0; the rows of `to_dict` have the primary header of a
-      segment, which may be damaged too
+    - octets: the whole item, with headers and checksum; `body` begins behind the secondary header
+    - fault: the first test that it fails, if it is FAULTY: damaged, or a sound packet that isn't
+      one of the layout (a segment, or one without a secondary header). Its `packet` is None and its
+      `apid` 0, but for `PusVersion` and `ShortHeader`; `to_dict` has the primary header of such a
+      packet, and of each segment, also a damaged one
+    - flags: a telecommand's acknowledgement flags, telemetry's time reference status
     - user: the source ID of a telecommand, the destination ID of telemetry, 0 if there is none
     - part: which part it carries, with `id`, `number` and `part_octets`; `is_unread` if it should be
       one, and isn't read as one of the part size
@@ -76,9 +78,9 @@ class Listed:
 
     @property
     def date(self) -> Optional[datetime.datetime]:
-        """The date that the time is by the layout's time code, without a time zone, rounded down to
-        microseconds; of a leap second, which `to_dict` has, the last one in front of it. None if it has
-        none."""
+        """The date of its time by the layout's time code, without a time zone, rounded down to
+        microseconds. For a leap second (`to_dict` has it) this is the last microsecond before it. None
+        if there is no date."""
         if self.date_text is None:
             return None
         second, _, fraction = self.date_text.partition(".")
@@ -92,7 +94,7 @@ class Listed:
         return None if self.packet is None else Direction(1 - self.packet)
 
     def to_dict(self) -> dict[str, Any]:
-        """What `lpt list --json` prints of it, with the same names and types: numbers and texts. A
+        """The object that `lpt list --json` prints for it, with the same names and types. A
         field that the layout lacks isn't there. The end, which `list` doesn't print, has its place
         and the packet type `end`."""
         if self.kind is ItemKind.END:
@@ -100,8 +102,8 @@ class Listed:
         return {"place": self.place, "length": len(self.octets), **items_of(self)}
 
     def rows(self) -> list[dict[str, Any]]:
-        """What `lpt list --json` prints up to its last octet: if octets in front of it are no packet,
-        where they begin; then `to_dict`, but of the end."""
+        """The objects that `lpt list --json` prints for it: one for octets in front of it that are no
+        packet, if there are any; then `to_dict`, except for the end."""
         place = self.place - self.stray
         stray = [{"place": place, "packet_type": "none"}] if self.stray else []
         return stray + ([] if self.kind is ItemKind.END else [self.to_dict()])
@@ -113,7 +115,7 @@ class Message:
 
     - user: the source ID of telecommands, the destination ID of telemetry, 0 if there is none
     - id: the transaction identifier
-    - place: how many octets stand in front of the packet with which it became whole
+    - place: how many octets are in front of the packet with which it became whole
     """
 
     direction: Direction
@@ -131,12 +133,12 @@ class Message:
 
 @dataclass(frozen=True)
 class Missing:
-    """Parts of an archive that never became whole, or aren't given.
+    """A message of an archive that never became whole, or isn't given.
 
-    - place: how many octets stand in front of the packet of the first of them, None if that isn't
-      known
-    - parts: those that are missing, as the program's `--parts` takes them: `2,4,12-`
-    - fault: why the message that they are joined to isn't given; then no part is missing
+    - place: how many octets are in front of the packet of its first part that came, None if that
+      isn't known
+    - parts: the missing parts, as the program's `--parts` takes them: `2,4,12-`
+    - fault: why the joined message isn't given; then no part is missing
     """
 
     direction: Direction
@@ -162,18 +164,17 @@ def _head_of(direction: Direction, user: int, identifier: int) -> dict[str, Any]
 
 
 class Archive(Handle):
-    """The packets of an archive, one after the other, as they are read: an iterator of `Listed`,
-    whose last one is the end. Instead of the packets it gives messages, by `messages`, the `image`
-    of a memory, or `outcomes` of requests. It is a context manager, and frees its memory when it is
-    closed.
+    """An archive, as an iterator of its packets: each is a `Listed`, and the last one is the end. In
+    place of the packets you can ask once for `messages`, the `image` of a memory, or the `outcomes` of
+    requests. An `Archive` is a context manager, and frees its memory when it is closed.
 
     >>> packets = b"".join(split(bytes(20), name=(1, 7), part_size=8, apid=100))
     >>> with Archive(packets + b"noise", part_size=8) as archive:
     ...     [(it.place, it.kind.name, it.number, it.stray) for it in archive]
     [(0, 'PACKET', 1, 0), (25, 'PACKET', 2, 0), (50, 'PACKET', 3, 0), (76, 'END', 0, 5)]
 
-    No more of the archive is held than two packets and what one read gives. It stays on the thread
-    that made it, and is neither copied nor pickled.
+    It holds no more of the archive than two packets and the octets of one read. Only the thread that
+    made it may use it, and it can't be copied or pickled.
     """
 
     __slots__ = (
@@ -187,8 +188,8 @@ class Archive(Handle):
     ) -> None:
         """Reads an archive: the file at a path, octets, or a binary file.
 
-        - layout: the text of a layout file; without one, the profile's headers
-        - part_size: of the profile, 4 to 1,024; a layout's text has its own, and an empty one reads
+        - layout: the text of a layout file; without one, packets have the profile's headers
+        - part_size: without a layout, 4 to 1,024; a layout's text has its own, and an empty text reads
           the profile's packets with parts of any size
 
         Raises `Range`, `faults.Layout` (`lpt list --layout` says what is wrong, and where), `Allocation`, or what opening the file raises.
@@ -228,7 +229,7 @@ class Archive(Handle):
         return f"<Archive{', closed' if self.is_closed else ''}>"
 
     def close(self) -> None:
-        """Frees it with all its memory, and closes the file that it opened."""
+        """Frees all its memory, and closes the file that it opened."""
         if self._is_own and self._file is not None:
             self._file.close()
         super().close()
@@ -246,9 +247,9 @@ class Archive(Handle):
     def messages(
         self, direction: Direction, *, apid: int, any: bool = False
     ) -> Iterator[Message]:
-        """Each message of packets of an APID that go in a direction, once it is whole, as `lpt join
-        --each` writes them: instead of the packets, so nothing was read yet. `missing` has the
-        others. With `any` whatever is joined is a message.
+        """Yields each message of an APID and a direction, once it is whole, as `lpt join --each` writes
+        it; nothing may have been read from the archive before. `missing` has the other messages. With
+        `any` a joined message may be any octets.
 
         >>> packets = b"".join(split(bytes(20), name=(1, 7), part_size=8, apid=100))
         >>> with Archive(packets[:50] + packets, part_size=8) as archive:
@@ -257,8 +258,8 @@ class Archive(Handle):
         [(7, 100)]
         []
 
-        At the end a `SkippedWarning` says which parts weren't read, and octets that weren't since no
-        packet has a checksum by which the next one is found. Raises `Range`, `Allocation`,
+        At the end a `SkippedWarning` says which parts weren't read and, without checksums, how many
+        octets are left behind the first that is no packet. Raises `Range`, `Allocation`,
         `faults.Empty`, and ValueError if something was read.
         """
         direction, apid = Direction(direction), number(apid, 0xFFFF, "the APID")
@@ -266,8 +267,8 @@ class Archive(Handle):
         return self._joined(joiner(direction, apid, any, text, self._part_size), direction, apid)
 
     def missing(self) -> list[Missing]:
-        """What `messages` found so far of messages that never became whole, or aren't given: what is
-        left of a name is found at the end, in the order of names."""
+        """The messages that never became whole, or aren't given, as far as `messages` has read: what is
+        left of each name is found at the end, in the order of names."""
         return list(self._missing)
 
     def _joined(self, reader: Reader, direction: Direction, apid: int) -> Iterator[Message]:
@@ -319,9 +320,9 @@ class Archive(Handle):
     def image(
         self, memory: int, *, apid: int, start: int = 0, fill: int = 0, join: bool = False
     ) -> Image:
-        """The image of a memory, from the dump reports of an APID, as `lpt extract --at` writes it:
-        instead of the packets, so nothing was read yet. With `join` reports that come in parts are
-        taken too. Gaps are filled with `fill`; the `Image` says what is missing, and which reports
+        """The image of a memory, from the dump reports of an APID, as `lpt extract --at` writes it;
+        nothing may have been read from the archive before. With `join` it also takes reports that come
+        in parts. Gaps are filled with `fill`; the `Image` says what is missing, and which reports
         weren't taken.
 
         >>> from forgesilver import Telemetry, write_load, write_telemetry
@@ -347,28 +348,19 @@ class Archive(Handle):
             for one in news if is_own else []:
                 self._noted(one)
                 if one.octets is not None:
-                    self._pictured(picture, it.place, _alone(one.octets, text, self._part_size))
+                    picture.take(self._call, it.place, one.octets)
             if not (is_own and join):
-                self._pictured(picture, it.place, it)
+                picture.take(self._call, it.place, it.octets)
         for one in told_by(reader) if reader is not None else ():
             self._noted(one)
         return picture.image(tuple(self._missing))
 
-    def _pictured(self, picture: Picture, place: int, it: Listed) -> None:
-        """Takes what a packet gives, which stands at a place, or became whole there."""
-        if it.kind is not ItemKind.PACKET or it.packet is not PacketKind.TM:
-            return
-        is_part = it.part is not None or it.is_unread
-        is_dump = is_dump_report(it.packet, it.service, it.subtype)
-        areas = areas_in(self._call, it.octets) if is_dump else None
-        picture.take(place, it.apid, is_part, it.body if is_dump else None, areas)
-
     # ---- requests ----
 
     def outcomes(self, requests: Source) -> Outcomes:
-        """What became of requests, by the verification reports of this archive, as `lpt verify` says:
-        instead of the packets, so nothing was read yet. The requests are telecommands of another
-        archive, of the same layout.
+        """What became of requests, by the verification reports of this archive, as `lpt verify` says;
+        nothing may have been read from the archive before. The requests are telecommands of another
+        archive, with the same layout.
 
         >>> from forgesilver import Area, Dump, write_telecommand
         >>> asked = Dump(1, [Area(0, 4)]).telecommand(apid=100, count=7, source=1, flags=9)
@@ -481,12 +473,6 @@ def _nothing(_at: int) -> int:
 def _spelled(layout: Optional[str]) -> bytes:
     """A layout's text as the library takes it."""
     return b"" if layout is None else layout.encode() or b"\n"
-
-
-def _alone(octets: bytes, layout: bytes, part_size: int) -> Listed:
-    """The packet that octets are."""
-    with Archive(octets, layout=layout.decode() or None, part_size=part_size) as archive:
-        return next(archive)
 
 
 def _is_damaged(it: Listed, has_checksum: bool) -> bool:

@@ -1,5 +1,5 @@
-"""One end of the link: which names it knows, what it sends in parts, what it joins, and when it
-gives a reception up. Ends that keep to the rules of docs/C.md keep the promise of the README."""
+"""One end of the link: it sends messages in parts, joins the parts that come, gives up receptions, and
+knows which names are in use. Two ends that keep to the rules of docs/C.md keep the README's promise."""
 
 from __future__ import annotations
 
@@ -35,7 +35,7 @@ _NO_JOB, _NOTHING_DUE = 51, 50
 @dataclass(frozen=True)
 class Config:
     """What is fixed about an end. Both ends of a link have the same APID, part size and mode; the
-    other values are an end's own. An end that is restored from a state may have another timeout and
+    other values may differ. An end that is restored from a state may have another timeout and
     other limits than before.
 
     - apid: of all packets, 0 to 2046
@@ -148,7 +148,7 @@ class End(Handle):
     3
     [25, 25, 21]
 
-    An end stays on the thread that made it, and is neither copied nor pickled. A call raises the
+    Only the thread that made an end may use it, and it can't be copied or pickled. A call raises the
     first fault that applies, and leaves the end as it was; on a closed end it raises `Empty`.
     Arguments of another type raise TypeError.
     """
@@ -197,12 +197,12 @@ class End(Handle):
     # ---- receiving ----
 
     def feed(self, octets: Octets) -> Outcome:
-        """Takes a packet that came, and says what became of it. `released` copies the message that
+        """Takes a packet that came, and returns what became of it. `released` copies the message that
         it released, until the next packet is taken. If a spacecraft aborts a reception, a report of
         that waits to be sent.
 
-        The link below tells where packets begin and end. A packet that is damaged, foreign or late
-        is no fault: its outcome is IGNORED, and says why. Raises `NoNumber` or `Allocation`.
+        The layer below must know where packets begin and end. A packet that is damaged, foreign or
+        late is no fault: its outcome is IGNORED, and says why. Raises `NoNumber` or `Allocation`.
         """
         given, out = Given(octets), _library.LptOutcome()
         self._done(_end.lpt_end_packet, given.at, given.len, byref(out))
@@ -216,8 +216,8 @@ class End(Handle):
 
     def expire(self) -> Optional[Name]:
         """Gives up the reception that has waited longest without a part, if it is due by the
-        timeout, and returns its name; None if none is due. At a spacecraft a report of it waits to
-        be sent."""
+        timeout, and returns its name; None if none is due. At a spacecraft a report of this waits
+        to be sent."""
         name = _library.LptName()
         fault = self._call(_end.lpt_end_expire, byref(name))
         if fault == _NOTHING_DUE:
@@ -226,31 +226,31 @@ class End(Handle):
         return Name(name.source, name.id)
 
     def give_up(self, name: Named) -> None:
-        """Gives up the open reception of a name before its time, as `expire` does one that is due,
-        for example if its sender was reset. Its name is closed until `retire`. At a spacecraft a report
-        of it, with the reason of an expiry, waits to be sent. Raises `NotOpen` or `Allocation`."""
+        """Gives up the open reception of a name before it is due, for example if its sender was reset.
+        Its name is closed until `retire`. At a spacecraft a report of this, with the reason of an
+        expiry, waits to be sent. Raises `NotOpen` or `Allocation`."""
         named = _c_name(name)
         self._done(_end.lpt_end_give_up, byref(named))
 
     # ---- sending ----
 
     def open(self, name: Named, message: Octets) -> int:
-        """Takes a message to be sent in parts, under a free name, and says how many parts it has.
-        It is copied. Raises `InUse`, `ShortMessage`, `LongMessage`, `TooMany` or `Allocation`."""
+        """Takes a message to be sent in parts, under a free name, and returns how many parts it has.
+        The end copies it. Raises `InUse`, `ShortMessage`, `LongMessage`, `TooMany` or `Allocation`."""
         named, given = _c_name(name), Given(message)
         self._done(_end.lpt_end_open, byref(named), given.at, given.len)
         return part_count(given.len, self.config.part_size)
 
     def part(self, name: Named, its_number: int) -> None:
-        """Makes the packet of the part of this number, from 1, of an open message: it goes behind
-        the packets that wait. Raises `NotOpen`, `NoSuchPart` or `Allocation`."""
+        """Makes the packet of a part of an open message, by the part's number from 1, and queues it
+        behind the packets that wait to be sent. Raises `NotOpen`, `NoSuchPart` or `Allocation`."""
         named, its_number = _c_name(name), number(its_number, 0xFFFF, "the part's number")
         self._done(_end.lpt_end_part, byref(named), its_number)
 
     def parts(self, name: Named, numbers: Optional[Iterable[int]] = None) -> Iterator[bytes]:
         """Makes the packets of an open message's parts, all or those with these numbers, one by
-        one, and gives them as `outgoing` does, with what else waits to be sent. The message stays
-        open until `finish`."""
+        one, and yields them as `outgoing` does, with the packets that wait. The message stays open
+        until `finish`."""
         its_name = name_of(name)
         for it in range(1, 0x10000) if numbers is None else numbers:
             try:
@@ -265,10 +265,10 @@ class End(Handle):
         self, service: int, subtype: int, body: Octets, *, source: int,
         flags: Acknowledge = Acknowledge.NONE,
     ) -> None:
-        """Makes the packet of a plain request: it goes behind the packets that wait. It has at most
-        part_size + 23 octets; `open` takes a longer one. Only ground makes requests. A request is
-        executed as often as its packet is delivered. Raises `Range`, `PartRequest`, `LongMessage`
-        or `Allocation`."""
+        """Makes the packet of a plain request, and queues it behind the packets that wait to be sent.
+        It has at most part_size + 23 octets; `open` takes a longer one. Only ground makes requests.
+        The spacecraft executes the request as often as its packet is delivered. Raises `Range`,
+        `PartRequest`, `LongMessage` or `Allocation`."""
         words = (
             number(source, 0xFFFF, "the source"), number(flags, 15, "the flags"),
             number(service, 255, "the service"), number(subtype, 255, "the subtype"),
@@ -300,8 +300,8 @@ class End(Handle):
         self._done(_end.lpt_end_sent)
 
     def outgoing(self) -> Iterator[bytes]:
-        """The packets that wait to be sent, in order. Each is dropped only when the next one is
-        asked for: if an exception or `break` ends the loop, the packet that it had still waits."""
+        """Yields the packets that wait to be sent, in order. Each is dropped only when the loop asks for
+        the next one: if an exception or `break` ends the loop, its packet still waits."""
         room = Room(self.config.part_size + 23)
         while True:
             packet = self._copied(_end.lpt_end_outgoing, room)
@@ -318,7 +318,7 @@ class End(Handle):
         return not self._unless(_NO_JOB, self._call(_end.lpt_end_read))
 
     def execute(self) -> Optional[Applied]:
-        """Executes the oldest request, which must have been read, and says what became of it; None
+        """Executes the oldest request, which must have been read, and returns what became of it; None
         if there is none. Its reports wait to be sent; one that is too long for a packet is opened
         as a message. Raises `NotRead`, `Unsent` or `Allocation`."""
         out = _library.LptApplied()
@@ -328,8 +328,8 @@ class End(Handle):
 
     def refuse(self, failure: Failure) -> Optional[Applied]:
         """Refuses the oldest request, which must have been read, in place of `execute`: it is never
-        executed, and a report of this failure waits to be sent. Says the same as an execution that
-        was refused; None if there is no request. Raises `NotRead`, `Unsent` or `Allocation`."""
+        executed, and a report of this failure waits to be sent. Returns the same as `execute` of a
+        refused request; None if there is no request. Raises `NotRead`, `Unsent` or `Allocation`."""
         out = _library.LptApplied()
         call = self._call(_end.lpt_end_refuse, int(Failure(failure)), byref(out))
         return None if self._unless(_NO_JOB, call) else _applied_of(out)
@@ -345,8 +345,8 @@ class End(Handle):
 
     def asked_areas(self) -> list[tuple[int, Area]]:
         """Where the oldest request that wasn't read will write: for each area of a load, in order,
-        the memory's identifier, and the area. If `execute` carries it out, they are written just
-        there; if not, nothing is. For another request the list is empty."""
+        the memory's identifier, and the area. If `execute` carries the load out, it writes just these
+        areas; if not, nothing. For another request the list is empty."""
         out = _library.LptArea()
         found: list[tuple[int, Area]] = []
         while True:
@@ -358,20 +358,20 @@ class End(Handle):
 
     def drop(self) -> bool:
         """Drops the oldest request that wasn't read, in place of `read`: it is never executed. When
-        its turn comes, `execute` reports it as SILENT. False if there is none."""
+        its turn comes, `execute` returns SILENT. False if there is no such request."""
         return not self._unless(_NO_JOB, self._call(_end.lpt_end_drop))
 
     def serve(self, keep_open: bool = False) -> Iterator[bytes]:
-        """Reads and executes all requests that were released, and gives the packets to be sent, as
+        """Reads and executes all requests that were released, and yields the packets to be sent, as
         `outgoing` does: what waited before, reports, and the parts of reports that are too long for
-        a packet. If an exception or `break` ends the loop, another `serve` goes on from its packet.
+        a packet. If an exception or `break` ends the loop, the next `serve` continues with its packet.
 
         It finishes these messages, so their lost parts can't be made again. If the network loses packets, use
-        `keep_open`: then `senders` has them, `parts` makes parts again, and you call `finish` when ground has all. You
-        retire the names at both ends, ground first.
+        `keep_open`: then `senders` has them, `parts` makes parts again, and you call `finish` when ground has
+        all parts. Retire the names at both ends, at ground's first.
 
-        To keep the state, take all packets before you send one: `packets = list(end.serve())`. Then
-        write the state and the memories in one write, and send the packets."""
+        If you save the state, take all packets before you send one: `packets = list(end.serve())`. Then
+        save the state and the memories in one write, and send the packets."""
         while self.read():
             pass
         yield from self.outgoing()
@@ -422,20 +422,20 @@ class End(Handle):
     # ---- the clock, names, and a restart ----
 
     def tick(self, ticks: int = 1) -> None:
-        """Moves the clock on by so many ticks at once. Raises `ClockEnd`, and leaves the clock, if
-        it would go past its greatest value."""
+        """Advances the clock by so many ticks at once. Raises `ClockEnd`, and leaves the clock as it was,
+        if it would go past its greatest value."""
         self._done(_end.lpt_end_tick_many, number(ticks, 0xFFFFFFFF, "the ticks"))
 
     def rebase(self, ticks: int) -> None:
-        """Moves the clock back by so many ticks. Each reception is still due after as many ticks as
-        before. So a clock never has to end. Raises `ClockStart`, and leaves the clock, if it or the
-        tick at which an open reception last got a part would go below 0."""
+        """Sets the clock back by so many ticks. Each reception is still due after as many ticks as before.
+        So a clock never has to end. Raises `ClockStart`, and leaves the clock as it was, if it, or the
+        tick at which an open reception last got a part, would go below 0."""
         self._done(_end.lpt_end_rebase, number(ticks, 0xFFFFFFFF, "the ticks"))
 
     def retire(self, direction: Direction, name: Named) -> None:
         """Frees the name of a transaction at this end. A name may be used again only when both ends
         have freed it, in this order: the sender's message is closed; no part of it can come any
-        more; the receiver's end retires it; the sender's end does. Raises `StillOpen`."""
+        more; the receiver's end retires the name; then the sender's end does. Raises `StillOpen`."""
         named = _c_name(name)
         self._done(_end.lpt_end_retire, int(Direction(direction)), byref(named))
 
@@ -510,10 +510,10 @@ class End(Handle):
 
     def state(self) -> bytes:
         """What outlasts the end's process, besides the memories: `End(.., state=..)` restores an
-        end from it. Write it before you act on a call's result or send anything. A spacecraft writes
-        its memories with it, never between a release and its execution (`serve` says how). Then
-        the promise holds through a stop at any place. For each call docs/C.md says whether a write
-        is needed, under "Saving the state". It never raises `Allocation`."""
+        end from it. Save it before you act on a call's result or send anything. At a spacecraft save
+        the memories with it, never between a release and its execution (`serve` says how). Then the
+        program may stop at any place, and the promise still holds. Under "Saving the state" docs/C.md
+        says after which calls you must save. It never raises `Allocation`."""
         return self._copied(_end.lpt_end_state, Room(45)) or b""
 
     @staticmethod

@@ -2,21 +2,27 @@
 
 from __future__ import annotations
 
+from ctypes import byref, c_char
 from dataclasses import dataclass, field
-from typing import TYPE_CHECKING, Iterable, Iterator, Optional, Union
+from typing import TYPE_CHECKING, Any, Callable, Iterable, Iterator, Optional, Union
 
-from ._library import Octets, number
+from . import _library
+from ._library import Given, LptImage, LptLaid, Octets, number
 from ._readers import Named, areas_in, lister
-from .faults import Range
+from .faults import Range, Room, raise_fault
 from .joining import Joined, Packets, _given, choice_of, is_dump_report
-from .kinds import Direction, PacketKind
-from .packets import GREATEST_APID, Telemetry, read_message
+from .kinds import Direction, LaidKind, PacketKind
+from .packets import GREATEST_APID, Telemetry
 from .parts import part_size_of
 
 if TYPE_CHECKING:
     from .archive import Missing
 
 _LAST_ADDRESS, _LONGEST, _LONGEST_PART = 0xFFFFFFFF, 1 << 28, 1024
+_lay = _library.reader.lpt_reader_lay
+
+# Calls a function of the library on a reader.
+Call = Callable[..., int]
 
 
 @dataclass(frozen=True)
@@ -58,12 +64,12 @@ class Image:
     - missing: the addresses among these for which no octets came, as pairs of the first and the
       last; what is missing behind them isn't here
     - passed_over: how many reports or areas weren't taken: they can't be read, have a wrong
-      checksum, or end past the last address; and of `read_image` how many reports in parts aren't
+      checksum, or end past the last address; of `read_image` also how many reports in parts aren't
       whole
 
     Of `Archive.image` also:
 
-    - passed: each of these
+    - passed: one entry for each that `passed_over` counts
     - of_memories, of_apids: the reports of other memories, and of other APIDs
     - parts: the parts of messages of the APID that weren't read, which may be of dump reports
     - damaged: how many packets are damaged
@@ -87,8 +93,8 @@ class Image:
     @property
     def is_clean(self) -> bool:
         """Whether octets came, and as far as they go all is well: none is missing, no octets of the
-        archive are no packet, and no report or part was passed over, but reports of other memories
-        and APIDs."""
+        archive are no packet, and no report or part was passed over. Reports of other memories and
+        APIDs don't count."""
         passed = self.passed_over or self.parts.count or self.damaged or self.stray or self.lost
         return bool(self.octets) and not self.missing and not passed
 
@@ -99,7 +105,7 @@ class Picture:
     def __init__(self, memory: int, apid: int, start: int, fill: int) -> None:
         self.memory, self.start = number(memory, 255, "the memory"), number(start, _LAST_ADDRESS, "the start")
         self.apid, self.fill = apid, bytes([number(fill, 255, "the fill")])
-        self.octets, self.came, self.end = bytearray(), bytearray(), 0
+        self.octets, self.came, self.size = bytearray(), bytearray(), 0
         self.passed: list[Passed] = []
         self.damaged = self.stray = 0
         self.of_memories = self.of_apids = self.parts = Others()
@@ -108,48 +114,57 @@ class Picture:
         """Counts what is no packet."""
         self.stray, self.damaged = self.stray + stray, self.damaged + is_damaged
 
-    def take(
-        self, place: int, apid: int, is_part: bool, body: Optional[Octets],
-        areas: Optional[list[Named]],
-    ) -> None:
-        """Takes what telemetry gives: if it is a dump report, its body, and the areas of that, if
-        they are read."""
-        if is_part and apid == self.apid:
+    def take(self, call: Call, place: int, octets: Octets) -> None:
+        """Takes what a message gives, which stands at a place or became whole there, by calls on a
+        reader."""
+        given, marks = Given(octets), LptImage(self.start, self.apid, self.memory, 1)
+        laid = self._laid(call, given, LptImage(self.start, self.apid, self.memory), self.octets, self.fill)
+        kind = laid.kind
+        if kind == LaidKind.PART:
             self.parts = self.parts.plus(place)
-        if body is None:
-            return
-        if apid != self.apid:
-            self.of_apids = self.of_apids.plus(apid)
-        elif areas is None:
-            self.passed.append(Passed(place, "unread", None, len(bytes(body))))
-        elif areas[0].memory != self.memory:
-            self.of_memories = self.of_memories.plus(areas[0].memory)
-        else:
-            for area in areas:
-                self._put(place, area)
+        elif kind == LaidKind.APID:
+            self.of_apids = self.of_apids.plus(laid.number)
+        elif kind == LaidKind.MEMORY:
+            self.of_memories = self.of_memories.plus(laid.number)
+        elif kind == LaidKind.UNREAD:
+            self.passed.append(Passed(place, "unread", None, laid.number))
+        elif kind == LaidKind.AREAS:
+            self._laid(call, given, marks, self.came, b"\0")
+            if laid.passed:
+                self._note(place, areas_in(call, bytes(octets)) or ())
 
-    def _put(self, place: int, area: Named) -> None:
-        """Takes an area."""
-        if area.fault:
-            why = "end" if area.fault == Range.number else "checksum"
-            self.passed.append(Passed(place, why, area.start, area.length))
-            return
-        first = max(area.start, self.start) - self.start
-        octets = area.octets[max(self.start - area.start, 0) :]
-        end = first + len(octets)
-        self.end = max(self.end, end if octets else 0)
-        if octets and self.end <= _LONGEST:
-            self.octets.extend(self.fill * (end - len(self.octets)))
-            self.came.extend(bytes(max(end - len(self.came), 0)))
-            self.octets[first:end], self.came[first:end] = octets, b"\1" * len(octets)
+    def _laid(self, call: Call, given: Given, of: Any, image: bytearray, fill: bytes) -> Any:
+        """What a reader tells that lays octets over an image, which is made as long as it must be."""
+        laid, words = LptLaid(), (given.at, given.len, byref(of))
+        fault = call(_lay, *words, *_room_of(image), byref(laid))
+        size = max(laid.end - self.start, 0)
+        self.size = max(self.size, size)
+        if fault == Room.number and size <= _LONGEST:
+            image.extend(fill * (size - len(image)))
+            fault = call(_lay, *words, *_room_of(image), byref(laid))
+        if fault != Room.number:
+            raise_fault(fault)
+        return laid
+
+    def _note(self, place: int, areas: Iterable[Named]) -> None:
+        """Notes the areas that weren't taken."""
+        for area in areas:
+            if area.fault:
+                why = "end" if area.fault == Range.number else "checksum"
+                self.passed.append(Passed(place, why, area.start, area.length))
 
     def image(self, lost: tuple[Missing, ...] = ()) -> Image:
         """The image. Raises ValueError if it would have too many octets."""
-        if self.end > _LONGEST:
-            raise ValueError(f"the image would have {self.end} octets, more than {_LONGEST}")
+        if self.size > _LONGEST:
+            raise ValueError(f"the image would have {self.size} octets, more than {_LONGEST}")
         gaps, passed = tuple(_gaps(bytes(self.came), self.start)), tuple(self.passed)
         head = self.memory, self.start, bytes(self.octets), gaps, len(passed), passed
         return Image(*head, self.of_memories, self.of_apids, self.parts, self.damaged, self.stray, lost)
+
+
+def _room_of(image: bytearray) -> tuple[Any, int]:
+    """Where an image stands for a call that writes there, and how long it is."""
+    return (byref(c_char.from_buffer(image)) if image else None), len(image)
 
 
 def read_image(
@@ -187,10 +202,8 @@ def image_of(
         if isinstance(it, Joined) and (it.direction is Direction.UP or message is None):
             lost += it.direction is Direction.DOWN
             continue
-        report = read_message(message) if message is not None else None
-        if isinstance(report, Telemetry) and is_dump(apid, report):
-            areas = areas_in(reader.call, bytes(message or b""))
-            picture.take(0, report.apid, False, report.body, areas)
+        if message is not None:
+            picture.take(reader.call, 0, bytes(message))
     image = picture.image()
     return Image(memory, start, image.octets, image.missing, image.passed_over + lost)
 

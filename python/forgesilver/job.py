@@ -1,6 +1,6 @@
-"""A job that ground carries to its end: a load, a dump or a check of a memory. Its requests are sent
-again, by rounds, until a report has settled each; docs/C.md says what is proved of a job that ended
-as COMPLETED."""
+"""A job of ground: a load, a dump or a check of a memory. Its requests are sent again, in rounds, until
+a report settles each, that is, says that it completed or failed. docs/C.md says what is proved about a
+job that ended as COMPLETED."""
 
 from __future__ import annotations
 
@@ -41,8 +41,8 @@ class Fate:
 
 
 class Job(Handle):
-    """A job, and the pass that carries it to its end. It is a context manager, and frees all its
-    memory when it is closed.
+    """A job, and the pass that does it. It is a context manager, and frees all its memory when it is
+    closed.
 
     >>> with Job(Load(1, [Loaded(16, b"octets")]), source=7, apid=100, part_size=64) as job:
     ...     for packet in job.outgoing():
@@ -52,8 +52,8 @@ class Job(Handle):
     <Step.LISTEN: 2>
 
     While `next` is SEND, send what `outgoing` gives. While it is LISTEN, wait for a packet and `feed`
-    it; if none comes for so long that none is on its way, call `quiet`. A job stays on the thread that
-    made it, and is neither copied nor pickled. A call raises the first fault that applies, and leaves
+    it; if none comes for so long that none is on its way, call `quiet`. Only the thread that made a
+    job may use it, and it can't be copied or pickled. A call raises the first fault that applies, and leaves
     the job as it was; on a closed job it raises `Empty`.
     """
 
@@ -118,8 +118,8 @@ class Job(Handle):
         self._done(_ground.lpt_ground_sent)
 
     def outgoing(self) -> Iterator[bytes]:
-        """The packets that are to be sent now, one by one. Each counts as sent when it is given: if
-        you don't send it, it is as if it were lost. Feed what comes in between."""
+        """Yields the packets that are to be sent now. Each counts as sent as soon as it is yielded: if you
+        don't send it, it is as if it were lost. Feed packets that come in between."""
         while True:
             packet = self.first()
             if packet is None:
@@ -130,8 +130,8 @@ class Job(Handle):
     # ---- what it hears ----
 
     def feed(self, octets: Octets) -> None:
-        """Takes a packet that came. If it is a report to the job's source that settles an open
-        request, that is settled; anything else is passed over. Raises `Allocation`."""
+        """Takes a packet that came. A report to the job's source may settle an open request; any other
+        packet is ignored. Raises `Allocation`."""
         given = Given(octets)
         self._done(_ground.lpt_ground_packet, given.at, given.len)
 
@@ -166,7 +166,7 @@ class Job(Handle):
 
     def reports(self) -> Iterator[bytes]:
         """The packets that settled requests. Keep them: after a restart make the job again, with the
-        same source and count, and feed them to it; it then goes on where it was."""
+        same source and count, and feed them to it; it then continues where it was."""
         room = Room(self._most)
         for at in range(self.progress.requests):
             packet = self._copied(_ground.lpt_ground_report, room, at)
@@ -174,8 +174,8 @@ class Job(Handle):
                 yield packet
 
     def dumped(self) -> Optional[list[Loaded]]:
-        """The areas of a dump with their octets; None before all have come. A completed job
-        of another kind gives areas without octets."""
+        """The areas of a dump with their octets; None before all have come. For dumps only: a
+        completed job of another kind has areas without octets."""
         if self.next() is not Step.COMPLETED:
             return None
         room = Room(self._most)

@@ -1,7 +1,7 @@
-"""Joins the packets of files: of an archive, or of anything that gives packets.
+"""Joins the packets of an archive, or of any iterable of packets.
 
-A file is no link, and nobody retires a name there, so a name may be used again. What is joined
-then, and what is said to be missing, is what `lpt join --each` writes and says.
+In a file nobody retires names, so a name may be used again. `join_each` joins what `lpt join --each`
+writes, and reports the same parts as missing.
 """
 
 from __future__ import annotations
@@ -60,8 +60,8 @@ class NotJoined(ValueError):
 
 
 class SkippedWarning(UserWarning):
-    """Parts were skipped, of another size or, without a given APID, of another one than the first part's;
-    or octets, if packets have no checksum."""
+    """Parts were skipped: they have another size or, if no APID was given, another APID than the first
+    part. Or octets were skipped, because packets have no checksum."""
 
 
 def join(
@@ -73,12 +73,13 @@ def join(
     direction: Optional[Direction] = None,
     any: bool = False,
 ) -> bytes:
-    """The one message whose parts these packets carry, in any order, with repeats, among others.
+    """The one message whose parts these packets carry, in any order, with repeats, and among other
+    packets.
 
-    With a name, a direction or an APID no other packets count; the APID is by default that of the
-    first packet with a part. A message is a packet of its direction, or with `any` whatever is
-    joined. Raises `NotJoined` if there is none, or several, or parts of others of this APID;
-    `join_each` gives those.
+    With a name, a direction or an APID only packets with these count; by default the APID is that of
+    the first packet with a part. A message must be a packet of its direction, unless `any` is given.
+    Raises `NotJoined` if there is no message, if there are several, or if parts of others came with
+    this APID; then use `join_each`.
 
     >>> from forgesilver import Load, Loaded, split, write_telecommand
     >>> load = Load(1, [Loaded(0, b"0123456789")]).telecommand(apid=100, count=7, source=1)

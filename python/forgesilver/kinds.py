@@ -52,9 +52,9 @@ class ItemKind(IntEnum):
 
 
 class MessageKind(IntEnum):
-    """What becomes of an archive's messages: at the end, nothing more; with a packet, nothing; one is
-    whole; parts are given up; parts are, and another one is whole; one is whole that isn't given, as
-    it is no packet of its direction."""
+    """What becomes of an archive's messages. END: nothing more. NONE: nothing. WHOLE: one is whole.
+    MISSING: parts are given up. OVERTAKES: parts are given up, and another message is whole. UNFIT:
+    one is whole, but isn't given, because it is no packet of its direction."""
 
     END = 0
     NONE = 1
@@ -62,6 +62,19 @@ class MessageKind(IntEnum):
     MISSING = 3
     OVERTAKES = 4
     UNFIT = 5
+
+
+class LaidKind(IntEnum):
+    """What a message is to whom wants the image of a memory: no dump report; a part of a message of
+    the APID; a dump report of another APID, one that isn't read, one of another memory, one of the
+    memory."""
+
+    OTHER = 0
+    PART = 1
+    APID = 2
+    UNREAD = 3
+    MEMORY = 4
+    AREAS = 5
 
 
 class Reason(IntEnum):

@@ -1,7 +1,7 @@
 """Space packets (CCSDS 133.0-B), and telecommands and telemetry of ECSS-E-ST-70-41C in them.
 
-From a `memoryview` a reader returns views of the same octets, which are good as long as those stay
-as they are; from anything else it returns copies.
+If a reader gets a `memoryview`, it returns views of the same octets, which are right as long as these
+don't change; otherwise it returns copies.
 """
 
 from __future__ import annotations
@@ -77,7 +77,7 @@ class Telemetry:
 
 
 def crc16(octets: Octets, before: int = 0xFFFF) -> int:
-    """The packet error control over these octets, behind others that have this one.
+    """The packet error control of these octets; `before` is that of the octets in front of them.
 
     >>> hex(crc16(b"123456789"))
     '0x29b1'
@@ -113,9 +113,9 @@ def write_packet(packet: Packet) -> bytes:
 
 
 def packet_length(octets: Octets) -> int:
-    """How many octets the packet has that begins here, idle or not, by the first six of them.
+    """The length of the packet at the front of these octets, idle or not, from the first six.
 
-    Raises `More` if there are fewer, and `Version` if no packet begins so.
+    Raises `More` if there are fewer, and `Version` if no packet begins with them.
     """
     front, length = bytes(view_of(octets)[:6]), SIZE(0)
     _allow_idle(_codecs.lpt_packet_length(front, len(front), byref(length)))
@@ -127,13 +127,13 @@ def packets_of(stream: BinaryIO) -> Iterator[bytes]: ...
 @overload
 def packets_of(stream: Octets) -> Iterator[memoryview]: ...
 def packets_of(stream: Union[Octets, BinaryIO]) -> Iterator[Union[bytes, memoryview]]:
-    """The whole packets of a stream, one after the other, idle ones too. The stream is octets, of
-    which the packets are views, or an open binary file. Its first octet begins a packet.
+    """The whole packets of a stream, one after the other, idle ones too. The stream is an open binary
+    file, or octets; then the packets are views of these. A packet must begin at its first octet.
 
-    Raises `Version` if no packet begins behind another, and `More` if the stream ends within one:
-    it was cut, or a length is damaged. Each says at which octet. What follows isn't searched for
-    packets, because a message may contain packets that nobody sent. `sound_packets_of` gives the
-    packets of a damaged stream, and `join_each` takes those.
+    Raises `Version` if no packet begins where another ends, and `More` if the stream ends within one:
+    it was cut, or a length is damaged. Each says at which octet. The rest isn't searched for
+    packets, because a message may contain packets that nobody sent. For a damaged stream use
+    `sound_packets_of`, as `join_each` does.
     """
     if not has_octets(stream):
         yield from _packets_of_file(stream)  # type: ignore[arg-type]
