@@ -3,6 +3,8 @@
 measure.py alone PROGRAM REQUESTS FOLDER RUNS: as a table; then what requests took, by the program
 REQUESTS, which measures those.
 measure.py against PROGRAM OTHER FOLDER RUNS: beside another program, in pairs of runs, as ratios.
+measure.py counts PROGRAM OTHER FOLDER RUNS: beside another program, the instructions, the pages that
+are touched for the first time and the most memory, as ratios.
 """
 
 import os
@@ -14,7 +16,8 @@ from typing import NamedTuple
 
 sys.dont_write_bytecode = True
 
-from workloads import WORKLOADS  # noqa: E402: it stands beside this file
+from counting import instructions  # noqa: E402: it stands beside this file
+from workloads import WORKLOADS  # noqa: E402
 
 # An event may have been refused, as some are meant to be.
 GOOD_STATUSES = (0, 1)
@@ -23,13 +26,14 @@ SHORT_RUNS = 100
 
 
 class Run(NamedTuple):
-    """What a run of a program did and took: seconds from its start to its end, and its own."""
+    """What a run of a program did and took: seconds from its start to its end, its own, and page faults."""
 
     status: int
     length: int
     text: bytes
     seconds: float
     processor: float
+    faults: int
 
 
 def run(words, script, keeps=False):
@@ -51,7 +55,8 @@ def run(words, script, keeps=False):
     seconds = time.monotonic() - begun
     os.close(read)
     status = os.waitstatus_to_exitcode(status)
-    return Run(status, length, b"".join(kept), seconds, usage.ru_utime + usage.ru_stime)
+    processor = usage.ru_utime + usage.ru_stime
+    return Run(status, length, b"".join(kept), seconds, processor, usage.ru_minflt)
 
 
 def peak(words, script, folder):
@@ -146,6 +151,13 @@ def medians(pairs, unit, digits):
     return " | ".join(f"{statistics.median(side) / unit:.{digits}f}" for side in zip(*pairs))
 
 
+def compare(programs, words, script):
+    """Wants that both print the same, and end as they should."""
+    ran = [run([program, *words], script, keeps=True) for program in programs]
+    if len({(it.status, it.text) for it in ran}) > 1 or ran[0].status not in GOOD_STATUSES:
+        sys.exit(f"{words} on {script}: the programs print different text, or end differently")
+
+
 def print_against(programs, folder, runs):
     """Prints a table of ratios, a line a workload. Both have to print the same first."""
     columns = " | Other's | Ratio | Least | Greatest |"
@@ -153,9 +165,7 @@ def print_against(programs, folder, runs):
     print("|---|" + "--:|" * 10)
     for workload in WORKLOADS:
         script, words = written(workload, folder)
-        ran = [run([program, *words], script, keeps=True) for program in programs]
-        if len({(it.status, it.text) for it in ran}) > 1 or ran[0].status not in GOOD_STATUSES:
-            sys.exit(f"{words} on {script}: the programs print different text, or end differently")
+        compare(programs, words, script)
         times, peaks = [], []
         for n in range(runs if os.path.getsize(script) else SHORT_RUNS):
             # Each program is the first one in every other pair.
@@ -172,11 +182,36 @@ def print_against(programs, folder, runs):
         )
 
 
+def beside(one, other, unit=1, digits=0):
+    """Two numbers and their ratio, as three columns."""
+    return f"{one / unit:.{digits}f} | {other / unit:.{digits}f} | {one / other:.2f}"
+
+
+def print_counts(programs, folder, runs):
+    """Prints a table of what is counted, a line a workload. Both have to print the same first."""
+    columns = " | Other's | Ratio |"
+    print(f"| Workload | Instructions{columns} Page faults{columns} Peak MB{columns}")
+    print("|---|" + "--:|" * 9)
+    for workload in WORKLOADS:
+        script, words = written(workload, folder)
+        compare(programs, words, script)
+        counts = [instructions([it, *words], script, GOOD_STATUSES) for it in programs]
+        faults, peaks = [], []
+        for program in programs:
+            ran = [run([program, *words], script).faults for _ in range(runs)]
+            faults.append(statistics.median(ran))
+            peaks.append(statistics.median(peak([program, *words], script, folder) for _ in range(runs)))
+        print(
+            f"| {workload.title} | {beside(*counts)} | {beside(*faults)} | {beside(*peaks, 1e6, 1)} |",
+            flush=True,
+        )
+
+
 def main():
     """Prints the tables."""
     way, program, other, folder, runs = *sys.argv[1:5], int(sys.argv[5])
-    if way == "against":
-        print_against([program, other], folder, runs)
+    if way != "alone":
+        {"against": print_against, "counts": print_counts}[way]([program, other], folder, runs)
         return
     print_scripts(program, folder, runs)
     print()
