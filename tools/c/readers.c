@@ -516,6 +516,66 @@ static void areas(void) {
     EXPECT(given == 0);
 }
 
+/* Whether this was told of what was laid. */
+static int is_laid(const LptLaid *laid, uint32_t kind, uint64_t end, size_t number,
+                   uint32_t passed) {
+    return laid->kind == kind && laid->end == end && laid->number == number &&
+           laid->passed == passed;
+}
+
+/* A part of a message that comes down; a dump report whose body ends within its area. */
+static const uint8_t PART_DOWN[] = {0x08, 0x64, 0xc0, 0x06, 0x00, 0x12, 0x20, 0x0d, 0x01,
+                                    0x00, 0x00, 0x00, 0x07, 0x00, 0x00, 0x00, 0x00, 0x00,
+                                    0x05, 0x00, 0x01, 0x61, 0x62, 0xb6, 0xff};
+static const uint8_t SHORT_DUMP[] = {0x08, 0x64, 0xc0, 0x07, 0x00, 0x15, 0x20, 0x06, 0x06, 0x00,
+                                     0x00, 0x00, 0x07, 0x00, 0x00, 0x00, 0x00, 0x09, 0x01, 0x00,
+                                     0x00, 0x00, 0x10, 0x00, 0x02, 0x61, 0xbf, 0xa4};
+
+/* An image that is laid of dump reports. */
+static void laying(void) {
+    LptReader *reader = reader_of("");
+    LptImage of = {15, 100, 9, 0};
+    LptLaid laid = {7, 7, 7, 7};
+    uint8_t image[4] = {9, 9, 9, 9};
+    static const uint8_t LAID[] = {9, 0x61, 0x62, 9}, FRONT[] = {0x62, 0x61, 0x62, 9},
+                         MARKED[] = {9, 1, 1, 9};
+    EXPECT(lpt_reader_lay(reader, DUMPED, sizeof DUMPED, &of, image, 2, &laid) == LPT_E_ROOM);
+    EXPECT(is_laid(&laid, LPT_LAID_AREAS, 18, 0, 2) && image[1] == 9);
+    laid.kind = 7;
+    DONE(lpt_reader_lay(reader, DUMPED, sizeof DUMPED, &of, image, 3, &laid));
+    EXPECT(is_laid(&laid, LPT_LAID_AREAS, 18, 0, 2) && memcmp(image, LAID, 4) == 0);
+    of.start = 17;
+    DONE(lpt_reader_lay(reader, DUMPED, sizeof DUMPED, &of, image, 1, &laid));
+    EXPECT(laid.end == 18 && memcmp(image, FRONT, 4) == 0);
+    of.start = 18;
+    DONE(lpt_reader_lay(reader, DUMPED, sizeof DUMPED, &of, NULL, 0, &laid));
+    EXPECT(laid.end == 18);
+    of.start = 15;
+    of.marks = 1;
+    image[0] = 9;
+    DONE(lpt_reader_lay(reader, DUMPED, sizeof DUMPED, &of, image, 4, &laid));
+    EXPECT(laid.end == 18 && memcmp(image, MARKED, 4) == 0);
+    of.memory = 8;
+    DONE(lpt_reader_lay(reader, DUMPED, sizeof DUMPED, &of, NULL, 0, &laid));
+    EXPECT(is_laid(&laid, LPT_LAID_MEMORY, 0, 9, 0));
+    of.apid = 99;
+    DONE(lpt_reader_lay(reader, DUMPED, sizeof DUMPED, &of, NULL, 0, &laid));
+    EXPECT(is_laid(&laid, LPT_LAID_APID, 0, 100, 0));
+    DONE(lpt_reader_lay(reader, PART_DOWN, sizeof PART_DOWN, &of, NULL, 0, &laid));
+    EXPECT(is_laid(&laid, LPT_LAID_OTHER, 0, 0, 0));
+    of.apid = 100;
+    DONE(lpt_reader_lay(reader, PART_DOWN, sizeof PART_DOWN, &of, NULL, 0, &laid));
+    EXPECT(is_laid(&laid, LPT_LAID_PART, 0, 0, 0));
+    DONE(lpt_reader_lay(reader, SHORT_DUMP, sizeof SHORT_DUMP, &of, NULL, 0, &laid));
+    EXPECT(is_laid(&laid, LPT_LAID_UNREAD, 0, 9, 1));
+    DONE(lpt_reader_lay(reader, LOAD, sizeof LOAD, &of, NULL, 0, &laid));
+    EXPECT(is_laid(&laid, LPT_LAID_OTHER, 0, 0, 0));
+    DONE(lpt_reader_lay(reader, NULL, 0, &of, NULL, 0, &laid));
+    EXPECT(is_laid(&laid, LPT_LAID_OTHER, 0, 0, 0));
+    lpt_reader_free(reader);
+    EXPECT(given == 0);
+}
+
 int main(void) {
     each_octet();
     strays();
@@ -526,6 +586,7 @@ int main(void) {
     lost();
     dates();
     areas();
+    laying();
     scarce();
     printf("%u passed, %u failed\n", passed, failed);
     return failed != 0;
