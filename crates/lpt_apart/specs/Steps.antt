@@ -42,8 +42,9 @@ use Rattle.lpt_apart.specs.Facts.{Opened, Asked, Released, Aborted, Executed, Re
 -- request, or hands its reading in; the spacecraft executes its oldest request; both nodes free a
 -- name; the node of a side is restarted.
 --
--- Assumed: Memories, names and clocks survive a restart: what a call changes is saved, whole or not
--- at all, before its packets are sent; calls that a reset undoes don't count.
+-- Assumed: Memories, names and clocks survive a restart: what a call changes of them is saved,
+-- whole or not at all, before anything that follows from it is sent or handed on; the promise
+-- is about the calls that no reset undid.
 pub data Step : Type 0 where
   Open : Direction → Name → (message : List ℕ) → Step
   Send : Direction → Name → (k : ℕ) → Step
@@ -81,9 +82,9 @@ is_harmless (AnAbort name reason) = true
 
 -- the network may hand octets to the node that receives in this direction
 --
--- Assumed: Each plain request or part that comes was sent by the other end, and a part after its
--- receiver last freed its name: no damage passes the 16-bit checksum, no packet's content is taken
--- for a packet, nobody forges.
+-- Assumed: Each plain request or part that comes was sent by the other end, and each part was
+-- sent after its receiver last freed its name: no damage passes the 16-bit checksum, no octets
+-- inside a packet are taken for a packet on the link, nobody forges.
 abbrev pub MayCome : Config → Ends → Direction → List ℕ → Type 0
 MayCome c e d b = IsOnTheWay e d b ⊎ (is_harmless (arrival_in c d b) ≡ true)
 

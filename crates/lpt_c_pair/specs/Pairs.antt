@@ -157,8 +157,9 @@ moves side (ResumeSized config state sizes) = with_restart config side []
 -- what was kept of an end is this state, which reads as its restart, and these memories, in
 -- whatever order they are told; nothing happened at it since, and a number is left for a start
 --
--- Assumed: Memories, names and clocks survive a restart: what a call changes is saved, whole or not
--- at all, before its packets are sent; calls that a reset undoes don't count.
+-- Assumed: Memories, names and clocks survive a restart: what a call changes of them is saved,
+-- whole or not at all, before anything that follows from it is sent or handed on; the promise
+-- is about the calls that no reset undid.
 pub record IsKept (c : Config) (e : End) (config : Config) (state : List ℕ)
     (kept : Kept) : Type 0 where
   pub own : Own

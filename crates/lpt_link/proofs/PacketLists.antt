@@ -1,18 +1,8 @@
 -- The list of the link's packets, after one is put or lost.
-use Rattle.std.proofs.Common.{◌≡◌, ℕ, zero, suc, ◌<◌, List, [], ◌∷◌, ◌++◌, length, slice_get, get_or, set, refl, ap, false, arith}
+use Rattle.std.proofs.Common.{◌≡◌, ℕ, zero, suc, ◌<◌, List, [], ◌∷◌, ◌++◌, length, slice_get, refl, ap, arith}
 use Rattle.std.specs.Option.{option_map}
 use Rattle.lpt_link.specs.declared.packet.LinkPacket.{LinkPacket}
 use Rattle.lpt_link.specs.Links.{with_lost}
-
--- writing a packet back without its mark loses it
-pub set-with_lost : (packets : List LinkPacket) (n : ℕ) (p : LinkPacket)
-    → p ≡ get_or packets n p
-    → set packets n (record p { held = false }) ≡ with_lost packets n
-set-with_lost [] n p is = refl
-set-with_lost (q ∷ packets) zero p is =
-    ap (λ (r : LinkPacket). record r { held = false } ∷ packets) is
-set-with_lost (q ∷ packets) (suc n) p is =
-    ap (λ (rest : List LinkPacket). q ∷ rest) (set-with_lost packets n p is)
 
 -- the packets before one that is put stay where they are
 pub slice_get-push : (ps : List LinkPacket) (q : LinkPacket) (n : ℕ)

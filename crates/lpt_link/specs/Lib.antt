@@ -3,3 +3,5 @@ pub mod FaultNames
 pub mod Hands
 pub mod Links
 pub mod LinksInside
+pub mod Packets
+pub mod PacketsInside

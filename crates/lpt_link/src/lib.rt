@@ -12,6 +12,7 @@ mod hands;
 pub mod laws;
 mod link;
 mod packet;
+mod packets;
 mod tags;
 
 pub use fault::LinkFault;

@@ -10,6 +10,7 @@ ghost use Rattle.lpt_link.specs.Links.{empty_link, octets_at, is_held, is_held_f
 use crate::LinkFault;
 use crate::hands::Hands;
 use crate::packet::LinkPacket;
+use crate::packets::Packets;
 use crate::tags::Tags;
 use lpt_events::Lane;
 use lpt_packet::{Direction, Name, Octets};
@@ -17,20 +18,15 @@ use std::alloc::{AllocError, Global};
 use std::marker::Model;
 use thiserror::Error;
 
-/// For how many packets a new link has room.
-const FIRST_ROOM: usize = 16;
-
 /// The link: its packets and the lanes' hands, and how many held packets are of each transaction.
 #[derive(Drop)]
 pub struct Link {
-    packets: Vec<LinkPacket>,
+    packets: Packets,
     hands: Hands,
     tags: Tags,
 }
 
 impl Model for Link {
-    ghost use Rattle.std.specs.Prelude.{◌-◌};
-    ghost use Rattle.std.specs.Vec.{vec_len, vec_capacity};
     ghost use Rattle.lpt_link.specs.Links.{LinkView, IsSound};
     ghost use Rattle.lpt_link.specs.LinksInside.{IsIndex};
 
@@ -38,7 +34,7 @@ impl Model for Link {
 
     ghost view = { λ l. record {
       at = record { packets = l.packets.items; hands = l.hands };
-      spare = vec_capacity l.packets - vec_len l.packets;
+      spare = l.packets.spare;
       places = l.tags;
     } };
 
@@ -62,7 +58,7 @@ impl Link {
         ensures { IfOk result (λ l. l.at ≡ empty_link) }
     {
         Ok(Link {
-            packets: Vec::with_capacity(alloc, FIRST_ROOM)?,
+            packets: Packets::new(alloc)?,
             hands: Hands::empty(),
             tags: Tags::new(alloc),
         })
@@ -80,18 +76,17 @@ impl Link {
         ensures value { option_copied result ≡ octets_at self.now.at n }
         ensures some { IsSome result ↔ (n < length self.now.at.packets) }
     {
-        self.packets
-            .get(n as usize)
-            .map(|packet| packet.octets.as_slice())
+        self.packets.octets(n)
     }
 
     /// Whether the link holds the packet numbered `n`.
     pub fn is_held(&self, n: u64) -> bool
         ensures { result ≡ is_held self.now.at n }
     {
-        self.packets
-            .get(n as usize)
-            .is_some_and(|packet| packet.held)
+        match self.packets.head(n) {
+            Some(head) => head.held,
+            None => false,
+        }
     }
 
     /// The number of the packet in the lane's hand. The packet goes in the lane's direction.
@@ -192,13 +187,14 @@ impl Link {
         ensures refused { result_err result ≡ refusal_lose self.old.at n }
         ensures err { OnErr result (self.new.at ≡ self.old.at) }
     {
-        if !self.is_held(n) {
-            return Err(LinkFault::NotHeld);
+        match self.packets.head(n) {
+            Some(head) if head.held => {
+                self.tags.remove(head.direction, head.tag);
+                self.packets.lose(n);
+                Ok(())
+            }
+            _ => Err(LinkFault::NotHeld),
         }
-        let packet = &self.packets[n as usize];
-        self.tags.remove(packet.direction, packet.tag);
-        self.packets[n as usize].held = false;
-        Ok(())
     }
 
     /// Takes the packet numbered `n` into the lane's hand. It stays held.
@@ -257,8 +253,8 @@ impl Link {
         let Some(n) = self.hands.of(lane) else {
             return false;
         };
-        match self.packets.get(n as usize) {
-            Some(packet) => packet.direction == direction && packet.tag == Some(name),
+        match self.packets.head(n) {
+            Some(head) => head.direction == direction && head.tag == Some(name),
             None => false,
         }
     }
@@ -306,9 +302,9 @@ impl Link {
                 self.tags.add(direction, tag);
                 Ok(number)
             }
-            Err(failed) => Err(PutError {
+            Err(octets) => Err(PutError {
                 fault: LinkFault::Memory,
-                octets: failed.value.octets,
+                octets,
             }),
         }
     }
@@ -317,8 +313,9 @@ impl Link {
     fn is_held_for(&self, direction: Direction, n: u64) -> bool
         ensures { result ≡ is_held_for self.now.at direction n }
     {
-        self.packets
-            .get(n as usize)
-            .is_some_and(|packet| packet.held && packet.direction == direction)
+        match self.packets.head(n) {
+            Some(head) => head.held && head.direction == direction,
+            None => false,
+        }
     }
 }

@@ -14,3 +14,14 @@ pub(crate) struct LinkPacket {
     /// Whether the link still holds it.
     pub(crate) held: bool,
 }
+
+/// What a packet has besides its octets. The fields lie in this order, so that it takes 8 octets.
+#[derive(Clone, Copy)]
+pub(crate) struct Head {
+    /// Which way it goes.
+    pub(crate) direction: Direction,
+    /// Whether the link still holds it.
+    pub(crate) held: bool,
+    /// The name of the transaction that it is a part of; `None` if it is no part.
+    pub(crate) tag: Option<Name>,
+}

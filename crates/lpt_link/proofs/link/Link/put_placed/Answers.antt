@@ -14,10 +14,10 @@ add-requires-clause-place c =
 
 pub add-requires-clause-room : goal.add-requires-clause-room
 add-requires-clause-room c = λ name.
-    let items = c.self.inside.packets in
-    let d : LinkData = record { packets = items.items; hands = c.self.inside.hands } in
+    let link = c.self.inside in
+    let d : LinkData = record { packets = link.packets.items; hands = link.hands } in
     let goes = c.args.direction in
-    omega (arith, items.ok, items.small, c.self.invariant.1 goes name, held_few d goes name)
+    omega (arith, c.len-number.ensures.small, c.self.invariant.1 goes name, held_few d goes name)
 
 pub invariant_of-self : goal.invariant_of-self
 invariant_of-self c =
@@ -26,7 +26,7 @@ invariant_of-self c =
     let goes = c.args.direction in
     let tag = c.args.tag in
     let octets = c.args.octets in
-    rw c.in-Ok.ensures.items (
+    rw c.in-Ok.ensures.ok (
       put_sound d goes tag octets c.self.invariant.0,
       index_more goes tag c.self.inside.tags c.add.new.self d
           (after_put d goes tag octets) c.self.invariant.1 c.add.ensures.more
@@ -36,10 +36,9 @@ invariant_of-self c =
 -- and its number is how many were put before
 pub returns-in-Ok-clause-number : goal.returns-in-Ok-clause-number
 returns-in-Ok-clause-number c =
-    c.len-number.ensures
-    ∙ c.self.inside.packets.ok.0
+    c.len-number.ensures.value
     ∙ ap (λ (v : LinkView). length v.at.packets) c.self.view_is
 
 -- where it isn't put all is as before
 pub invariant_of-self-in-Err : goal.invariant_of-self-in-Err
-invariant_of-self-in-Err c = rw c.in-Err.ensures.items c.self.invariant
+invariant_of-self-in-Err c = rw c.in-Err.ensures.err c.self.invariant
