@@ -10,7 +10,9 @@ ghost use Rattle.lpt_events.specs.Configs.{IsConfig};
 use lpt_command_line::{Command, CommandLine, JoinWords, read_words};
 use lpt_end_commands::{ground, pass, spacecraft};
 use lpt_events::Config;
-use lpt_io::{Failure, Fault, Machine, Status, Terminals, Voice, config_of, explained, tell_end};
+use lpt_io::{
+    Failure, Fault, Machine, Status, Terminals, Voice, config_of, explain_words, tell_end,
+};
 use lpt_message_commands::{extract, join, join_each, join_layout, split, split_all};
 use lpt_packet_commands::{
     checksum, compare, decode, glance, link, list, request, screen_of, verify,
@@ -69,18 +71,18 @@ fn serve<T: Threads + Wait + Clock + Copy + Drop + Send + Sync + 'static>(
     match read_words(rt.alloc(), words) {
         Ok(asked) => {
             let voice = Voice::new(terminals, asked.quiet);
-            let ended = done(rt, threads, terminals, process, voice, &asked);
+            let ended = do_command(rt, threads, terminals, process, voice, &asked);
             if ended.is_err() {
                 voice.clear(rt);
             }
             tell_end(rt, ended)
         }
-        Err(unasked) => explained(rt, rt.alloc(), &unasked),
+        Err(unasked) => explain_words(rt, rt.alloc(), &unasked),
     }
 }
 
 // Does the command, under its configuration where it has one.
-fn done<T: Threads + Wait + Clock + Copy + Drop + Send + Sync + 'static>(
+fn do_command<T: Threads + Wait + Clock + Copy + Drop + Send + Sync + 'static>(
     rt: &HostRuntime,
     threads: &T,
     terminals: Terminals,
@@ -109,7 +111,7 @@ fn done<T: Threads + Wait + Clock + Copy + Drop + Send + Sync + 'static>(
         Command::Split(words) => split(rt, &config_of(rt, settings)?, words),
         Command::SplitEach(words) => split_all(rt, &config_of(rt, settings)?, words),
         Command::JoinLayout(words) => join_layout(rt, voice, &config_of(rt, settings)?, words),
-        Command::Join(words) => joined(rt, voice, &config_of(rt, settings)?, words),
+        Command::Join(words) => do_join(rt, voice, &config_of(rt, settings)?, words),
         Command::Link(words) => link(rt, voice, words),
         Command::Extract(words) => extract(rt, voice, &config_of(rt, settings)?, words),
         Command::Request(words) => request(rt, &config_of(rt, settings)?, words),
@@ -123,7 +125,7 @@ fn done<T: Threads + Wait + Clock + Copy + Drop + Send + Sync + 'static>(
 }
 
 // Joins one message, or each into a folder.
-fn joined<R: Machine>(
+fn do_join<R: Machine>(
     rt: &R,
     voice: Voice,
     config: &Config,

@@ -14,12 +14,12 @@ use Rattle.lpt_ledger.specs.Marks.{Marks}
 use Rattle.lpt_ledger.specs.States.{state_of, state_at}
 use Rattle.lpt_ledger.specs.declared.state.State.{State as Known}
 use Rattle.lpt_ledger.specs.declared.state.State.TheVariants as known
-use Rattle.lpt_node.specs.Sending.{refusal_finish_in, closed, closed_by}
+use Rattle.lpt_node.specs.Sending.{refusal_finish_in, sender_closed, closed_by}
 use Rattle.lpt_model.specs.State.{State}
 use Rattle.lpt_refinement.specs.Shows.{mark_of}
 use Rattle.lpt_journal.specs.Journal.{History}
 use Rattle.lpt_journal.specs.Legal.{Legal}
-use Rattle.lpt_journal.specs.Replies.{recorded}
+use Rattle.lpt_journal.specs.Replies.{history_after}
 use Rattle.lpt_journal.specs.Senders.{sender, sender_of, current, is_over}
 use Rattle.lpt_journal.proofs.HeadlineLemmas.{every}
 use Rattle.lpt_journal.specs.Whole.{came}
@@ -33,12 +33,12 @@ open_named : (c : Config) (first : Contents) (es : List Act) (d : Direction) (na
     (m : Marks)
     → IsConfig c
     → Legal c first es
-    → maps.get m name ≡ mark_of (sender (recorded c first es) d name)
+    → maps.get m name ≡ mark_of (sender (history_after c first es) d name)
     → state_at m name ≡ known.Open
     → IsName name
 open_named c first es d name m good legal shown opened = go (current h d name) refl where
   h : History
-  h = recorded c first es
+  h = history_after c first es
 
   go : (o : Option Opening) → current h d name ≡ o → IsName name
   go None e =
@@ -52,7 +52,7 @@ module _ (c : Config) (first : Contents) (s : State) (ways : List PutOut) (log :
     (es : List Act)
     (good : IsConfig c) (t : IsTied c first s ways log es) where
   abbrev had : Came
-  had = came c (recorded c first es)
+  had = came c (history_after c first es)
 
   same : Leads c first (ends_of s ways log) had
   same = record {
@@ -61,11 +61,11 @@ module _ (c : Config) (first : Contents) (s : State) (ways : List PutOut) (log :
   }
 
   pub closed_up : (name : Name)
-      → Leads c first (with_node (ends_of s ways log) Ground (closed s.on_ground name)) had
+      → Leads c first (with_node (ends_of s ways log) Ground (sender_closed s.on_ground name)) had
   closed_up name = go (state_at s.on_ground.sending.ledger name) refl where
     go : (k : Known)
         → state_at s.on_ground.sending.ledger name ≡ k
-        → Leads c first (with_node (ends_of s ways log) Ground (closed s.on_ground name)) had
+        → Leads c first (with_node (ends_of s ways log) Ground (sender_closed s.on_ground name)) had
     go known.Open e =
         finish c first s ways log es good t Up name (
           open_named c first es Up name s.on_ground.sending.ledger good t.legal
@@ -80,11 +80,11 @@ module _ (c : Config) (first : Contents) (s : State) (ways : List PutOut) (log :
         (record s.on_ground { sending = closed_by k s.on_ground.sending name })) had) (sym e) same
 
   pub closed_down : (name : Name)
-      → Leads c first (with_node (ends_of s ways log) Craft (closed s.on_craft name)) had
+      → Leads c first (with_node (ends_of s ways log) Craft (sender_closed s.on_craft name)) had
   closed_down name = go (state_at s.on_craft.sending.ledger name) refl where
     go : (k : Known)
         → state_at s.on_craft.sending.ledger name ≡ k
-        → Leads c first (with_node (ends_of s ways log) Craft (closed s.on_craft name)) had
+        → Leads c first (with_node (ends_of s ways log) Craft (sender_closed s.on_craft name)) had
     go known.Open e =
         finish c first s ways log es good t Down name (
           open_named c first es Down name s.on_craft.sending.ledger good t.legal

@@ -17,7 +17,7 @@ use Rattle.lpt_events.specs.declared.side.Side.TheVariants.{Ground, Craft}
 use Rattle.lpt_link.specs.declared.fault.LinkFault.TheVariants.{NotHeld, HandFull, HandEmpty}
 use Rattle.lpt_link.specs.declared.packet.LinkPacket.{LinkPacket}
 use Rattle.lpt_link.specs.Links.{LinkData, hand_of, is_held_for, after_take, after_drop}
-use Rattle.lpt_node.specs.Accepting.{accepted}
+use Rattle.lpt_node.specs.Accepting.{packet_accepted}
 use Rattle.lpt_node.specs.declared.accepted.Accepted.{Accepted}
 use Rattle.lpt_node.specs.Nodes.{NodeData}
 use Rattle.lpt_model.specs.State.{State, link_fault, as_list, arrival_held, delivered_on}
@@ -25,7 +25,7 @@ use Rattle.lpt_refinement.specs.Shows.{Shows}
 use Rattle.lpt_refinement.specs.Views.{views}
 use Rattle.lpt_journal.specs.Journal.{History}
 use Rattle.lpt_journal.specs.Legal.{Legal}
-use Rattle.lpt_journal.specs.Replies.{recorded}
+use Rattle.lpt_journal.specs.Replies.{history_after}
 use Rattle.lpt_journal.specs.Whole.{came}
 use Rattle.lpt_apart.specs.Ends.{PutOut, Ends, node_at}
 use Rattle.lpt_apart.specs.Facts.{Log}
@@ -53,7 +53,7 @@ hand_taken v G2 n = refl
 take : (c : Config) (first : Contents) (s : State) (es : List Act) (l : Lane) (n : ℕ)
     → IsConfig c
     → Legal c first es
-    → Shows s (views c first (recorded c first es))
+    → Shows s (views c first (history_after c first es))
     → hand_of s.link l ≡ None
     → is_held_for s.link (lane_direction l) n ≡ true
     → IsLonger c first s es (Take l n)
@@ -79,13 +79,13 @@ module _ (c : Config) (first : Contents) (s : State) (ways : List PutOut) (log :
     (good : IsConfig c) (t : IsTied c first s ways log es) where
   -- the parts that came before
   abbrev had : Came
-  had = came c (recorded c first es)
+  had = came c (history_after c first es)
 
   -- what a node has taken leads on, and its part came
   abbrev Led : Direction → Arrival → Type 0
   Led d a =
       let x : NodeData × Accepted =
-      accepted (receiver_side d) c (node_at (ends_of s ways log) (receiver_side d)) a in
+      packet_accepted (receiver_side d) c (node_at (ends_of s ways log) (receiver_side d)) a in
       Leads c first (accepted_on (ends_of s ways log) d x)
       (λ e name k. came_by d a x.1.outcome e name k (had e name k))
 
@@ -114,8 +114,8 @@ module _ (c : Config) (first : Contents) (s : State) (ways : List PutOut) (log :
       → Led Up (arrival_held c Up (slice_get s.link.packets n))
   up n held =
       let x : NodeData × Accepted =
-      accepted Craft c s.on_craft (arrival_held c Up (slice_get s.link.packets n)) in
-      let h : History = recorded c first (Take S1 n ∷ es) in
+      packet_accepted Craft c s.on_craft (arrival_held c Up (slice_get s.link.packets n)) in
+      let h : History = history_after c first (Take S1 n ∷ es) in
       let took = take c first s es S1 n good t.legal t.shown (t.hands S1) held in
       let gave = deliver c first s es S1 n good took in
       record {
@@ -151,8 +151,8 @@ module _ (c : Config) (first : Contents) (s : State) (ways : List PutOut) (log :
       → Led Down (arrival_held c Down (slice_get s.link.packets n))
   down n held =
       let x : NodeData × Accepted =
-      accepted Ground c s.on_ground (arrival_held c Down (slice_get s.link.packets n)) in
-      let h : History = recorded c first (Take G1 n ∷ es) in
+      packet_accepted Ground c s.on_ground (arrival_held c Down (slice_get s.link.packets n)) in
+      let h : History = history_after c first (Take G1 n ∷ es) in
       let took = take c first s es G1 n good t.legal t.shown (t.hands G1) held in
       let gave = deliver c first s es G1 n good took in
       record {

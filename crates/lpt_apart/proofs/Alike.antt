@@ -15,19 +15,19 @@ use Rattle.lpt_ledger.specs.States.{state_at}
 use Rattle.lpt_ledger.specs.declared.state.State.{State}
 use Rattle.lpt_ledger.specs.declared.state.State.TheVariants.{Free as AFree, Open as AnOpen, Closed}
 use Rattle.lpt_model.specs.State.{released_of}
-use Rattle.lpt_node.specs.Accepting.{accepted}
+use Rattle.lpt_node.specs.Accepting.{packet_accepted}
 use Rattle.lpt_execution.specs.declared.ending.Ending.TheVariants.{Refused}
 use Rattle.lpt_pus.specs.declared.failure_code.FailureCode.{FailureCode}
-use Rattle.lpt_node.specs.Jobs.{claimed_of, committed, ending_at, executed_ending, executed_of, with_opened, executed_so}
+use Rattle.lpt_node.specs.Jobs.{claimed_of, job_committed, ending_at, executed_ending, executed_of, with_opened, executed_so}
 use Rattle.lpt_node.specs.Nodes.{NodeData, Sending}
-use Rattle.lpt_node.specs.Receivers.{ReceiverState, abort_report, after_offer, ended, if_free, kept_of, parts_with, received, received_from, table_in}
-use Rattle.lpt_node.specs.Receiving.{abort_head, after_received, parted, receiver_of, with_receiver, with_report}
+use Rattle.lpt_node.specs.Receivers.{ReceiverState, abort_report, after_offer, reception_ended, if_free, kept_of, parts_with, part_received, received_from, table_in}
+use Rattle.lpt_node.specs.Receiving.{abort_head, after_received, part_accepted, receiver_of, with_receiver, with_report}
 use Rattle.lpt_node.specs.Sending.{sent_of}
 use Rattle.lpt_node.specs.declared.accepted.Accepted.{Accepted}
 use Rattle.lpt_part.specs.declared.reason.Reason.TheVariants as reason
 use Rattle.lpt_reception.specs.Received.{Parts}
 use Rattle.lpt_table.specs.Offering as offering
-use Rattle.lpt_table.specs.Offering.{OfferKind, offered}
+use Rattle.lpt_table.specs.Offering.{OfferKind, part_offered}
 use Rattle.lpt_table.specs.Tables.{Entries, TableState}
 use Rattle.lpt_apart.specs.Facts.{Aborted, Log, with_abortion}
 use Rattle.lpt_apart.specs.Steps.{with_release}
@@ -79,7 +79,7 @@ one_of d true x y of_x of_y = of_x
 one_of d false x y of_x of_y = of_y
 
 pub same_read : (d : NodeData) (o : Option (ℕ × List ℕ)) (r : Source)
-    → IsSame d (committed (claimed_of d o).0 (claimed_of d o).1.boot (claimed_of d o).1.job r).0
+    → IsSame d (job_committed (claimed_of d o).0 (claimed_of d o).1.boot (claimed_of d o).1.job r).0
 same_read d None r =
     one_of d (d.boot == d.boot) (record d { jobs = after_commit d.jobs 0 r }, true) (d, false)
     (record { receiving = refl; outgoing = refl; clock = refl; boot = refl })
@@ -152,7 +152,8 @@ module _ (c : Config) (d : NodeData) (sending : Sending) (jobs : Jobs) where
     released = refl;
   }
   alike_offer q g h r parts offering.Gap es =
-      both_broke (with_receiver d (ended r q.name)) (with_receiver other (ended r q.name))
+      both_broke (with_receiver d (reception_ended r q.name))
+      (with_receiver other (reception_ended r q.name))
       (abort_report g q.name reason.Discontinuity) (abort_report h q.name reason.Discontinuity)
       _ _ refl refl refl refl refl refl
   alike_offer q g h r parts offering.NoRoom es = record {
@@ -172,7 +173,8 @@ module _ (c : Config) (d : NodeData) (sending : Sending) (jobs : Jobs) where
     released = refl;
   }
   alike_offer q g h r parts (offering.Conflict why) es =
-      both_broke (with_receiver d (ended r q.name)) (with_receiver other (ended r q.name))
+      both_broke (with_receiver d (reception_ended r q.name))
+      (with_receiver other (reception_ended r q.name))
       (abort_report g q.name why) (abort_report h q.name why) _ _ refl refl refl refl refl refl
 
   alike_free : (s : State) (q : NamedPart) (g h : Option Telemetry) (r : ReceiverState)
@@ -197,15 +199,17 @@ module _ (c : Config) (d : NodeData) (sending : Sending) (jobs : Jobs) where
     released = refl;
   }
 
-  alike_part : (q : NamedPart) → AreAlike (parted Craft c d q) (parted Craft c other q)
-  unfolding received
+  alike_part : (q : NamedPart) → AreAlike (part_accepted Craft c d q)
+      (part_accepted Craft c other q)
+  unfolding part_received
   alike_part q =
       let r : ReceiverState = receiver_of c d.receiving in
       alike_free (state_at r.ledger q.name) q (abort_head Craft c d q.name.source)
       (abort_head Craft c other q.name.source) r (parts_with (table_in r) q)
-      (offered (table_in r) q.name q.number (kept_of q) d.clock)
+      (part_offered (table_in r) q.name q.number (kept_of q) d.clock)
 
-  pub alike : (a : Arrival) → AreAlike (accepted Craft c d a) (accepted Craft c other a)
+  pub alike : (a : Arrival) → AreAlike (packet_accepted Craft c d a)
+      (packet_accepted Craft c other a)
   alike NotRead = record {
     receiving = refl;
     outgoing = refl;
@@ -378,9 +382,10 @@ beside_free Closed d q r parts o = record {
   like = λ l r like. like;
 }
 
-pub beside_part : (c : Config) (d : NodeData) (q : NamedPart) → IsBeside d (parted Ground c d q)
-unfolding received
+pub beside_part : (c : Config) (d : NodeData) (q : NamedPart)
+    → IsBeside d (part_accepted Ground c d q)
+unfolding part_received
 beside_part c d q =
     let r : ReceiverState = receiver_of c d.receiving in
     beside_free (state_at r.ledger q.name) d q r (parts_with (table_in r) q)
-    (offered (table_in r) q.name q.number (kept_of q) d.clock)
+    (part_offered (table_in r) q.name q.number (kept_of q) d.clock)

@@ -30,7 +30,7 @@ use Rattle.lpt_journal.specs.Legal.{Legal}
 use Rattle.lpt_journal.specs.Link.{sent}
 use Rattle.lpt_journal.specs.Receivers.{heard}
 use Rattle.lpt_journal.specs.Releases.{released_by}
-use Rattle.lpt_journal.specs.Replies.{abort_puts, outcome_puts, expiry_puts, puts, recorded, entry}
+use Rattle.lpt_journal.specs.Replies.{abort_puts, outcome_puts, expiry_puts, puts, history_after, entry}
 use Rattle.lpt_journal.proofs.Events.{only_element}
 use Rattle.lpt_journal.proofs.DeliveredReleases.{plain_is}
 use Rattle.lpt_journal.proofs.HeadlineLemmas.{every, owes}
@@ -39,7 +39,7 @@ use Rattle.lpt_journal.proofs.Soundness.{in_hand_is}
 use Rattle.lpt_journal.proofs.Steps.{IsPut}
 use Rattle.lpt_journal.proofs.TestLemmas.{one_passes, IsOldOrNew, with_all_cases, no_place}
 use Rattle.lpt_apart.specs.Facts.{Fact, Asked, Log, with_abortion}
-use Rattle.lpt_apart.specs.Told.{with_openings, with_releases, with_ended, with_asked, with_event, told}
+use Rattle.lpt_apart.specs.Told.{with_openings, with_releases, with_ended, with_asked, with_event, log_told}
 
 -- ---- a log that grows
 
@@ -93,13 +93,13 @@ later_event (Restart side) ps log f had = later _ log f had
 later_event e ps log f had = had
 
 later_entry : (c : Config) (x : Recorded) (h : History) (f : Fact)
-    → Contains (told c h) f
-    → Contains (told c (x ∷ h)) f
+    → Contains (log_told c h) f
+    → Contains (log_told c (x ∷ h)) f
 later_entry c x h f had =
     later_event x.event x.puts _ f
     (later_openings x.opens _ f
     (later_ended x.event x.reply.answer _ f
-    (later_releases (released_by c x h) (told c h) f had)))
+    (later_releases (released_by c x h) (log_told c h) f had)))
 
 -- what is asked by packets is there
 asked_there : (ps : List SentPacket) (log : Log) (n : ℕ) (p : SentPacket)
@@ -178,22 +178,22 @@ module _ (c : Config) (first : Contents) (good : IsConfig c) where
   pub was_asked : (es : List Act)
       → Legal c first es
       → (n : ℕ) (p : SentPacket) (b : List ℕ)
-      → slice_get (sent (recorded c first es)) n ≡ Some p
+      → slice_get (sent (history_after c first es)) n ≡ Some p
       → p.direction ≡ Up
       → arrival_of c p ≡ ARequest b
-      → Contains (told c (recorded c first es)) (Asked p.octets)
+      → Contains (log_told c (history_after c first es)) (Asked p.octets)
   was_asked [] legal n p b f up is = absurd (no_place n p f)
   was_asked (e ∷ es) legal n p b f up is =
       go (was_asked es legal.0 n p b) (with_all_cases (sent h) (puts c first h e) n p f) where
         h : History
-        h = recorded c first es
+        h = history_after c first es
 
         go : (slice_get (sent h) n ≡ Some p
             → p.direction ≡ Up
             → arrival_of c p ≡ ARequest b
-            → Contains (told c h) (Asked p.octets))
+            → Contains (log_told c h) (Asked p.octets))
             → IsOldOrNew (sent h) (puts c first h e) n p
-            → Contains (told c (entry c first h e ∷ h)) (Asked p.octets)
+            → Contains (log_told c (entry c first h e ∷ h)) (Asked p.octets)
         go before (inl old) =
             later_entry c (entry c first h e) h (Asked p.octets) (before old up is)
         go before (inr fresh) =
@@ -206,13 +206,13 @@ module _ (c : Config) (first : Contents) (good : IsConfig c) where
   request_asked : (es : List Act)
       → Legal c first es
       → (l : Lane) (n : ℕ) (r : Release)
-      → hand (recorded c first es) l ≡ Some n
-      → slice_get (released_by c (entry c first (recorded c first es) (Deliver l))
-      (recorded c first es)) 0 ≡ Some r
+      → hand (history_after c first es) l ≡ Some n
+      → slice_get (released_by c (entry c first (history_after c first es) (Deliver l))
+      (history_after c first es)) 0 ≡ Some r
       → r.of ≡ None
-      → Contains (told c (recorded c first es)) (Asked r.message)
+      → Contains (log_told c (history_after c first es)) (Asked r.message)
   request_asked es legal l n r held at none =
-      let h : History = recorded c first es in
+      let h : History = history_after c first es in
       let it = (every c first es good legal).0.hands l n held in
       let comes : in_hand c h l ≡ ARequest r.message =
       plain_is (length h) (lane_direction l) (outcome c h l) (heard c h (lane_direction l))
@@ -222,19 +222,20 @@ module _ (c : Config) (first : Contents) (good : IsConfig c) where
       let read =
       request_is (receiver_side it.packet.direction) c.apid c.part_size it.packet.octets r.message
       is in
-      subst (λ (b : List ℕ). Contains (told c h) (Asked b)) read.1
+      subst (λ (b : List ℕ). Contains (log_told c h) (Asked b)) read.1
       (was_asked es legal n it.packet r.message it.was_sent (up_from it.packet.direction read.0) is)
 
   -- what is released of no transaction was asked
   pub release_asked : (e : Act) (es : List Act)
       → Legal c first (e ∷ es)
       → (r : Release)
-      → slice_get (released_by c (entry c first (recorded c first es) e) (recorded c first es)) 0
+      → slice_get
+      (released_by c (entry c first (history_after c first es) e) (history_after c first es)) 0
       ≡ Some r
       → r.of ≡ None
-      → Contains (told c (recorded c first es)) (Asked r.message)
+      → Contains (log_told c (history_after c first es)) (Asked r.message)
   release_asked (Deliver l) es legal r at none =
-      let h : History = recorded c first es in
+      let h : History = history_after c first es in
       let n = full (hand h l) (one_passes (not (is_some (hand h l))) HandEmpty legal.1.accepted) in
       request_asked es legal.0 l n.0 r n.1 at none
   release_asked e es legal r at none = absurd (no_place 0 r at)

@@ -27,12 +27,12 @@ use Rattle.lpt_journal.specs.Journal.{SentPacket, History}
 use Rattle.lpt_journal.specs.Legal.{Legal}
 use Rattle.lpt_journal.specs.Receivers.{ends, is_closed, heard}
 use Rattle.lpt_journal.specs.Releases.{released_now}
-use Rattle.lpt_journal.specs.Replies.{expired_now, recorded, entry, opens, puts}
+use Rattle.lpt_journal.specs.Replies.{expired_now, history_after, entry, opens, puts}
 use Rattle.lpt_journal.specs.Senders.{is_opening_of, current}
 use Rattle.lpt_journal.proofs.HeadlineLemmas.{every, owes}
 use Rattle.lpt_packet.proofs.BoolLemmas.{and_left, and_right}
-use Rattle.lpt_apart.specs.Facts.{Asked, Released, Log, with_abortion, is_of_it, awaited}
-use Rattle.lpt_apart.specs.Told.{with_openings, with_releases, with_ended, with_asked, told}
+use Rattle.lpt_apart.specs.Facts.{Asked, Released, Log, with_abortion, is_of_it, message_awaited}
+use Rattle.lpt_apart.specs.Told.{with_openings, with_releases, with_ended, with_asked, log_told}
 use Rattle.lpt_events.proofs.LaneLemmas.{same_direction-true}
 use Rattle.lpt_reception.specs.Received.{Parts}
 use Rattle.lpt_events.specs.Arrivals.{Arrival, ARequest}
@@ -46,34 +46,36 @@ abbrev pub message_of : Opening → List ℕ
 message_of o = o.message
 
 pub awaited_asked : (ps : List SentPacket) (log : Log) (d : Direction) (name : Name)
-    → awaited (with_asked ps log) d name ≡ awaited log d name
+    → message_awaited (with_asked ps log) d name ≡ message_awaited log d name
 awaited_asked [] log d name = refl
 awaited_asked (p ∷ ps) log d name = awaited_asked ps (Asked p.octets ∷ log) d name
 
 pub awaited_openings : (os : List Opening) (log : Log) (d : Direction) (name : Name)
-    → awaited (with_openings os log) d name
-    ≡ option_or (option_map message_of (find (is_opening_of d name) os)) (awaited log d name)
+    → message_awaited (with_openings os log) d name
+    ≡ option_or (option_map message_of (find (is_opening_of d name) os))
+    (message_awaited log d name)
 awaited_openings [] log d name = refl
 awaited_openings (o ∷ os) log d name = go (is_opening_of d name o)
     (awaited_openings os log d name) where
       go : (b : Bool)
-          → awaited (with_openings os log) d name
-          ≡ option_or (option_map message_of (find (is_opening_of d name) os)) (awaited log d name)
+          → message_awaited (with_openings os log) d name
+          ≡ option_or (option_map message_of (find (is_opening_of d name) os))
+          (message_awaited log d name)
           → ◌≡◌ {A = Option (List ℕ)}
-          (if b then Some o.message else awaited (with_openings os log) d name)
+          (if b then Some o.message else message_awaited (with_openings os log) d name)
           (option_or (option_map message_of (cond b (Some o) (find (is_opening_of d name) os)))
-          (awaited log d name))
+          (message_awaited log d name))
       go true rest = refl
       go false rest = rest
 
 -- what is released of other transactions leaves what is awaited
 pub awaited_releases : (rs : List Release) (log : Log) (d : Direction) (name : Name)
     → ((k : ℕ) (r : Release) → slice_get rs k ≡ Some r → is_of_it r.of d name ≡ false)
-    → awaited (with_releases rs log) d name ≡ awaited log d name
+    → message_awaited (with_releases rs log) d name ≡ message_awaited log d name
 awaited_releases [] log d name none = refl
 awaited_releases (r ∷ rs) log d name none =
     awaited_releases rs (Released r.of r.message ∷ log) d name (λ k s e. none (suc k) s e)
-    ∙ ap (λ (b : Bool). if b then None else awaited log d name) (none zero r refl)
+    ∙ ap (λ (b : Bool). if b then None else message_awaited log d name) (none zero r refl)
 
 -- a side receives in its direction
 pub receives_in : (side : Side) (d : Direction)
@@ -106,38 +108,40 @@ awaits ended o = if ended then None else option_map message_of o
 -- a plain request that is released leaves what is awaited
 plain_leaves : (place : ℕ) (e : Direction) (len : ℕ) (s : Name → Parts) (a : Arrival) (log : Log)
     (d : Direction) (name : Name)
-    → awaited (with_releases (released_now place e (Delivered (PlainReleased len)) s a) log) d name
-    ≡ awaited log d name
+    → message_awaited (with_releases (released_now place e (Delivered (PlainReleased len)) s a) log)
+    d name
+    ≡ message_awaited log d name
 plain_leaves place e len s (ARequest b) log d name = refl
 plain_leaves place e len s a log d name = refl
 
 module _ (c : Config) (first : Contents) (h : History) (d : Direction) (name : Name)
-    (had : awaited (told c h) d name ≡ awaits (is_closed h d name) (current h d name)) where
+    (had : message_awaited (log_told c h) d name
+    ≡ awaits (is_closed h d name) (current h d name)) where
   abbrev log : Log
-  log = told c h
+  log = log_told c h
 
   -- what ends ends alike
   over : (b : Bool)
-      → ◌≡◌ {A = Option (List ℕ)} (if b then None else awaited log d name)
+      → ◌≡◌ {A = Option (List ℕ)} (if b then None else message_awaited log d name)
       (awaits (b || is_closed h d name) (current h d name))
   over true = refl
   over false = had
 
   -- what is no end leaves it
   quiet : (b : Bool)
-      → awaited log d name ≡ awaits ((b && false) || is_closed h d name) (current h d name)
+      → message_awaited log d name ≡ awaits ((b && false) || is_closed h d name) (current h d name)
   quiet true = had
   quiet false = had
 
   -- a delivery releases or breaks off what it ends
   delivered : (e : Direction) (a : Arrival) (o : Outcome)
       → TellsOf c h e a o
-      → awaited (with_abortion e o
+      → message_awaited (with_abortion e o
       (with_releases (released_now (length h) e (Delivered o) (heard c h e) a) log)) d name
       ≡ awaits ((same_direction e d && ends (Delivered o) name) || is_closed h d name)
       (current h d name)
   delivered e a (Released i len) t =
-      ap (λ (a : Arrival). awaited (with_releases
+      ap (λ (a : Arrival). message_awaited (with_releases
       (released_now (length h) e (Delivered (Released i len)) (heard c h e) a) log) d name) t.1
       ∙ over (same_direction e d && same_name i name)
   delivered e a (Broken i why) t = over (same_direction e d && same_name i name)
@@ -147,27 +151,28 @@ module _ (c : Config) (first : Contents) (h : History) (d : Direction) (name : N
 
   -- what is given up is aborted
   ended : (side : Side) (which o : Option Name)
-      → awaited (with_ended (Expire side which) (expired_now (direction_to side) o) log) d name
+      → message_awaited (with_ended (Expire side which) (expired_now (direction_to side) o) log) d
+      name
       ≡ awaits ((same_side side (receiver_side d) && ends (expired_now (direction_to side) o) name)
       || is_closed h d name) (current h d name)
   ended side which None =
-      ap (λ (b : Bool). if b && same_name no_name name then None else awaited log d name)
+      ap (λ (b : Bool). if b && same_name no_name name then None else message_awaited log d name)
       (receives_in side d)
       ∙ over (same_side side (receiver_side d) && same_name no_name name)
   ended side which (Some i) =
-      ap (λ (b : Bool). if b && same_name i name then None else awaited log d name)
+      ap (λ (b : Bool). if b && same_name i name then None else message_awaited log d name)
       (receives_in side d)
       ∙ over (same_side side (receiver_side d) && same_name i name)
 
   -- what is opened is awaited
   opened : (os : List Opening)
       → ((o : Opening) → find (is_opening_of d name) os ≡ Some o → is_closed h d name ≡ false)
-      → awaited (with_openings os log) d name
+      → message_awaited (with_openings os log) d name
       ≡ awaits (is_closed h d name) (option_or (find (is_opening_of d name) os) (current h d name))
   opened os free = awaited_openings os log d name ∙ go (find (is_opening_of d name) os) free where
     go : (f : Option Opening)
         → ((o : Opening) → f ≡ Some o → is_closed h d name ≡ false)
-        → option_or (option_map message_of f) (awaited log d name)
+        → option_or (option_map message_of f) (message_awaited log d name)
         ≡ awaits (is_closed h d name) (option_or f (current h d name))
     go None free = had
     go (Some o) free =
@@ -177,7 +182,7 @@ module _ (c : Config) (first : Contents) (h : History) (d : Direction) (name : N
   event_awaits : (e : Act)
       → ((o : Opening) → find (is_opening_of d name) (opens c first h e) ≡ Some o
       → is_closed h d name ≡ false)
-      → awaited (told c (entry c first h e ∷ h)) d name
+      → message_awaited (log_told c (entry c first h e ∷ h)) d name
       ≡ awaits (is_closed (entry c first h e ∷ h) d name) (current (entry c first h e ∷ h) d name)
   event_awaits (Open e i m) free = opened (opens c first h (Open e i m)) free
   event_awaits (Plain source flags service subtype body) free =
@@ -190,7 +195,7 @@ module _ (c : Config) (first : Contents) (h : History) (d : Direction) (name : N
   event_awaits Apply free = opened (opens c first h Apply) free
   event_awaits (Retire e i) free = go (same_direction e d && same_name i name) where
     go : (b : Bool)
-        → ◌≡◌ {A = Option (List ℕ)} (if b then None else awaited log d name)
+        → ◌≡◌ {A = Option (List ℕ)} (if b then None else message_awaited log d name)
         (awaits (not b && is_closed h d name) (if b then None else current h d name))
     go true = refl
     go false = had
@@ -201,11 +206,12 @@ pub awaited_is : (c : Config) (first : Contents) (es : List Act)
     → IsConfig c
     → Legal c first es
     → (d : Direction) (name : Name)
-    → awaited (told c (recorded c first es)) d name
-    ≡ awaits (is_closed (recorded c first es) d name) (current (recorded c first es) d name)
+    → message_awaited (log_told c (history_after c first es)) d name
+    ≡ awaits (is_closed (history_after c first es) d name)
+    (current (history_after c first es) d name)
 awaited_is c first [] good legal d name = refl
 awaited_is c first (e ∷ es) good legal d name =
-    let h : History = recorded c first es in
+    let h : History = history_after c first es in
     let sound = every c first es good legal.0 in
     event_awaits c first h d name (awaited_is c first es good legal.0 d name) e
     (λ o is. (every_ended c first es good legal.0).free d name
@@ -217,8 +223,8 @@ pub is_awaited : (c : Config) (first : Contents)
     → (es : List Act)
     → Legal c first es
     → (d : Direction) (name : Name) (o : Opening)
-    → current (recorded c first es) d name ≡ Some o
-    → is_closed (recorded c first es) d name ≡ false
-    → awaited (told c (recorded c first es)) d name ≡ Some o.message
+    → current (history_after c first es) d name ≡ Some o
+    → is_closed (history_after c first es) d name ≡ false
+    → message_awaited (log_told c (history_after c first es)) d name ≡ Some o.message
 is_awaited c first good es legal d name o now still =
     awaited_is c first es good legal d name ∙ (λ i. awaits (still i) (now i))

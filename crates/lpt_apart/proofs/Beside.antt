@@ -13,7 +13,7 @@ use Rattle.lpt_events.specs.declared.side.Side.TheVariants.{Ground, Craft}
 use Rattle.lpt_jobs.specs.Jobs.{Jobs}
 use Rattle.lpt_model.specs.State.{as_list, released_of}
 use Rattle.lpt_model.specs.Tickets.{no_tickets}
-use Rattle.lpt_node.specs.Accepting.{accepted}
+use Rattle.lpt_node.specs.Accepting.{packet_accepted}
 use Rattle.lpt_node.specs.Nodes.{NodeData, Receiving, Sending}
 use Rattle.lpt_node.specs.Sending.{sent_of}
 use Rattle.lpt_node.specs.Times.{expired_of, refusal_end, refusal_expire_of, which_ends}
@@ -23,7 +23,7 @@ use Rattle.lpt_node.specs.declared.accepted.Accepted.{Accepted}
 use Rattle.lpt_apart.specs.Clocks.{later as at_later}
 use Rattle.lpt_apart.specs.Ends.{Ends, PutOut, put_out}
 use Rattle.lpt_apart.specs.Facts.{Opened, Aborted, Executed, Log, with_abortion}
-use Rattle.lpt_apart.specs.Moves.{CanMove, Do, Move, Pair, moved}
+use Rattle.lpt_apart.specs.Moves.{CanMove, Do, Move, Pair, pair_after}
 use Rattle.lpt_apart.specs.Steps.{Accept, Expire, MayCome, accepted_on, expired_on, is_harmless, sent_on, with_release, with_report as reporting}
 use Rattle.lpt_apart.specs.Whole.{came_by, came_in, came_moved}
 use Rattle.lpt_apart.proofs.Clocks.{IsReached, reached_keep}
@@ -123,7 +123,7 @@ module _ (c : Config) (first : Contents) (g : ℕ) (good : IsConfig (at_later g 
   pub goes : (k l : Core) (r s : Rest) (x : Move) (before after : Name → ℕ → Bool)
       → IsBroughtUp c first (mirror first k r) before
       → CanMove c (mirror first k r) x
-      → moved c (mirror first k r) x ≡ mirror first l s
+      → pair_after c (mirror first k r) x ≡ mirror first l s
       → ((name : Name) (n : ℕ)
       → came_moved c (mirror first k r) x Up name n (before name n) ≡ after name n)
       → IsBroughtUp c first (mirror first l s) after
@@ -134,7 +134,7 @@ module _ (c : Config) (first : Contents) (g : ℕ) (good : IsConfig (at_later g 
         b.reached.can,
         subst (λ (p : Pair). CanMove c p x) (sym b.reached.is) can,
       );
-      is = ap (λ (p : Pair). moved c p x) b.reached.is ∙ is;
+      is = ap (λ (p : Pair). pair_after c p x) b.reached.is ∙ is;
     };
     came = λ name n.
         (λ i. came_moved c (b.reached.is i) x Up name n (b.came name n i)) ∙ comes name n;
@@ -220,12 +220,12 @@ module _ (c : Config) (first : Contents) (g : ℕ) (good : IsConfig (at_later g 
 
     pub takes_up : (b : List ℕ)
         → MayCome c e Up b
-        → IsMirrored c first (moved c p (Do (Accept Up b)))
+        → IsMirrored c first (pair_after c p (Do (Accept Up b)))
         (λ name n. came_moved c p (Do (Accept Up b)) Up name n (parts name n))
     takes_up b may =
         let a : Arrival = arrival_in c Up b in
-        let x : NodeData × Accepted = accepted Craft c e.on_craft a in
-        let y : NodeData × Accepted = accepted Craft c (mirror first k r).ends.on_craft a in
+        let x : NodeData × Accepted = packet_accepted Craft c e.on_craft a in
+        let y : NodeData × Accepted = packet_accepted Craft c (mirror first k r).ends.on_craft a in
         let both : AreAlike x y = alike c e.on_craft r.sending r.jobs a in
         let s : Rest = record {
           sending = y.0.sending;
@@ -269,7 +269,7 @@ module _ (c : Config) (first : Contents) (g : ℕ) (good : IsConfig (at_later g 
 
     -- ground takes something harmless, and so do those beside
     abbrev down_to : Pair → Arrival → Pair
-    down_to q a = record q { ends = accepted_on q.ends Down (accepted Ground c q.ends.on_ground a) }
+    down_to q a = record q { ends = accepted_on q.ends Down (packet_accepted Ground c q.ends.on_ground a) }
 
     pub takes_down : (b : List ℕ) (a : Arrival)
         → arrival_in c Down b ≡ a
@@ -292,7 +292,7 @@ module _ (c : Config) (first : Contents) (g : ℕ) (good : IsConfig (at_later g 
           like = m.like;
         }
     takes_down b (APart q) is =
-        let x : NodeData × Accepted = accepted Ground c e.on_ground (APart q) in
+        let x : NodeData × Accepted = packet_accepted Ground c e.on_ground (APart q) in
         let s : IsBeside e.on_ground x = beside_part c e.on_ground q in
         let l : Core = core_of (down_to p (APart q)).ends in
         record {

@@ -13,19 +13,19 @@ use Rattle.lpt_acts.specs.Acts.{Act}
 use Rattle.lpt_acts.specs.Acts as act
 use Rattle.lpt_events.specs.declared.side.Side.{Side}
 use Rattle.lpt_events.specs.declared.side.Side.TheVariants.{Ground, Craft}
-use Rattle.lpt_node.specs.Accepting.{accepted}
-use Rattle.lpt_node.specs.Jobs.{executed}
+use Rattle.lpt_node.specs.Accepting.{packet_accepted}
+use Rattle.lpt_node.specs.Jobs.{job_executed}
 use Rattle.lpt_node.specs.Nodes.{NodeData}
 use Rattle.lpt_node.specs.declared.accepted.Accepted.{Accepted}
 use Rattle.lpt_model.specs.State.{State, end_of}
 use Rattle.lpt_journal.specs.Journal.{History}
 use Rattle.lpt_journal.specs.Legal.{Legal}
-use Rattle.lpt_journal.specs.Replies.{recorded}
+use Rattle.lpt_journal.specs.Replies.{history_after}
 use Rattle.lpt_journal.specs.Whole as journal
 use Rattle.lpt_apart.specs.Ends.{Ends, node_at}
 use Rattle.lpt_apart.specs.Facts.{is_same}
 use Rattle.lpt_apart.specs.Plays.{octets_held, step_of, with_step, steps_of, AreEndsOf}
-use Rattle.lpt_apart.specs.Steps.{Step, Retire, reached}
+use Rattle.lpt_apart.specs.Steps.{Step, Retire, ends_reached}
 use Rattle.lpt_apart.specs.Whole.{came_by, is_reported, came_after, came, WorldsBringTheSame, MovesBringTheSame}
 use Rattle.lpt_apart.proofs.Events.{open_came}
 use Rattle.lpt_apart.proofs.Freely.{steps_are_moves}
@@ -35,16 +35,16 @@ use Rattle.lpt_apart.proofs.Telling.{execution_opens, delivery_came}
 use Rattle.lpt_apart.proofs.Ties.{IsLonger, longer, not_refused}
 
 module _ (c : Config) (first : Contents) (es : List Act) (d : Direction) (name : Name) (k : ℕ)
-    (good : IsConfig c) (xs : List Step) (are : AreEndsOf c first es (reached c first xs))
-    (had : came c first xs d name k ≡ journal.came c (recorded c first es) d name k) where
+    (good : IsConfig c) (xs : List Step) (are : AreEndsOf c first es (ends_reached c first xs))
+    (had : came c first xs d name k ≡ journal.came c (history_after c first es) d name k) where
   abbrev h : History
-  h = recorded c first es
+  h = history_after c first es
 
   abbrev s : State
   s = are.world
 
   abbrev ends : Ends
-  ends = reached c first xs
+  ends = ends_reached c first xs
 
   node : (side : Side) → end_of s side ≡ node_at ends side
   node Ground = are.ground
@@ -58,7 +58,7 @@ module _ (c : Config) (first : Contents) (es : List Act) (d : Direction) (name :
   event_brings : (e : Act)
       → Legal c first (e ∷ es)
       → came c first (with_step (step_of h e) xs) d name k
-      ≡ journal.came c (recorded c first (e ∷ es)) d name k
+      ≡ journal.came c (history_after c first (e ∷ es)) d name k
   event_brings (act.Open i named m) legal =
       ap (λ (b : Bool). if is_same i named d name then false else b) had
       ∙ sym (open_came (is_same i named d name) _ (journal.came c h d name k))
@@ -66,19 +66,21 @@ module _ (c : Config) (first : Contents) (es : List Act) (d : Direction) (name :
       let w : Direction = lane_direction l in
       let a : Arrival = arrival_in c w (octets_held h l) in
       let x : NodeData × Accepted =
-      accepted (receiver_side w) c (node_at ends (receiver_side w)) a in
+      packet_accepted (receiver_side w) c (node_at ends (receiver_side w)) a in
       let it : HasInHand s h l =
       has_in_hand c first s es l good legal.0 are.shown
       (not_refused c first s es (act.Deliver l) good are.shown legal) in
       ap (λ (b : Bool). came_by w a x.1.outcome d name k b) had
       ∙ sym (delivery_came c first s ends.log es are.shown are.log l
       (more (act.Deliver l) legal) a x (sym (arrives c s h l it))
-      (ap (λ (n : NodeData). accepted (receiver_side w) c n a) (sym (node (receiver_side w))))
+      (ap (λ (n : NodeData). packet_accepted (receiver_side w) c n a)
+      (sym (node (receiver_side w))))
       d name k)
   event_brings act.Apply legal =
-      let reports : is_reported (executed c ends.on_craft ends.memories).0.1.opened d name
-      ≡ is_reported (executed c s.on_craft s.memories).0.1.opened d name =
-      (λ i. is_reported (executed c (sym are.craft i) (sym are.memories i)).0.1.opened d name) in
+      let reports : is_reported (job_executed c ends.on_craft ends.memories).0.1.opened d name
+      ≡ is_reported (job_executed c s.on_craft s.memories).0.1.opened d name =
+      (λ i. is_reported (job_executed c (sym are.craft i) (sym are.memories i)).0.1.opened d
+      name) in
       let opens = reports
       ∙ sym (execution_opens c first s ends.log es are.shown are.log
       (more act.Apply legal) d name)

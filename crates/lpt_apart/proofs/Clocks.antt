@@ -14,7 +14,7 @@ use Rattle.lpt_node.specs.Nodes.{no_data}
 use Rattle.lpt_node.specs.Restarts.{node_within}
 use Rattle.lpt_apart.specs.Clocks.{Own, later, own_config, no_pair_later, after_all, CanAll, EndsWithClocksKeepThePromise}
 use Rattle.lpt_apart.specs.Ends.{no_ends}
-use Rattle.lpt_apart.specs.Moves.{Pair, Move, Do, no_pair, moved, CanMove, came_to, CanMoveAll}
+use Rattle.lpt_apart.specs.Moves.{Pair, Move, Do, no_pair, pair_after, CanMove, came_to, CanMoveAll}
 use Rattle.lpt_apart.specs.Steps.{Tick}
 use Rattle.lpt_apart.specs.Worlds.{IsPromised}
 use Rattle.lpt_apart.specs.Whole.{came_moved, came_in, came_since, CameWhole, last_opened, is_aborted, last_released, EndsWithClocksWithholdNothing, WithholdsNothing}
@@ -76,7 +76,7 @@ module _ (c : Config) (first : Contents) (l : Limits) where
         subst (λ (p : Pair). CanMove c p (Do (Tick Ground On))) (sym r.reached.is)
             (ap (λ (b : Bool). if b then Some ClockEnd else None) (not_greatest x below)),
       );
-      is = ap (λ (p : Pair). moved c p (Do (Tick Ground On))) r.reached.is;
+      is = ap (λ (p : Pair). pair_after c p (Do (Tick Ground On))) r.reached.is;
     };
     came = r.came;
   }
@@ -94,7 +94,7 @@ module _ (c : Config) (first : Contents) (l : Limits) where
         subst (λ (p : Pair). CanMove c p (Do (Tick Craft On))) (sym r.reached.is)
             (ap (λ (b : Bool). if b then Some ClockEnd else None) (not_greatest y below)),
       );
-      is = ap (λ (p : Pair). moved c p (Do (Tick Craft On))) r.reached.is;
+      is = ap (λ (p : Pair). pair_after c p (Do (Tick Craft On))) r.reached.is;
     };
     came = r.came;
   }
@@ -150,7 +150,7 @@ module _ (c : Config) (first : Contents) where
       record {
         all = x ∷ rest.all;
         can = (rest.can, subst (λ (q : Pair). CanMove c q x) (sym rest.is) can.1);
-        is = ap (λ (q : Pair). moved c q x) rest.is;
+        is = ap (λ (q : Pair). pair_after c q x) rest.is;
       }
 
   -- and what came with them
@@ -168,7 +168,7 @@ module _ (c : Config) (first : Contents) where
             rest.reached.can,
             subst (λ (q : Pair). CanMove c q x) (sym rest.reached.is) can.1,
           );
-          is = ap (λ (q : Pair). moved c q x) rest.reached.is;
+          is = ap (λ (q : Pair). pair_after c q x) rest.reached.is;
         };
         came = λ d name n i. came_moved c (rest.reached.is i) x d name n (rest.came d name n i);
       }

@@ -14,21 +14,21 @@ use Rattle.lpt_events.specs.declared.side.Side.TheVariants.{Ground, Craft}
 use Rattle.lpt_execution.specs.declared.ending.Ending.{Ending}
 use Rattle.lpt_execution.specs.declared.ending.Report.{Report}
 use Rattle.lpt_execution.specs.Reporting.{message_reports, request_source, large_packets, opened_of}
-use Rattle.lpt_jobs.specs.Jobs.{Head, NoJob, NotReady, Ready, head_of, unclaimed}
+use Rattle.lpt_jobs.specs.Jobs.{Head, NoJob, NotReady, Ready, head_of, oldest_unclaimed}
 use Rattle.lpt_ledger.specs.LeastFree.{IsLeastFree, least_free_in}
 use Rattle.lpt_ledger.specs.Marks.{Marks, Opened, Shut}
 use Rattle.lpt_ledger.specs.States.{state_of, state_at, closed_state}
 use Rattle.lpt_ledger.specs.declared.state.State.{State as Known}
 use Rattle.lpt_ledger.specs.declared.state.State.TheVariants as known
-use Rattle.lpt_node.specs.Accepting.{accepted}
-use Rattle.lpt_node.specs.Jobs.{claimed, claimed_of, committed, ending_at, report_packets, reported, executed, executed_with, executed_of}
+use Rattle.lpt_node.specs.Accepting.{packet_accepted}
+use Rattle.lpt_node.specs.Jobs.{job_claimed, claimed_of, job_committed, ending_at, report_packets, reports_made, job_executed, executed_with, executed_of}
 use Rattle.lpt_node.specs.Nodes.{Sending, NodeData, message_at}
 use Rattle.lpt_part.specs.declared.reason.Reason.TheVariants as reason
-use Rattle.lpt_node.specs.Receivers.{abort_report, ended}
-use Rattle.lpt_node.specs.Receiving.{receiver_of, with_receiver, abort_head, parted}
-use Rattle.lpt_node.specs.Sending.{refusal_open_in, opened, closed, closed_by, counted_kind, sent, sent_of}
-use Rattle.lpt_node.specs.Restarts.{restarted, node_within}
-use Rattle.lpt_node.specs.Times.{ticked, expired_of, clock_back, which_ends}
+use Rattle.lpt_node.specs.Receivers.{abort_report, reception_ended}
+use Rattle.lpt_node.specs.Receiving.{receiver_of, with_receiver, abort_head, part_accepted}
+use Rattle.lpt_node.specs.Sending.{refusal_open_in, message_opened, sender_closed, closed_by, counted_kind, part_sent, sent_of}
+use Rattle.lpt_node.specs.Restarts.{node_restarted, node_within}
+use Rattle.lpt_node.specs.Times.{clock_ticked, expired_of, clock_back, which_ends}
 use Rattle.lpt_node.specs.declared.accepted.Accepted.{Accepted}
 use Rattle.lpt_events.specs.NamedParts.{NamedPart}
 use Rattle.lpt_model.specs.Tickets.{ticket_of}
@@ -102,7 +102,7 @@ sent_ledger side c n name k None = refl
 sent_ledger side c n name k (Some m) = refl
 
 parted_ledger : (side : Side) (c : Config) (n : NodeData) (q : NamedPart)
-    → (parted side c n q).0.sending.ledger ≡ n.sending.ledger
+    → (part_accepted side c n q).0.sending.ledger ≡ n.sending.ledger
 parted_ledger side c n q =
     ap (λ (y : NodeData × Accepted). y.0.sending.ledger) (parted_is side c n q n.receiving.ledger)
     ∙ go (state_at n.receiving.ledger q.name) where
@@ -116,7 +116,7 @@ parted_ledger side c n q =
 
 accepted_closed : (side : Side) (c : Config) (n : NodeData) (a : Arrival) (name : Name)
     → state_at n.sending.ledger name ≡ known.Closed
-    → state_at (accepted side c n a).0.sending.ledger name ≡ known.Closed
+    → state_at (packet_accepted side c n a).0.sending.ledger name ≡ known.Closed
 accepted_closed side c n (AnAbort i why) name had =
     kept_closed (state_at n.sending.ledger i) n.sending name i had
 accepted_closed side c n (APart q) name had =
@@ -128,7 +128,7 @@ expired_ledger : (side : Side) (c : Config) (n : NodeData) (o : Option Name)
     → (expired_of side c n o).0.sending.ledger ≡ n.sending.ledger
 expired_ledger side c n None = refl
 expired_ledger side c n (Some name) =
-    report_ledger (with_receiver n (ended (receiver_of c n.receiving) name))
+    report_ledger (with_receiver n (reception_ended (receiver_of c n.receiving) name))
     (abort_report (abort_head side c n name.source) name reason.Expired)
 
 claimed_ledger : (n : NodeData) (o : Option (ℕ × List ℕ))
@@ -137,13 +137,13 @@ claimed_ledger n None = refl
 claimed_ledger n (Some x) = refl
 
 committed_ledger : (n : NodeData) (boot job : ℕ) (r : Source)
-    → (committed n boot job r).0.sending.ledger ≡ n.sending.ledger
+    → (job_committed n boot job r).0.sending.ledger ≡ n.sending.ledger
 committed_ledger n boot job r = go (boot == n.boot) where
   go : (b : Bool) → (committed_by n job r b).0.sending.ledger ≡ n.sending.ledger
   go true = refl
   go false = refl
 
-reported_ledger : (s : Sending) (rs : List Report) → (reported s rs).ledger ≡ s.ledger
+reported_ledger : (s : Sending) (rs : List Report) → (reports_made s rs).ledger ≡ s.ledger
 reported_ledger s [] = refl
 reported_ledger s (r ∷ rs) = reported_ledger (counted_kind s r.kind) rs
 
@@ -224,13 +224,14 @@ pub closed_stays : (c : Config) (e : Ends) (x : Step) (d : Direction) (name : Na
     → IsShut (after c e x) d name
 closed_stays c e (Open way i m) d name can stays had =
     let n : NodeData = node_at e (sender_side way) in
-    changed e (after c e (Open way i m)) (sender_side way) (opened n i m) d name refl refl
+    changed e (after c e (Open way i m)) (sender_side way) (message_opened n i m) d name refl refl
     (kept_open n.sending.ledger name i
     (free_of c n.outgoing (state_at n.sending.ledger i) (maps.len n.sending.messages) (length m)
     can.1)) had
 closed_stays c e (Send way i k) d name can stays had =
     let n : NodeData = node_at e (sender_side way) in
-    changed e (after c e (Send way i k)) (sender_side way) (sent (sender_side way) c n i k).0 d name
+    changed e (after c e (Send way i k)) (sender_side way) (part_sent (sender_side way) c n i k).0 d
+    name
     refl refl
     (λ shut. ap (λ (m : Marks). state_at m name)
     (sent_ledger (sender_side way) c n i k (message_at n i)) ∙ shut) had
@@ -238,15 +239,16 @@ closed_stays c e (Plain source flags service subtype body) Up name can stays had
 closed_stays c e (Plain source flags service subtype body) Down name can stays had = had
 closed_stays c e (Finish way i) d name can stays had =
     let n : NodeData = node_at e (sender_side way) in
-    changed e (after c e (Finish way i)) (sender_side way) (closed n i) d name refl refl
+    changed e (after c e (Finish way i)) (sender_side way) (sender_closed n i) d name refl refl
     (kept_closed (state_at n.sending.ledger i) n.sending name i) had
 closed_stays c e (Accept way b) d name can stays had =
     let n : NodeData = node_at e (receiver_side way) in
     let a : Arrival = arrival_in c way b in
-    changed e (after c e (Accept way b)) (receiver_side way) (accepted (receiver_side way) c n a).0
+    changed e (after c e (Accept way b)) (receiver_side way)
+    (packet_accepted (receiver_side way) c n a).0
     d name refl refl (accepted_closed (receiver_side way) c n a name) had
 closed_stays c e (Tick side On) d name can stays had =
-    changed e (after c e (Tick side On)) side (ticked (node_at e side)) d name refl refl
+    changed e (after c e (Tick side On)) side (clock_ticked (node_at e side)) d name refl refl
     (λ shut. shut) had
 closed_stays c e (Tick side (Back n)) d name can stays had =
     changed e (after c e (Tick side (Back n))) side (clock_back n (node_at e side)) d name refl refl
@@ -261,9 +263,9 @@ closed_stays c e (Expire side which) d name can stays had =
     (λ shut. ap (λ (m : Marks). state_at m name) (expired_ledger side c n (which_ends c n which))
     ∙ shut) had
 closed_stays c e (Claim w) d name can stays had =
-    changed e (after c e (Claim w)) Craft (claimed e.on_craft).0 d name refl refl
+    changed e (after c e (Claim w)) Craft (job_claimed e.on_craft).0 d name refl refl
     (λ shut. ap (λ (m : Marks). state_at m name)
-    (claimed_ledger e.on_craft (unclaimed e.on_craft.jobs)) ∙ shut) had
+    (claimed_ledger e.on_craft (oldest_unclaimed e.on_craft.jobs)) ∙ shut) had
 closed_stays c e (Commit w) d name can stays had = go (ticket_of e.tickets w) where
   go : (o : Option Job) → IsShut (committed_on c e w o) d name
   go None = had
@@ -273,18 +275,19 @@ closed_stays c e (Commit w) d name can stays had = go (ticket_of e.tickets w) wh
         sizes = sizes_of e.memories;
         message = t.message;
       } in
-      changed e (committed_on c e w (Some t)) Craft (committed e.on_craft t.boot t.job r).0 d name
+      changed e (committed_on c e w (Some t)) Craft (job_committed e.on_craft t.boot t.job r).0 d
+      name
       refl
       refl
       (λ shut. ap (λ (m : Marks). state_at m name) (committed_ledger e.on_craft t.boot t.job r)
       ∙ shut)
       had
 closed_stays c e Apply d name can stays had =
-    let x = executed c e.on_craft e.memories in
+    let x = job_executed c e.on_craft e.memories in
     changed e (after c e Apply) Craft x.0.0 d name refl refl
     (executed_closed c e.on_craft e.memories (head_of e.on_craft.jobs.jobs) name) had
 closed_stays c e (Retire way i) d name can stays had = absurd stays
 closed_stays c e (Restart side) d name can stays had =
     let n : NodeData = node_at e side in
-    changed e (after c e (Restart side)) side (restarted n) d name refl refl
+    changed e (after c e (Restart side)) side (node_restarted n) d name refl refl
     (λ shut. state_at-all_closed n.sending.ledger name ∙ ap closed_state shut) had

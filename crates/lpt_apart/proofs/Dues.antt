@@ -19,18 +19,18 @@ use Rattle.lpt_events.specs.declared.reply.Answer.TheVariants.{Delivered, Expire
 use Rattle.lpt_journal.specs.Abortions.{Abortion, abortion_at}
 use Rattle.lpt_journal.specs.Due.{due}
 use Rattle.lpt_journal.specs.Executions.{front_opens}
-use Rattle.lpt_journal.specs.Jobs.{jobs, applied, front_job, is_committed}
+use Rattle.lpt_journal.specs.Jobs.{jobs, jobs_applied, front_job, is_committed}
 use Rattle.lpt_journal.specs.Journal.{SentPacket, Recorded, History}
 use Rattle.lpt_journal.specs.Legal.{Legal}
 use Rattle.lpt_journal.specs.Releases.{released_by}
-use Rattle.lpt_journal.specs.Replies.{answer, opens, recorded, entry}
+use Rattle.lpt_journal.specs.Replies.{answer, opens, history_after, entry}
 use Rattle.lpt_journal.proofs.AbortionLemmas.{abortion_is_final}
 use Rattle.lpt_journal.proofs.AbortionOwed.{owes_abortion}
 use Rattle.lpt_journal.proofs.HeadlineLemmas.{every, owes_releases}
 use Rattle.lpt_journal.proofs.Releasing.{OwesReleases}
 use Rattle.lpt_journal.proofs.TestLemmas.{two_pass}
 use Rattle.lpt_apart.specs.Facts.{Asked, Released, Aborted, Executed, Log, waiting, IsDue, AllDue}
-use Rattle.lpt_apart.specs.Told.{with_openings, with_releases, with_ended, with_asked, with_event, told}
+use Rattle.lpt_apart.specs.Told.{with_openings, with_releases, with_ended, with_asked, with_event, log_told}
 use Rattle.lpt_apart.proofs.Asking.{release_asked}
 use Rattle.lpt_apart.proofs.Awaiting.{awaited_releases, is_awaited}
 use Rattle.lpt_apart.proofs.Queues.{waiting_openings, waiting_told}
@@ -83,44 +83,46 @@ module _ (c : Config) (first : Contents) (good : IsConfig c) where
   execution_due : (e : Act) (es : List Act)
       → Legal c first (e ∷ es)
       → e ≡ Apply
-      → 0 < length (waiting (with_openings (opens c first (recorded c first es) e)
-      (with_ended e (answer c first (recorded c first es) e)
-      (with_releases (released_by c (entry c first (recorded c first es) e) (recorded c first es))
-      (told c (recorded c first es))))))
+      → 0 < length (waiting (with_openings (opens c first (history_after c first es) e)
+      (with_ended e (answer c first (history_after c first es) e)
+      (with_releases
+      (released_by c (entry c first (history_after c first es) e) (history_after c first es))
+      (log_told c (history_after c first es))))))
   execution_due Apply es legal is =
-      let h : History = recorded c first es in
+      let h : History = history_after c first es in
       let passed =
-      two_pass (not (is_some (front_job c h))) (not (is_committed h (applied h))) NoJob NotReady
+      two_pass (not (is_some (front_job c h))) (not (is_committed h (jobs_applied h))) NoJob
+      NotReady
       legal.1.accepted in
       let front = some_is (front_job c h) (not_false (is_some (front_job c h)) passed.0) in
-      let within : applied h < length (jobs c h) =
-      slice_get_within (jobs c h) (applied h) front.0 front.1 in
-      let many : length (waiting (with_openings (front_opens c first h) (told c h)))
-      ≡ length (jobs c h) - applied h =
+      let within : jobs_applied h < length (jobs c h) =
+      slice_get_within (jobs c h) (jobs_applied h) front.0 front.1 in
+      let many : length (waiting (with_openings (front_opens c first h) (log_told c h)))
+      ≡ length (jobs c h) - jobs_applied h =
       ap (λ (ws : List (List ℕ)). length ws)
-      (waiting_openings (front_opens c first h) (told c h) ∙ waiting_told c first es legal.0)
-      ∙ length-map (drop (applied h) (jobs c h)) (λ (r : Release). r.message)
-      ∙ length-drop (applied h) (jobs c h) in
+      (waiting_openings (front_opens c first h) (log_told c h) ∙ waiting_told c first es legal.0)
+      ∙ length-map (drop (jobs_applied h) (jobs c h)) (λ (r : Release). r.message)
+      ∙ length-drop (jobs_applied h) (jobs c h) in
       omega (arith, within, many)
   execution_due e es legal is = absurd cc
 
   -- the log of a legal journal is due
-  pub all_due : (es : List Act) → Legal c first es → AllDue (told c (recorded c first es))
+  pub all_due : (es : List Act) → Legal c first es → AllDue (log_told c (history_after c first es))
   all_due [] legal = tt
   all_due (e ∷ es) legal =
       event_due e x.puts (with_openings x.opens over)
       (openings_due x.opens over
       (ended_due (length h) e x.reply.answer released
-      (releases_due (released_by c x h) (told c h) (all_due es legal.0) owes.one release)
+      (releases_due (released_by c x h) (log_told c h) (all_due es legal.0) owes.one release)
       abortion)) (execution_due e es legal) where
         h : History
-        h = recorded c first es
+        h = history_after c first es
 
         x : Recorded
         x = entry c first h e
 
         released : Log
-        released = with_releases (released_by c x h) (told c h)
+        released = with_releases (released_by c x h) (log_told c h)
 
         over : Log
         over = with_ended e x.reply.answer released
@@ -130,9 +132,10 @@ module _ (c : Config) (first : Contents) (good : IsConfig c) where
 
         release : (r : Release)
             → slice_get (released_by c x h) 0 ≡ Some r
-            → IsDue (Released r.of r.message) (told c h)
+            → IsDue (Released r.of r.message) (log_told c h)
         release r at = go r.of refl where
-          go : (o : Option (Direction × Name)) → r.of ≡ o → IsDue (Released o r.message) (told c h)
+          go : (o : Option (Direction × Name)) → r.of ≡ o
+              → IsDue (Released o r.message) (log_told c h)
           go None of = release_asked c first good e es legal r at of
           go (Some t) of =
               let p = owes.large 0 r t at of in
@@ -147,7 +150,7 @@ module _ (c : Config) (first : Contents) (good : IsConfig c) where
             owes_abortion c first h e (every c first es good legal.0).0
             (abortion_is_final c first es good legal.0).unheard legal.1.accepted j b at in
             ap is_some
-            (awaited_releases (released_by c x h) (told c h) b.direction b.name
+            (awaited_releases (released_by c x h) (log_told c h) b.direction b.name
             (λ k r f. absurd (p.releases_none k r f))
             ∙ is_awaited c first good es legal.0 b.direction b.name p.ends_it.opening
             p.ends_it.is_current

@@ -18,9 +18,9 @@ use Rattle.lpt_events.specs.declared.worker.Worker.{Worker}
 use Rattle.lpt_jobs.specs.Jobs.{Head, NoJob, NotReady, Ready, head_of, is_claimed}
 use Rattle.lpt_link.specs.Links.{hand_of}
 use Rattle.lpt_node.specs.Faults.{node_fault}
-use Rattle.lpt_node.specs.Jobs.{FrontIsFor, refusal_apply_of, executed}
+use Rattle.lpt_node.specs.Jobs.{FrontIsFor, refusal_apply_of, job_executed}
 use Rattle.lpt_node.specs.Requests.{plain_made}
-use Rattle.lpt_node.specs.Sending.{sent}
+use Rattle.lpt_node.specs.Sending.{part_sent}
 use Rattle.lpt_node.specs.Nodes.{NodeData}
 use Rattle.lpt_node.specs.Times.{expired_of, which_ends}
 use Rattle.lpt_node.specs.declared.expired.Expired.{Expired as Ended}
@@ -29,13 +29,13 @@ use Rattle.lpt_model.specs.Tickets.{ticket_of}
 use Rattle.lpt_refinement.specs.Shows.{Shows}
 use Rattle.lpt_refinement.specs.Views.{views}
 use Rattle.lpt_events.specs.declared.entry.Opening.{Opening}
-use Rattle.lpt_journal.specs.Replies.{recorded}
+use Rattle.lpt_journal.specs.Replies.{history_after}
 use Rattle.lpt_journal.specs.Whole.{came}
 use Rattle.lpt_apart.specs.Ends.{PutOut, put_out}
 use Rattle.lpt_apart.specs.Facts.{Opened, Asked, Aborted, Executed, Restarted, Log, is_same}
 use Rattle.lpt_apart.specs.Steps.{CanHappen, with_report}
 use Rattle.lpt_apart.specs.Steps as steps
-use Rattle.lpt_apart.specs.Told.{told}
+use Rattle.lpt_apart.specs.Told.{log_told}
 use Rattle.lpt_apart.specs.Whole.{came_after}
 use Rattle.lpt_apart.specs.Worlds.{IsReadyNode}
 use Rattle.lpt_apart.proofs.Links.{AllHeld, put_held, put_hands}
@@ -53,12 +53,12 @@ module _ (c : Config) (first : Contents) (s : State) (ways : List PutOut) (log :
     (good : IsConfig c) (t : IsTied c first s ways log es) where
   -- the world after an event
   abbrev state_after : Act → State
-  state_after e = (after c (length (recorded c first es)) s e).0
+  state_after e = (after c (length (history_after c first es)) s e).0
 
   -- the parts that came with a step
   abbrev pub came_on : steps.Step → Came
   came_on x d name k =
-      came_after c (ends_of s ways log) x d name k (came c (recorded c first es) d name k)
+      came_after c (ends_of s ways log) x d name k (came c (history_after c first es) d name k)
 
   -- an event is done: it leaves no hand full, what may be handed over is held, and the log is told
   once : (e : Act) (ways' : List PutOut) (log' : Log)
@@ -66,10 +66,10 @@ module _ (c : Config) (first : Contents) (s : State) (ways : List PutOut) (log :
       → refusal_of c s e ≡ None
       → ((l : Lane) → hand_of (state_after e).link l ≡ None)
       → AllHeld (state_after e).link.packets ways'
-      → told c (recorded c first (e ∷ es)) ≡ log'
+      → log_told c (history_after c first (e ∷ es)) ≡ log'
       → {parts : Came}
       → ((d : Direction) (name : Name) (k : ℕ)
-      → came c (recorded c first (e ∷ es)) d name k ≡ parts d name k)
+      → came c (history_after c first (e ∷ es)) d name k ≡ parts d name k)
       → Leads c first (ends_of (state_after e) ways' log') parts
   once e ways' log' ranged free hands held tells comes =
       let more = longer c first s es e good t.legal t.shown ranged free in
@@ -99,25 +99,25 @@ module _ (c : Config) (first : Contents) (s : State) (ways : List PutOut) (log :
       once (Open Up name m) ways (Opened Up name m ∷ log) can.0 (ap (option_map node_fault) can.1)
       t.hands t.held
       (ap (λ (l : Log). Opened Up name m ∷ l) t.tells)
-      (λ e i k. open_came (is_same Up name e i) _ (came c (recorded c first es) e i k))
+      (λ e i k. open_came (is_same Up name e i) _ (came c (history_after c first es) e i k))
   open_step Down name m can =
       once (Open Down name m) ways (Opened Down name m ∷ log) can.0
       (ap (option_map node_fault) can.1)
       t.hands t.held
       (ap (λ (l : Log). Opened Down name m ∷ l) t.tells)
-      (λ e i k. open_came (is_same Down name e i) _ (came c (recorded c first es) e i k))
+      (λ e i k. open_came (is_same Down name e i) _ (came c (history_after c first es) e i k))
 
   pub send : (d : Direction) (name : Name) (k : ℕ)
       → CanHappen c (ends_of s ways log) (steps.Send d name k)
       → Leads c first (steps.after c (ends_of s ways log) (steps.Send d name k))
       (came_on (steps.Send d name k))
   send Up name k can =
-      let b : List ℕ = (sent Ground c s.on_ground name k).1 in
+      let b : List ℕ = (part_sent Ground c s.on_ground name k).1 in
       once (Send Up name k) (put_out ways Up (Some name) (b ∷ [])) log can.0
       (ap (option_map node_fault) can.1) t.hands
       (put_held s.link ways Up (Some name) (b ∷ []) t.held) t.tells (λ e i k. refl)
   send Down name k can =
-      let b : List ℕ = (sent Craft c s.on_craft name k).1 in
+      let b : List ℕ = (part_sent Craft c s.on_craft name k).1 in
       once (Send Down name k) (put_out ways Down (Some name) (b ∷ [])) log can.0
       (ap (option_map node_fault) can.1) t.hands
       (put_held s.link ways Down (Some name) (b ∷ []) t.held) t.tells (λ e i k. refl)
@@ -225,7 +225,7 @@ module _ (c : Config) (first : Contents) (s : State) (ways : List PutOut) (log :
         → ticket_of s.tickets w ≡ o
         → is_some o ≡ true
         → Leads c first (steps.committed_on c (ends_of s ways log) w o)
-        (came c (recorded c first es))
+        (came c (history_after c first es))
     go None e some = absurd cc
     go (Some j) e some =
         let free : refusal_of c s (Commit w) ≡ None = ap refusal_commit_of e in
@@ -238,7 +238,7 @@ module _ (c : Config) (first : Contents) (s : State) (ways : List PutOut) (log :
               legal = more.legal;
               shown =
                   subst (λ (o : Option Job). Shows (committed_on c s w o).0
-                  (views c first (recorded c first (Commit w ∷ es))))
+                  (views c first (history_after c first (Commit w ∷ es))))
                   e more.shown;
               hands = t.hands;
               held = t.held;
@@ -253,14 +253,14 @@ module _ (c : Config) (first : Contents) (s : State) (ways : List PutOut) (log :
       → Leads c first (steps.after c (ends_of s ways log) steps.Apply) (came_on steps.Apply)
   apply can =
       let free : refusal_of c s Apply ≡ None = ap (option_map node_fault) can in
-      let x = executed c s.on_craft s.memories in
+      let x = job_executed c s.on_craft s.memories in
       once Apply (put_out ways Down None x.0.1.packets)
       (Executed ∷ with_report log x.0.1.opened) tt free
       (λ l. put_hands s.link Down None x.0.1.packets l ∙ t.hands l)
       (put_held s.link ways Down None x.0.1.packets t.held)
       (execution_told c first s log es t.shown t.tells
       (longer c first s es Apply good t.legal t.shown tt free))
-      (λ e i k. ap (λ (b : Bool). if b then false else came c (recorded c first es) e i k)
+      (λ e i k. ap (λ (b : Bool). if b then false else came c (history_after c first es) e i k)
       (execution_opens c first s log es t.shown t.tells
       (longer c first s es Apply good t.legal t.shown tt free) e i))
 

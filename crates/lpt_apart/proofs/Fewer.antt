@@ -14,13 +14,13 @@ use Rattle.lpt_ledger.specs.States.{state_at}
 use Rattle.lpt_ledger.specs.declared.state.State.{State as Known}
 use Rattle.lpt_ledger.specs.declared.state.State.TheVariants as known
 use Rattle.lpt_node.specs.declared.accepted.Accepted.{Accepted}
-use Rattle.lpt_node.specs.Accepting.{accepted}
+use Rattle.lpt_node.specs.Accepting.{packet_accepted}
 use Rattle.lpt_node.specs.Nodes.{Receiving, NodeData}
-use Rattle.lpt_node.specs.Receivers.{table_in, abort_report, kept_of, parts_with, ended, received_from, if_free, received}
-use Rattle.lpt_node.specs.Receiving.{receiver_of, with_receiver, after_received, abort_head, parted}
+use Rattle.lpt_node.specs.Receivers.{table_in, abort_report, kept_of, parts_with, reception_ended, received_from, if_free, part_received}
+use Rattle.lpt_node.specs.Receiving.{receiver_of, with_receiver, after_received, abort_head, part_accepted}
 use Rattle.lpt_node.specs.Times.{expired_of}
 use Rattle.lpt_reception.specs.Received.{Parts}
-use Rattle.lpt_table.specs.Offering.{OfferKind, parts_at, is_full, is_open, taken_out, with_entry, offered}
+use Rattle.lpt_table.specs.Offering.{OfferKind, parts_at, is_full, is_open, taken_out, with_entry, part_offered}
 use Rattle.lpt_table.specs.Offering as offering
 use Rattle.lpt_table.specs.Tables.{TableState}
 use Rattle.lpt_journal.proofs.MapLemmas.{get_remove}
@@ -67,7 +67,7 @@ module _ (side : Side) (c : Config) (n : NodeData) (q : NamedPart) where
   -- what an offer of the part comes to
   abbrev pub offer : OfferKind × TableState
   offer =
-      offered (table_in (receiver_of c n.receiving)) q.name q.number (kept_of q) n.clock
+      part_offered (table_in (receiver_of c n.receiving)) q.name q.number (kept_of q) n.clock
 
   -- the parts of its name with it
   abbrev pub all_parts : Parts
@@ -109,16 +109,17 @@ module _ (side : Side) (c : Config) (n : NodeData) (q : NamedPart) where
       record { marks = less; is = refl; knows = knows; unheard = λ name gone none. none }
 
   -- that is what it makes of the part
-  pub parted_is : (m : Marks) → parted side c (with_ledger m n) q ≡ made_of m (state_at m q.name)
-  unfolding received
+  pub parted_is : (m : Marks) → part_accepted side c (with_ledger m n) q
+      ≡ made_of m (state_at m q.name)
+  unfolding part_received
   parted_is m = refl
 
   parted_less : (less : Marks) (freed : Name → Bool)
       → KnowsLess less freed n.receiving.ledger
       → freed q.name ≡ false
-      → IsLessAs freed n (parted side c (with_ledger less n) q) (parted side c n q)
+      → IsLessAs freed n (part_accepted side c (with_ledger less n) q) (part_accepted side c n q)
   parted_less less freed knows free =
-      subst (λ (y : NodeData × Accepted). IsLessAs freed n y (parted side c n q))
+      subst (λ (y : NodeData × Accepted). IsLessAs freed n y (part_accepted side c n q))
       (sym (parted_is less
       ∙ ap (made_of less) (same_state less n.receiving.ledger freed q.name knows free)))
       (subst (λ (y : NodeData × Accepted). IsLessAs freed n
@@ -131,7 +132,7 @@ pub accepted_less : (side : Side) (c : Config) (less : Marks) (n : NodeData) (a 
     (freed : Name → Bool)
     → KnowsLess less freed n.receiving.ledger
     → ((q : NamedPart) → a ≡ APart q → freed q.name ≡ false)
-    → IsLessAs freed n (accepted side c (with_ledger less n) a) (accepted side c n a)
+    → IsLessAs freed n (packet_accepted side c (with_ledger less n) a) (packet_accepted side c n a)
 accepted_less side c less n NotRead freed knows new =
     record { marks = less; is = refl; knows = knows; unheard = λ name gone none. none }
 accepted_less side c less n AnIdle freed knows new =
@@ -161,7 +162,8 @@ expired_less side c less n (Some name) freed knows new =
     let free : freed name ≡ false = new name refl in
     let packet : Option (List ℕ) =
     abort_report (abort_head side c n name.source) name reason.Expired in
-    let ended_node : NodeData = with_receiver n (ended (receiver_of c n.receiving) name) in
+    let ended_node : NodeData =
+    with_receiver n (reception_ended (receiver_of c n.receiving) name) in
     record {
       marks = maps.insert less name Shut;
       is =

@@ -15,11 +15,11 @@ use Rattle.lpt_events.specs.declared.outcome.Outcome.{Outcome}
 use Rattle.lpt_events.specs.declared.side.Side.{Side}
 use Rattle.lpt_events.specs.declared.side.Side.TheVariants.{Ground, Craft}
 use Rattle.lpt_events.specs.declared.worker.Worker.{Worker}
-use Rattle.lpt_jobs.specs.Jobs.{head_of, unclaimed}
+use Rattle.lpt_jobs.specs.Jobs.{head_of, oldest_unclaimed}
 use Rattle.lpt_ledger.specs.Marks.{Marks}
 use Rattle.lpt_node.specs.declared.accepted.Accepted.{Accepted}
 use Rattle.lpt_node.specs.declared.expired.Expired.{Expired}
-use Rattle.lpt_node.specs.Jobs.{Execution, executed}
+use Rattle.lpt_node.specs.Jobs.{Execution, job_executed}
 use Rattle.lpt_node.specs.Nodes.{Receiving, NodeData, message_at}
 use Rattle.lpt_node.specs.Times.{which_ends}
 use Rattle.lpt_table.specs.Tables.{Entries}
@@ -97,8 +97,8 @@ module _ (c : Config) (first : Contents) (good : IsConfig c) (freed : Direction 
   claim v can =
       quiet (Claim v) can
       (ap (λ (x : NodeData × Job). claimed_on ends v x)
-      (sym (claimed_less k w.on_craft (unclaimed w.on_craft.jobs))))
-      refl refl (claimed_receiving w.on_craft (unclaimed w.on_craft.jobs))
+      (sym (claimed_less k w.on_craft (oldest_unclaimed w.on_craft.jobs))))
+      refl refl (claimed_receiving w.on_craft (oldest_unclaimed w.on_craft.jobs))
 
   commit : (v : Worker)
       → CanHappen c ends (Commit v)
@@ -135,11 +135,11 @@ module _ (c : Config) (first : Contents) (good : IsConfig c) (freed : Direction 
   apply can =
       let same : ◌≡◌ {A = (NodeData × Execution) × Contents} (
         (
-          with_ledger k (executed c w.on_craft w.memories).0.0,
-          (executed c w.on_craft w.memories).0.1,
+          with_ledger k (job_executed c w.on_craft w.memories).0.0,
+          (job_executed c w.on_craft w.memories).0.1,
         ),
-        (executed c w.on_craft w.memories).1,
-      ) (executed c ends.on_craft w.memories) =
+        (job_executed c w.on_craft w.memories).1,
+      ) (job_executed c ends.on_craft w.memories) =
       sym (executed_less c k w.on_craft w.memories (head_of w.on_craft.jobs.jobs)) in
       quiet Apply can (ap (λ (x : (NodeData × Execution) × Contents). executed_on ends x) same)
       (λ i d name n. if is_reported (same i).0.1.opened d name then false else parts d name n)

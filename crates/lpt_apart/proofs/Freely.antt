@@ -10,9 +10,9 @@ use Rattle.lpt_memory.specs.Memories.{Contents}
 use Rattle.lpt_events.specs.declared.config.Config.{Config}
 use Rattle.lpt_apart.specs.Ends.{PutOut, Ends, is_part, without}
 use Rattle.lpt_apart.specs.Facts.{is_same}
-use Rattle.lpt_apart.specs.Moves.{Pair, Move, Do, Free, moved, CanMove, came_to, CanMoveAll}
+use Rattle.lpt_apart.specs.Moves.{Pair, Move, Do, Free, pair_after, CanMove, came_to, CanMoveAll}
 use Rattle.lpt_apart.specs.Plays.{moves_of, StepsAreMoves}
-use Rattle.lpt_apart.specs.Steps.{Step, Retire, CanHappen, retired_on, after, reached, CanRun}
+use Rattle.lpt_apart.specs.Steps.{Step, Retire, CanHappen, retired_on, after, ends_reached, CanRun}
 use Rattle.lpt_apart.proofs.Closing.{IsNoRetirement}
 use Rattle.lpt_events.proofs.LaneLemmas.{same_direction-refl}
 
@@ -39,7 +39,7 @@ none_freed false = refl
 
 -- a name that its receiver and then its sender have freed is retired
 freed_twice : (c : Config) (e : Ends) (d : Direction) (name : Name)
-    → moved c (moved c (plain_pair e) (Free d name)) (Do (Retire d name))
+    → pair_after c (pair_after c (plain_pair e) (Free d name)) (Do (Retire d name))
     ≡ plain_pair (retired_on e d name)
 freed_twice c e Up name = λ i. record {
   ends = record (retired_on e Up name) { on_the_way = without_twice Up name e.on_the_way i };
@@ -64,7 +64,7 @@ come_on : (c : Config) (first : Contents) (ms : List Move) (e : Ends) (x : Step)
 come_on c first ms e (Retire d name) stays can had = absurd stays
 come_on c first ms e x stays can had = record {
   can = (had.can, subst (λ (p : Pair). CanMove c p (Do x)) (sym had.is) can);
-  is = ap (λ (p : Pair). moved c p (Do x)) had.is;
+  is = ap (λ (p : Pair). pair_after c p (Do x)) had.is;
 }
 
 -- a retirement is two
@@ -82,18 +82,18 @@ retire_on c first ms e d name can had = record {
     ),
   );
   is =
-      ap (λ (p : Pair). moved c (moved c p (Free d name)) (Do (Retire d name))) had.is
+      ap (λ (p : Pair). pair_after c (pair_after c p (Free d name)) (Do (Retire d name))) had.is
       ∙ freed_twice c e d name;
 }
 
 come : (c : Config) (first : Contents) (xs : List Step)
     → CanRun c first xs
-    → Come c first (moves_of xs) (reached c first xs)
+    → Come c first (moves_of xs) (ends_reached c first xs)
 come c first [] can = record { can = tt; is = refl }
 come c first (Retire d name ∷ xs) can =
-    retire_on c first (moves_of xs) (reached c first xs) d name can.1 (come c first xs can.0)
+    retire_on c first (moves_of xs) (ends_reached c first xs) d name can.1 (come c first xs can.0)
 come c first (x ∷ xs) can =
-    come_on c first (moves_of xs) (reached c first xs) x tt can.1 (come c first xs can.0)
+    come_on c first (moves_of xs) (ends_reached c first xs) x tt can.1 (come c first xs can.0)
 
 pub steps_are_moves : StepsAreMoves
 steps_are_moves c first xs can =

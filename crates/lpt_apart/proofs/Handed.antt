@@ -2,7 +2,7 @@
 use Rattle.std.proofs.Common.{◌≡◌, ◌∙◌, ap, refl, ℕ, ◌-◌, Bool, true, false, if◌then◌else◌, List, [], Option, Some, None, set, arith}
 use Rattle.std.proofs.lemmas.List.{set-set}
 use Rattle.std.specs.Option.{option_map}
-use Rattle.lpt_packet.specs.Packets.{seen, spelling}
+use Rattle.lpt_packet.specs.Packets.{packet_seen, spelling}
 use Rattle.lpt_packet.proofs.Readings.{eq_true}
 use Rattle.lpt_pus.specs.Commands.{command_in, Command}
 use Rattle.lpt_memory.specs.Meanings.{command_meaning, meaning, Silent, Sizes}
@@ -10,7 +10,7 @@ use Rattle.lpt_memory.specs.Readings.{Source}
 use Rattle.lpt_jobs.specs.Jobs.{Jobs, after_claim, after_commit, claimed_in, next_claim}
 use Rattle.lpt_jobs.specs.declared.job.Job.{Job}
 use Rattle.lpt_jobs.specs.declared.job.Job.TheVariants.{Claimed, Committed}
-use Rattle.lpt_node.specs.Jobs.{claimed_of, committed, refusal_claim_of}
+use Rattle.lpt_node.specs.Jobs.{claimed_of, job_committed, refusal_claim_of}
 use Rattle.lpt_node.specs.Nodes.{NodeData}
 
 -- a claim and a commit of a reading put it in the place of the oldest that waits
@@ -29,7 +29,8 @@ put_in_place q r =
 
 -- what a reading of this message makes of an end in which that job waits longest
 abbrev handed_in : NodeData → Source → Option (ℕ × List ℕ) → NodeData
-handed_in d r o = (committed (claimed_of d o).0 (claimed_of d o).1.boot (claimed_of d o).1.job r).0
+handed_in d r o =
+    (job_committed (claimed_of d o).0 (claimed_of d o).1.boot (claimed_of d o).1.job r).0
 
 pub waits : (d : NodeData) (r : Source) (o : Option (List ℕ))
     → refusal_claim_of (option_map (λ m. (next_claim d.jobs, m)) o) ≡ None
@@ -45,7 +46,7 @@ waits d r (Some m) none =
 
 -- no octets are a telecommand
 pub no_command : (apid : ℕ) → command_in apid [] ≡ None
-unfolding command_in seen spelling
+unfolding command_in packet_seen spelling
 no_command apid = refl
 
 -- and mean nothing

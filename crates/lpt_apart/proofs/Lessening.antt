@@ -5,7 +5,7 @@ use Rattle.std.specs.FinMap as maps
 use Rattle.lpt_packet.specs.Names.{Name, same_name}
 use Rattle.lpt_packet.proofs.NameLemmas.{same_name-true}
 use Rattle.lpt_memory.specs.Memories.{Contents, effect}
-use Rattle.lpt_memory.specs.Readings.{Source, meant, Job}
+use Rattle.lpt_memory.specs.Readings.{Source, source_meaning, Job}
 use Rattle.lpt_events.specs.declared.config.Config.{Config}
 use Rattle.lpt_events.specs.declared.side.Side.{Side}
 use Rattle.lpt_jobs.specs.Jobs.{Head, NoJob, NotReady, Ready, after_commit}
@@ -15,7 +15,7 @@ use Rattle.lpt_execution.specs.declared.ending.Ending.{Ending}
 use Rattle.lpt_execution.specs.declared.ending.Report.{Report}
 use Rattle.lpt_execution.specs.Reporting.{message_reports, request_source, large_packets, opened_of}
 use Rattle.lpt_ledger.specs.LeastFree.{least_free_in}
-use Rattle.lpt_node.specs.Jobs.{Execution, claimed_of, committed, ending_at, report_packets, executed_with, executed_of}
+use Rattle.lpt_node.specs.Jobs.{Execution, claimed_of, job_committed, ending_at, report_packets, executed_with, executed_of}
 use Rattle.lpt_node.specs.Nodes.{NodeData}
 use Rattle.lpt_node.specs.Receiving.{with_report}
 use Rattle.lpt_node.specs.Sending.{sent_of}
@@ -54,7 +54,7 @@ committed_by n job r b =
     if b then (record n { jobs = after_commit n.jobs job r }, true) else (n, false)
 
 pub committed_less : (m : Marks) (n : NodeData) (boot job : ℕ) (r : Source)
-    → (committed (with_ledger m n) boot job r).0 ≡ with_ledger m (committed n boot job r).0
+    → (job_committed (with_ledger m n) boot job r).0 ≡ with_ledger m (job_committed n boot job r).0
 committed_less m n boot job r = go (boot == n.boot) where
   go : (b : Bool)
       → (committed_by (with_ledger m n) job r b).0 ≡ with_ledger m (committed_by n job r b).0
@@ -62,7 +62,7 @@ committed_less m n boot job r = go (boot == n.boot) where
   go false = refl
 
 pub committed_receiving : (n : NodeData) (boot job : ℕ) (r : Source)
-    → (committed n boot job r).0.receiving ≡ n.receiving
+    → (job_committed n boot job r).0.receiving ≡ n.receiving
 committed_receiving n boot job r = go (boot == n.boot) where
   go : (b : Bool) → (committed_by n job r b).0.receiving ≡ n.receiving
   go true = refl
@@ -102,7 +102,7 @@ executed_less c m n ms NoJob = refl
 executed_less c m n ms NotReady = refl
 executed_less c m n ms (Ready r) =
     let end : Ending = ending_at c n ms r in
-    ap (λ (y : NodeData × Execution). (y, effect (meant r) ms))
+    ap (λ (y : NodeData × Execution). (y, effect (source_meaning r) ms))
     (executed_with_less c m n (request_source r.apid r.message) end
     (message_reports r.apid r.message end)
     (message_of c n r end))

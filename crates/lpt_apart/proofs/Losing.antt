@@ -17,9 +17,9 @@ use Rattle.lpt_model.specs.State.{State, link_fault, refusal_of}
 use Rattle.lpt_refinement.specs.Shows.{Shows}
 use Rattle.lpt_refinement.specs.Views.{views}
 use Rattle.lpt_journal.specs.Legal.{Legal}
-use Rattle.lpt_journal.specs.Replies.{recorded}
+use Rattle.lpt_journal.specs.Replies.{history_after}
 use Rattle.lpt_journal.specs.Whole.{came}
-use Rattle.lpt_apart.specs.Told.{told}
+use Rattle.lpt_apart.specs.Told.{log_told}
 use Rattle.lpt_apart.proofs.Links.{unheld, get_lost}
 use Rattle.lpt_link.proofs.PacketLists.{length-with_lost}
 use Rattle.lpt_apart.proofs.Ties.{longer}
@@ -36,7 +36,7 @@ pub record WereLost (c : Config) (first : Contents) (s : State) (es : List Act) 
   pub link : LinkData
   pub events : List Act
   pub legal : Legal c first events
-  pub shown : Shows (record s { link = link }) (views c first (recorded c first events))
+  pub shown : Shows (record s { link = link }) (views c first (history_after c first events))
   pub hands : (l : Lane) → hand_of link l ≡ hand_of s.link l
   pub clear : (k : ℕ)
       → k < n
@@ -46,9 +46,9 @@ pub record WereLost (c : Config) (first : Contents) (s : State) (es : List Act) 
       → is_of d name p ≡ false
       → slice_get link.packets k ≡ Some p
   pub many : length link.packets ≡ length s.link.packets
-  pub tells : told c (recorded c first events) ≡ told c (recorded c first es)
+  pub tells : log_told c (history_after c first events) ≡ log_told c (history_after c first es)
   pub comes : (e : Direction) (i : Name) (k : ℕ)
-      → came c (recorded c first events) e i k ≡ came c (recorded c first es) e i k
+      → came c (history_after c first events) e i k ≡ came c (history_after c first es) e i k
 
 -- ---- one packet
 
@@ -172,7 +172,7 @@ module _ (c : Config) (first : Contents) (good : IsConfig c) (s : State) (es : L
 
   -- all below a number
   pub lose_below : Legal c first es
-      → Shows s (views c first (recorded c first es))
+      → Shows s (views c first (history_after c first es))
       → (n : ℕ)
       → WereLost c first s es d name n
   lose_below legal shown zero = record {

@@ -7,18 +7,18 @@ use Rattle.lpt_events.specs.Arrivals.{arrival_in}
 use Rattle.lpt_events.specs.Configs.{IsConfig}
 use Rattle.lpt_events.specs.declared.config.Config.{Config}
 use Rattle.lpt_events.specs.declared.side.Side.TheVariants.{Ground, Craft}
-use Rattle.lpt_jobs.specs.Jobs.{head_of, unclaimed}
-use Rattle.lpt_node.specs.Jobs.{claimed, executed_of, refused_front}
+use Rattle.lpt_jobs.specs.Jobs.{head_of, oldest_unclaimed}
+use Rattle.lpt_node.specs.Jobs.{job_claimed, executed_of, refused_front}
 use Rattle.lpt_node.specs.Nodes.{NodeData, message_at}
 use Rattle.lpt_node.specs.Requests.{plain_made}
-use Rattle.lpt_node.specs.Restarts.{restarted}
+use Rattle.lpt_node.specs.Restarts.{node_restarted}
 use Rattle.lpt_node.specs.Sending.{sent_of}
 use Rattle.lpt_node.specs.Times.{which_ends}
 use Rattle.lpt_apart.specs.Clocks.{Own, later as at_later, own_config, no_pair_later}
-use Rattle.lpt_apart.specs.Drops.{Drops, EndsThatDropServe, LetsGo, Makes, Reads, Refuses, Service, Turn, CanTurn, CanTurnAll, IsNoWork, no_service, read_as, turned, turned_all, with_craft}
+use Rattle.lpt_apart.specs.Drops.{Drops, EndsThatDropServe, LetsGo, Makes, Reads, Refuses, Service, ServiceTurn, CanTurn, CanTurnAll, IsNoWork, no_service, read_as, service_after, turned_all, with_craft}
 use Rattle.lpt_apart.specs.Ends.{Ends, PutOut, is_part, put_out, without}
 use Rattle.lpt_apart.specs.Facts.{Opened, Asked, Executed, Retired, Restarted, is_same}
-use Rattle.lpt_apart.specs.Moves.{CanMove, Do, Free, Move, Pair, moved}
+use Rattle.lpt_apart.specs.Moves.{CanMove, Do, Free, Move, Pair, pair_after}
 use Rattle.lpt_apart.specs.Steps.{Accept, Apply, Claim, Commit, Expire, Finish, Open, Plain, Restart, Retire, Send, Tick, with_report as reporting}
 use Rattle.lpt_apart.specs.Uploads.{EndsThatDropWithholdNoRequest, came_turned, came_with}
 use Rattle.lpt_apart.specs.Whole.{came_moved, is_reported}
@@ -57,12 +57,13 @@ module _ (c : Config) (first : Contents) (g : ℕ) (good : IsConfig (at_later g 
     -- those beside make the same move, and the same parts come
     move : (s : Rest) (x : Move)
         → CanMove c (mirror first k r) x
-        → moved c (mirror first k r) x ≡ mirror first (core_of (moved c p x).ends) s
+        → pair_after c (mirror first k r) x ≡ mirror first (core_of (pair_after c p x).ends) s
         → ((name : Name) (n : ℕ)
         → came_moved c (mirror first k r) x Up name n (parts name n) ≡ after x name n)
-        → IsBroughtUp c first (mirror first (core_of (moved c p x).ends) s) (after x)
+        → IsBroughtUp c first (mirror first (core_of (pair_after c p x).ends) s) (after x)
     move s x can is comes =
-        goes c first g good k (core_of (moved c p x).ends) r s x parts (after x) m.reached can is
+        goes c first g good k (core_of (pair_after c p x).ends) r s x parts (after x) m.reached can
+        is
         comes
 
     -- those beside, once their clock on ground was set back, where that has these receptions
@@ -82,7 +83,7 @@ module _ (c : Config) (first : Contents) (g : ℕ) (good : IsConfig (at_later g 
     mirrors : (x : Move)
         → IsNoWork x
         → CanMove c p x
-        → IsMirrored c first (moved c p x) (after x)
+        → IsMirrored c first (pair_after c p x) (after x)
     mirrors (Do (Open Up name message)) own can =
         let s : Rest = record r { log = Opened Up name message ∷ r.log } in
         record {
@@ -216,14 +217,14 @@ module _ (c : Config) (first : Contents) (g : ℕ) (good : IsConfig (at_later g 
     mirrors (Do (Commit w)) own can = absurd own
     mirrors (Do Apply) own can =
         let x = executed_of c e.on_craft e.memories (head_of e.on_craft.jobs.jobs) in
-        let it : IsMirrored c first (moved c p (Do Apply)) parts =
+        let it : IsMirrored c first (pair_after c p (Do Apply)) parts =
         beside_craft c first g good p parts m x.0.0
         (put_out e.on_the_way Down None x.0.1.packets)
         (Executed ∷ reporting e.log x.0.1.opened) x.1
         (same_executed c e.on_craft e.memories (head_of e.on_craft.jobs.jobs))
         (up_down r.ways e.on_the_way None x.0.1.packets m.ways)
         (executes c first g good p parts m x.0.1.opened) in
-        subst (λ (ps : Name → ℕ → Bool). IsMirrored c first (moved c p (Do Apply)) ps)
+        subst (λ (ps : Name → ℕ → Bool). IsMirrored c first (pair_after c p (Do Apply)) ps)
         (λ i name n. if sym (not_reported x.0.1.opened name) i then false else parts name n) it
     mirrors (Do (Retire Up name)) own can =
         let s : Rest = record r {
@@ -258,7 +259,7 @@ module _ (c : Config) (first : Contents) (g : ℕ) (good : IsConfig (at_later g 
           like = adds (Restarted Ground) e.log r.log tt m.like;
         }
     mirrors (Do (Restart Craft)) own can =
-        let d : NodeData = restarted (mirror first k r).ends.on_craft in
+        let d : NodeData = node_restarted (mirror first k r).ends.on_craft in
         let s : Rest = record r {
           sending = d.sending;
           jobs = d.jobs;
@@ -302,18 +303,18 @@ module _ (c : Config) (first : Contents) (g : ℕ) (good : IsConfig (at_later g 
   reads_beside p message parts m =
       beside_craft c first g good p parts m (read_as c p.ends message) p.ends.on_the_way p.ends.log
       p.ends.memories
-      (same_read p.ends.on_craft (unclaimed p.ends.on_craft.jobs)
+      (same_read p.ends.on_craft (oldest_unclaimed p.ends.on_craft.jobs)
       (record { apid = c.apid; sizes = sizes_of p.ends.memories; message = message }))
       m.ways m.like
 
-  turns : (s : Service) (x : Turn) (parts : Name → ℕ → Bool)
+  turns : (s : Service) (x : ServiceTurn) (parts : Name → ℕ → Bool)
       → CanTurn c s x
       → IsMirrored c first s.pair parts
-      → IsMirrored c first (turned c s x).pair
+      → IsMirrored c first (service_after c s x).pair
       (λ name n. came_turned c s x Up name n (parts name n))
   turns s (Makes x) parts can m = mirrors s.pair parts m x can.0 can.1
   turns s Reads parts can m =
-      reads_beside s.pair (claimed s.pair.ends.on_craft).1.message parts m
+      reads_beside s.pair (job_claimed s.pair.ends.on_craft).1.message parts m
   turns s Drops parts can m = reads_beside s.pair [] parts m
   turns s LetsGo parts can m = record {
     rest = m.rest;
@@ -325,16 +326,17 @@ module _ (c : Config) (first : Contents) (g : ℕ) (good : IsConfig (at_later g 
   turns s (Refuses code) parts can m =
       let e : Ends = s.pair.ends in
       let x = refused_front c e.on_craft code in
-      let it : IsMirrored c first (turned c s (Refuses code)).pair parts =
+      let it : IsMirrored c first (service_after c s (Refuses code)).pair parts =
       beside_craft c first g good s.pair parts m x.0
       (put_out e.on_the_way Down None x.1.packets) (reporting e.log x.1.opened) e.memories
       (same_refused c e.on_craft code (head_of e.on_craft.jobs.jobs))
       (up_down m.rest.ways e.on_the_way None x.1.packets m.ways)
       (reported_beside c first g good s.pair parts m x.1.opened) in
-      subst (λ (ps : Name → ℕ → Bool). IsMirrored c first (turned c s (Refuses code)).pair ps)
+      subst (λ (ps : Name → ℕ → Bool). IsMirrored c first (service_after c s (Refuses code)).pair
+      ps)
       (λ i name n. if sym (not_reported x.1.opened name) i then false else parts name n) it
 
-  pub mirrored : (s : Service) (xs : List Turn)
+  pub mirrored : (s : Service) (xs : List ServiceTurn)
       → IsMirrored c first s.pair (λ name n. false)
       → CanTurnAll c s xs
       → IsMirrored c first (turned_all c s xs).pair (came_with c s xs Up)

@@ -15,11 +15,11 @@ use Rattle.lpt_ledger.specs.Marks.{Marks}
 use Rattle.lpt_packet.proofs.BoolLemmas.{and_right, none_is}
 use Rattle.lpt_journal.specs.Jobs.{left_by}
 use Rattle.lpt_apart.specs.Ends.{Ends, no_ends}
-use Rattle.lpt_apart.specs.Facts.{AllDue, executed as executed_in, waiting}
+use Rattle.lpt_apart.specs.Facts.{AllDue, requests_executed as executed_in, waiting}
 use Rattle.lpt_apart.specs.Steps.{Accept, Retire, after}
 use Rattle.lpt_apart.specs.Worlds.{IsPromised}
 use Rattle.lpt_apart.specs.Whole.{came_moved, came_in, WithholdsNothing, EndsApartWithholdNothing}
-use Rattle.lpt_apart.specs.Moves.{Pair, Move, Do, Free, moved, CanMove, came_to, CanMoveAll, with_ledgers, EndsApartAreAWorld, EndsApartKeepThePromise}
+use Rattle.lpt_apart.specs.Moves.{Pair, Move, Do, Free, pair_after, CanMove, came_to, CanMoveAll, with_ledgers, EndsApartAreAWorld, EndsApartKeepThePromise}
 use Rattle.lpt_apart.proofs.Promise.{promised}
 use Rattle.lpt_apart.proofs.Withheld.{withholds_nothing}
 use Rattle.lpt_apart.proofs.Stepping.{leads_off, lead_on, is_a_world}
@@ -39,8 +39,8 @@ module _ (c : Config) (first : Contents) (good : IsConfig c) (freed : Direction 
   -- the receiver frees a name
   free : (d : Direction) (name : Name)
       → CanMove c pair (Free d name)
-      → IsBut c first (moved c pair (Free d name)).freed
-      (moved c pair (Free d name)).ends parts
+      → IsBut c first (pair_after c pair (Free d name)).freed
+      (pair_after c pair (Free d name)).ends parts
   free Up name can = record {
     whole = forgetting Up name w;
     on_ground = g;
@@ -73,8 +73,8 @@ module _ (c : Config) (first : Contents) (good : IsConfig c) (freed : Direction 
   -- the sender frees a name too
   retire : (d : Direction) (name : Name)
       → CanMove c pair (Do (Retire d name))
-      → IsBut c first (moved c pair (Do (Retire d name))).freed
-      (moved c pair (Do (Retire d name))).ends parts
+      → IsBut c first (pair_after c pair (Do (Retire d name))).freed
+      (pair_after c pair (Do (Retire d name))).ends parts
   retire Up name can = record {
     whole = after c w (Retire Up name);
     on_ground = g;
@@ -117,7 +117,8 @@ module _ (c : Config) (first : Contents) (good : IsConfig c) (freed : Direction 
   }
 
   -- a move
-  move : (x : Move) → CanMove c pair x → IsBut c first (moved c pair x).freed (moved c pair x).ends
+  move : (x : Move) → CanMove c pair x
+      → IsBut c first (pair_after c pair x).freed (pair_after c pair x).ends
       (λ d name n. came_moved c pair x d name n (parts d name n))
   move (Do (Accept d b)) can =
       step c first good freed w parts g k l (Accept d b) can
@@ -165,8 +166,8 @@ apart c first (x ∷ xs) good can =
       but =
           subst (λ (e : Ends). AreSilent p.freed e
           → CanMove c (record { ends = e; freed = p.freed }) x
-          → IsBut c first (moved c (record { ends = e; freed = p.freed }) x).freed
-          (moved c (record { ends = e; freed = p.freed }) x).ends
+          → IsBut c first (pair_after c (record { ends = e; freed = p.freed }) x).freed
+          (pair_after c (record { ends = e; freed = p.freed }) x).ends
           (λ d name n.
           came_moved c (record { ends = e; freed = p.freed }) x d name n (parts d name n)))
           b.is

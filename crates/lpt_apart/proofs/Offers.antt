@@ -10,10 +10,10 @@ use Rattle.lpt_pus.specs.Telemetry.{Telemetry}
 use Rattle.lpt_ledger.specs.Marks.{Marks, Shut}
 use Rattle.lpt_node.specs.declared.accepted.Accepted.{Accepted}
 use Rattle.lpt_node.specs.Nodes.{Receiving, NodeData}
-use Rattle.lpt_node.specs.Receivers.{abort_report, ended, after_offer}
+use Rattle.lpt_node.specs.Receivers.{abort_report, reception_ended, after_offer}
 use Rattle.lpt_node.specs.Receiving.{receiver_of, with_receiver, after_received}
 use Rattle.lpt_reception.specs.Received.{Kept as KeptPart, Parts, contradicts, is_gap, is_whole, with_part}
-use Rattle.lpt_table.specs.Offering.{OfferKind, parts_at, is_full, is_open, taken_out, with_entry, offered}
+use Rattle.lpt_table.specs.Offering.{OfferKind, parts_at, is_full, is_open, taken_out, with_entry, part_offered}
 use Rattle.lpt_table.specs.Offering as offering
 use Rattle.lpt_table.specs.Tables.{Entries, TableEntry, TableState}
 use Rattle.lpt_journal.proofs.MapLemmas.{get_insert, get_remove}
@@ -43,7 +43,7 @@ module _ (side : Side) (c : Config) (n : NodeData) (q : NamedPart) where
 
   -- a node whose reception of the part's name has ended
   abbrev shut : NodeData
-  shut = with_receiver n (ended (receiver_of c n.receiving) q.name)
+  shut = with_receiver n (reception_ended (receiver_of c n.receiving) q.name)
 
   pub offer_less : (m : Marks) (head : Option Telemetry) (parts : Parts) (kind : OfferKind)
       (es : Entries)
@@ -133,8 +133,8 @@ offered_by t name k x now full contra again gap there whole =
 pub offered_other : (t : TableState) (name : Name) (k : ℕ) (x : KeptPart) (now : ℕ) (q : Name)
     → same_name q name ≡ false
     → maps.get t.entries q ≡ None
-    → maps.get (offered t name k x now).1.entries q ≡ None
-unfolding offered
+    → maps.get (part_offered t name k x now).1.entries q ≡ None
+unfolding part_offered
 offered_other t name k x now q other none =
     go (is_full t name) (contradicts (parts_at t name) k x) (is_some (maps.get (parts_at t name) k))
     (is_gap t.mode (parts_at t name) k) (is_open t name)

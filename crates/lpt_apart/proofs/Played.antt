@@ -17,21 +17,21 @@ use Rattle.lpt_ledger.specs.States.{state_at}
 use Rattle.lpt_events.specs.declared.worker.Worker.{Worker}
 use Rattle.lpt_link.specs.Links.{holds}
 use Rattle.lpt_node.specs.Faults.{node_fault}
-use Rattle.lpt_node.specs.Jobs.{executed}
+use Rattle.lpt_node.specs.Jobs.{job_executed}
 use Rattle.lpt_node.specs.Times.{expired_of, which_ends}
 use Rattle.lpt_model.specs.State.{State, no_state, after, as_list, is_gone, refusal_of, refusal_claim_by, committed_on}
 use Rattle.lpt_model.specs.Tickets.{ticket_of}
 use Rattle.lpt_journal.specs.Legal.{Legal}
-use Rattle.lpt_journal.specs.Replies.{recorded}
+use Rattle.lpt_journal.specs.Replies.{history_after}
 use Rattle.lpt_refinement.proofs.Follows.{follows}
 use Rattle.lpt_journal.proofs.TestLemmas.{no_place}
 use Rattle.lpt_packet.proofs.BoolLemmas.{and_left, and_right, not_true}
 use Rattle.lpt_apart.specs.Ends.{PutOut, Ends, put_out, without}
 use Rattle.lpt_apart.specs.Facts.{Aborted, Executed, Retired, Restarted, Log}
 use Rattle.lpt_apart.specs.Plays.{step_of, with_step, steps_of, WorldsAreEnds, AllForward, IsForward}
-use Rattle.lpt_apart.specs.Steps.{Step, with_report, reached, CanRun}
+use Rattle.lpt_apart.specs.Steps.{Step, with_report, ends_reached, CanRun}
 use Rattle.lpt_apart.specs.Steps as steps
-use Rattle.lpt_apart.specs.Told.{told}
+use Rattle.lpt_apart.specs.Told.{log_told}
 use Rattle.lpt_apart.proofs.Leaving.{AllHad, had_put, had_lost, had_retired}
 use Rattle.lpt_apart.proofs.Telling.{expiry_told, execution_told}
 use Rattle.lpt_apart.proofs.Ties.{ends_of, IsLonger, not_refused}
@@ -47,11 +47,11 @@ module _ (c : Config) (first : Contents) (s : State) (ways : List PutOut) (log :
   -- an event goes on in two ends
   abbrev GoesOn : Act → Type 0
   GoesOn e =
-      Legal c first (e ∷ es) → Goes c first (e ∷ es) ends (step_of (recorded c first es) e)
+      Legal c first (e ∷ es) → Goes c first (e ∷ es) ends (step_of (history_after c first es) e)
 
   -- the world after an event
   abbrev state_after : Act → State
-  state_after e = (after c (length (recorded c first es)) s e).0
+  state_after e = (after c (length (history_after c first es)) s e).0
 
   free : (e : Act) → Legal c first (e ∷ es) → refusal_of c s e ≡ None
   free e legal = not_refused c first s es e good t.shown legal
@@ -62,7 +62,7 @@ module _ (c : Config) (first : Contents) (s : State) (ways : List PutOut) (log :
   plays : (e : Act) (new : List PutOut) (now : Log)
       → Legal c first (e ∷ es)
       → AllHad c (state_after e).link new
-      → told c (recorded c first (e ∷ es)) ≡ now
+      → log_told c (history_after c first (e ∷ es)) ≡ now
       → Plays c first (e ∷ es) (ends_of (state_after e) new now)
   plays e new now legal all tells =
       play.plays c first s ways log es good t e new now legal all tells
@@ -146,7 +146,7 @@ module _ (c : Config) (first : Contents) (s : State) (ways : List PutOut) (log :
 
   applies : GoesOn act.Apply
   applies legal =
-      let x = executed c s.on_craft s.memories in (
+      let x = job_executed c s.on_craft s.memories in (
         unmapped node_fault _ (free act.Apply legal),
         plays act.Apply (put_out ways Down None x.0.1.packets)
             (Executed ∷ with_report log x.0.1.opened) legal
@@ -236,12 +236,12 @@ module _ (c : Config) (first : Contents) (s : State) (ways : List PutOut) (log :
 -- two ends play a journal
 record ArePlayed (c : Config) (first : Contents) (es : List Act) (xs : List Step) : Type 0 where
   can : CanRun c first xs
-  plays : Plays c first es (reached c first xs)
+  plays : Plays c first es (ends_reached c first xs)
 
 -- with one step more, or none, they play the longer one
 with_one : (c : Config) (first : Contents) (es all : List Act) (xs : List Step) (o : Option Step)
     → ArePlayed c first es xs
-    → Goes c first all (reached c first xs) o
+    → Goes c first all (ends_reached c first xs) o
     → ArePlayed c first all (with_step o xs)
 with_one c first es all xs None had goes = record { can = had.can; plays = goes }
 with_one c first es all xs (Some x) had goes = record { can = (had.can, goes.0); plays = goes.1 }
@@ -264,8 +264,8 @@ are_played c first [] good on legal = record {
 are_played c first (e ∷ es) good on legal =
     let had = are_played c first es good on.1 legal.0 in
     let p = had.plays in
-    with_one c first es (e ∷ es) (steps_of c first es) (step_of (recorded c first es) e) had
-    (subst (λ (y : Ends). Goes c first (e ∷ es) y (step_of (recorded c first es) e)) p.is
+    with_one c first es (e ∷ es) (steps_of c first es) (step_of (history_after c first es) e) had
+    (subst (λ (y : Ends). Goes c first (e ∷ es) y (step_of (history_after c first es) e)) p.is
     (goes_on c first p.state _ _ es good
     (record { shown = p.shown; had = p.had; tells = p.tells }) e on.0 legal))
 

@@ -27,14 +27,14 @@ use Rattle.lpt_journal.specs.Hands.{hand}
 use Rattle.lpt_journal.specs.Journal.{SentPacket, History}
 use Rattle.lpt_journal.specs.Legal.{Legal}
 use Rattle.lpt_journal.specs.Link.{sent as sent_so_far}
-use Rattle.lpt_journal.specs.Replies.{recorded}
+use Rattle.lpt_journal.specs.Replies.{history_after}
 use Rattle.lpt_journal.proofs.HeadlineLemmas.{every}
 use Rattle.lpt_apart.specs.Ends.{PutOut, Ends}
 use Rattle.lpt_apart.specs.Facts.{Log}
 use Rattle.lpt_apart.specs.Plays.{octets_held}
 use Rattle.lpt_apart.specs.Steps.{Step, CanHappen}
 use Rattle.lpt_apart.specs.Steps as steps
-use Rattle.lpt_apart.specs.Told.{told}
+use Rattle.lpt_apart.specs.Told.{log_told}
 use Rattle.lpt_apart.proofs.Leaving.{AllHad}
 use Rattle.lpt_apart.proofs.Ties.{ends_of}
 
@@ -44,18 +44,18 @@ use Rattle.lpt_apart.proofs.Ties.{ends_of}
 -- that world can still deliver may be handed over, or isn't read
 pub record Plays (c : Config) (first : Contents) (es : List Act) (e : Ends) : Type 0 where
   pub state : State
-  pub shown : Shows state (views c first (recorded c first es))
+  pub shown : Shows state (views c first (history_after c first es))
   pub had : AllHad c state.link e.on_the_way
-  pub tells : told c (recorded c first es) ≡ e.log
+  pub tells : log_told c (history_after c first es) ≡ e.log
   pub is : ends_of state e.on_the_way e.log ≡ e
 
 -- what a world that shows a journal can still deliver may be handed over, or isn't read; and the
 -- journal tells this log
 pub record CanPlay (c : Config) (first : Contents) (s : State) (ways : List PutOut) (log : Log)
     (es : List Act) : Type 0 where
-  pub shown : Shows s (views c first (recorded c first es))
+  pub shown : Shows s (views c first (history_after c first es))
   pub had : AllHad c s.link ways
-  pub tells : told c (recorded c first es) ≡ log
+  pub tells : log_told c (history_after c first es) ≡ log
 
 -- two ends can do what an event is, if it is a step, and then play the longer journal
 abbrev pub Goes : Config → Contents → List Act → Ends → Option Step → Type 0
@@ -129,11 +129,11 @@ as_sent ps n p at = go (slice_get ps n) refl (sym (slice_get-map sent_packet ps 
 pub has_in_hand : (c : Config) (first : Contents) (s : State) (es : List Act) (l : Lane)
     → IsConfig c
     → Legal c first es
-    → Shows s (views c first (recorded c first es))
+    → Shows s (views c first (history_after c first es))
     → refusal_of c s (act.Deliver l) ≡ None
-    → HasInHand s (recorded c first es) l
+    → HasInHand s (history_after c first es) l
 has_in_hand c first s es l good legal shown free =
-    let h : History = recorded c first es in
+    let h : History = history_after c first es in
     let n = in_a_hand (hand_of s.link l) (unmapped link_fault _ free) in
     let told : hand h l ≡ Some n.0 = sym (shown.link.hands l) ∙ n.1 in
     let it = (every c first es good legal).0.hands l n.0 told in

@@ -14,22 +14,22 @@ use Rattle.lpt_events.specs.declared.lane.Lane.{Lane}
 use Rattle.lpt_events.specs.declared.lane.Lane.TheVariants.{S1, S2, G1, G2}
 use Rattle.lpt_events.specs.declared.side.Side.TheVariants.{Ground, Craft}
 use Rattle.lpt_link.specs.Links.{hand_of, is_held_for, packet_in_hand, after_drop}
-use Rattle.lpt_node.specs.Accepting.{accepted}
+use Rattle.lpt_node.specs.Accepting.{packet_accepted}
 use Rattle.lpt_node.specs.Faults.{node_fault}
 use Rattle.lpt_node.specs.Nodes.{NodeData}
 use Rattle.lpt_node.specs.Requests.{plain_made}
-use Rattle.lpt_node.specs.Sending.{sent}
+use Rattle.lpt_node.specs.Sending.{part_sent}
 use Rattle.lpt_node.specs.declared.accepted.Accepted.{Accepted}
 use Rattle.lpt_model.specs.State.{State, after, as_list, link_fault, refusal_of, arrival_held, released_of}
 use Rattle.lpt_journal.specs.Journal.{History}
 use Rattle.lpt_journal.specs.Legal.{Legal}
-use Rattle.lpt_journal.specs.Replies.{recorded}
+use Rattle.lpt_journal.specs.Replies.{history_after}
 use Rattle.lpt_journal.proofs.HeadlineLemmas.{every, owes}
 use Rattle.lpt_apart.specs.Ends.{PutOut, Ends, put_out}
 use Rattle.lpt_apart.specs.Facts.{Opened, Asked, Log, with_abortion}
 use Rattle.lpt_apart.specs.Plays.{octets_held, step_of}
 use Rattle.lpt_apart.specs.Steps.{is_harmless, MayCome, with_release, accepted_on}
-use Rattle.lpt_apart.specs.Told.{told}
+use Rattle.lpt_apart.specs.Told.{log_told}
 use Rattle.lpt_apart.proofs.Leaving.{IsHad, AllHad, out_at, had_one, had_put, had_taken, had_dropped}
 use Rattle.lpt_apart.proofs.Telling.{plain_told, delivery_told}
 use Rattle.lpt_apart.proofs.Ties.{ends_of, IsLonger, longer, not_refused}
@@ -44,7 +44,7 @@ module _ (c : Config) (first : Contents) (s : State) (ways : List PutOut) (log :
 
   -- the history
   abbrev pub h : History
-  h = recorded c first es
+  h = history_after c first es
 
   -- the world after an event
   abbrev pub state_after : Act → State
@@ -63,7 +63,7 @@ module _ (c : Config) (first : Contents) (s : State) (ways : List PutOut) (log :
   pub plays : (e : Act) (new : List PutOut) (now : Log)
       → Legal c first (e ∷ es)
       → AllHad c (state_after e).link new
-      → told c (recorded c first (e ∷ es)) ≡ now
+      → log_told c (history_after c first (e ∷ es)) ≡ now
       → Plays c first (e ∷ es) (ends_of (state_after e) new now)
   plays e new now legal all now_told = record {
     state = state_after e;
@@ -95,13 +95,13 @@ module _ (c : Config) (first : Contents) (s : State) (ways : List PutOut) (log :
   -- a part is sent
   pub sends : (d : Direction) (name : Name) (k : ℕ) → GoesOn (act.Send d name k)
   sends Up name k legal =
-      let bs : List (List ℕ) = (sent Ground c s.on_ground name k).1 ∷ [] in (
+      let bs : List (List ℕ) = (part_sent Ground c s.on_ground name k).1 ∷ [] in (
         (legal.1.in_range, unmapped node_fault _ (free (act.Send Up name k) legal)),
         plays (act.Send Up name k) (put_out ways Up (Some name) bs) log legal
             (had_put c s.link ways Up (Some name) bs t.had) t.tells,
       )
   sends Down name k legal =
-      let bs : List (List ℕ) = (sent Craft c s.on_craft name k).1 ∷ [] in (
+      let bs : List (List ℕ) = (part_sent Craft c s.on_craft name k).1 ∷ [] in (
         (legal.1.in_range, unmapped node_fault _ (free (act.Send Down name k) legal)),
         plays (act.Send Down name k) (put_out ways Down (Some name) bs) log legal
             (had_put c s.link ways Down (Some name) bs t.had) t.tells,
@@ -175,10 +175,10 @@ module _ (c : Config) (first : Contents) (s : State) (ways : List PutOut) (log :
   delivers S1 legal =
       let it = has_in_hand c first s es S1 good legal.0 t.shown (free (act.Deliver S1) legal) in
       let x : NodeData × Accepted =
-      accepted Craft c s.on_craft (arrival_held c Up (packet_in_hand s.link S1)) in (
+      packet_accepted Craft c s.on_craft (arrival_held c Up (packet_in_hand s.link S1)) in (
         comes S1 it,
         subst (λ (a : Arrival). Plays c first (act.Deliver S1 ∷ es)
-            (accepted_on ends Up (accepted Craft c s.on_craft a))) (arrives c s h S1 it)
+            (accepted_on ends Up (packet_accepted Craft c s.on_craft a))) (arrives c s h S1 it)
             (plays (act.Deliver S1) (put_out ways Down None (as_list x.1.packet))
             (with_abortion Up x.1.outcome
             (with_release log (released_of Up x.1.outcome) x.1.released)) legal
@@ -190,10 +190,10 @@ module _ (c : Config) (first : Contents) (s : State) (ways : List PutOut) (log :
   delivers S2 legal =
       let it = has_in_hand c first s es S2 good legal.0 t.shown (free (act.Deliver S2) legal) in
       let x : NodeData × Accepted =
-      accepted Craft c s.on_craft (arrival_held c Up (packet_in_hand s.link S2)) in (
+      packet_accepted Craft c s.on_craft (arrival_held c Up (packet_in_hand s.link S2)) in (
         comes S2 it,
         subst (λ (a : Arrival). Plays c first (act.Deliver S2 ∷ es)
-            (accepted_on ends Up (accepted Craft c s.on_craft a))) (arrives c s h S2 it)
+            (accepted_on ends Up (packet_accepted Craft c s.on_craft a))) (arrives c s h S2 it)
             (plays (act.Deliver S2) (put_out ways Down None (as_list x.1.packet))
             (with_abortion Up x.1.outcome
             (with_release log (released_of Up x.1.outcome) x.1.released)) legal
@@ -205,10 +205,10 @@ module _ (c : Config) (first : Contents) (s : State) (ways : List PutOut) (log :
   delivers G1 legal =
       let it = has_in_hand c first s es G1 good legal.0 t.shown (free (act.Deliver G1) legal) in
       let x : NodeData × Accepted =
-      accepted Ground c s.on_ground (arrival_held c Down (packet_in_hand s.link G1)) in (
+      packet_accepted Ground c s.on_ground (arrival_held c Down (packet_in_hand s.link G1)) in (
         comes G1 it,
         subst (λ (a : Arrival). Plays c first (act.Deliver G1 ∷ es)
-            (accepted_on ends Down (accepted Ground c s.on_ground a))) (arrives c s h G1 it)
+            (accepted_on ends Down (packet_accepted Ground c s.on_ground a))) (arrives c s h G1 it)
             (plays (act.Deliver G1) (put_out ways Down None (as_list x.1.packet))
             (with_abortion Down x.1.outcome
             (with_release log (released_of Down x.1.outcome) x.1.released)) legal
@@ -220,10 +220,10 @@ module _ (c : Config) (first : Contents) (s : State) (ways : List PutOut) (log :
   delivers G2 legal =
       let it = has_in_hand c first s es G2 good legal.0 t.shown (free (act.Deliver G2) legal) in
       let x : NodeData × Accepted =
-      accepted Ground c s.on_ground (arrival_held c Down (packet_in_hand s.link G2)) in (
+      packet_accepted Ground c s.on_ground (arrival_held c Down (packet_in_hand s.link G2)) in (
         comes G2 it,
         subst (λ (a : Arrival). Plays c first (act.Deliver G2 ∷ es)
-            (accepted_on ends Down (accepted Ground c s.on_ground a))) (arrives c s h G2 it)
+            (accepted_on ends Down (packet_accepted Ground c s.on_ground a))) (arrives c s h G2 it)
             (plays (act.Deliver G2) (put_out ways Down None (as_list x.1.packet))
             (with_abortion Down x.1.outcome
             (with_release log (released_of Down x.1.outcome) x.1.released)) legal

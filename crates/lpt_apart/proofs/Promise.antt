@@ -10,13 +10,13 @@ use Rattle.lpt_jobs.specs.Jobs.{head_by, head_of, Ready}
 use Rattle.lpt_jobs.specs.declared.job.Job.TheVariants.{Waiting, Claimed, Committed}
 use Rattle.lpt_journal.specs.Jobs.{left_by, jobs}
 use Rattle.lpt_journal.specs.Journal.{History}
-use Rattle.lpt_journal.specs.Replies.{recorded}
+use Rattle.lpt_journal.specs.Replies.{history_after}
 use Rattle.lpt_node.specs.Nodes.{NodeData}
 use Rattle.lpt_refinement.specs.Shows.{job_shown, jobs_from}
 use Rattle.lpt_refinement.specs.Views.{JobsView, jobs_view}
 use Rattle.lpt_apart.specs.Ends.{Ends}
-use Rattle.lpt_apart.specs.Facts.{AllDue, executed, waiting, Log}
-use Rattle.lpt_apart.specs.Steps.{reached}
+use Rattle.lpt_apart.specs.Facts.{AllDue, requests_executed, waiting, Log}
+use Rattle.lpt_apart.specs.Steps.{ends_reached}
 use Rattle.lpt_apart.specs.Worlds.{IsAWorld, IsPromised, EndsKeepThePromise}
 use Rattle.lpt_apart.proofs.Dues.{all_due}
 use Rattle.lpt_apart.proofs.Queues.{executed_told, message_of, waiting_told}
@@ -45,7 +45,7 @@ is_next : (c : Config) (first : Contents) (e : Ends)
     → head_of e.on_craft.jobs.jobs ≡ Ready r
     → slice_get (waiting e.log) 0 ≡ Some r.message
 is_next c first e w r is =
-    let h : History = recorded c first w.events in
+    let h : History = history_after c first w.events in
     let v : JobsView = jobs_view c first h in
     let waits : waiting e.log ≡ drop v.applied v.messages =
     sym (ap waiting w.log) ∙ waiting_told c first w.events w.legal
@@ -66,10 +66,10 @@ promised c first e good w = record {
   memories =
       sym w.memories ∙ w.shown.memories
       ∙ ap (λ (ms : List (List ℕ)). left_by c.apid ms first)
-      (sym (executed_told c first w.events w.legal) ∙ ap executed w.log);
+      (sym (executed_told c first w.events w.legal) ∙ ap requests_executed w.log);
   next = is_next c first e w;
 }
 
 pub ends_keep_the_promise : EndsKeepThePromise
 ends_keep_the_promise c first xs good can =
-    promised c first (reached c first xs) good (ends_are_a_world c first xs good can)
+    promised c first (ends_reached c first xs) good (ends_are_a_world c first xs good can)

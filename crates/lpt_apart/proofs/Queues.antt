@@ -18,15 +18,15 @@ use Rattle.lpt_events.specs.Lanes.{lane_direction}
 use Rattle.lpt_packet.specs.declared.direction.Direction.{Direction}
 use Rattle.lpt_journal.specs.Delivery.{outcome}
 use Rattle.lpt_journal.specs.Executions.{front_opens}
-use Rattle.lpt_journal.specs.Jobs.{went_up, jobs, applied, front_job, executed_now, executed as was_executed}
+use Rattle.lpt_journal.specs.Jobs.{went_up, jobs, jobs_applied, front_job, executed_now, executed as was_executed}
 use Rattle.lpt_journal.specs.Journal.{History, with_all}
 use Rattle.lpt_journal.specs.Legal.{Legal}
 use Rattle.lpt_journal.specs.Releases.{released_by}
-use Rattle.lpt_journal.specs.Replies.{answer, recorded, entry}
+use Rattle.lpt_journal.specs.Replies.{answer, history_after, entry}
 use Rattle.lpt_refinement.proofs.LinkShown.{with_all-append}
 use Rattle.lpt_journal.proofs.TicketSteps.{jobs_sound}
-use Rattle.lpt_apart.specs.Facts.{Released, Log, with_abortion, waiting, executed}
-use Rattle.lpt_apart.specs.Told.{with_openings, with_releases, with_ended, told}
+use Rattle.lpt_apart.specs.Facts.{Released, Log, with_abortion, waiting, requests_executed}
+use Rattle.lpt_apart.specs.Told.{with_openings, with_releases, with_ended, log_told}
 use Rattle.lpt_packet.specs.Names.{Name}
 
 abbrev pub message_of : Release → List ℕ
@@ -47,7 +47,8 @@ pub waiting_openings : (os : List Opening) (log : Log)
 waiting_openings [] log = refl
 waiting_openings (o ∷ os) log = waiting_openings os log
 
-executed_openings : (os : List Opening) (log : Log) → executed (with_openings os log) ≡ executed log
+executed_openings : (os : List Opening) (log : Log) → requests_executed (with_openings os log)
+    ≡ requests_executed log
 executed_openings [] log = refl
 executed_openings (o ∷ os) log = executed_openings os log
 
@@ -62,7 +63,8 @@ waiting_releases (r ∷ rs) log =
       go true = append_assoc (waiting log) (r.message ∷ []) (messages_of (came_up rs))
       go false = refl
 
-executed_releases : (rs : List Release) (log : Log) → executed (with_releases rs log) ≡ executed log
+executed_releases : (rs : List Release) (log : Log) → requests_executed (with_releases rs log)
+    ≡ requests_executed log
 executed_releases [] log = refl
 executed_releases (r ∷ rs) log = executed_releases rs (Released r.of r.message ∷ log)
 
@@ -72,7 +74,7 @@ waiting_abortion d (Broken name why) log = refl
 waiting_abortion d o log = refl
 
 executed_abortion : (d : Direction) (o : Outcome) (log : Log)
-    → executed (with_abortion d o log) ≡ executed log
+    → requests_executed (with_abortion d o log) ≡ requests_executed log
 executed_abortion d (Broken name why) log = refl
 executed_abortion d o log = refl
 
@@ -82,7 +84,7 @@ waiting_expired side which (Expired d name) log = refl
 waiting_expired side which a log = refl
 
 executed_expired : (side : Side) (which : Option Name) (a : Answer) (log : Log)
-    → executed (with_ended (Expire side which) a log) ≡ executed log
+    → requests_executed (with_ended (Expire side which) a log) ≡ requests_executed log
 executed_expired side which (Expired d name) log = refl
 executed_expired side which a log = refl
 
@@ -116,7 +118,7 @@ module _ (c : Config) (first : Contents) where
   -- the executed jobs are there
   fit : (es : List Act)
       → Legal c first es
-      → applied (recorded c first es) ≤ length (jobs c (recorded c first es))
+      → jobs_applied (history_after c first es) ≤ length (jobs c (history_after c first es))
   fit es legal =
       let sound = jobs_sound c first es legal
       in omega (arith, sound.applied_fits, sound.claimed_fits)
@@ -124,25 +126,26 @@ module _ (c : Config) (first : Contents) where
   -- what waits are the jobs that aren't executed
   pub waiting_told : (es : List Act)
       → Legal c first es
-      → waiting (told c (recorded c first es))
-      ≡ messages_of (drop (applied (recorded c first es)) (jobs c (recorded c first es)))
+      → waiting (log_told c (history_after c first es))
+      ≡ messages_of
+      (drop (jobs_applied (history_after c first es)) (jobs c (history_after c first es)))
   waiting_told [] legal = refl
   waiting_told (Deliver l ∷ es) legal =
-      let h : History = recorded c first es in
+      let h : History = history_after c first es in
       let new : List Release = released_by c (entry c first h (Deliver l)) h in
-      waiting_abortion (lane_direction l) (outcome c h l) (with_releases new (told c h))
-      ∙ waiting_releases new (told c h)
+      waiting_abortion (lane_direction l) (outcome c h l) (with_releases new (log_told c h))
+      ∙ waiting_releases new (log_told c h)
       ∙ ap (λ (ws : List (List ℕ)). ws ++ messages_of (came_up new)) (waiting_told es legal.0)
-      ∙ from_within (jobs c h) (came_up new) (applied h) (fit es legal.0)
+      ∙ from_within (jobs c h) (came_up new) (jobs_applied h) (fit es legal.0)
   waiting_told (Expire side which ∷ es) legal =
-      let h : History = recorded c first es in
-      waiting_expired side which (answer c first h (Expire side which)) (told c h)
+      let h : History = history_after c first es in
+      waiting_expired side which (answer c first h (Expire side which)) (log_told c h)
       ∙ waiting_told es legal.0
   waiting_told (Apply ∷ es) legal =
-      let h : History = recorded c first es in
+      let h : History = history_after c first es in
       ap (λ (ws : List (List ℕ)). drop 1 ws)
-      (waiting_openings (front_opens c first h) (told c h) ∙ waiting_told es legal.0)
-      ∙ from_next (jobs c h) (applied h)
+      (waiting_openings (front_opens c first h) (log_told c h) ∙ waiting_told es legal.0)
+      ∙ from_next (jobs c h) (jobs_applied h)
   waiting_told (Restart Ground ∷ es) legal = waiting_told es legal.0
   waiting_told (Restart Craft ∷ es) legal = refl
   waiting_told (e ∷ es) legal = waiting_told es legal.0
@@ -150,29 +153,31 @@ module _ (c : Config) (first : Contents) where
   -- the requests that were executed are the journal's
   pub executed_told : (es : List Act)
       → Legal c first es
-      → executed (told c (recorded c first es)) ≡ messages_of (was_executed c (recorded c first es))
+      → requests_executed (log_told c (history_after c first es))
+      ≡ messages_of (was_executed c (history_after c first es))
   executed_told [] legal = refl
   executed_told (Deliver l ∷ es) legal =
-      let h : History = recorded c first es in
+      let h : History = history_after c first es in
       let new : List Release = released_by c (entry c first h (Deliver l)) h in
-      executed_abortion (lane_direction l) (outcome c h l) (with_releases new (told c h))
-      ∙ executed_releases new (told c h)
+      executed_abortion (lane_direction l) (outcome c h l) (with_releases new (log_told c h))
+      ∙ executed_releases new (log_told c h)
       ∙ executed_told es legal.0
   executed_told (Expire side which ∷ es) legal =
-      let h : History = recorded c first es in
-      executed_expired side which (answer c first h (Expire side which)) (told c h)
+      let h : History = history_after c first es in
+      executed_expired side which (answer c first h (Expire side which)) (log_told c h)
       ∙ executed_told es legal.0
   executed_told (Apply ∷ es) legal =
-      let h : History = recorded c first es in
+      let h : History = history_after c first es in
       let opens : List Opening = front_opens c first h in
-      let waits : waiting (with_openings opens (told c h))
-      ≡ messages_of (drop (applied h) (jobs c h)) =
-      waiting_openings opens (told c h) ∙ waiting_told es legal.0 in
-      let done : executed (with_openings opens (told c h)) ≡ messages_of (was_executed c h) =
-      executed_openings opens (told c h) ∙ executed_told es legal.0 in
+      let waits : waiting (with_openings opens (log_told c h))
+      ≡ messages_of (drop (jobs_applied h) (jobs c h)) =
+      waiting_openings opens (log_told c h) ∙ waiting_told es legal.0 in
+      let done : requests_executed (with_openings opens (log_told c h))
+      ≡ messages_of (was_executed c h) =
+      executed_openings opens (log_told c h) ∙ executed_told es legal.0 in
       (λ i. done i ++ take 1 (waits i))
       ∙ ap (λ (ms : List (List ℕ)). messages_of (was_executed c h) ++ ms)
-      (front_is (jobs c h) (applied h))
+      (front_is (jobs c h) (jobs_applied h))
       ∙ sym (map-append message_of (was_executed c h) (executed_now Apply (front_job c h)))
       ∙ sym (ap messages_of
       (with_all-append (was_executed c h) (executed_now Apply (front_job c h))))

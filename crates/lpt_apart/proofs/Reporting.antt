@@ -12,7 +12,7 @@ use Rattle.lpt_memory.specs.declared.effect.Effect.TheVariants.{Silent as Nothin
 use Rattle.lpt_memory.specs.Effects.{answer}
 use Rattle.lpt_memory.specs.Meanings.{Meaning, Silent as Says}
 use Rattle.lpt_memory.specs.Memories.{Contents, effect, sizes_of}
-use Rattle.lpt_memory.specs.Readings.{Source, meant}
+use Rattle.lpt_memory.specs.Readings.{Source, source_meaning}
 use Rattle.lpt_events.specs.declared.applied.Applied.TheVariants.{Silent}
 use Rattle.lpt_events.specs.declared.config.Config.{Config}
 use Rattle.lpt_execution.specs.Endings.{ending}
@@ -25,7 +25,7 @@ use Rattle.lpt_jobs.specs.declared.job.Job.TheVariants.{Claimed, Committed, Wait
 use Rattle.lpt_ledger.specs.LeastFree.{least_free_in}
 use Rattle.lpt_node.specs.Jobs.{Execution, ending_at, ending_with, executed_ending, executed_of, executed_so, executed_with, refusal_apply_of, report_packets}
 use Rattle.lpt_node.specs.Nodes.{NodeData}
-use Rattle.lpt_apart.specs.Drops.{CanTurn, Drops, LetsGo, Makes, Reads, Refuses, Service, Turn, no_service, reading_for, text_of, turned, turned_all}
+use Rattle.lpt_apart.specs.Drops.{CanTurn, Drops, LetsGo, Makes, Reads, Refuses, Service, ServiceTurn, no_service, reading_for, text_of, service_after, turned_all}
 use Rattle.lpt_apart.specs.Ends.{put_out}
 use Rattle.lpt_apart.specs.Facts.{Executed}
 use Rattle.lpt_apart.specs.Moves.{Do, Free}
@@ -106,7 +106,7 @@ module _ (c : Config) (s : Service) where
 
   -- the ends after an execution of what stands at the front
   abbrev new_by : (NodeData × Execution) × Contents → List (List ℕ) → Service
-  new_by x done = record (turned c s (Makes (Do Apply))) {
+  new_by x done = record (service_after c s (Makes (Do Apply))) {
     pair = record s.pair {
       ends = record s.pair.ends {
         on_craft = x.0.0;
@@ -121,19 +121,20 @@ module _ (c : Config) (s : Service) where
   told : (w : Option (List ℕ)) (rest : List (Option (List ℕ)))
       → s.waits ≡ w ∷ rest
       → head_of d.jobs.jobs ≡ Ready (reading_for c.apid ms (text_of w))
-      → IsTold c (Some w) s (turned c s (Makes (Do Apply)))
+      → IsTold c (Some w) s (service_after c s (Makes (Do Apply)))
   told None rest waits front =
       let r : Source = reading_for c.apid ms [] in
-      let says : meant r ≡ Says = means_nothing c.apid (sizes_of ms) in
+      let says : source_meaning r ≡ Says = means_nothing c.apid (sizes_of ms) in
       let ends : ending_at c d ms r ≡ Ends =
-      ends_so c d c.apid ms (answer (meant r) ms) (ap (λ (m : Meaning). answer m ms) says) in
+      ends_so c d c.apid ms (answer (source_meaning r) ms)
+      (ap (λ (m : Meaning). answer m ms) says) in
       let all : executed_of c d ms (head_of d.jobs.jobs)
       ≡ ((record d { jobs = without_front d.jobs }, quiet), ms) =
       ap (λ (h : Head). executed_of c d ms h) front
       ∙ (λ i. (passes c d c.apid ms (ending_at c d ms r) ends i, effect (says i) ms)) in
       record {
         done =
-            ap (λ (ws : List (Option (List ℕ))). (turned c (record s { waits = ws })
+            ap (λ (ws : List (Option (List ℕ))). (service_after c (record s { waits = ws })
             (Makes (Do Apply))).done) waits
             ∙ append-nil s.done;
         ways =
@@ -148,7 +149,7 @@ module _ (c : Config) (s : Service) where
       let all = ap (λ (h : Head). executed_of c d ms h) front in
       record {
         done =
-            ap (λ (ws : List (Option (List ℕ))). (turned c (record s { waits = ws })
+            ap (λ (ws : List (Option (List ℕ))). (service_after c (record s { waits = ws })
             (Makes (Do Apply))).done) waits;
         ways =
             ap (λ (x : (NodeData × Execution) × Contents).
@@ -158,10 +159,10 @@ module _ (c : Config) (s : Service) where
             Executed ∷ with_report s.pair.ends.log x.0.1.opened) all;
       }
 
-  tells : (first : Contents) (x : Turn) → IsQueued c first s → CanTurn c s x → IsToldOf c s x
+  tells : (first : Contents) (x : ServiceTurn) → IsQueued c first s → CanTurn c s x → IsToldOf c s x
   tells first (Makes (Do Apply)) q can =
       let f = is_first c.apid ms d.jobs.jobs s.waits q.jobs can.1 in
-      subst (λ (o : Option (Option (List ℕ))). IsTold c o s (turned c s (Makes (Do Apply))))
+      subst (λ (o : Option (Option (List ℕ))). IsTold c o s (service_after c s (Makes (Do Apply))))
       (sym (ap (λ (ws : List (Option (List ℕ))). slice_get ws 0) f.waits))
       (told f.place f.rest f.waits f.front)
   tells first (Makes (Do (Open way name m))) q can = refl
@@ -181,7 +182,8 @@ module _ (c : Config) (s : Service) where
   tells first LetsGo q can = record { done = refl; ways = refl; log = refl; memories = refl }
   tells first (Refuses code) q can =
       let f = is_first c.apid ms d.jobs.jobs s.waits q.jobs can in
-      subst (λ (o : Option (Option (List ℕ))). IsToldRefused c code o s (turned c s (Refuses code)))
+      subst (λ (o : Option (Option (List ℕ))). IsToldRefused c code o s
+      (service_after c s (Refuses code)))
       (sym (ap (λ (ws : List (Option (List ℕ))). slice_get ws 0) f.waits))
       (record {
         done = refl;

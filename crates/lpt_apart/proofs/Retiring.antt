@@ -20,7 +20,7 @@ use Rattle.lpt_ledger.specs.declared.state.State.TheVariants.{Closed}
 use Rattle.lpt_link.specs.Links.{LinkData, is_of, hand_of, any_held, any_in_hand, holds}
 use Rattle.lpt_node.specs.Nodes.{NodeData}
 use Rattle.lpt_model.specs.State.{State, after, end_of, is_gone, refusal_of, refusal_retire_by}
-use Rattle.lpt_journal.specs.Replies.{recorded}
+use Rattle.lpt_journal.specs.Replies.{history_after}
 use Rattle.lpt_journal.specs.Whole.{came}
 use Rattle.lpt_apart.specs.Ends.{PutOut, node_at}
 use Rattle.lpt_apart.specs.Facts.{Retired, Log}
@@ -75,7 +75,7 @@ pub retire : (c : Config) (first : Contents) (s : State) (ways : List PutOut) (l
     → IsTied c first s ways log es
     → CanHappen c (ends_of s ways log) (steps.Retire d name)
     → Leads c first (steps.after c (ends_of s ways log) (steps.Retire d name))
-    (came c (recorded c first es))
+    (came c (history_after c first es))
 retire c first s ways log es d name good t can =
     let n : ℕ = length s.link.packets in
     let cut : WereLost c first s es d name n =
@@ -101,7 +101,7 @@ retire c first s ways log es d name good t can =
     in
     record {
       follows = record {
-        state = (after c (length (recorded c first cut.events)) cut_state (Retire d name)).0;
+        state = (after c (length (history_after c first cut.events)) cut_state (Retire d name)).0;
         events = Retire d name ∷ cut.events;
         tied = record {
           legal = more.legal;

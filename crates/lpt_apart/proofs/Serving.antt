@@ -7,7 +7,7 @@ use Rattle.lpt_packet.specs.Names.{Name}
 use Rattle.lpt_memory.specs.Meanings.{meaning, Meaning, Sizes}
 use Rattle.lpt_memory.specs.Memories.{Contents, effect, sizes_of}
 use Rattle.lpt_memory.specs.Ranges.{MeaningFits}
-use Rattle.lpt_memory.specs.Readings.{Source, meant}
+use Rattle.lpt_memory.specs.Readings.{Source, source_meaning}
 use Rattle.lpt_memory.proofs.MeaningLemmas.{meaning-fits}
 use Rattle.lpt_memory.proofs.PutLemmas.{sizes_of-effect}
 use Rattle.lpt_events.specs.Arrivals.{Arrival, NotRead, AnIdle, Foreign, ARequest, AReport, NoPart, APart, AnAbort, arrival_in}
@@ -23,21 +23,21 @@ use Rattle.lpt_ledger.specs.States.{state_at}
 use Rattle.lpt_ledger.specs.declared.state.State.{State}
 use Rattle.lpt_ledger.specs.declared.state.State.TheVariants.{Free as AFree, Open as AnOpen, Closed}
 use Rattle.lpt_model.specs.State.{as_list}
-use Rattle.lpt_node.specs.Accepting.{accepted}
+use Rattle.lpt_node.specs.Accepting.{packet_accepted}
 use Rattle.lpt_execution.specs.declared.ending.Ending.TheVariants.{Refused}
 use Rattle.lpt_pus.specs.declared.failure_code.FailureCode.{FailureCode}
 use Rattle.lpt_node.specs.Jobs.{claimed_of, ending_at, executed_ending, executed_of, refusal_apply_of, refusal_claim_of, with_opened, executed_so}
 use Rattle.lpt_node.specs.Nodes.{NodeData, message_at}
-use Rattle.lpt_node.specs.Receivers.{ReceiverState, after_offer, if_free, kept_of, parts_with, received, received_from, table_in}
-use Rattle.lpt_node.specs.Receiving.{abort_head, after_received, parted, receiver_of, with_report}
+use Rattle.lpt_node.specs.Receivers.{ReceiverState, after_offer, if_free, kept_of, parts_with, part_received, received_from, table_in}
+use Rattle.lpt_node.specs.Receiving.{abort_head, after_received, part_accepted, receiver_of, with_report}
 use Rattle.lpt_node.specs.Sending.{sent_of}
 use Rattle.lpt_node.specs.Times.{expired_of, which_ends}
 use Rattle.lpt_pus.specs.Telemetry.{Telemetry}
 use Rattle.lpt_reception.specs.Received.{Parts}
 use Rattle.lpt_table.specs.Offering as offering
-use Rattle.lpt_table.specs.Offering.{OfferKind, offered}
+use Rattle.lpt_table.specs.Offering.{OfferKind, part_offered}
 use Rattle.lpt_table.specs.Tables.{Entries, TableState}
-use Rattle.lpt_apart.specs.Drops.{Drops, LetsGo, Makes, Reads, Refuses, Service, Turn, CanTurn, CanTurnAll, IsNoWork, oldest_of, read_as, text_of, turned, turned_all}
+use Rattle.lpt_apart.specs.Drops.{Drops, LetsGo, Makes, Reads, Refuses, Service, ServiceTurn, CanTurn, CanTurnAll, IsNoWork, oldest_of, read_as, text_of, service_after, turned_all}
 use Rattle.lpt_apart.specs.Moves.{CanMove, Do, Free, Move}
 use Rattle.lpt_apart.proofs.Places.{AreOf, of_dropped, of_pushed, of_read, of_rest, read_in}
 use Rattle.lpt_apart.proofs.Handed.{means_nothing, put_in_place, waits}
@@ -76,18 +76,18 @@ of_free AnOpen d q head r parts o = refl
 of_free Closed d q head r parts o = refl
 
 of_part : (c : Config) (d : NodeData) (q : NamedPart)
-    → (parted Craft c d q).0.jobs.jobs
-    ≡ pushed d.jobs.jobs (parted Craft c d q).1.released
-unfolding received
+    → (part_accepted Craft c d q).0.jobs.jobs
+    ≡ pushed d.jobs.jobs (part_accepted Craft c d q).1.released
+unfolding part_received
 of_part c d q =
     let r : ReceiverState = receiver_of c d.receiving in
     of_free (state_at r.ledger q.name) d q (abort_head Craft c d q.name.source) r
-    (parts_with (table_in r) q) (offered (table_in r) q.name q.number (kept_of q) d.clock)
+    (parts_with (table_in r) q) (part_offered (table_in r) q.name q.number (kept_of q) d.clock)
 
 -- what the spacecraft releases waits behind all others
 releases : (c : Config) (d : NodeData) (a : Arrival)
-    → (accepted Craft c d a).0.jobs.jobs
-    ≡ pushed d.jobs.jobs (accepted Craft c d a).1.released
+    → (packet_accepted Craft c d a).0.jobs.jobs
+    ≡ pushed d.jobs.jobs (packet_accepted Craft c d a).1.released
 releases c d NotRead = refl
 releases c d AnIdle = refl
 releases c d Foreign = refl
@@ -152,7 +152,7 @@ record IsOfFront (apid : ℕ) (ms : Contents) (ws : List (Option (List ℕ))) (r
   sizes : r.sizes ≡ sizes_of ms
   leaves : (ds : List (List ℕ)) (first : Contents)
       → ms ≡ left_by apid ds first
-      → effect (meant r) ms ≡ left_by apid (ds ++ oldest_of ws) first
+      → effect (source_meaning r) ms ≡ left_by apid (ds ++ oldest_of ws) first
 
 of_front : (apid : ℕ) (ms : Contents) (js : List Job) (ws : List (Option (List ℕ))) (r : Source)
     → AreOf apid (sizes_of ms) js ws
@@ -169,7 +169,8 @@ of_front apid ms (Committed s ∷ js) (w ∷ ws) r are is =
     record {
       sizes = ap (λ (x : Source). x.sizes) read;
       leaves = λ ds first at.
-          ap (λ (x : Source). effect (meant x) ms) read ∙ of_place apid w ws ds first ms at;
+          ap (λ (x : Source). effect (source_meaning x) ms) read
+          ∙ of_place apid w ws ds first ms at;
     }
 
 -- ---- whatever turn is taken
@@ -193,16 +194,17 @@ module _ (c : Config) (first : Contents) (s : Service) (q : IsQueued c first s) 
   keeps : (new : NodeData) → new.jobs ≡ d.jobs → Jobbed new.jobs.jobs s.waits
   keeps new same = subst (λ (x : Jobs). Jobbed x.jobs s.waits) (sym same) q.jobs
 
-  accepts : (b : List ℕ) → IsQueued c first (turned c s (Makes (Do (Accept Up b))))
+  accepts : (b : List ℕ) → IsQueued c first (service_after c s (Makes (Do (Accept Up b))))
   accepts b =
       let a = arrival_in c Up b in
       record {
         jobs =
             subst (λ (js : List Job). Jobbed js
-            (s.waits ++ as_list (option_map (λ m. Some m) (accepted Craft c d a).1.released)))
+            (s.waits
+            ++ as_list (option_map (λ m. Some m) (packet_accepted Craft c d a).1.released)))
             (sym (releases c d a))
             (of_released c.apid (sizes_of ms) d.jobs.jobs s.waits
-            (accepted Craft c d a).1.released q.jobs);
+            (packet_accepted Craft c d a).1.released q.jobs);
         memories = q.memories;
       }
 
@@ -218,9 +220,9 @@ module _ (c : Config) (first : Contents) (s : Service) (q : IsQueued c first s) 
   applies (Ready r) is none =
       let f = of_front c.apid ms d.jobs.jobs s.waits r q.jobs is in
       let end : Ending = ending_at c d ms r in
-      let sizes : sizes_of (effect (meant r) ms) ≡ sizes_of ms =
-      sizes_of-effect (meant r) ms
-      (subst (λ (x : Sizes). MeaningFits x (meant r)) f.sizes
+      let sizes : sizes_of (effect (source_meaning r) ms) ≡ sizes_of ms =
+      sizes_of-effect (source_meaning r) ms
+      (subst (λ (x : Sizes). MeaningFits x (source_meaning r)) f.sizes
       (meaning-fits r.apid r.sizes r.message)) in (
         subst (λ (x : Sizes). AreOf c.apid x (executed_ending c d r end).0.jobs.jobs
             (drop 1 s.waits)) (sym sizes)
@@ -233,7 +235,7 @@ module _ (c : Config) (first : Contents) (s : Service) (q : IsQueued c first s) 
   makes : (x : Move)
       → IsNoWork x
       → CanMove c s.pair x
-      → IsQueued c first (turned c s (Makes x))
+      → IsQueued c first (service_after c s (Makes x))
   makes (Do (Open Up name m)) own can = record { jobs = q.jobs; memories = q.memories }
   makes (Do (Open Down name m)) own can = record { jobs = q.jobs; memories = q.memories }
   makes (Do (Send Up name k)) own can = record { jobs = q.jobs; memories = q.memories }
@@ -307,7 +309,7 @@ module _ (c : Config) (first : Contents) (s : Service) (q : IsQueued c first s) 
       (sym (executed_keeps c d r (Refused code)))
       (of_rest c.apid (sizes_of ms) d.jobs.jobs s.waits q.jobs)
 
-  turns : (x : Turn) → CanTurn c s x → IsQueued c first (turned c s x)
+  turns : (x : ServiceTurn) → CanTurn c s x → IsQueued c first (service_after c s x)
   turns (Makes x) can = makes x can.0 can.1
   turns Reads can =
       let at : Jobbed (read_as c s.pair.ends (claimed_of d
@@ -329,7 +331,7 @@ module _ (c : Config) (first : Contents) (s : Service) (q : IsQueued c first s) 
       record { jobs = refuses code (head_of d.jobs.jobs) can; memories = q.memories }
 
 -- all turns
-pub queued : (c : Config) (first : Contents) (s : Service) (xs : List Turn)
+pub queued : (c : Config) (first : Contents) (s : Service) (xs : List ServiceTurn)
     → IsQueued c first s
     → CanTurnAll c s xs
     → IsQueued c first (turned_all c s xs)

@@ -14,9 +14,9 @@ use Rattle.lpt_events.specs.Sides.{sender_side, receiver_side}
 use Rattle.lpt_events.specs.declared.config.Config.{Config}
 use Rattle.lpt_events.specs.declared.side.Side.{Side}
 use Rattle.lpt_events.specs.declared.side.Side.TheVariants.{Ground, Craft}
-use Rattle.lpt_node.specs.Jobs.{executed}
+use Rattle.lpt_node.specs.Jobs.{job_executed}
 use Rattle.lpt_node.specs.Nodes.{NodeData, message_at}
-use Rattle.lpt_node.specs.Accepting.{accepted}
+use Rattle.lpt_node.specs.Accepting.{packet_accepted}
 use Rattle.lpt_node.specs.Requests.{plain_made}
 use Rattle.lpt_node.specs.Sending.{refusal_send_of}
 use Rattle.lpt_node.specs.Times.{expired_of, which_ends}
@@ -26,7 +26,7 @@ use Rattle.lpt_journal.proofs.CountLemmas.{same_name-comm}
 use Rattle.lpt_apart.specs.Ends.{PutOut, Ends, node_at, with_node, put_out, is_part, without}
 use Rattle.lpt_apart.specs.Facts.{is_same}
 use Rattle.lpt_apart.specs.Steps.{Step, Open, Send, Plain, Finish, Accept, Tick, Expire, Claim, Commit, Apply, Retire, Restart, CanHappen, committed_on, after}
-use Rattle.lpt_apart.specs.Moves.{Pair, Move, Do, Free, freed_by, retired_by, moved, CanMove}
+use Rattle.lpt_apart.specs.Moves.{Pair, Move, Do, Free, freed_by, retired_by, pair_after, CanMove}
 use Rattle.lpt_apart.proofs.Closing.{kept_removed, IsShut, IsNoRetirement, closed_stays}
 use Rattle.lpt_events.proofs.LaneLemmas.{same_direction-true}
 use Rattle.lpt_packet.proofs.BoolLemmas.{and_false, and_left, and_right, not_true, or_false_left, or_false_right}
@@ -125,7 +125,8 @@ none_step c e (Finish way i) d name can stays mute none =
 none_step c e (Accept way b) d name can stays mute none =
     let a : Arrival = arrival_in c way b in
     let side : Side = receiver_side way in
-    none_put d name e.on_the_way Down (as_list (accepted side c (node_at e side) a).1.packet) none
+    none_put d name e.on_the_way Down (as_list (packet_accepted side c (node_at e side) a).1.packet)
+    none
 none_step c e (Tick side turn) d name can stays mute none =
     ap (has_part d name) (same_ways e side _) ∙ none
 none_step c e (Expire side which) d name can stays mute none =
@@ -138,7 +139,7 @@ none_step c e (Commit w) d name can stays mute none = go (ticket_of e.tickets w)
   go None = none
   go (Some t) = none
 none_step c e Apply d name can stays mute none =
-    none_put d name e.on_the_way Down (executed c e.on_craft e.memories).0.1.packets none
+    none_put d name e.on_the_way Down (job_executed c e.on_craft e.memories).0.1.packets none
 none_step c e (Retire way i) d name can stays mute none = absurd stays
 none_step c e (Restart side) d name can stays mute none =
     ap (has_part d name) (same_ways e side _) ∙ none
@@ -214,7 +215,7 @@ pub silent_on : (c : Config) (p : Pair) (x : Move)
     → CanMove c p x
     → AreMute p.ends
     → AreSilent p.freed p.ends
-    → AreSilent (moved c p x).freed (moved c p x).ends
+    → AreSilent (pair_after c p x).freed (pair_after c p x).ends
 silent_on c p (Do (Retire way i)) can mute silent = record {
   shut = λ d name is.
       shut_retired p way i d name

@@ -23,7 +23,7 @@ use Rattle.lpt_node.specs.Nodes.{Sending}
 use Rattle.lpt_refinement.specs.Shows.{mark_of, message_of, sent_packet}
 use Rattle.lpt_journal.specs.Hands.{arrival_of}
 use Rattle.lpt_journal.specs.Journal.{SentPacket, History}
-use Rattle.lpt_journal.specs.Replies.{recorded}
+use Rattle.lpt_journal.specs.Replies.{history_after}
 use Rattle.lpt_journal.specs.Senders.{Sender, FreeSender, OpenSender, ClosedSender, sender}
 use Rattle.lpt_journal.proofs.HeadlineLemmas.{every}
 use Rattle.lpt_apart.specs.Ends.{Ends, is_part}
@@ -50,7 +50,7 @@ mute_of x ClosedSender name mark message shut = message
 pub are_mute : (c : Config) (first : Contents) (e : Ends) → Follows c first e → AreMute e
 are_mute c first e f = subst (λ (y : Ends). AreMute y) f.is at where
   h : History
-  h = recorded c first f.events
+  h = history_after c first f.events
 
   at : AreMute (ends_of f.state e.on_the_way e.log)
   at Up name shut =
@@ -69,7 +69,7 @@ named : (c : Config) (first : Contents) (e : Ends) (d : Direction) (b : List ℕ
     → (on : IsOnTheWay e d b)
     → part_name (arrival_in c d b) ≡ on.packet.part_of
 named c first e d b good f on =
-    let h : History = recorded c first f.events in
+    let h : History = history_after c first f.events in
     let packets : List LinkPacket = f.state.link.packets in
     let is : IsHeldAs packets on.packet =
     held_at packets e.on_the_way on.place on.packet f.tied.held on.there in

@@ -8,12 +8,12 @@ use Rattle.lpt_events.specs.declared.lane.Lane.{Lane}
 use Rattle.lpt_events.specs.declared.lane.Lane.TheVariants.{S1, S2, G1, G2}
 use Rattle.lpt_link.specs.Links.{hand_of, empty_link}
 use Rattle.lpt_model.specs.State.{State, no_state}
-use Rattle.lpt_journal.specs.Replies.{recorded}
+use Rattle.lpt_journal.specs.Replies.{history_after}
 use Rattle.lpt_journal.specs.Whole as journal
 use Rattle.lpt_refinement.proofs.Follows.{follows}
 use Rattle.lpt_apart.specs.Ends.{PutOut, Ends, no_ends}
 use Rattle.lpt_apart.specs.Facts.{Log}
-use Rattle.lpt_apart.specs.Steps.{Step, Open, Send, Plain, Finish, Accept, Tick, Expire, Claim, Commit, Apply, Retire, Restart, CanHappen, CanRun, after, reached}
+use Rattle.lpt_apart.specs.Steps.{Step, Open, Send, Plain, Finish, Accept, Tick, Expire, Claim, Commit, Apply, Retire, Restart, CanHappen, CanRun, after, ends_reached}
 use Rattle.lpt_apart.specs.Whole.{came_after, came}
 use Rattle.lpt_apart.specs.Worlds.{IsReadyNode, IsAWorld, EndsAreAWorld}
 use Rattle.lpt_apart.proofs.Accepting.{accept}
@@ -29,7 +29,8 @@ step : (c : Config) (first : Contents) (s : State) (ways : List PutOut) (log : L
     → CanHappen c (ends_of s ways log) x
     → Leads c first (after c (ends_of s ways log) x)
     (λ d name k.
-    came_after c (ends_of s ways log) x d name k (journal.came c (recorded c first es) d name k))
+    came_after c (ends_of s ways log) x d name k
+    (journal.came c (history_after c first es) d name k))
 step c first s ways log es (Open d name m) good t can =
     open_step c first s ways log es good t d name m can
 step c first s ways log es (Send d name k) good t can =
@@ -84,7 +85,7 @@ pub lead_on : (c : Config) (first : Contents)
     → Leads c first (after c e x) (λ d name k. came_after c e x d name k (parts d name k))
 lead_on c first good e x parts l can =
     let f : Follows c first e = l.follows in
-    let before : Came = journal.came c (recorded c first f.events) in
+    let before : Came = journal.came c (history_after c first f.events) in
     let same : before ≡ parts = (λ i d name k. l.comes d name k i) in
     subst (λ (p : Came). Leads c first (after c e x)
     (λ d name k. came_after c e x d name k (p d name k))) same
@@ -96,10 +97,11 @@ lead_on c first good e x parts l can =
 pub lead : (c : Config) (first : Contents) (xs : List Step)
     → IsConfig c
     → CanRun c first xs
-    → Leads c first (reached c first xs) (came c first xs)
+    → Leads c first (ends_reached c first xs) (came c first xs)
 lead c first [] good can = leads_off c first
 lead c first (x ∷ xs) good can =
-    lead_on c first good (reached c first xs) x (came c first xs) (lead c first xs good can.0) can.1
+    lead_on c first good (ends_reached c first xs) x (came c first xs) (lead c first xs good can.0)
+    can.1
 
 -- what follows a world is one
 pub is_a_world : (c : Config) (first : Contents) (e : Ends)
@@ -123,4 +125,4 @@ is_a_world c first e good f = record {
 
 pub ends_are_a_world : EndsAreAWorld
 ends_are_a_world c first xs good can =
-    is_a_world c first (reached c first xs) good (lead c first xs good can).follows
+    is_a_world c first (ends_reached c first xs) good (lead c first xs good can).follows

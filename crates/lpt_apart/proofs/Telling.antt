@@ -18,8 +18,8 @@ use Rattle.lpt_events.specs.declared.reply.Answer.TheVariants.{Delivered, Expire
 use Rattle.lpt_events.specs.declared.reply.Reply.{Reply}
 use Rattle.lpt_events.specs.declared.side.Side.{Side}
 use Rattle.lpt_link.specs.Links.{packet_in_hand}
-use Rattle.lpt_node.specs.Accepting.{accepted}
-use Rattle.lpt_node.specs.Jobs.{executed}
+use Rattle.lpt_node.specs.Accepting.{packet_accepted}
+use Rattle.lpt_node.specs.Jobs.{job_executed}
 use Rattle.lpt_node.specs.Nodes.{NodeData}
 use Rattle.lpt_node.specs.Requests.{plain_made}
 use Rattle.lpt_node.specs.Times.{expired_of, which_ends}
@@ -33,29 +33,29 @@ use Rattle.lpt_journal.specs.Executions.{front_opens}
 use Rattle.lpt_journal.specs.Hands.{in_hand}
 use Rattle.lpt_journal.specs.Journal.{History}
 use Rattle.lpt_journal.specs.Releases.{released_by, releases}
-use Rattle.lpt_journal.specs.Replies.{answer, recorded, entry}
+use Rattle.lpt_journal.specs.Replies.{answer, history_after, entry}
 use Rattle.lpt_journal.specs.Senders.{is_opening_of, opened}
 use Rattle.lpt_journal.specs.Whole.{came}
 use Rattle.lpt_refinement.proofs.ArrivalsAgree.{arrival_agrees}
 use Rattle.lpt_apart.specs.Facts.{Asked, Aborted, Executed, Log, with_abortion}
 use Rattle.lpt_apart.specs.Steps.{with_release, with_report}
-use Rattle.lpt_apart.specs.Told.{with_releases, with_ended, told}
+use Rattle.lpt_apart.specs.Told.{with_releases, with_ended, log_told}
 use Rattle.lpt_apart.specs.Whole.{came_by, is_reported}
 use Rattle.lpt_apart.proofs.Logs.{opened_told, opened_of_it, released_told, put_some-answer}
 use Rattle.lpt_apart.proofs.Ties.{IsLonger}
 
 module _ (c : Config) (first : Contents) (s : State) (log : Log) (es : List Act)
-    (shown : Shows s (views c first (recorded c first es)))
-    (tells : told c (recorded c first es) ≡ log) where
+    (shown : Shows s (views c first (history_after c first es)))
+    (tells : log_told c (history_after c first es) ≡ log) where
   abbrev h : History
-  h = recorded c first es
+  h = history_after c first es
 
   -- ground has asked the plain request that it made
   pub plain_told : (source flags service subtype : ℕ) (body : List ℕ)
-      → told c (recorded c first (Plain source flags service subtype body ∷ es))
+      → log_told c (history_after c first (Plain source flags service subtype body ∷ es))
       ≡ Asked (plain_made c s.on_ground source flags service subtype body).1 ∷ log
   plain_told source flags service subtype body =
-      ap (λ (n : ℕ). Asked (tc_made c source n flags service subtype body) ∷ told c h)
+      ap (λ (n : ℕ). Asked (tc_made c source n flags service subtype body) ∷ log_told c h)
       (sym shown.ground.sending.count)
       ∙ ap (λ (l : Log). Asked (plain_made c s.on_ground source flags service subtype body).1 ∷ l)
       tells
@@ -63,7 +63,7 @@ module _ (c : Config) (first : Contents) (s : State) (log : Log) (es : List Act)
   -- what a node gives up for its age is aborted
   pub expiry_told : (side : Side) (which : Option Name)
       → IsLonger c first s es (Expire side which)
-      → told c (recorded c first (Expire side which ∷ es))
+      → log_told c (history_after c first (Expire side which ∷ es))
       ≡ Aborted (direction_to side)
       (expired_of side c (end_of s side) (which_ends c (end_of s side) which)).1.name
       ∷ log
@@ -75,29 +75,29 @@ module _ (c : Config) (first : Contents) (s : State) (log : Log) (es : List Act)
       (put_some-answer (length s.link.packets) (Expired (direction_to side) x.1.name)
       (as_list x.1.packet))
       ∙ ap (λ (r : Reply). r.answer) more.answered in
-      ap (λ (a : Answer). with_ended (Expire side which) a (told c h)) (sym answered)
+      ap (λ (a : Answer). with_ended (Expire side which) a (log_told c h)) (sym answered)
       ∙ ap (λ (l : Log). Aborted (direction_to side) x.1.name ∷ l) tells
 
   -- the spacecraft has executed a request, and opened the report of data that it made, or none
   pub execution_told : IsLonger c first s es Apply
-      → told c (recorded c first (Apply ∷ es))
-      ≡ Executed ∷ with_report log (executed c s.on_craft s.memories).0.1.opened
+      → log_told c (history_after c first (Apply ∷ es))
+      ≡ Executed ∷ with_report log (job_executed c s.on_craft s.memories).0.1.opened
   execution_told more =
-      let o = (executed c s.on_craft s.memories).0.1.opened in
+      let o = (job_executed c s.on_craft s.memories).0.1.opened in
       let opens : add_opening (opened h) (length h) o ≡ opened (entry c first h Apply ∷ h) =
       ap (λ (os : List Opening). add_opening os (length h) o) (sym shown.opened)
       ∙ more.shown.opened in
       ap (λ (l : Log). Executed ∷ l)
-      (opened_told (opened h) (length h) o (front_opens c first h) (told c h) opens
+      (opened_told (opened h) (length h) o (front_opens c first h) (log_told c h) opens
       ∙ ap (λ (l : Log). with_report l o) tells)
 
   -- whether it is of a transaction
   pub execution_opens : IsLonger c first s es Apply
       → (d : Direction) (name : Name)
       → is_some (find (is_opening_of d name) (front_opens c first h))
-      ≡ is_reported (executed c s.on_craft s.memories).0.1.opened d name
+      ≡ is_reported (job_executed c s.on_craft s.memories).0.1.opened d name
   execution_opens more d name =
-      let o = (executed c s.on_craft s.memories).0.1.opened in
+      let o = (job_executed c s.on_craft s.memories).0.1.opened in
       let opens : add_opening (opened h) (length h) o ≡ opened (entry c first h Apply ∷ h) =
       ap (λ (os : List Opening). add_opening os (length h) o) (sym shown.opened)
       ∙ more.shown.opened in
@@ -106,13 +106,13 @@ module _ (c : Config) (first : Contents) (s : State) (log : Log) (es : List Act)
   -- the outcome of a delivery is what a node answers
   answers : (l : Lane)
       → IsLonger c first s es (Deliver l)
-      → outcome c h l ≡ (accepted (receiver_side (lane_direction l)) c
+      → outcome c h l ≡ (packet_accepted (receiver_side (lane_direction l)) c
       (end_of s (receiver_side (lane_direction l)))
       (arrival_held c (lane_direction l) (packet_in_hand s.link l))).1.outcome
   answers l more =
       let d = lane_direction l in
       let x : NodeData × Accepted =
-      accepted (receiver_side d) c (end_of s (receiver_side d))
+      packet_accepted (receiver_side d) c (end_of s (receiver_side d))
       (arrival_held c d (packet_in_hand s.link l)) in
       let both : Delivered x.1.outcome ≡ Delivered (outcome c h l) =
       sym (put_some-answer (length s.link.packets) (Delivered x.1.outcome) (as_list x.1.packet))
@@ -124,17 +124,17 @@ module _ (c : Config) (first : Contents) (s : State) (log : Log) (es : List Act)
       → IsLonger c first s es (Deliver l)
       → (a : Arrival) (x : NodeData × Accepted)
       → a ≡ arrival_held c (lane_direction l) (packet_in_hand s.link l)
-      → x ≡ accepted (receiver_side (lane_direction l)) c
+      → x ≡ packet_accepted (receiver_side (lane_direction l)) c
       (end_of s (receiver_side (lane_direction l))) a
       → (d : Direction) (name : Name) (k : ℕ)
-      → came c (recorded c first (Deliver l ∷ es)) d name k
+      → came c (history_after c first (Deliver l ∷ es)) d name k
       ≡ came_by (lane_direction l) a x.1.outcome d name k (came c h d name k)
   delivery_came l more a x held is d name k =
       let arrived : in_hand c h l ≡ a =
       sym (held ∙ arrival_agrees c first s h l shown) in
       let same : outcome c h l ≡ x.1.outcome =
       answers l more
-      ∙ ap (λ (a : Arrival). (accepted (receiver_side (lane_direction l)) c
+      ∙ ap (λ (a : Arrival). (packet_accepted (receiver_side (lane_direction l)) c
       (end_of s (receiver_side (lane_direction l))) a).1.outcome) (sym held)
       ∙ ap (λ (y : NodeData × Accepted). y.1.outcome) (sym is) in
       (λ i. came_by (lane_direction l) (arrived i) (same i) d name k (came c h d name k))
@@ -143,25 +143,25 @@ module _ (c : Config) (first : Contents) (s : State) (log : Log) (es : List Act)
   pub delivery_told : (l : Lane)
       → IsLonger c first s es (Deliver l)
       → (x : NodeData × Accepted)
-      → x ≡ accepted (receiver_side (lane_direction l)) c
+      → x ≡ packet_accepted (receiver_side (lane_direction l)) c
       (end_of s (receiver_side (lane_direction l)))
       (arrival_held c (lane_direction l) (packet_in_hand s.link l))
-      → told c (recorded c first (Deliver l ∷ es))
+      → log_told c (history_after c first (Deliver l ∷ es))
       ≡ with_abortion (lane_direction l) x.1.outcome
       (with_release log (released_of (lane_direction l) x.1.outcome) x.1.released)
   delivery_told l more y is =
       let d = lane_direction l in
       let x : NodeData × Accepted =
-      accepted (receiver_side d) c (end_of s (receiver_side d))
+      packet_accepted (receiver_side d) c (end_of s (receiver_side d))
       (arrival_held c d (packet_in_hand s.link l)) in
       let both : Delivered x.1.outcome ≡ Delivered (outcome c h l) =
       sym (put_some-answer (length s.link.packets) (Delivered x.1.outcome) (as_list x.1.packet))
       ∙ ap (λ (r : Reply). r.answer) more.answered in
       let same : outcome c h l ≡ x.1.outcome = cc in
-      let released : with_releases (released_by c (entry c first h (Deliver l)) h) (told c h)
+      let released : with_releases (released_by c (entry c first h (Deliver l)) h) (log_told c h)
       ≡ with_release log (released_of d x.1.outcome) x.1.released =
       released_told (releases c h) (length h) d x.1.outcome x.1.released
-      (released_by c (entry c first h (Deliver l)) h) (told c h)
+      (released_by c (entry c first h (Deliver l)) h) (log_told c h)
       (ap (λ (rs : List Release). add_release rs (length h) d x.1.outcome x.1.released)
       (sym shown.released)
       ∙ more.shown.released)

@@ -18,14 +18,14 @@ use Rattle.lpt_journal.specs.Jobs.{jobs, ticket}
 use Rattle.lpt_journal.specs.Journal.{History}
 use Rattle.lpt_journal.specs.Legal.{Legal}
 use Rattle.lpt_journal.specs.Refusals.{refusal}
-use Rattle.lpt_journal.specs.Replies.{reply, recorded}
+use Rattle.lpt_journal.specs.Replies.{reply, history_after}
 use Rattle.lpt_journal.specs.Whole.{came}
 use Rattle.lpt_refinement.proofs.Follows.{follows}
 use Rattle.lpt_journal.proofs.HeadlineLemmas.{every}
 use Rattle.lpt_journal.proofs.TicketSteps.{jobs_sound}
 use Rattle.lpt_apart.specs.Ends.{PutOut, Ends}
 use Rattle.lpt_apart.specs.Facts.{Log}
-use Rattle.lpt_apart.specs.Told.{told}
+use Rattle.lpt_apart.specs.Told.{log_told}
 use Rattle.lpt_apart.proofs.Links.{AllHeld}
 
 -- ---- what is tied
@@ -46,10 +46,10 @@ ends_of s ways log = record {
 pub record IsTied (c : Config) (first : Contents) (s : State) (ways : List PutOut) (log : Log)
     (es : List Act) : Type 0 where
   pub legal : Legal c first es
-  pub shown : Shows s (views c first (recorded c first es))
+  pub shown : Shows s (views c first (history_after c first es))
   pub hands : (l : Lane) → hand_of s.link l ≡ None
   pub held : AllHeld s.link.packets ways
-  pub tells : told c (recorded c first es) ≡ log
+  pub tells : log_told c (history_after c first es) ≡ log
 
 -- two ends are tied to some world
 pub record Follows (c : Config) (first : Contents) (e : Ends) : Type 0 where
@@ -66,15 +66,15 @@ Came = Direction → Name → (k : ℕ) → Bool
 pub record Leads (c : Config) (first : Contents) (e : Ends) (parts : Came) : Type 0 where
   pub follows : Follows c first e
   pub comes : (d : Direction) (name : Name) (k : ℕ)
-      → came c (recorded c first follows.events) d name k ≡ parts d name k
+      → came c (history_after c first follows.events) d name k ≡ parts d name k
 
 -- ---- legal journals fit
 
 jobs_fit : (c : Config) (first : Contents) (es : List Act)
     → Legal c first es
-    → JobsFit (jobs_view c first (recorded c first es)) (ticket c (recorded c first es))
+    → JobsFit (jobs_view c first (history_after c first es)) (ticket c (history_after c first es))
 jobs_fit c first es legal =
-    let h : History = recorded c first es in
+    let h : History = history_after c first es in
     let sound = jobs_sound c first es legal in
     record {
       executed = sound.applied_fits;
@@ -100,7 +100,7 @@ jobs_fit c first es legal =
 fits : (c : Config) (first : Contents) (es : List Act)
     → IsConfig c
     → Legal c first es
-    → Fits c first (recorded c first es)
+    → Fits c first (history_after c first es)
 fits c first es good legal = record {
   jobs = jobs_fit c first es legal;
   tags = (every c first es good legal).0.names;
@@ -113,22 +113,22 @@ fits c first es good legal = record {
 pub record IsLonger (c : Config) (first : Contents) (s : State) (es : List Act)
     (e : Act) : Type 0 where
   pub ready : IsReady c s e
-  pub answered : (after c (length (recorded c first es)) s e).1
-      ≡ reply c first (recorded c first es) e
+  pub answered : (after c (length (history_after c first es)) s e).1
+      ≡ reply c first (history_after c first es) e
   pub legal : Legal c first (e ∷ es)
-  pub shown : Shows (after c (length (recorded c first es)) s e).0
-      (views c first (recorded c first (e ∷ es)))
+  pub shown : Shows (after c (length (history_after c first es)) s e).0
+      (views c first (history_after c first (e ∷ es)))
 
 -- what a world that shows a journal doesn't refuse can be done
 pub longer : (c : Config) (first : Contents) (s : State) (es : List Act) (e : Act)
     → IsConfig c
     → Legal c first es
-    → Shows s (views c first (recorded c first es))
+    → Shows s (views c first (history_after c first es))
     → IsAct e
     → refusal_of c s e ≡ None
     → IsLonger c first s es e
 longer c first s es e good legal shown ranged free =
-    let h : History = recorded c first es in
+    let h : History = history_after c first es in
     let fit : Fits c first h = fits c first es good legal in
     let accepted : refusal c h e ≡ None = sym (follows.refuses c first s h e shown fit) ∙ free in
     let goes = follows.goes_on c first s h e good shown fit accepted in
@@ -142,9 +142,9 @@ longer c first s es e good legal shown ranged free =
 -- a world that shows a journal doesn't refuse what is legal after it
 pub not_refused : (c : Config) (first : Contents) (s : State) (es : List Act) (e : Act)
     → IsConfig c
-    → Shows s (views c first (recorded c first es))
+    → Shows s (views c first (history_after c first es))
     → Legal c first (e ∷ es)
     → refusal_of c s e ≡ None
 not_refused c first s es e good shown legal =
-    follows.refuses c first s (recorded c first es) e shown (fits c first es good legal.0)
+    follows.refuses c first s (history_after c first es) e shown (fits c first es good legal.0)
     ∙ legal.1.accepted

@@ -6,7 +6,7 @@ use Rattle.std.specs.Prelude.{Contains, cond, slice_get, ⊤}
 use Rattle.std.specs.Result.{result_ok}
 use Rattle.lpt_packet.specs.declared.direction.Direction.TheVariants.{Up, Down}
 use Rattle.lpt_packet.specs.Names.{Name}
-use Rattle.lpt_packet.specs.Packets.{IdlePacket, APacket, Sight, seen}
+use Rattle.lpt_packet.specs.Packets.{IdlePacket, APacket, Sight, packet_seen}
 use Rattle.lpt_part.specs.Aborts.{abort_in}
 use Rattle.lpt_part.specs.Parts.{part_in}
 use Rattle.lpt_pus.specs.Telemetry.{Telemetry, tm_verdict}
@@ -19,7 +19,7 @@ use Rattle.lpt_journal.proofs.TestLemmas.{no_place}
 use Rattle.lpt_model.specs.State.{released_of}
 use Rattle.lpt_apart.specs.Drops.{AllSent, IsSent}
 use Rattle.lpt_apart.specs.Ends.{PutOut, put_out}
-use Rattle.lpt_apart.specs.Facts.{Fact, Opened, Asked, Released, Aborted, Executed, Retired, Log, awaited, awaited_after, with_abortion, AllDue}
+use Rattle.lpt_apart.specs.Facts.{Fact, Opened, Asked, Released, Aborted, Executed, Retired, Log, message_awaited, awaited_after, with_abortion, AllDue}
 use Rattle.lpt_apart.specs.Steps.{with_release}
 use Rattle.lpt_apart.specs.Whole.{aborted_after, is_aborted, last_opened, last_released, opened_after, released_after}
 use Rattle.lpt_apart.proofs.Asking.{later}
@@ -131,7 +131,7 @@ up_there ws (x ∷ os) (suc n) o all at up = up_there ws os n o all.1 at up
 -- at the spacecraft the same is awaited by both, and the same was opened, broken off and released;
 -- what one says was asked the other does; and what the latter says of requests is so
 pub record IsLike (l r : Log) : Type 0 where
-  pub awaits : (name : Name) → awaited l Up name ≡ awaited r Up name
+  pub awaits : (name : Name) → message_awaited l Up name ≡ message_awaited r Up name
   pub opened : (name : Name) → last_opened l Up name ≡ last_opened r Up name
   pub aborted : (name : Name) → is_aborted l Up name ≡ is_aborted r Up name
   pub released : (name : Name) → last_released l Up name ≡ last_released r Up name
@@ -170,7 +170,7 @@ pub adds_one : (x : Fact) (l r : Log)
     → IsLike l r
     → IsLike (x ∷ l) r
 adds_one x l r beside is like = record {
-  awaits = λ name. beside.awaits name (awaited l Up name) ∙ like.awaits name;
+  awaits = λ name. beside.awaits name (message_awaited l Up name) ∙ like.awaits name;
   opened = λ name. beside.opened name (last_opened l Up name) ∙ like.opened name;
   aborted = λ name. beside.aborted name (is_aborted l Up name) ∙ like.aborted name;
   released = λ name. beside.released name (last_released l Up name) ∙ like.released name;
@@ -283,6 +283,7 @@ module _ (p : ℕ) where
 pub no_request : (c : Config) (b x : List ℕ) → arrival_in c Down b ≡ ARequest x → ⊥
 unfolding arrival
 no_request c b x is =
-    let no : is_request (arrival_in c Down b) ≡ false = of_sight c.part_size c.apid b (seen b) in
+    let no : is_request (arrival_in c Down b) ≡ false =
+    of_sight c.part_size c.apid b (packet_seen b) in
     let both : true ≡ false = sym (ap is_request is) ∙ no in
     absurd cc

@@ -5,10 +5,10 @@ use Rattle.lpt_packet.specs.Names.{Name}
 use Rattle.lpt_memory.specs.Memories.{Contents}
 use Rattle.lpt_events.specs.Configs.{IsConfig}
 use Rattle.lpt_events.specs.declared.config.Config.{Config}
-use Rattle.lpt_journal.specs.Replies.{recorded}
+use Rattle.lpt_journal.specs.Replies.{history_after}
 use Rattle.lpt_apart.specs.Ends.{Ends}
-use Rattle.lpt_apart.specs.Facts.{Opened, Asked, Released, Aborted, Executed, Retired, Restarted, Log, is_same, is_of_it, awaited, AllDue}
-use Rattle.lpt_apart.specs.Steps.{reached}
+use Rattle.lpt_apart.specs.Facts.{Opened, Asked, Released, Aborted, Executed, Retired, Restarted, Log, is_same, is_of_it, message_awaited, AllDue}
+use Rattle.lpt_apart.specs.Steps.{ends_reached}
 use Rattle.lpt_apart.specs.Whole.{came, last_opened, is_aborted, last_released, WithholdsNothing, EndsWithholdNothing, CameWhole}
 use Rattle.lpt_apart.proofs.Awaiting.{of_it, awaits, awaited_is}
 use Rattle.lpt_apart.proofs.Dues.{all_due}
@@ -24,7 +24,7 @@ use Rattle.lpt_journal.specs.Receivers.{is_closed}
 use Rattle.lpt_journal.specs.Senders.{current}
 use Rattle.lpt_journal.specs.Whole as journal
 use Rattle.lpt_journal.proofs.WholeLemmas.{not_whole}
-use Rattle.lpt_apart.specs.Told.{told}
+use Rattle.lpt_apart.specs.Told.{log_told}
 
 -- ---- what came whole isn't awaited
 
@@ -33,13 +33,13 @@ not_awaited : (c : Config) (first : Contents) (es : List Act)
     → IsConfig c
     → Legal c first es
     → (d : Direction) (name : Name) (m : List ℕ)
-    → CameWhole c (journal.came c (recorded c first es) d name) m
-    → ¬ (awaited (told c (recorded c first es)) d name ≡ Some m)
+    → CameWhole c (journal.came c (history_after c first es) d name) m
+    → ¬ (message_awaited (log_told c (history_after c first es)) d name ≡ Some m)
 not_awaited c first es good legal d name m all is =
     go (is_closed h d name) refl (current h d name) refl
     (sym (awaited_is c first es good legal d name) ∙ is) where
       h : History
-      h = recorded c first es
+      h = history_after c first es
 
       go : (b : Bool)
           → is_closed h d name ≡ b
@@ -61,7 +61,7 @@ abbrev IsNow : (awaits released : Option (List ℕ)) → List ℕ → Type 0
 IsNow awaits released m = (awaits ≡ Some m) ⊎ ((awaits ≡ None) × (released ≡ Some m))
 
 abbrev IsFate : Log → Direction → Name → List ℕ → Type 0
-IsFate log d name m = IsNow (awaited log d name) (last_released log d name) m
+IsFate log d name m = IsNow (message_awaited log d name) (last_released log d name) m
 
 -- what was last opened and not aborted since is awaited, or was released
 fate : (log : Log) (d : Direction) (name : Name) (m : List ℕ)
@@ -77,23 +77,23 @@ fate (Opened e i n ∷ log) d name m due now live =
           → IsFate log d name m)
           → ◌≡◌ {A = Option (List ℕ)} (if b then Some n else last_opened log d name) (Some m)
           → (if b then false else is_aborted log d name) ≡ false
-          → IsNow (if b then Some n else awaited log d name)
+          → IsNow (if b then Some n else message_awaited log d name)
           (if b then None else last_released log d name) m
       go true before now live = inl now
       go false before now live = before now live
 fate (Released of n ∷ log) d name m due now live =
     go (is_of_it of d name) refl (fate log d name m due.0 now live) where
-      due_is : is_of_it of d name ≡ true → awaited log d name ≡ Some n
+      due_is : is_of_it of d name ≡ true → message_awaited log d name ≡ Some n
       due_is e =
           let t = of_it of d name e in
           let is : AllDue (Released (Some t.0) n ∷ log) =
           subst (λ (o : Option (Direction × Name)). AllDue (Released o n ∷ log)) t.1 due in
-          (λ i. awaited log (sym t.2 i) (sym t.3 i)) ∙ is.1
+          (λ i. message_awaited log (sym t.2 i) (sym t.3 i)) ∙ is.1
 
       go : (b : Bool)
           → is_of_it of d name ≡ b
           → IsFate log d name m
-          → IsNow (if b then None else awaited log d name)
+          → IsNow (if b then None else message_awaited log d name)
           (if b then Some n else last_released log d name) m
       go true e (inl awaits) = inr (refl, sym (due_is e) ∙ awaits)
       go true e (inr gone) = absurd (let no = sym gone.0 ∙ due_is e in cc)
@@ -103,7 +103,7 @@ fate (Aborted e i ∷ log) d name m due now live =
       go : (b : Bool)
           → (is_aborted log d name ≡ false → IsFate log d name m)
           → (if b then true else is_aborted log d name) ≡ false
-          → IsNow (if b then None else awaited log d name) (last_released log d name) m
+          → IsNow (if b then None else message_awaited log d name) (last_released log d name) m
       go true before live = absurd cc
       go false before live = before live
 fate (Retired e i ∷ log) d name m due now live =
@@ -111,7 +111,7 @@ fate (Retired e i ∷ log) d name m due now live =
       go : (b : Bool)
           → (last_opened log d name ≡ Some m → IsFate log d name m)
           → ◌≡◌ {A = Option (List ℕ)} (if b then None else last_opened log d name) (Some m)
-          → IsNow (if b then None else awaited log d name) (last_released log d name) m
+          → IsNow (if b then None else message_awaited log d name) (last_released log d name) m
       go true before now = absurd cc
       go false before now = before now
 fate (Asked b ∷ log) d name m due now live = fate log d name m due.0 now live
@@ -133,10 +133,11 @@ withholds_nothing c first e parts good l d name m now all live =
       | inl awaits ↦
           absurd (not_awaited c first l.follows.events good t.legal d name m
           (λ k a b. l.comes d name k ∙ all k a b)
-          (ap (λ (log : Log). awaited log d name) t.tells ∙ awaits))
+          (ap (λ (log : Log). message_awaited log d name) t.tells ∙ awaits))
       | inr released ↦ released.1
     ]
 
 pub ends_withhold_nothing : EndsWithholdNothing
 ends_withhold_nothing c first xs good can =
-    withholds_nothing c first (reached c first xs) (came c first xs) good (lead c first xs good can)
+    withholds_nothing c first (ends_reached c first xs) (came c first xs) good
+    (lead c first xs good can)

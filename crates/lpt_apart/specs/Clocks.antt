@@ -8,7 +8,7 @@ use Rattle.lpt_events.specs.Configs.{IsConfig}
 use Rattle.lpt_events.specs.declared.config.Config.{Config}
 use Rattle.lpt_node.specs.Nodes.{no_data}
 use Rattle.lpt_apart.specs.Ends.{no_ends}
-use Rattle.lpt_apart.specs.Moves.{Pair, Move, no_pair, moved, CanMove}
+use Rattle.lpt_apart.specs.Moves.{Pair, Move, no_pair, pair_after, CanMove}
 use Rattle.lpt_apart.specs.Worlds.{IsPromised}
 
 -- a configuration whose clock begins so many ticks later
@@ -41,7 +41,7 @@ no_pair_later c first g k =
 -- two ends after these moves, the newest of which stands first
 abbrev pub after_all : Config → Pair → List Move → Pair
 after_all c p [] = p
-after_all c p (x ∷ xs) = moved c (after_all c p xs) x
+after_all c p (x ∷ xs) = pair_after c (after_all c p xs) x
 
 -- each of these moves can happen after those before it
 abbrev pub CanAll : Config → Pair → List Move → Type 0

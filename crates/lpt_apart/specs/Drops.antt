@@ -16,13 +16,13 @@ use Rattle.lpt_events.specs.declared.side.Side.TheVariants.{Craft}
 use Rattle.lpt_jobs.specs.Jobs.{Ready, claimed_in, head_of, without_front}
 use Rattle.lpt_journal.specs.Jobs.{left_by}
 use Rattle.lpt_model.specs.State.{as_list}
-use Rattle.lpt_node.specs.Accepting.{accepted}
-use Rattle.lpt_node.specs.Jobs.{Execution, claimed, committed, refusal_apply, refusal_claim, refused_front}
+use Rattle.lpt_node.specs.Accepting.{packet_accepted}
+use Rattle.lpt_node.specs.Jobs.{Execution, job_claimed, job_committed, refusal_apply, refusal_claim, refused_front}
 use Rattle.lpt_node.specs.Nodes.{NodeData}
 use Rattle.lpt_apart.specs.Clocks.{Own, later, own_config, no_pair_later}
 use Rattle.lpt_apart.specs.Ends.{Ends, put_out}
-use Rattle.lpt_apart.specs.Facts.{Fact, Aborted, Asked, Log, Released, awaited}
-use Rattle.lpt_apart.specs.Moves.{CanMove, Do, Move, Pair, moved}
+use Rattle.lpt_apart.specs.Facts.{Fact, Aborted, Asked, Log, Released, message_awaited}
+use Rattle.lpt_apart.specs.Moves.{CanMove, Do, Move, Pair, pair_after}
 use Rattle.lpt_apart.specs.Steps.{Accept, Apply, Claim, Commit, Restart, with_report}
 use Rattle.lpt_pus.specs.declared.failure_code.FailureCode.{FailureCode}
 
@@ -30,12 +30,12 @@ use Rattle.lpt_pus.specs.declared.failure_code.FailureCode.{FailureCode}
 
 -- The ends make a move. The spacecraft reads the oldest request that wasn't read; it drops that
 -- one; or it lets the oldest of all go, which was read, or refuses it with a failure code.
-pub data Turn : Type 0 where
-  Makes : Move → Turn
-  Reads : Turn
-  Drops : Turn
-  LetsGo : Turn
-  Refuses : FailureCode → Turn
+pub data ServiceTurn : Type 0 where
+  Makes : Move → ServiceTurn
+  Reads : ServiceTurn
+  Drops : ServiceTurn
+  LetsGo : ServiceTurn
+  Refuses : FailureCode → ServiceTurn
 
 -- Two ends apart. The requests that the spacecraft released and neither executed, let go nor
 -- refused since it was last restarted, the oldest first; in the place of one that was dropped there
@@ -52,7 +52,7 @@ IsNoWork (Do (Commit w)) = ⊥
 IsNoWork _ = ⊤
 
 -- a turn can be taken: a move as before, by whoever reads at once; the node doesn't refuse it
-abbrev pub CanTurn : Config → Service → Turn → Type 0
+abbrev pub CanTurn : Config → Service → ServiceTurn → Type 0
 CanTurn c s (Makes x) = IsNoWork x × CanMove c s.pair x
 CanTurn c s Reads = refusal_claim s.pair.ends.on_craft ≡ None
 CanTurn c s Drops = refusal_claim s.pair.ends.on_craft ≡ None
@@ -67,7 +67,7 @@ abbrev pub waits_after : Config → Ends → Move
     → List (Option (List ℕ))
 waits_after c e (Do (Accept Up b)) ws =
     ws ++ as_list (option_map (λ m. Some m)
-    (accepted Craft c e.on_craft (arrival_in c Up b)).1.released)
+    (packet_accepted Craft c e.on_craft (arrival_in c Up b)).1.released)
 waits_after c e (Do Apply) ws = drop 1 ws
 waits_after c e (Do (Restart Craft)) ws = []
 waits_after c e _ ws = ws
@@ -95,7 +95,8 @@ reading_for apid ms message =
 -- the spacecraft's node once the oldest request that wasn't read is read as this message
 abbrev pub read_as : Config → Ends → List ℕ → NodeData
 read_as c e message =
-    (committed (claimed e.on_craft).0 (claimed e.on_craft).1.boot (claimed e.on_craft).1.job
+    (job_committed (job_claimed e.on_craft).0 (job_claimed e.on_craft).1.boot
+    (job_claimed e.on_craft).1.job
     (reading_for c.apid e.memories message)).0
 
 -- the ends with this node of the spacecraft
@@ -111,26 +112,26 @@ refused_on e x = record e {
 }
 
 -- what a turn makes of two ends: one that is dropped is read as a message of no octets
-abbrev pub turned : Config → Service → Turn → Service
-turned c s (Makes x) = record {
-  pair = moved c s.pair x;
+abbrev pub service_after : Config → Service → ServiceTurn → Service
+service_after c s (Makes x) = record {
+  pair = pair_after c s.pair x;
   waits = waits_after c s.pair.ends x s.waits;
   done = done_after x s.waits s.done;
 }
-turned c s Reads = record s {
+service_after c s Reads = record s {
   pair = with_craft s.pair
-      (read_as c s.pair.ends (claimed s.pair.ends.on_craft).1.message);
+      (read_as c s.pair.ends (job_claimed s.pair.ends.on_craft).1.message);
 }
-turned c s Drops = record s {
+service_after c s Drops = record s {
   pair = with_craft s.pair (read_as c s.pair.ends []);
   waits = set s.waits (claimed_in s.pair.ends.on_craft.jobs.jobs) None;
 }
-turned c s LetsGo = record s {
+service_after c s LetsGo = record s {
   pair = with_craft s.pair
       (record s.pair.ends.on_craft { jobs = without_front s.pair.ends.on_craft.jobs });
   waits = drop 1 s.waits;
 }
-turned c s (Refuses code) = record s {
+service_after c s (Refuses code) = record s {
   pair = record s.pair {
     ends = refused_on s.pair.ends (refused_front c s.pair.ends.on_craft code);
   };
@@ -138,12 +139,12 @@ turned c s (Refuses code) = record s {
 }
 
 -- after these turns, the newest of which stands first
-abbrev pub turned_all : Config → Service → List Turn → Service
+abbrev pub turned_all : Config → Service → List ServiceTurn → Service
 turned_all c s [] = s
-turned_all c s (x ∷ xs) = turned c (turned_all c s xs) x
+turned_all c s (x ∷ xs) = service_after c (turned_all c s xs) x
 
 -- each of them can be taken after those before it
-abbrev pub CanTurnAll : Config → Service → List Turn → Type 0
+abbrev pub CanTurnAll : Config → Service → List ServiceTurn → Type 0
 CanTurnAll c s [] = ⊤
 CanTurnAll c s (x ∷ xs) = CanTurnAll c s xs × CanTurn c (turned_all c s xs) x
 
@@ -159,8 +160,8 @@ IfUp Down A = ⊤
 -- is.
 abbrev pub IsSent : Fact → Log → Type 0
 IsSent (Released None m) log = Contains log (Asked m)
-IsSent (Released (Some t) m) log = IfUp t.0 (awaited log t.0 t.1 ≡ Some m)
-IsSent (Aborted d name) log = IfUp d (is_some (awaited log d name) ≡ true)
+IsSent (Released (Some t) m) log = IfUp t.0 (message_awaited log t.0 t.1 ≡ Some m)
+IsSent (Aborted d name) log = IfUp d (is_some (message_awaited log d name) ≡ true)
 IsSent _ log = ⊤
 
 -- each fact of requests is so after those before it
@@ -187,7 +188,7 @@ no_service c first g k = record { pair = no_pair_later c first g k; waits = []; 
 -- whatever two ends did that read a request at once, and dropped or refused some
 abbrev pub EndsThatDropServe : Type 0
 EndsThatDropServe =
-    (c : Config) (first : Contents) (g : ℕ) (k : Own) (xs : List Turn)
+    (c : Config) (first : Contents) (g : ℕ) (k : Own) (xs : List ServiceTurn)
     → IsConfig (later g c)
     → IsConfig (own_config k c)
     → CanTurnAll c (no_service c first g k) xs

@@ -54,9 +54,9 @@ awaited_after (Restarted side) d name before = before
 
 -- the message last opened under a name, where since then it was neither released nor retired, and
 -- its reception neither expired nor was broken off
-abbrev pub awaited : Log → Direction → Name → Option (List ℕ)
-awaited [] d name = None
-awaited (x ∷ log) d name = awaited_after x d name (awaited log d name)
+abbrev pub message_awaited : Log → Direction → Name → Option (List ℕ)
+message_awaited [] d name = None
+message_awaited (x ∷ log) d name = awaited_after x d name (message_awaited log d name)
 
 -- ---- requests
 
@@ -87,9 +87,9 @@ executed_after (Retired e i) waits before = before
 executed_after (Restarted side) waits before = before
 
 -- the requests that were executed, in their order
-abbrev pub executed : Log → List (List ℕ)
-executed [] = []
-executed (x ∷ log) = executed_after x (waiting log) (executed log)
+abbrev pub requests_executed : Log → List (List ℕ)
+requests_executed [] = []
+requests_executed (x ∷ log) = executed_after x (waiting log) (requests_executed log)
 
 -- ---- the promise
 
@@ -98,8 +98,8 @@ executed (x ∷ log) = executed_after x (waiting log) (executed log)
 -- executed waits.
 abbrev pub IsDue : Fact → Log → Type 0
 IsDue (Released None m) log = Contains log (Asked m)
-IsDue (Released (Some t) m) log = awaited log t.0 t.1 ≡ Some m
-IsDue (Aborted d name) log = is_some (awaited log d name) ≡ true
+IsDue (Released (Some t) m) log = message_awaited log t.0 t.1 ≡ Some m
+IsDue (Aborted d name) log = is_some (message_awaited log d name) ≡ true
 IsDue Executed log = 0 < length (waiting log)
 IsDue _ log = ⊤
 

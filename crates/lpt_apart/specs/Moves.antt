@@ -14,7 +14,7 @@ use Rattle.lpt_events.specs.Sides.{sender_side, receiver_side}
 use Rattle.lpt_events.specs.declared.config.Config.{Config}
 use Rattle.lpt_acts.specs.Acts as act
 use Rattle.lpt_ledger.specs.Marks.{Marks}
-use Rattle.lpt_node.specs.Restarts.{retired}
+use Rattle.lpt_node.specs.Restarts.{name_retired}
 use Rattle.lpt_node.specs.Nodes.{NodeData}
 use Rattle.lpt_apart.specs.Ends.{Ends, no_ends, node_at, with_node, without}
 use Rattle.lpt_apart.specs.Facts.{Retired, is_same}
@@ -42,7 +42,7 @@ abbrev pub freed_by : Pair → Direction → Name → Pair
 freed_by p d name = record {
   ends =
       record (with_node p.ends (receiver_side d)
-      (retired (receiver_side d) (node_at p.ends (receiver_side d)) d name)) {
+      (name_retired (receiver_side d) (node_at p.ends (receiver_side d)) d name)) {
         on_the_way = without d name p.ends.on_the_way;
       };
   freed = λ e i. is_same d name e i || p.freed e i;
@@ -53,7 +53,7 @@ abbrev pub retired_by : Pair → Direction → Name → Pair
 retired_by p d name = record {
   ends =
       record (with_node p.ends (sender_side d)
-      (retired (sender_side d) (node_at p.ends (sender_side d)) d name)) {
+      (name_retired (sender_side d) (node_at p.ends (sender_side d)) d name)) {
         on_the_way = without d name p.ends.on_the_way;
         log = Retired d name ∷ p.ends.log;
       };
@@ -61,10 +61,10 @@ retired_by p d name = record {
 }
 
 -- what a move makes of two ends
-abbrev pub moved : Config → Pair → Move → Pair
-moved c p (Do (Retire d name)) = retired_by p d name
-moved c p (Do x) = record p { ends = after c p.ends x }
-moved c p (Free d name) = freed_by p d name
+abbrev pub pair_after : Config → Pair → Move → Pair
+pair_after c p (Do (Retire d name)) = retired_by p d name
+pair_after c p (Do x) = record p { ends = after c p.ends x }
+pair_after c p (Free d name) = freed_by p d name
 
 -- ---- when a move can happen
 
@@ -81,7 +81,7 @@ CanMove c p (Free d name) = IsAct (act.Retire d name) × IsOver p.ends d name
 -- two ends after these moves, the newest of which stands first
 abbrev pub came_to : Config → Contents → List Move → Pair
 came_to c first [] = no_pair c first
-came_to c first (x ∷ xs) = moved c (came_to c first xs) x
+came_to c first (x ∷ xs) = pair_after c (came_to c first xs) x
 
 -- each move can happen after those before it
 abbrev pub CanMoveAll : Config → Contents → List Move → Type 0

@@ -13,13 +13,13 @@ use Rattle.lpt_journal.specs.Hands.{hand}
 use Rattle.lpt_journal.specs.Journal.{History}
 use Rattle.lpt_journal.specs.Legal.{Legal}
 use Rattle.lpt_journal.specs.Link.{sent}
-use Rattle.lpt_journal.specs.Replies.{recorded}
+use Rattle.lpt_journal.specs.Replies.{history_after}
 use Rattle.lpt_refinement.specs.Shows.{Shows}
 use Rattle.lpt_refinement.specs.Views.{views}
 use Rattle.lpt_apart.specs.Ends.{Ends}
 use Rattle.lpt_apart.specs.Moves.{Move, Do, Free, came_to, CanMoveAll}
-use Rattle.lpt_apart.specs.Steps.{Step, Open, Send, Plain, Finish, Accept, Tick, Expire, Claim, Commit, Apply, Retire, Restart, reached, CanRun}
-use Rattle.lpt_apart.specs.Told.{told}
+use Rattle.lpt_apart.specs.Steps.{Step, Open, Send, Plain, Finish, Accept, Tick, Expire, Claim, Commit, Apply, Retire, Restart, ends_reached, CanRun}
+use Rattle.lpt_apart.specs.Told.{log_told}
 
 -- ---- a world's events as steps
 
@@ -56,22 +56,22 @@ with_step (Some x) xs = x ∷ xs
 -- the steps that a journal is
 abbrev pub steps_of : Config → Contents → List Act → List Step
 steps_of c first [] = []
-steps_of c first (e ∷ es) = with_step (step_of (recorded c first es) e) (steps_of c first es)
+steps_of c first (e ∷ es) = with_step (step_of (history_after c first es) e) (steps_of c first es)
 
 -- two ends have the nodes, jobs and memories of a world that shows this journal, and its log
 pub record AreEndsOf (c : Config) (first : Contents) (es : List Act) (e : Ends) : Type 0 where
   pub world : State
-  pub shown : Shows world (views c first (recorded c first es))
+  pub shown : Shows world (views c first (history_after c first es))
   pub ground : world.on_ground ≡ e.on_ground
   pub craft : world.on_craft ≡ e.on_craft
   pub tickets : world.tickets ≡ e.tickets
   pub memories : world.memories ≡ e.memories
-  pub log : told c (recorded c first es) ≡ e.log
+  pub log : log_told c (history_after c first es) ≡ e.log
 
 -- two ends can do the steps that a journal is, and then have what a world has
 pub record AreSteps (c : Config) (first : Contents) (es : List Act) : Type 0 where
   pub can : CanRun c first (steps_of c first es)
-  pub are : AreEndsOf c first es (reached c first (steps_of c first es))
+  pub are : AreEndsOf c first es (ends_reached c first (steps_of c first es))
 
 -- no clock is set back by an act, as none is in a world
 abbrev pub IsForward : Act → Type 0
@@ -102,7 +102,7 @@ moves_of (x ∷ xs) = Do x ∷ moves_of xs
 -- two ends can do the moves that steps are, and then have what they would have by the steps
 pub record AreMoves (c : Config) (first : Contents) (xs : List Step) : Type 0 where
   pub can : CanMoveAll c first (moves_of xs)
-  pub ends : (came_to c first (moves_of xs)).ends ≡ reached c first xs
+  pub ends : (came_to c first (moves_of xs)).ends ≡ ends_reached c first xs
 
 -- whatever they can do
 abbrev pub StepsAreMoves : Type 0

@@ -10,7 +10,7 @@ use Rattle.lpt_execution.specs.declared.ending.Ending.TheVariants.{Refused}
 use Rattle.lpt_node.specs.Jobs.{Execution, ending_at, executed_ending}
 use Rattle.lpt_pus.specs.declared.failure_code.FailureCode.{FailureCode}
 use Rattle.lpt_apart.specs.Clocks.{Own}
-use Rattle.lpt_apart.specs.Drops.{CanTurnAll, Makes, Refuses, Service, Turn, no_service, reading_for, text_of, turned, turned_all}
+use Rattle.lpt_apart.specs.Drops.{CanTurnAll, Makes, Refuses, Service, ServiceTurn, no_service, reading_for, text_of, service_after, turned_all}
 use Rattle.lpt_apart.specs.Ends.{put_out}
 use Rattle.lpt_apart.specs.Facts.{Executed}
 use Rattle.lpt_apart.specs.Moves.{Do}
@@ -74,16 +74,17 @@ IsToldRefused c code None s new = ⊥
 IsToldRefused c code (Some w) s new = IsTurnedDown c code (text_of w) s new
 
 -- what a turn puts out of requests; other moves execute none
-abbrev pub IsToldOf : Config → Service → Turn → Type 0
-IsToldOf c s (Makes (Do Apply)) = IsTold c (slice_get s.waits 0) s (turned c s (Makes (Do Apply)))
-IsToldOf c s (Makes x) = (turned c s (Makes x)).done ≡ s.done
+abbrev pub IsToldOf : Config → Service → ServiceTurn → Type 0
+IsToldOf c s (Makes (Do Apply)) =
+    IsTold c (slice_get s.waits 0) s (service_after c s (Makes (Do Apply)))
+IsToldOf c s (Makes x) = (service_after c s (Makes x)).done ≡ s.done
 IsToldOf c s (Refuses code) =
-    IsToldRefused c code (slice_get s.waits 0) s (turned c s (Refuses code))
-IsToldOf c s x = SaysNothing s (turned c s x)
+    IsToldRefused c code (slice_get s.waits 0) s (service_after c s (Refuses code))
+IsToldOf c s x = SaysNothing s (service_after c s x)
 
 -- whatever turns two ends took before
 abbrev pub DroppedIsNotReported : Type 0
 DroppedIsNotReported =
-    (c : Config) (first : Contents) (g : ℕ) (k : Own) (x : Turn) (xs : List Turn)
+    (c : Config) (first : Contents) (g : ℕ) (k : Own) (x : ServiceTurn) (xs : List ServiceTurn)
     → CanTurnAll c (no_service c first g k) (x ∷ xs)
     → IsToldOf c (turned_all c (no_service c first g k) xs) x

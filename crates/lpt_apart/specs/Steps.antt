@@ -21,12 +21,12 @@ use Rattle.lpt_ledger.specs.States.{state_at}
 use Rattle.lpt_ledger.specs.declared.state.State.TheVariants.{Closed}
 use Rattle.lpt_node.specs.declared.accepted.Accepted.{Accepted}
 use Rattle.lpt_node.specs.declared.expired.Expired.{Expired}
-use Rattle.lpt_node.specs.Accepting.{accepted}
-use Rattle.lpt_node.specs.Restarts.{retired, restarted}
-use Rattle.lpt_node.specs.Jobs.{Execution, refusal_claim, claimed, committed, refusal_apply, executed}
+use Rattle.lpt_node.specs.Accepting.{packet_accepted}
+use Rattle.lpt_node.specs.Restarts.{name_retired, node_restarted}
+use Rattle.lpt_node.specs.Jobs.{Execution, refusal_claim, job_claimed, job_committed, refusal_apply, job_executed}
 use Rattle.lpt_node.specs.Nodes.{NodeData}
 use Rattle.lpt_node.specs.Requests.{refusal_plain, plain_made}
-use Rattle.lpt_node.specs.Sending.{refusal_open, opened, refusal_send, sent, refusal_finish, closed}
+use Rattle.lpt_node.specs.Sending.{refusal_open, message_opened, refusal_send, part_sent, refusal_finish, sender_closed}
 use Rattle.lpt_node.specs.Times.{refusal_tick, can_set_back, turned_so, refusal_end, which_ends, expired_of}
 use Rattle.lpt_model.specs.State.{as_list, released_of}
 use Rattle.lpt_model.specs.Tickets.{ticket_of, with_ticket}
@@ -84,7 +84,7 @@ is_harmless (AnAbort name reason) = true
 --
 -- Assumed: Each plain request or part that comes was sent by the other end, and each part was
 -- sent after its receiver last freed its name: no damage passes the 16-bit checksum, no octets
--- inside a packet are taken for a packet on the link, nobody forges.
+-- inside a packet are taken for one, nobody forges.
 abbrev pub MayCome : Config → Ends → Direction → List ℕ → Type 0
 MayCome c e d b = IsOnTheWay e d b ⊎ (is_harmless (arrival_in c d b) ≡ true)
 
@@ -174,7 +174,7 @@ abbrev pub committed_on : Config → Ends → Worker → Option Job → Ends
 committed_on c e w None = e
 committed_on c e w (Some t) =
     record e {
-      on_craft = (committed e.on_craft t.boot t.job (record {
+      on_craft = (job_committed e.on_craft t.boot t.job (record {
         apid = c.apid;
         sizes = sizes_of e.memories;
         message = t.message;
@@ -202,8 +202,8 @@ executed_on e x =
 abbrev pub retired_on : Ends → Direction → Name → Ends
 retired_on e d name =
     record e {
-      on_ground = retired Ground e.on_ground d name;
-      on_craft = retired Craft e.on_craft d name;
+      on_ground = name_retired Ground e.on_ground d name;
+      on_craft = name_retired Craft e.on_craft d name;
       on_the_way = without d name e.on_the_way;
       log = Retired d name ∷ e.log;
     }
@@ -211,39 +211,39 @@ retired_on e d name =
 -- what a step makes of two ends
 abbrev pub after : Config → Ends → Step → Ends
 after c e (Open d name m) =
-    record (with_node e (sender_side d) (opened (node_at e (sender_side d)) name m)) {
+    record (with_node e (sender_side d) (message_opened (node_at e (sender_side d)) name m)) {
       log = Opened d name m ∷ e.log;
     }
 after c e (Send d name k) =
-    sent_on e d name (sent (sender_side d) c (node_at e (sender_side d)) name k)
+    sent_on e d name (part_sent (sender_side d) c (node_at e (sender_side d)) name k)
 after c e (Plain source flags service subtype body) =
     requested_on e (plain_made c e.on_ground source flags service subtype body)
 after c e (Finish d name) =
-    with_node e (sender_side d) (closed (node_at e (sender_side d)) name)
+    with_node e (sender_side d) (sender_closed (node_at e (sender_side d)) name)
 after c e (Accept d b) =
     accepted_on e d
-    (accepted (receiver_side d) c (node_at e (receiver_side d)) (arrival_in c d b))
+    (packet_accepted (receiver_side d) c (node_at e (receiver_side d)) (arrival_in c d b))
 after c e (Tick side turn) = with_node e side (turned_so turn (node_at e side))
 after c e (Expire side which) =
     expired_on e side
     (expired_of side c (node_at e side) (which_ends c (node_at e side) which))
-after c e (Claim w) = claimed_on e w (claimed e.on_craft)
+after c e (Claim w) = claimed_on e w (job_claimed e.on_craft)
 after c e (Commit w) = committed_on c e w (ticket_of e.tickets w)
-after c e Apply = executed_on e (executed c e.on_craft e.memories)
+after c e Apply = executed_on e (job_executed c e.on_craft e.memories)
 after c e (Retire d name) = retired_on e d name
 after c e (Restart side) =
-    record (with_node e side (restarted (node_at e side))) {
+    record (with_node e side (node_restarted (node_at e side))) {
       log = Restarted side ∷ e.log;
     }
 
 -- ---- runs
 
 -- two ends after these steps, the newest of which stands first
-abbrev pub reached : Config → Contents → List Step → Ends
-reached c first [] = no_ends c first
-reached c first (x ∷ xs) = after c (reached c first xs) x
+abbrev pub ends_reached : Config → Contents → List Step → Ends
+ends_reached c first [] = no_ends c first
+ends_reached c first (x ∷ xs) = after c (ends_reached c first xs) x
 
 -- each step can happen after those before it
 abbrev pub CanRun : Config → Contents → List Step → Type 0
 CanRun c first [] = ⊤
-CanRun c first (x ∷ xs) = CanRun c first xs × CanHappen c (reached c first xs) x
+CanRun c first (x ∷ xs) = CanRun c first xs × CanHappen c (ends_reached c first xs) x

@@ -48,6 +48,6 @@ with_entry c x h log =
     (with_ended x.event x.reply.answer (with_releases (released_by c x h) log)))
 
 -- the log that a history tells
-abbrev pub told : Config → History → Log
-told c [] = []
-told c (x ∷ h) = with_entry c x h (told c h)
+abbrev pub log_told : Config → History → Log
+log_told c [] = []
+log_told c (x ∷ h) = with_entry c x h (log_told c h)

@@ -9,13 +9,13 @@ use Rattle.lpt_events.specs.Configs.{IsConfig}
 use Rattle.lpt_events.specs.declared.config.Config.{Config}
 use Rattle.lpt_apart.specs.Clocks.{Own, later, own_config}
 use Rattle.lpt_node.specs.Jobs.{refused_front}
-use Rattle.lpt_apart.specs.Drops.{Drops, LetsGo, Makes, Reads, Refuses, Service, Turn, CanTurnAll, no_service, turned_all}
+use Rattle.lpt_apart.specs.Drops.{Drops, LetsGo, Makes, Reads, Refuses, Service, ServiceTurn, CanTurnAll, no_service, turned_all}
 use Rattle.lpt_apart.specs.Facts.{Log}
 use Rattle.lpt_apart.specs.Whole.{CameWhole, came_moved, is_aborted, is_reported, last_opened, last_released}
 
 -- whether part k of a transaction came after a turn of these ends: no part comes, and none is lost,
 -- where a request is read, dropped, let go or refused, unless a report of data is opened
-abbrev pub came_turned : Config → Service → Turn → Direction → Name → (k : ℕ) → Bool → Bool
+abbrev pub came_turned : Config → Service → ServiceTurn → Direction → Name → (k : ℕ) → Bool → Bool
 came_turned c s (Makes x) d name k before = came_moved c s.pair x d name k before
 came_turned c s Reads d name k before = before
 came_turned c s Drops d name k before = before
@@ -26,7 +26,7 @@ came_turned c s (Refuses code) d name k before =
 
 -- whether part k of a transaction was handed over in these turns since it was opened, and since its
 -- receiver was restarted
-abbrev pub came_with : Config → Service → List Turn → Direction → Name → (k : ℕ) → Bool
+abbrev pub came_with : Config → Service → List ServiceTurn → Direction → Name → (k : ℕ) → Bool
 came_with c s [] d name k = false
 came_with c s (x ∷ xs) d name k =
     came_turned c (turned_all c s xs) x d name k (came_with c s xs d name k)
@@ -44,7 +44,7 @@ WithholdsNoRequest c log came =
 -- whatever two ends did that read a request at once, and dropped or refused some
 abbrev pub EndsThatDropWithholdNoRequest : Type 0
 EndsThatDropWithholdNoRequest =
-    (c : Config) (first : Contents) (g : ℕ) (k : Own) (xs : List Turn)
+    (c : Config) (first : Contents) (g : ℕ) (k : Own) (xs : List ServiceTurn)
     → IsConfig (later g c)
     → IsConfig (own_config k c)
     → CanTurnAll c (no_service c first g k) xs

@@ -14,17 +14,17 @@ use Rattle.lpt_events.specs.declared.config.Config.{Config}
 use Rattle.lpt_acts.specs.Acts.{Act}
 use Rattle.lpt_events.specs.declared.outcome.Outcome.{Outcome}
 use Rattle.lpt_events.specs.declared.reply.Answer.TheVariants.{Delivered}
-use Rattle.lpt_node.specs.Accepting.{accepted}
-use Rattle.lpt_node.specs.Jobs.{executed}
+use Rattle.lpt_node.specs.Accepting.{packet_accepted}
+use Rattle.lpt_node.specs.Jobs.{job_executed}
 use Rattle.lpt_journal.specs.Legal.{Legal}
-use Rattle.lpt_journal.specs.Replies.{recorded}
+use Rattle.lpt_journal.specs.Replies.{history_after}
 use Rattle.lpt_journal.specs.Whole as journal
 use Rattle.lpt_apart.specs.Clocks.{Own, later, own_config, no_pair_later, after_all, CanAll}
 use Rattle.lpt_apart.specs.Ends.{Ends, node_at}
 use Rattle.lpt_apart.specs.Facts.{Fact, Opened, Released, Aborted, Retired, Log, is_same, is_of_it}
 use Rattle.lpt_apart.specs.Moves.{Pair, Move, Do, Free, came_to, CanMoveAll}
 use Rattle.lpt_apart.specs.Plays.{AllForward, steps_of, moves_of}
-use Rattle.lpt_apart.specs.Steps.{Step, Open, Accept, Apply, Restart, reached, CanRun}
+use Rattle.lpt_apart.specs.Steps.{Step, Open, Accept, Apply, Restart, ends_reached, CanRun}
 
 -- ---- what came
 
@@ -44,10 +44,11 @@ abbrev pub came_after : Config → Ends → Step → Direction → Name → (k :
 came_after c e (Open i named m) d name k before = if is_same i named d name then false else before
 came_after c e (Accept i b) d name k before =
     came_by i (arrival_in c i b)
-    (accepted (receiver_side i) c (node_at e (receiver_side i)) (arrival_in c i b)).1.outcome d name
+    (packet_accepted (receiver_side i) c (node_at e (receiver_side i)) (arrival_in c i b)).1.outcome
+    d name
     k before
 came_after c e Apply d name k before =
-    if is_reported (executed c e.on_craft e.memories).0.1.opened d name then false else before
+    if is_reported (job_executed c e.on_craft e.memories).0.1.opened d name then false else before
 came_after c e (Restart side) d name k before = not (same_side side (receiver_side d)) && before
 came_after c e _ d name k before = before
 
@@ -56,7 +57,7 @@ came_after c e _ d name k before = before
 abbrev pub came : Config → Contents → List Step → Direction → Name → (k : ℕ) → Bool
 came c first [] d name k = false
 came c first (x ∷ xs) d name k =
-    came_after c (reached c first xs) x d name k (came c first xs d name k)
+    came_after c (ends_reached c first xs) x d name k (came c first xs d name k)
 
 -- the same of a move of these ends
 abbrev pub came_moved : Config → Pair → Move → Direction → Name → (k : ℕ) → Bool → Bool
@@ -132,7 +133,7 @@ EndsWithholdNothing =
     (c : Config) (first : Contents) (xs : List Step)
     → IsConfig c
     → CanRun c first xs
-    → WithholdsNothing c (reached c first xs).log (came c first xs)
+    → WithholdsNothing c (ends_reached c first xs).log (came c first xs)
 
 -- whatever moves they did
 abbrev pub EndsApartWithholdNothing : Type 0
@@ -161,7 +162,8 @@ WorldsBringTheSame =
     → IsConfig c
     → AllForward es
     → Legal c first es
-    → came c first (steps_of c first es) d name k ≡ journal.came c (recorded c first es) d name k
+    → came c first (steps_of c first es) d name k
+    ≡ journal.came c (history_after c first es) d name k
 
 -- the parts that came by steps come by the moves that they are
 abbrev pub MovesBringTheSame : Type 0

@@ -13,13 +13,13 @@ use Rattle.lpt_model.specs.State.{State}
 use Rattle.lpt_model.specs.Tickets.{ticket_of}
 use Rattle.lpt_journal.specs.Jobs.{left_by}
 use Rattle.lpt_journal.specs.Legal.{Legal}
-use Rattle.lpt_journal.specs.Replies.{recorded}
+use Rattle.lpt_journal.specs.Replies.{history_after}
 use Rattle.lpt_refinement.specs.Shows.{Shows}
 use Rattle.lpt_refinement.specs.Views.{views}
 use Rattle.lpt_apart.specs.Ends.{Ends}
-use Rattle.lpt_apart.specs.Facts.{AllDue, executed, waiting}
-use Rattle.lpt_apart.specs.Steps.{Step, reached, CanRun}
-use Rattle.lpt_apart.specs.Told.{told}
+use Rattle.lpt_apart.specs.Facts.{AllDue, requests_executed, waiting}
+use Rattle.lpt_apart.specs.Steps.{Step, ends_reached, CanRun}
+use Rattle.lpt_apart.specs.Told.{log_told}
 
 -- What the spacecraft's node asks for besides: a job that a worker has was claimed and not handed
 -- in, where it is of this boot; and what would be executed was read for these memories.
@@ -35,12 +35,12 @@ pub record IsAWorld (c : Config) (first : Contents) (e : Ends) : Type 0 where
   pub events : List Act
   pub world : State
   pub legal : Legal c first events
-  pub shown : Shows world (views c first (recorded c first events))
+  pub shown : Shows world (views c first (history_after c first events))
   pub ground : world.on_ground ≡ e.on_ground
   pub craft : world.on_craft ≡ e.on_craft
   pub tickets : world.tickets ≡ e.tickets
   pub memories : world.memories ≡ e.memories
-  pub log : told c (recorded c first events) ≡ e.log
+  pub log : log_told c (history_after c first events) ≡ e.log
   pub ready : IsReadyNode c e
 
 -- whatever steps two ends did
@@ -49,7 +49,7 @@ EndsAreAWorld =
     (c : Config) (first : Contents) (xs : List Step)
     → IsConfig c
     → CanRun c first xs
-    → IsAWorld c first (reached c first xs)
+    → IsAWorld c first (ends_reached c first xs)
 
 -- Each fact of the log was due: a message that was released under a name was the awaited one, and
 -- a plain request one that ground asked. The memories are their first content, changed by the
@@ -57,7 +57,7 @@ EndsAreAWorld =
 -- read, is the oldest request that waits.
 pub record IsPromised (c : Config) (first : Contents) (e : Ends) : Type 0 where
   pub due : AllDue e.log
-  pub memories : e.memories ≡ left_by c.apid (executed e.log) first
+  pub memories : e.memories ≡ left_by c.apid (requests_executed e.log) first
   pub next : (r : Source)
       → head_of e.on_craft.jobs.jobs ≡ Ready r
       → slice_get (waiting e.log) 0 ≡ Some r.message
@@ -68,4 +68,4 @@ EndsKeepThePromise =
     (c : Config) (first : Contents) (xs : List Step)
     → IsConfig c
     → CanRun c first xs
-    → IsPromised c first (reached c first xs)
+    → IsPromised c first (ends_reached c first xs)

@@ -7,7 +7,7 @@ use Rattle.std.specs.Option.{option_map, option_map_or}
 use Rattle.lpt_packet.specs.declared.direction.Direction.TheVariants.{Up, Down}
 use Rattle.lpt_packet.specs.Checksums.{checksum, octets_in, shift_all}
 use Rattle.lpt_packet.specs.Names.{Name, name_cmp}
-use Rattle.lpt_packet.specs.Packets.{seen, spelling}
+use Rattle.lpt_packet.specs.Packets.{packet_seen, spelling}
 use Rattle.lpt_packet.proofs.NameLemmas.{name_cmp-IsAntisymmetric, name_cmp_total}
 use Rattle.lpt_pus.specs.Commands.{tc_field, tc_verdict}
 use Rattle.lpt_pus.specs.Telemetry.{tm_field, tm_verdict}
@@ -24,12 +24,12 @@ use Rattle.lpt_events.specs.declared.config.Config.{Config}
 use Rattle.lpt_events.specs.declared.lane.Lane.TheVariants.{S1, S2}
 use Rattle.lpt_events.specs.declared.side.Side.TheVariants.{Craft}
 use Rattle.lpt_acts.specs.Acts.{Act, Open, Send, Take, Deliver, Tick, Expire, On, Back, Within}
-use Rattle.lpt_journal.specs.Replies.{recorded}
+use Rattle.lpt_journal.specs.Replies.{history_after}
 use Rattle.lpt_apart.specs.Ends.{Ends}
-use Rattle.lpt_apart.specs.Moves.{Pair, Move, Do, no_pair, moved, CanMove, came_to, CanMoveAll}
+use Rattle.lpt_apart.specs.Moves.{Pair, Move, Do, no_pair, pair_after, CanMove, came_to, CanMoveAll}
 use Rattle.lpt_apart.specs.Plays.{AllForward, steps_of, moves_of}
 use Rattle.lpt_apart.specs.Steps as steps
-use Rattle.lpt_apart.specs.Told.{told}
+use Rattle.lpt_apart.specs.Told.{log_told}
 use Rattle.lpt_apart.proofs.Freely.{steps_are_moves}
 use Rattle.lpt_apart.proofs.Played.{worlds_are_ends}
 use Rattle.lpt_journal_examples.specs.Passes.{IsPass, usual, usual_memories, m20, m9, own}
@@ -90,7 +90,7 @@ come (x ∷ xs) can =
     let rest = come xs can.0 in
     record {
       can = (rest.can, subst (λ (p : Pair). CanMove usual p x) (sym rest.is) can.1);
-      is = ap (λ (p : Pair). moved usual p x) rest.is;
+      is = ap (λ (p : Pair). pair_after usual p x) rest.is;
     }
 
 -- ---- a world that does the rest
@@ -104,7 +104,7 @@ journal =
 
 -- none of its acts is refused
 passes : IsPass usual journal
-unfolding seen spelling checksum octets_in shift_all tc_field tc_verdict tm_field tm_verdict body_of
+unfolding packet_seen spelling checksum octets_in shift_all tc_field tc_verdict tm_field tm_verdict body_of
     part_verdict abort_body abort_verdict arrival
 passes = usual_pass journal refl
 
@@ -113,12 +113,12 @@ forward = all_are_forward (reverse journal) refl
 
 -- its moves, and its log
 the_moves : moves_of (steps_of usual usual_memories (reverse journal)) ≡ reverse narrow_moves
-unfolding seen spelling checksum octets_in shift_all tc_field tc_verdict tm_field tm_verdict body_of
+unfolding packet_seen spelling checksum octets_in shift_all tc_field tc_verdict tm_field tm_verdict body_of
     part_verdict abort_body abort_verdict arrival
 the_moves = ap moves_of (steps_is usual (reverse journal))
 
-logged : told usual (recorded usual usual_memories (reverse journal)) ≡ reverse narrow_log
-unfolding seen spelling checksum octets_in shift_all tc_field tc_verdict tm_field tm_verdict body_of
+logged : log_told usual (history_after usual usual_memories (reverse journal)) ≡ reverse narrow_log
+unfolding packet_seen spelling checksum octets_in shift_all tc_field tc_verdict tm_field tm_verdict body_of
     part_verdict abort_body abort_verdict arrival
 logged = told_of usual (reverse journal)
 

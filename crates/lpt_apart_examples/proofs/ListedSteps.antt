@@ -6,11 +6,11 @@ use Rattle.lpt_events.specs.declared.entry.Release.{Release}
 use Rattle.lpt_acts.specs.Acts.{Act, Back, On, Tick, Within}
 use Rattle.lpt_journal.specs.Journal.{Recorded, History, with_all}
 use Rattle.lpt_journal.specs.Releases.{released_by, releases}
-use Rattle.lpt_journal.specs.Replies.{recorded}
+use Rattle.lpt_journal.specs.Replies.{history_after}
 use Rattle.lpt_apart.specs.Facts.{Log}
 use Rattle.lpt_apart.specs.Plays.{AllForward, IsForward, step_of, with_step, steps_of}
 use Rattle.lpt_apart.specs.Steps.{Step}
-use Rattle.lpt_apart.specs.Told.{with_openings, with_releases, with_ended, with_event, told}
+use Rattle.lpt_apart.specs.Told.{with_openings, with_releases, with_ended, with_event, log_told}
 use Rattle.lpt_journal_examples.specs.Passes.{usual_memories}
 use Rattle.lpt_journal_examples.proofs.Listed.{recorded_listed, recorded_is}
 use Rattle.lpt_journal_examples.proofs.ListedReleases.{releases_listed, releases_is}
@@ -58,7 +58,7 @@ told_listed c (x ∷ h) =
     (with_openings x.opens
     (with_ended x.event x.reply.answer (with_releases (newly c x h) (told_listed c h))))
 
-told_is : (c : Config) (h : History) → told c h ≡ told_listed c h
+told_is : (c : Config) (h : History) → log_told c h ≡ told_listed c h
 told_is c [] = refl
 told_is c (x ∷ h) = λ i.
     with_event x.event x.puts
@@ -67,8 +67,8 @@ told_is c (x ∷ h) = λ i.
 
 -- the log of a journal, by the lists
 pub told_of : (c : Config) (es : List Act)
-    → told c (recorded c usual_memories es) ≡ told_listed c (recorded_listed c es)
-told_of c es = ap (told c) (recorded_is c es) ∙ told_is c (recorded_listed c es)
+    → log_told c (history_after c usual_memories es) ≡ told_listed c (recorded_listed c es)
+told_of c es = ap (log_told c) (recorded_is c es) ∙ told_is c (recorded_listed c es)
 
 -- ---- clocks
 

@@ -7,8 +7,8 @@ use Rattle.lpt_memory.specs.Memories.{Contents}
 use Rattle.lpt_events.specs.Arrivals.{Arrival, AnAbort, arrival_in}
 use Rattle.lpt_events.specs.declared.config.Config.{Config}
 use Rattle.lpt_events.specs.declared.side.Side.TheVariants.{Ground}
-use Rattle.lpt_node.specs.Accepting.{accepted}
-use Rattle.lpt_apart.specs.Moves.{Pair, Move, Do, moved, CanMove, came_to, CanMoveAll}
+use Rattle.lpt_node.specs.Accepting.{packet_accepted}
+use Rattle.lpt_apart.specs.Moves.{Pair, Move, Do, pair_after, CanMove, came_to, CanMoveAll}
 use Rattle.lpt_apart.specs.Steps.{Finish, Accept, is_harmless, accepted_on}
 use Rattle.lpt_apart.specs.Whole.{came_moved, came_in}
 
@@ -30,14 +30,14 @@ swapped c first [] before name b why is can =
       can = (can.0, inr (ap is_harmless is));
       is =
           ap (λ (a : Arrival). record p {
-            ends = accepted_on p.ends Down (accepted Ground c p.ends.on_ground a);
+            ends = accepted_on p.ends Down (packet_accepted Ground c p.ends.on_ground a);
           }) is;
     }
 swapped c first (x ∷ behind) before name b why is can =
     let rest = swapped c first behind before name b why is can.0 in
     record {
       can = (rest.can, subst (λ (p : Pair). CanMove c p x) (sym rest.is) can.1);
-      is = ap (λ (p : Pair). moved c p x) rest.is;
+      is = ap (λ (p : Pair). pair_after c p x) rest.is;
     }
 
 -- and the same parts came up

@@ -2,7 +2,7 @@
 use Rattle.std.specs.Prelude.{◌≡◌, ℕ, true, List, [], ◌∷◌}
 use Rattle.lpt_packet.specs.declared.direction.Direction.TheVariants.{Up}
 use Rattle.lpt_events.specs.declared.side.Side.TheVariants.{Ground}
-use Rattle.lpt_node.specs.Sending.{sent}
+use Rattle.lpt_node.specs.Sending.{part_sent}
 use Rattle.lpt_acts.specs.Acts.{limits_of}
 use Rattle.lpt_apart.specs.Clocks.{after_all, no_pair_later}
 use Rattle.lpt_apart.specs.Moves.{CanMove, Move, Pair, Do, Free}
@@ -36,7 +36,8 @@ second_part = part_line usual (after_all usual start before_second) before_secon
 
 -- the octets of the second
 abbrev pub second_octets : List ℕ
-second_octets = (sent Ground usual (after_all usual start before_second).ends.on_ground (own 7) 1).1
+second_octets =
+    (part_sent Ground usual (after_all usual start before_second).ends.on_ground (own 7) 1).1
 
 -- ---- the run
 

@@ -38,16 +38,16 @@ last_of_short =
     24 ∷ 100 ∷ 192 ∷ 6 ∷ 0 ∷ 11 ∷ 32 ∷ 13 ∷ 11 ∷ 0 ∷ 1 ∷ 0 ∷ 7 ∷ 0 ∷ 2 ∷ 8 ∷ 31 ∷ 130 ∷ []
 
 -- a report that the reception of the name expired, which the spacecraft never made
-abbrev pub forged : List ℕ
-forged =
+abbrev pub forged_report : List ℕ
+forged_report =
     8 ∷ 100 ∷ 192 ∷ 0 ∷ 0 ∷ 15 ∷ 32 ∷ 13 ∷ 16 ∷ 0 ∷ 0 ∷ 0 ∷ 1 ∷ 0 ∷ 0 ∷ 0 ∷ 0 ∷ 0 ∷ 7 ∷ 1 ∷ 206
     ∷ 236 ∷ []
 
 -- ---- the run
 
 -- the moves, the oldest first
-abbrev pub worked : List Move
-worked =
+abbrev pub worked_moves : List Move
+worked_moves =
     Do (Plain 1 0 6 2 load) ∷ Do (Accept Up load_packet)
     ∷ Do (Claim W1) ∷ Do (Commit W1) ∷ Do Apply
     ∷ Do (Accept Up load_packet)
@@ -55,7 +55,7 @@ worked =
     ∷ Do (Send Up (own 7) 1) ∷ Do (Send Up (own 7) 2) ∷ Do (Send Up (own 7) 3)
     ∷ Do (Accept Up last_of_long) ∷ Do (Accept Up first_of_long) ∷ Do (Accept Up first_of_long)
     ∷ Do (Send Up (own 7) 2) ∷ Do (Accept Up second_again) ∷ Do (Accept Up last_of_long)
-    ∷ Do (Accept Down forged)
+    ∷ Do (Accept Down forged_report)
     ∷ Free Up (own 7) ∷ Do (Retire Up (own 7))
     ∷ Do (Open Up (own 7) m9) ∷ Do (Send Up (own 7) 1) ∷ Do (Accept Up first_of_short)
     ∷ Do (Restart Craft)

@@ -8,7 +8,7 @@ ghost use Rattle.lpt_apart.specs.Whole.{came_in, CameWhole};
 ghost use Rattle.lpt_journal_examples.specs.Passes.{own, m9, usual, usual_memories, loaded_memories};
 ghost use Rattle.lpt_apart_examples.specs.Late.{before_late, late_acts, late_moves, start, FreesTooEarly};
 ghost use Rattle.lpt_apart_examples.specs.Limits.{clock_moves, narrow_log, narrow_moves};
-ghost use Rattle.lpt_apart_examples.specs.Runs.{worked, worked_log};
+ghost use Rattle.lpt_apart_examples.specs.Runs.{worked_moves, worked_log};
 ghost use Rattle.lpt_freeing.specs.Freeing.{with_acts, CanActAll};
 
 /// Ground asks for a load, which is executed; its packet comes again, and is released again. A
@@ -19,10 +19,13 @@ ghost use Rattle.lpt_freeing.specs.Freeing.{with_acts, CanActAll};
 /// again after that, and the message is released: each of its parts came since the restart.
 pub fn forged_and_reused_can_be()
     ensures configured { IsConfig usual }
-    ensures can { CanMoveAll usual usual_memories (reverse worked) }
-    ensures log { (came_to usual usual_memories (reverse worked)).ends.log ≡ reverse worked_log }
-    ensures left { (came_to usual usual_memories (reverse worked)).ends.memories ≡ loaded_memories }
-    ensures whole { CameWhole usual (came_in usual usual_memories (reverse worked) Up (own 7)) m9 }
+    ensures can { CanMoveAll usual usual_memories (reverse worked_moves) }
+    ensures log { (came_to usual usual_memories (reverse worked_moves)).ends.log
+        ≡ reverse worked_log }
+    ensures left { (came_to usual usual_memories (reverse worked_moves)).ends.memories
+        ≡ loaded_memories }
+    ensures whole { CameWhole usual (came_in usual usual_memories (reverse worked_moves) Up (own 7))
+        m9 }
 {}
 
 /// Ends free a name by lines. Ground opens a message, and sends a part of it, which is late. It is

@@ -2,22 +2,22 @@
 use Rattle.std.proofs.Common.{◌≡◌, ◌∙◌, ap, sym, subst, refl, ℕ, ◌+◌, ◌<◌, ◌^◌, List, [], ◌∷◌, Result, Ok}
 use Rattle.lpt_apart.specs.Clocks.{CanAll, after_all, no_pair_later}
 use Rattle.lpt_apart.specs.Ends.{node_at}
-use Rattle.lpt_apart.specs.Moves.{CanMove, Move, Pair, moved}
+use Rattle.lpt_apart.specs.Moves.{CanMove, Move, Pair, pair_after}
 use Rattle.lpt_apart.specs.Whole.{came_since, WithholdsNothing}
 use Rattle.lpt_apart.specs.Worlds.{IsPromised}
 use Rattle.lpt_apart.proofs.Clocks.{begun_later, ends_with_clocks_withhold_nothing, joined, reached_keep}
 use Rattle.lpt_acts.specs.Acts.{limits_of}
 use Rattle.lpt_apart_kept.specs.Deeds.{end_of, with_memories, with_read}
-use Rattle.lpt_apart_kept.specs.Resets.{CanLive, CanLiveAll, Deed, Lived, Make, MakeForgotten, Reset, ResetEndsKeepThePromise, Write, just_written, left_without, lived, lived_all, made, made_forgotten, side_of}
+use Rattle.lpt_apart_kept.specs.Resets.{CanLive, CanLiveAll, Deed, Lived, Make, MakeForgotten, Reset, ResetEndsKeepThePromise, Write, just_written, left_without, lived_after, lived_all, move_made, made_forgotten, side_of}
 use Rattle.lpt_apart_kept.proofs.Readings.{bound_within}
 use Rattle.lpt_apart_kept.proofs.Local.{Aboard, aboard, is_of_craft, is_of_ground, next_aboard, next_ground}
 use Rattle.lpt_events.specs.declared.config.Config.{Config}
 use Rattle.lpt_events.specs.declared.side.Side.{Side}
 use Rattle.lpt_events.specs.declared.side.Side.TheVariants.{Ground, Craft}
 use Rattle.lpt_node.specs.Nodes.{NodeData, NodeView}
-use Rattle.lpt_node.specs.Restarts.{node_within, limits_at, restarted}
+use Rattle.lpt_node.specs.Restarts.{node_within, limits_at, node_restarted}
 use Rattle.lpt_state.specs.Lastings.{IsBoundAlike, IsEnd, restarted_as}
-use Rattle.lpt_state.specs.Spellings.{spelled}
+use Rattle.lpt_state.specs.Spellings.{state_spelled}
 use Rattle.lpt_state.specs.Verdicts.{reading}
 use Rattle.lpt_state.specs.declared.fault.StateFault.{StateFault}
 use Rattle.lpt_state.proofs.LawLemmas.{written_is_read_as}
@@ -52,7 +52,7 @@ module _ (c : Config) (start : Pair) where
   ground_both : (x : Move) (p q : Pair)
       → side_of x ≡ Ground
       → p.ends.on_ground ≡ q.ends.on_ground
-      → (moved c p x).ends.on_ground ≡ (moved c q x).ends.on_ground
+      → (pair_after c p x).ends.on_ground ≡ (pair_after c q x).ends.on_ground
   ground_both x p q of same =
       (is_of_ground c p x of).next ∙ ap (next_ground c x) same ∙ sym (is_of_ground c q x of).next
 
@@ -60,7 +60,7 @@ module _ (c : Config) (start : Pair) where
   craft_both : (x : Move) (p q : Pair)
       → side_of x ≡ Craft
       → aboard p.ends ≡ aboard q.ends
-      → aboard (moved c p x).ends ≡ aboard (moved c q x).ends
+      → aboard (pair_after c p x).ends ≡ aboard (pair_after c q x).ends
   craft_both x p q of same =
       (is_of_craft c p x of).next ∙ ap (next_aboard c x) same ∙ sym (is_of_craft c q x of).next
 
@@ -68,11 +68,11 @@ module _ (c : Config) (start : Pair) where
       → side_of x ≡ Ground
       → IsLived l
       → CanLive c start l (Make x)
-      → IsLived (made c l Ground x)
+      → IsLived (move_made c l Ground x)
   moves_ground l x of r can =
-      let left : aboard (moved c (at l.but_craft) x).ends ≡ aboard (at l.but_craft).ends =
+      let left : aboard (pair_after c (at l.but_craft) x).ends ≡ aboard (at l.but_craft).ends =
       (is_of_ground c (at l.but_craft) x of).leaves in
-      let all_left : aboard (moved c (at l.moves) x).ends ≡ aboard (at l.moves).ends =
+      let all_left : aboard (pair_after c (at l.moves) x).ends ≡ aboard (at l.moves).ends =
       (is_of_ground c (at l.moves) x of).leaves in
       record {
         can = (r.can, can);
@@ -93,11 +93,12 @@ module _ (c : Config) (start : Pair) where
       → side_of x ≡ Craft
       → IsLived l
       → CanLive c start l (Make x)
-      → IsLived (made c l Craft x)
+      → IsLived (move_made c l Craft x)
   moves_craft l x of r can =
-      let left : (moved c (at l.but_ground) x).ends.on_ground ≡ (at l.but_ground).ends.on_ground =
+      let left : (pair_after c (at l.but_ground) x).ends.on_ground
+      ≡ (at l.but_ground).ends.on_ground =
       (is_of_craft c (at l.but_ground) x of).leaves in
-      let all_left : (moved c (at l.moves) x).ends.on_ground ≡ (at l.moves).ends.on_ground =
+      let all_left : (pair_after c (at l.moves) x).ends.on_ground ≡ (at l.moves).ends.on_ground =
       (is_of_craft c (at l.moves) x of).leaves in
       record {
         can = (r.can, can);
@@ -118,7 +119,7 @@ module _ (c : Config) (start : Pair) where
       → side_of x ≡ side
       → IsLived l
       → CanLive c start l (Make x)
-      → IsLived (made c l side x)
+      → IsLived (move_made c l side x)
   moves_by l x Ground of r can = moves_ground l x of r can
   moves_by l x Craft of r can = moves_craft l x of r can
 
@@ -126,12 +127,13 @@ module _ (c : Config) (start : Pair) where
 
   -- a restart of this side forgets a move
   record IsForgottenBy (p : Pair) (x : Move) (side : Side) : Type 0 where
-    node : restarted (node_at (moved c p x).ends side) ≡ restarted (node_at p.ends side)
-    memories : (moved c p x).ends.memories ≡ p.ends.memories
+    node : node_restarted (node_at (pair_after c p x).ends side)
+        ≡ node_restarted (node_at p.ends side)
+    memories : (pair_after c p x).ends.memories ≡ p.ends.memories
 
   -- octets are read as the restart of another end that is restarted to the same
   still_written : (side : Side) (n m : NodeData) (b : List ℕ)
-      → restarted m ≡ restarted n
+      → node_restarted m ≡ node_restarted n
       → IsWritten side n b
       → IsWritten side m b
   still_written side n m b same w = λ d alike.
@@ -143,11 +145,11 @@ module _ (c : Config) (start : Pair) where
       → side_of x ≡ Ground
       → IsLived l
       → CanMove c (at l.moves) x
-      → restarted (moved c (at l.but_ground) x).ends.on_ground
-      ≡ restarted (at l.but_ground).ends.on_ground
+      → node_restarted (pair_after c (at l.but_ground) x).ends.on_ground
+      ≡ node_restarted (at l.but_ground).ends.on_ground
       → IsLived (made_forgotten c l x)
   forgets_ground l x of r can same =
-      let left : (p : Pair) → aboard (moved c p x).ends ≡ aboard p.ends =
+      let left : (p : Pair) → aboard (pair_after c p x).ends ≡ aboard p.ends =
       λ p. (is_of_ground c p x of).leaves in
       record {
         can = (r.can, can);
@@ -159,7 +161,7 @@ module _ (c : Config) (start : Pair) where
         craft_back = left (at l.but_both) ∙ r.craft_back ∙ sym (left (at l.but_craft));
         ground_written =
             still_written Ground (at l.but_ground).ends.on_ground
-            (moved c (at l.but_ground) x).ends.on_ground l.kept.ground_octets same
+            (pair_after c (at l.but_ground) x).ends.on_ground l.kept.ground_octets same
             r.ground_written;
         craft_written =
             subst (λ (a : Aboard). IsWritten Craft a.node l.kept.craft_octets)
@@ -172,12 +174,12 @@ module _ (c : Config) (start : Pair) where
       → side_of x ≡ Craft
       → IsLived l
       → CanMove c (at l.moves) x
-      → restarted (moved c (at l.but_craft) x).ends.on_craft
-      ≡ restarted (at l.but_craft).ends.on_craft
-      → (moved c (at l.but_craft) x).ends.memories ≡ (at l.but_craft).ends.memories
+      → node_restarted (pair_after c (at l.but_craft) x).ends.on_craft
+      ≡ node_restarted (at l.but_craft).ends.on_craft
+      → (pair_after c (at l.but_craft) x).ends.memories ≡ (at l.but_craft).ends.memories
       → IsLived (made_forgotten c l x)
   forgets_craft l x of r can same ms =
-      let left : (p : Pair) → (moved c p x).ends.on_ground ≡ p.ends.on_ground =
+      let left : (p : Pair) → (pair_after c p x).ends.on_ground ≡ p.ends.on_ground =
       λ p. (is_of_craft c p x of).leaves in
       record {
         can = (r.can, can);
@@ -192,7 +194,8 @@ module _ (c : Config) (start : Pair) where
             (sym (left (at l.but_ground))) r.ground_written;
         craft_written =
             still_written Craft (at l.but_craft).ends.on_craft
-            (moved c (at l.but_craft) x).ends.on_craft l.kept.craft_octets same r.craft_written;
+            (pair_after c (at l.but_craft) x).ends.on_craft l.kept.craft_octets same
+            r.craft_written;
         memories_written = r.memories_written ∙ sym ms;
       }
 
@@ -211,16 +214,16 @@ module _ (c : Config) (start : Pair) where
       → n ≡ m
       → IsEnd (end_of c side n)
       → n.boot + 1 < 2 ^ 64
-      → IsWritten side m (spelled (end_of c side n))
+      → IsWritten side m (state_spelled (end_of c side n))
   is_written side n m same is_end left =
-      subst (λ (x : NodeData). IsWritten side x (spelled (end_of c side n))) same
+      subst (λ (x : NodeData). IsWritten side x (state_spelled (end_of c side n))) same
       (λ d alike. written_is_read_as (end_of c side n) d is_end left
       (bound_within (limits_at n) c d alike))
 
   writes : (l : Lived) (side : Side)
       → IsLived l
       → CanLive c start l (Write side)
-      → IsLived (lived c l (Write side))
+      → IsLived (lived_after c l (Write side))
   writes l Ground r can = record {
     can = r.can;
     ground = r.ground;
@@ -255,7 +258,7 @@ module _ (c : Config) (start : Pair) where
   resets_ground : (l : Lived) (d : Config)
       → IsLived l
       → CanLive c start l (Reset Ground d)
-      → IsLived (lived c l (Reset Ground d))
+      → IsLived (lived_after c l (Reset Ground d))
   resets_ground l d r can =
       let n : NodeData = (at l.but_ground).ends.on_ground in
       let read : reading Ground d l.kept.ground_octets ≡ Ok (restarted_as d (end_of c Ground n)) =
@@ -269,7 +272,7 @@ module _ (c : Config) (start : Pair) where
             aboard (with_read l.kept.pair Ground x).ends) read
             ∙ r.craft ∙ sym r.craft_still;
         ground_still =
-            ap (λ (x : NodeData). node_within (limits_of d) (restarted x)) r.ground_back;
+            ap (λ (x : NodeData). node_within (limits_of d) (node_restarted x)) r.ground_back;
         ground_back = r.ground_back;
         craft_still = refl;
         craft_back = refl;
@@ -284,7 +287,7 @@ module _ (c : Config) (start : Pair) where
   resets_craft : (l : Lived) (d : Config)
       → IsLived l
       → CanLive c start l (Reset Craft d)
-      → IsLived (lived c l (Reset Craft d))
+      → IsLived (lived_after c l (Reset Craft d))
   resets_craft l d r can =
       let n : NodeData = (at l.but_craft).ends.on_craft in
       let read : reading Craft d l.kept.craft_octets ≡ Ok (restarted_as d (end_of c Craft n)) =
@@ -299,14 +302,14 @@ module _ (c : Config) (start : Pair) where
             ap (λ (x : Result NodeView StateFault).
             aboard (with_memories (with_read l.kept.pair Craft x) l.kept.memories).ends) read
             ∙ (λ i. record {
-              node = node_within (limits_of d) (restarted n);
+              node = node_within (limits_of d) (node_restarted n);
               tickets = can.0.1 i;
               memories = r.memories_written i;
             });
         ground_still = refl;
         ground_back = refl;
         craft_still = ap (λ (a : Aboard). record {
-          node = node_within (limits_of d) (restarted a.node);
+          node = node_within (limits_of d) (node_restarted a.node);
           tickets = a.tickets;
           memories = a.memories;
         }) r.craft_back;
@@ -318,7 +321,7 @@ module _ (c : Config) (start : Pair) where
         memories_written = r.memories_written;
       }
 
-  lives : (l : Lived) (x : Deed) → IsLived l → CanLive c start l x → IsLived (lived c l x)
+  lives : (l : Lived) (x : Deed) → IsLived l → CanLive c start l x → IsLived (lived_after c l x)
   lives l (Make x) r can = moves_by l x (side_of x) refl r can
   lives l (MakeForgotten x) r can =
       forgets_by l x (side_of x) refl r can.0

@@ -13,8 +13,8 @@ use Rattle.lpt_ledger.specs.States.{state_of}
 use Rattle.lpt_ledger.proofs.RisingLemmas.{keys_are, keys_rise}
 use Rattle.lpt_ledger.proofs.RunsLemmas.{closed_by-runs_of}
 use Rattle.lpt_node.specs.Nodes.{NodeData, Sending, message_at}
-use Rattle.lpt_node.specs.Restarts.{restarted}
-use Rattle.lpt_node.specs.Sending.{closed, closed_by, closed_in, sent_of}
+use Rattle.lpt_node.specs.Restarts.{node_restarted}
+use Rattle.lpt_node.specs.Sending.{sender_closed, closed_by, closed_in, sent_of}
 use Rattle.lpt_apart_kept.specs.Resets.{SendingsAreForgotten}
 use Rattle.lpt_events.specs.declared.config.Config.{Config}
 use Rattle.lpt_events.specs.declared.side.Side.{Side}
@@ -63,21 +63,22 @@ finished_runs s name = go (get s.ledger name) refl where
   go (Some Shut) is = refl
 
 -- a restart comes to the same
-pub finished_forgotten : (d : NodeData) (name : Name) → restarted (closed d name) ≡ restarted d
+pub finished_forgotten : (d : NodeData) (name : Name) → node_restarted (sender_closed d name)
+    ≡ node_restarted d
 finished_forgotten d name =
     let same : all_closed (closed_in d.sending name).ledger ≡ all_closed d.sending.ledger =
     sym (closed_by-runs_of (closed_in d.sending name).ledger)
     ∙ ap closed_runs (finished_runs d.sending name)
     ∙ closed_by-runs_of d.sending.ledger in
-    λ i. record (restarted d) {
-      sending = record (restarted d).sending { ledger = same i };
+    λ i. record (node_restarted d) {
+      sending = record (node_restarted d).sending { ledger = same i };
     }
 
 -- ---- what is sent
 
 sent_forgotten : (s : Side) (c : Config) (d : NodeData) (name : Name) (k : ℕ)
     (o : Option (List ℕ))
-    → restarted (sent_of s c d name k o).0 ≡ restarted d
+    → node_restarted (sent_of s c d name k o).0 ≡ node_restarted d
 sent_forgotten s c d name k None = refl
 sent_forgotten s c d name k (Some m) = refl
 

@@ -7,14 +7,14 @@ use Rattle.lpt_events.specs.declared.config.Config.{Config}
 use Rattle.lpt_events.specs.declared.side.Side.TheVariants.{Ground}
 use Rattle.lpt_ledger.specs.declared.state.State.{State}
 use Rattle.lpt_ledger.specs.declared.state.State.TheVariants.{Free, Open, Closed}
-use Rattle.lpt_node.specs.Accepting.{accepted}
+use Rattle.lpt_node.specs.Accepting.{packet_accepted}
 use Rattle.lpt_node.specs.Nodes.{NodeData}
-use Rattle.lpt_node.specs.Receivers.{ReceiverState, received, received_from, after_offer, if_free, table_in, parts_with, kept_of}
-use Rattle.lpt_node.specs.Receiving.{after_received, parted, receiver_of}
+use Rattle.lpt_node.specs.Receivers.{ReceiverState, part_received, received_from, after_offer, if_free, table_in, parts_with, kept_of}
+use Rattle.lpt_node.specs.Receiving.{after_received, part_accepted, receiver_of}
 use Rattle.lpt_node.specs.Times.{expired_of}
 use Rattle.lpt_reception.specs.Received.{Parts}
 use Rattle.lpt_table.specs.Offering as offering
-use Rattle.lpt_table.specs.Offering.{OfferKind, offered}
+use Rattle.lpt_table.specs.Offering.{OfferKind, part_offered}
 use Rattle.lpt_table.specs.Tables.{Entries, TableState}
 use Rattle.lpt_ledger.specs.States.{state_at}
 
@@ -36,16 +36,16 @@ of_free Free d q r parts o = of_offer d q r parts o.0 o.1.entries
 of_free Open d q r parts o = refl
 of_free Closed d q r parts o = refl
 
-of_part : (c : Config) (d : NodeData) (q : NamedPart) → (parted Ground c d q).1.packet ≡ None
-unfolding received
+of_part : (c : Config) (d : NodeData) (q : NamedPart) → (part_accepted Ground c d q).1.packet ≡ None
+unfolding part_received
 of_part c d q =
     let r : ReceiverState = receiver_of c d.receiving in
     of_free (state_at r.ledger q.name) d q r (parts_with (table_in r) q)
-    (offered (table_in r) q.name q.number (kept_of q) d.clock)
+    (part_offered (table_in r) q.name q.number (kept_of q) d.clock)
 
 -- ground makes no report of what is delivered to it
 pub none_of_delivery : (c : Config) (d : NodeData) (a : Arrival)
-    → (accepted Ground c d a).1.packet ≡ None
+    → (packet_accepted Ground c d a).1.packet ≡ None
 none_of_delivery c d NotRead = refl
 none_of_delivery c d AnIdle = refl
 none_of_delivery c d Foreign = refl

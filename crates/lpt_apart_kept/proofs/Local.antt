@@ -2,7 +2,7 @@
 -- it leaves the other as it is.
 use Rattle.std.proofs.Common.{◌≡◌, ap, refl, [], false, Option, Some, None}
 use Rattle.lpt_apart.specs.Ends.{Ends}
-use Rattle.lpt_apart.specs.Moves.{Do, Free, Move, Pair, moved}
+use Rattle.lpt_apart.specs.Moves.{Do, Free, Move, Pair, pair_after}
 use Rattle.lpt_apart.specs.Steps.{Accept, Apply, Claim, Commit, Expire, Finish, Open, Plain, Restart, Retire, Send, Tick, committed_on}
 use Rattle.lpt_apart_kept.specs.Resets.{side_of}
 use Rattle.lpt_events.specs.declared.config.Config.{Config}
@@ -41,13 +41,13 @@ module _ (c : Config) where
   -- what a move of ground makes of its node
   abbrev pub next_ground : Move → NodeData → NodeData
   next_ground x n =
-      (moved c
+      (pair_after c
       (pair_like n (record { node = n; tickets = no_tickets; memories = [] }))
       x).ends.on_ground
 
   -- what a move of the spacecraft makes of what that has
   abbrev pub next_aboard : Move → Aboard → Aboard
-  next_aboard x a = aboard (moved c (pair_like a.node a) x).ends
+  next_aboard x a = aboard (pair_after c (pair_like a.node a) x).ends
 
   -- a worker hands in what it has
   hands_in : (e f : Ends) (w : Worker) (o : Option Job)
@@ -64,13 +64,13 @@ module _ (c : Config) where
 
   -- a move of ground
   pub record IsOfGround (p : Pair) (x : Move) : Type 0 where
-    pub next : (moved c p x).ends.on_ground ≡ next_ground x p.ends.on_ground
-    pub leaves : aboard (moved c p x).ends ≡ aboard p.ends
+    pub next : (pair_after c p x).ends.on_ground ≡ next_ground x p.ends.on_ground
+    pub leaves : aboard (pair_after c p x).ends ≡ aboard p.ends
 
   -- a move of the spacecraft
   pub record IsOfCraft (p : Pair) (x : Move) : Type 0 where
-    pub next : aboard (moved c p x).ends ≡ next_aboard x (aboard p.ends)
-    pub leaves : (moved c p x).ends.on_ground ≡ p.ends.on_ground
+    pub next : aboard (pair_after c p x).ends ≡ next_aboard x (aboard p.ends)
+    pub leaves : (pair_after c p x).ends.on_ground ≡ p.ends.on_ground
 
   pub is_of_ground : (p : Pair) (x : Move) → side_of x ≡ Ground → IsOfGround p x
   is_of_ground p (Do (Open Up name m)) is = record { next = refl; leaves = refl }

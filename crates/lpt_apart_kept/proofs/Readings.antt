@@ -3,7 +3,7 @@
 use Rattle.std.proofs.Common.{◌≡◌, ◌∙◌, ap, sym, subst, refl, ℕ, List, [], ◌∷◌, Ok}
 use Rattle.lpt_acts.specs.Acts.{Limits, with_limits}
 use Rattle.lpt_apart.specs.Clocks.{CanAll, after_all, no_pair_later}
-use Rattle.lpt_apart.specs.Moves.{CanMove, Move, Pair, moved}
+use Rattle.lpt_apart.specs.Moves.{CanMove, Move, Pair, pair_after}
 use Rattle.lpt_apart.specs.Worlds.{IsPromised}
 use Rattle.lpt_apart.proofs.Clocks.{begun_later, joined, reached_keep}
 use Rattle.lpt_events.specs.declared.config.Config.{Config}
@@ -11,11 +11,11 @@ use Rattle.lpt_events.specs.declared.side.Side.{Side}
 use Rattle.lpt_events.specs.declared.side.Side.TheVariants.{Ground, Craft}
 use Rattle.lpt_node.specs.Restarts.{limits_at}
 use Rattle.lpt_state.specs.Lastings.{IsBoundAlike, restarted_as}
-use Rattle.lpt_state.specs.Spellings.{spelled}
+use Rattle.lpt_state.specs.Spellings.{state_spelled}
 use Rattle.lpt_state.specs.Verdicts.{reading}
 use Rattle.lpt_state.proofs.LawLemmas.{written_is_read_as}
 use Rattle.lpt_apart.specs.Ends.{node_at}
-use Rattle.lpt_apart_kept.specs.Deeds.{after_deeds, CanDoAll, Deed, done, end_at, IsKept, Kept, KeptEndsKeepThePromise, Make, Write, ReadBack, ReadingsAreRestarts, with_restart, with_memories, with_read}
+use Rattle.lpt_apart_kept.specs.Deeds.{after_deeds, CanDoAll, Deed, kept_after, end_at, IsKept, Kept, KeptEndsKeepThePromise, Make, Write, ReadBack, ReadingsAreRestarts, with_restart, with_memories, with_read}
 
 -- ---- a reading back
 
@@ -34,7 +34,7 @@ bound_within l c d alike = record {
 read_is : (c d : Config) (k : Kept) (side : Side) (b : List ℕ)
     → IsKept c k side
     → IsBoundAlike c d
-    → spelled (end_at c k.pair side) ≡ b
+    → state_spelled (end_at c k.pair side) ≡ b
     → reading side d b ≡ Ok (restarted_as d (end_at c k.pair side))
 read_is c d k side b is alike same =
     subst (λ (x : List ℕ). reading side d x ≡ Ok (restarted_as d (end_at c k.pair side))) same
@@ -66,7 +66,7 @@ record AreMoves (c : Config) (k : Kept) (xs : List Deed) : Type 0 where
   can : CanAll c k.pair (moves_of xs)
   are : (after_deeds c k xs).pair ≡ after_all c k.pair (moves_of xs)
 
-written_pair : (c : Config) (k : Kept) (side : Side) → (done c k (Write side)).pair ≡ k.pair
+written_pair : (c : Config) (k : Kept) (side : Side) → (kept_after c k (Write side)).pair ≡ k.pair
 written_pair c k Ground = refl
 written_pair c k Craft = refl
 
@@ -77,7 +77,7 @@ deeds_are_moves c k (Make x ∷ xs) can =
     let rest : AreMoves c k xs = deeds_are_moves c k xs can.0 in
     record {
       can = (rest.can, subst (λ (p : Pair). CanMove c p x) rest.are can.1);
-      are = ap (λ (p : Pair). moved c p x) rest.are;
+      are = ap (λ (p : Pair). pair_after c p x) rest.are;
     }
 deeds_are_moves c k (Write side ∷ xs) can =
     let rest : AreMoves c k xs = deeds_are_moves c k xs can.0 in

@@ -8,7 +8,7 @@ use Rattle.lpt_acts.specs.Acts.{Within, limits_of, with_limits}
 use Rattle.lpt_apart.specs.Clocks.{Own, after_all, later, no_pair_later, own_config}
 use Rattle.lpt_apart.specs.Ends.{node_at, with_node}
 use Rattle.lpt_apart.specs.Facts.{Restarted}
-use Rattle.lpt_apart.specs.Moves.{CanMove, Do, Move, Pair, moved}
+use Rattle.lpt_apart.specs.Moves.{CanMove, Do, Move, Pair, pair_after}
 use Rattle.lpt_apart.specs.Steps.{Restart, Tick}
 use Rattle.lpt_apart.specs.Worlds.{IsPromised}
 use Rattle.lpt_events.specs.Configs.{IsConfig}
@@ -19,7 +19,7 @@ use Rattle.lpt_memory.specs.Memories.{Contents}
 use Rattle.lpt_node.specs.Nodes.{NodeData, NodeView}
 use Rattle.lpt_node.specs.Restarts.{limits_at}
 use Rattle.lpt_state.specs.Lastings.{IsBoundAlike, IsEnd}
-use Rattle.lpt_state.specs.Spellings.{spelled}
+use Rattle.lpt_state.specs.Spellings.{state_spelled}
 use Rattle.lpt_state.specs.Verdicts.{reading}
 use Rattle.lpt_state.specs.declared.fault.StateFault.{StateFault}
 
@@ -42,15 +42,19 @@ abbrev pub end_at : Config → Pair → Side → NodeView
 end_at c p side = end_of c side (node_at p.ends side)
 
 -- the state of a side's end is written, and with the spacecraft's the memories
-abbrev pub written : Config → Kept → Side → Kept
-written c k Ground = record k { ground_octets = spelled (end_at c k.pair Ground) }
-written c k Craft =
-    record k { craft_octets = spelled (end_at c k.pair Craft); memories = k.pair.ends.memories }
+abbrev pub state_written : Config → Kept → Side → Kept
+state_written c k Ground = record k { ground_octets = state_spelled (end_at c k.pair Ground) }
+state_written c k Craft =
+    record k {
+      craft_octets = state_spelled (end_at c k.pair Craft);
+      memories =
+          k.pair.ends.memories;
+    }
 
 -- nothing happened at a side's end since it was written: to write it again would change nothing.
 -- It is one of which a state can be written, and a boot is left.
 pub record IsKept (c : Config) (k : Kept) (side : Side) : Type 0 where
-  pub same : written c k side ≡ k
+  pub same : state_written c k side ≡ k
   pub is_end : IsEnd (end_at c k.pair side)
   pub boot_left : (node_at k.pair.ends side).boot + 1 < 2 ^ 64
 
@@ -90,10 +94,10 @@ pub data Deed : Type 0 where
   ReadBack : Side → Config → Deed
 
 -- what a deed makes of them
-abbrev pub done : Config → Kept → Deed → Kept
-done c k (Make x) = record k { pair = moved c k.pair x }
-done c k (Write side) = written c k side
-done c k (ReadBack side d) = read_back d k side
+abbrev pub kept_after : Config → Kept → Deed → Kept
+kept_after c k (Make x) = record k { pair = pair_after c k.pair x }
+kept_after c k (Write side) = state_written c k side
+kept_after c k (ReadBack side d) = read_back d k side
 
 -- A move can be made as before, and a state can be written at any time. An end can be read back if
 -- nothing happened at it since it was written, in a configuration that differs in limits and first
@@ -106,7 +110,7 @@ CanDo c k (ReadBack side d) = IsKept c k side × IsBoundAlike c d
 -- two ends after these deeds, the newest of which stands first
 abbrev pub after_deeds : Config → Kept → List Deed → Kept
 after_deeds c k [] = k
-after_deeds c k (x ∷ xs) = done c (after_deeds c k xs) x
+after_deeds c k (x ∷ xs) = kept_after c (after_deeds c k xs) x
 
 -- each of them can be done after those before it
 abbrev pub CanDoAll : Config → Kept → List Deed → Type 0

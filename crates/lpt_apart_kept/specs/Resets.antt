@@ -6,18 +6,18 @@
 use Rattle.std.specs.Prelude.{◌≡◌, ℕ, ◌+◌, ◌<◌, ◌^◌, List, [], ◌∷◌, ⊤}
 use Rattle.lpt_apart.specs.Clocks.{CanAll, Own, after_all, later, no_pair_later, own_config}
 use Rattle.lpt_apart.specs.Ends.{node_at}
-use Rattle.lpt_apart.specs.Moves.{CanMove, Do, Free, Move, Pair, moved}
+use Rattle.lpt_apart.specs.Moves.{CanMove, Do, Free, Move, Pair, pair_after}
 use Rattle.lpt_apart.specs.Steps.{Accept, Apply, Claim, Commit, Expire, Finish, Open, Plain, Restart, Retire, Send, Tick}
 use Rattle.lpt_apart.specs.Whole.{came_since, WithholdsNothing}
 use Rattle.lpt_apart.specs.Worlds.{IsPromised}
-use Rattle.lpt_apart_kept.specs.Deeds.{Kept, end_at, read_back, with_restart, written}
+use Rattle.lpt_apart_kept.specs.Deeds.{Kept, end_at, read_back, with_restart, state_written}
 use Rattle.lpt_events.specs.Configs.{IsConfig}
 use Rattle.lpt_events.specs.Sides.{receiver_side, sender_side}
 use Rattle.lpt_events.specs.declared.config.Config.{Config}
 use Rattle.lpt_events.specs.declared.side.Side.{Side}
 use Rattle.lpt_events.specs.declared.side.Side.TheVariants.{Ground, Craft}
 use Rattle.lpt_memory.specs.Memories.{Contents}
-use Rattle.lpt_node.specs.Restarts.{restarted}
+use Rattle.lpt_node.specs.Restarts.{node_restarted}
 use Rattle.lpt_packet.specs.Names.{Name}
 use Rattle.lpt_packet.specs.declared.direction.Direction.{Direction}
 use Rattle.lpt_state.specs.Lastings.{IsBoundAlike, IsEnd}
@@ -60,16 +60,16 @@ pub data Deed : Type 0 where
 
 -- the machines after a move
 abbrev pub with_move : Config → Kept → Move → Kept
-with_move c k x = record k { pair = moved c k.pair x }
+with_move c k x = record k { pair = pair_after c k.pair x }
 
 -- a machine of this side makes a move
-abbrev pub made : Config → Lived → Side → Move → Lived
-made c l Ground x = record l {
+abbrev pub move_made : Config → Lived → Side → Move → Lived
+move_made c l Ground x = record l {
   kept = with_move c l.kept x;
   moves = x ∷ l.moves;
   but_craft = x ∷ l.but_craft;
 }
-made c l Craft x = record l {
+move_made c l Craft x = record l {
   kept = with_move c l.kept x;
   moves = x ∷ l.moves;
   but_ground = x ∷ l.but_ground;
@@ -86,25 +86,25 @@ made_forgotten c l x = record {
 }
 
 -- what a deed makes of them
-abbrev pub lived : Config → Lived → Deed → Lived
-lived c l (Make x) = made c l (side_of x) x
-lived c l (MakeForgotten x) = made_forgotten c l x
-lived c l (Write Ground) = record l {
-  kept = written c l.kept Ground;
+abbrev pub lived_after : Config → Lived → Deed → Lived
+lived_after c l (Make x) = move_made c l (side_of x) x
+lived_after c l (MakeForgotten x) = made_forgotten c l x
+lived_after c l (Write Ground) = record l {
+  kept = state_written c l.kept Ground;
   but_ground = l.moves;
   but_both = l.but_craft;
 }
-lived c l (Write Craft) = record l {
-  kept = written c l.kept Craft;
+lived_after c l (Write Craft) = record l {
+  kept = state_written c l.kept Craft;
   but_craft = l.moves;
   but_both = l.but_ground;
 }
-lived c l (Reset Ground d) = record l {
+lived_after c l (Reset Ground d) = record l {
   kept = read_back d l.kept Ground;
   moves = with_restart d Ground l.but_ground;
   but_craft = with_restart d Ground l.but_both;
 }
-lived c l (Reset Craft d) = record l {
+lived_after c l (Reset Craft d) = record l {
   kept = read_back d l.kept Craft;
   moves = with_restart d Craft l.but_craft;
   but_ground = with_restart d Craft l.but_both;
@@ -121,10 +121,10 @@ left_without l Craft = l.but_craft
 -- the workers' jobs and the memories. So it is where a part or a plain request is sent and where
 -- a message is finished.
 pub record IsForgotten (c : Config) (p : Pair) (x : Move) : Type 0 where
-  pub node : restarted (node_at (moved c p x).ends (side_of x))
-      ≡ restarted (node_at p.ends (side_of x))
-  pub tickets : (moved c p x).ends.tickets ≡ p.ends.tickets
-  pub memories : (moved c p x).ends.memories ≡ p.ends.memories
+  pub node : node_restarted (node_at (pair_after c p x).ends (side_of x))
+      ≡ node_restarted (node_at p.ends (side_of x))
+  pub tickets : (pair_after c p x).ends.tickets ≡ p.ends.tickets
+  pub memories : (pair_after c p x).ends.memories ≡ p.ends.memories
 
 -- an end can be written, and a boot is left
 pub record IsWritable (c : Config) (p : Pair) (side : Side) : Type 0 where
@@ -153,7 +153,7 @@ CanLive c start l (Reset side d) = CanReset c start l side × IsBoundAlike c d
 -- after these deeds, the newest of which stands first
 abbrev pub lived_all : Config → Lived → List Deed → Lived
 lived_all c l [] = l
-lived_all c l (x ∷ xs) = lived c (lived_all c l xs) x
+lived_all c l (x ∷ xs) = lived_after c (lived_all c l xs) x
 
 -- each of them can be done after those before it
 abbrev pub CanLiveAll : Config → (start : Pair) → Lived → List Deed → Type 0
@@ -175,7 +175,7 @@ SendingsAreForgotten =
 -- two ends that were written before they did anything
 abbrev pub just_written : Config → Kept → Lived
 just_written c k = record {
-  kept = written c (written c k Ground) Craft;
+  kept = state_written c (state_written c k Ground) Craft;
   moves = [];
   but_ground = [];
   but_craft = [];

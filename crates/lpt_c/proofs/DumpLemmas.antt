@@ -2,7 +2,7 @@
 use Rattle.std.proofs.Common.{◌≡◌, ◌∙◌, ap, sym, refl, ℕ, suc, ◌+◌, ◌<◌, List, [], ◌∷◌, length, option_map, Option, Some, None, arith}
 use Rattle.lpt_memory.specs.Fields.{◌>>=◌, all_areas}
 use Rattle.lpt_memory.specs.Requests.{LoadArea}
-use Rattle.lpt_c.specs.Dumps.{Placed, placed}
+use Rattle.lpt_c.specs.Dumps.{Placed, area_placed}
 
 -- what was found before, or else what is found
 abbrev pub or_else : Option Placed → Option Placed → Option Placed
@@ -17,7 +17,7 @@ or_none None = refl
 abbrev pub left : (List ℕ → Option (LoadArea × List ℕ)) → Option Placed → (at k n : ℕ) → List ℕ
     → Option (Option Placed)
 left one found at k n octets =
-    option_map (λ xs. or_else found (placed at k xs)) (all_areas one n octets)
+    option_map (λ xs. or_else found (area_placed at k xs)) (all_areas one n octets)
 
 -- where no area is read, nothing is
 pub left-none : (one : List ℕ → Option (LoadArea × List ℕ)) (found : Option Placed)
@@ -26,7 +26,7 @@ pub left-none : (one : List ℕ → Option (LoadArea × List ℕ)) (found : Opti
     → one octets ≡ None
     → None ≡ left one found at k n octets
 left-none one found at k n m octets same read =
-    let f : List LoadArea → Option Placed = λ xs. or_else found (placed at k xs) in
+    let f : List LoadArea → Option Placed = λ xs. or_else found (area_placed at k xs) in
     sym (ap (λ j. option_map f (all_areas one j octets)) same
     ∙ ap (λ r. option_map f
     (r >>= λ first. all_areas one m first.1 >>= λ others. Some (first.0 ∷ others))) read)
@@ -36,10 +36,10 @@ front : (one : List ℕ → Option (LoadArea × List ℕ)) (found : Option Place
     (at k n m : ℕ) (octets behind : List ℕ) (a : LoadArea)
     → n ≡ suc m
     → one octets ≡ Some (a, behind)
-    → option_map (λ xs. or_else found (placed at k (a ∷ xs))) (all_areas one m behind)
+    → option_map (λ xs. or_else found (area_placed at k (a ∷ xs))) (all_areas one m behind)
     ≡ left one found at k n octets
 front one found at k n m octets behind a same read =
-    let f : List LoadArea → Option Placed = λ xs. or_else found (placed at k xs) in
+    let f : List LoadArea → Option Placed = λ xs. or_else found (area_placed at k xs) in
     sym (ap (λ j. option_map f (all_areas one j octets)) same
     ∙ ap (λ r. option_map f
     (r >>= λ first. all_areas one m first.1 >>= λ others. Some (first.0 ∷ others))) read

@@ -19,7 +19,7 @@ use Rattle.lpt_memory.proofs.BodyLemmas.{body_again, range_again}
 use Rattle.lpt_memory.proofs.BodyMeanings.{if_formed-known}
 use Rattle.lpt_memory.proofs.PutLemmas.{length-put_at}
 use Rattle.lpt_c.specs.declared.requests.LptRange.{LptRange}
-use Rattle.lpt_c.specs.Buffers.{Text, code_for, left_by, needed_by}
+use Rattle.lpt_c.specs.Buffers.{BufferText, code_for, left_by, needed_by}
 use Rattle.lpt_c.specs.Codes.{bad_area}
 use Rattle.lpt_c.specs.Requests.{any_empty, are_unfit, range_of, ranges_body, ranges_text, IsInRange, MeansCheck, MeansDump}
 
@@ -200,12 +200,12 @@ ranges_spelled (r ∷ rest) some fits =
 -- ---- what a writer leaves
 
 -- of a text that has no room
-pub record LeftWithoutRoom (text : Text) (n : ℕ) (old : List ℕ) (needed : ℕ) : Type 0 where
+pub record LeftWithoutRoom (text : BufferText) (n : ℕ) (old : List ℕ) (needed : ℕ) : Type 0 where
   pub code : 103 ≡ code_for text old
   pub buffer : old ≡ left_by text old
   pub needed_is : n ≡ needed_by text needed
 
-pub without_room : (text : Text) (body old : List ℕ) (n needed : ℕ)
+pub without_room : (text : BufferText) (body old : List ℕ) (n needed : ℕ)
     → Ok body ≡ text
     → n ≡ length body
     → length old < n
@@ -214,20 +214,20 @@ without_room text body old n needed is size short =
     let no : nat_le (length body) (length old) ≡ false = grind (arith, nat_tests) in
     record {
       code = sym (ap (λ (b : Bool). if b then 0 else 103) no)
-          ∙ ap (λ (t : Text). code_for t old) is;
+          ∙ ap (λ (t : BufferText). code_for t old) is;
       buffer =
           sym (ap (λ (b : Bool). if b then body ++ drop (length body) old else old) no)
-          ∙ ap (λ (t : Text). left_by t old) is;
-      needed_is = size ∙ ap (λ (t : Text). needed_by t needed) is;
+          ∙ ap (λ (t : BufferText). left_by t old) is;
+      needed_is = size ∙ ap (λ (t : BufferText). needed_by t needed) is;
     }
 
 -- of a text that has room
-pub record LeftWithRoom (text : Text) (n : ℕ) (old new : List ℕ) (needed : ℕ) : Type 0 where
+pub record LeftWithRoom (text : BufferText) (n : ℕ) (old new : List ℕ) (needed : ℕ) : Type 0 where
   pub code : 0 ≡ code_for text old
   pub buffer : new ≡ left_by text old
   pub needed_is : n ≡ needed_by text needed
 
-pub with_room : (text : Text) (body old new : List ℕ) (n needed : ℕ)
+pub with_room : (text : BufferText) (body old new : List ℕ) (n needed : ℕ)
     → Ok body ≡ text
     → n ≡ length body
     → n ≤ length old
@@ -237,13 +237,13 @@ with_room text body old new n needed is size fit written =
     let yes : nat_le (length body) (length old) ≡ true = grind (arith, nat_tests) in
     record {
       code = sym (ap (λ (b : Bool). if b then 0 else 103) yes)
-          ∙ ap (λ (t : Text). code_for t old) is;
+          ∙ ap (λ (t : BufferText). code_for t old) is;
       buffer =
           written
           ∙ ap (λ (k : ℕ). body ++ drop k old) size
           ∙ sym (ap (λ (b : Bool). if b then body ++ drop (length body) old else old) yes)
-          ∙ ap (λ (t : Text). left_by t old) is;
-      needed_is = size ∙ ap (λ (t : Text). needed_by t needed) is;
+          ∙ ap (λ (t : BufferText). left_by t old) is;
+      needed_is = size ∙ ap (λ (t : BufferText). needed_by t needed) is;
     }
 
 -- ---- what requests mean

@@ -7,7 +7,7 @@ use Rattle.lpt_part.specs.FaultNames.{code_of}
 use Rattle.lpt_part.specs.declared.reason.Reason.{Reason}
 use Rattle.lpt_part.specs.declared.reason.Reason.TheVariants.{Expired, Discontinuity, Conflict}
 use Rattle.lpt_c.specs.declared.aborts.LptAbort.{LptAbort}
-use Rattle.lpt_c.specs.Buffers.{Text}
+use Rattle.lpt_c.specs.Buffers.{BufferText}
 use Rattle.lpt_c.specs.Codes.{range}
 
 -- what an abortion report says: of which transaction, and why
@@ -35,6 +35,6 @@ abbrev pub abort_told : Abort → LptAbort
 abort_told a = record { id = a.0; reason = reason_code a.1 }
 
 -- the body that is to be written
-abbrev pub abort_text : ℕ → Option Reason → Text
+abbrev pub abort_text : ℕ → Option Reason → BufferText
 abort_text id None = Err range
 abort_text id (Some reason) = Ok (abort_body id reason)

@@ -17,8 +17,8 @@ checked_at body at = record {
 
 -- the area of a number, from 0: a report has a memory identifier of 8 bits, the number of areas, of
 -- 8, which isn't 0, so many areas of 8 octets, and nothing behind them
-abbrev pub checked : List ℕ → ℕ → Result LptChecked ℕ
-checked body k =
+abbrev pub area_checked : List ℕ → ℕ → Result LptChecked ℕ
+area_checked body k =
     if nat_lt (length body) 2 then Err no_report
     else if slice_index body 1 == 0 then Err no_report
     else if length body == 2 + 8 * slice_index body 1 then

@@ -14,8 +14,8 @@ abbrev pub version_number : ℕ
 version_number = 1000
 
 -- it is done
-abbrev pub done : ℕ
-done = 0
+abbrev pub all_done : ℕ
+all_done = 0
 
 -- ---- faults that have their numbers elsewhere
 

@@ -6,7 +6,7 @@ use Rattle.lpt_packet.specs.Sizes.{primary_header}
 use Rattle.lpt_pus.specs.Sizes.{tc_header, longest_tc_body}
 use Rattle.lpt_c.specs.declared.commands.LptTcHead.{LptTcHead}
 use Rattle.lpt_c.specs.declared.commands.LptTc.{LptTc}
-use Rattle.lpt_c.specs.Buffers.{Text}
+use Rattle.lpt_c.specs.Buffers.{BufferText}
 use Rattle.lpt_c.specs.Codes.{range, too_long}
 use Rattle.lpt_c.specs.Packets.{in_range}
 use Rattle.lpt_c.specs.Readings.{message_read, packet_read}
@@ -32,7 +32,7 @@ abbrev pub tc_packet : LptTcHead → List ℕ → List ℕ
 tc_packet h body = spelling (packet_of (command h body))
 
 -- the packet that is to be written
-abbrev pub tc_text : LptTcHead → List ℕ → Text
+abbrev pub tc_text : LptTcHead → List ℕ → BufferText
 tc_text h body =
     if tc_fits h then
     (if nat_le (length body) longest_tc_body then Ok (tc_packet h body) else Err too_long)

@@ -14,10 +14,10 @@ pub record Placed : Type 0 where
 
 -- the area of a number, from 0, of those that stand one behind the other from a place on: each has
 -- its octets behind a start address of 32 bits and a length of 16
-abbrev pub placed : (at k : ℕ) → List LoadArea → Option Placed
-placed at k [] = None
-placed at zero (a ∷ rest) = Some (record { at = at + 6; area = a })
-placed at (suc k) (a ∷ rest) = placed (at + (area_header + length a.octets)) k rest
+abbrev pub area_placed : (at k : ℕ) → List LoadArea → Option Placed
+area_placed at k [] = None
+area_placed at zero (a ∷ rest) = Some (record { at = at + 6; area = a })
+area_placed at (suc k) (a ∷ rest) = area_placed (at + (area_header + length a.octets)) k rest
 
 -- an area as it is told, of a report that begins with the memory's identifier and how many it has
 abbrev pub dumped_of : List ℕ → Placed → LptDumped
@@ -38,11 +38,11 @@ if_sealed body (Some p) =
 -- the area of a number among those of a body, which stand behind two octets
 abbrev pub in_report : List ℕ → ℕ → Option (Request LoadArea) → Result LptDumped ℕ
 in_report body k None = Err no_report
-in_report body k (Some r) = if_sealed body (placed 2 k r.areas)
+in_report body k (Some r) = if_sealed body (area_placed 2 k r.areas)
 
 -- the same; a report is encoded as a load's body
-abbrev pub dumped : List ℕ → ℕ → Result LptDumped ℕ
-dumped body k = in_report body k (request_in front_load_area body)
+abbrev pub area_dumped : List ℕ → ℕ → Result LptDumped ℕ
+area_dumped body k = in_report body k (request_in front_load_area body)
 
 -- ---- what the code's values stand for
 

@@ -5,7 +5,7 @@ use Rattle.lpt_memory.specs.declared.request.Area.{Area}
 use Rattle.lpt_memory.specs.FaultNames.{code_of}
 use Rattle.lpt_memory.specs.Meanings.{Load, Sizes, size_of, body_meaning}
 use Rattle.lpt_memory.specs.Spellings.{load_text, write_fault}
-use Rattle.lpt_c.specs.Buffers.{Text}
+use Rattle.lpt_c.specs.Buffers.{BufferText}
 
 -- the area that octets fill from an address on
 abbrev pub area_of : ℕ → List ℕ → Area
@@ -16,12 +16,12 @@ abbrev pub load_body : ℕ → Area → List ℕ
 load_body memory area = load_text memory (area ∷ [])
 
 -- a text, unless there is a fault
-abbrev pub text_unless : Option MemoryFault → List ℕ → Text
+abbrev pub text_unless : Option MemoryFault → List ℕ → BufferText
 text_unless (Some fault) text = Err (code_of fault)
 text_unless None text = Ok text
 
 -- the body that is to be written, where such a load can be
-abbrev pub load_told : ℕ → Area → Text
+abbrev pub load_told : ℕ → Area → BufferText
 load_told memory area = text_unless (write_fault (area ∷ [])) (load_body memory area)
 
 -- a load of this body means this area, in all memories that it is within

@@ -5,7 +5,7 @@ use Rattle.lpt_packet.specs.declared.packet.PacketKind.TheVariants.{Tm, Tc}
 use Rattle.lpt_packet.specs.Packets.{Fields, fields_of, packet_type, spelling}
 use Rattle.lpt_packet.specs.Sizes.{primary_header, longest_field}
 use Rattle.lpt_c.specs.declared.packets.LptPacket.{LptPacket}
-use Rattle.lpt_c.specs.Buffers.{Text}
+use Rattle.lpt_c.specs.Buffers.{BufferText}
 use Rattle.lpt_c.specs.Codes.{range, too_long}
 
 -- the packet type of a number, 0 or 1
@@ -17,7 +17,7 @@ abbrev pub in_range : ℕ → ℕ → Bool
 in_range apid count = nat_le apid 2046 && nat_le count 16383
 
 -- the packet that is to be written
-abbrev pub packet_text : Option PacketKind → (apid count : ℕ) → List ℕ → Text
+abbrev pub packet_text : Option PacketKind → (apid count : ℕ) → List ℕ → BufferText
 packet_text None apid count field = Err range
 packet_text (Some kind) apid count field =
     if in_range apid count then

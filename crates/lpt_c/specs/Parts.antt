@@ -10,7 +10,7 @@ use Rattle.lpt_part.specs.declared.kind.Kind.TheVariants.{First, Middle, Last}
 use Rattle.lpt_part.specs.Parts.{Piece, body_of, number_test, length_test, part_verdict}
 use Rattle.lpt_part.specs.Splitting.{part_count, part_of, kind_at}
 use Rattle.lpt_c.specs.declared.parts.LptPart.{LptPart}
-use Rattle.lpt_c.specs.Buffers.{Text}
+use Rattle.lpt_c.specs.Buffers.{BufferText}
 use Rattle.lpt_c.specs.Codes.{range, zero_number, kind_number_fault, part_length, short_message, long_message, no_such_part}
 
 -- the kind of a number: 1 first, 2 intermediate, 3 last
@@ -86,7 +86,7 @@ part_told q = record {
 -- ---- writing
 
 -- the body of a part, or why there is no such part
-abbrev pub part_text : Option Kind → (id number p : ℕ) → List ℕ → Text
+abbrev pub part_text : Option Kind → (id number p : ℕ) → List ℕ → BufferText
 part_text None id number p octets = Err range
 part_text (Some kind) id number p octets =
     if is_part_size p then
@@ -102,7 +102,7 @@ abbrev pub kind_in : List ℕ → (p k : ℕ) → Kind
 kind_in m p k = kind_at k (part_count (length m) p)
 
 -- the body of part k of a message, or why it has none
-abbrev pub slice_text : List ℕ → (p id k : ℕ) → Text
+abbrev pub slice_text : List ℕ → (p id k : ℕ) → BufferText
 slice_text m p id k =
     if is_part_size p then
     (if nat_lt p (length m) then
@@ -115,6 +115,6 @@ slice_text m p id k =
     else Err range
 
 -- the kind that is reported, where there is such a part
-abbrev pub kind_told : Text → Kind → ℕ → ℕ
+abbrev pub kind_told : BufferText → Kind → ℕ → ℕ
 kind_told (Ok text) kind old = kind_number kind
 kind_told (Err fault) kind old = old

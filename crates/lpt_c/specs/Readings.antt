@@ -5,11 +5,11 @@ use Rattle.lpt_packet.specs.FaultNames.{code_of}
 use Rattle.lpt_packet.specs.Packets.{Fields, Sight, IdlePacket, APacket, verdict}
 use Rattle.lpt_pus.specs.declared.fault.PusFault.{PusFault}
 use Rattle.lpt_pus.specs.FaultNames as pus
-use Rattle.lpt_c.specs.Codes.{done, idle}
+use Rattle.lpt_c.specs.Codes.{all_done, idle}
 
 -- what it answers: of what was read 0, else the number of the fault
 abbrev pub code_read : {X : Type 0} → Result X ℕ → ℕ
-code_read (Ok x) = done
+code_read (Ok x) = all_done
 code_read (Err fault) = fault
 
 -- what is left: what was read, seen so, else what was there
@@ -28,11 +28,11 @@ abbrev pub packet_read : List ℕ → Result Fields ℕ
 packet_read b = packet_of_sight (verdict b)
 
 -- the message of a packet, or the fault of its headers
-abbrev pub numbered : {X : Type 0} → Result X PusFault → Result X ℕ
-numbered (Ok x) = Ok x
-numbered (Err e) = Err (pus.code_of e)
+abbrev pub fault_numbered : {X : Type 0} → Result X PusFault → Result X ℕ
+fault_numbered (Ok x) = Ok x
+fault_numbered (Err e) = Err (pus.code_of e)
 
 -- the message in the packet that was read
 abbrev pub message_read : {X : Type 0} → (Fields → Result X PusFault) → Result Fields ℕ → Result X ℕ
-message_read read (Ok f) = numbered (read f)
+message_read read (Ok f) = fault_numbered (read f)
 message_read read (Err fault) = Err fault

@@ -4,7 +4,7 @@ use Rattle.lpt_verify.specs.declared.report.Report.{Report}
 use Rattle.lpt_verify.specs.Reading.{is_success, is_failure, report_in}
 use Rattle.lpt_verify.specs.Reports.{success, failure}
 use Rattle.lpt_c.specs.declared.reports.LptReport.{LptReport}
-use Rattle.lpt_c.specs.Buffers.{Text}
+use Rattle.lpt_c.specs.Buffers.{BufferText}
 use Rattle.lpt_c.specs.Codes.{range, no_report}
 
 -- a report, where there is one
@@ -17,9 +17,9 @@ abbrev pub report_read : ℕ → List ℕ → Result Report ℕ
 report_read subtype body = report_found (report_in subtype body)
 
 -- whether it reports a failure, as a number, and the failure code
-abbrev pub failed : Option ℕ → ℕ
-failed None = 0
-failed (Some code) = 1
+abbrev pub failed_number : Option ℕ → ℕ
+failed_number None = 0
+failed_number (Some code) = 1
 
 abbrev pub code_told : Option ℕ → ℕ
 code_told None = 0
@@ -29,12 +29,12 @@ code_told (Some code) = code
 abbrev pub report_told : Report → LptReport
 report_told r = record {
   request = r.request.value;
-  failed = failed r.code;
+  failed = failed_number r.code;
   code = code_told r.code;
 }
 
 -- the body that is to be written: of a success without a code, of a failure with one of 1 to 8
-abbrev pub report_text : (subtype request code : ℕ) → Text
+abbrev pub report_text : (subtype request code : ℕ) → BufferText
 report_text subtype request code =
     if is_success subtype then
     (if code == 0 then Ok (success request subtype).body else Err range)

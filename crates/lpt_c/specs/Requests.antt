@@ -7,7 +7,7 @@ use Rattle.lpt_memory.specs.Meanings.{Dump, Check, Sizes, size_of, dump_length, 
 use Rattle.lpt_memory.specs.Ranges.{RangesFit}
 use Rattle.lpt_memory.specs.Spellings.{body_text, range_text}
 use Rattle.lpt_c.specs.declared.requests.LptRange.{LptRange}
-use Rattle.lpt_c.specs.Buffers.{Text}
+use Rattle.lpt_c.specs.Buffers.{BufferText}
 use Rattle.lpt_c.specs.Codes.{bad_area}
 
 -- a place, as the memory service has it
@@ -33,7 +33,7 @@ abbrev pub ranges_body : ℕ → List LptRange → List ℕ
 ranges_body memory ranges = body_text range_text memory (map range_of ranges)
 
 -- the body that is to be written, where the places can be asked for
-abbrev pub ranges_text : ℕ → List LptRange → Text
+abbrev pub ranges_text : ℕ → List LptRange → BufferText
 ranges_text memory ranges =
     if are_unfit ranges then Err bad_area else Ok (ranges_body memory ranges)
 

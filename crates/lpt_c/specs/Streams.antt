@@ -1,7 +1,7 @@
 -- The length of the packet that begins a stream.
 use Rattle.std.specs.Prelude.{ℕ, ◌+◌, ◌/◌, ◌%◌, ◌==◌, nat_lt, if◌then◌else◌, List, length, slice_index}
 use Rattle.lpt_packet.specs.Numbers.{word_at}
-use Rattle.lpt_c.specs.Codes.{done, version, idle, more}
+use Rattle.lpt_c.specs.Codes.{all_done, version, idle, more}
 
 -- what begins the stream: a packet or an idle one, nothing known yet, or no packet
 abbrev pub stream_code : List ℕ → ℕ
@@ -10,7 +10,7 @@ stream_code b =
     else if slice_index b 0 / 32 == 0 then
     (if nat_lt (length b) 6 then more
     else if word_at b 0 % 2048 == 2047 then idle
-    else done)
+    else all_done)
     else version
 
 -- the length that is reported, where it is known

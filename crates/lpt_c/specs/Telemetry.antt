@@ -6,7 +6,7 @@ use Rattle.lpt_packet.specs.Sizes.{primary_header}
 use Rattle.lpt_pus.specs.Sizes.{tm_header, longest_tm_body}
 use Rattle.lpt_c.specs.declared.telemetry.LptTmHead.{LptTmHead}
 use Rattle.lpt_c.specs.declared.telemetry.LptTm.{LptTm}
-use Rattle.lpt_c.specs.Buffers.{Text}
+use Rattle.lpt_c.specs.Buffers.{BufferText}
 use Rattle.lpt_c.specs.Codes.{range, too_long}
 use Rattle.lpt_c.specs.Packets.{in_range}
 use Rattle.lpt_c.specs.Readings.{message_read, packet_read}
@@ -34,7 +34,7 @@ abbrev pub tm_packet : LptTmHead → List ℕ → List ℕ
 tm_packet h body = spelling (tm_packet_of (as_written (telemetry h body)))
 
 -- the packet that is to be written
-abbrev pub tm_text : LptTmHead → List ℕ → Text
+abbrev pub tm_text : LptTmHead → List ℕ → BufferText
 tm_text h body =
     if tm_fits h then
     (if nat_le (length body) longest_tm_body then Ok (tm_packet h body) else Err too_long)

@@ -3,7 +3,7 @@
 ghost use Rattle.std.specs.Prelude.{◌≡◌, ◌+◌, ◌≤◌, length};
 ghost use Rattle.lpt_packet.specs.Numbers.{word_at};
 ghost use Rattle.lpt_pus.specs.Numbers.{long_at};
-ghost use Rattle.lpt_c.specs.Checks.{checked, checked_at};
+ghost use Rattle.lpt_c.specs.Checks.{area_checked, checked_at};
 ghost use Rattle.lpt_c.specs.Readings.{code_read, left_in};
 
 use crate::codes::{DONE, NO_REPORT, RANGE};
@@ -34,8 +34,8 @@ const CHECKED: usize = 8;
 /// 0, and `out` says what it is; 105 if the body is no such report; 102 if it has no area of
 /// this number.
 pub fn lpt_read_check(body: &[u8], number: usize, out: &mut LptChecked) -> u32
-    ensures code { result ≡ code_read (checked body.now number) }
-    ensures out { out.new ≡ left_in (λ x. x) (checked body.now number) out.old }
+    ensures code { result ≡ code_read (area_checked body.now number) }
+    ensures out { out.new ≡ left_in (λ x. x) (area_checked body.now number) out.old }
 {
     if body.len() < BODY_HEAD || body[1] == 0 {
         return NO_REPORT;
@@ -47,12 +47,12 @@ pub fn lpt_read_check(body: &[u8], number: usize, out: &mut LptChecked) -> u32
     if number >= areas {
         return RANGE;
     }
-    *out = checked(body, BODY_HEAD + CHECKED * number);
+    *out = checked_at(body, BODY_HEAD + CHECKED * number);
     DONE
 }
 
 // The area that stands at a place of the body.
-fn checked(body: &[u8], at: usize) -> LptChecked
+fn checked_at(body: &[u8], at: usize) -> LptChecked
     requires head { 2 ≤ at }
     requires room { at + 8 ≤ length body.now }
     ensures { result ≡ checked_at body.now at }

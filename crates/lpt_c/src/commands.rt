@@ -4,7 +4,7 @@ ghost use Rattle.std.specs.Prelude.{◌≡◌, ◌+◌, ◌≤◌, length, take,
 ghost use Rattle.lpt_packet.specs.Numbers.{be};
 ghost use Rattle.lpt_pus.specs.Sizes.{longest_tc_body};
 ghost use Rattle.lpt_c.specs.Buffers.{code_for, left_by, needed_by};
-ghost use Rattle.lpt_c.specs.Codes.{done, range};
+ghost use Rattle.lpt_c.specs.Codes.{all_done, range};
 ghost use Rattle.lpt_c.specs.Commands.{tc_fits, tc_packet, tc_text, tc_read, tc_told};
 ghost use Rattle.lpt_c.specs.Readings.{code_read, left_in};
 ghost use Rattle.lpt_c.specs.Standing.{rest_in, rest_len, standing};
@@ -151,8 +151,9 @@ fn fill_tc(head: &LptTcHead, body: Rest<'_>, out: &mut [u8], needed: &mut usize)
 ///
 /// 0; 102 if the APID is above 2046, the count above 16,383 or the flags above 15.
 pub fn lpt_request_id(head: &LptTcHead, id: &mut u32) -> u32
-    ensures code { result ≡ (if tc_fits head.now then done else range) }
-    ensures id { (body : List ℕ) → result ≡ done → be id.new 4 ≡ take 4 (tc_packet head.now body) }
+    ensures code { result ≡ (if tc_fits head.now then all_done else range) }
+    ensures id { (body : List ℕ) → result ≡ all_done → be id.new 4
+        ≡ take 4 (tc_packet head.now body) }
     ensures kept { result ≡ range → id.new ≡ id.old }
 {
     if head.apid > 2046 || head.count > 16383 || head.flags > 15 {

@@ -3,7 +3,7 @@
 ghost use Rattle.std.specs.Prelude.{◌≡◌, ◌+◌, ◌≤◌, length, drop, take, option_map, IfSome};
 ghost use Rattle.lpt_memory.specs.Fields.{all_areas};
 ghost use Rattle.lpt_memory.specs.Requests.{front_load_area};
-ghost use Rattle.lpt_c.specs.Dumps.{dumped, place_in, placed};
+ghost use Rattle.lpt_c.specs.Dumps.{area_dumped, place_in, area_placed};
 ghost use Rattle.lpt_c.specs.Readings.{code_read, left_in};
 
 use crate::codes::{CHECKSUM, DONE, NO_REPORT, RANGE};
@@ -48,8 +48,8 @@ const AREA_TAIL: usize = 2;
 /// this number; 6 if the area's checksum isn't that of its octets.
 #[tactic(auto, unfolding(lpt_memory::specs::Requests::request_in))]
 pub fn lpt_read_dump(body: &[u8], number: usize, out: &mut LptDumped) -> u32
-    ensures code { result ≡ code_read (dumped body.now number) }
-    ensures out { out.new ≡ left_in (λ x. x) (dumped body.now number) out.old }
+    ensures code { result ≡ code_read (area_dumped body.now number) }
+    ensures out { out.new ≡ left_in (λ x. x) (area_dumped body.now number) out.old }
 {
     let Some((_, areas, _)) = head(body) else {
         return NO_REPORT;
@@ -79,7 +79,7 @@ pub fn lpt_read_dump(body: &[u8], number: usize, out: &mut LptDumped) -> u32
 fn find_area(body: &[u8], areas: u8, number: usize) -> Option<Option<AreaPlace>>
     requires { 2 ≤ length body.now }
     ensures value { option_map (λ r. option_map (place_in body.now) r) result
-        ≡ option_map (placed 2 number) (all_areas front_load_area areas (drop 2 body.now)) }
+        ≡ option_map (area_placed 2 number) (all_areas front_load_area areas (drop 2 body.now)) }
     ensures within { IfSome result (λ r. IfSome r (λ p. p.at + p.len ≤ length body.now)) }
 {
     let mut at = BODY_HEAD;

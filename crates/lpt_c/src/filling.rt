@@ -1,7 +1,7 @@
 //! Writing to the front of a buffer of the caller's.
 
 ghost use Rattle.std.specs.Prelude.{◌≡◌, ◌+◌, ◌≤◌, ◌++◌, length, drop, Ok};
-ghost use Rattle.lpt_packet.specs.Packets.{fields_of, sealed, spelling};
+ghost use Rattle.lpt_packet.specs.Packets.{fields_of, octets_sealed, spelling};
 ghost use Rattle.lpt_packet.specs.Sizes.{longest_field, longest_packet};
 ghost use Rattle.lpt_memory.specs.Memories.{put_at};
 ghost use Rattle.lpt_c.specs.Buffers.{code_for, left_by};
@@ -70,7 +70,7 @@ fn write_packet_into(
 // The pieces, one behind the other, and their checksum, into a buffer of just their length.
 fn seal_into(primary: &[u8; PRIMARY_HEADER], header: &[u8], rest: Rest<'_>, out: &mut [u8])
     requires { length header.now + rest_len rest + 8 ≡ length out.old }
-    ensures { out.new ≡ sealed (primary.now ++ header.now ++ rest_in rest.entry
+    ensures { out.new ≡ octets_sealed (primary.now ++ header.now ++ rest_in rest.entry
         (6 + length header.now) out.old) }
 {
     let (before, last) = out.split_at_mut(out.len() - ERROR_CONTROL);

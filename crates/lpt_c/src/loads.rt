@@ -2,7 +2,7 @@
 
 ghost use Rattle.std.specs.Prelude.{◌≡◌};
 ghost use Rattle.lpt_c.specs.Buffers.{code_for, left_by, needed_by};
-ghost use Rattle.lpt_c.specs.Codes.{done};
+ghost use Rattle.lpt_c.specs.Codes.{all_done};
 ghost use Rattle.lpt_c.specs.Loads.{area_of, load_body, load_told, MeansLoad};
 
 use crate::codes::{BAD_AREA, LONG_LOAD};
@@ -30,7 +30,7 @@ pub fn lpt_write_load(
         ≡ needed_by (load_told memory (area_of address octets.now)) needed.old }
 
     // What is written means that load, in memories where it fits.
-    ensures means { result ≡ done → MeansLoad (load_body memory (area_of address octets.now))
+    ensures means { result ≡ all_done → MeansLoad (load_body memory (area_of address octets.now))
         memory (area_of address octets.now) }
 {
     if octets.is_empty() {

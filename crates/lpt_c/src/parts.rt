@@ -68,7 +68,7 @@ pub fn lpt_read_part(kind: u32, body: &[u8], part_size: u32, out: &mut LptPart) 
     ensures out { out.new
         ≡ left_in part_told (part_read (kind_named kind) body.now part_size) out.old }
 {
-    let Some(of_kind) = named(kind) else {
+    let Some(of_kind) = kind_named(kind) else {
         return RANGE;
     };
     if part_size < 4 || part_size > 1024 {
@@ -179,7 +179,7 @@ fn write_part(
         ≡ needed_by (part_text (kind_named kind) id number part_size
         (rest_in octets.entry 4 out.old)) needed.old }
 {
-    let Some(of_kind) = named(kind) else {
+    let Some(of_kind) = kind_named(kind) else {
         return RANGE;
     };
     if part_size < 4 || part_size > 1024 {
@@ -302,7 +302,7 @@ fn fill_part(
 }
 
 // The kind of a number.
-fn named(kind: u32) -> Option<Kind>
+fn kind_named(kind: u32) -> Option<Kind>
     ensures { result ≡ kind_named kind }
 {
     match kind {

@@ -5,7 +5,7 @@ ghost use Rattle.lpt_packet.specs.Sizes.{longest_packet};
 ghost use Rattle.lpt_stream.specs.Fronts.{Stays};
 ghost use Rattle.lpt_stream.specs.Pieces.{lookahead};
 ghost use Rattle.lpt_stream.specs.Strays.{strays_in};
-ghost use Rattle.lpt_c.specs.Codes.{done};
+ghost use Rattle.lpt_c.specs.Codes.{all_done};
 ghost use Rattle.lpt_c.specs.Pieces.{is_set, kind_number, piece_read};
 ghost use Rattle.lpt_c.specs.Readings.{code_read, left_in};
 
@@ -35,7 +35,7 @@ pub fn lpt_find_piece(
     // It stands in front, whatever comes behind. Octets of two packets always show it.
     ensures stays { IfOk (piece_read in_step is_end octets.now)
         (Stays (is_set in_step) (is_set is_end) octets.now) }
-    ensures enough { lookahead ≤ length octets.now → result ≡ done }
+    ensures enough { lookahead ≤ length octets.now → result ≡ all_done }
 {
     let Some(found) = piece_in_front(octets, in_step != 0, is_end != 0) else {
         return MORE;

@@ -5,7 +5,7 @@ ghost use Rattle.std.specs.List.{flat_map, AllByRecursion};
 ghost use Rattle.lpt_memory.specs.Memories.{put_at};
 ghost use Rattle.lpt_memory.specs.Spellings.{range_text, AreAreas, RangeFits};
 ghost use Rattle.lpt_c.specs.Buffers.{code_for, left_by, needed_by};
-ghost use Rattle.lpt_c.specs.Codes.{done};
+ghost use Rattle.lpt_c.specs.Codes.{all_done};
 ghost use Rattle.lpt_c.specs.Requests.{any_empty, are_unfit, range_of, ranges_body, ranges_text, IsInRange, MeansCheck, MeansDump};
 
 use crate::codes::{BAD_AREA, DONE, ROOM};
@@ -38,7 +38,7 @@ pub fn lpt_write_dump(memory: u8, ranges: &[LptRange], out: &mut [u8], needed: &
     ensures needed { needed.new ≡ needed_by (ranges_text memory ranges.now) needed.old }
 
     // What is written means that dump, in memories where it fits.
-    ensures means { result ≡ done
+    ensures means { result ≡ all_done
         → MeansDump (ranges_body memory ranges.now) memory (map range_of ranges.now) }
 {
     fill_ranges(memory, ranges, out, needed)
@@ -55,7 +55,7 @@ pub fn lpt_write_check(memory: u8, ranges: &[LptRange], out: &mut [u8], needed: 
     ensures needed { needed.new ≡ needed_by (ranges_text memory ranges.now) needed.old }
 
     // What is written means that check, in memories where it fits.
-    ensures means { result ≡ done
+    ensures means { result ≡ all_done
         → MeansCheck (ranges_body memory ranges.now) memory (map range_of ranges.now) }
 {
     fill_ranges(memory, ranges, out, needed)
@@ -66,7 +66,7 @@ fn fill_ranges(memory: u8, ranges: &[LptRange], out: &mut [u8], needed: &mut usi
     ensures code { result ≡ code_for (ranges_text memory ranges.now) out.old }
     ensures buffer { out.new ≡ left_by (ranges_text memory ranges.now) out.old }
     ensures needed { needed.new ≡ needed_by (ranges_text memory ranges.now) needed.old }
-    ensures fits { result ≡ done → AreAreas RangeFits (map range_of ranges.now) }
+    ensures fits { result ≡ all_done → AreAreas RangeFits (map range_of ranges.now) }
 {
     if are_unfit(ranges) {
         return BAD_AREA;

@@ -11,7 +11,7 @@ use Rattle.lpt_execution.specs.declared.ending.Ending.{Ending}
 use Rattle.lpt_execution.specs.declared.ending.Ending.TheVariants.{Refused}
 use Rattle.lpt_jobs.specs.declared.job.Job.{Job}
 use Rattle.lpt_jobs.specs.declared.job.Job.TheVariants.{Waiting, Claimed, Committed}
-use Rattle.lpt_jobs.specs.Jobs.{head_of, Head, NoJob, NotReady, Ready, after_commit, claimed_in, unclaimed, without_front}
+use Rattle.lpt_jobs.specs.Jobs.{head_of, Head, NoJob, NotReady, Ready, after_commit, claimed_in, oldest_unclaimed, without_front}
 use Rattle.lpt_memory.specs.Meanings.{Sizes}
 use Rattle.lpt_memory.specs.Ranges.{MeaningFits}
 use Rattle.lpt_memory.specs.Memories.{Contents, sizes_of, effect}
@@ -19,18 +19,18 @@ use Rattle.lpt_packet.specs.declared.direction.Direction.{Direction}
 use Rattle.lpt_pus.specs.declared.failure_code.FailureCode.{FailureCode}
 use Rattle.lpt_node.specs.declared.accepted.Accepted.{Accepted}
 use Rattle.lpt_node.specs.declared.expired.Expired.{Expired}
-use Rattle.lpt_node.specs.Accepting.{accepted}
-use Rattle.lpt_node.specs.Restarts.{retired, restarted}
+use Rattle.lpt_node.specs.Accepting.{packet_accepted}
+use Rattle.lpt_node.specs.Restarts.{name_retired, node_restarted}
 use Rattle.lpt_node.proofs.JobLemmas.{jobs_accepted}
 use Rattle.lpt_memory.proofs.MeaningLemmas.{meaning-fits}
 use Rattle.lpt_memory.proofs.PutLemmas.{sizes_of-effect}
-use Rattle.lpt_memory.specs.Readings.{Source, meant, Job as Ticket}
-use Rattle.lpt_node.specs.Jobs.{FrontIsFor, IsReadFor, Execution, claimed, claimed_of, committed, ending_given, executed, executed_given, executed_of, executed_so, refused_front, with_opened}
+use Rattle.lpt_memory.specs.Readings.{Source, source_meaning, Job as Ticket}
+use Rattle.lpt_node.specs.Jobs.{FrontIsFor, IsReadFor, Execution, job_claimed, claimed_of, job_committed, ending_given, job_executed, executed_given, executed_of, executed_so, refused_front, with_opened}
 use Rattle.lpt_node.specs.Nodes.{NodeData, NodeView, direction_from, message_at}
 use Rattle.lpt_node.specs.Receiving.{with_report}
 use Rattle.lpt_node.specs.Requests.{plain_made}
-use Rattle.lpt_node.specs.Sending.{opened, sent, sent_of, closed}
-use Rattle.lpt_node.specs.Times.{clock_back, ticked, expired, expired_of, due, given_up}
+use Rattle.lpt_node.specs.Sending.{message_opened, part_sent, sent_of, sender_closed}
+use Rattle.lpt_node.specs.Times.{clock_back, clock_ticked, reception_expired, expired_of, due, given_up}
 use Rattle.lpt_c_end.specs.Changes.{ticked_by}
 use Rattle.lpt_c_end.specs.Ready.{IsReading, IsReady}
 
@@ -79,7 +79,7 @@ keeps_report d None = λ apid sizes all. all
 keeps_report d (Some o) = λ apid sizes all. all
 
 keeps_accepted : (side : Side) (c : Config) (d : NodeData) (a : Arrival)
-    → Keeps d (accepted side c d a).0
+    → Keeps d (packet_accepted side c d a).0
 keeps_accepted side c d a apid sizes all =
     let P = IsReading apid sizes in
     jobs_accepted (All P) (λ js m these. All-push P js (Waiting m) these (waiting-reading apid sizes m)) side c d a all
@@ -136,7 +136,7 @@ ready_same n new own config at is = becomes n new own n.at config at (λ apid si
 
 pub ready_ticked : {A B : Type 0} (r : Result A B) (n new : NodeView) (own : Option Sizes)
     → new.config ≡ n.config
-    → OnOk r (new.at ≡ ticked n.at)
+    → OnOk r (new.at ≡ clock_ticked n.at)
     → OnErr r (new.at ≡ n.at)
     → IsReady n own
     → IsReady new own
@@ -162,7 +162,7 @@ ready_rebased n new own ticks config at is = becomes n new own _ config at
 pub ready_opened : {A B : Type 0} (r : Result A B) (n new : NodeView) (own : Option Sizes)
     (name : Name) (m : List ℕ)
     → new.config ≡ n.config
-    → OnOk r (new.at ≡ opened n.at name m)
+    → OnOk r (new.at ≡ message_opened n.at name m)
     → OnErr r (new.at ≡ n.at)
     → IsReady n own
     → IsReady new own
@@ -172,7 +172,7 @@ ready_opened r n new own name m config ok err is = by_result r n new own _ confi
 pub ready_closed : {A B : Type 0} (r : Result A B) (n new : NodeView) (own : Option Sizes)
     (name : Name)
     → new.config ≡ n.config
-    → OnOk r (new.at ≡ closed n.at name)
+    → OnOk r (new.at ≡ sender_closed n.at name)
     → OnErr r (new.at ≡ n.at)
     → IsReady n own
     → IsReady new own
@@ -182,7 +182,7 @@ ready_closed r n new own name config ok err is = by_result r n new own _ config 
 pub ready_retired : (n new : NodeView) (own : Option Sizes) (side : Side) (way : Direction)
     (name : Name)
     → new.config ≡ n.config
-    → new.at ≡ retired side n.at way name
+    → new.at ≡ name_retired side n.at way name
     → IsReady n own
     → IsReady new own
 ready_retired n new own side way name config at is =
@@ -192,7 +192,7 @@ ready_retired n new own side way name config at is =
 
 pub ready_restarted : (n new : NodeView) (own : Option Sizes)
     → new.config ≡ n.config
-    → new.at ≡ restarted n.at
+    → new.at ≡ node_restarted n.at
     → IsReady n own
     → IsReady new own
 ready_restarted n new own config at is = becomes n new own _ config at
@@ -201,7 +201,7 @@ ready_restarted n new own config at is = becomes n new own _ config at
 pub ready_accepted : (n new : NodeView) (own : Option Sizes) (side : Side) (c : Config)
     (r : Accepted) (a : Arrival)
     → new.config ≡ n.config
-    → (new.at, r) ≡ accepted side c n.at a
+    → (new.at, r) ≡ packet_accepted side c n.at a
     → IsReady n own
     → IsReady new own
 ready_accepted n new own side c r a config is_so is =
@@ -211,7 +211,7 @@ ready_accepted n new own side c r a config is_so is =
 pub ready_sent : (n new : NodeView) (own : Option Sizes) (side : Side) (c : Config) (o : List ℕ)
     (name : Name) (k : ℕ)
     → new.config ≡ n.config
-    → (new.at, o) ≡ sent side c n.at name k
+    → (new.at, o) ≡ part_sent side c n.at name k
     → IsReady n own
     → IsReady new own
 ready_sent n new own side c o name k config is_so is =
@@ -230,7 +230,7 @@ ready_plain n new own c o source flags service subtype body config is_so is =
 
 pub ready_expired : (n new : NodeView) (own : Option Sizes) (side : Side) (c : Config) (r : Expired)
     → new.config ≡ n.config
-    → (new.at, r) ≡ expired side c n.at
+    → (new.at, r) ≡ reception_expired side c n.at
     → IsReady n own
     → IsReady new own
 ready_expired n new own side c r config is_so is =
@@ -270,7 +270,7 @@ committed_keeps : (apid : ℕ) (sizes : Sizes) (d : NodeData) (boot job : ℕ) (
     → r.apid ≡ apid
     → r.sizes ≡ sizes
     → All (IsReading apid sizes) d.jobs.jobs
-    → All (IsReading apid sizes) (committed d boot job r).0.jobs.jobs
+    → All (IsReading apid sizes) (job_committed d boot job r).0.jobs.jobs
 committed_keeps apid sizes d boot job r its fits all = go (boot == d.boot) where
   go : (b : Bool)
       → All (IsReading apid sizes) (first_of (if b then (record d { jobs = after_commit d.jobs job r }, true) else (d, false))).jobs.jobs
@@ -282,9 +282,9 @@ pub ready_read : (n mid new : NodeView) (own : Option Sizes) (m : Sizes) (t : Ti
     (boot job : ℕ) (r : Source)
     → own ≡ Some m
     → mid.config ≡ n.config
-    → (mid.at, t) ≡ claimed n.at
+    → (mid.at, t) ≡ job_claimed n.at
     → new.config ≡ mid.config
-    → (new.at, b) ≡ committed mid.at boot job r
+    → (new.at, b) ≡ job_committed mid.at boot job r
     → r.apid ≡ n.config.apid
     → r.sizes ≡ m
     → IsReady n own
@@ -295,7 +295,7 @@ ready_read n mid new own m t b boot job r is c1 k1 c2 k2 its fits all m' some =
     let P = IsReading n.config.apid m' in
     let claim : All P mid.at.jobs.jobs =
     subst (λ (d : NodeData). All P d.jobs.jobs) (sym (ap (λ (y : NodeData × Ticket). y.0) k1))
-    (keeps_claimed n.at (unclaimed n.at.jobs) n.config.apid m' (all m' some))
+    (keeps_claimed n.at (oldest_unclaimed n.at.jobs) n.config.apid m' (all m' some))
     in
     let commit : All P new.at.jobs.jobs =
     subst (λ (d : NodeData). All P d.jobs.jobs) (sym (ap (λ (y : NodeData × Bool). y.0) k2))
@@ -315,9 +315,10 @@ executed_keeps : (c : Config) (d : NodeData) (ms : Contents) (h : Head) (apid : 
 executed_keeps c d ms NoJob apid front all = all
 executed_keeps c d ms NotReady apid front all = all
 executed_keeps c d ms (Ready r) apid front all =
-    let same : sizes_of (effect (meant r) ms) ≡ sizes_of ms =
-    sizes_of-effect (meant r) ms
-    (subst (λ (s : Sizes). MeaningFits s (meant r)) front.1 (meaning-fits r.apid r.sizes r.message))
+    let same : sizes_of (effect (source_meaning r) ms) ≡ sizes_of ms =
+    sizes_of-effect (source_meaning r) ms
+    (subst (λ (s : Sizes). MeaningFits s (source_meaning r)) front.1
+    (meaning-fits r.apid r.sizes r.message))
     in
     subst (λ (s : Sizes). All (IsReading apid s) (executed_of c d ms (Ready r)).0.0.jobs.jobs) (sym same)
     (opened_keeps _ _ apid (sizes_of ms) (All-drop (IsReading apid (sizes_of ms)) 1 d.jobs.jobs all))
@@ -327,7 +328,7 @@ pub ready_executed : (n new : NodeView) (own after : Option Sizes) (m left : Con
     → own ≡ Some (sizes_of m)
     → after ≡ Some (sizes_of left)
     → new.config ≡ n.config
-    → ((new.at, x), left) ≡ executed n.config n.at m
+    → ((new.at, x), left) ≡ job_executed n.config n.at m
     → IsReady n own
     → IsReady new after
 ready_executed n new own after m left x some last config done all z is =

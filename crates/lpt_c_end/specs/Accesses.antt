@@ -5,10 +5,10 @@ use Rattle.std.specs.List.{slice_get}
 use Rattle.std.specs.Option.{option_and_then, option_map}
 use Rattle.lpt_jobs.specs.Jobs.{head_of}
 use Rattle.lpt_memory.specs.declared.given.Access.{Access}
-use Rattle.lpt_memory.specs.Given.{accesses, read_length, written}
+use Rattle.lpt_memory.specs.Given.{accesses, read_length, octets_written}
 use Rattle.lpt_memory.specs.Memories.{Contents, sizes_of}
-use Rattle.lpt_memory.specs.Readings.{Source, meant}
-use Rattle.lpt_node.specs.Jobs.{FrontHolds, executed, executed_given, front_reading, refusal_apply}
+use Rattle.lpt_memory.specs.Readings.{Source, source_meaning}
+use Rattle.lpt_node.specs.Jobs.{FrontHolds, job_executed, executed_given, front_reading, refusal_apply}
 use Rattle.lpt_c_end.specs.Changes.{IsFixed}
 use Rattle.lpt_c_end.specs.Codes.{empty, node_code, read_length_fault}
 use Rattle.lpt_c_end.specs.Copies.{Text}
@@ -43,7 +43,7 @@ unready e = node_code (refusal_apply e.node.at)
 -- its access of a number
 abbrev pub access_of : (number : ℕ) → End → Option LptAccess
 access_of number e =
-    option_and_then (λ r. option_map access_word (slice_get (accesses (meant r)) number))
+    option_and_then (λ r. option_map access_word (slice_get (accesses (source_meaning r)) number))
     (first_read e)
 
 -- a refusal, or else that there is nothing
@@ -68,7 +68,8 @@ text_by None o = text_or_nothing o
 abbrev pub written_by : (number : ℕ) → Option End → Text
 written_by number None = Err empty
 written_by number (Some e) =
-    text_by (unready e) (option_and_then (λ r. slice_get (written (meant r)) number) (first_read e))
+    text_by (unready e)
+    (option_and_then (λ r. slice_get (octets_written (source_meaning r)) number) (first_read e))
 
 -- ---- its execution by the octets that it reads
 
@@ -77,7 +78,7 @@ abbrev pub length_refusal : Option ℕ → Option Source → List ℕ → Option
 length_refusal (Some fault) first octets = Some fault
 length_refusal None None octets = None
 length_refusal None (Some r) octets =
-    if length octets == read_length (meant r) then None else Some read_length_fault
+    if length octets == read_length (source_meaning r) then None else Some read_length_fault
 
 -- why it isn't executed so
 abbrev pub given_refusal : List ℕ → End → Option ℕ
@@ -104,4 +105,4 @@ IsOver octets e =
     (ms : Contents)
     → e.memories ≡ Elsewhere (sizes_of ms)
     → FrontHolds (head_of e.node.at.jobs.jobs) ms octets
-    → executed_given e.config e.node.at octets ≡ (executed e.config e.node.at ms).0
+    → executed_given e.config e.node.at octets ≡ (job_executed e.config e.node.at ms).0

@@ -4,7 +4,7 @@ use Rattle.std.specs.Option.{option_and_then}
 use Rattle.lpt_jobs.specs.Jobs.{oldest}
 use Rattle.lpt_pus.specs.Commands.{Command, command_in}
 use Rattle.lpt_c.specs.declared.dumps.LptDumped.{LptDumped}
-use Rattle.lpt_c.specs.Dumps.{dumped}
+use Rattle.lpt_c.specs.Dumps.{area_dumped}
 use Rattle.lpt_c_end.specs.Codes.{empty, no_job, nothing, range}
 use Rattle.lpt_c_end.specs.Copies.{Text}
 use Rattle.lpt_c_end.specs.Kept.{content_by}
@@ -30,7 +30,8 @@ area_told (Err fault) = None
 -- where the area of a number goes, of the load that octets are; a load's body is encoded as the
 -- report that answers a dump
 abbrev pub area_in : (apid k : ℕ) → List ℕ → Option LptArea
-area_in apid k octets = option_and_then (λ body. area_told (dumped body k)) (load_in apid octets)
+area_in apid k octets =
+    option_and_then (λ body. area_told (area_dumped body k)) (load_in apid octets)
 
 -- the same, of the oldest job that waits
 abbrev pub area_asked : (k : ℕ) → End → Option LptArea

@@ -8,13 +8,13 @@ use Rattle.lpt_memory.specs.Meanings.{Sizes}
 use Rattle.lpt_packet.specs.Names.{Name}
 use Rattle.lpt_node.specs.declared.accepted.Accepted.{Accepted}
 use Rattle.lpt_node.specs.declared.expired.Expired.{Expired}
-use Rattle.lpt_node.specs.Accepting.{accepted}
-use Rattle.lpt_node.specs.Restarts.{retired, restarted}
-use Rattle.lpt_node.specs.Jobs.{Execution, claimed, committed, executed, not_executed}
+use Rattle.lpt_node.specs.Accepting.{packet_accepted}
+use Rattle.lpt_node.specs.Restarts.{name_retired, node_restarted}
+use Rattle.lpt_node.specs.Jobs.{Execution, job_claimed, job_committed, job_executed, not_executed}
 use Rattle.lpt_node.specs.Nodes.{NodeData, NodeView, new_node}
 use Rattle.lpt_node.specs.Requests.{plain_made}
-use Rattle.lpt_node.specs.Sending.{opened, sent, closed}
-use Rattle.lpt_node.specs.Times.{ticked, expired, clock_back, given_up}
+use Rattle.lpt_node.specs.Sending.{message_opened, part_sent, sender_closed}
+use Rattle.lpt_node.specs.Times.{clock_ticked, reception_expired, clock_back, given_up}
 use Rattle.lpt_c_end.specs.Contents.{memories_of}
 use Rattle.lpt_c_end.specs.Words.{direction_from}
 use Rattle.lpt_c_end.specs.Kept.{sizes_in}
@@ -73,7 +73,7 @@ IsNew s c ms content = IsNewWith s c (memories_of s ms content)
 -- what the node does with octets that were delivered to it
 abbrev pub delivery : End → List ℕ → NodeData × Accepted
 delivery e b =
-    accepted e.side e.config e.node.at (arrival e.side e.config.apid e.config.part_size b)
+    packet_accepted e.side e.config e.node.at (arrival e.side e.config.apid e.config.part_size b)
 
 -- the octets were taken: what was released of them is kept until the next are taken, and a report
 -- is to be sent
@@ -85,7 +85,7 @@ pub record IsDelivered (b : List ℕ) (e new : End) : Type 0 where
 
 -- what the node does where a reception is given up
 abbrev pub expiry : End → NodeData × Expired
-expiry e = expired e.side e.config e.node.at
+expiry e = reception_expired e.side e.config e.node.at
 
 -- the reception that is due was given up, and a report of it is to be sent
 abbrev pub IsExpired : End → End → Type 0
@@ -104,11 +104,11 @@ IsGivenUp name e =
 
 -- a message was taken to be sent
 abbrev pub IsOpened : Name → List ℕ → End → End → Type 0
-IsOpened name message e = Becomes (opened e.node.at name message) e
+IsOpened name message e = Becomes (message_opened e.node.at name message) e
 
 -- what the node does where a part is sent
 abbrev pub part_of : Name → (k : ℕ) → End → NodeData × List ℕ
-part_of name k e = sent e.side e.config e.node.at name k
+part_of name k e = part_sent e.side e.config e.node.at name k
 
 -- the packet of a part is to be sent
 abbrev pub IsPartMade : Name → (k : ℕ) → End → End → Type 0
@@ -126,7 +126,7 @@ IsPlainMade source flags service subtype body e =
 
 -- a message was finished
 abbrev pub IsFinished : Name → End → End → Type 0
-IsFinished name e = Becomes (closed e.node.at name) e
+IsFinished name e = Becomes (sender_closed e.node.at name) e
 
 -- the first packet that was to be sent was let go
 pub record IsLetGo (e new : End) : Type 0 where
@@ -143,7 +143,7 @@ IsRebased ticks e = Becomes (clock_back ticks e.node.at) e
 
 -- the clock is one tick on
 abbrev pub IsTicked : End → End → Type 0
-IsTicked e = Becomes (ticked e.node.at) e
+IsTicked e = Becomes (clock_ticked e.node.at) e
 
 -- the end as many ticks later
 abbrev pub ticked_by : (ticks : ℕ) → NodeData → NodeData
@@ -155,11 +155,12 @@ IsTickedBy ticks e = Becomes (ticked_by ticks e.node.at) e
 
 -- a name was freed
 abbrev pub IsRetired : (direction : ℕ) → Name → End → End → Type 0
-IsRetired direction name e = Becomes (retired e.side e.node.at (direction_from direction) name) e
+IsRetired direction name e =
+    Becomes (name_retired e.side e.node.at (direction_from direction) name) e
 
 -- the end was restarted
 abbrev pub IsRestarted : End → End → Type 0
-IsRestarted e = Becomes (restarted e.node.at) e
+IsRestarted e = Becomes (node_restarted e.node.at) e
 
 -- ---- jobs
 
@@ -167,7 +168,7 @@ IsRestarted e = Becomes (restarted e.node.at) e
 -- handed in
 abbrev pub read_as : List ℕ → Config → Sizes → NodeData → NodeData
 read_as message c sizes d =
-    (committed (claimed d).0 (claimed d).1.boot (claimed d).1.job (record {
+    (job_committed (job_claimed d).0 (job_claimed d).1.boot (job_claimed d).1.job (record {
       apid = c.apid;
       sizes = sizes;
       message = message;
@@ -175,7 +176,7 @@ read_as message c sizes d =
 
 -- the oldest job that waits is claimed, and what it means for such memories is handed in
 abbrev pub read_over : Config → Sizes → NodeData → NodeData
-read_over c sizes d = read_as (claimed d).1.message c sizes d
+read_over c sizes d = read_as (job_claimed d).1.message c sizes d
 
 -- the same, where there are memories
 abbrev pub read_by : Config → Option Sizes → NodeData → NodeData
@@ -203,7 +204,7 @@ IsReadDropped e = Becomes (record e.node.at { jobs = without_front e.node.at.job
 -- memories
 abbrev pub execution_by : Config → Kept → NodeData → (NodeData × Execution) × Kept
 execution_by c Nowhere d = ((d, not_executed), Nowhere)
-execution_by c (Here ms) d = ((executed c d ms).0, Here (executed c d ms).1)
+execution_by c (Here ms) d = ((job_executed c d ms).0, Here (job_executed c d ms).1)
 execution_by c (Elsewhere sizes) d = ((d, not_executed), Elsewhere sizes)
 
 -- the same, of an end

@@ -10,8 +10,8 @@ use Rattle.lpt_node.specs.declared.fault.NodeFault.{NodeFault}
 use Rattle.lpt_node.specs.Faults.{node_fault}
 
 -- it is done
-abbrev pub done : ℕ
-done = 0
+abbrev pub all_done : ℕ
+all_done = 0
 
 -- ---- faults that have their numbers elsewhere
 
@@ -91,11 +91,11 @@ read_length_fault = 120
 
 -- the answer of a call that takes no memory, where this refuses it
 abbrev pub answer : Option ℕ → ℕ
-answer None = done
+answer None = all_done
 answer (Some fault) = fault
 
 -- the answer of a call that takes memory, where this refuses it; where nothing does, out of memory
 -- alone can
 abbrev pub IsAnswer : Option ℕ → ℕ → Type 0
-IsAnswer None code = (code ≡ done) ⊎ (code ≡ memory)
+IsAnswer None code = (code ≡ all_done) ⊎ (code ≡ memory)
 IsAnswer (Some fault) code = code ≡ fault

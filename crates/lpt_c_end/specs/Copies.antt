@@ -1,6 +1,6 @@
 -- Octets that are copied to the front of a buffer of the caller's.
 use Rattle.std.specs.Prelude.{ℕ, nat_le, if◌then◌else◌, List, ◌++◌, length, drop, Result, Ok, Err}
-use Rattle.lpt_c_end.specs.Codes.{done, room}
+use Rattle.lpt_c_end.specs.Codes.{all_done, room}
 
 -- what is copied, or the number of the fault for which nothing is
 abbrev pub Text : Type 0
@@ -8,7 +8,7 @@ Text = Result (List ℕ) ℕ
 
 -- what is answered for a buffer that holds these octets
 abbrev pub code_for : Text → List ℕ → ℕ
-code_for (Ok text) old = if nat_le (length text) (length old) then done else room
+code_for (Ok text) old = if nat_le (length text) (length old) then all_done else room
 code_for (Err fault) old = fault
 
 -- what the buffer holds afterwards: the text, and behind it what was there; all that was there,
@@ -27,7 +27,7 @@ needed_by (Err fault) old = old
 
 -- what is answered
 abbrev pub code_of : Text → ℕ
-code_of (Ok text) = done
+code_of (Ok text) = all_done
 code_of (Err fault) = fault
 
 -- what the buffer holds afterwards: the text, or all that was there, where there is none

@@ -7,7 +7,7 @@ use Rattle.lpt_node.specs.Nodes.{NodeView}
 use Rattle.lpt_state.specs.declared.fault.StateFault.{StateFault}
 use Rattle.lpt_state.specs.declared.fault.StateFault.TheVariants as fault
 use Rattle.lpt_state.specs.Lastings.{restarted_node}
-use Rattle.lpt_state.specs.Spellings.{spelled}
+use Rattle.lpt_state.specs.Spellings.{state_spelled}
 use Rattle.lpt_state.specs.Verdicts.{reading}
 use Rattle.lpt_c_end.specs.Codes.{empty, memory, no_number, range}
 use Rattle.lpt_c_end.specs.Contents.{memories_of}
@@ -24,14 +24,14 @@ use Rattle.lpt_c_end.specs.declared.words.LptConfig.{LptConfig}
 -- its octets
 abbrev pub state_text : Option End → Text
 state_text None = Err empty
-state_text (Some e) = Ok (spelled e.node)
+state_text (Some e) = Ok (state_spelled e.node)
 
 -- what is read of the end's state, by its side and configuration, is the end that a restart leaves,
 -- where a number is left for one
 abbrev pub ReadsAsRestarted : End → Type 0
 ReadsAsRestarted e =
     e.node.at.boot + 1 < 2 ^ 64
-    → reading e.side e.config (spelled e.node) ≡ Ok (restarted_node e.node)
+    → reading e.side e.config (state_spelled e.node) ≡ Ok (restarted_node e.node)
 
 -- ---- an end that is made again
 

@@ -5,7 +5,7 @@ use Rattle.lpt_events.specs.Counts.{greatest_clock}
 use Rattle.lpt_events.specs.declared.config_fault.ConfigFault.{ConfigFault}
 use Rattle.lpt_events.specs.declared.side.Side.{Side}
 use Rattle.lpt_events.specs.declared.side.Side.TheVariants.{Ground, Craft}
-use Rattle.lpt_jobs.specs.Jobs.{numbered}
+use Rattle.lpt_jobs.specs.Jobs.{jobs_numbered}
 use Rattle.lpt_packet.specs.Names.{Name}
 use Rattle.lpt_node.specs.Restarts.{may_retire}
 use Rattle.lpt_node.specs.Requests.{refusal_plain}
@@ -52,7 +52,7 @@ new_refusal side c ms content =
 
 -- a packet is taken while there is a number for one job more
 abbrev pub packet_refusal : End → Option ℕ
-packet_refusal e = if numbered e.node.at.jobs == last_number then Some no_number else None
+packet_refusal e = if jobs_numbered e.node.at.jobs == last_number then Some no_number else None
 
 -- the clock isn't set on
 abbrev pub tick_refusal : End → Option ℕ

@@ -7,7 +7,7 @@ use Rattle.lpt_part.specs.Splitting.{part_count}
 use Rattle.lpt_reception.specs.Missing.{IsLastNumber, IsNextMissing}
 use Rattle.lpt_table.specs.Tables.{TableEntry}
 use Rattle.lpt_node.specs.Nodes.{message_at}
-use Rattle.lpt_c_end.specs.Codes.{done, empty, not_open, nothing}
+use Rattle.lpt_c_end.specs.Codes.{all_done, empty, not_open, nothing}
 use Rattle.lpt_c_end.specs.Words.{name_word}
 use Rattle.lpt_c_end.specs.declared.end.End.{End}
 use Rattle.lpt_c_end.specs.declared.walking.LptReception.{LptReception}
@@ -53,7 +53,7 @@ IsReceptionTold number said e =
 -- the answer where this is missing next, or nothing is, and what is told
 abbrev pub IsMissingWord : (missing : Option ℕ) → (code before told : ℕ) → Type 0
 IsMissingWord None code before told = (code ≡ nothing) × (told ≡ before)
-IsMissingWord (Some n) code before told = (code ≡ done) × (told ≡ n)
+IsMissingWord (Some n) code before told = (code ≡ all_done) × (told ≡ n)
 
 -- the same of an open reception, or of none
 abbrev pub IsMissingIn : Option TableEntry → (from code before told : ℕ) → Type 0

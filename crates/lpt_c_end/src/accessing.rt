@@ -172,7 +172,7 @@ impl End {
         let Some(reading) = self.node.front() else {
             unreachable!()
         };
-        let Some(octets) = reading.written(number) else {
+        let Some(octets) = reading.octets_written(number) else {
             return NOTHING;
         };
         copy_out(octets, out, needed)

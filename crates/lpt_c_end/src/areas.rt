@@ -2,7 +2,7 @@
 
 ghost use Rattle.std.specs.Prelude.{◌≡◌, length};
 ghost use Rattle.lpt_packet.specs.Numbers.{IsOctets};
-ghost use Rattle.lpt_c.specs.Dumps.{dumped};
+ghost use Rattle.lpt_c.specs.Dumps.{area_dumped};
 ghost use Rattle.lpt_c_end.specs.Areas.{area_in, area_refusal, area_told, octets_of, range_in, IsAreaAsked};
 ghost use Rattle.lpt_c_end.specs.Calls.{IfHeld};
 ghost use Rattle.lpt_c_end.specs.Codes.{answer};
@@ -90,7 +90,7 @@ impl End {
         ensures told { result ≡ 0 → IsAreaAsked number area.new self.now }
         ensures untold { ¬ (result ≡ 0) → area.new ≡ area.old }
     {
-        let Some((_, message)) = self.node.unclaimed() else {
+        let Some((_, message)) = self.node.oldest_unclaimed() else {
             return NO_JOB;
         };
         let Some(found) = area_in(self.config.apid, message.as_slice(), number) else {
@@ -122,7 +122,7 @@ fn area_in(apid: u16, octets: &[u8], number: usize) -> Option<LptArea>
 
 // An area of a load's body.
 fn area_of_load(body: &[u8], number: usize) -> Option<LptArea>
-    ensures { result ≡ area_told (dumped body.now number) }
+    ensures { result ≡ area_told (area_dumped body.now number) }
 {
     let mut found = LptDumped {
         memory: 0,

@@ -16,7 +16,7 @@ use crate::end::End;
 use crate::handle::{LptEnd, put, take};
 use crate::words::{LptName, direction_of, name_of, name_word_of};
 use lpt_events::Side;
-use lpt_ledger::{Ledger, Run, State};
+use lpt_ledger::{Ledger, NameRun, State};
 use lpt_packet::{Direction, Name};
 use std::alloc::Global;
 
@@ -111,7 +111,7 @@ impl End {
     }
 
     // The first of a run's names that is closed, from one on.
-    fn closed_in(&self, run: Run, direction: Direction, from: Name) -> Option<Name>
+    fn closed_in(&self, run: NameRun, direction: Direction, from: Name) -> Option<Name>
         ensures { result ≡ find (is_sought direction from self.now) (names_of run) }
     {
         let start = start_in(run, from);
@@ -129,7 +129,7 @@ impl End {
 }
 
 // The identifier from which on the names of a run aren't before this one.
-fn start_in(run: Run, from: Name) -> u32
+fn start_in(run: NameRun, from: Name) -> u32
     ensures begins { run.first ≤ result }
     ensures before { (i : ℕ) → run.first ≤ i → i < result → i ≤ run.last
         → is_from from (named_by run.source i) ≡ false }

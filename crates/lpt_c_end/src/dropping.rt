@@ -64,7 +64,7 @@ impl End {
         ensures untold { ¬ (result ≡ 0)
             → (service.new ≡ service.old) × (subtype.new ≡ subtype.old) }
     {
-        let Some((_, message)) = self.node.unclaimed() else {
+        let Some((_, message)) = self.node.oldest_unclaimed() else {
             return NO_JOB;
         };
         let Some((asked, kind)) = types_in(self.config.apid, message.as_slice()) else {

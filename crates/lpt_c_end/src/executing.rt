@@ -112,7 +112,7 @@ impl End {
         if matches!(self.memories, Kept::Nowhere) {
             return NO_JOB;
         }
-        let Some((_, message)) = self.node.unclaimed() else {
+        let Some((_, message)) = self.node.oldest_unclaimed() else {
             return NO_JOB;
         };
         match message.copy() {
@@ -130,7 +130,7 @@ impl End {
             self.old self.new }
         ensures refused { ¬ (result ≡ 0) → IsSame self.old self.new }
     {
-        let Some((number, _)) = self.node.unclaimed() else {
+        let Some((number, _)) = self.node.oldest_unclaimed() else {
             return NO_JOB;
         };
         let shape = match self.memories.shape() {

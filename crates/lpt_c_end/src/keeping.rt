@@ -2,7 +2,7 @@
 
 ghost use Rattle.std.specs.Prelude.{◌≡◌, None, IfOk, IfErr, Ok, OnOk};
 ghost use Rattle.lpt_events.specs.Configs.{IsConfig};
-ghost use Rattle.lpt_state.specs.Spellings.{spelled};
+ghost use Rattle.lpt_state.specs.Spellings.{state_spelled};
 ghost use Rattle.lpt_c_end.specs.Addresses.{end_at};
 ghost use Rattle.lpt_c_end.specs.Calls.{IfHeld};
 ghost use Rattle.lpt_c_end.specs.Codes.{IsAnswer};
@@ -86,9 +86,9 @@ pub fn lpt_end_resume(
 impl End {
     // Copies the state to the front of a buffer.
     fn copy_state(&self, out: &mut [u8], needed: &mut usize) -> u32
-        ensures code { result ≡ code_for (Ok (spelled self.now.node)) out.old }
-        ensures buffer { out.new ≡ left_by (Ok (spelled self.now.node)) out.old }
-        ensures needed { needed.new ≡ needed_by (Ok (spelled self.now.node)) needed.old }
+        ensures code { result ≡ code_for (Ok (state_spelled self.now.node)) out.old }
+        ensures buffer { out.new ≡ left_by (Ok (state_spelled self.now.node)) out.old }
+        ensures needed { needed.new ≡ needed_by (Ok (state_spelled self.now.node)) needed.old }
         ensures again { ReadsAsRestarted self.now }
     {
         written_is_read();

@@ -1,7 +1,7 @@
 //! What comes to an end: packets, and the age of its receptions.
 
 ghost use Rattle.std.specs.Prelude.{◌≡◌, ◌+◌, ◌<◌, ◌^◌, IfOk, OnOk, OnErr};
-ghost use Rattle.lpt_jobs.specs.Jobs.{numbered};
+ghost use Rattle.lpt_jobs.specs.Jobs.{jobs_numbered};
 ghost use Rattle.lpt_c_end.specs.Calls.{IfBoth, IfHeld, IsTold, released_of};
 ghost use Rattle.lpt_c_end.specs.Changes.{IsDelivered, IsExpired, IsGivenUp, IsSame, delivery, expiry};
 ghost use Rattle.lpt_c_end.specs.Codes.{IsAnswer};
@@ -127,7 +127,7 @@ impl End {
 
     // Takes the octets of a packet. The only error is out of memory; then nothing has changed.
     fn deliver(&mut self, octets: &[u8]) -> Result<Outcome, AllocError>
-        requires { numbered self.old.node.at.jobs + 1 < 2 ^ 64 }
+        requires { jobs_numbered self.old.node.at.jobs + 1 < 2 ^ 64 }
         ensures ok { OnOk result (IsDelivered octets.now self.old self.new) }
         ensures outcome { IfOk result (λ o. o ≡ (delivery self.old octets.now).1.outcome) }
         ensures err { OnErr result (IsSame self.old self.new) }

@@ -58,7 +58,7 @@ impl End {
             next_due: self.node.receptions().next_due().unwrap_or(0),
             outgoing: self.outbox.len(),
             unread: self.node.waiting() as usize,
-            requests: self.node.queued() as usize,
+            requests: self.node.jobs_queued() as usize,
         }
     }
 }

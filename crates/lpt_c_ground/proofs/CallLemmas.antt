@@ -5,7 +5,7 @@ use Rattle.lpt_ground.specs.declared.pass.End.TheVariants as ends
 use Rattle.lpt_ground.specs.declared.pass.Step.{Step}
 use Rattle.lpt_ground.specs.declared.pass.Step.TheVariants.{Put, Listen, Stop}
 use Rattle.lpt_ground.specs.Carrying.{AllTold, come_to, packets_of, DoneIsTold}
-use Rattle.lpt_ground.specs.Passes.{State, next_step, state_of}
+use Rattle.lpt_ground.specs.Passes.{PassState, next_step, state_of}
 use Rattle.lpt_c_ground.specs.Calls.{CallsCarryAPass, CompletedWasTold, Goes, step_word}
 
 -- calls that were answered so, one after the other
@@ -20,7 +20,7 @@ calls-carry (a ∷ answers) g new goes =
     let rest = calls-carry answers next new goes.2 in (
       rest.0
           ∙ ap (λ (t : Terms). come_to t (state_of next.pass) answers) one.terms
-          ∙ ap (λ (s : State). come_to g.pass.terms s answers) one.state,
+          ∙ ap (λ (s : PassState). come_to g.pass.terms s answers) one.state,
       rest.1 ∙ one.terms,
     )
 

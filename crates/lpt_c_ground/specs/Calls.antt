@@ -4,7 +4,7 @@ use Rattle.lpt_ground.specs.declared.pass.End.{End}
 use Rattle.lpt_ground.specs.declared.pass.End.TheVariants as ends
 use Rattle.lpt_ground.specs.declared.pass.Step.{Step}
 use Rattle.lpt_ground.specs.declared.pass.Step.TheVariants.{Put, Listen, Stop}
-use Rattle.lpt_ground.specs.Carrying.{AllTold, Answer, answered, come_to, octets_of, packets_of}
+use Rattle.lpt_ground.specs.Carrying.{AllTold, Answer, state_answered, come_to, octets_of, packets_of}
 use Rattle.lpt_ground.specs.Passes.{next_step, state_of}
 use Rattle.lpt_c_ground.specs.Codes.{empty, nothing}
 use Rattle.lpt_c_ground.specs.Copies.{Text}
@@ -76,7 +76,7 @@ sent_refusal g = unsent_by (step_of g)
 -- it is where a pass comes that is answered so: that nothing has come, where it sends; a packet
 -- that came; that none did for the wait; or that none will come any more
 pub record Goes (a : Answer) (g new : Ground) : Type 0 where
-  pub state : state_of new.pass ≡ answered g.pass.terms (state_of g.pass) a
+  pub state : state_of new.pass ≡ state_answered g.pass.terms (state_of g.pass) a
   pub terms : new.pass.terms ≡ g.pass.terms
 
 -- the same of answers, one after the other

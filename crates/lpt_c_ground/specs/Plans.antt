@@ -4,25 +4,25 @@ use Rattle.std.specs.Int.{div_ceil}
 use Rattle.lpt_memory.specs.declared.request.Area.{Area}
 use Rattle.lpt_memory.specs.declared.request.AreaRange.{AreaRange}
 use Rattle.lpt_requests.specs.declared.cut_fault.CutFault.{CutFault}
-use Rattle.lpt_requests.specs.declared.reading.Place.{Place}
+use Rattle.lpt_requests.specs.declared.reading.AreaPlace.{AreaPlace}
 use Rattle.lpt_requests.specs.declared.reading.Read.{Read}
 use Rattle.lpt_requests.specs.declared.reading.Read.TheVariants as reads
 use Rattle.lpt_requests.specs.declared.request.Request.{Request}
 use Rattle.lpt_requests.specs.Cuts.{AreasCut, ArePlacesCut, as_load, as_read, places_fault, view}
-use Rattle.lpt_ground.specs.Passes.{begun, state_of}
-use Rattle.lpt_ground.specs.Plans.{planned}
+use Rattle.lpt_ground.specs.Passes.{pass_begun, state_of}
+use Rattle.lpt_ground.specs.Plans.{requests_planned}
 use Rattle.lpt_c_ground.specs.Codes.{bad_area, long_job, range}
 use Rattle.lpt_c_ground.specs.Jobs.{each_of, is_job, kind_from, terms_of}
 use Rattle.lpt_c_ground.specs.declared.grounds.Ground.{Ground}
-use Rattle.lpt_c_ground.specs.declared.jobs.Kind.{Kind}
-use Rattle.lpt_c_ground.specs.declared.jobs.Kind.TheVariants.{Load, Dump, Check}
+use Rattle.lpt_c_ground.specs.declared.jobs.JobKind.{JobKind}
+use Rattle.lpt_c_ground.specs.declared.jobs.JobKind.TheVariants.{Load, Dump, Check}
 use Rattle.lpt_c_ground.specs.declared.jobs.LptJob.{LptJob}
 use Rattle.lpt_c_ground.specs.declared.jobs.LptPlace.{LptPlace}
 
 -- ---- places
 
 -- a place as requests have it
-abbrev pub place_of : LptPlace → Place
+abbrev pub place_of : LptPlace → AreaPlace
 place_of p = record { address = p.address; len = p.len }
 
 -- the areas of places, whose octets stand in a content one behind the other
@@ -49,14 +49,14 @@ most = 16384
 -- ---- why there are none
 
 -- a load has as many octets as its places
-abbrev pub content_refusal : Kind → List LptPlace → (content : List ℕ) → Option ℕ
+abbrev pub content_refusal : JobKind → List LptPlace → (content : List ℕ) → Option ℕ
 content_refusal Load places content =
     if have_together places (length content) then None else Some range
 content_refusal Dump places content = None
 content_refusal Check places content = None
 
 -- or else there are too many
-abbrev pub many_refusal : Kind → (each : ℕ) → List LptPlace → (content : List ℕ) → Option ℕ
+abbrev pub many_refusal : JobKind → (each : ℕ) → List LptPlace → (content : List ℕ) → Option ℕ
 many_refusal kind each places content =
     if nat_lt most (how_many each places) then Some long_job
     else content_refusal kind places content
@@ -84,14 +84,14 @@ pub record AreLoads (each memory : ℕ) (areas : List Area) (requests : List Req
   pub ask : map view requests ≡ map (as_load memory) pieces
 
 -- they read these places in the same way
-pub record AreReads (what : Read) (each memory : ℕ) (places : List Place)
+pub record AreReads (what : Read) (each memory : ℕ) (places : List AreaPlace)
     (requests : List Request) : Type 0 where
   pub ranges : List AreaRange
   pub cut : ArePlacesCut each places ranges
   pub ask : map view requests ≡ map (as_read what memory) ranges
 
 -- they do what a job of this kind does
-abbrev pub AreOf : Kind → (each memory : ℕ) → List LptPlace → (content : List ℕ)
+abbrev pub AreOf : JobKind → (each memory : ℕ) → List LptPlace → (content : List ℕ)
     → List Request → Type 0
 AreOf Load each memory places content requests =
     AreLoads each memory (areas_of places content) requests
@@ -110,5 +110,5 @@ pub record IsNew (j : LptJob) (places : List LptPlace) (content : List ℕ)
       content requests
   pub few : length requests ≤ most
   pub state : state_of g.pass
-      ≡ begun (terms_of j) (planned j.apid j.source j.count j.flags requests)
+      ≡ pass_begun (terms_of j) (requests_planned j.apid j.source j.count j.flags requests)
   pub terms : g.pass.terms ≡ terms_of j

@@ -39,7 +39,7 @@ pub struct LptPlace {
 
 /// What a job asks.
 #[derive(Clone, Copy)]
-pub(crate) enum Kind {
+pub(crate) enum JobKind {
     /// That octets are loaded.
     Load,
     /// That they are dumped.
@@ -67,15 +67,15 @@ const GREATEST_PART: u32 = 1_024;
 /// The flag that asks for a report of completion.
 const COMPLETION: u8 = 8;
 
-impl Kind {
+impl JobKind {
     // How few octets a part may have.
     fn least_part(self) -> u32
         ensures { result ≡ least_part self }
     {
         match self {
-            Kind::Load => 4,
-            Kind::Dump => 7,
-            Kind::Check => LESS,
+            JobKind::Load => 4,
+            JobKind::Dump => 7,
+            JobKind::Check => LESS,
         }
     }
 
@@ -86,9 +86,9 @@ impl Kind {
         ensures { result ≡ each_of self part_size }
     {
         match self {
-            Kind::Load => part_size as u16,
-            Kind::Dump => (part_size - LESS) as u16,
-            Kind::Check => CHECK_EACH,
+            JobKind::Load => part_size as u16,
+            JobKind::Dump => (part_size - LESS) as u16,
+            JobKind::Check => CHECK_EACH,
         }
     }
 
@@ -97,24 +97,24 @@ impl Kind {
         ensures { result ≡ flags_fit self flags }
     {
         match self {
-            Kind::Load => COMPLETION <= flags && flags <= ALL_FLAGS,
-            Kind::Dump => flags <= ALL_FLAGS,
-            Kind::Check => flags <= ALL_FLAGS,
+            JobKind::Load => COMPLETION <= flags && flags <= ALL_FLAGS,
+            JobKind::Dump => flags <= ALL_FLAGS,
+            JobKind::Check => flags <= ALL_FLAGS,
         }
     }
 }
 
 impl LptJob {
     // What is asked.
-    pub(crate) fn kind(&self) -> Kind
+    pub(crate) fn kind(&self) -> JobKind
         ensures { result ≡ kind_from self.now.kind }
     {
         if self.kind == 1 {
-            Kind::Load
+            JobKind::Load
         } else if self.kind == 2 {
-            Kind::Dump
+            JobKind::Dump
         } else {
-            Kind::Check
+            JobKind::Check
         }
     }
 
@@ -126,7 +126,7 @@ impl LptJob {
     }
 
     // The same of all but the kind.
-    fn numbers_fit(&self, kind: Kind) -> bool
+    fn numbers_fit(&self, kind: JobKind) -> bool
         ensures { result ≡ numbers_fit kind self.now }
     {
         self.apid <= LAST_APID

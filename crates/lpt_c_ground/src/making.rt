@@ -5,14 +5,14 @@ ghost use Rattle.lpt_c_ground.specs.Addresses.{ground_at, NullIfNone};
 ghost use Rattle.lpt_c_ground.specs.Calls.{IfHeld};
 ghost use Rattle.lpt_c_ground.specs.Codes.{answer, memory, IsAnswer};
 ghost use Rattle.lpt_c_ground.specs.Jobs.{is_job};
-ghost use Rattle.lpt_ground.specs.Plans.{planned};
+ghost use Rattle.lpt_ground.specs.Plans.{requests_planned};
 ghost use Rattle.lpt_c_ground.specs.Plans.{most, new_refusal, IsNew};
 
 use crate::address::{LptGroundAddress, hand_out};
 use crate::codes::{BAD_AREA, DONE, LONG_JOB, MEMORY, RANGE};
 use crate::grounds::Ground;
 use crate::handle::take;
-use crate::jobs::{Kind, LptJob, LptPlace};
+use crate::jobs::{JobKind, LptJob, LptPlace};
 use crate::places::{are_too_many, have_together, places_fault};
 use crate::requests::requests_of;
 use lpt_ground::{Asked, Pass, plan_requests};
@@ -74,7 +74,7 @@ fn refusal(job: &LptJob, places: &[LptPlace], content: &[u8]) -> u32
         return LONG_JOB;
     }
     match job.kind() {
-        Kind::Load if !have_together(places, content.len()) => RANGE,
+        JobKind::Load if !have_together(places, content.len()) => RANGE,
         _ => DONE,
     }
 }
@@ -111,7 +111,7 @@ fn asked_of(alloc: Global, job: &LptJob, requests: &[Request]) -> Option<Vec<Ask
     requires job { IsTrue (is_job job.now) }
     requires few { length requests.now ≤ most }
     ensures { IfSome result (λ v. v.items
-        ≡ planned job.now.apid job.now.source job.now.count job.now.flags requests.now) }
+        ≡ requests_planned job.now.apid job.now.source job.now.count job.now.flags requests.now) }
 {
     let flags = AckFlags::new(job.flags)?;
     plan_requests(alloc, job.apid, job.source, job.count, flags, requests).ok()

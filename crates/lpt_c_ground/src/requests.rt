@@ -4,16 +4,16 @@ ghost use Rattle.std.specs.Prelude.{◌≡◌, ◌<◌, ◌≤◌, IfOk, IsTrue,
 ghost use Rattle.lpt_requests.specs.Cuts.{areas_fault, places_fault};
 ghost use Rattle.lpt_c_ground.specs.Plans.{areas_of, content_refusal, have_together, how_many, most, place_of, AreLoads, AreOf, AreReads};
 
-use crate::jobs::{Kind, LptPlace};
+use crate::jobs::{JobKind, LptPlace};
 use lpt_packet::Octets;
-use lpt_requests::{Area, Place, Read, Request, load_requests, read_requests};
+use lpt_requests::{Area, AreaPlace, Read, Request, load_requests, read_requests};
 use std::alloc::{AllocError, Global};
 
 // The requests of a job of this kind, of so many octets each at most. The only error is out of
 // memory.
 pub(crate) fn requests_of(
     alloc: Global,
-    kind: Kind,
+    kind: JobKind,
     each: u16,
     memory: u8,
     places: &[LptPlace],
@@ -27,9 +27,9 @@ pub(crate) fn requests_of(
     ensures few { IfOk result (λ v. length v.items ≤ most) }
 {
     match kind {
-        Kind::Load => loads_of(alloc, each, memory, places, content),
-        Kind::Dump => reads_of(alloc, Read::Dump, each, memory, places),
-        Kind::Check => reads_of(alloc, Read::Check, each, memory, places),
+        JobKind::Load => loads_of(alloc, each, memory, places, content),
+        JobKind::Dump => reads_of(alloc, Read::Dump, each, memory, places),
+        JobKind::Check => reads_of(alloc, Read::Check, each, memory, places),
     }
 }
 
@@ -99,12 +99,12 @@ fn areas_of(alloc: Global, places: &[LptPlace], content: &[u8]) -> Result<Vec<Ar
 }
 
 // The places as requests have them. The only error is out of memory.
-fn places_of(alloc: Global, places: &[LptPlace]) -> Result<Vec<Place>, AllocError>
+fn places_of(alloc: Global, places: &[LptPlace]) -> Result<Vec<AreaPlace>, AllocError>
     ensures { IfOk result (λ v. v.items ≡ map place_of places.now) }
 {
     let mut all = Vec::with_capacity(alloc, places.len())?;
     for place in places {
-        all.push(Place {
+        all.push(AreaPlace {
             address: place.address,
             len: place.len,
         })?;

@@ -93,7 +93,7 @@ impl Ground {
     {
         match self.pass.next() {
             Step::Put(k) => {
-                self.pass.sent(k);
+                self.pass.request_sent(k);
                 DONE
             }
             Step::Listen => NOTHING,

@@ -55,7 +55,7 @@ pub fn lpt_ground_progress(alloc: Global, pass: &mut LptGround, progress: &mut L
     let Some(held) = take(alloc, pass) else {
         return EMPTY;
     };
-    *progress = progress_of(held.pass.asked());
+    *progress = progress_of(held.pass.requests_asked());
     put(pass, held);
     DONE
 }
@@ -77,7 +77,7 @@ pub fn lpt_ground_fate(
     let Some(held) = take(alloc, pass) else {
         return EMPTY;
     };
-    let code = match held.pass.asked().get(number) {
+    let code = match held.pass.requests_asked().get(number) {
         Some(one) => {
             *fate = fate_word_of(&one.fate);
             DONE
@@ -162,7 +162,7 @@ pub fn lpt_ground_agrees(
     let Some(held) = take(alloc, pass) else {
         return EMPTY;
     };
-    *agrees = agrees_word_of(held.pass.asked(), content);
+    *agrees = agrees_word_of(held.pass.requests_asked(), content);
     put(pass, held);
     DONE
 }
@@ -173,7 +173,7 @@ impl Ground {
         ensures { MatchOption result (report_by (fate_of number self.now) ≡ Err nothing)
             (λ o. report_by (fate_of number self.now) ≡ Ok o.now) }
     {
-        match &self.pass.asked().get(number)?.fate {
+        match &self.pass.requests_asked().get(number)?.fate {
             Fate::Done(octets) => Some(octets.as_slice()),
             Fate::Waiting => None,
             Fate::Failed(_) => None,

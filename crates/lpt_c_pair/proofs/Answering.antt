@@ -13,7 +13,7 @@ use Rattle.lpt_events.specs.FaultNames.{code_of}
 use Rattle.lpt_events.specs.declared.side.Side.{Side}
 use Rattle.lpt_events.specs.declared.side.Side.TheVariants.{Ground, Craft}
 use Rattle.lpt_memory.specs.Given.{read_length}
-use Rattle.lpt_memory.specs.Readings.{Source, meant}
+use Rattle.lpt_memory.specs.Readings.{Source, source_meaning}
 use Rattle.lpt_node.specs.Faults.{node_fault}
 use Rattle.lpt_node.specs.Jobs.{refusal_claim, refusal_apply}
 use Rattle.lpt_node.specs.Requests.{refusal_plain}
@@ -86,10 +86,11 @@ of_length : (r : Option ℕ) (first : Option Source) (octets : List ℕ)
     → IsNoZero (length_refusal r first octets)
 of_length (Some n) first octets rest = rest
 of_length None None octets rest = rest
-of_length None (Some s) octets rest = of_read (length octets == read_length (meant s)) where
-  of_read : (b : Bool) → IsNoZero (if b then None else Some 120)
-  of_read true e = cc
-  of_read false e = of_number 120 (λ k. omega arith) e
+of_length None (Some s) octets rest =
+    of_read (length octets == read_length (source_meaning s)) where
+      of_read : (b : Bool) → IsNoZero (if b then None else Some 120)
+      of_read true e = cc
+      of_read false e = of_number 120 (λ k. omega arith) e
 
 of_sending : (r : Option ℕ) (packets : List (List ℕ)) → IsNoZero r
     → IsNoZero (sending_refusal r packets)

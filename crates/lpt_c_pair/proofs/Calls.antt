@@ -17,7 +17,7 @@ use Rattle.lpt_c_end.specs.declared.kept.Kept.{Kept}
 use Rattle.lpt_c_end.specs.declared.kept.Kept.TheVariants.{Nowhere, Here, Elsewhere}
 use Rattle.lpt_c_end.proofs.ReadyLemmas.{front_ready}
 use Rattle.lpt_c_pair.specs.Outboxes.{AllOnTheWay, NoneWaits}
-use Rattle.lpt_c_pair.specs.Pairs.{AreEndsOf, IsEndOf, Place, InEnd, WithProgram, kept_in, Call, Open, Part, Plain, Finish, LetGo, Packet, Expire, GiveUp, Tick, Rebase, Read, Execute, ExecuteGiven, Retire, RetireFree, Restart, Resume, ResumeSized, freeing, moves, IsMoveOfGround, IsMoveOfCraft, CallsAreMoves}
+use Rattle.lpt_c_pair.specs.Pairs.{AreEndsOf, IsEndOf, CallPlace, InEnd, WithProgram, kept_in, Call, Open, Part, Plain, Finish, LetGo, Packet, Expire, GiveUp, Tick, Rebase, Read, Execute, ExecuteGiven, Retire, RetireFree, Restart, Resume, ResumeSized, freeing, moves, IsMoveOfGround, IsMoveOfCraft, CallsAreMoves}
 use Rattle.lpt_c_pair.proofs.Clockless.{refuses_open, refuses_send, sends, refuses_plain, asks, takes, refuses_expire, expires, gives_up, reads, executes, executes_over}
 use Rattle.lpt_c_pair.proofs.GivenLemmas.{executed_sizes, not_short}
 use Rattle.lpt_c_pair.proofs.Resuming.{resumed_node}
@@ -36,16 +36,16 @@ use Rattle.lpt_jobs.specs.Jobs.{head_of}
 use Rattle.lpt_memory.specs.Meanings.{Sizes}
 use Rattle.lpt_memory.specs.Memories.{Contents, sizes_of}
 use Rattle.lpt_memory.specs.Readings.{Job}
-use Rattle.lpt_node.specs.Accepting.{accepted}
+use Rattle.lpt_node.specs.Accepting.{packet_accepted}
 use Rattle.lpt_node.specs.declared.accepted.Accepted.{Accepted}
 use Rattle.lpt_node.specs.declared.expired.Expired.{Expired}
-use Rattle.lpt_node.specs.Restarts.{retired, restarted}
-use Rattle.lpt_node.specs.Jobs.{Execution, FrontIsFor, refusal_claim, claimed, refusal_apply, executed, executed_given}
+use Rattle.lpt_node.specs.Restarts.{name_retired, node_restarted}
+use Rattle.lpt_node.specs.Jobs.{Execution, FrontIsFor, refusal_claim, job_claimed, refusal_apply, job_executed, executed_given}
 use Rattle.lpt_node.proofs.GivenLemmas.{given_over}
 use Rattle.lpt_node.specs.Nodes.{NodeData}
 use Rattle.lpt_node.specs.Requests.{refusal_plain, plain_made}
-use Rattle.lpt_node.specs.Sending.{refusal_open, opened, refusal_send, sent, refusal_finish, closed}
-use Rattle.lpt_node.specs.Times.{can_set_back, clock_back, due, refusal_tick, ticked, refusal_expire, refusal_give_up, expired, expired_of, which_ends}
+use Rattle.lpt_node.specs.Sending.{refusal_open, message_opened, refusal_send, part_sent, refusal_finish, sender_closed}
+use Rattle.lpt_node.specs.Times.{can_set_back, clock_back, due, refusal_tick, clock_ticked, refusal_expire, refusal_give_up, reception_expired, expired_of, which_ends}
 use Rattle.lpt_model.specs.State.{as_list}
 use Rattle.lpt_model.specs.Tickets.{Tickets, ticket_of, with_ticket}
 
@@ -87,14 +87,14 @@ module _ (c : Config) (p : Pair) (g k : End) (are : AreEndsOf c p g k) where
       → CanMove c p (freeing Ground d name)
       → NoneWaits p.ends d name g k
       → IsFixed g new
-      → new.node.at ≡ retired g.side g.node.at d name
+      → new.node.at ≡ name_retired g.side g.node.at d name
       → new.outbox.items ≡ g.outbox.items
       → CanAll c p (freeing Ground d name ∷ [])
       × AreEndsOf c (after_all c p (freeing Ground d name ∷ [])) new k
   free_ground Up name new can none fixed node outbox = (
     (tt, can),
     ground_becomes c p (after_all c p (freeing Ground Up name ∷ [])) g new k are fixed
-        (node ∙ (λ i. retired (are.ground.side i) (are.ground.node i) Up name)) refl refl refl
+        (node ∙ (λ i. name_retired (are.ground.side i) (are.ground.node i) Up name)) refl refl refl
         (freed_this p.ends (retired_by p Up name).ends Up name g.outbox.items new.outbox.items
         refl outbox none)
         (freed_other p.ends (retired_by p Up name).ends Down Up name k.outbox.items k.outbox.items
@@ -103,7 +103,8 @@ module _ (c : Config) (p : Pair) (g k : End) (are : AreEndsOf c p g k) where
   free_ground Down name new can none fixed node outbox = (
     (tt, can),
     ground_becomes c p (after_all c p (freeing Ground Down name ∷ [])) g new k are fixed
-        (node ∙ (λ i. retired (are.ground.side i) (are.ground.node i) Down name)) refl refl refl
+        (node ∙ (λ i. name_retired (are.ground.side i) (are.ground.node i) Down name)) refl refl
+        refl
         (freed_other p.ends (freed_by p Down name).ends Up Down name g.outbox.items
         new.outbox.items refl refl outbox are.upwards)
         (freed_this p.ends (freed_by p Down name).ends Down name k.outbox.items k.outbox.items
@@ -121,7 +122,8 @@ module _ (c : Config) (p : Pair) (g k : End) (are : AreEndsOf c p g k) where
       ),
     ),
     ground_becomes c p (after_all c p (moves Ground (Open name m))) g new k are done.1.fixed
-        (done.1.node ∙ ap (λ (n : NodeData). opened n name m) are.ground.node) refl refl refl
+        (done.1.node ∙ ap (λ (n : NodeData). message_opened n name m) are.ground.node) refl refl
+        refl
         (quiet_ground (after_all c p (moves Ground (Open name m))).ends new.outbox.items refl
         done.1.outbox).0
         (quiet_ground (after_all c p (moves Ground (Open name m))).ends new.outbox.items refl
@@ -141,12 +143,12 @@ module _ (c : Config) (p : Pair) (g k : End) (are : AreEndsOf c p g k) where
         ∙ ap (λ (x : NodeData × List ℕ). x.0) (sends are.ground name n)) refl refl refl
         (adds p.ends (after_all c p (moves Ground (Part name n))).ends Up (Some name)
         g.outbox.items new.outbox.items
-        ((sent Ground c p.ends.on_ground name n).1 ∷ []) refl
+        ((part_sent Ground c p.ends.on_ground name n).1 ∷ []) refl
         (done.1.outbox
         ∙ ap (λ (x : NodeData × List ℕ). g.outbox.items ++ (x.1 ∷ []))
         (sends are.ground name n)) are.upwards)
         (beside p.ends (after_all c p (moves Ground (Part name n))).ends Down Up (Some name)
-        k.outbox.items ((sent Ground c p.ends.on_ground name n).1 ∷ []) refl are.downwards),
+        k.outbox.items ((part_sent Ground c p.ends.on_ground name n).1 ∷ []) refl are.downwards),
   )
   on_ground (Plain source flags service subtype body) new done vow =
       let here : ground_refusal g.side (node_code (refusal_plain g.config service subtype
@@ -191,7 +193,7 @@ module _ (c : Config) (p : Pair) (g k : End) (are : AreEndsOf c p g k) where
       ),
     ),
     ground_becomes c p (after_all c p (moves Ground (Finish name))) g new k are done.1.fixed
-        (done.1.node ∙ ap (λ (n : NodeData). closed n name) are.ground.node) refl refl refl
+        (done.1.node ∙ ap (λ (n : NodeData). sender_closed n name) are.ground.node) refl refl refl
         (quiet_ground (after_all c p (moves Ground (Finish name))).ends new.outbox.items refl
         done.1.outbox).0
         (quiet_ground (after_all c p (moves Ground (Finish name))).ends new.outbox.items refl
@@ -209,12 +211,12 @@ module _ (c : Config) (p : Pair) (g k : End) (are : AreEndsOf c p g k) where
         (done.node
         ∙ ap (λ (x : NodeData × Accepted). x.0) (takes are.ground b)) refl refl refl
         (beside_stays (after_all c p (moves Ground (Packet b))).ends new.outbox.items
-        (as_list (accepted Ground c p.ends.on_ground (arrival_in c Down b)).1.packet) refl
+        (as_list (packet_accepted Ground c p.ends.on_ground (arrival_in c Down b)).1.packet) refl
         (none_more g.outbox.items new.outbox.items (delivery g b).1.packet
         (ap (λ (x : NodeData × Accepted). x.1.packet) (takes are.ground b)
         ∙ none_of_delivery c p.ends.on_ground (arrival_in c Down b)) done.outbox)).0
         (beside_stays (after_all c p (moves Ground (Packet b))).ends new.outbox.items
-        (as_list (accepted Ground c p.ends.on_ground (arrival_in c Down b)).1.packet) refl
+        (as_list (packet_accepted Ground c p.ends.on_ground (arrival_in c Down b)).1.packet) refl
         (none_more g.outbox.items new.outbox.items (delivery g b).1.packet
         (ap (λ (x : NodeData × Accepted). x.1.packet) (takes are.ground b)
         ∙ none_of_delivery c p.ends.on_ground (arrival_in c Down b)) done.outbox)).1,
@@ -230,12 +232,12 @@ module _ (c : Config) (p : Pair) (g k : End) (are : AreEndsOf c p g k) where
         ∙ ap (λ (x : NodeData × Expired). x.0) (expires are.ground))
         refl refl refl
         (beside_stays (after_all c p (moves Ground Expire)).ends new.outbox.items
-        (as_list (expired Ground c p.ends.on_ground).1.packet) refl
+        (as_list (reception_expired Ground c p.ends.on_ground).1.packet) refl
         (none_more g.outbox.items new.outbox.items (expiry g).1.packet
         (ap (λ (x : NodeData × Expired). x.1.packet) (expires are.ground)
         ∙ none_of_expiry c p.ends.on_ground (due c p.ends.on_ground)) done.1.outbox)).0
         (beside_stays (after_all c p (moves Ground Expire)).ends new.outbox.items
-        (as_list (expired Ground c p.ends.on_ground).1.packet) refl
+        (as_list (reception_expired Ground c p.ends.on_ground).1.packet) refl
         (none_more g.outbox.items new.outbox.items (expiry g).1.packet
         (ap (λ (x : NodeData × Expired). x.1.packet) (expires are.ground)
         ∙ none_of_expiry c p.ends.on_ground (due c p.ends.on_ground)) done.1.outbox)).1,
@@ -260,7 +262,7 @@ module _ (c : Config) (p : Pair) (g k : End) (are : AreEndsOf c p g k) where
   on_ground Tick new done vow = (
     (tt, sym (λ i. refusal_tick (are.ground.node i)) ∙ no_fault (refusal_tick g.node.at) done.0),
     ground_becomes c p (after_all c p (moves Ground (Tick))) g new k are done.1.fixed
-        (done.1.node ∙ ap (λ (n : NodeData). ticked n) are.ground.node) refl refl refl
+        (done.1.node ∙ ap (λ (n : NodeData). clock_ticked n) are.ground.node) refl refl refl
         (quiet_ground (after_all c p (moves Ground Tick)).ends new.outbox.items refl
         done.1.outbox).0
         (quiet_ground (after_all c p (moves Ground Tick)).ends new.outbox.items refl
@@ -303,7 +305,7 @@ module _ (c : Config) (p : Pair) (g k : End) (are : AreEndsOf c p g k) where
   on_ground Restart new done vow = (
     (tt, tt),
     ground_becomes c p (after_all c p (moves Ground (Restart))) g new k are done.fixed
-        (done.node ∙ ap (λ (n : NodeData). restarted n) are.ground.node) refl refl refl
+        (done.node ∙ ap (λ (n : NodeData). node_restarted n) are.ground.node) refl refl refl
         (quiet_ground (after_all c p (moves Ground Restart)).ends new.outbox.items refl
         done.outbox).0
         (quiet_ground (after_all c p (moves Ground Restart)).ends new.outbox.items refl
@@ -337,14 +339,14 @@ module _ (c : Config) (p : Pair) (g k : End) (are : AreEndsOf c p g k) where
       → CanMove c p (freeing Craft d name)
       → NoneWaits p.ends d name g k
       → IsFixed k new
-      → new.node.at ≡ retired k.side k.node.at d name
+      → new.node.at ≡ name_retired k.side k.node.at d name
       → new.outbox.items ≡ k.outbox.items
       → CanAll c p (freeing Craft d name ∷ [])
       × AreEndsOf c (after_all c p (freeing Craft d name ∷ [])) g new
   free_craft Up name new can none fixed node outbox = (
     (tt, can),
     craft_fixed c p (after_all c p (freeing Craft Up name ∷ [])) g k new are fixed
-        (node ∙ (λ i. retired (are.craft.side i) (are.craft.node i) Up name)) refl refl refl
+        (node ∙ (λ i. name_retired (are.craft.side i) (are.craft.node i) Up name)) refl refl refl
         (freed_this p.ends (freed_by p Up name).ends Up name g.outbox.items g.outbox.items
         refl refl none)
         (freed_other p.ends (freed_by p Up name).ends Down Up name k.outbox.items
@@ -353,7 +355,7 @@ module _ (c : Config) (p : Pair) (g k : End) (are : AreEndsOf c p g k) where
   free_craft Down name new can none fixed node outbox = (
     (tt, can),
     craft_fixed c p (after_all c p (freeing Craft Down name ∷ [])) g k new are fixed
-        (node ∙ (λ i. retired (are.craft.side i) (are.craft.node i) Down name)) refl refl refl
+        (node ∙ (λ i. name_retired (are.craft.side i) (are.craft.node i) Down name)) refl refl refl
         (freed_other p.ends (retired_by p Down name).ends Up Down name g.outbox.items
         g.outbox.items refl refl refl are.upwards)
         (freed_this p.ends (retired_by p Down name).ends Down name k.outbox.items
@@ -361,10 +363,10 @@ module _ (c : Config) (p : Pair) (g k : End) (are : AreEndsOf c p g k) where
   )
 
   -- an execution over memories in the end
-  craft_executes : (w : Place) → are.place ≡ w → IsMoveOfCraft c p g k Execute
+  craft_executes : (w : CallPlace) → are.place ≡ w → IsMoveOfCraft c p g k Execute
   craft_executes InEnd at new done vow =
       let held : k.memories ≡ Here p.ends.memories =
-      are.craft.memories ∙ ap (λ (w : Place). kept_in w p.ends.memories) at in
+      are.craft.memories ∙ ap (λ (w : CallPlace). kept_in w p.ends.memories) at in
       let is : IsEndOf c Craft p.ends.on_craft (Here p.ends.memories) k = record {
         side = are.craft.side;
         own = are.craft.own;
@@ -387,13 +389,14 @@ module _ (c : Config) (p : Pair) (g k : End) (are : AreEndsOf c p g k) where
             ∙ ap (λ (x : (NodeData × Execution) × Kept). x.0.0) (executes is)) refl
             (done.1.memories
             ∙ ap (λ (x : (NodeData × Execution) × Kept). x.1) (executes is)
-            ∙ sym (ap (λ (w : Place). kept_in w (executed c p.ends.on_craft p.ends.memories).1) at))
+            ∙ sym (ap
+            (λ (w : CallPlace). kept_in w (job_executed c p.ends.on_craft p.ends.memories).1) at))
             are.tickets
             (beside p.ends (after_all c p (moves Craft Execute)).ends Up Down None
-            g.outbox.items (executed c p.ends.on_craft p.ends.memories).0.1.packets refl
+            g.outbox.items (job_executed c p.ends.on_craft p.ends.memories).0.1.packets refl
             are.upwards)
             (replaces p.ends (after_all c p (moves Craft Execute)).ends Down None
-            new.outbox.items (executed c p.ends.on_craft p.ends.memories).0.1.packets refl
+            new.outbox.items (job_executed c p.ends.on_craft p.ends.memories).0.1.packets refl
             (done.1.outbox
             ∙ ap (λ (x : (NodeData × Execution) × Kept). x.0.1.packets) (executes is))),
       )
@@ -401,24 +404,24 @@ module _ (c : Config) (p : Pair) (g k : End) (are : AreEndsOf c p g k) where
       absurd (let both : Some elsewhere ≡ None =
       sym (ap (λ (o : Kept). here_refusal o (sending_refusal (node_code
       (refusal_apply k.node.at)) k.outbox.items))
-      (are.craft.memories ∙ ap (λ (w : Place). kept_in w p.ends.memories) at)) ∙ done.0 in cc)
+      (are.craft.memories ∙ ap (λ (w : CallPlace). kept_in w p.ends.memories) at)) ∙ done.0 in cc)
 
   -- an execution over memories that are with the program
-  craft_given : (octets : List ℕ) (w : Place) → are.place ≡ w
+  craft_given : (octets : List ℕ) (w : CallPlace) → are.place ≡ w
       → IsMoveOfCraft c p g k (ExecuteGiven octets)
   craft_given octets InEnd at new done vow =
       absurd (let both : Some elsewhere ≡ None =
       sym (ap (λ (o : Kept). elsewhere_refusal o (sending_refusal
       (length_refusal (unready k) (first_read k) octets) k.outbox.items))
-      (are.craft.memories ∙ ap (λ (w : Place). kept_in w p.ends.memories) at)) ∙ done.0 in cc)
+      (are.craft.memories ∙ ap (λ (w : CallPlace). kept_in w p.ends.memories) at)) ∙ done.0 in cc)
   craft_given octets WithProgram at new done vow =
       let ms : Contents = p.ends.memories in
       let known : k.memories ≡ Elsewhere (sizes_of ms) =
-      are.craft.memories ∙ ap (λ (w : Place). kept_in w ms) at in
+      are.craft.memories ∙ ap (λ (w : CallPlace). kept_in w ms) at in
       let front : FrontIsFor (head_of k.node.at.jobs.jobs) k.node.config.apid ms =
       front_ready k.node (sizes_in k.memories) ms (ap sizes_in known) k.ready in
-      let is : (NodeData × Execution) × Contents = executed c p.ends.on_craft ms in
-      let same : executed k.config k.node.at ms ≡ is = executes_over are.craft ms in
+      let is : (NodeData × Execution) × Contents = job_executed c p.ends.on_craft ms in
+      let same : job_executed k.config k.node.at ms ≡ is = executes_over are.craft ms in
       let over : executed_given k.config k.node.at octets ≡ is.0 =
       given_over k.config k.node.at ms octets (head_of k.node.at.jobs.jobs) k.node.config.apid
       front vow
@@ -441,7 +444,7 @@ module _ (c : Config) (p : Pair) (g k : End) (are : AreEndsOf c p g k) where
             g k new are done.1.fixed.side done.1.fixed.config
             (done.1.node ∙ ap (λ (x : NodeData × Execution). x.0) over) refl
             (done.1.fixed.memories ∙ known ∙ ap Elsewhere (sym sizes)
-            ∙ sym (ap (λ (w : Place). kept_in w is.1) at))
+            ∙ sym (ap (λ (w : CallPlace). kept_in w is.1) at))
             are.tickets
             (beside p.ends (after_all c p (moves Craft (ExecuteGiven octets))).ends Up Down None
             g.outbox.items is.0.1.packets refl are.upwards)
@@ -461,7 +464,7 @@ module _ (c : Config) (p : Pair) (g k : End) (are : AreEndsOf c p g k) where
       ),
     ),
     craft_fixed c p (after_all c p (moves Craft (Open name m))) g k new are done.1.fixed
-        (done.1.node ∙ ap (λ (n : NodeData). opened n name m) are.craft.node) refl refl refl
+        (done.1.node ∙ ap (λ (n : NodeData). message_opened n name m) are.craft.node) refl refl refl
         (quiet_craft (after_all c p (moves Craft (Open name m))).ends new.outbox.items refl
         done.1.outbox).0
         (quiet_craft (after_all c p (moves Craft (Open name m))).ends new.outbox.items refl
@@ -481,10 +484,10 @@ module _ (c : Config) (p : Pair) (g k : End) (are : AreEndsOf c p g k) where
         ∙ ap (λ (x : NodeData × List ℕ). x.0) (sends are.craft name n))
         refl refl refl
         (beside p.ends (after_all c p (moves Craft (Part name n))).ends Up Down (Some name)
-        g.outbox.items ((sent Craft c p.ends.on_craft name n).1 ∷ []) refl are.upwards)
+        g.outbox.items ((part_sent Craft c p.ends.on_craft name n).1 ∷ []) refl are.upwards)
         (adds p.ends (after_all c p (moves Craft (Part name n))).ends Down (Some name)
         k.outbox.items new.outbox.items
-        ((sent Craft c p.ends.on_craft name n).1 ∷ []) refl
+        ((part_sent Craft c p.ends.on_craft name n).1 ∷ []) refl
         (done.1.outbox
         ∙ ap (λ (x : NodeData × List ℕ). k.outbox.items ++ (x.1 ∷ []))
         (sends are.craft name n)) are.downwards),
@@ -507,7 +510,7 @@ module _ (c : Config) (p : Pair) (g k : End) (are : AreEndsOf c p g k) where
       ),
     ),
     craft_fixed c p (after_all c p (moves Craft (Finish name))) g k new are done.1.fixed
-        (done.1.node ∙ ap (λ (n : NodeData). closed n name) are.craft.node) refl refl refl
+        (done.1.node ∙ ap (λ (n : NodeData). sender_closed n name) are.craft.node) refl refl refl
         (quiet_craft (after_all c p (moves Craft (Finish name))).ends new.outbox.items refl
         done.1.outbox).0
         (quiet_craft (after_all c p (moves Craft (Finish name))).ends new.outbox.items refl
@@ -526,11 +529,12 @@ module _ (c : Config) (p : Pair) (g k : End) (are : AreEndsOf c p g k) where
         ∙ ap (λ (x : NodeData × Accepted). x.0) (takes are.craft b))
         refl refl refl
         (beside p.ends (after_all c p (moves Craft (Packet b))).ends Up Down None
-        g.outbox.items (as_list (accepted Craft c p.ends.on_craft (arrival_in c Up b)).1.packet)
+        g.outbox.items
+        (as_list (packet_accepted Craft c p.ends.on_craft (arrival_in c Up b)).1.packet)
         refl are.upwards)
         (adds p.ends (after_all c p (moves Craft (Packet b))).ends Down None
         k.outbox.items new.outbox.items
-        (as_list (accepted Craft c p.ends.on_craft (arrival_in c Up b)).1.packet) refl
+        (as_list (packet_accepted Craft c p.ends.on_craft (arrival_in c Up b)).1.packet) refl
         (done.outbox
         ∙ ap (λ (xs : List (List ℕ)). k.outbox.items ++ xs) (as_listed (delivery k b).1.packet)
         ∙ ap (λ (x : NodeData × Accepted). k.outbox.items ++ as_list x.1.packet)
@@ -547,10 +551,11 @@ module _ (c : Config) (p : Pair) (g k : End) (are : AreEndsOf c p g k) where
         ∙ ap (λ (x : NodeData × Expired). x.0) (expires are.craft))
         refl refl refl
         (beside p.ends (after_all c p (moves Craft Expire)).ends Up Down None
-        g.outbox.items (as_list (expired Craft c p.ends.on_craft).1.packet) refl are.upwards)
+        g.outbox.items (as_list (reception_expired Craft c p.ends.on_craft).1.packet) refl
+        are.upwards)
         (adds p.ends (after_all c p (moves Craft Expire)).ends Down None
         k.outbox.items new.outbox.items
-        (as_list (expired Craft c p.ends.on_craft).1.packet) refl
+        (as_list (reception_expired Craft c p.ends.on_craft).1.packet) refl
         (done.1.outbox
         ∙ ap (λ (xs : List (List ℕ)). k.outbox.items ++ xs) (as_listed (expiry k).1.packet)
         ∙ ap (λ (x : NodeData × Expired). k.outbox.items ++ as_list x.1.packet)
@@ -579,7 +584,7 @@ module _ (c : Config) (p : Pair) (g k : End) (are : AreEndsOf c p g k) where
   on_craft Tick new done vow = (
     (tt, sym (λ i. refusal_tick (are.craft.node i)) ∙ no_fault (refusal_tick k.node.at) done.0),
     craft_fixed c p (after_all c p (moves Craft (Tick))) g k new are done.1.fixed
-        (done.1.node ∙ ap (λ (n : NodeData). ticked n) are.craft.node) refl refl refl
+        (done.1.node ∙ ap (λ (n : NodeData). clock_ticked n) are.craft.node) refl refl refl
         (quiet_craft (after_all c p (moves Craft Tick)).ends new.outbox.items refl done.1.outbox).0
         (quiet_craft (after_all c p (moves Craft Tick)).ends new.outbox.items refl done.1.outbox).1,
   )
@@ -600,7 +605,7 @@ module _ (c : Config) (p : Pair) (g k : End) (are : AreEndsOf c p g k) where
       sym (ap (λ (o : Kept). memories_refusal o (node_code
       (refusal_claim k.node.at))) are.craft.memories
       ∙ refusal_kept are.place p.ends.memories (node_code (refusal_claim k.node.at))) ∙ done.0 in
-      let t : Job = (claimed p.ends.on_craft).1 in (
+      let t : Job = (job_claimed p.ends.on_craft).1 in (
         (
           (
             tt,
@@ -640,7 +645,7 @@ module _ (c : Config) (p : Pair) (g k : End) (are : AreEndsOf c p g k) where
   on_craft Restart new done vow = (
     (tt, tt),
     craft_fixed c p (after_all c p (moves Craft (Restart))) g k new are done.fixed
-        (done.node ∙ ap (λ (n : NodeData). restarted n) are.craft.node) refl refl refl
+        (done.node ∙ ap (λ (n : NodeData). node_restarted n) are.craft.node) refl refl refl
         (quiet_craft (after_all c p (moves Craft Restart)).ends new.outbox.items refl done.outbox).0
         (quiet_craft (after_all c p (moves Craft Restart)).ends new.outbox.items refl
         done.outbox).1,

@@ -5,8 +5,8 @@ use Rattle.lpt_c_end.specs.Sizes.{kept_as}
 use Rattle.lpt_c_end.specs.declared.end.End.{End}
 use Rattle.lpt_c_end.specs.declared.sizing.LptSize.{LptSize}
 use Rattle.lpt_c_pair.specs.Pairs.{Resume, ResumeSized, IsDone, IsKept}
-use Rattle.lpt_c_pair.specs.Programs.{Act, Program, Puts, acted, came_by, put_told, CanAct, CanActAll}
-use Rattle.lpt_c_pair.specs.Resets.{CarefulMachinesMayBeReset, Deed, Does, Keeps, Lived, ResetsCraft, ResetsGround, Stays, AreCareful, CanLive, CanLiveAll, IsCareful, actor, again_craft, again_ground, but_other, did, just_begun, lived, lived_all, machines_of}
+use Rattle.lpt_c_pair.specs.Programs.{Act, Program, Puts, program_after, came_by, put_told, CanAct, CanActAll}
+use Rattle.lpt_c_pair.specs.Resets.{CarefulMachinesMayBeReset, ActDeed, Does, Keeps, Lived, ResetsCraft, ResetsGround, Stays, AreCareful, CanLive, CanLiveAll, IsCareful, actor, again_craft, again_ground, but_other, did, just_begun, lived_after, lived_all, machines_of}
 use Rattle.lpt_c_pair.proofs.Deleting.{Aboard, IsLived, aboard, begun_so, lives}
 use Rattle.lpt_events.specs.declared.config.Config.{Config}
 use Rattle.lpt_events.specs.declared.side.Side.{Side}
@@ -60,10 +60,10 @@ module _ (c : Config) (start : Program) where
   careful_does l Craft x r gone can =
       record { gone = gone; ground = (r.ground, can); craft = r.craft; neither = r.neither }
 
-  careful : (l : Lived) (x : Deed)
+  careful : (l : Lived) (x : ActDeed)
       → AreAll l
       → IsCareful c start l x
-      → AreAll (lived c start l x) × CanLive c start l x
+      → AreAll (lived_after c start l x) × CanLive c start l x
   careful l (Does x) r can =
       (careful_does l (actor x) x r (lives c start l (Does x) r.gone can.0) can.1, can.0)
   careful l (Stays x) r can = (
@@ -110,8 +110,8 @@ module _ (c : Config) (start : Program) where
       let p : Program = came_by c start l.but_craft in
       let q : Program = came_by c start l.but_both in
       let same : aboard (machines_of p) ≡ aboard (machines_of q) = sym r.gone.craft_back in
-      let put : aboard (machines_of (acted c p (Puts ms)))
-      ≡ aboard (machines_of (acted c q (Puts ms))) =
+      let put : aboard (machines_of (program_after c p (Puts ms)))
+      ≡ aboard (machines_of (program_after c q (Puts ms))) =
       ap (λ (a : Aboard). record a { memories = ms }) same in (
         record {
           gone =
@@ -119,7 +119,8 @@ module _ (c : Config) (start : Program) where
               ((r.craft, can.0), can.1);
           ground = (
             (r.neither, puts_on p q ms same can.0),
-            again_on_craft (acted c p (Puts ms)) (acted c q (Puts ms)) config state sizes new put
+            again_on_craft (program_after c p (Puts ms)) (program_after c q (Puts ms)) config state
+                sizes new put
                 can.1,
           );
           craft = r.craft;
@@ -128,7 +129,7 @@ module _ (c : Config) (start : Program) where
         ((r.craft, can.0), can.1),
       )
 
-  all_careful : (l : Lived) (xs : List Deed)
+  all_careful : (l : Lived) (xs : List ActDeed)
       → AreAll l
       → AreCareful c start l xs
       → AreAll (lived_all c start l xs) × CanLiveAll c start l xs

@@ -26,13 +26,13 @@ use Rattle.lpt_ledger.specs.declared.state.State.{State}
 use Rattle.lpt_ledger.specs.declared.state.State.TheVariants.{Free, Open, Closed}
 use Rattle.lpt_memory.specs.Meanings.{Sizes}
 use Rattle.lpt_memory.specs.Memories.{Contents, effect}
-use Rattle.lpt_memory.specs.Readings.{Source, meant}
-use Rattle.lpt_node.specs.Accepting.{accepted}
-use Rattle.lpt_node.specs.Jobs.{Execution, ending_at, report_packet, report_packets, reported, with_opened, executed, executed_of, executed_so, refused_front}
+use Rattle.lpt_memory.specs.Readings.{Source, source_meaning}
+use Rattle.lpt_node.specs.Accepting.{packet_accepted}
+use Rattle.lpt_node.specs.Jobs.{Execution, ending_at, report_packet, report_packets, reports_made, with_opened, job_executed, executed_of, executed_so, refused_front}
 use Rattle.lpt_node.specs.Nodes.{Sending, NodeData, message_at}
 use Rattle.lpt_node.specs.Requests.{refusal_plain, plain_made}
-use Rattle.lpt_node.specs.Sending.{refusal_open, refusal_open_in, refusal_send, refusal_send_of, sent, sent_of, counted_kind}
-use Rattle.lpt_node.specs.Times.{due, refusal_expire, refusal_give_up, expired, expired_of, given_up, which_ends}
+use Rattle.lpt_node.specs.Sending.{refusal_open, refusal_open_in, refusal_send, refusal_send_of, part_sent, sent_of, counted_kind}
+use Rattle.lpt_node.specs.Times.{due, refusal_expire, refusal_give_up, reception_expired, expired_of, given_up, which_ends}
 use Rattle.lpt_node.specs.declared.fault.NodeFault.TheVariants.{NotOpen}
 
 module _ (c : Config) (t : Own) where
@@ -54,7 +54,7 @@ module _ (c : Config) (t : Own) where
   part_of Craft d name k (Some m) = refl
 
   taken : (s : Side) (d : NodeData) (a : Arrival)
-      → accepted s (own_config t c) d a ≡ accepted s c d a
+      → packet_accepted s (own_config t c) d a ≡ packet_accepted s c d a
   taken s d NotRead = refl
   taken s d AnIdle = refl
   taken s d Foreign = refl
@@ -86,7 +86,7 @@ module _ (c : Config) (t : Own) where
       opened_of (least_free_in d.sending.ledger (request_source r.apid r.message))
       (large_packets c.part_size made) in (
         with_opened (record d {
-          sending = reported d.sending reports;
+          sending = reports_made d.sending reports;
           jobs = without_front d.jobs;
         }) message,
         record {
@@ -104,7 +104,7 @@ module _ (c : Config) (t : Own) where
       let end : Ending = ending_at c d ms r in
       let peer : ℕ = request_source r.apid r.message in
       let rs : List Report = message_reports r.apid r.message end in
-      ap (λ (x : List (Report × List ℕ)). (made_of d r end x, effect (meant r) ms))
+      ap (λ (x : List (Report × List ℕ)). (made_of d r end x, effect (source_meaning r) ms))
       (reports peer d.sending d.clock rs)
 
   refused_of : (d : NodeData) (code : FailureCode) (h : Head)
@@ -145,9 +145,9 @@ module _ {c : Config} {s : Side} {n : NodeData} {kept : Kept} {e : End}
       ∙ send_of c is.own k (message_at n name)
 
   pub sends : (name : Name) (k : ℕ)
-      → sent e.side e.config e.node.at name k ≡ sent s c n name k
+      → part_sent e.side e.config e.node.at name k ≡ part_sent s c n name k
   sends name k =
-      (λ i. sent (is.side i) (is.config i) (is.node i) name k)
+      (λ i. part_sent (is.side i) (is.config i) (is.node i) name k)
       ∙ part_of c is.own s n name k (message_at n name)
 
   pub refuses_plain : (service subtype len : ℕ)
@@ -160,18 +160,18 @@ module _ {c : Config} {s : Side} {n : NodeData} {kept : Kept} {e : End}
   asks source flags service subtype body =
       λ i. plain_made (is.config i) (is.node i) source flags service subtype body
 
-  pub takes : (b : List ℕ) → delivery e b ≡ accepted s c n (arrival s c.apid c.part_size b)
+  pub takes : (b : List ℕ) → delivery e b ≡ packet_accepted s c n (arrival s c.apid c.part_size b)
   takes b =
-      (λ i. accepted (is.side i) (is.config i) (is.node i) (arrival (is.side i)
+      (λ i. packet_accepted (is.side i) (is.config i) (is.node i) (arrival (is.side i)
       (is.config i).apid (is.config i).part_size b))
       ∙ taken c is.own s n (arrival s c.apid c.part_size b)
 
   pub refuses_expire : refusal_expire e.config e.node.at ≡ refusal_expire c n
   refuses_expire = λ i. refusal_expire (is.config i) (is.node i)
 
-  pub expires : expiry e ≡ expired s c n
+  pub expires : expiry e ≡ reception_expired s c n
   expires =
-      (λ i. expired (is.side i) (is.config i) (is.node i))
+      (λ i. reception_expired (is.side i) (is.config i) (is.node i))
       ∙ ends_so c is.own s n (due c n)
 
   pub gives_up : (name : Name)
@@ -199,9 +199,9 @@ module _ {c : Config} {s : Side} {n : NodeData} {kept : Kept} {e : End}
         (done_of c is.own n m (head_of n.jobs.jobs))
     done_by (Elsewhere sizes) = refl
 
-  pub executes_over : (m : Contents) → executed e.config e.node.at m ≡ executed c n m
+  pub executes_over : (m : Contents) → job_executed e.config e.node.at m ≡ job_executed c n m
   executes_over m =
-      (λ i. executed (is.config i) (is.node i) m) ∙ done_of c is.own n m (head_of n.jobs.jobs)
+      (λ i. job_executed (is.config i) (is.node i) m) ∙ done_of c is.own n m (head_of n.jobs.jobs)
 
   pub refuses_front : (code : FailureCode)
       → refused_front e.config e.node.at code ≡ refused_front c n code

@@ -2,8 +2,8 @@
 use Rattle.std.proofs.Common.{◌≡◌, ◌∙◌, ap, sym, refl, ℕ, List, [], ◌∷◌, ◌++◌}
 use Rattle.lpt_c_end.specs.declared.end.End.{End}
 use Rattle.lpt_c_pair.specs.Pairs.{Call}
-use Rattle.lpt_c_pair.specs.Programs.{Act, Calls, Gives, Program, Puts, Settles, Told, Writes, acted, came_by, put_told, started, CanActAll}
-use Rattle.lpt_c_pair.specs.Resets.{Deed, Does, Keeps, Lived, Machines, ResetProgramsKeepTheirMemories, ResetsCraft, ResetsGround, Stays, CanLive, CanLiveAll, actor, did, just_begun, lived, lived_all, machines_of, stayed}
+use Rattle.lpt_c_pair.specs.Programs.{Act, Calls, Gives, Program, Puts, Settles, ToldWrite, Writes, program_after, came_by, put_told, program_started, CanActAll}
+use Rattle.lpt_c_pair.specs.Resets.{ActDeed, Does, Keeps, Lived, Machines, ResetProgramsKeepTheirMemories, ResetsCraft, ResetsGround, Stays, CanLive, CanLiveAll, actor, did, just_begun, lived_after, lived_all, machines_of, act_stayed}
 use Rattle.lpt_c_pair.proofs.Programs.{programs_keep_their_memories}
 use Rattle.lpt_c_pair.proofs.Withholding.{programs_withhold_nothing}
 use Rattle.lpt_events.specs.declared.config.Config.{Config}
@@ -15,8 +15,8 @@ use Rattle.lpt_memory.specs.Memories.{Contents}
 pub record Aboard : Type 0 where
   pub end : End
   pub memories : Contents
-  pub ahead : List Told
-  pub owed : List Told
+  pub ahead : List ToldWrite
+  pub owed : List ToldWrite
 
 abbrev pub aboard : Machines → Aboard
 aboard m = record { end = m.on_craft; memories = m.memories; ahead = m.ahead; owed = m.owed }
@@ -67,9 +67,10 @@ module _ (c : Config) (start : Program) where
   record IsOfCraft (x : Act) : Type 0 where
     next : Aboard → Aboard
     of_machines : (l : Lived) → aboard (did l Craft x).machines ≡ next (aboard l.machines)
-    of_run : (p : Program) → aboard (machines_of (acted c p x)) ≡ next (aboard (machines_of p))
+    of_run : (p : Program) → aboard (machines_of (program_after c p x))
+        ≡ next (aboard (machines_of p))
     leaves_machines : (l : Lived) → (did l Craft x).machines.on_ground ≡ l.machines.on_ground
-    leaves_run : (p : Program) → (acted c p x).ends.on_ground ≡ p.ends.on_ground
+    leaves_run : (p : Program) → (program_after c p x).ends.on_ground ≡ p.ends.on_ground
 
   acts_craft : (l : Lived) (x : Act)
       → IsOfCraft x
@@ -95,7 +96,7 @@ module _ (c : Config) (start : Program) where
       → IsOfCraft x
       → IsLived l
       → CanLive c start l (Stays x)
-      → IsLived (stayed l x)
+      → IsLived (act_stayed l x)
   craft_stays l x of r can = record {
     can = (r.can, can);
     ground =
@@ -128,7 +129,7 @@ module _ (c : Config) (start : Program) where
     leaves_run = λ p. refl;
   }
 
-  of_writes : (t : Told) → IsOfCraft (Writes t)
+  of_writes : (t : ToldWrite) → IsOfCraft (Writes t)
   of_writes t = record {
     next = λ a. record a { memories = put_told (t ∷ []) a.memories; ahead = a.ahead ++ t ∷ [] };
     of_machines = λ x. refl;
@@ -137,7 +138,8 @@ module _ (c : Config) (start : Program) where
     leaves_run = λ p. refl;
   }
 
-  of_gives : (octets : List ℕ) (owed : List Told) (new : End) → IsOfCraft (Gives octets owed new)
+  of_gives : (octets : List ℕ) (owed : List ToldWrite) (new : End)
+      → IsOfCraft (Gives octets owed new)
   of_gives octets owed new = record {
     next = λ a. record a { end = new; ahead = []; owed = owed };
     of_machines = λ x. refl;
@@ -187,7 +189,7 @@ module _ (c : Config) (start : Program) where
   call_stays : (l : Lived) (side : Side) (call : Call) (new : End)
       → IsLived l
       → CanLive c start l (Stays (Calls (record { side = side; call = call; new = new })))
-      → IsLived (stayed l (Calls (record { side = side; call = call; new = new })))
+      → IsLived (act_stayed l (Calls (record { side = side; call = call; new = new })))
   call_stays l Ground call new r can = record {
     can = (r.can, can);
     ground = refl;
@@ -203,10 +205,10 @@ module _ (c : Config) (start : Program) where
 
   -- ---- deeds
 
-  pub lives : (l : Lived) (x : Deed)
+  pub lives : (l : Lived) (x : ActDeed)
       → IsLived l
       → CanLive c start l x
-      → IsLived (lived c start l x)
+      → IsLived (lived_after c start l x)
   lives l (Does x) r can = does l x r can
   lives l (Stays (Calls t)) r can = call_stays l t.side t.call t.new r can
   lives l (Stays (Writes t)) r can = craft_stays l (Writes t) (of_writes t) r can
@@ -264,7 +266,7 @@ module _ (c : Config) (start : Program) where
         craft_back = r.craft_back;
       }
 
-  lives_all : (l : Lived) (xs : List Deed)
+  lives_all : (l : Lived) (xs : List ActDeed)
       → IsLived l
       → CanLiveAll c start l xs
       → IsLived (lived_all c start l xs)
@@ -287,7 +289,7 @@ begun_so c start = record {
 pub reset_programs_keep_their_memories : ResetProgramsKeepTheirMemories
 reset_programs_keep_their_memories c a b none nothing sizes first g k xs good_g good_k same new_g
     new_k can =
-    let start : Program = started c first a b g k in
+    let start : Program = program_started c first a b g k in
     let l : Lived = lived_all c start (just_begun start) xs in
     let r : IsLived c start l =
     lives_all c start (just_begun start) xs (begun_so c start) can in

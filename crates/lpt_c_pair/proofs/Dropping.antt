@@ -16,7 +16,7 @@ use Rattle.lpt_memory.specs.Effects.{answer}
 use Rattle.lpt_memory.specs.Given.{answer_of}
 use Rattle.lpt_memory.specs.Meanings.{Meaning, Silent as Says, Sizes}
 use Rattle.lpt_memory.specs.Memories.{effect, sizes_of, Contents}
-use Rattle.lpt_memory.specs.Readings.{meant, Source}
+use Rattle.lpt_memory.specs.Readings.{source_meaning, Source}
 use Rattle.lpt_node.specs.Jobs.{ending_at, ending_given, executed_given, executed_of, executed_so, refusal_claim, Execution}
 use Rattle.lpt_node.specs.Nodes.{NodeData}
 
@@ -42,10 +42,11 @@ pub dropped_is_passed_over : DroppedIsPassedOver
 dropped_is_passed_over e new apid ms now some front done =
     let d : NodeData = e.node.at in
     let r : Source = reading_for apid ms [] in
-    let says : meant r ≡ Says = means_nothing apid (sizes_of ms) in
+    let says : source_meaning r ≡ Says = means_nothing apid (sizes_of ms) in
     let left : NodeData × Execution = (record d { jobs = without_front d.jobs }, quiet) in
     let ends : ending_at e.config d now r ≡ Ends =
-    ends_so e.config d apid ms (answer (meant r) now) (ap (λ (m : Meaning). answer m now) says) in
+    ends_so e.config d apid ms (answer (source_meaning r) now)
+    (ap (λ (m : Meaning). answer m now) says) in
     let all : execution_of e ≡ (left, Here now) =
     ap (λ (o : Kept). execution_by e.config o d) some
     ∙ ap (λ (x : (NodeData × Execution) × Contents). (x.0, Here x.1))
@@ -67,7 +68,7 @@ given_is_passed_over e new apid ms octets front done =
     let r : Source = reading_for apid ms [] in
     let left : NodeData × Execution = (record d { jobs = without_front d.jobs }, quiet) in
     let ends : ending_given e.config d octets r ≡ Ends =
-    ends_so e.config d apid ms (answer_of (meant r) octets)
+    ends_so e.config d apid ms (answer_of (source_meaning r) octets)
     (ap (λ (m : Meaning). answer_of m octets) (means_nothing apid (sizes_of ms))) in
     let all : executed_given e.config d octets ≡ left =
     ap (executed_so e.config d (ending_given e.config d octets)) front

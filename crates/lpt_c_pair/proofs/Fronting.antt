@@ -13,7 +13,7 @@ use Rattle.lpt_c_end.specs.declared.end.End.{End}
 use Rattle.lpt_c_end.specs.declared.kept.Kept.{Kept}
 use Rattle.lpt_c_end.specs.declared.kept.Kept.TheVariants.{Nowhere, Here, Elsewhere}
 use Rattle.lpt_c_pair.specs.Pairs.{Call, Open, Part, Plain, Finish, LetGo, Packet, Expire, GiveUp, Tick, Rebase, Read, Execute, ExecuteGiven, Retire, RetireFree, Restart, Resume, ResumeSized, IsDone}
-use Rattle.lpt_c_pair.specs.Programs.{Told, IsTold}
+use Rattle.lpt_c_pair.specs.Programs.{ToldWrite, IsTold}
 use Rattle.lpt_apart.proofs.Handed.{put_in_place, waits}
 use Rattle.lpt_c_pair.proofs.Lemmas.{no_fault}
 use Rattle.lpt_c_pair.proofs.Telling.{copies, tells}
@@ -25,14 +25,14 @@ use Rattle.lpt_jobs.specs.Jobs.{Head, Jobs, NoJob, NotReady, Ready, claimed_in, 
 use Rattle.lpt_jobs.specs.declared.job.Job.{Job}
 use Rattle.lpt_jobs.specs.declared.job.Job.TheVariants.{Waiting, Claimed, Committed}
 use Rattle.lpt_memory.specs.Meanings.{Sizes}
-use Rattle.lpt_memory.specs.Readings.{Source, meant}
-use Rattle.lpt_node.specs.Jobs.{claimed, front_reading, refusal_claim}
+use Rattle.lpt_memory.specs.Readings.{Source, source_meaning}
+use Rattle.lpt_node.specs.Jobs.{job_claimed, front_reading, refusal_claim}
 use Rattle.lpt_node.specs.Nodes.{NodeData, direction_from, message_at}
 use Rattle.lpt_node.specs.Receiving.{with_report}
 use Rattle.lpt_node.specs.Requests.{plain_made}
-use Rattle.lpt_node.specs.Restarts.{retired}
-use Rattle.lpt_node.specs.Sending.{closed, opened, sent, sent_of}
-use Rattle.lpt_node.specs.Times.{clock_back, due, expired, expired_of, given_up, ticked}
+use Rattle.lpt_node.specs.Restarts.{name_retired}
+use Rattle.lpt_node.specs.Sending.{sender_closed, message_opened, part_sent, sent_of}
+use Rattle.lpt_node.specs.Times.{clock_back, due, reception_expired, expired_of, given_up, clock_ticked}
 use Rattle.lpt_node.proofs.JobLemmas.{jobs_accepted}
 use Rattle.lpt_packet.specs.Names.{Name}
 use Rattle.lpt_packet.specs.declared.direction.Direction.{Direction}
@@ -85,7 +85,7 @@ either a b d true of_a of_b = of_a
 either a b d false of_a of_b = of_b
 
 retired_leaves : (s : Side) (d : NodeData) (way : Direction) (name : Name)
-    → (retired s d way name).jobs ≡ d.jobs
+    → (name_retired s d way name).jobs ≡ d.jobs
 retired_leaves s d way name = either _ _ d (same_direction way (direction_from s)) refl refl
 
 -- the node became this, whose requests are those that it had
@@ -104,7 +104,7 @@ reads_leaves : (r : Source) (c : Config) (d : NodeData) (o : Option Sizes)
     → IsAtFront r (read_by c o d)
 reads_leaves r c d None none front = front
 reads_leaves r c d (Some sizes) none front =
-    let x : Source = record { apid = c.apid; sizes = sizes; message = (claimed d).1.message } in
+    let x : Source = record { apid = c.apid; sizes = sizes; message = (job_claimed d).1.message } in
     ap (λ (e : NodeData). head_of e.jobs.jobs) (waits d x (oldest d.jobs.jobs) none)
     ∙ ap (λ (q : Jobs). head_of q.jobs) (put_in_place d.jobs x)
     ∙ placed r d.jobs.jobs (Committed x) front
@@ -133,15 +133,15 @@ pub front_stays : (e new : End) (call : Call) (r : Source)
     → head_of e.node.at.jobs.jobs ≡ Ready r
     → head_of new.node.at.jobs.jobs ≡ Ready r
 front_stays e new (Open name m) r done on front =
-    leaves r e.node.at (opened e.node.at name m) new.node.at done.1.node refl front
+    leaves r e.node.at (message_opened e.node.at name m) new.node.at done.1.node refl front
 front_stays e new (Part name k) r done on front =
-    leaves r e.node.at (sent e.side e.config e.node.at name k).0 new.node.at done.1.node
+    leaves r e.node.at (part_sent e.side e.config e.node.at name k).0 new.node.at done.1.node
     (sent_leaves e.side e.config e.node.at name k (message_at e.node.at name)) front
 front_stays e new (Plain source flags service subtype body) r done on front =
     leaves r e.node.at (plain_made e.config e.node.at source flags service subtype body).0
     new.node.at done.1.node refl front
 front_stays e new (Finish name) r done on front =
-    leaves r e.node.at (closed e.node.at name) new.node.at done.1.node refl front
+    leaves r e.node.at (sender_closed e.node.at name) new.node.at done.1.node refl front
 front_stays e new LetGo r done on front =
     leaves r e.node.at e.node.at new.node.at done.1.node refl front
 front_stays e new (Packet b) r done on front =
@@ -149,13 +149,13 @@ front_stays e new (Packet b) r done on front =
     ∙ jobs_accepted (λ js. head_of js ≡ Ready r) (pushed r) e.side e.config e.node.at
     (arrival e.side e.config.apid e.config.part_size b) front
 front_stays e new Expire r done on front =
-    leaves r e.node.at (expired e.side e.config e.node.at).0 new.node.at done.1.node
+    leaves r e.node.at (reception_expired e.side e.config e.node.at).0 new.node.at done.1.node
     (expired_leaves e.side e.config e.node.at (due e.config e.node.at)) front
 front_stays e new (GiveUp name) r done on front =
     leaves r e.node.at (given_up e.side e.config e.node.at name).0 new.node.at done.1.node
     (expired_leaves e.side e.config e.node.at (Some name)) front
 front_stays e new Tick r done on front =
-    leaves r e.node.at (ticked e.node.at) new.node.at done.1.node refl front
+    leaves r e.node.at (clock_ticked e.node.at) new.node.at done.1.node refl front
 front_stays e new (Rebase ticks) r done on front =
     leaves r e.node.at (clock_back ticks e.node.at) new.node.at done.1.node refl front
 front_stays e new Read r done on front =
@@ -165,10 +165,10 @@ front_stays e new Read r done on front =
 front_stays e new Execute r done on front = absurd on
 front_stays e new (ExecuteGiven octets) r done on front = absurd on
 front_stays e new (Retire direction name) r done on front =
-    leaves r e.node.at (retired e.side e.node.at (direction_by direction) name) new.node.at
+    leaves r e.node.at (name_retired e.side e.node.at (direction_by direction) name) new.node.at
     done.node (retired_leaves e.side e.node.at (direction_by direction) name) front
 front_stays e new (RetireFree direction name) r done on front =
-    leaves r e.node.at (retired e.side e.node.at (direction_by direction) name) new.node.at
+    leaves r e.node.at (name_retired e.side e.node.at (direction_by direction) name) new.node.at
     done.node (retired_leaves e.side e.node.at (direction_by direction) name) front
 front_stays e new Restart r done on front = absurd on
 front_stays e new (Resume config state ms content) r done on front = absurd on
@@ -179,7 +179,8 @@ front_stays e new (ResumeSized config state sizes) r done on front = absurd on
 -- the access of a number, by what stands at the front
 abbrev told_at : (n : ℕ) → Head → Option LptAccess
 told_at n h =
-    option_and_then (λ (s : Source). option_map access_word (slice_get (accesses (meant s)) n))
+    option_and_then
+    (λ (s : Source). option_map access_word (slice_get (accesses (source_meaning s)) n))
     (front_reading h)
 
 -- what an access is told of was read
@@ -187,7 +188,7 @@ record IsFront (e : End) : Type 0 where
   read : Source
   is : head_of e.node.at.jobs.jobs ≡ Ready read
 
-told_of_front : (e : End) (n : ℕ) (t : Told) → IsTold n t e → IsFront e
+told_of_front : (e : End) (n : ℕ) (t : ToldWrite) → IsTold n t e → IsFront e
 told_of_front e n t told = go (head_of e.node.at.jobs.jobs) refl where
   go : (h : Head) → head_of e.node.at.jobs.jobs ≡ h → IsFront e
   go (Ready r) is = record { read = r; is = is }
@@ -197,7 +198,7 @@ told_of_front e n t told = go (head_of e.node.at.jobs.jobs) refl where
       absurd (let none : None ≡ Some t.access = ap (told_at n) (sym is) ∙ told.access in cc)
 
 -- and stays what it is
-pub told_stays : (e new : End) (call : Call) (n : ℕ) (t : Told)
+pub told_stays : (e new : End) (call : Call) (n : ℕ) (t : ToldWrite)
     → IsDone call e new
     → GoesOn call
     → IsTold n t e

@@ -6,7 +6,7 @@ use Rattle.lpt_jobs.specs.Jobs.{Head, NoJob, NotReady, Ready}
 use Rattle.lpt_memory.specs.Meanings.{Sizes}
 use Rattle.lpt_memory.specs.Memories.{Contents, sizes_of}
 use Rattle.lpt_memory.specs.Ranges.{MeaningFits}
-use Rattle.lpt_memory.specs.Readings.{Source, meant}
+use Rattle.lpt_memory.specs.Readings.{Source, source_meaning}
 use Rattle.lpt_memory.proofs.MeaningLemmas.{meaning-fits}
 use Rattle.lpt_memory.proofs.PutLemmas.{sizes_of-effect}
 use Rattle.lpt_node.specs.Jobs.{FrontIsFor, executed_of}
@@ -26,5 +26,6 @@ pub executed_sizes : (c : Config) (d : NodeData) (ms : Contents) (h : Head) (api
 executed_sizes c d ms NoJob apid front = refl
 executed_sizes c d ms NotReady apid front = refl
 executed_sizes c d ms (Ready r) apid front =
-    sizes_of-effect (meant r) ms
-    (subst (λ (s : Sizes). MeaningFits s (meant r)) front.1 (meaning-fits r.apid r.sizes r.message))
+    sizes_of-effect (source_meaning r) ms
+    (subst (λ (s : Sizes). MeaningFits s (source_meaning r)) front.1
+    (meaning-fits r.apid r.sizes r.message))

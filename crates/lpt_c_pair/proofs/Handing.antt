@@ -17,8 +17,8 @@ use Rattle.lpt_c_end.specs.declared.words.LptApplied.{LptApplied}
 use Rattle.lpt_c_end.specs.declared.words.LptOutcome.{LptOutcome}
 use Rattle.lpt_c_end.specs.Words.{applied_words, words}
 use Rattle.lpt_c_pair.specs.Handed.{AllLeave, ExecutionsAreTold, GivenExecutionsAreTold, IsExecutedSo, IsHanded, LeavesReleased, MessagesAreHanded, MessagesStay}
-use Rattle.lpt_c_pair.specs.Pairs.{AreEndsOf, Call, Open, Part, Plain, Finish, LetGo, Packet, Expire, GiveUp, Tick, Rebase, Read, Execute, ExecuteGiven, Retire, RetireFree, Restart, Resume, ResumeSized, InEnd, IsDone, IsEndOf, Place, WithProgram, end_of, kept_in}
-use Rattle.lpt_c_pair.specs.Runs.{Turn, Standing, CanTurnBy, CanStand, KeepsThePromise, stood, turned_by}
+use Rattle.lpt_c_pair.specs.Pairs.{AreEndsOf, Call, Open, Part, Plain, Finish, LetGo, Packet, Expire, GiveUp, Tick, Rebase, Read, Execute, ExecuteGiven, Retire, RetireFree, Restart, Resume, ResumeSized, InEnd, IsDone, IsEndOf, CallPlace, WithProgram, end_of, kept_in}
+use Rattle.lpt_c_pair.specs.Runs.{CallTurn, Standing, CanTurnBy, CanStand, KeepsThePromise, stood, turned_by}
 use Rattle.lpt_c_pair.proofs.Clockless.{executes, executes_over, takes}
 use Rattle.lpt_c_pair.proofs.GivenLemmas.{not_short}
 use Rattle.lpt_c_pair.proofs.Lemmas.{IsRead, no_fault, not_unsent, was_read}
@@ -36,16 +36,16 @@ use Rattle.lpt_jobs.specs.Jobs.{Head, NoJob, NotReady, Ready, head_of}
 use Rattle.lpt_memory.specs.Memories.{Contents, sizes_of}
 use Rattle.lpt_model.specs.State.{released_of}
 use Rattle.lpt_node.proofs.GivenLemmas.{given_over}
-use Rattle.lpt_node.specs.Jobs.{Execution, FrontIsFor, executed, executed_of, front_reading, refusal_apply}
-use Rattle.lpt_node.specs.Accepting.{accepted}
+use Rattle.lpt_node.specs.Jobs.{Execution, FrontIsFor, job_executed, executed_of, front_reading, refusal_apply}
+use Rattle.lpt_node.specs.Accepting.{packet_accepted}
 use Rattle.lpt_node.specs.declared.accepted.Accepted.{Accepted}
 use Rattle.lpt_node.specs.Nodes.{NodeData}
-use Rattle.lpt_node.specs.Receivers.{ReceiverState, received, received_from, after_offer, if_free, table_in, parts_with, kept_of}
-use Rattle.lpt_node.specs.Receiving.{abort_head, after_received, parted, receiver_of}
+use Rattle.lpt_node.specs.Receivers.{ReceiverState, part_received, received_from, after_offer, if_free, table_in, parts_with, kept_of}
+use Rattle.lpt_node.specs.Receiving.{abort_head, after_received, part_accepted, receiver_of}
 use Rattle.lpt_pus.specs.Telemetry.{Telemetry}
 use Rattle.lpt_reception.specs.Received.{Parts, spelled}
 use Rattle.lpt_table.specs.Offering as offering
-use Rattle.lpt_table.specs.Offering.{OfferKind, offered}
+use Rattle.lpt_table.specs.Offering.{OfferKind, part_offered}
 use Rattle.lpt_table.specs.Tables.{Entries, TableState}
 use Rattle.lpt_ledger.specs.States.{state_at}
 use Rattle.lpt_ledger.specs.declared.state.State.{State}
@@ -83,16 +83,16 @@ module _ (way : Direction) (log : Log) (m : List ℕ) where
   of_free side Closed d q h r parts o is = absurd cc
 
   of_part : (side : Side) (c : Config) (d : NodeData) (q : NamedPart)
-      → IsLogged (parted side c d q).1
-  unfolding received
+      → IsLogged (part_accepted side c d q).1
+  unfolding part_received
   of_part side c d q is =
       let r : ReceiverState = receiver_of c d.receiving in
       of_free side (state_at r.ledger q.name) d q (abort_head side c d q.name.source) r
       (parts_with (table_in r) q)
-      (offered (table_in r) q.name q.number (kept_of q) d.clock) is
+      (part_offered (table_in r) q.name q.number (kept_of q) d.clock) is
 
   of_arrival : (side : Side) (c : Config) (d : NodeData) (a : Arrival)
-      → IsLogged (accepted side c d a).1
+      → IsLogged (packet_accepted side c d a).1
   of_arrival side c d NotRead is = absurd cc
   of_arrival side c d AnIdle is = absurd cc
   of_arrival side c d Foreign is = absurd cc
@@ -111,12 +111,13 @@ handed : (c : Config) (side : Side) (n : NodeData) (kept : Kept) (e new : End) (
     → told ≡ words (delivery e b).1.outcome
     → new.released ≡ Some m
     → after
-    ≡ logged (direction_to side) before m (accepted side c n (arrival side c.apid c.part_size b)).1
+    ≡ logged (direction_to side) before m
+    (packet_accepted side c n (arrival side c.apid c.part_size b)).1
     → AllDue after
     → IsHanded side told m before after
 handed c side n kept e new b told m before after is released says copied log due =
     let a : Arrival = arrival side c.apid c.part_size b in
-    let x : Accepted = (accepted side c n a).1 in
+    let x : Accepted = (packet_accepted side c n a).1 in
     let same : (delivery e b).1 ≡ x = ap (λ (y : NodeData × Accepted). y.1) (takes is b) in
     let it : x.released ≡ Some m =
     ap (λ (y : Accepted). y.released) (sym same) ∙ sym released ∙ copied in
@@ -180,7 +181,7 @@ module _ (c : Config) where
   turn_leaves s Craft Craft call new can may =
       released_stays call s.on_craft new can.0 (may refl)
 
-  turns_leave : (s : Standing) (side : Side) (ts : List Turn)
+  turns_leave : (s : Standing) (side : Side) (ts : List CallTurn)
       → CanStand c s ts
       → AllLeave side ts
       → released_at side (stood c s ts) ≡ released_at side s
@@ -190,7 +191,7 @@ module _ (c : Config) where
       ∙ turns_leave s side ts can.0 may.0
 
 -- what is copied is what was released
-copied_is : (side : Side) (c : Config) (s : Standing) (b : List ℕ) (new : End) (ts : List Turn)
+copied_is : (side : Side) (c : Config) (s : Standing) (b : List ℕ) (new : End) (ts : List CallTurn)
     → CanStand c (turned_by c s side (Packet b) new) ts
     → AllLeave side ts
     → (end_of side
@@ -241,7 +242,7 @@ not_here (Elsewhere sizes) o none = none
 module _ (c : Config) (first : Contents) (s : Standing) where
   -- the execution of the two ends apart
   abbrev it : Execution
-  it = (executed c s.pair.ends.on_craft s.pair.ends.memories).0.1
+  it = (job_executed c s.pair.ends.on_craft s.pair.ends.memories).0.1
 
   told_so : (told : LptApplied)
       → KeepsThePromise c first s
@@ -266,7 +267,7 @@ module _ (c : Config) (first : Contents) (s : Standing) where
         (head_of s.pair.ends.on_craft.jobs.jobs);
   }
 
-  of_end : (new : End) (told : LptApplied) (w : Place)
+  of_end : (new : End) (told : LptApplied) (w : CallPlace)
       → (are : AreEndsOf c s.pair s.on_ground s.on_craft)
       → are.place ≡ w
       → CanTurnBy c s Craft Execute new
@@ -274,7 +275,7 @@ module _ (c : Config) (first : Contents) (s : Standing) where
       → told ≡ applied_words it.applied
   of_end new told InEnd are at can says =
       let held : s.on_craft.memories ≡ Here s.pair.ends.memories =
-      are.craft.memories ∙ ap (λ (x : Place). kept_in x s.pair.ends.memories) at in
+      are.craft.memories ∙ ap (λ (x : CallPlace). kept_in x s.pair.ends.memories) at in
       let is : IsEndOf c Craft s.pair.ends.on_craft (Here s.pair.ends.memories) s.on_craft =
       record {
         side = are.craft.side;
@@ -288,9 +289,10 @@ module _ (c : Config) (first : Contents) (s : Standing) where
       absurd (let both : Some elsewhere ≡ None =
       sym (ap (λ (o : Kept). here_refusal o (sending_refusal (node_code
       (refusal_apply s.on_craft.node.at)) s.on_craft.outbox.items))
-      (are.craft.memories ∙ ap (λ (x : Place). kept_in x s.pair.ends.memories) at)) ∙ can.0.0 in cc)
+      (are.craft.memories ∙ ap (λ (x : CallPlace). kept_in x s.pair.ends.memories) at))
+      ∙ can.0.0 in cc)
 
-  of_program : (octets : List ℕ) (new : End) (told : LptApplied) (w : Place)
+  of_program : (octets : List ℕ) (new : End) (told : LptApplied) (w : CallPlace)
       → (are : AreEndsOf c s.pair s.on_ground s.on_craft)
       → are.place ≡ w
       → CanTurnBy c s Craft (ExecuteGiven octets) new
@@ -301,12 +303,13 @@ module _ (c : Config) (first : Contents) (s : Standing) where
       absurd (let both : Some elsewhere ≡ None =
       sym (ap (λ (o : Kept). elsewhere_refusal o (sending_refusal
       (length_refusal (unready k) (first_read k) octets) k.outbox.items))
-      (are.craft.memories ∙ ap (λ (x : Place). kept_in x s.pair.ends.memories) at)) ∙ can.0.0 in cc)
+      (are.craft.memories ∙ ap (λ (x : CallPlace). kept_in x s.pair.ends.memories) at))
+      ∙ can.0.0 in cc)
   of_program octets new told WithProgram are at can says =
       let k : End = s.on_craft in
       let ms : Contents = s.pair.ends.memories in
       let known : k.memories ≡ Elsewhere (sizes_of ms) =
-      are.craft.memories ∙ ap (λ (x : Place). kept_in x ms) at in
+      are.craft.memories ∙ ap (λ (x : CallPlace). kept_in x ms) at in
       let front : FrontIsFor (head_of k.node.at.jobs.jobs) k.node.config.apid ms =
       front_ready k.node (sizes_in k.memories) ms (ap sizes_in known) k.ready in
       says

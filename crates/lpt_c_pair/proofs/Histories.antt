@@ -4,9 +4,9 @@ use Rattle.lpt_apart_kept.proofs.Finishing.{finished_runs}
 use Rattle.lpt_c_end.specs.Contents.{memories_of, memories_told}
 use Rattle.lpt_c_end.specs.declared.end.End.{End}
 use Rattle.lpt_c_end.specs.declared.memories.LptMemory.{LptMemory}
-use Rattle.lpt_c_pair.specs.Histories.{CarefulProgramsMayBeReset, Deed, History, Keeps, Makes, ResetEndsOfCKeepThePromise, Resets, SendingsLeaveTheState, Stays, AreCareful, CanGoOn, CanGoOnAll, IsCareful, again, but_other, called, gone_all, gone_on, just_begun, left_without, reset_by, stayed}
+use Rattle.lpt_c_pair.specs.Histories.{CarefulProgramsMayBeReset, CallDeed, History, Keeps, Makes, ResetEndsOfCKeepThePromise, Resets, SendingsLeaveTheState, Stays, AreCareful, CanGoOn, CanGoOnAll, IsCareful, again, but_other, call_made, gone_all, gone_on, just_begun, left_without, reset_by, call_stayed}
 use Rattle.lpt_c_pair.specs.Pairs.{Call, Resume, IsDone, IsKept, end_of}
-use Rattle.lpt_c_pair.specs.Runs.{Turn, Standing, begun, stood, CanStand, CanTurnBy}
+use Rattle.lpt_c_pair.specs.Runs.{CallTurn, Standing, standing_begun, stood, CanStand, CanTurnBy}
 use Rattle.lpt_c_pair.proofs.Running.{ends_of_c_keep_the_promise}
 use Rattle.lpt_c_pair.proofs.Withholding.{ends_of_c_withhold_nothing}
 use Rattle.lpt_events.specs.declared.config.Config.{Config}
@@ -16,11 +16,11 @@ use Rattle.lpt_node.specs.Nodes.{NodeData, message_at}
 use Rattle.lpt_node.specs.Sending.{sent_of}
 use Rattle.lpt_packet.specs.Names.{Name}
 use Rattle.lpt_state.specs.Lastings.{lasting_of}
-use Rattle.lpt_state.specs.Spellings.{spelled, spelling}
+use Rattle.lpt_state.specs.Spellings.{state_spelled, spelling}
 
 module _ (c : Config) (start : Standing) where
   -- two ends after these calls
-  abbrev at : List Turn → Standing
+  abbrev at : List CallTurn → Standing
   at ts = stood c start ts
 
   -- what each list of calls has of each end
@@ -36,7 +36,7 @@ module _ (c : Config) (start : Standing) where
   makes : (h : History) (side : Side) (call : Call) (new : End)
       → IsGone h
       → CanStand c start (record { side = side; call = call; new = new } ∷ h.calls)
-      → IsGone (called h side (record { side = side; call = call; new = new }))
+      → IsGone (call_made h side (record { side = side; call = call; new = new }))
   makes h Ground call new r can = record {
     can = can;
     ground = refl;
@@ -59,7 +59,7 @@ module _ (c : Config) (start : Standing) where
   stays : (h : History) (side : Side) (call : Call) (new : End)
       → IsGone h
       → CanStand c start (record { side = side; call = call; new = new } ∷ h.calls)
-      → IsGone (stayed h side (record { side = side; call = call; new = new }))
+      → IsGone (call_stayed h side (record { side = side; call = call; new = new }))
   stays h Ground call new r can = record {
     can = can;
     ground = refl;
@@ -102,7 +102,7 @@ module _ (c : Config) (start : Standing) where
     craft_back = r.craft_back;
   }
 
-  goes_on : (h : History) (x : Deed) → IsGone h → CanGoOn c start h x → IsGone (gone_on h x)
+  goes_on : (h : History) (x : CallDeed) → IsGone h → CanGoOn c start h x → IsGone (gone_on h x)
   goes_on h (Makes t) r can = makes h t.side t.call t.new r can
   goes_on h (Stays t) r can = stays h t.side t.call t.new r can
   goes_on h (Keeps Ground) r can = record {
@@ -124,10 +124,10 @@ module _ (c : Config) (start : Standing) where
     craft_back = r.craft_still;
   }
   goes_on h (Resets side config state ms content new) r can =
-      let t : Turn = again side config state ms content new in
+      let t : CallTurn = again side config state ms content new in
       resets h side t.call t.new r can
 
-  all_go_on : (h : History) (xs : List Deed)
+  all_go_on : (h : History) (xs : List CallDeed)
       → IsGone h
       → CanGoOnAll c start h xs
       → IsGone (gone_all h xs)
@@ -137,7 +137,7 @@ module _ (c : Config) (start : Standing) where
 pub reset_ends_of_c_keep_the_promise : ResetEndsOfCKeepThePromise
 reset_ends_of_c_keep_the_promise c a b none nothing ms content g k xs good_g good_k new_g new_k
     can =
-    let start : Standing = begun c (memories_told content ms) a b g k in
+    let start : Standing = standing_begun c (memories_told content ms) a b g k in
     let h : History = gone_all (just_begun start) xs in
     let r : IsGone c start h = all_go_on c start (just_begun start) xs (record {
       can = tt;
@@ -187,7 +187,7 @@ module _ (c : Config) (start : Standing) where
       → AreAll h
       → CanTurnBy c (at c start h.calls) side call new
       × CanTurnBy c (at c start (but_other h side)) side call new
-      → AreAll (called h side (record { side = side; call = call; new = new }))
+      → AreAll (call_made h side (record { side = side; call = call; new = new }))
   careful_makes h Ground call new r can = record {
     gone = makes c start h Ground call new r.gone (r.gone.can, can.0);
     ground = r.ground;
@@ -207,7 +207,7 @@ module _ (c : Config) (start : Standing) where
       × CanTurnBy c (at c start h.but_ground) side call new
       × CanTurnBy c (at c start h.but_craft) side call new
       × CanTurnBy c (at c start h.but_both) side call new
-      → AreAll (stayed h side (record { side = side; call = call; new = new }))
+      → AreAll (call_stayed h side (record { side = side; call = call; new = new }))
   careful_stays h Ground call new r can = record {
     gone = stays c start h Ground call new r.gone (r.gone.can, can.0);
     ground = (r.ground, can.1);
@@ -221,7 +221,7 @@ module _ (c : Config) (start : Standing) where
     neither = (r.neither, can.3);
   }
 
-  careful : (h : History) (x : Deed)
+  careful : (h : History) (x : CallDeed)
       → AreAll h
       → IsCareful c start h x
       → AreAll (gone_on h x) × CanGoOn c start h x
@@ -274,7 +274,7 @@ module _ (c : Config) (start : Standing) where
     (r.craft, can),
   )
 
-  all_careful : (h : History) (xs : List Deed)
+  all_careful : (h : History) (xs : List CallDeed)
       → AreAll h
       → AreCareful c start h xs
       → AreAll (gone_all h xs) × CanGoOnAll c start h xs
@@ -314,7 +314,7 @@ same_state : (e new : End)
     → new.side ≡ e.side
     → new.config ≡ e.config
     → lasting_of new.node.at ≡ lasting_of e.node.at
-    → spelled new.node ≡ spelled e.node
+    → state_spelled new.node ≡ state_spelled e.node
 same_state e new side config lasting =
     (λ i. spelling
     ((new.same_side ∙ side ∙ sym e.same_side) i)

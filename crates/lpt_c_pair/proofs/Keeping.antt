@@ -9,11 +9,11 @@ use Rattle.lpt_c_end.specs.Sizes.{sizes_said, IsNewSized}
 use Rattle.lpt_c_end.specs.declared.end.End.{End}
 use Rattle.lpt_c_end.specs.declared.memories.LptMemory.{LptMemory}
 use Rattle.lpt_c_end.specs.declared.sizing.LptSize.{LptSize}
-use Rattle.lpt_c_pair.specs.Keepers.{Act, Does, Gives, Keeper, Puts, Settles, TakesBack, Writes, CanKeep, CanKeepAll, ProgramsThatDropServe, deeds_of, giving, kept, kept_all, new_keeper, program_of, stood_by}
+use Rattle.lpt_c_pair.specs.Keepers.{KeeperAct, Does, Gives, Keeper, Puts, Settles, TakesBack, Writes, CanKeep, CanKeepAll, ProgramsThatDropServe, deeds_of, giving, keeper_after, kept_all, new_keeper, program_of, stood_by}
 use Rattle.lpt_c_pair.specs.Pairs.{Call, Open, Part, Plain, Finish, LetGo, Packet, Expire, GiveUp, Tick, Rebase, Read, Execute, ExecuteGiven, Retire, RetireFree, Restart, Resume, ResumeSized, moves}
 use Rattle.lpt_c_pair.specs.Programs as program
-use Rattle.lpt_c_pair.specs.Programs.{Program, Told, acted, put_told}
-use Rattle.lpt_c_pair.specs.Services.{Calls, Deed, Drops, DropsRead, Refuses, turns, turns_of}
+use Rattle.lpt_c_pair.specs.Programs.{Program, ToldWrite, program_after, put_told}
+use Rattle.lpt_c_pair.specs.Services.{Calls, ServiceDeed, Drops, DropsRead, Refuses, turns, turns_of}
 use Rattle.lpt_c_pair.specs.Withheld.{ProgramsThatDropWithholdNoRequest}
 use Rattle.lpt_c_pair.proofs.Leaving.{craft_leaves, ground_leaves}
 use Rattle.lpt_c_pair.proofs.Programs.{IsOwn, calls_craft, calls_ground, gives, none_told, starts, vow_of, writes}
@@ -53,11 +53,11 @@ module _ (c : Config) (start : Service) where
   ghost k = k.serving.service.pair.ends.memories
 
   -- what stood there is those of the two ends apart, where something was written ahead
-  abbrev IsBack : List Told → (owed : List Told) → (stood ghost : Contents) → Type 0
+  abbrev IsBack : List ToldWrite → (owed : List ToldWrite) → (stood ghost : Contents) → Type 0
   IsBack [] owed stood ms = ⊤
   IsBack (t ∷ ts) owed stood ms = (stood ≡ ms) × (owed ≡ [])
 
-  record IsKept (k : Keeper) (deeds : List Deed) : Type 0 where
+  record IsKept (k : Keeper) (deeds : List ServiceDeed) : Type 0 where
     led : IsLed c start k.serving (turns_of deeds)
     own : IsOwn (program_of k)
     back : IsBack k.ahead k.owed k.stood (ghost k)
@@ -74,26 +74,26 @@ module _ (c : Config) (start : Service) where
     told = r.told;
   }
 
-  back_over : (ahead owed : List Told) (stood ms ns : Contents)
+  back_over : (ahead owed : List ToldWrite) (stood ms ns : Contents)
       → ns ≡ ms
       → IsBack ahead owed stood ms
       → IsBack ahead owed stood ns
   back_over [] owed stood ms ns same back = tt
   back_over (t ∷ ts) owed stood ms ns same back = (back.0 ∙ sym same, back.1)
 
-  none_back : (ahead owed : List Told) (stood ms : Contents)
+  none_back : (ahead owed : List ToldWrite) (stood ms : Contents)
       → ahead ≡ []
       → IsBack ahead owed stood ms
   none_back ahead owed stood ms none =
-      subst (λ (ts : List Told). IsBack ts owed stood ms) (sym none) tt
+      subst (λ (ts : List ToldWrite). IsBack ts owed stood ms) (sym none) tt
 
   -- ---- calls and drops
 
-  calls : (k : Keeper) (deeds : List Deed) (side : Side) (call : Call) (new : End)
+  calls : (k : Keeper) (deeds : List ServiceDeed) (side : Side) (call : Call) (new : End)
       → let x = Calls (record { side = side; call = call; new = new }) in
       IsKept k deeds
       → CanKeep c k (Does x)
-      → IsKept (kept c k (Does x)) (x ∷ deeds)
+      → IsKept (keeper_after c k (Does x)) (x ∷ deeds)
   calls k deeds Ground call new r can =
       let s : Service = k.serving.service in
       let q : Pair = (turned_all c s (turns Ground call)).pair in
@@ -105,7 +105,7 @@ module _ (c : Config) (start : Service) where
             led_on c start k.serving (turns_of deeds)
             (Calls (record { side = Ground; call = call; new = new })) r.led can.0;
         own =
-            own_over (acted c (program_of k)
+            own_over (program_after c (program_of k)
             (program.Calls (record { side = Ground; call = call; new = new }))) q
             (same_ghost c s Ground call)
             (calls_ground c (program_of k) call new r.led.ends.ground.memories r.own can);
@@ -121,7 +121,7 @@ module _ (c : Config) (start : Service) where
             led_on c start k.serving (turns_of deeds)
             (Calls (record { side = Craft; call = call; new = new })) r.led can.0;
         own =
-            own_over (acted c (program_of k)
+            own_over (program_after c (program_of k)
             (program.Calls (record { side = Craft; call = call; new = new }))) q
             (same_ghost c s Craft call) (calls_craft c (program_of k) call new r.own can);
         back =
@@ -129,10 +129,10 @@ module _ (c : Config) (start : Service) where
             (same_ghost c s Craft call ∙ l.memories) r.back;
       }
 
-  does : (k : Keeper) (deeds : List Deed) (x : Deed)
+  does : (k : Keeper) (deeds : List ServiceDeed) (x : ServiceDeed)
       → IsKept k deeds
       → CanKeep c k (Does x)
-      → IsKept (kept c k (Does x)) (x ∷ deeds)
+      → IsKept (keeper_after c k (Does x)) (x ∷ deeds)
   does k deeds (Calls t) r can = calls k deeds t.side t.call t.new r can
   does k deeds (Drops new) r can = record {
     led = led_on c start k.serving (turns_of deeds) (Drops new) r.led can.0;
@@ -168,25 +168,26 @@ module _ (c : Config) (start : Service) where
   -- ---- writes
 
   -- what is written ahead can be put back
-  more_back : (ahead : List Told) (t : Told) (owed : List Told) (ms stood ns : Contents)
+  more_back : (ahead : List ToldWrite) (t : ToldWrite) (owed : List ToldWrite)
+      (ms stood ns : Contents)
       → owed ≡ []
       → put_told owed ms ≡ put_told ahead ns
       → IsBack ahead owed stood ns
       → IsBack (ahead ++ t ∷ []) owed (stood_by ahead ms stood) ns
   more_back [] t owed ms stood ns none same back =
-      (sym (ap (λ (ts : List Told). put_told ts ms) none) ∙ same, none)
+      (sym (ap (λ (ts : List ToldWrite). put_told ts ms) none) ∙ same, none)
   more_back (x ∷ xs) t owed ms stood ns none same back = back
 
   -- and so it is
-  put_back : (ahead owed : List Told) (ms stood ns : Contents)
+  put_back : (ahead owed : List ToldWrite) (ms stood ns : Contents)
       → put_told owed ms ≡ put_told ahead ns
       → IsBack ahead owed stood ns
       → put_told owed (stood_by ahead ms stood) ≡ ns
   put_back [] owed ms stood ns same back = same
   put_back (t ∷ ts) owed ms stood ns same back =
-      ap (λ (xs : List Told). put_told xs stood) back.1 ∙ back.0
+      ap (λ (xs : List ToldWrite). put_told xs stood) back.1 ∙ back.0
 
-  settled : (ahead owed : List Told) (stood ns : Contents)
+  settled : (ahead owed : List ToldWrite) (stood ns : Contents)
       → IsBack ahead owed stood ns
       → IsBack ahead [] stood ns
   settled [] owed stood ns back = tt
@@ -194,10 +195,10 @@ module _ (c : Config) (start : Service) where
 
   -- ---- acts
 
-  acts : (k : Keeper) (xs : List Act) (x : Act)
+  acts : (k : Keeper) (xs : List KeeperAct) (x : KeeperAct)
       → IsKept k (deeds_of xs)
       → CanKeep c k x
-      → IsKept (kept c k x) (deeds_of (x ∷ xs))
+      → IsKept (keeper_after c k x) (deeds_of (x ∷ xs))
   acts k xs (Does x) r can = does k (deeds_of xs) x r can
   acts k xs (Writes t) r can = record {
     led = r.led;
@@ -243,7 +244,7 @@ module _ (c : Config) (start : Service) where
     back = tt;
   }
 
-  all_acts : (k : Keeper) (xs : List Act)
+  all_acts : (k : Keeper) (xs : List KeeperAct)
       → IsKept k []
       → CanKeepAll c k xs
       → IsKept (kept_all c k xs) (deeds_of xs)
@@ -252,7 +253,7 @@ module _ (c : Config) (start : Service) where
 
 -- what was done with two new ends is so
 all_kept : (c : Config) (a : ℕ) (b : Own) (none : List LptMemory) (nothing : List ℕ)
-    (sizes : List LptSize) (first : Contents) (g k : End) (xs : List Act)
+    (sizes : List LptSize) (first : Contents) (g k : End) (xs : List KeeperAct)
     → IsConfig (later a c)
     → IsConfig (own_config b c)
     → sizes_said sizes ≡ sizes_of first

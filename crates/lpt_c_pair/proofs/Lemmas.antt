@@ -8,7 +8,7 @@ use Rattle.lpt_c_end.specs.Refusals.{sending_refusal}
 use Rattle.lpt_c_end.specs.declared.end.End.{End}
 use Rattle.lpt_c_end.specs.Kept.{memories_refusal, sizes_in}
 use Rattle.lpt_c_pair.specs.Outboxes.{AllOnTheWay}
-use Rattle.lpt_c_pair.specs.Pairs.{AreEndsOf, Place, InEnd, WithProgram, kept_in}
+use Rattle.lpt_c_pair.specs.Pairs.{AreEndsOf, CallPlace, InEnd, WithProgram, kept_in}
 use Rattle.lpt_packet.specs.declared.direction.Direction.{Direction}
 use Rattle.lpt_packet.specs.declared.direction.Direction.TheVariants.{Up, Down}
 use Rattle.lpt_packet.specs.Names.{Name}
@@ -23,7 +23,7 @@ use Rattle.lpt_memory.specs.Memories.{Contents, sizes_of}
 use Rattle.lpt_memory.specs.Readings.{Source}
 use Rattle.lpt_node.specs.Jobs.{refusal_apply_of}
 use Rattle.lpt_node.specs.Nodes.{NodeData, direction_from}
-use Rattle.lpt_node.specs.Restarts.{name_state, received_state, retired}
+use Rattle.lpt_node.specs.Restarts.{name_state, received_state, name_retired}
 use Rattle.lpt_node.specs.declared.fault.NodeFault.{NodeFault}
 use Rattle.lpt_node.proofs.RestartLemmas.{retired-free}
 use Rattle.lpt_model.specs.Tickets.{no_tickets}
@@ -75,7 +75,7 @@ free_mark false s is = is
 -- to free a name that is free changes nothing
 pub free_stays : (s : Side) (d : NodeData) (way : Direction) (name : Name)
     → name_state s d way name ≡ known.Free
-    → retired s d way name ≡ d
+    → name_retired s d way name ≡ d
 free_stays s d way name is = go (same_direction way (direction_from s)) is where
   go : (t : Bool)
       → (if t then state_at d.sending.ledger name else received_state d.receiving name)
@@ -103,12 +103,12 @@ free_stays s d way name is = go (same_direction way (direction_from s)) is where
 -- ---- memories
 
 -- an end knows their sizes wherever they are
-pub sizes_kept : (w : Place) (ms : Contents) → sizes_in (kept_in w ms) ≡ Some (sizes_of ms)
+pub sizes_kept : (w : CallPlace) (ms : Contents) → sizes_in (kept_in w ms) ≡ Some (sizes_of ms)
 sizes_kept InEnd ms = refl
 sizes_kept WithProgram ms = refl
 
 -- what needs no octets of them isn't refused wherever they are
-pub refusal_kept : (w : Place) (ms : Contents) (o : Option ℕ)
+pub refusal_kept : (w : CallPlace) (ms : Contents) (o : Option ℕ)
     → memories_refusal (kept_in w ms) o ≡ o
 refusal_kept InEnd ms o = refl
 refusal_kept WithProgram ms o = refl

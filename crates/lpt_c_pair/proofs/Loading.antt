@@ -13,7 +13,7 @@ use Rattle.lpt_jobs.specs.Jobs.{Head, Ready, head_of}
 use Rattle.lpt_memory.specs.Effects.{answer}
 use Rattle.lpt_memory.specs.Meanings.{Meaning, Fault, Load, Sizes, area, body_meaning, command_meaning, if_formed, in_memory, load_fault, load_meaning, meaning, size_of, unless}
 use Rattle.lpt_memory.specs.Memories.{Contents, effect, sizes_of}
-use Rattle.lpt_memory.specs.Readings.{Source, meant}
+use Rattle.lpt_memory.specs.Readings.{Source, source_meaning}
 use Rattle.lpt_memory.specs.Requests.{LoadArea, Request, front_load_area, request_in}
 use Rattle.lpt_execution.specs.Endings.{ending}
 use Rattle.lpt_execution.specs.Reporting.{request_source}
@@ -75,7 +75,7 @@ by_command sizes (Some c) body r same is =
 comes : (apid : ℕ) (ms : Contents) (message body : List ℕ) (r : Request LoadArea)
     → load_in apid message ≡ Some body
     → request_in front_load_area body ≡ Some r
-    → Comes r (meant (read_for apid ms message))
+    → Comes r (source_meaning (read_for apid ms message))
 unfolding meaning
 comes apid ms message body r = by_command (sizes_of ms) (command_in apid message) body r
 
@@ -100,15 +100,15 @@ module _ (e new : End) (ms : Contents) (message : List ℕ) where
 
   executes : e.memories ≡ Here ms
       → head_of d.jobs.jobs ≡ Ready s
-      → execution_of e ≡ out_of (meant s)
+      → execution_of e ≡ out_of (source_meaning s)
   executes some front =
       ap (λ (o : Kept). execution_by e.config o d) some
       ∙ ap (λ (x : (NodeData × Execution) × Contents). (x.0, Here x.1))
       (ap (λ (h : Head). executed_of e.config d ms h) front)
 
   settled : (r : Request LoadArea)
-      → Comes r (meant s)
-      → execution_of e ≡ out_of (meant s)
+      → Comes r (source_meaning s)
+      → execution_of e ≡ out_of (source_meaning s)
       → IsExecuted e new
       → IsCarriedOut r ms e new ⊎ IsRefused ms e new
   settled r (Writes is) out done =

@@ -1,10 +1,10 @@
 -- What a program that drops requests did and didn't keep can be deleted from what was done.
 use Rattle.std.proofs.Common.{◌≡◌, ◌∙◌, ap, sym, subst, refl, ℕ, List, [], ◌∷◌, ◌++◌}
 use Rattle.lpt_c_end.specs.declared.end.End.{End}
-use Rattle.lpt_c_pair.specs.Keepers.{Act, Does, Gives, Keeper, Puts, Settles, TakesBack, Writes, CanKeepAll, kept, kept_all, new_keeper, stood_by}
-use Rattle.lpt_c_pair.specs.Outages.{Acts, Event, Keeps, Lived, Machines, ResetProgramsThatDropServe, ResetsCraft, ResetsGround, Stays, CanLive, CanLiveAll, actor, did, just_begun, lived_through, lived_all, machines_of, did_for_good}
+use Rattle.lpt_c_pair.specs.Keepers.{KeeperAct, Does, Gives, Keeper, Puts, Settles, TakesBack, Writes, CanKeepAll, keeper_after, kept_all, new_keeper, stood_by}
+use Rattle.lpt_c_pair.specs.Outages.{Acts, OutageEvent, Keeps, Lived, Machines, ResetProgramsThatDropServe, ResetsCraft, ResetsGround, Stays, CanLive, CanLiveAll, actor, did, just_begun, lived_through, lived_all, machines_of, did_for_good}
 use Rattle.lpt_c_pair.specs.Pairs.{Call}
-use Rattle.lpt_c_pair.specs.Programs.{Told, put_told}
+use Rattle.lpt_c_pair.specs.Programs.{ToldWrite, put_told}
 use Rattle.lpt_c_pair.specs.Services.{Calls, Drops, DropsRead, Refuses}
 use Rattle.lpt_pus.specs.declared.failure_code.FailureCode.{FailureCode}
 use Rattle.lpt_c_pair.proofs.Keeping.{programs_that_drop_serve, programs_that_drop_withhold_no_request}
@@ -17,8 +17,8 @@ use Rattle.lpt_memory.specs.Memories.{Contents}
 record Aboard : Type 0 where
   end : End
   memories : Contents
-  ahead : List Told
-  owed : List Told
+  ahead : List ToldWrite
+  owed : List ToldWrite
   stood : Contents
 
 abbrev aboard : Machines → Aboard
@@ -43,7 +43,7 @@ both m n ground craft = λ i. record {
 
 module _ (c : Config) (start : Keeper) where
   -- the machines after these acts
-  abbrev at : List Act → Machines
+  abbrev at : List KeeperAct → Machines
   at xs = machines_of (kept_all c start xs)
 
   -- what each list of acts has of each machine
@@ -59,7 +59,7 @@ module _ (c : Config) (start : Keeper) where
   -- ---- acts
 
   -- the call of ground's program that makes this end
-  abbrev by_ground : Call → End → Act
+  abbrev by_ground : Call → End → KeeperAct
   by_ground call new = Does (Calls (record { side = Ground; call = call; new = new }))
 
   calls_ground : (l : Lived) (call : Call) (new : End)
@@ -91,14 +91,15 @@ module _ (c : Config) (start : Keeper) where
   }
 
   -- an act of the spacecraft's program, which makes this of what its machine has
-  record IsOfCraft (x : Act) : Type 0 where
+  record IsOfCraft (x : KeeperAct) : Type 0 where
     next : Aboard → Aboard
     of_machines : (l : Lived) → aboard (did l Craft x).machines ≡ next (aboard l.machines)
-    of_run : (k : Keeper) → aboard (machines_of (kept c k x)) ≡ next (aboard (machines_of k))
+    of_run : (k : Keeper) → aboard (machines_of (keeper_after c k x))
+        ≡ next (aboard (machines_of k))
     leaves_machines : (l : Lived) → (did l Craft x).machines.on_ground ≡ l.machines.on_ground
-    leaves_run : (k : Keeper) → (kept c k x).serving.on_ground ≡ k.serving.on_ground
+    leaves_run : (k : Keeper) → (keeper_after c k x).serving.on_ground ≡ k.serving.on_ground
 
-  acts_craft : (l : Lived) (x : Act)
+  acts_craft : (l : Lived) (x : KeeperAct)
       → IsOfCraft x
       → IsLived l
       → CanLive c start l (Acts x)
@@ -118,7 +119,7 @@ module _ (c : Config) (start : Keeper) where
     craft_back = r.craft_back;
   }
 
-  craft_stays : (l : Lived) (x : Act)
+  craft_stays : (l : Lived) (x : KeeperAct)
       → IsOfCraft x
       → IsLived l
       → CanLive c start l (Stays x)
@@ -182,7 +183,7 @@ module _ (c : Config) (start : Keeper) where
     leaves_run = λ k. refl;
   }
 
-  of_writes : (t : Told) → IsOfCraft (Writes t)
+  of_writes : (t : ToldWrite) → IsOfCraft (Writes t)
   of_writes t = record {
     next = λ a. record a {
       memories = put_told (t ∷ []) a.memories;
@@ -195,7 +196,8 @@ module _ (c : Config) (start : Keeper) where
     leaves_run = λ k. refl;
   }
 
-  of_gives : (octets : List ℕ) (owed : List Told) (new : End) → IsOfCraft (Gives octets owed new)
+  of_gives : (octets : List ℕ) (owed : List ToldWrite) (new : End)
+      → IsOfCraft (Gives octets owed new)
   of_gives octets owed new = record {
     next = λ a. record a { end = new; ahead = []; owed = owed };
     of_machines = λ l. refl;
@@ -232,11 +234,11 @@ module _ (c : Config) (start : Keeper) where
   }
 
   -- whatever is done, by whichever program, both where a reset deletes it and where none does
-  record AreLived (l : Lived) (x : Act) : Type 0 where
+  record AreLived (l : Lived) (x : KeeperAct) : Type 0 where
     acts : IsLived (did l (actor x) x)
     stays : IsLived (did_for_good l x)
 
-  by_craft : (l : Lived) (x : Act)
+  by_craft : (l : Lived) (x : KeeperAct)
       → actor x ≡ Craft
       → IsOfCraft x
       → IsLived l
@@ -247,7 +249,7 @@ module _ (c : Config) (start : Keeper) where
     stays = craft_stays l x of r can;
   }
 
-  does : (l : Lived) (x : Act) → IsLived l → CanLive c start l (Acts x) → AreLived l x
+  does : (l : Lived) (x : KeeperAct) → IsLived l → CanLive c start l (Acts x) → AreLived l x
   does l (Does (Calls t)) r can = by_side t.side can where
     by_side : (side : Side)
         → CanLive c start l (Acts (Does (Calls (record {
@@ -277,7 +279,7 @@ module _ (c : Config) (start : Keeper) where
 
   -- ---- events
 
-  lives : (l : Lived) (x : Event)
+  lives : (l : Lived) (x : OutageEvent)
       → IsLived l
       → CanLive c start l x
       → IsLived (lived_through c start l x)
@@ -335,7 +337,7 @@ module _ (c : Config) (start : Keeper) where
         craft_back = r.craft_back;
       }
 
-  lives_all : (l : Lived) (xs : List Event)
+  lives_all : (l : Lived) (xs : List OutageEvent)
       → IsLived l
       → CanLiveAll c start l xs
       → IsLived (lived_all c start l xs)

@@ -4,18 +4,18 @@ use Rattle.std.proofs.Common.{◌≡◌, ◌∙◌, sym, refl, List, [], ◌∷�
 use Rattle.lpt_c_end.specs.Contents.{memories_told}
 use Rattle.lpt_c_end.specs.declared.end.End.{End}
 use Rattle.lpt_c_pair.specs.Pairs.{Call}
-use Rattle.lpt_c_pair.specs.Pasts.{Past, Event, Does, Keeps, Resets, CanGo, CanGoAll, ResetEndsThatDropServe, again, did, end_after, just_begun, reset_by, went, went_all}
-use Rattle.lpt_c_pair.specs.Services.{Calls, Deed, Drops, DropsRead, Refuses, Serving, CanServeAll, no_serving, served_all}
+use Rattle.lpt_c_pair.specs.Pasts.{Past, PastEvent, Does, Keeps, Resets, CanGo, CanGoAll, ResetEndsThatDropServe, again, did, end_after, just_begun, reset_by, went, went_all}
+use Rattle.lpt_c_pair.specs.Services.{Calls, ServiceDeed, Drops, DropsRead, Refuses, Serving, CanServeAll, no_serving, served_all}
 use Rattle.lpt_c_pair.proofs.Servicing.{ends_of_c_that_drop_serve, ends_of_c_that_drop_withhold_no_request}
 use Rattle.lpt_events.specs.declared.config.Config.{Config}
 use Rattle.lpt_events.specs.declared.side.Side.{Side}
 use Rattle.lpt_events.specs.declared.side.Side.TheVariants.{Ground, Craft}
 
 module _ (c : Config) (start : Serving) where
-  abbrev ground_of : List Deed → End
+  abbrev ground_of : List ServiceDeed → End
   ground_of xs = (served_all c start xs).on_ground
 
-  abbrev craft_of : List Deed → End
+  abbrev craft_of : List ServiceDeed → End
   craft_of xs = (served_all c start xs).on_craft
 
   -- what is left comes to the ends that are there, also without what the other side's program did
@@ -30,14 +30,14 @@ module _ (c : Config) (start : Serving) where
     craft_kept : craft_of p.but_both ≡ craft_of p.but_craft
 
   -- something was done on ground, and not at the spacecraft
-  record IsOfGround (x : Deed) : Type 0 where
-    end : (ys : List Deed) → ground_of (x ∷ ys) ≡ end_after x
-    other : (ys : List Deed) → craft_of (x ∷ ys) ≡ craft_of ys
+  record IsOfGround (x : ServiceDeed) : Type 0 where
+    end : (ys : List ServiceDeed) → ground_of (x ∷ ys) ≡ end_after x
+    other : (ys : List ServiceDeed) → craft_of (x ∷ ys) ≡ craft_of ys
 
   -- or at the spacecraft, and not on ground
-  record IsOfCraft (x : Deed) : Type 0 where
-    end : (ys : List Deed) → craft_of (x ∷ ys) ≡ end_after x
-    other : (ys : List Deed) → ground_of (x ∷ ys) ≡ ground_of ys
+  record IsOfCraft (x : ServiceDeed) : Type 0 where
+    end : (ys : List ServiceDeed) → craft_of (x ∷ ys) ≡ end_after x
+    other : (ys : List ServiceDeed) → ground_of (x ∷ ys) ≡ ground_of ys
 
   on_ground : (call : Call) (new : End)
       → IsOfGround (Calls (record { side = Ground; call = call; new = new }))
@@ -47,7 +47,7 @@ module _ (c : Config) (start : Serving) where
       → IsOfCraft (Calls (record { side = Craft; call = call; new = new }))
   on_craft call new = record { end = λ ys. refl; other = λ ys. refl }
 
-  ground_did : (p : Past) (x : Deed)
+  ground_did : (p : Past) (x : ServiceDeed)
       → IsOfGround x
       → CanServeAll c start (x ∷ p.deeds)
       → IsSo p
@@ -62,7 +62,7 @@ module _ (c : Config) (start : Serving) where
     craft_kept = so.craft_kept ∙ sym (at.other p.but_craft);
   }
 
-  craft_did : (p : Past) (x : Deed)
+  craft_did : (p : Past) (x : ServiceDeed)
       → IsOfCraft x
       → CanServeAll c start (x ∷ p.deeds)
       → IsSo p
@@ -77,7 +77,7 @@ module _ (c : Config) (start : Serving) where
     craft_kept = so.craft_kept;
   }
 
-  ground_reset : (p : Past) (x : Deed)
+  ground_reset : (p : Past) (x : ServiceDeed)
       → IsOfGround x
       → CanServeAll c start (x ∷ p.but_ground)
       → IsSo p
@@ -92,7 +92,7 @@ module _ (c : Config) (start : Serving) where
     craft_kept = sym (at.other p.but_both);
   }
 
-  craft_reset : (p : Past) (x : Deed)
+  craft_reset : (p : Past) (x : ServiceDeed)
       → IsOfCraft x
       → CanServeAll c start (x ∷ p.but_craft)
       → IsSo p
@@ -115,7 +115,7 @@ module _ (c : Config) (start : Serving) where
   called p Ground call new can so = ground_did p _ (on_ground call new) can so
   called p Craft call new can so = craft_did p _ (on_craft call new) can so
 
-  goes : (p : Past) (x : Event) → CanGo c start p x → IsSo p → IsSo (went p x)
+  goes : (p : Past) (x : PastEvent) → CanGo c start p x → IsSo p → IsSo (went p x)
   goes p (Does (Calls t)) can so = called p t.side t.call t.new can so
   goes p (Does (Drops new)) can so =
       craft_did p (Drops new) (record { end = λ ys. refl; other = λ ys. refl }) can so
@@ -146,7 +146,7 @@ module _ (c : Config) (start : Serving) where
   goes p (Resets Craft config state ms content new) can so =
       craft_reset p (again Craft config state ms content new) (on_craft _ new) can so
 
-  all_go : (p : Past) (xs : List Event) → CanGoAll c start p xs → IsSo p → IsSo (went_all p xs)
+  all_go : (p : Past) (xs : List PastEvent) → CanGoAll c start p xs → IsSo p → IsSo (went_all p xs)
   all_go p [] can so = so
   all_go p (x ∷ xs) can so = goes (went_all p xs) x can.1 (all_go p xs can.0 so)
 

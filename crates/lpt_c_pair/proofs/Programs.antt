@@ -14,7 +14,7 @@ use Rattle.lpt_c_end.specs.declared.kept.Kept.TheVariants.{Nowhere, Elsewhere}
 use Rattle.lpt_c_end.specs.declared.memories.LptMemory.{LptMemory}
 use Rattle.lpt_c_end.specs.declared.sizing.LptSize.{LptSize}
 use Rattle.lpt_c_pair.specs.Pairs.{WithProgram, Call, Open, Part, Plain, Finish, LetGo, Packet, Expire, GiveUp, Tick, Rebase, Read, Execute, ExecuteGiven, Retire, RetireFree, Restart, Resume, ResumeSized, IsDone}
-use Rattle.lpt_c_pair.specs.Programs.{Told, IsTold, AreTold, put_told, Program, Act, Calls, Writes, Gives, Puts, Settles, acted, came_by, CanAct, CanActAll, MayCall, ProgramsKeepTheirMemories, started}
+use Rattle.lpt_c_pair.specs.Programs.{ToldWrite, IsTold, AreTold, put_told, Program, Act, Calls, Writes, Gives, Puts, Settles, program_after, came_by, CanAct, CanActAll, MayCall, ProgramsKeepTheirMemories, program_started}
 use Rattle.lpt_c_pair.proofs.GivenLemmas.{not_short}
 use Rattle.lpt_c_pair.proofs.Lemmas.{IsRead, no_fault, not_unsent, was_read}
 use Rattle.lpt_c_pair.proofs.Running.{IsStood, begins, turn}
@@ -28,7 +28,7 @@ use Rattle.lpt_jobs.specs.Jobs.{Head, Ready, head_of}
 use Rattle.lpt_memory.specs.Given.{octets_read}
 use Rattle.lpt_memory.specs.Meanings.{Sizes}
 use Rattle.lpt_memory.specs.Memories.{Contents, sizes_of}
-use Rattle.lpt_memory.specs.Readings.{meant}
+use Rattle.lpt_memory.specs.Readings.{source_meaning}
 use Rattle.lpt_node.specs.Jobs.{FrontHolds, executed_of, refusal_apply}
 use Rattle.lpt_node.specs.Nodes.{NodeData}
 use Rattle.lpt_c_pair.proofs.Leaving.{craft_leaves, ground_leaves}
@@ -44,7 +44,7 @@ pub record IsOwn (p : Program) : Type 0 where
 module _ (c : Config) where
   -- what a program gives that executes the oldest request: it was read, all writes were told, and
   -- the octets are those that the ends' memories have where it reads
-  pub record IsVow (p : Program) (octets : List ℕ) (owed : List Told) : Type 0 where
+  pub record IsVow (p : Program) (octets : List ℕ) (owed : List ToldWrite) : Type 0 where
     front : IsRead (head_of p.ends.on_craft.node.at.jobs.jobs)
     all : AreTold 0 (p.ahead ++ owed) p.ends.on_craft
     own : p.memories ≡ put_told p.ahead p.ends.pair.ends.memories
@@ -52,7 +52,7 @@ module _ (c : Config) where
         p.ends.pair.ends.memories octets
 
   -- what was told stays, where the end goes on or nothing was
-  still_told : (n : ℕ) (ts : List Told) (k new : End) (call : Call)
+  still_told : (n : ℕ) (ts : List ToldWrite) (k new : End) (call : Call)
       → IsDone call k new
       → GoesOn call
       → WereTold n ts k
@@ -63,8 +63,8 @@ module _ (c : Config) where
     still_told (n + 1) ts k new call done on told.1,
   )
 
-  pub none_told : (ts : List Told) (new : End) → ts ≡ [] → WereTold 0 ts new
-  none_told ts new none = subst (λ (xs : List Told). WereTold 0 xs new) (sym none) tt
+  pub none_told : (ts : List ToldWrite) (new : End) → ts ≡ [] → WereTold 0 ts new
+  none_told ts new none = subst (λ (xs : List ToldWrite). WereTold 0 xs new) (sym none) tt
 
   pub told_after : (p : Program) (sizes : Sizes) (new : End) (call : Call)
       → p.ends.on_craft.memories ≡ Elsewhere sizes
@@ -110,7 +110,7 @@ module _ (c : Config) where
   told_after p sizes new (RetireFree direction name) at done may told =
       still_told 0 p.ahead p.ends.on_craft new (RetireFree direction name) done tt told
 
-  pub vow_of : (p : Program) (octets : List ℕ) (owed : List Told) (new : End)
+  pub vow_of : (p : Program) (octets : List ℕ) (owed : List ToldWrite) (new : End)
       → IsOwn p
       → CanAct c p (Gives octets owed new)
       → IsVow p octets owed
@@ -130,12 +130,12 @@ module _ (c : Config) where
       told_all 0 p.ahead owed k r.told
       (subst (λ (n : ℕ). AreTold n owed k) (sym zero_on) can.1.told) in
       let own : p.memories ≡ put_told p.ahead ghost =
-      sym (ap (λ (ts : List Told). put_told ts p.memories) can.1.settled) ∙ r.same in
-      let held : octets_read (meant front.read) p.memories ≡ octets =
+      sym (ap (λ (ts : List ToldWrite). put_told ts p.memories) can.1.settled) ∙ r.same in
+      let held : octets_read (source_meaning front.read) p.memories ≡ octets =
       subst (λ (h : Head). FrontHolds h p.memories octets) front.is can.1.held in
-      let held_there : octets_read (meant front.read) ghost ≡ octets =
-      sym (ap (octets_read (meant front.read)) own
-      ∙ reads_same (meant front.read) p.ahead owed ghost
+      let held_there : octets_read (source_meaning front.read) ghost ≡ octets =
+      sym (ap (octets_read (source_meaning front.read)) own
+      ∙ reads_same (source_meaning front.read) p.ahead owed ghost
       (are_of k front.read front.is 0 (p.ahead ++ owed) all)) ∙ held in
       record {
         front = front;
@@ -145,11 +145,11 @@ module _ (c : Config) where
       }
 
   -- what it owes behind an execution
-  pub gives : (p : Program) (octets : List ℕ) (owed : List Told) (new : End)
+  pub gives : (p : Program) (octets : List ℕ) (owed : List ToldWrite) (new : End)
       → p.ends.on_craft.node.at ≡ p.ends.pair.ends.on_craft
       → IsOwn p
       → CanAct c p (Gives octets owed new)
-      → IsOwn (acted c p (Gives octets owed new))
+      → IsOwn (program_after c p (Gives octets owed new))
   gives p octets owed new node r can =
       let k : End = p.ends.on_craft in
       let ghost : Contents = p.ends.pair.ends.memories in
@@ -169,19 +169,19 @@ module _ (c : Config) where
       }
 
   -- a write ahead
-  pub writes : (p : Program) (t : Told)
+  pub writes : (p : Program) (t : ToldWrite)
       → IsOwn p
       → CanAct c p (Writes t)
-      → IsOwn (acted c p (Writes t))
+      → IsOwn (program_after c p (Writes t))
   writes p t r can =
       let zero_on : 0 + length p.ahead ≡ length p.ahead = omega arith in
       let own : p.memories ≡ put_told p.ahead p.ends.pair.ends.memories =
-      sym (ap (λ (ts : List Told). put_told ts p.memories) can.0) ∙ r.same in
+      sym (ap (λ (ts : List ToldWrite). put_told ts p.memories) can.0) ∙ r.same in
       record {
         sizes = r.sizes;
         place = r.place;
         same =
-            ap (λ (ts : List Told). put_told ts (put_told (t ∷ []) p.memories)) can.0
+            ap (λ (ts : List ToldWrite). put_told ts (put_told (t ∷ []) p.memories)) can.0
             ∙ ap (put_told (t ∷ [])) own
             ∙ sym (put_told-append p.ahead (t ∷ []) p.ends.pair.ends.memories);
         told =
@@ -194,7 +194,7 @@ module _ (c : Config) where
       → p.ends.on_ground.memories ≡ Nowhere
       → IsOwn p
       → CanAct c p (Calls (record { side = Ground; call = call; new = new }))
-      → IsOwn (acted c p (Calls (record { side = Ground; call = call; new = new })))
+      → IsOwn (program_after c p (Calls (record { side = Ground; call = call; new = new })))
   calls_ground p call new none r can = record {
     sizes = r.sizes;
     place = r.place;
@@ -209,7 +209,7 @@ module _ (c : Config) where
   pub calls_craft : (p : Program) (call : Call) (new : End)
       → IsOwn p
       → CanAct c p (Calls (record { side = Craft; call = call; new = new }))
-      → IsOwn (acted c p (Calls (record { side = Craft; call = call; new = new })))
+      → IsOwn (program_after c p (Calls (record { side = Craft; call = call; new = new })))
   calls_craft p call new r can =
       let l = craft_leaves c p.ends.pair p.ends.on_ground p.ends.on_craft new r.sizes p call
       r.place can.0.0 can.0.1 can.1 in
@@ -229,7 +229,8 @@ module _ (c : Config) (first : Contents) where
   calls : (p : Program) (side : Side) (call : Call) (new : End)
       → IsKeeping c first p
       → CanAct c p (Calls (record { side = side; call = call; new = new }))
-      → IsKeeping c first (acted c p (Calls (record { side = side; call = call; new = new })))
+      → IsKeeping c first
+      (program_after c p (Calls (record { side = side; call = call; new = new })))
   calls p Ground call new r can = record {
     stands = turn c first p.ends Ground call new r.stands can.0;
     own = calls_ground c p call new r.stands.ends.ground.memories r.own can;
@@ -242,7 +243,7 @@ module _ (c : Config) (first : Contents) where
   acts : (p : Program) (x : Act)
       → IsKeeping c first p
       → CanAct c p x
-      → IsKeeping c first (acted c p x)
+      → IsKeeping c first (program_after c p x)
   acts p (Calls t) r can = calls p t.side t.call t.new r can
   acts p (Writes t) r can = record { stands = r.stands; own = writes c p t r.own can }
   acts p (Gives octets owed new) r can = record {
@@ -286,7 +287,7 @@ pub starts : (c : Config) (a : ℕ) (b : Own) (none : List LptMemory) (nothing :
     → sizes_said sizes ≡ sizes_of first
     → IsNew Ground (later a c) none nothing g
     → IsNewSized (own_config b c) sizes k
-    → IsKeeping c first (started c first a b g k)
+    → IsKeeping c first (program_started c first a b g k)
 starts c a b none nothing sizes first g k good_g good_k same new_g new_k =
     let known : k.memories ≡ Elsewhere (sizes_of first) = new_k.memories ∙ ap Elsewhere same in
     record {
@@ -305,7 +306,7 @@ starts c a b none nothing sizes first g k good_g good_k same new_g new_k =
 pub programs_keep_their_memories : ProgramsKeepTheirMemories
 programs_keep_their_memories c a b none nothing sizes first g k xs good_g good_k same new_g new_k
     can =
-    let p : Program = started c first a b g k in
+    let p : Program = program_started c first a b g k in
     let r : IsKeeping c first (came_by c p xs) =
     all_acts c first p xs
     (starts c a b none nothing sizes first g k good_g good_k same new_g new_k) can in

@@ -6,10 +6,10 @@ use Rattle.lpt_c_pair.specs.Redo.{IsPutInPart, WritesCanBeMadeAgain, WritesCanBe
 use Rattle.lpt_c_pair.proofs.Telling.{told_is_effect}
 use Rattle.lpt_memory.specs.declared.request.Area.{Area}
 use Rattle.lpt_memory.specs.Meanings.{Meaning, Load, Sizes, size_of}
-use Rattle.lpt_memory.specs.Memories.{Contents, content_of, effect, loaded, put_all, sizes_of}
+use Rattle.lpt_memory.specs.Memories.{Contents, content_of, effect, memories_loaded, put_all, sizes_of}
 use Rattle.lpt_memory.specs.Overlaps.{Covers, NoneCovers}
 use Rattle.lpt_memory.specs.Ranges.{AreasFit, MeaningFits}
-use Rattle.lpt_memory.specs.Readings.{meant}
+use Rattle.lpt_memory.specs.Readings.{source_meaning}
 use Rattle.lpt_memory.proofs.MeaningLemmas.{meaning-fits}
 use Rattle.lpt_memory.proofs.PutLemmas.{length-put_all, put_all-last, put_all-untouched}
 
@@ -76,26 +76,26 @@ module _ (areas : List Area) (old new : List ℕ) (part : IsPutInPart areas old 
 loaded_again : (id : ℕ) (areas : List Area) (old new : List ℕ) (ms : Contents)
     → content_of id ms ≡ Some old
     → put_all new areas ≡ put_all old areas
-    → loaded id areas (with_content id new ms) ≡ loaded id areas ms
+    → memories_loaded id areas (with_content id new ms) ≡ memories_loaded id areas ms
 loaded_again id areas old new [] known same = absurd (let none : None ≡ Some old = known in cc)
 loaded_again id areas old new (m ∷ ms) known same =
     go (λ behind. loaded_again id areas old new ms behind same) (m.0 == id) refl known where
       go : (content_of id ms ≡ Some old
-          → loaded id areas (with_content id new ms) ≡ loaded id areas ms)
+          → memories_loaded id areas (with_content id new ms) ≡ memories_loaded id areas ms)
           → (b : Bool)
           → (m.0 == id) ≡ b
           → (if b then Some m.1 else content_of id ms) ≡ Some old
-          → loaded id areas (if b then (m.0, new) ∷ ms else m ∷ with_content id new ms)
-          ≡ (if b then (m.0, put_all m.1 areas) ∷ ms else m ∷ loaded id areas ms)
+          → memories_loaded id areas (if b then (m.0, new) ∷ ms else m ∷ with_content id new ms)
+          ≡ (if b then (m.0, put_all m.1 areas) ∷ ms else m ∷ memories_loaded id areas ms)
       go rest true is here =
           let its : m.1 ≡ old = cc in
           ap (λ (b : Bool). if b then (m.0, put_all new areas) ∷ ms
-          else (m.0, new) ∷ loaded id areas ms) is
+          else (m.0, new) ∷ memories_loaded id areas ms) is
           ∙ ap (λ (xs : List ℕ). (m.0, xs) ∷ ms)
           (same ∙ ap (λ (xs : List ℕ). put_all xs areas) (sym its))
       go rest false is here =
           ap (λ (b : Bool). if b then (m.0, put_all m.1 areas) ∷ with_content id new ms
-          else m ∷ loaded id areas (with_content id new ms)) is
+          else m ∷ memories_loaded id areas (with_content id new ms)) is
           ∙ ap (λ (xs : Contents). m ∷ xs) (rest here)
 
 -- the size of a memory is that of its octets
@@ -117,7 +117,7 @@ pub writes_can_be_made_again : WritesCanBeMadeAgain
 writes_can_be_made_again e r id areas ts ms old new front sized load told known part =
     let fits : MeaningFits (sizes_of ms) (Load id areas) =
     subst (λ (m : Meaning). MeaningFits (sizes_of ms) m) load
-    (subst (λ (s : Sizes). MeaningFits s (meant r)) sized
+    (subst (λ (s : Sizes). MeaningFits s (source_meaning r)) sized
     (meaning-fits r.apid r.sizes r.message)) in
     let its : Some fits.size ≡ Some (length old) = sym fits.known ∙ size_is id ms old known in
     let long : fits.size ≡ length old = cc in

@@ -9,8 +9,8 @@ use Rattle.lpt_c_end.specs.Contents.{memories_told}
 use Rattle.lpt_c_end.specs.declared.end.End.{End}
 use Rattle.lpt_c_end.specs.declared.memories.LptMemory.{LptMemory}
 use Rattle.lpt_c_pair.specs.Outboxes.{AllOnTheWay}
-use Rattle.lpt_c_pair.specs.Pairs.{AreEndsOf, Call, Place, InEnd, kept_in, moves}
-use Rattle.lpt_c_pair.specs.Runs.{Turn, Standing, begun, turned_by, CanTurnBy, stood, CanStand, EndsOfCKeepThePromise, KeepsThePromise}
+use Rattle.lpt_c_pair.specs.Pairs.{AreEndsOf, Call, CallPlace, InEnd, kept_in, moves}
+use Rattle.lpt_c_pair.specs.Runs.{CallTurn, Standing, standing_begun, turned_by, CanTurnBy, stood, CanStand, EndsOfCKeepThePromise, KeepsThePromise}
 use Rattle.lpt_c_pair.proofs.Calls.{calls_are_moves}
 use Rattle.lpt_packet.specs.declared.direction.Direction.TheVariants.{Up, Down}
 use Rattle.lpt_events.specs.Configs.{IsConfig}
@@ -36,7 +36,7 @@ turn c first s Craft call new r can =
     let w = (calls_are_moves c s.pair s.on_ground s.on_craft r.ends call).1 new can.0 can.1 in
     record { reached = joined c first s.pair (moves Craft call) r.reached w.0; ends = w.1 }
 
-stand : (c : Config) (first : Contents) (s : Standing) (ts : List Turn)
+stand : (c : Config) (first : Contents) (s : Standing) (ts : List CallTurn)
     → IsStood c first s
     → CanStand c s ts
     → IsStood c first (stood c s ts)
@@ -44,14 +44,15 @@ stand c first s [] r can = r
 stand c first s (t ∷ ts) r can =
     turn c first (stood c s ts) t.side t.call t.new (stand c first s ts r can.0) can.1
 
-pub begins : (c : Config) (a : ℕ) (b : Own) (none : List LptMemory) (nothing : List ℕ) (w : Place)
+pub begins : (c : Config) (a : ℕ) (b : Own) (none : List LptMemory) (nothing : List ℕ)
+    (w : CallPlace)
     (first : Contents)
     (g k : End)
     → IsConfig (later a c)
     → IsConfig (own_config b c)
     → IsNew Ground (later a c) none nothing g
     → IsNewWith Craft (own_config b c) (kept_in w first) k
-    → IsStood c first (begun c first a b g k)
+    → IsStood c first (standing_begun c first a b g k)
 begins c a b none nothing w first g k good_g good_k new_g new_k =
     let ends : Ends = (no_pair_later c first a b).ends in
     record {
@@ -81,24 +82,25 @@ begins c a b none nothing w first g k good_g good_k new_g new_k =
     }
 
 -- wherever the spacecraft's memories are
-keeps : (c : Config) (a : ℕ) (b : Own) (none : List LptMemory) (nothing : List ℕ) (w : Place)
+keeps : (c : Config) (a : ℕ) (b : Own) (none : List LptMemory) (nothing : List ℕ) (w : CallPlace)
     (first : Contents)
     (g k : End)
-    (ts : List Turn)
+    (ts : List CallTurn)
     → IsConfig (later a c)
     → IsConfig (own_config b c)
     → IsNew Ground (later a c) none nothing g
     → IsNewWith Craft (own_config b c) (kept_in w first) k
-    → CanStand c (begun c first a b g k) ts
-    → KeepsThePromise c first (stood c (begun c first a b g k) ts)
+    → CanStand c (standing_begun c first a b g k) ts
+    → KeepsThePromise c first (stood c (standing_begun c first a b g k) ts)
 keeps c a b none nothing w first g k ts good_g good_k new_g new_k can =
-    let r : IsStood c first (stood c (begun c first a b g k) ts) =
-    stand c first (begun c first a b g k) ts
+    let r : IsStood c first (stood c (standing_begun c first a b g k) ts) =
+    stand c first (standing_begun c first a b g k) ts
     (begins c a b none nothing w first g k good_g good_k new_g new_k) can in
     record {
       ends = r.ends;
       promised =
-          reached_keep c first a (stood c (begun c first a b g k) ts).pair good_g r.reached;
+          reached_keep c first a (stood c (standing_begun c first a b g k) ts).pair good_g
+          r.reached;
     }
 
 pub ends_of_c_keep_the_promise : EndsOfCKeepThePromise

@@ -2,7 +2,7 @@
 use Rattle.std.proofs.Common.{◌≡◌, ◌∙◌, ap, sym, subst, refl, ℕ, Bool, true, false, ◌&&◌, nat_le, if◌then◌else◌, List, [], ◌∷◌, ◌++◌, Option, Some, None}
 use Rattle.lpt_apart.specs.Clocks.{CanAll, after_all, later, Own, own_config}
 use Rattle.lpt_apart.specs.Drops as apart
-use Rattle.lpt_apart.specs.Drops.{Service, CanTurn, CanTurnAll, IsNoWork, no_service, turned, turned_all}
+use Rattle.lpt_apart.specs.Drops.{Service, CanTurn, CanTurnAll, IsNoWork, no_service, service_after, turned_all}
 use Rattle.lpt_apart.specs.Ends.{Ends}
 use Rattle.lpt_apart.specs.Moves.{Pair}
 use Rattle.lpt_apart.specs.Uploads.{came_with, WithholdsNoRequest}
@@ -19,7 +19,7 @@ use Rattle.lpt_c_end.specs.declared.end.End.{End}
 use Rattle.lpt_c_end.specs.declared.kept.Kept.{Kept}
 use Rattle.lpt_c_end.specs.declared.memories.LptMemory.{LptMemory}
 use Rattle.lpt_c_pair.specs.Pairs.{AreEndsOf, Call, Open, Part, Plain, Finish, InEnd, LetGo, Packet, Expire, GiveUp, Tick, Rebase, Read, Execute, ExecuteGiven, Retire, RetireFree, Restart, Resume, ResumeSized, IsDone, freeing, moves}
-use Rattle.lpt_c_pair.specs.Services.{Calls, Deed, Drops, DropsRead, Refuses, EndsOfCThatDropServe, Serving, CanServe, CanServeAll, no_serving, served, served_all, standing, turns, turns_by, turns_of}
+use Rattle.lpt_c_pair.specs.Services.{Calls, ServiceDeed, Drops, DropsRead, Refuses, EndsOfCThatDropServe, Serving, CanServe, CanServeAll, no_serving, serving_after, served_all, standing, turns, turns_by, turns_of}
 use Rattle.lpt_c_pair.specs.Runs.{CanTurnBy}
 use Rattle.lpt_c_pair.specs.Withheld.{EndsOfCThatDropWithholdNoRequest}
 use Rattle.lpt_c_pair.proofs.Calls.{calls_are_moves}
@@ -37,7 +37,7 @@ use Rattle.lpt_memory.specs.Meanings.{Sizes}
 use Rattle.lpt_memory.specs.Memories.{Contents}
 use Rattle.lpt_memory.specs.Readings.{Job}
 use Rattle.lpt_model.specs.Tickets.{Tickets, with_ticket}
-use Rattle.lpt_node.specs.Jobs.{Execution, claimed, refusal_apply, refusal_claim, refused_front}
+use Rattle.lpt_node.specs.Jobs.{Execution, job_claimed, refusal_apply, refusal_claim, refused_front}
 use Rattle.lpt_node.specs.Nodes.{NodeData}
 use Rattle.lpt_packet.specs.Names.{Name}
 use Rattle.lpt_pus.specs.Codes.{number_of}
@@ -99,7 +99,7 @@ reads_craft : (c : Config) (s : Service) (g k new : End)
     → AreTurns c s Craft Read g new
 reads_craft c s g k new are w =
     let e : Ends = s.pair.ends in
-    let t : Job = (claimed e.on_craft).1 in
+    let t : Job = (job_claimed e.on_craft).1 in
     let back : with_ticket (with_ticket e.tickets W1 (Some t)) W1 None ≡ e.tickets =
     (λ i. with_ticket (with_ticket (are.tickets i) W1 (Some t)) W1 None) ∙ sym are.tickets in
     record {
@@ -143,7 +143,7 @@ module _ (c : Config) (s : Service) (g k new : End) (are : AreEndsOf c s.pair g 
 
   drops : read_refusal k ≡ None
       → IsDropped k new
-      → CanTurn c s apart.Drops × AreEndsOf c (turned c s apart.Drops).pair g new
+      → CanTurn c s apart.Drops × AreEndsOf c (service_after c s apart.Drops).pair g new
   drops allowed done =
       let none : node_code (refusal_claim k.node.at) ≡ None =
       sym (ap (λ (o : Kept). memories_refusal o (node_code
@@ -161,7 +161,7 @@ module _ (c : Config) (s : Service) (g k new : End) (are : AreEndsOf c s.pair g 
 
   drops_read : unready k ≡ None
       → IsReadDropped k new
-      → CanTurn c s apart.LetsGo × AreEndsOf c (turned c s apart.LetsGo).pair g new
+      → CanTurn c s apart.LetsGo × AreEndsOf c (service_after c s apart.LetsGo).pair g new
   drops_read allowed done = (
     sym (λ i. refusal_apply (are.craft.node i)) ∙ no_fault (refusal_apply k.node.at) allowed,
     becomes (record d { jobs = without_front d.jobs })
@@ -179,7 +179,7 @@ module _ (c : Config) (s : Service) (g k new : End) (are : AreEndsOf c s.pair g 
       → refuse_refusal (number_of code) k ≡ None
       → IsRefusedAs code k new
       → CanTurn c s (apart.Refuses code)
-      × AreEndsOf c (turned c s (apart.Refuses code)).pair g new
+      × AreEndsOf c (service_after c s (apart.Refuses code)).pair g new
   refuses code allowed done =
       let unsent : sending_refusal (unready k) k.outbox.items ≡ None =
       in_range (nat_le 1 (number_of code) && nat_le (number_of code) 8)
@@ -187,7 +187,7 @@ module _ (c : Config) (s : Service) (g k new : End) (are : AreEndsOf c s.pair g 
       let none : unready k ≡ None = not_unsent (unready k) k.outbox.items unsent in
       let x : NodeData × Execution = refused_front c d code in
       let same : refused_front k.config k.node.at code ≡ x = refuses_front are.craft code in
-      let q : Pair = (turned c s (apart.Refuses code)).pair in (
+      let q : Pair = (service_after c s (apart.Refuses code)).pair in (
         sym (λ i. refusal_apply (are.craft.node i)) ∙ no_fault (refusal_apply k.node.at) none,
         craft_fixed c s.pair q g k new are done.fixed
             (done.node ∙ ap (λ (y : NodeData × Execution). y.0) same) refl refl refl
@@ -199,18 +199,18 @@ module _ (c : Config) (s : Service) (g k new : End) (are : AreEndsOf c s.pair g 
 -- ---- whatever is done
 
 -- the ends stand where these turns lead
-pub record IsLed (c : Config) (start : Service) (s : Serving) (all : List apart.Turn)
+pub record IsLed (c : Config) (start : Service) (s : Serving) (all : List apart.ServiceTurn)
     : Type 0 where
   pub can : CanTurnAll c start all
   pub is : turned_all c start all ≡ s.service
   pub ends : AreEndsOf c s.service.pair s.on_ground s.on_craft
 
 -- turns behind others
-record AreBehind (c : Config) (start after : Service) (all : List apart.Turn) : Type 0 where
+record AreBehind (c : Config) (start after : Service) (all : List apart.ServiceTurn) : Type 0 where
   can : CanTurnAll c start all
   is : turned_all c start all ≡ after
 
-behind : (c : Config) (start s : Service) (all xs : List apart.Turn)
+behind : (c : Config) (start s : Service) (all xs : List apart.ServiceTurn)
     → CanTurnAll c start all
     → turned_all c start all ≡ s
     → CanTurnAll c s xs
@@ -220,17 +220,19 @@ behind c start s all (x ∷ xs) can is more =
     let rest = behind c start s all xs can is more.0 in
     record {
       can = (rest.can, subst (λ (q : Service). CanTurn c q x) (sym rest.is) more.1);
-      is = ap (λ (q : Service). turned c q x) rest.is;
+      is = ap (λ (q : Service). service_after c q x) rest.is;
     }
 
-pub led_on : (c : Config) (start : Service) (s : Serving) (all : List apart.Turn) (x : Deed)
+pub led_on : (c : Config) (start : Service) (s : Serving) (all : List apart.ServiceTurn)
+    (x : ServiceDeed)
     → IsLed c start s all
     → CanServe c s x
-    → IsLed c start (served c s x) (turns_by x ++ all)
+    → IsLed c start (serving_after c s x) (turns_by x ++ all)
 led_on c start s all (Calls t) r can = by_side t.side can where
   by_side : (side : Side)
       → CanTurnBy c (standing s) side t.call t.new
-      → IsLed c start (served c s (Calls (record { side = side; call = t.call; new = t.new })))
+      → IsLed c start
+      (serving_after c s (Calls (record { side = side; call = t.call; new = t.new })))
       (turns side t.call ++ all)
   by_side Ground can =
       let w = (calls_are_moves c s.service.pair s.on_ground s.on_craft r.ends t.call).0 t.new can.0
@@ -265,7 +267,7 @@ led_on c start s all (Refuses code new) r can =
     let b = behind c start s.service all (apart.Refuses code ∷ []) r.can r.is (tt, w.0) in
     record { can = b.can; is = b.is; ends = w.1 }
 
-led : (c : Config) (start : Service) (s : Serving) (xs : List Deed)
+led : (c : Config) (start : Service) (s : Serving) (xs : List ServiceDeed)
     → IsLed c start s []
     → CanServeAll c s xs
     → IsLed c start (served_all c s xs) (turns_of xs)
@@ -277,7 +279,7 @@ led c start s (x ∷ xs) r can =
 
 -- the ends are led there from two new ones
 module _ (c : Config) (a : ℕ) (b : Own) (first : Contents) (good_a : IsConfig (later a c))
-    (good_b : IsConfig (own_config b c)) (s : Serving) (all : List apart.Turn)
+    (good_b : IsConfig (own_config b c)) (s : Serving) (all : List apart.ServiceTurn)
     (r : IsLed c (no_service c first a b) s all) where
   pub led_serves : apart.IsServed c first s.service
   led_serves =
@@ -293,7 +295,7 @@ module _ (c : Config) (a : ℕ) (b : Own) (first : Contents) (good_a : IsConfig 
 
 -- two new ends are led by what is done
 led_so : (c : Config) (a : ℕ) (b : Own) (none : List LptMemory) (nothing : List ℕ)
-    (ms : List LptMemory) (content : List ℕ) (g k : End) (xs : List Deed)
+    (ms : List LptMemory) (content : List ℕ) (g k : End) (xs : List ServiceDeed)
     → IsConfig (later a c)
     → IsConfig (own_config b c)
     → IsNew Ground (later a c) none nothing g

@@ -9,13 +9,13 @@ use Rattle.lpt_c_end.proofs.ReadyLemmas.{ready_ticked_by}
 use Rattle.lpt_c_pair.specs.Ticks.{AreTicks, ManyTicksAreTicks}
 use Rattle.lpt_events.specs.Counts.{greatest_clock}
 use Rattle.lpt_node.specs.Nodes.{NodeData, NodeView}
-use Rattle.lpt_node.specs.Times.{ticked}
+use Rattle.lpt_node.specs.Times.{clock_ticked}
 use Rattle.lpt_node.specs.declared.fault.NodeFault.TheVariants.{ClockEnd}
 use Rattle.lpt_packet.proofs.Readings.{eq_false, not_lt}
 
 -- a node a tick later
 abbrev next_view : NodeView → NodeView
-next_view v = record v { at = ticked v.at }
+next_view v = record v { at = clock_ticked v.at }
 
 -- an end a tick later
 abbrev next : End → End

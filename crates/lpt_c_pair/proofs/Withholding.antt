@@ -1,14 +1,14 @@
 -- What came whole to two ends behind handles was released.
 use Rattle.std.proofs.Common.{◌≡◌, ◌∙◌, ap, sym, subst, refl, ℕ, List, [], ◌∷◌, ◌++◌}
 use Rattle.lpt_apart.specs.Clocks.{later, no_pair_later, after_all, CanAll, Own, own_config}
-use Rattle.lpt_apart.specs.Moves.{Pair, Move, moved, CanMove}
+use Rattle.lpt_apart.specs.Moves.{Pair, Move, pair_after, CanMove}
 use Rattle.lpt_apart.specs.Whole.{came_since, WithholdsNothing}
 use Rattle.lpt_apart.proofs.Clocks.{ends_with_clocks_withhold_nothing}
 use Rattle.lpt_c_end.specs.Contents.{memories_told}
 use Rattle.lpt_c_end.specs.declared.end.End.{End}
 use Rattle.lpt_c_pair.specs.Pairs.{AreEndsOf, Call, ExecuteGiven, InEnd, moves}
-use Rattle.lpt_c_pair.specs.Programs.{Program, Act, Calls, Writes, Gives, Puts, Settles, started, came_by, CanActAll}
-use Rattle.lpt_c_pair.specs.Runs.{Turn, Standing, begun, turned_by, CanTurnBy, stood, CanStand}
+use Rattle.lpt_c_pair.specs.Programs.{Program, Act, Calls, Writes, Gives, Puts, Settles, program_started, came_by, CanActAll}
+use Rattle.lpt_c_pair.specs.Runs.{CallTurn, Standing, standing_begun, turned_by, CanTurnBy, stood, CanStand}
 use Rattle.lpt_c_pair.specs.Withheld.{moves_of, turns_of, EndsOfCWithholdNothing, ProgramsWithholdNothing}
 use Rattle.lpt_c_pair.proofs.Calls.{calls_are_moves}
 use Rattle.lpt_c_pair.proofs.Programs.{IsKeeping, all_acts, starts, vow_of}
@@ -25,7 +25,7 @@ module _ (c : Config) (p : Pair) where
   after_more : (xs ys : List Move)
       → after_all c p (xs ++ ys) ≡ after_all c (after_all c p ys) xs
   after_more [] ys = refl
-  after_more (x ∷ xs) ys = ap (λ (q : Pair). moved c q x) (after_more xs ys)
+  after_more (x ∷ xs) ys = ap (λ (q : Pair). pair_after c q x) (after_more xs ys)
 
   can_more : (xs ys : List Move)
       → CanAll c p ys
@@ -70,7 +70,7 @@ module _ (c : Config) (p : Pair) where
         ends = w.1;
       }
 
-  all_led : (s : Standing) (ts : List Turn)
+  all_led : (s : Standing) (ts : List CallTurn)
       → IsLed s []
       → CanStand c s ts
       → IsLed (stood c s ts) (moves_of ts)
@@ -79,16 +79,16 @@ module _ (c : Config) (p : Pair) where
       led_on (stood c s ts) t.side t.call t.new (moves_of ts) (all_led s ts r can.0) can.1
 
 -- whatever calls were made of two ends that begin so
-withhold : (c : Config) (first : Contents) (a : ℕ) (b : Own) (g k : End) (ts : List Turn)
+withhold : (c : Config) (first : Contents) (a : ℕ) (b : Own) (g k : End) (ts : List CallTurn)
     → IsConfig (later a c)
     → IsConfig (own_config b c)
     → AreEndsOf c (no_pair_later c first a b) g k
-    → CanStand c (begun c first a b g k) ts
-    → WithholdsNothing c (stood c (begun c first a b g k) ts).pair.ends.log
+    → CanStand c (standing_begun c first a b g k) ts
+    → WithholdsNothing c (stood c (standing_begun c first a b g k) ts).pair.ends.log
     (came_since c (no_pair_later c first a b) (moves_of ts))
 withhold c first a b g k ts good_g good_k ends can =
     let p : Pair = no_pair_later c first a b in
-    let r = all_led c p (begun c first a b g k) ts
+    let r = all_led c p (standing_begun c first a b g k) ts
     (record { at = refl; can = tt; ends = ends }) can in
     subst (λ (q : Pair). WithholdsNothing c q.ends.log (came_since c p (moves_of ts))) (sym r.at)
     (ends_with_clocks_withhold_nothing c first a b (moves_of ts) good_g good_k r.can)
@@ -140,7 +140,7 @@ module _ (c : Config) (first : Contents) (p : Program) (begun : IsKeeping c firs
 pub programs_withhold_nothing : ProgramsWithholdNothing
 programs_withhold_nothing c a b none nothing sizes first g k xs good_g good_k same new_g new_k
     can =
-    let p : Program = started c first a b g k in
+    let p : Program = program_started c first a b g k in
     let s = starts c a b none nothing sizes first g k good_g good_k same new_g new_k in
     let r : AreTurned c p xs = turned c first p s xs can in
     subst (λ (s : Standing). WithholdsNothing c s.pair.ends.log

@@ -6,7 +6,7 @@ use Rattle.lpt_c_end.specs.Changes.{execution_of, IsDropped, IsExecuted}
 use Rattle.lpt_c_end.specs.Refusals.{read_refusal}
 use Rattle.lpt_c_end.specs.declared.end.End.{End}
 use Rattle.lpt_c_end.specs.declared.kept.Kept.TheVariants.{Here}
-use Rattle.lpt_c_pair.specs.Pairs.{Place, kept_in}
+use Rattle.lpt_c_pair.specs.Pairs.{CallPlace, kept_in}
 use Rattle.lpt_events.specs.declared.applied.Applied.{Applied}
 use Rattle.lpt_events.specs.declared.applied.Applied.TheVariants.{Silent}
 use Rattle.lpt_jobs.specs.Jobs.{claimed_in, head_of, without_front, Jobs, Ready}
@@ -16,8 +16,8 @@ use Rattle.lpt_node.specs.Jobs.{executed_given}
 
 -- in the place of the oldest request that waited stands a message of no octets, read for these
 -- memories, and all others are as they were
-abbrev pub emptied : (apid : ℕ) → Contents → Jobs → Jobs
-emptied apid ms q = record {
+abbrev pub oldest_emptied : (apid : ℕ) → Contents → Jobs → Jobs
+oldest_emptied apid ms q = record {
   first = q.first;
   jobs = set q.jobs (claimed_in q.jobs) (Committed (reading_for apid ms []));
 }
@@ -25,11 +25,11 @@ emptied apid ms q = record {
 -- a drop changes this alone, wherever the memories are
 abbrev pub DropsOldest : Type 0
 DropsOldest =
-    (e new : End) (w : Place) (ms : Contents)
+    (e new : End) (w : CallPlace) (ms : Contents)
     → e.memories ≡ kept_in w ms
     → read_refusal e ≡ None
     → IsDropped e new
-    → new.node.at ≡ record e.node.at { jobs = emptied e.config.apid ms e.node.at.jobs }
+    → new.node.at ≡ record e.node.at { jobs = oldest_emptied e.config.apid ms e.node.at.jobs }
 
 -- a request has left, and nothing else has changed: no memory, no packet, no message; this is what
 -- became of it

@@ -11,7 +11,7 @@ use Rattle.lpt_c_end.specs.declared.words.LptApplied.{LptApplied}
 use Rattle.lpt_c_end.specs.declared.words.LptOutcome.{LptOutcome}
 use Rattle.lpt_c_end.specs.Words.{applied_words, words}
 use Rattle.lpt_c_pair.specs.Pairs.{Call, Execute, ExecuteGiven, Packet, Resume, ResumeSized, end_of}
-use Rattle.lpt_c_pair.specs.Runs.{Turn, Standing, CanTurnBy, CanStand, turned_by, stood, KeepsThePromise}
+use Rattle.lpt_c_pair.specs.Runs.{CallTurn, Standing, CanTurnBy, CanStand, turned_by, stood, KeepsThePromise}
 use Rattle.lpt_events.specs.Sides.{direction_to}
 use Rattle.lpt_events.specs.declared.applied.Applied.{Applied}
 use Rattle.lpt_events.specs.declared.applied.Applied.TheVariants.{Done}
@@ -55,7 +55,7 @@ LeavesReleased (ResumeSized config state sizes) = ⊥
 LeavesReleased call = ⊤
 
 -- so does none of these calls of the end of a side
-abbrev pub AllLeave : Side → List Turn → Type 0
+abbrev pub AllLeave : Side → List CallTurn → Type 0
 AllLeave side [] = ⊤
 AllLeave side (t ∷ ts) = AllLeave side ts × (t.side ≡ side → LeavesReleased t.call)
 
@@ -63,7 +63,7 @@ AllLeave side (t ∷ ts) = AllLeave side ts × (t.side ≡ side → LeavesReleas
 abbrev pub MessagesStay : Type 0
 MessagesStay =
     (c : Config) (first : Contents) (s : Standing) (side : Side) (b : List ℕ) (new : End)
-    (told : LptOutcome) (ts : List Turn) (m : List ℕ)
+    (told : LptOutcome) (ts : List CallTurn) (m : List ℕ)
     → KeepsThePromise c first s
     → KeepsThePromise c first (turned_by c s side (Packet b) new)
     → CanTurnBy c s side (Packet b) new

@@ -11,7 +11,7 @@ use Rattle.lpt_c_end.specs.Contents.{memories_told}
 use Rattle.lpt_c_end.specs.declared.end.End.{End}
 use Rattle.lpt_c_end.specs.declared.memories.LptMemory.{LptMemory}
 use Rattle.lpt_c_pair.specs.Pairs.{Finish, LetGo, Part, Plain, Resume, IsDone}
-use Rattle.lpt_c_pair.specs.Runs.{Turn, Standing, begun, stood, CanStand, CanTurnBy, KeepsThePromise}
+use Rattle.lpt_c_pair.specs.Runs.{CallTurn, Standing, standing_begun, stood, CanStand, CanTurnBy, KeepsThePromise}
 use Rattle.lpt_c_pair.specs.Withheld.{moves_of}
 use Rattle.lpt_events.specs.Configs.{IsConfig}
 use Rattle.lpt_events.specs.declared.config.Config.{Config}
@@ -19,7 +19,7 @@ use Rattle.lpt_events.specs.declared.side.Side.{Side}
 use Rattle.lpt_events.specs.declared.side.Side.TheVariants.{Ground, Craft}
 use Rattle.lpt_memory.specs.Memories.{Contents}
 use Rattle.lpt_packet.specs.Names.{Name}
-use Rattle.lpt_state.specs.Spellings.{spelled}
+use Rattle.lpt_state.specs.Spellings.{state_spelled}
 
 -- The ends that the programs have; the calls that are left of all; and those but for what
 -- ground's program made since it last kept its end, but for what the spacecraft's did, and but
@@ -27,34 +27,34 @@ use Rattle.lpt_state.specs.Spellings.{spelled}
 pub record History : Type 0 where
   pub on_ground : End
   pub on_craft : End
-  pub calls : List Turn
-  pub but_ground : List Turn
-  pub but_craft : List Turn
-  pub but_both : List Turn
+  pub calls : List CallTurn
+  pub but_ground : List CallTurn
+  pub but_craft : List CallTurn
+  pub but_both : List CallTurn
 
 -- A call answered 0, and a reset deletes it where its end wasn't kept since; or no reset does;
 -- the program of a side keeps its end's state, and the spacecraft's with it the memories; or a
 -- machine is reset, and its end is restored from a state and memories.
-pub data Deed : Type 0 where
-  Makes : Turn → Deed
-  Stays : Turn → Deed
-  Keeps : Side → Deed
+pub data CallDeed : Type 0 where
+  Makes : CallTurn → CallDeed
+  Stays : CallTurn → CallDeed
+  Keeps : Side → CallDeed
   Resets : Side → Config → (state : List ℕ) → List LptMemory → (content : List ℕ) → (new : End)
-      → Deed
+      → CallDeed
 
 -- the call that makes an end again
-abbrev pub again : Side → Config → List ℕ → List LptMemory → List ℕ → End → Turn
+abbrev pub again : Side → Config → List ℕ → List LptMemory → List ℕ → End → CallTurn
 again side config state ms content new =
     record { side = side; call = Resume config state ms content; new = new }
 
 -- the program of a side made a call
-abbrev pub called : History → Side → Turn → History
-called h Ground t = record h {
+abbrev pub call_made : History → Side → CallTurn → History
+call_made h Ground t = record h {
   on_ground = t.new;
   calls = t ∷ h.calls;
   but_craft = t ∷ h.but_craft;
 }
-called h Craft t = record h {
+call_made h Craft t = record h {
   on_craft = t.new;
   calls = t ∷ h.calls;
   but_ground = t ∷ h.but_ground;
@@ -62,8 +62,8 @@ called h Craft t = record h {
 
 -- the program of a side made a call that no reset deletes: such as leaves the state that it is to
 -- keep as it is
-abbrev pub stayed : History → Side → Turn → History
-stayed h Ground t = record {
+abbrev pub call_stayed : History → Side → CallTurn → History
+call_stayed h Ground t = record {
   on_ground = t.new;
   on_craft = h.on_craft;
   calls = t ∷ h.calls;
@@ -71,7 +71,7 @@ stayed h Ground t = record {
   but_craft = t ∷ h.but_craft;
   but_both = t ∷ h.but_both;
 }
-stayed h Craft t = record {
+call_stayed h Craft t = record {
   on_ground = h.on_ground;
   on_craft = t.new;
   calls = t ∷ h.calls;
@@ -81,7 +81,7 @@ stayed h Craft t = record {
 }
 
 -- a machine was reset, and this call made its end again
-abbrev pub reset_by : History → Side → Turn → History
+abbrev pub reset_by : History → Side → CallTurn → History
 reset_by h Ground t = record h {
   on_ground = t.new;
   calls = t ∷ h.but_ground;
@@ -94,23 +94,23 @@ reset_by h Craft t = record h {
 }
 
 -- what a deed makes of them
-abbrev pub gone_on : History → Deed → History
-gone_on h (Makes t) = called h t.side t
-gone_on h (Stays t) = stayed h t.side t
+abbrev pub gone_on : History → CallDeed → History
+gone_on h (Makes t) = call_made h t.side t
+gone_on h (Stays t) = call_stayed h t.side t
 gone_on h (Keeps Ground) = record h { but_ground = h.calls; but_both = h.but_craft }
 gone_on h (Keeps Craft) = record h { but_craft = h.calls; but_both = h.but_ground }
 gone_on h (Resets side config state ms content new) =
     reset_by h side (again side config state ms content new)
 
 -- what a reset of a side's machine leaves
-abbrev pub left_without : History → Side → List Turn
+abbrev pub left_without : History → Side → List CallTurn
 left_without h Ground = h.but_ground
 left_without h Craft = h.but_craft
 
 -- A call can be made as before, after what is left. An end can be kept at any time. A machine can
 -- be reset where what is left can be done without what is deleted, and its end is restored from
 -- what was kept.
-abbrev pub CanGoOn : Config → (start : Standing) → History → Deed → Type 0
+abbrev pub CanGoOn : Config → (start : Standing) → History → CallDeed → Type 0
 CanGoOn c start h (Makes t) = CanStand c start (t ∷ h.calls)
 CanGoOn c start h (Stays t) = CanStand c start (t ∷ h.calls)
 CanGoOn c start h (Keeps side) = ⊤
@@ -118,12 +118,12 @@ CanGoOn c start h (Resets side config state ms content new) =
     CanStand c start (again side config state ms content new ∷ left_without h side)
 
 -- after these deeds, the newest of which stands first
-abbrev pub gone_all : History → List Deed → History
+abbrev pub gone_all : History → List CallDeed → History
 gone_all h [] = h
 gone_all h (x ∷ xs) = gone_on (gone_all h xs) x
 
 -- each of them can be done after those before it
-abbrev pub CanGoOnAll : Config → (start : Standing) → History → List Deed → Type 0
+abbrev pub CanGoOnAll : Config → (start : Standing) → History → List CallDeed → Type 0
 CanGoOnAll c start h [] = ⊤
 CanGoOnAll c start h (x ∷ xs) = CanGoOnAll c start h xs × CanGoOn c start (gone_all h xs) x
 
@@ -153,27 +153,27 @@ abbrev pub ResetEndsOfCKeepThePromise : Type 0
 ResetEndsOfCKeepThePromise =
     (c : Config) (a : ℕ) (b : Own)
     (none : List LptMemory) (nothing : List ℕ) (ms : List LptMemory) (content : List ℕ)
-    (g k : End) (xs : List Deed)
+    (g k : End) (xs : List CallDeed)
     → IsConfig (later a c)
     → IsConfig (own_config b c)
     → IsNew Ground (later a c) none nothing g
     → IsNew Craft (own_config b c) ms content k
-    → CanGoOnAll c (begun c (memories_told content ms) a b g k)
-    (just_begun (begun c (memories_told content ms) a b g k)) xs
-    → IsLeft c (memories_told content ms) (begun c (memories_told content ms) a b g k)
-    (gone_all (just_begun (begun c (memories_told content ms) a b g k)) xs)
+    → CanGoOnAll c (standing_begun c (memories_told content ms) a b g k)
+    (just_begun (standing_begun c (memories_told content ms) a b g k)) xs
+    → IsLeft c (memories_told content ms) (standing_begun c (memories_told content ms) a b g k)
+    (gone_all (just_begun (standing_begun c (memories_told content ms) a b g k)) xs)
 
 -- ---- whenever it comes
 
 -- the calls but for what the other side's program made since it last kept its end
-abbrev pub but_other : History → Side → List Turn
+abbrev pub but_other : History → Side → List CallTurn
 but_other h Ground = h.but_craft
 but_other h Craft = h.but_ground
 
 -- A call can be made after what is left, and also after that but for what the other end's program
 -- made and didn't keep: so that is handed over only once it was kept. Then a machine can be reset
 -- at any time, and its end is restored from what was kept of it.
-abbrev pub IsCareful : Config → (start : Standing) → History → Deed → Type 0
+abbrev pub IsCareful : Config → (start : Standing) → History → CallDeed → Type 0
 IsCareful c start h (Makes t) =
     CanTurnBy c (stood c start h.calls) t.side t.call t.new
     × CanTurnBy c (stood c start (but_other h t.side)) t.side t.call t.new
@@ -187,14 +187,14 @@ IsCareful c start h (Resets side config state ms content new) =
     CanTurnBy c (stood c start (left_without h side)) side (Resume config state ms content) new
 
 -- all deeds are so
-abbrev pub AreCareful : Config → (start : Standing) → History → List Deed → Type 0
+abbrev pub AreCareful : Config → (start : Standing) → History → List CallDeed → Type 0
 AreCareful c start h [] = ⊤
 AreCareful c start h (x ∷ xs) = AreCareful c start h xs × IsCareful c start (gone_all h xs) x
 
 -- so nothing more is asked of the times at which machines are reset
 abbrev pub CarefulProgramsMayBeReset : Type 0
 CarefulProgramsMayBeReset =
-    (c : Config) (start : Standing) (xs : List Deed)
+    (c : Config) (start : Standing) (xs : List CallDeed)
     → AreCareful c start (just_begun start) xs
     → CanGoOnAll c start (just_begun start) xs
 
@@ -207,4 +207,4 @@ SendingsLeaveTheState =
     (e new : End) (name : Name) (k source flags service subtype : ℕ) (body : List ℕ)
     → IsDone (Part name k) e new ⊎ IsDone (Plain source flags service subtype body) e new
     ⊎ IsDone (Finish name) e new ⊎ IsDone LetGo e new
-    → spelled new.node ≡ spelled e.node
+    → state_spelled new.node ≡ state_spelled e.node

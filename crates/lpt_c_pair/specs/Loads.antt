@@ -7,7 +7,7 @@ use Rattle.lpt_c_end.specs.declared.kept.Kept.TheVariants.{Here}
 use Rattle.lpt_events.specs.declared.applied.Applied.TheVariants.{Done, Code}
 use Rattle.lpt_jobs.specs.Jobs.{head_of, Ready}
 use Rattle.lpt_memory.specs.Meanings.{area}
-use Rattle.lpt_memory.specs.Memories.{loaded, sizes_of, Contents}
+use Rattle.lpt_memory.specs.Memories.{memories_loaded, sizes_of, Contents}
 use Rattle.lpt_memory.specs.Readings.{Source}
 use Rattle.lpt_memory.specs.Requests.{LoadArea, Request, front_load_area, request_in}
 use Rattle.lpt_packet.specs.Names.{Name}
@@ -17,7 +17,7 @@ use Rattle.lpt_pus.specs.declared.failure_code.FailureCode.{FailureCode}
 pub record IsCarriedOut (r : Request LoadArea) (ms : Contents) (e new : End) : Type 0 where
   pub opened : Option Name
   pub applied : (execution_of e).0.1.applied ≡ Done opened
-  pub memories : new.memories ≡ Here (loaded r.memory (map area r.areas) ms)
+  pub memories : new.memories ≡ Here (memories_loaded r.memory (map area r.areas) ms)
 
 -- it was refused: nothing was written
 pub record IsRefused (ms : Contents) (e new : End) : Type 0 where

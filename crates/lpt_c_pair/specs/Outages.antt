@@ -11,10 +11,10 @@ use Rattle.lpt_c_end.specs.Sizes.{sizes_said, IsNewSized}
 use Rattle.lpt_c_end.specs.declared.end.End.{End}
 use Rattle.lpt_c_end.specs.declared.memories.LptMemory.{LptMemory}
 use Rattle.lpt_c_end.specs.declared.sizing.LptSize.{LptSize}
-use Rattle.lpt_c_pair.specs.Keepers.{Act, Does, Gives, Keeper, Puts, Settles, TakesBack, Writes, CanKeep, CanKeepAll, KeepsItsOwn, deeds_of, kept_all, new_keeper, stood_by}
+use Rattle.lpt_c_pair.specs.Keepers.{KeeperAct, Does, Gives, Keeper, Puts, Settles, TakesBack, Writes, CanKeep, CanKeepAll, KeepsItsOwn, deeds_of, kept_all, new_keeper, stood_by}
 use Rattle.lpt_c_pair.specs.Pairs.{Resume, ResumeSized}
 use Rattle.lpt_c_pair.specs.Pasts.{doer, end_after}
-use Rattle.lpt_c_pair.specs.Programs.{Told, put_told}
+use Rattle.lpt_c_pair.specs.Programs.{ToldWrite, put_told}
 use Rattle.lpt_c_pair.specs.Services.{Calls, turns_of}
 use Rattle.lpt_events.specs.Configs.{IsConfig}
 use Rattle.lpt_events.specs.declared.config.Config.{Config}
@@ -29,8 +29,8 @@ pub record Machines : Type 0 where
   pub on_ground : End
   pub on_craft : End
   pub memories : Contents
-  pub ahead : List Told
-  pub owed : List Told
+  pub ahead : List ToldWrite
+  pub owed : List ToldWrite
   pub stood : Contents
 
 -- those of a run
@@ -50,7 +50,7 @@ with_end m Ground e = record m { on_ground = e }
 with_end m Craft e = record m { on_craft = e }
 
 -- what an act makes of them
-abbrev pub machines_after : Machines → Act → Machines
+abbrev pub machines_after : Machines → KeeperAct → Machines
 machines_after m (Does x) = with_end m (doer x) (end_after x)
 machines_after m (Writes t) = record m {
   memories = put_told (t ∷ []) m.memories;
@@ -63,7 +63,7 @@ machines_after m Settles = record m { memories = put_told m.owed m.memories; owe
 machines_after m TakesBack = record m { memories = stood_by m.ahead m.memories m.stood; ahead = [] }
 
 -- whose program does an act
-abbrev pub actor : Act → Side
+abbrev pub actor : KeeperAct → Side
 actor (Does x) = doer x
 actor (Writes t) = Craft
 actor (Gives octets owed new) = Craft
@@ -77,39 +77,39 @@ actor TakesBack = Craft
 -- last kept its end, but for what the spacecraft's did, and but for what either did.
 pub record Lived : Type 0 where
   pub machines : Machines
-  pub acts : List Act
-  pub but_ground : List Act
-  pub but_craft : List Act
-  pub but_both : List Act
+  pub acts : List KeeperAct
+  pub but_ground : List KeeperAct
+  pub but_craft : List KeeperAct
+  pub but_both : List KeeperAct
 
 -- A program does something, which a reset deletes where its end wasn't kept since; or what no reset
 -- deletes; the program of a side keeps its end's state, the spacecraft's with what it owes; or a
 -- machine is reset, and its end is restored from a state. These are the spacecraft's memories then:
 -- as they were, or with what its program put back or wrote again at its start.
-pub data Event : Type 0 where
-  Acts : Act → Event
-  Stays : Act → Event
-  Keeps : Side → Event
-  ResetsGround : Config → (state : List ℕ) → (new : End) → Event
+pub data OutageEvent : Type 0 where
+  Acts : KeeperAct → OutageEvent
+  Stays : KeeperAct → OutageEvent
+  Keeps : Side → OutageEvent
+  ResetsGround : Config → (state : List ℕ) → (new : End) → OutageEvent
   ResetsCraft : Config
       → (state : List ℕ)
       → List LptSize
       → (memories : Contents)
       → (new : End)
-      → Event
+      → OutageEvent
 
 -- the call that makes ground's end again
-abbrev pub again_ground : Config → List ℕ → End → Act
+abbrev pub again_ground : Config → List ℕ → End → KeeperAct
 again_ground config state new =
     Does (Calls (record { side = Ground; call = Resume config state [] []; new = new }))
 
 -- the call that makes the spacecraft's end again
-abbrev pub again_craft : Config → List ℕ → List LptSize → End → Act
+abbrev pub again_craft : Config → List ℕ → List LptSize → End → KeeperAct
 again_craft config state sizes new =
     Does (Calls (record { side = Craft; call = ResumeSized config state sizes; new = new }))
 
 -- a program of this side did something
-abbrev pub did : Lived → Side → Act → Lived
+abbrev pub did : Lived → Side → KeeperAct → Lived
 did l Ground x = record l {
   machines = machines_after l.machines x;
   acts = x ∷ l.acts;
@@ -122,7 +122,7 @@ did l Craft x = record l {
 }
 
 -- a program did what no reset deletes: such as leaves the state that it is to keep as it is
-abbrev pub did_for_good : Lived → Act → Lived
+abbrev pub did_for_good : Lived → KeeperAct → Lived
 did_for_good l x = record {
   machines = machines_after l.machines x;
   acts = x ∷ l.acts;
@@ -133,7 +133,7 @@ did_for_good l x = record {
 
 -- what an event makes of them, where two ends began so; what stood where a write was made ahead is
 -- as when the end was kept, and nothing stands ahead
-abbrev pub lived_through : Config → (start : Keeper) → Lived → Event → Lived
+abbrev pub lived_through : Config → (start : Keeper) → Lived → OutageEvent → Lived
 lived_through c start l (Acts x) = did l (actor x) x
 lived_through c start l (Stays x) = did_for_good l x
 lived_through c start l (Keeps Ground) = record l { but_ground = l.acts; but_both = l.but_craft }
@@ -160,7 +160,7 @@ lived_through c start l (ResetsCraft config state sizes ms new) = record l {
 -- machine can be reset where what is left can be done without what is deleted; its end is made
 -- again of what was kept of it; and the memories are such that what was owed when it was kept
 -- makes the same of them as of those that were there.
-abbrev pub CanLive : Config → (start : Keeper) → Lived → Event → Type 0
+abbrev pub CanLive : Config → (start : Keeper) → Lived → OutageEvent → Type 0
 CanLive c start l (Acts x) = CanKeep c (kept_all c start l.acts) x
 CanLive c start l (Stays x) = CanKeep c (kept_all c start l.acts) x
 CanLive c start l (Keeps side) = ⊤
@@ -170,12 +170,12 @@ CanLive c start l (ResetsCraft config state sizes ms new) =
     CanKeepAll c start (again_craft config state sizes new ∷ Puts ms ∷ l.but_craft)
 
 -- after these events, the newest of which stands first
-abbrev pub lived_all : Config → (start : Keeper) → Lived → List Event → Lived
+abbrev pub lived_all : Config → (start : Keeper) → Lived → List OutageEvent → Lived
 lived_all c start l [] = l
 lived_all c start l (x ∷ xs) = lived_through c start (lived_all c start l xs) x
 
 -- each of them can come after those before it
-abbrev pub CanLiveAll : Config → (start : Keeper) → Lived → List Event → Type 0
+abbrev pub CanLiveAll : Config → (start : Keeper) → Lived → List OutageEvent → Type 0
 CanLiveAll c start l [] = ⊤
 CanLiveAll c start l (x ∷ xs) =
     CanLiveAll c start l xs × CanLive c start (lived_all c start l xs) x
@@ -208,7 +208,7 @@ abbrev pub ResetProgramsThatDropServe : Type 0
 ResetProgramsThatDropServe =
     (c : Config) (a : ℕ) (b : Own)
     (none : List LptMemory) (nothing : List ℕ) (sizes : List LptSize) (first : Contents)
-    (g k : End) (xs : List Event)
+    (g k : End) (xs : List OutageEvent)
     → IsConfig (later a c)
     → IsConfig (own_config b c)
     → sizes_said sizes ≡ sizes_of first

@@ -35,17 +35,17 @@ use Rattle.lpt_node.specs.Jobs.{FrontHolds}
 use Rattle.lpt_node.specs.Nodes.{NodeData, direction_from}
 use Rattle.lpt_node.specs.Restarts.{name_state}
 use Rattle.lpt_model.specs.Tickets.{no_tickets}
-use Rattle.lpt_state.specs.Spellings.{spelled}
+use Rattle.lpt_state.specs.Spellings.{state_spelled}
 
 -- ---- ends
 
 -- the spacecraft's memories are in its end, or with its program
-pub data Place : Type 0 where
-  InEnd : Place
-  WithProgram : Place
+pub data CallPlace : Type 0 where
+  InEnd : CallPlace
+  WithProgram : CallPlace
 
 -- what its end keeps of these memories: all, or their identifiers and sizes
-abbrev pub kept_in : Place → Contents → Kept
+abbrev pub kept_in : CallPlace → Contents → Kept
 kept_in InEnd ms = Here ms
 kept_in WithProgram ms = Elsewhere (sizes_of ms)
 
@@ -64,7 +64,7 @@ pub record IsEndOf (c : Config) (s : Side) (n : NodeData) (kept : Kept)
 -- two ends apart by its promise: it writes what it is told
 pub record AreEndsOf (c : Config) (p : Pair) (on_ground on_craft : End) : Type 0 where
   pub ground : IsEndOf c Ground p.ends.on_ground Nowhere on_ground
-  pub place : Place
+  pub place : CallPlace
   pub craft : IsEndOf c Craft p.ends.on_craft (kept_in place p.ends.memories) on_craft
   pub tickets : p.ends.tickets ≡ no_tickets
   pub upwards : AllOnTheWay p.ends Up on_ground.outbox.items
@@ -164,7 +164,7 @@ pub record IsKept (c : Config) (e : End) (config : Config) (state : List ℕ)
     (kept : Kept) : Type 0 where
   pub own : Own
   pub configured : config ≡ own_config own c
-  pub state_is : state ≡ spelled e.node
+  pub state_is : state ≡ state_spelled e.node
   pub reads : ReadsAsRestarted e
   pub number_left : e.node.at.boot + 1 < 2 ^ 64
   pub memories : kept ≡ e.memories

@@ -2,7 +2,7 @@
 -- what they are.
 use Rattle.std.specs.Prelude.{◌≡◌, ℕ, ◌+◌, List, [], ◌∷◌, ◌++◌, length, Ok, Err, Some, ⊤}
 use Rattle.lpt_apart.specs.Clocks.{later, Own, own_config}
-use Rattle.lpt_apart.specs.Facts.{executed}
+use Rattle.lpt_apart.specs.Facts.{requests_executed}
 use Rattle.lpt_c_end.specs.Accesses.{IsAccess, written_by}
 use Rattle.lpt_c_end.specs.Changes.{IsNew}
 use Rattle.lpt_c_end.specs.Codes.{nothing}
@@ -12,37 +12,38 @@ use Rattle.lpt_c_end.specs.declared.end.End.{End}
 use Rattle.lpt_c_end.specs.declared.memories.LptMemory.{LptMemory}
 use Rattle.lpt_c_end.specs.declared.sizing.LptSize.{LptSize}
 use Rattle.lpt_c_pair.specs.Pairs.{Call, ExecuteGiven, IsDone, Restart, Resume, ResumeSized}
-use Rattle.lpt_c_pair.specs.Runs.{Turn, Standing, begun, turned_by, CanTurnBy, KeepsThePromise}
+use Rattle.lpt_c_pair.specs.Runs.{CallTurn, Standing, standing_begun, turned_by, CanTurnBy, KeepsThePromise}
 use Rattle.lpt_events.specs.Configs.{IsConfig}
 use Rattle.lpt_events.specs.declared.config.Config.{Config}
 use Rattle.lpt_events.specs.declared.side.Side.{Side}
 use Rattle.lpt_events.specs.declared.side.Side.TheVariants.{Ground, Craft}
 use Rattle.lpt_jobs.specs.Jobs.{head_of}
 use Rattle.lpt_journal.specs.Jobs.{left_by}
-use Rattle.lpt_memory.specs.Memories.{Contents, loaded, sizes_of}
+use Rattle.lpt_memory.specs.Memories.{Contents, memories_loaded, sizes_of}
 use Rattle.lpt_node.specs.Jobs.{FrontHolds}
 
 -- ---- what is written
 
 -- a write, as C is told it: the access, and its octets
-pub record Told : Type 0 where
+pub record ToldWrite : Type 0 where
   pub access : LptAccess
   pub octets : List ℕ
 
 -- memories over which these are written, one after the other
-abbrev pub put_told : List Told → Contents → Contents
+abbrev pub put_told : List ToldWrite → Contents → Contents
 put_told [] ms = ms
 put_told (t ∷ ts) ms =
     put_told ts
-    (loaded t.access.memory (record { address = t.access.address; octets = t.octets } ∷ []) ms)
+    (memories_loaded t.access.memory (record { address = t.access.address; octets = t.octets } ∷ [])
+    ms)
 
 -- `lpt_end_access` and `lpt_end_access_octets` tell this by that number
-pub record IsTold (number : ℕ) (t : Told) (e : End) : Type 0 where
+pub record IsTold (number : ℕ) (t : ToldWrite) (e : End) : Type 0 where
   pub access : IsAccess number t.access e
   pub octets : written_by number (Some e) ≡ Ok t.octets
 
 -- they tell these by the numbers from this on, and by the next that there is nothing
-abbrev pub AreTold : (number : ℕ) → List Told → End → Type 0
+abbrev pub AreTold : (number : ℕ) → List ToldWrite → End → Type 0
 AreTold number [] e = written_by number (Some e) ≡ Err nothing
 AreTold number (t ∷ ts) e = IsTold number t e × AreTold (number + 1) ts e
 
@@ -54,32 +55,32 @@ AreTold number (t ∷ ts) e = IsTold number t e × AreTold (number + 1) ts e
 pub record Program : Type 0 where
   pub ends : Standing
   pub memories : Contents
-  pub ahead : List Told
-  pub owed : List Told
+  pub ahead : List ToldWrite
+  pub owed : List ToldWrite
 
 -- A call of an end answered 0; a write that the oldest request asks for is made ahead;
 -- `lpt_end_execute_given` answered 0, after which these writes are owed; memories became these,
 -- as some of what is owed was written; all that is owed was written, in its order.
 pub data Act : Type 0 where
-  Calls : Turn → Act
-  Writes : Told → Act
-  Gives : (octets : List ℕ) → (owed : List Told) → (new : End) → Act
+  Calls : CallTurn → Act
+  Writes : ToldWrite → Act
+  Gives : (octets : List ℕ) → (owed : List ToldWrite) → (new : End) → Act
   Puts : (memories : Contents) → Act
   Settles : Act
 
 -- what an act makes of them
-abbrev pub acted : Config → Program → Act → Program
-acted c p (Calls t) = record p { ends = turned_by c p.ends t.side t.call t.new }
-acted c p (Writes t) =
+abbrev pub program_after : Config → Program → Act → Program
+program_after c p (Calls t) = record p { ends = turned_by c p.ends t.side t.call t.new }
+program_after c p (Writes t) =
     record p { memories = put_told (t ∷ []) p.memories; ahead = p.ahead ++ t ∷ [] }
-acted c p (Gives octets owed new) = record {
+program_after c p (Gives octets owed new) = record {
   ends = turned_by c p.ends Craft (ExecuteGiven octets) new;
   memories = p.memories;
   ahead = [];
   owed = owed;
 }
-acted c p (Puts ms) = record p { memories = ms }
-acted c p Settles = record p { memories = put_told p.owed p.memories; owed = [] }
+program_after c p (Puts ms) = record p { memories = ms }
+program_after c p Settles = record p { memories = put_told p.owed p.memories; owed = [] }
 
 -- Requests are executed by an act of their own. Where the spacecraft's end is restarted or made
 -- again, nothing was written ahead; what is owed is known still.
@@ -93,7 +94,7 @@ MayCall p side call = ⊤
 -- Nothing is owed of the requests before. What is owed from now on is what the calls tell of the
 -- oldest request besides what was written ahead. The octets are those that the program's memories
 -- have where it reads.
-pub record IsGiven (p : Program) (octets : List ℕ) (owed : List Told) : Type 0 where
+pub record IsGiven (p : Program) (octets : List ℕ) (owed : List ToldWrite) : Type 0 where
   pub settled : p.owed ≡ []
   pub told : AreTold (length p.ahead) owed p.ends.on_craft
   pub held : FrontHolds (head_of p.ends.on_craft.node.at.jobs.jobs) p.memories octets
@@ -116,7 +117,7 @@ CanAct c p Settles = ⊤
 -- after these acts, the newest of which stands first
 abbrev pub came_by : Config → Program → List Act → Program
 came_by c p [] = p
-came_by c p (x ∷ xs) = acted c (came_by c p xs) x
+came_by c p (x ∷ xs) = program_after c (came_by c p xs) x
 
 -- each act can be done after those before it
 abbrev pub CanActAll : Config → Program → List Act → Type 0
@@ -126,18 +127,18 @@ CanActAll c p (x ∷ xs) = CanActAll c p xs × CanAct c (came_by c p xs) x
 -- ---- the law
 
 -- two new ends, and memories that nothing was written over
-abbrev pub started : Config → Contents → (ticks_ground : ℕ) → (own_craft : Own)
+abbrev pub program_started : Config → Contents → (ticks_ground : ℕ) → (own_craft : Own)
     → (on_ground on_craft : End)
     → Program
-started c first a b g k =
-    record { ends = begun c first a b g k; memories = first; ahead = []; owed = [] }
+program_started c first a b g k =
+    record { ends = standing_begun c first a b g k; memories = first; ahead = []; owed = [] }
 
 -- The ends keep the promise. The program's memories, once what is owed is written, are their first
 -- content, changed by the executed requests in order of release, and by what was written ahead.
 pub record KeepsItsMemories (c : Config) (first : Contents) (p : Program) : Type 0 where
   pub ends : KeepsThePromise c first p.ends
   pub memories : put_told p.owed p.memories
-      ≡ put_told p.ahead (left_by c.apid (executed p.ends.pair.ends.log) first)
+      ≡ put_told p.ahead (left_by c.apid (requests_executed p.ends.pair.ends.log) first)
 
 -- whatever was done with two new ends, and with memories that begin so
 abbrev pub ProgramsKeepTheirMemories : Type 0
@@ -150,5 +151,5 @@ ProgramsKeepTheirMemories =
     → sizes_said sizes ≡ sizes_of first
     → IsNew Ground (later a c) none nothing g
     → IsNewSized (own_config b c) sizes k
-    → CanActAll c (started c first a b g k) xs
-    → KeepsItsMemories c first (came_by c (started c first a b g k) xs)
+    → CanActAll c (program_started c first a b g k) xs
+    → KeepsItsMemories c first (came_by c (program_started c first a b g k) xs)

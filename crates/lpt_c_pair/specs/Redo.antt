@@ -1,14 +1,14 @@
 -- Writes that were made in part, and are made again.
 use Rattle.std.specs.Prelude.{◌≡◌, ℕ, ◌==◌, if◌then◌else◌, List, [], ◌∷◌, length, take, drop, map, slice_index, Some}
 use Rattle.lpt_c_end.specs.declared.end.End.{End}
-use Rattle.lpt_c_pair.specs.Programs.{Told, put_told, AreTold}
+use Rattle.lpt_c_pair.specs.Programs.{ToldWrite, put_told, AreTold}
 use Rattle.lpt_jobs.specs.Jobs.{head_of, Ready}
 use Rattle.lpt_memory.specs.declared.request.Area.{Area}
 use Rattle.lpt_memory.specs.Meanings.{Load}
 use Rattle.lpt_memory.specs.Memories.{Contents, content_of, put_all, sizes_of}
 use Rattle.lpt_memory.specs.Overlaps.{NoneCovers}
 use Rattle.lpt_memory.specs.Ranges.{AreasFit}
-use Rattle.lpt_memory.specs.Readings.{Source, meant}
+use Rattle.lpt_memory.specs.Readings.{Source, source_meaning}
 
 -- memories of which that with this identifier has these octets
 abbrev pub with_content : ℕ → List ℕ → Contents → Contents
@@ -41,11 +41,11 @@ WritesCanBeTakenBack =
 -- them were made: so they come to what they would have come to
 abbrev pub WritesCanBeMadeAgain : Type 0
 WritesCanBeMadeAgain =
-    (e : End) (r : Source) (id : ℕ) (areas : List Area) (ts : List Told) (ms : Contents)
+    (e : End) (r : Source) (id : ℕ) (areas : List Area) (ts : List ToldWrite) (ms : Contents)
     (old new : List ℕ)
     → head_of e.node.at.jobs.jobs ≡ Ready r
     → r.sizes ≡ sizes_of ms
-    → meant r ≡ Load id areas
+    → source_meaning r ≡ Load id areas
     → AreTold 0 ts e
     → content_of id ms ≡ Some old
     → IsPutInPart areas old new

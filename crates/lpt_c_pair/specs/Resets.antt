@@ -12,7 +12,7 @@ use Rattle.lpt_c_end.specs.declared.end.End.{End}
 use Rattle.lpt_c_end.specs.declared.memories.LptMemory.{LptMemory}
 use Rattle.lpt_c_end.specs.declared.sizing.LptSize.{LptSize}
 use Rattle.lpt_c_pair.specs.Pairs.{Resume, ResumeSized}
-use Rattle.lpt_c_pair.specs.Programs.{Act, Calls, Gives, KeepsItsMemories, Program, Puts, Settles, Told, Writes, came_by, put_told, started, CanAct, CanActAll}
+use Rattle.lpt_c_pair.specs.Programs.{Act, Calls, Gives, KeepsItsMemories, Program, Puts, Settles, ToldWrite, Writes, came_by, put_told, program_started, CanAct, CanActAll}
 use Rattle.lpt_c_pair.specs.Withheld.{moves_of, turns_of}
 use Rattle.lpt_events.specs.Configs.{IsConfig}
 use Rattle.lpt_events.specs.declared.config.Config.{Config}
@@ -27,8 +27,8 @@ pub record Machines : Type 0 where
   pub on_ground : End
   pub on_craft : End
   pub memories : Contents
-  pub ahead : List Told
-  pub owed : List Told
+  pub ahead : List ToldWrite
+  pub owed : List ToldWrite
 
 -- those of a run
 abbrev pub machines_of : Program → Machines
@@ -46,13 +46,13 @@ with_end m Ground e = record m { on_ground = e }
 with_end m Craft e = record m { on_craft = e }
 
 -- what an act makes of them
-abbrev pub worked : Machines → Act → Machines
-worked m (Calls t) = with_end m t.side t.new
-worked m (Writes t) =
+abbrev pub machines_after : Machines → Act → Machines
+machines_after m (Calls t) = with_end m t.side t.new
+machines_after m (Writes t) =
     record m { memories = put_told (t ∷ []) m.memories; ahead = m.ahead ++ t ∷ [] }
-worked m (Gives octets owed new) = record m { on_craft = new; ahead = []; owed = owed }
-worked m (Puts ms) = record m { memories = ms }
-worked m Settles = record m { memories = put_told m.owed m.memories; owed = [] }
+machines_after m (Gives octets owed new) = record m { on_craft = new; ahead = []; owed = owed }
+machines_after m (Puts ms) = record m { memories = ms }
+machines_after m Settles = record m { memories = put_told m.owed m.memories; owed = [] }
 
 -- whose program does an act
 abbrev pub actor : Act → Side
@@ -77,17 +77,17 @@ pub record Lived : Type 0 where
 -- deletes; the program of a side keeps its end's state, the spacecraft's with what it owes; or a
 -- machine is reset, and its end is restored from a state. These are the spacecraft's memories then:
 -- as they were, or with what its program put back or wrote again at its start.
-pub data Deed : Type 0 where
-  Does : Act → Deed
-  Stays : Act → Deed
-  Keeps : Side → Deed
-  ResetsGround : Config → (state : List ℕ) → (new : End) → Deed
+pub data ActDeed : Type 0 where
+  Does : Act → ActDeed
+  Stays : Act → ActDeed
+  Keeps : Side → ActDeed
+  ResetsGround : Config → (state : List ℕ) → (new : End) → ActDeed
   ResetsCraft : Config
       → (state : List ℕ)
       → List LptSize
       → (memories : Contents)
       → (new : End)
-      → Deed
+      → ActDeed
 
 -- the call that makes ground's end again
 abbrev pub again_ground : Config → List ℕ → End → Act
@@ -102,20 +102,20 @@ again_craft config state sizes new =
 -- a program of this side did something
 abbrev pub did : Lived → Side → Act → Lived
 did l Ground x = record l {
-  machines = worked l.machines x;
+  machines = machines_after l.machines x;
   acts = x ∷ l.acts;
   but_craft = x ∷ l.but_craft;
 }
 did l Craft x = record l {
-  machines = worked l.machines x;
+  machines = machines_after l.machines x;
   acts = x ∷ l.acts;
   but_ground = x ∷ l.but_ground;
 }
 
 -- a program did what no reset deletes: such as leaves the state that it is to keep as it is
-abbrev pub stayed : Lived → Act → Lived
-stayed l x = record {
-  machines = worked l.machines x;
+abbrev pub act_stayed : Lived → Act → Lived
+act_stayed l x = record {
+  machines = machines_after l.machines x;
   acts = x ∷ l.acts;
   but_ground = x ∷ l.but_ground;
   but_craft = x ∷ l.but_craft;
@@ -123,17 +123,17 @@ stayed l x = record {
 }
 
 -- what a deed makes of them, where two ends began so
-abbrev pub lived : Config → (start : Program) → Lived → Deed → Lived
-lived c start l (Does x) = did l (actor x) x
-lived c start l (Stays x) = stayed l x
-lived c start l (Keeps Ground) = record l { but_ground = l.acts; but_both = l.but_craft }
-lived c start l (Keeps Craft) = record l { but_craft = l.acts; but_both = l.but_ground }
-lived c start l (ResetsGround config state new) = record l {
+abbrev pub lived_after : Config → (start : Program) → Lived → ActDeed → Lived
+lived_after c start l (Does x) = did l (actor x) x
+lived_after c start l (Stays x) = act_stayed l x
+lived_after c start l (Keeps Ground) = record l { but_ground = l.acts; but_both = l.but_craft }
+lived_after c start l (Keeps Craft) = record l { but_craft = l.acts; but_both = l.but_ground }
+lived_after c start l (ResetsGround config state new) = record l {
   machines = record l.machines { on_ground = new };
   acts = again_ground config state new ∷ l.but_ground;
   but_craft = again_ground config state new ∷ l.but_both;
 }
-lived c start l (ResetsCraft config state sizes ms new) = record l {
+lived_after c start l (ResetsCraft config state sizes ms new) = record l {
   machines = record {
     on_ground = l.machines.on_ground;
     on_craft = new;
@@ -149,7 +149,7 @@ lived c start l (ResetsCraft config state sizes ms new) = record l {
 -- machine can be reset where what is left can be done without what is deleted; its end is made
 -- again of what was kept of it; and the memories are such that what was owed when it was kept
 -- makes the same of them as of those that were there.
-abbrev pub CanLive : Config → (start : Program) → Lived → Deed → Type 0
+abbrev pub CanLive : Config → (start : Program) → Lived → ActDeed → Type 0
 CanLive c start l (Does x) = CanAct c (came_by c start l.acts) x
 CanLive c start l (Stays x) = CanAct c (came_by c start l.acts) x
 CanLive c start l (Keeps side) = ⊤
@@ -159,12 +159,12 @@ CanLive c start l (ResetsCraft config state sizes ms new) =
     CanActAll c start (again_craft config state sizes new ∷ Puts ms ∷ l.but_craft)
 
 -- after these deeds, the newest of which stands first
-abbrev pub lived_all : Config → (start : Program) → Lived → List Deed → Lived
+abbrev pub lived_all : Config → (start : Program) → Lived → List ActDeed → Lived
 lived_all c start l [] = l
-lived_all c start l (x ∷ xs) = lived c start (lived_all c start l xs) x
+lived_all c start l (x ∷ xs) = lived_after c start (lived_all c start l xs) x
 
 -- each of them can be done after those before it
-abbrev pub CanLiveAll : Config → (start : Program) → Lived → List Deed → Type 0
+abbrev pub CanLiveAll : Config → (start : Program) → Lived → List ActDeed → Type 0
 CanLiveAll c start l [] = ⊤
 CanLiveAll c start l (x ∷ xs) =
     CanLiveAll c start l xs × CanLive c start (lived_all c start l xs) x
@@ -196,15 +196,17 @@ abbrev pub ResetProgramsKeepTheirMemories : Type 0
 ResetProgramsKeepTheirMemories =
     (c : Config) (a : ℕ) (b : Own)
     (none : List LptMemory) (nothing : List ℕ) (sizes : List LptSize) (first : Contents)
-    (g k : End) (xs : List Deed)
+    (g k : End) (xs : List ActDeed)
     → IsConfig (later a c)
     → IsConfig (own_config b c)
     → sizes_said sizes ≡ sizes_of first
     → IsNew Ground (later a c) none nothing g
     → IsNewSized (own_config b c) sizes k
-    → CanLiveAll c (started c first a b g k) (just_begun (started c first a b g k)) xs
-    → IsLeft c first (started c first a b g k)
-    (lived_all c (started c first a b g k) (just_begun (started c first a b g k)) xs)
+    → CanLiveAll c (program_started c first a b g k) (just_begun (program_started c first a b g k))
+    xs
+    → IsLeft c first (program_started c first a b g k)
+    (lived_all c (program_started c first a b g k) (just_begun (program_started c first a b g k))
+    xs)
 
 -- ---- whenever it comes
 
@@ -216,7 +218,7 @@ but_other l Craft = l.but_ground
 -- An act can be done after what is left, and also after that but for what the other end's program
 -- did and didn't keep. Then a machine can be reset at any time: its end is restored from what was
 -- kept of it, and what was owed then makes the same of the memories.
-abbrev pub IsCareful : Config → (start : Program) → Lived → Deed → Type 0
+abbrev pub IsCareful : Config → (start : Program) → Lived → ActDeed → Type 0
 IsCareful c start l (Does x) =
     CanAct c (came_by c start l.acts) x × CanAct c (came_by c start (but_other l (actor x))) x
 IsCareful c start l (Stays x) =
@@ -232,7 +234,7 @@ IsCareful c start l (ResetsCraft config state sizes ms new) =
     × CanAct c (came_by c start (Puts ms ∷ l.but_craft)) (again_craft config state sizes new)
 
 -- all deeds are so
-abbrev pub AreCareful : Config → (start : Program) → Lived → List Deed → Type 0
+abbrev pub AreCareful : Config → (start : Program) → Lived → List ActDeed → Type 0
 AreCareful c start l [] = ⊤
 AreCareful c start l (x ∷ xs) =
     AreCareful c start l xs × IsCareful c start (lived_all c start l xs) x
@@ -240,6 +242,6 @@ AreCareful c start l (x ∷ xs) =
 -- so nothing more is asked of the times at which machines are reset
 abbrev pub CarefulMachinesMayBeReset : Type 0
 CarefulMachinesMayBeReset =
-    (c : Config) (start : Program) (xs : List Deed)
+    (c : Config) (start : Program) (xs : List ActDeed)
     → AreCareful c start (just_begun start) xs
     → CanLiveAll c start (just_begun start) xs

@@ -15,7 +15,7 @@ use Rattle.lpt_events.specs.declared.side.Side.TheVariants.{Ground, Craft}
 use Rattle.lpt_memory.specs.Memories.{Contents}
 
 -- a call of the end of a side that answered 0, and what that end became
-pub record Turn : Type 0 where
+pub record CallTurn : Type 0 where
   pub side : Side
   pub call : Call
   pub new : End
@@ -27,10 +27,11 @@ pub record Standing : Type 0 where
   pub on_craft : End
 
 -- two new ends; ground's clock begins so many ticks later, and the spacecraft has this of its own
-abbrev pub begun : Config → Contents → (ticks_ground : ℕ) → (own_craft : Own)
+abbrev pub standing_begun : Config → Contents → (ticks_ground : ℕ) → (own_craft : Own)
     → (on_ground on_craft : End)
     → Standing
-begun c first a b g k = record { pair = no_pair_later c first a b; on_ground = g; on_craft = k }
+standing_begun c first a b g k =
+    record { pair = no_pair_later c first a b; on_ground = g; on_craft = k }
 
 -- the ends after a call of the end of this side
 abbrev pub turned_by : Config → Standing → Side → Call → End → Standing
@@ -53,12 +54,12 @@ CanTurnBy c s Craft call new =
     IsDone call s.on_craft new × Promises c s.pair s.on_ground s.on_craft Craft call
 
 -- the ends after these calls, the newest of which stands first
-abbrev pub stood : Config → Standing → List Turn → Standing
+abbrev pub stood : Config → Standing → List CallTurn → Standing
 stood c s [] = s
 stood c s (t ∷ ts) = turned_by c (stood c s ts) t.side t.call t.new
 
 -- each call was made after those before it
-abbrev pub CanStand : Config → Standing → List Turn → Type 0
+abbrev pub CanStand : Config → Standing → List CallTurn → Type 0
 CanStand c s [] = ⊤
 CanStand c s (t ∷ ts) = CanStand c s ts × CanTurnBy c (stood c s ts) t.side t.call t.new
 
@@ -73,11 +74,11 @@ abbrev pub EndsOfCKeepThePromise : Type 0
 EndsOfCKeepThePromise =
     (c : Config) (a : ℕ) (b : Own)
     (none : List LptMemory) (nothing : List ℕ) (ms : List LptMemory) (content : List ℕ)
-    (g k : End) (ts : List Turn)
+    (g k : End) (ts : List CallTurn)
     → IsConfig (later a c)
     → IsConfig (own_config b c)
     → IsNew Ground (later a c) none nothing g
     → IsNew Craft (own_config b c) ms content k
-    → CanStand c (begun c (memories_told content ms) a b g k) ts
+    → CanStand c (standing_begun c (memories_told content ms) a b g k) ts
     → KeepsThePromise c (memories_told content ms)
-    (stood c (begun c (memories_told content ms) a b g k) ts)
+    (stood c (standing_begun c (memories_told content ms) a b g k) ts)

@@ -4,7 +4,7 @@ use Rattle.std.specs.Prelude.{◌≡◌, ℕ, List, [], ◌∷◌, ◌++◌, Non
 use Rattle.std.specs.List.{slice_get}
 use Rattle.lpt_apart.specs.Clocks.{later, Own, own_config}
 use Rattle.lpt_apart.specs.Drops as apart
-use Rattle.lpt_apart.specs.Drops.{Service, CanTurnAll, IsServed, no_service, turned, turned_all}
+use Rattle.lpt_apart.specs.Drops.{Service, CanTurnAll, IsServed, no_service, service_after, turned_all}
 use Rattle.lpt_apart.specs.Moves.{Move}
 use Rattle.lpt_c_end.specs.Accesses.{unready}
 use Rattle.lpt_c_end.specs.Changes.{execution_of, IsDropped, IsNew, IsReadDropped}
@@ -15,7 +15,7 @@ use Rattle.lpt_c_end.specs.declared.end.End.{End}
 use Rattle.lpt_c_end.specs.declared.memories.LptMemory.{LptMemory}
 use Rattle.lpt_c_pair.specs.Drops.{PassesOver}
 use Rattle.lpt_c_pair.specs.Pairs.{AreEndsOf, Call, Execute, ExecuteGiven, IsDone, Read, moves}
-use Rattle.lpt_c_pair.specs.Runs.{CanTurnBy, Standing, Turn}
+use Rattle.lpt_c_pair.specs.Runs.{CanTurnBy, Standing, CallTurn}
 use Rattle.lpt_events.specs.Configs.{IsConfig}
 use Rattle.lpt_events.specs.declared.config.Config.{Config}
 use Rattle.lpt_events.specs.declared.side.Side.{Side}
@@ -33,11 +33,11 @@ pub record Serving : Type 0 where
 
 -- a call that answered 0; or `lpt_end_drop` did, `lpt_end_drop_read`, or `lpt_end_refuse`, and the
 -- spacecraft's end became this
-pub data Deed : Type 0 where
-  Calls : Turn → Deed
-  Drops : (new : End) → Deed
-  DropsRead : (new : End) → Deed
-  Refuses : FailureCode → (new : End) → Deed
+pub data ServiceDeed : Type 0 where
+  Calls : CallTurn → ServiceDeed
+  Drops : (new : End) → ServiceDeed
+  DropsRead : (new : End) → ServiceDeed
+  Refuses : FailureCode → (new : End) → ServiceDeed
 
 -- the ends alone
 abbrev pub standing : Serving → Standing
@@ -45,7 +45,7 @@ standing s =
     record { pair = s.service.pair; on_ground = s.on_ground; on_craft = s.on_craft }
 
 -- a call is made as before; a drop, or a refusal of a request, isn't itself refused
-abbrev pub CanServe : Config → Serving → Deed → Type 0
+abbrev pub CanServe : Config → Serving → ServiceDeed → Type 0
 CanServe c s (Calls t) = CanTurnBy c (standing s) t.side t.call t.new
 CanServe c s (Drops new) = (read_refusal s.on_craft ≡ None) × IsDropped s.on_craft new
 CanServe c s (DropsRead new) = (unready s.on_craft ≡ None) × IsReadDropped s.on_craft new
@@ -53,24 +53,24 @@ CanServe c s (Refuses code new) =
     (refuse_refusal (number_of code) s.on_craft ≡ None) × IsRefusedAs code s.on_craft new
 
 -- moves as turns
-abbrev pub made : List Move → List apart.Turn
-made [] = []
-made (x ∷ xs) = apart.Makes x ∷ made xs
+abbrev pub as_turns : List Move → List apart.ServiceTurn
+as_turns [] = []
+as_turns (x ∷ xs) = apart.Makes x ∷ as_turns xs
 
 -- the turns of a call of the end of a side, the newest first: a request is read at once
-abbrev pub turns : Side → Call → List apart.Turn
+abbrev pub turns : Side → Call → List apart.ServiceTurn
 turns side Read = apart.Reads ∷ []
-turns side call = made (moves side call)
+turns side call = as_turns (moves side call)
 
 -- the turns of a deed, the newest first
-abbrev pub turns_by : Deed → List apart.Turn
+abbrev pub turns_by : ServiceDeed → List apart.ServiceTurn
 turns_by (Calls t) = turns t.side t.call
 turns_by (Drops new) = apart.Drops ∷ []
 turns_by (DropsRead new) = apart.LetsGo ∷ []
 turns_by (Refuses code new) = apart.Refuses code ∷ []
 
 -- and of deeds
-abbrev pub turns_of : List Deed → List apart.Turn
+abbrev pub turns_of : List ServiceDeed → List apart.ServiceTurn
 turns_of [] = []
 turns_of (x ∷ xs) = turns_by x ++ turns_of xs
 
@@ -82,19 +82,20 @@ with_end s service Craft new =
     record { service = service; on_ground = s.on_ground; on_craft = new }
 
 -- what a deed makes of them
-abbrev pub served : Config → Serving → Deed → Serving
-served c s (Calls t) = with_end s (turned_all c s.service (turns t.side t.call)) t.side t.new
-served c s (Drops new) = with_end s (turned c s.service apart.Drops) Craft new
-served c s (DropsRead new) = with_end s (turned c s.service apart.LetsGo) Craft new
-served c s (Refuses code new) = with_end s (turned c s.service (apart.Refuses code)) Craft new
+abbrev pub serving_after : Config → Serving → ServiceDeed → Serving
+serving_after c s (Calls t) = with_end s (turned_all c s.service (turns t.side t.call)) t.side t.new
+serving_after c s (Drops new) = with_end s (service_after c s.service apart.Drops) Craft new
+serving_after c s (DropsRead new) = with_end s (service_after c s.service apart.LetsGo) Craft new
+serving_after c s (Refuses code new) =
+    with_end s (service_after c s.service (apart.Refuses code)) Craft new
 
 -- after these deeds, the newest of which stands first
-abbrev pub served_all : Config → Serving → List Deed → Serving
+abbrev pub served_all : Config → Serving → List ServiceDeed → Serving
 served_all c s [] = s
-served_all c s (x ∷ xs) = served c (served_all c s xs) x
+served_all c s (x ∷ xs) = serving_after c (served_all c s xs) x
 
 -- each of them can be done after those before it
-abbrev pub CanServeAll : Config → Serving → List Deed → Type 0
+abbrev pub CanServeAll : Config → Serving → List ServiceDeed → Type 0
 CanServeAll c s [] = ⊤
 CanServeAll c s (x ∷ xs) = CanServeAll c s xs × CanServe c (served_all c s xs) x
 
@@ -117,7 +118,7 @@ abbrev pub EndsOfCThatDropServe : Type 0
 EndsOfCThatDropServe =
     (c : Config) (a : ℕ) (b : Own)
     (none : List LptMemory) (nothing : List ℕ) (ms : List LptMemory) (content : List ℕ)
-    (g k : End) (xs : List Deed)
+    (g k : End) (xs : List ServiceDeed)
     → IsConfig (later a c)
     → IsConfig (own_config b c)
     → IsNew Ground (later a c) none nothing g

@@ -13,21 +13,21 @@ use Rattle.lpt_c_end.specs.declared.memories.LptMemory.{LptMemory}
 use Rattle.lpt_c_end.specs.declared.sizing.LptSize.{LptSize}
 use Rattle.lpt_c_pair.specs.Keepers as keeper
 use Rattle.lpt_c_pair.specs.Pairs.{ExecuteGiven, moves}
-use Rattle.lpt_c_pair.specs.Programs.{Act, Calls, Writes, Gives, Puts, Settles, started, came_by, CanActAll}
-use Rattle.lpt_c_pair.specs.Runs.{Turn, begun, stood, CanStand}
-use Rattle.lpt_c_pair.specs.Services.{Deed, CanServeAll, no_serving, served_all, turns_of as turns_by_deeds}
+use Rattle.lpt_c_pair.specs.Programs.{Act, Calls, Writes, Gives, Puts, Settles, program_started, came_by, CanActAll}
+use Rattle.lpt_c_pair.specs.Runs.{CallTurn, standing_begun, stood, CanStand}
+use Rattle.lpt_c_pair.specs.Services.{ServiceDeed, CanServeAll, no_serving, served_all, turns_of as turns_by_deeds}
 use Rattle.lpt_events.specs.Configs.{IsConfig}
 use Rattle.lpt_events.specs.declared.config.Config.{Config}
 use Rattle.lpt_events.specs.declared.side.Side.TheVariants.{Ground, Craft}
 use Rattle.lpt_memory.specs.Memories.{Contents, sizes_of}
 
 -- the moves of these calls, the newest first
-abbrev pub moves_of : List Turn → List Move
+abbrev pub moves_of : List CallTurn → List Move
 moves_of [] = []
 moves_of (t ∷ ts) = moves t.side t.call ++ moves_of ts
 
 -- the calls that these acts are, the newest first
-abbrev pub turns_of : List Act → List Turn
+abbrev pub turns_of : List Act → List CallTurn
 turns_of [] = []
 turns_of (Calls t ∷ xs) = t ∷ turns_of xs
 turns_of (Writes t ∷ xs) = turns_of xs
@@ -44,14 +44,14 @@ abbrev pub EndsOfCWithholdNothing : Type 0
 EndsOfCWithholdNothing =
     (c : Config) (a : ℕ) (b : Own)
     (none : List LptMemory) (nothing : List ℕ) (ms : List LptMemory) (content : List ℕ)
-    (g k : End) (ts : List Turn)
+    (g k : End) (ts : List CallTurn)
     → IsConfig (later a c)
     → IsConfig (own_config b c)
     → IsNew Ground (later a c) none nothing g
     → IsNew Craft (own_config b c) ms content k
-    → CanStand c (begun c (memories_told content ms) a b g k) ts
+    → CanStand c (standing_begun c (memories_told content ms) a b g k) ts
     → WithholdsNothing c
-    (stood c (begun c (memories_told content ms) a b g k) ts).pair.ends.log
+    (stood c (standing_begun c (memories_told content ms) a b g k) ts).pair.ends.log
     (came_since c (no_pair_later c (memories_told content ms) a b) (moves_of ts))
 
 -- the same where the spacecraft's program has the memories
@@ -65,8 +65,8 @@ ProgramsWithholdNothing =
     → sizes_said sizes ≡ sizes_of first
     → IsNew Ground (later a c) none nothing g
     → IsNewSized (own_config b c) sizes k
-    → CanActAll c (started c first a b g k) xs
-    → WithholdsNothing c (came_by c (started c first a b g k) xs).ends.pair.ends.log
+    → CanActAll c (program_started c first a b g k) xs
+    → WithholdsNothing c (came_by c (program_started c first a b g k) xs).ends.pair.ends.log
     (came_since c (no_pair_later c first a b) (moves_of (turns_of xs)))
 
 -- ---- where requests are dropped
@@ -79,7 +79,7 @@ abbrev pub EndsOfCThatDropWithholdNoRequest : Type 0
 EndsOfCThatDropWithholdNoRequest =
     (c : Config) (a : ℕ) (b : Own)
     (none : List LptMemory) (nothing : List ℕ) (ms : List LptMemory) (content : List ℕ)
-    (g k : End) (xs : List Deed)
+    (g k : End) (xs : List ServiceDeed)
     → IsConfig (later a c)
     → IsConfig (own_config b c)
     → IsNew Ground (later a c) none nothing g
@@ -94,7 +94,7 @@ abbrev pub ProgramsThatDropWithholdNoRequest : Type 0
 ProgramsThatDropWithholdNoRequest =
     (c : Config) (a : ℕ) (b : Own)
     (none : List LptMemory) (nothing : List ℕ) (sizes : List LptSize) (first : Contents)
-    (g k : End) (xs : List keeper.Act)
+    (g k : End) (xs : List keeper.KeeperAct)
     → IsConfig (later a c)
     → IsConfig (own_config b c)
     → sizes_said sizes ≡ sizes_of first

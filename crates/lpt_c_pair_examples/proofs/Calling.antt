@@ -1,7 +1,7 @@
 -- The worked run of ends of which the spacecraft's has its memory, computed by the definitions.
 use Rattle.std.proofs.Common.{refl, [], ◌∷◌, None, inl, arith}
 use Rattle.lpt_packet.specs.Checksums.{checksum, octets_in, shift_all}
-use Rattle.lpt_packet.specs.Packets.{seen, spelling}
+use Rattle.lpt_packet.specs.Packets.{packet_seen, spelling}
 use Rattle.lpt_packet.specs.declared.direction.Direction.TheVariants.{Up}
 use Rattle.lpt_pus.specs.Commands.{tc_field, tc_verdict, command_in}
 use Rattle.lpt_pus.specs.Telemetry.{tm_field, tm_verdict}
@@ -21,7 +21,7 @@ use Rattle.lpt_c_end.specs.Contents.{memories_told}
 use Rattle.lpt_c_end.specs.declared.end.End.{End}
 use Rattle.lpt_c_pair.specs.Histories.{AreCareful, just_begun}
 use Rattle.lpt_c_pair.specs.Pairs.{Execute, Packet, Plain, Read}
-use Rattle.lpt_c_pair.specs.Runs.{CanStand, CanTurnBy, Standing, begun, stood}
+use Rattle.lpt_c_pair.specs.Runs.{CanStand, CanTurnBy, Standing, standing_begun, stood}
 use Rattle.lpt_c_pair.proofs.Histories.{careful_programs_may_be_reset}
 use Rattle.lpt_c_pair_examples.specs.Called.{CallsCanBe, calls_made, called_and_reset, content, memory, usual_own}
 use Rattle.lpt_c_pair_examples.proofs.Computed.{asked, octets, opens_nothing, packet_is, source}
@@ -50,7 +50,7 @@ module _ (g k : End) (new_g : IsNew Ground usual [] [] g)
   again = again_behind k new_k 1 [] none_read
 
   abbrev start : Standing
-  start = begun usual (memories_told content memory) 0 usual_own g k
+  start = standing_begun usual (memories_told content memory) 0 usual_own g k
 
   -- ---- the run
 
@@ -90,7 +90,7 @@ module _ (g k : End) (new_g : IsNew Ground usual [] [] g)
       ∷ record { side = Craft; call = Packet load_packet; new = taken }
       ∷ record { side = Ground; call = Plain 1 0 6 2 load; new = asked_for } ∷ []))
       Craft (Packet load_packet) more
-  unfolding seen spelling checksum octets_in shift_all tc_verdict command_in arrival
+  unfolding packet_seen spelling checksum octets_in shift_all tc_verdict command_in arrival
       front_load_area front_head request_in body_meaning meaning
   comes_again = (
     takes_again last_kept refl (λ code. refl) (with_load k new_k) (is_with_load k new_k) 1 []
@@ -130,7 +130,7 @@ module _ (g k : End) (new_g : IsNew Ground usual [] [] g)
   )
 
 pub calls_can_be : CallsCanBe
-unfolding seen spelling checksum octets_in shift_all tc_field tc_verdict command_in tm_field
+unfolding packet_seen spelling checksum octets_in shift_all tc_field tc_verdict command_in tm_field
     tm_verdict body_of part_verdict arrival first_of_numbers front_load_area front_head request_in
     body_meaning meaning
 calls_can_be g k new_g new_k = record {

@@ -9,12 +9,12 @@ use Rattle.lpt_packet.specs.Names.{name_cmp}
 use Rattle.lpt_packet.specs.Numbers.{IsOctets}
 use Rattle.lpt_state.specs.Lastings.{AreRuns}
 use Rattle.lpt_packet.specs.Checksums.{checksum, octets_in, shift_all}
-use Rattle.lpt_packet.specs.Packets.{seen, spelling}
+use Rattle.lpt_packet.specs.Packets.{packet_seen, spelling}
 use Rattle.lpt_pus.specs.Commands.{tc_field, tc_verdict, command_in}
 use Rattle.lpt_pus.specs.Telemetry.{tm_field, tm_verdict}
 use Rattle.lpt_part.specs.Parts.{body_of, part_verdict}
 use Rattle.lpt_memory.specs.Meanings.{Load, body_meaning, meaning}
-use Rattle.lpt_memory.specs.Readings.{Source, meant}
+use Rattle.lpt_memory.specs.Readings.{Source, source_meaning}
 use Rattle.lpt_memory.specs.Requests.{front_load_area, front_head, request_in}
 use Rattle.lpt_ledger.specs.LeastFree.{first_of_numbers, least_free_in}
 use Rattle.lpt_events.specs.Arrivals.{ARequest, arrival}
@@ -22,7 +22,7 @@ use Rattle.lpt_events.specs.declared.side.Side.TheVariants.{Craft}
 use Rattle.lpt_jobs.specs.declared.job.Job.{Job}
 use Rattle.lpt_jobs.specs.declared.job.Job.TheVariants.{Committed}
 use Rattle.lpt_execution.specs.Reporting.{opened_of, request_source}
-use Rattle.lpt_node.specs.Jobs.{executed, executed_given, with_opened}
+use Rattle.lpt_node.specs.Jobs.{job_executed, executed_given, with_opened}
 use Rattle.lpt_packet.specs.Names.{Name}
 use Rattle.lpt_node.specs.Nodes.{NodeData, no_data}
 use Rattle.lpt_node.specs.Requests.{plain_made}
@@ -33,12 +33,12 @@ asked = plain_made usual (no_data usual) 1 0 6 2 load
 
 -- the packet of the request
 pub packet_is : asked.1 ≡ load_packet
-unfolding seen spelling checksum octets_in shift_all tc_field tc_verdict command_in body_of
+unfolding packet_seen spelling checksum octets_in shift_all tc_field tc_verdict command_in body_of
 packet_is = refl
 
 -- it comes as a request
 pub arrives : arrival Craft 100 8 load_packet ≡ ARequest load_packet
-unfolding seen spelling checksum octets_in shift_all tc_field tc_verdict command_in tm_field
+unfolding packet_seen spelling checksum octets_in shift_all tc_field tc_verdict command_in tm_field
     tm_verdict body_of part_verdict arrival
 arrives = refl
 
@@ -54,8 +54,9 @@ source = record { apid = 100; sizes = (1, 256) ∷ []; message = load_packet }
 abbrev pub nothing : Source
 nothing = record { apid = 100; sizes = (1, 256) ∷ []; message = [] }
 
-pub means : meant source ≡ Load 1 (record { address = 16; octets = 171 ∷ 205 ∷ 239 ∷ 1 ∷ [] } ∷ [])
-unfolding seen spelling checksum octets_in shift_all tc_field tc_verdict command_in
+pub means : source_meaning source
+    ≡ Load 1 (record { address = 16; octets = 171 ∷ 205 ∷ 239 ∷ 1 ∷ [] } ∷ [])
+unfolding packet_seen spelling checksum octets_in shift_all tc_field tc_verdict command_in
     front_load_area front_head request_in body_meaning meaning
 means = refl
 
@@ -74,7 +75,7 @@ opens_none d (Some name) = refl
 pub gives : (first : ℕ)
     → (executed_given usual (with_jobs first (Committed source ∷ [])) []).0
     ≡ with_jobs (first + 1) []
-unfolding seen spelling checksum octets_in shift_all tc_field tc_verdict command_in first_of_numbers
+unfolding packet_seen spelling checksum octets_in shift_all tc_field tc_verdict command_in first_of_numbers
     front_load_area front_head request_in body_meaning meaning
 gives first =
     opens_none (with_jobs (first + 1) [])
@@ -83,15 +84,15 @@ gives first =
 
 pub gives_quietly : (first : ℕ)
     → (executed_given usual (with_jobs first (Committed source ∷ [])) []).1.packets ≡ []
-unfolding seen spelling checksum octets_in shift_all tc_field tc_verdict command_in first_of_numbers
+unfolding packet_seen spelling checksum octets_in shift_all tc_field tc_verdict command_in first_of_numbers
     front_load_area front_head request_in body_meaning meaning
 gives_quietly first = refl
 
 -- and where the end has it
 pub executes : (first : ℕ)
-    → (executed usual (with_jobs first (Committed source ∷ [])) usual_memories).0.0
+    → (job_executed usual (with_jobs first (Committed source ∷ [])) usual_memories).0.0
     ≡ with_jobs (first + 1) []
-unfolding seen spelling checksum octets_in shift_all tc_field tc_verdict command_in first_of_numbers
+unfolding packet_seen spelling checksum octets_in shift_all tc_field tc_verdict command_in first_of_numbers
     front_load_area front_head request_in body_meaning meaning
 executes first =
     opens_none (with_jobs (first + 1) [])
@@ -99,37 +100,37 @@ executes first =
     (request_source 100 load_packet))
 
 pub executes_quietly : (first : ℕ)
-    → (executed usual (with_jobs first (Committed source ∷ [])) usual_memories).0.1.packets ≡ []
-unfolding seen spelling checksum octets_in shift_all tc_field tc_verdict command_in first_of_numbers
+    → (job_executed usual (with_jobs first (Committed source ∷ [])) usual_memories).0.1.packets ≡ []
+unfolding packet_seen spelling checksum octets_in shift_all tc_field tc_verdict command_in first_of_numbers
     front_load_area front_head request_in body_meaning meaning
 executes_quietly first = refl
 
 pub loads : (first : ℕ)
-    → (executed usual (with_jobs first (Committed source ∷ [])) usual_memories).1
+    → (job_executed usual (with_jobs first (Committed source ∷ [])) usual_memories).1
     ≡ loaded_memories
-unfolding seen spelling checksum octets_in shift_all tc_field tc_verdict command_in
+unfolding packet_seen spelling checksum octets_in shift_all tc_field tc_verdict command_in
     front_load_area front_head request_in body_meaning meaning
 loads first = refl
 
 -- a dropped request is passed over
 pub passes : (jobs : List Job)
-    → (executed usual (with_jobs 0 (Committed nothing ∷ jobs)) usual_memories).0.0
+    → (job_executed usual (with_jobs 0 (Committed nothing ∷ jobs)) usual_memories).0.0
     ≡ with_jobs 1 jobs
-unfolding seen spelling command_in meaning
+unfolding packet_seen spelling command_in meaning
 passes jobs =
     opens_none (with_jobs 1 jobs)
     (least_free_in (with_jobs 0 (Committed nothing ∷ jobs)).sending.ledger
     (request_source 100 []))
 
 pub passes_quietly : (jobs : List Job)
-    → (executed usual (with_jobs 0 (Committed nothing ∷ jobs)) usual_memories).0.1.packets ≡ []
-unfolding seen spelling command_in meaning
+    → (job_executed usual (with_jobs 0 (Committed nothing ∷ jobs)) usual_memories).0.1.packets ≡ []
+unfolding packet_seen spelling command_in meaning
 passes_quietly jobs = refl
 
 pub passes_over : (jobs : List Job)
-    → (executed usual (with_jobs 0 (Committed nothing ∷ jobs)) usual_memories).1
+    → (job_executed usual (with_jobs 0 (Committed nothing ∷ jobs)) usual_memories).1
     ≡ usual_memories
-unfolding seen spelling command_in meaning
+unfolding packet_seen spelling command_in meaning
 passes_over jobs = refl
 
 -- ---- states

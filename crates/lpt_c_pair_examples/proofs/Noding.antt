@@ -4,7 +4,7 @@ use Rattle.std.specs.Prelude.{drop}
 use Rattle.std.specs.FinMap.{get-empty}
 use Rattle.lpt_packet.specs.Checksums.{checksum, octets_in, shift_all}
 use Rattle.lpt_packet.specs.Names.{name_cmp}
-use Rattle.lpt_packet.specs.Packets.{seen, spelling}
+use Rattle.lpt_packet.specs.Packets.{packet_seen, spelling}
 use Rattle.lpt_packet.specs.declared.direction.Direction.TheVariants.{Up}
 use Rattle.lpt_pus.specs.Commands.{tc_field, tc_verdict, command_in}
 use Rattle.lpt_pus.specs.Telemetry.{tm_field, tm_verdict}
@@ -34,7 +34,7 @@ use Rattle.lpt_journal_examples.specs.Passes.{load_packet, usual}
 -- ---- moves
 
 can_move : CanAll usual new_pair moves
-unfolding seen spelling checksum octets_in shift_all tc_field tc_verdict command_in tm_field
+unfolding packet_seen spelling checksum octets_in shift_all tc_field tc_verdict command_in tm_field
     tm_verdict body_of part_verdict arrival
 can_move = (
   (
@@ -58,7 +58,7 @@ can_move = (
 
 -- the packet may come once more
 comes_again : CanMove usual (after_all usual new_pair moves) (Do (Accept Up load_packet))
-unfolding seen spelling checksum octets_in shift_all tc_field tc_verdict command_in tm_field
+unfolding packet_seen spelling checksum octets_in shift_all tc_field tc_verdict command_in tm_field
     tm_verdict body_of part_verdict arrival first_of_numbers front_load_area front_head request_in
     body_meaning meaning
 comes_again = inl (record {
@@ -73,7 +73,7 @@ comes_again = inl (record {
 
 -- what the spacecraft's node is behind its execution
 craft_is : (after_all usual new_pair moves).ends.on_craft ≡ with_jobs 1 []
-unfolding seen spelling checksum octets_in shift_all tc_field tc_verdict command_in tm_field
+unfolding packet_seen spelling checksum octets_in shift_all tc_field tc_verdict command_in tm_field
     tm_verdict body_of part_verdict arrival
 craft_is = executes 0
 
@@ -157,7 +157,7 @@ resets = (
 )
 
 pub nodes_can_be : NodesCanBe
-unfolding seen spelling checksum octets_in shift_all tc_field tc_verdict command_in tm_field
+unfolding packet_seen spelling checksum octets_in shift_all tc_field tc_verdict command_in tm_field
     tm_verdict body_of part_verdict arrival first_of_numbers front_load_area front_head request_in
     body_meaning meaning
 nodes_can_be = record {

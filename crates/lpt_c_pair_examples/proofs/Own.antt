@@ -4,9 +4,9 @@ use Rattle.lpt_events.specs.declared.side.Side.{Side}
 use Rattle.lpt_events.specs.declared.side.Side.TheVariants.{Craft}
 use Rattle.lpt_jobs.specs.declared.job.Job.{Job}
 use Rattle.lpt_jobs.specs.declared.job.Job.TheVariants.{Committed}
-use Rattle.lpt_node.specs.Jobs.{Execution, executed, refusal_apply}
+use Rattle.lpt_node.specs.Jobs.{Execution, job_executed, refusal_apply}
 use Rattle.lpt_node.specs.Nodes.{NodeData, NodeView, no_data}
-use Rattle.lpt_state.specs.Spellings.{spelled}
+use Rattle.lpt_state.specs.Spellings.{state_spelled}
 use Rattle.lpt_c_end.specs.Changes.{IsNew, IsNewWith, execution_by}
 use Rattle.lpt_c_end.specs.Contents.{memories_of, memories_told}
 use Rattle.lpt_c_end.specs.Keeping.{IsResumedWith}
@@ -85,7 +85,7 @@ module _ (k : End) (new_k : IsNew Craft usual memory content k) where
   -- an execution over the memory as it was
   over : (d : NodeData)
       → execution_by k.config k.memories d
-      ≡ ((executed usual d usual_memories).0, Here (executed usual d usual_memories).1)
+      ≡ ((job_executed usual d usual_memories).0, Here (job_executed usual d usual_memories).1)
   over d = λ i. execution_by (new_k.config i) (new_k.memories i) d
 
   -- the place of a dropped request is passed over
@@ -138,13 +138,13 @@ module _ (k : End) (new_k : IsNew Craft usual memory content k) where
   -- an end with the load is restored from its state
   pub resumes_it : (first : ℕ)
       → let e = behind first [] none_read in
-      IsDone (Resume e.config (spelled e.node) memory loaded_content) e
+      IsDone (Resume e.config (state_spelled e.node) memory loaded_content) e
       (again_behind first [] none_read)
-      × IsKept usual e e.config (spelled e.node) (memories_of e.side memory loaded_content)
+      × IsKept usual e e.config (state_spelled e.node) (memories_of e.side memory loaded_content)
   resumes_it first =
       let e : End = behind first [] none_read in
       let new : End = again_behind first [] none_read in (
-        subst (λ (s : Side). IsResumedWith s e.config (spelled e.node)
+        subst (λ (s : Side). IsResumedWith s e.config (state_spelled e.node)
             (memories_of s memory loaded_content) new) (sym new_k.side)
             (resumes e first [] refl new_k.config new last_kept new_k.side new_k.side refl refl refl refl
             refl),

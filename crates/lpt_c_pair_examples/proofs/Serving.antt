@@ -1,7 +1,7 @@
 -- The worked run that drops a request, computed by the definitions.
 use Rattle.std.proofs.Common.{refl, List, [], ◌∷◌, None, inl, arith}
 use Rattle.lpt_packet.specs.Checksums.{checksum, octets_in, shift_all}
-use Rattle.lpt_packet.specs.Packets.{seen, spelling}
+use Rattle.lpt_packet.specs.Packets.{packet_seen, spelling}
 use Rattle.lpt_packet.specs.declared.direction.Direction.TheVariants.{Up}
 use Rattle.lpt_pus.specs.Commands.{tc_field, tc_verdict, command_in}
 use Rattle.lpt_pus.specs.Telemetry.{tm_field, tm_verdict}
@@ -13,7 +13,7 @@ use Rattle.lpt_c_end.specs.Changes.{IsNew}
 use Rattle.lpt_c_end.specs.Contents.{memories_told}
 use Rattle.lpt_c_end.specs.declared.end.End.{End}
 use Rattle.lpt_c_pair.specs.Pasts.{CanGoAll, just_begun}
-use Rattle.lpt_c_pair.specs.Services.{CanServeAll, Deed, Serving, no_serving}
+use Rattle.lpt_c_pair.specs.Services.{CanServeAll, ServiceDeed, Serving, no_serving}
 use Rattle.lpt_c_pair_examples.specs.Called.{content, memory, usual_own}
 use Rattle.lpt_c_pair_examples.specs.Dropped.{DroppedCanBe, dropped_and_reset, dropped_once}
 use Rattle.lpt_c_pair_examples.proofs.Computed.{asked, nothing, octets, packet_is, source}
@@ -75,11 +75,11 @@ module _ (g k : End) (new_g : IsNew Ground usual [] [] g)
   abbrev start : Serving
   start = no_serving usual (memories_told content memory) 0 usual_own g k
 
-  abbrev run : List Deed
+  abbrev run : List ServiceDeed
   run = dropped_once asked_for taken dropped again read passed done
 
   can : CanServeAll usual start run
-  unfolding seen spelling checksum octets_in shift_all tc_field tc_verdict command_in tm_field
+  unfolding packet_seen spelling checksum octets_in shift_all tc_field tc_verdict command_in tm_field
       tm_verdict body_of part_verdict arrival
   can = (
     (
@@ -161,7 +161,7 @@ module _ (g k : End) (new_g : IsNew Ground usual [] [] g)
   )
 
 pub dropped_can_be : DroppedCanBe
-unfolding seen spelling checksum octets_in shift_all tc_field tc_verdict command_in tm_field
+unfolding packet_seen spelling checksum octets_in shift_all tc_field tc_verdict command_in tm_field
     tm_verdict body_of part_verdict arrival
 dropped_can_be g k new_g new_k = record {
   asked = asked_for g k new_g new_k;

@@ -14,15 +14,15 @@ use Rattle.lpt_events.specs.declared.config.Config.{Config}
 use Rattle.lpt_events.specs.declared.side.Side.TheVariants.{Ground, Craft}
 use Rattle.lpt_jobs.specs.declared.job.Job.{Job}
 use Rattle.lpt_jobs.specs.declared.job.Job.TheVariants.{Committed, Waiting}
-use Rattle.lpt_node.specs.Accepting.{accepted}
+use Rattle.lpt_node.specs.Accepting.{packet_accepted}
 use Rattle.lpt_node.specs.declared.accepted.Accepted.{Accepted}
 use Rattle.lpt_node.specs.Jobs.{refusal_claim}
 use Rattle.lpt_node.specs.Nodes.{NodeData, NodeView, is_open, no_data}
 use Rattle.lpt_node.specs.Receiving.{plain_released}
 use Rattle.lpt_node.specs.Requests.{plain_made, refusal_plain}
-use Rattle.lpt_node.specs.Restarts.{restarted}
+use Rattle.lpt_node.specs.Restarts.{node_restarted}
 use Rattle.lpt_state.specs.Lastings.{IsEnd}
-use Rattle.lpt_state.specs.Spellings.{spelled}
+use Rattle.lpt_state.specs.Spellings.{state_spelled}
 use Rattle.lpt_state.specs.Verdicts.{reading}
 use Rattle.lpt_state.proofs.LawLemmas.{written_is_read}
 use Rattle.lpt_c_end.specs.Changes.{IsDropped, IsNew, IsNewWith, delivery, read_as, read_as_by, read_by, read_over}
@@ -126,11 +126,11 @@ module _ (kept : Kept) (has : sizes_in kept ≡ Some one)
   -- restored from what was kept of that
   abbrev pub again_end : (first : ℕ) (jobs : List Job) → AreRead jobs → End
   again_end first jobs all =
-      made k (restarted (with_jobs first jobs)) None [] (omega arith)
+      made k (node_restarted (with_jobs first jobs)) None [] (omega arith)
       (subst (λ (o : Kept).
-      IsReady (record k.node { at = restarted (with_jobs first jobs) }) (sizes_in o))
+      IsReady (record k.node { at = node_restarted (with_jobs first jobs) }) (sizes_in o))
       (sym new_k.memories)
-      (is_ready (record k.node { at = restarted (with_jobs first jobs) }) kept
+      (is_ready (record k.node { at = node_restarted (with_jobs first jobs) }) kept
       (ap (λ (n : NodeView). n.config) new_k.node) has none_read))
 
   -- a packet of the load is taken by an end that is as a new one but for its requests
@@ -147,9 +147,9 @@ module _ (kept : Kept) (has : sizes_in kept ≡ Some one)
   takes_at e first jobs all side config node outbox memories same_side same_config =
       let d : NodeData = with_jobs first (jobs ++ Waiting load_packet ∷ []) in
       let is : delivery e load_packet ≡ (d, plain_released load_packet) =
-      (λ i. accepted (side i) (config i) (node i) (arrival (side i)
+      (λ i. packet_accepted (side i) (config i) (node i) (arrival (side i)
       (config i).apid (config i).part_size load_packet))
-      ∙ ap (λ (a : Arrival). accepted Craft usual (with_jobs first jobs) a) arrives in
+      ∙ ap (λ (a : Arrival). packet_accepted Craft usual (with_jobs first jobs) a) arrives in
       record {
         node = ap (λ (x : NodeData × Accepted). x.0) (sym is);
         released = ap (λ (x : NodeData × Accepted). x.1.released) (sym is);
@@ -256,16 +256,16 @@ module _ (e : End) (first : ℕ) (jobs : List Job) (node : e.node.at ≡ with_jo
       → e.side ≡ Craft
       → new.side ≡ Craft
       → new.config ≡ e.config
-      → new.node ≡ record e.node { at = restarted e.node.at }
+      → new.node ≡ record e.node { at = node_restarted e.node.at }
       → new.memories ≡ kept
       → new.released ≡ None
       → new.outbox.items ≡ []
-      → IsResumedWith Craft e.config (spelled e.node) kept new
+      → IsResumedWith Craft e.config (state_spelled e.node) kept new
   resumes new kept was side config same memories released outbox = record {
     side = side;
     config = config;
     node =
-        (λ i. reading (sym (e.same_side ∙ was) i) (sym e.same_config i) (spelled e.node))
+        (λ i. reading (sym (e.same_side ∙ was) i) (sym e.same_config i) (state_spelled e.node))
         ∙ written_is_read e.node is_end boot_left
         ∙ ap Ok (sym same);
     memories = memories;
@@ -276,13 +276,13 @@ module _ (e : End) (first : ℕ) (jobs : List Job) (node : e.node.at ≡ with_jo
   -- what was kept of it is this
   pub is_kept : (kept : Kept)
       → kept ≡ e.memories
-      → IsKept usual e e.config (spelled e.node) kept
+      → IsKept usual e e.config (state_spelled e.node) kept
   is_kept kept memories = record {
     own = usual_own;
     configured = usually;
     state_is = refl;
     reads = λ left.
-        (λ i. reading (sym e.same_side i) (sym e.same_config i) (spelled e.node))
+        (λ i. reading (sym e.same_side i) (sym e.same_config i) (state_spelled e.node))
         ∙ written_is_read e.node is_end left;
     number_left = boot_left;
     memories = memories;

@@ -2,7 +2,7 @@
 use Rattle.std.proofs.Common.{◌≡◌, refl, List, [], ◌∷◌, None, inl, arith}
 use Rattle.lpt_c_pair_examples.specs.Called.{usual_own}
 use Rattle.lpt_packet.specs.Checksums.{checksum, octets_in, shift_all}
-use Rattle.lpt_packet.specs.Packets.{seen, spelling}
+use Rattle.lpt_packet.specs.Packets.{packet_seen, spelling}
 use Rattle.lpt_packet.specs.declared.direction.Direction.TheVariants.{Up}
 use Rattle.lpt_pus.specs.Commands.{tc_field, tc_verdict, command_in}
 use Rattle.lpt_pus.specs.Telemetry.{tm_field, tm_verdict}
@@ -14,7 +14,7 @@ use Rattle.lpt_c_end.specs.Accesses.{unready}
 use Rattle.lpt_c_end.specs.Changes.{IsNew, IsReadDropped}
 use Rattle.lpt_c_end.specs.Sizes.{IsNewSized, kept_as}
 use Rattle.lpt_c_end.specs.declared.end.End.{End}
-use Rattle.lpt_c_pair.specs.Keepers.{Act, Does, Gives, Keeper, TakesBack, Writes, CanKeepAll, new_keeper}
+use Rattle.lpt_c_pair.specs.Keepers.{KeeperAct, Does, Gives, Keeper, TakesBack, Writes, CanKeepAll, new_keeper}
 use Rattle.lpt_c_pair.specs.Outages.{CanLiveAll, just_begun}
 use Rattle.lpt_c_pair.specs.Pairs.{Packet, Plain, Read}
 use Rattle.lpt_c_pair.specs.Services.{Calls, DropsRead}
@@ -68,7 +68,7 @@ module _ (g k : End) (new_g : IsNew Ground usual [] [] g) (new_k : IsNewSized us
   -- ---- the run
 
   -- up to the execution
-  abbrev run : List Act
+  abbrev run : List KeeperAct
   run =
       Gives [] (load_told ∷ []) given
       ∷ Does (Calls (record { side = Craft; call = Read; new = read_again }))
@@ -82,7 +82,7 @@ module _ (g k : End) (new_g : IsNew Ground usual [] [] g) (new_k : IsNewSized us
       ∷ []
 
   can : CanKeepAll usual start run
-  unfolding seen spelling checksum octets_in shift_all tc_field tc_verdict command_in tm_field
+  unfolding packet_seen spelling checksum octets_in shift_all tc_field tc_verdict command_in tm_field
       tm_verdict body_of part_verdict arrival
   can = (
     (
@@ -167,7 +167,7 @@ module _ (g k : End) (new_g : IsNew Ground usual [] [] g) (new_k : IsNewSized us
 
   can_live : CanLiveAll usual start (just_begun start)
       (taken_back asked_for taken read let_go again read_again given resumed)
-  unfolding seen spelling checksum octets_in shift_all tc_field tc_verdict command_in tm_field
+  unfolding packet_seen spelling checksum octets_in shift_all tc_field tc_verdict command_in tm_field
       tm_verdict body_of part_verdict arrival
   can_live = (
     (
@@ -205,7 +205,7 @@ module _ (g k : End) (new_g : IsNew Ground usual [] [] g) (new_k : IsNewSized us
   )
 
 pub written_can_be_taken_back : WrittenCanBeTakenBack
-unfolding seen spelling checksum octets_in shift_all tc_field tc_verdict command_in tm_field
+unfolding packet_seen spelling checksum octets_in shift_all tc_field tc_verdict command_in tm_field
     tm_verdict body_of part_verdict arrival
 written_can_be_taken_back g k new_g new_k = record {
   asked = asked_for g k new_g new_k;

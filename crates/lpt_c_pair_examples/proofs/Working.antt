@@ -4,15 +4,15 @@ use Rattle.std.specs.Prelude.{slice_get}
 use Rattle.std.specs.Option.{option_map}
 use Rattle.lpt_c_pair_examples.specs.Called.{usual_own}
 use Rattle.lpt_packet.specs.Checksums.{checksum, octets_in, shift_all}
-use Rattle.lpt_packet.specs.Packets.{seen, spelling}
+use Rattle.lpt_packet.specs.Packets.{packet_seen, spelling}
 use Rattle.lpt_packet.specs.declared.direction.Direction.TheVariants.{Up}
 use Rattle.lpt_pus.specs.Commands.{tc_field, tc_verdict, command_in}
 use Rattle.lpt_pus.specs.Telemetry.{tm_field, tm_verdict}
 use Rattle.lpt_part.specs.Parts.{body_of, part_verdict}
 use Rattle.lpt_ledger.specs.LeastFree.{first_of_numbers, least_free_in}
-use Rattle.lpt_memory.specs.Given.{accesses, octets_read, read_length, written}
+use Rattle.lpt_memory.specs.Given.{accesses, octets_read, read_length, octets_written}
 use Rattle.lpt_memory.specs.Meanings.{Meaning, body_meaning, meaning}
-use Rattle.lpt_memory.specs.Readings.{meant}
+use Rattle.lpt_memory.specs.Readings.{source_meaning}
 use Rattle.lpt_memory.specs.Requests.{front_load_area, front_head, request_in}
 use Rattle.lpt_events.specs.Arrivals.{arrival}
 use Rattle.lpt_events.specs.declared.side.Side.TheVariants.{Ground, Craft}
@@ -21,7 +21,7 @@ use Rattle.lpt_jobs.specs.declared.job.Job.{Job}
 use Rattle.lpt_jobs.specs.declared.job.Job.TheVariants.{Waiting, Committed}
 use Rattle.lpt_node.specs.Jobs.{executed_given}
 use Rattle.lpt_node.specs.Nodes.{NodeData, no_data}
-use Rattle.lpt_state.specs.Spellings.{spelled}
+use Rattle.lpt_state.specs.Spellings.{state_spelled}
 use Rattle.lpt_apart.specs.Facts.{Asked, Executed, Released, Restarted}
 use Rattle.lpt_apart.specs.Steps.{with_report}
 use Rattle.lpt_c_end.specs.Accesses.{access_word, written_by}
@@ -32,13 +32,13 @@ use Rattle.lpt_c_end.specs.Refusals.{sending_refusal}
 use Rattle.lpt_c_end.specs.Sizes.{IsNewSized, kept_as}
 use Rattle.lpt_c_end.specs.declared.end.End.{End}
 use Rattle.lpt_c_pair.specs.Pairs.{ExecuteGiven, IsDone, IsKept, ResumeSized}
-use Rattle.lpt_c_pair.specs.Programs.{CanActAll, Gives, IsTold, Program, Calls, started}
+use Rattle.lpt_c_pair.specs.Programs.{CanActAll, Gives, IsTold, Program, Calls, program_started}
 use Rattle.lpt_c_pair.specs.Pairs.{Packet, Plain, Read}
 use Rattle.lpt_c_pair.specs.Resets.{AreCareful, CanLiveAll, just_begun}
 use Rattle.lpt_c_pair.specs.Runs.{CanStand}
 use Rattle.lpt_c_pair.specs.Withheld.{turns_of}
 use Rattle.lpt_c_pair.proofs.Careful.{careful_machines_may_be_reset}
-use Rattle.lpt_c_pair_examples.specs.Worked.{TornCanBeRedone, WorkedCanBe, WrittenCanBePutBack, load_told, sizes, torn_and_redone, worked, written_and_put_back}
+use Rattle.lpt_c_pair_examples.specs.Worked.{TornCanBeRedone, WorkedCanBe, WrittenCanBePutBack, load_told, sizes, torn_and_redone, worked_acts, written_and_put_back}
 use Rattle.lpt_c_pair_examples.proofs.Computed.{asked, gives, gives_quietly, means, octets, opens_nothing, packet_is, source, with_jobs}
 use Rattle.lpt_c_pair_examples.proofs.Stages.{AreRead, again_end, asked_end, asks, craft_end, is_kept, none_read, one_read, one_waits, reads, resumes, takes}
 use Rattle.lpt_journal_examples.specs.Passes.{load, load_packet, usual, usual_memories}
@@ -84,18 +84,18 @@ module _ (k : End) (new_k : IsNewSized usual sizes k) where
   told first = record {
     access =
         ap (λ (m : Meaning). option_map access_word (slice_get (accesses m) 0)) means;
-    octets = ap (λ (m : Meaning). text_or_nothing (slice_get (written m) 0)) means;
+    octets = ap (λ (m : Meaning). text_or_nothing (slice_get (octets_written m) 0)) means;
   }
 
   pub no_more : (first : ℕ)
       → written_by 1 (Some (craft first (Committed source ∷ []) one_done)) ≡ Err nothing
-  no_more first = ap (λ (m : Meaning). text_or_nothing (slice_get (written m) 1)) means
+  no_more first = ap (λ (m : Meaning). text_or_nothing (slice_get (octets_written m) 1)) means
 
   -- it is restored from its state
   pub resumes_it : (first : ℕ) (jobs : List Job) (all : AreRead jobs)
       → let e = craft first jobs all in
-      IsDone (ResumeSized e.config (spelled e.node) sizes) e (craft_again first jobs all)
-      × IsKept usual e e.config (spelled e.node) (kept_as sizes)
+      IsDone (ResumeSized e.config (state_spelled e.node) sizes) e (craft_again first jobs all)
+      × IsKept usual e e.config (state_spelled e.node) (kept_as sizes)
   resumes_it first jobs all =
       let e : End = craft first jobs all in (
         resumes e first jobs refl new_k.config (craft_again first jobs all) (kept_as sizes) new_k.side
@@ -104,7 +104,7 @@ module _ (k : End) (new_k : IsNewSized usual sizes k) where
       )
 
 -- what the load reads of memories
-pub reads_nothing : octets_read (meant source) usual_memories ≡ []
+pub reads_nothing : octets_read (source_meaning source) usual_memories ≡ []
 reads_nothing = ap (λ (m : Meaning). octets_read m usual_memories) means
 
 -- ---- the runs
@@ -129,7 +129,7 @@ module _ (g k : End) (new_g : IsNew Ground usual [] [] g) (new_k : IsNewSized us
   again_before = craft_again k new_k 0 (Committed source ∷ []) one_done
 
   abbrev start : Program
-  start = started usual usual_memories 0 usual_own g k
+  start = program_started usual usual_memories 0 usual_own g k
 
   -- up to the execution
   can_give : CanActAll usual start (Gives [] (load_told ∷ []) given
@@ -176,11 +176,11 @@ module _ (g k : End) (new_g : IsNew Ground usual [] [] g) (new_k : IsNewSized us
     ),
   )
 
-  can : CanActAll usual start (worked asked_for taken read given again)
+  can : CanActAll usual start (worked_acts asked_for taken read given again)
   can = ((can_give, tt), (resumes_it k new_k 1 [] none_read, refl))
 
   -- the calls alone
-  stands : CanStand usual start.ends (turns_of (worked asked_for taken read given again))
+  stands : CanStand usual start.ends (turns_of (worked_acts asked_for taken read given again))
   stands = (
     (
       (
@@ -236,7 +236,7 @@ module _ (g k : End) (new_g : IsNew Ground usual [] [] g) (new_k : IsNewSized us
   )
 
 pub worked_can_be : WorkedCanBe
-unfolding seen spelling checksum octets_in shift_all tc_field tc_verdict command_in tm_field
+unfolding packet_seen spelling checksum octets_in shift_all tc_field tc_verdict command_in tm_field
     tm_verdict body_of part_verdict arrival first_of_numbers front_load_area front_head request_in
     body_meaning meaning
 worked_can_be g k new_g new_k = record {

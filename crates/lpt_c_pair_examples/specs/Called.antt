@@ -8,12 +8,12 @@ use Rattle.lpt_c_end.specs.Contents.{memories_told}
 use Rattle.lpt_c_end.specs.declared.end.End.{End}
 use Rattle.lpt_c_end.specs.declared.kept.Kept.TheVariants.{Here}
 use Rattle.lpt_c_end.specs.declared.memories.LptMemory.{LptMemory}
-use Rattle.lpt_c_pair.specs.Histories.{Deed, Keeps, Makes, Resets, AreCareful, CanGoOnAll, gone_all, just_begun}
+use Rattle.lpt_c_pair.specs.Histories.{CallDeed, Keeps, Makes, Resets, AreCareful, CanGoOnAll, gone_all, just_begun}
 use Rattle.lpt_c_pair.specs.Pairs.{Execute, Packet, Plain, Read, Resume}
-use Rattle.lpt_c_pair.specs.Runs.{Standing, Turn, CanStand, begun, stood}
+use Rattle.lpt_c_pair.specs.Runs.{Standing, CallTurn, CanStand, standing_begun, stood}
 use Rattle.lpt_events.specs.declared.side.Side.TheVariants.{Ground, Craft}
 use Rattle.lpt_journal_examples.specs.Passes.{load, load_packet, loaded_memories, usual}
-use Rattle.lpt_state.specs.Spellings.{spelled}
+use Rattle.lpt_state.specs.Spellings.{state_spelled}
 
 -- what the spacecraft has of its own: the clock and the limits of the configuration
 abbrev pub usual_own : Own
@@ -32,11 +32,11 @@ loaded_content = replicate 16 0 ++ 171 ∷ 205 ∷ 239 ∷ 1 ∷ replicate 236 0
 -- Ground asks for a load, and its packet is handed to the spacecraft. That reads the request,
 -- executes it, and is restored from its state. The newest stands first; these are the ends that
 -- came of it.
-abbrev pub calls_made : (asked taken read done again : End) → List Turn
+abbrev pub calls_made : (asked taken read done again : End) → List CallTurn
 calls_made asked taken read done again =
     record {
       side = Craft;
-      call = Resume done.config (spelled done.node) memory loaded_content;
+      call = Resume done.config (state_spelled done.node) memory loaded_content;
       new = again;
     }
     ∷ record { side = Craft; call = Execute; new = done }
@@ -52,9 +52,9 @@ called_log =
 
 -- The same, where both ends are kept before anything that depends on it is handed over, and the
 -- spacecraft's machine is reset when the packet has come once more: that is deleted.
-abbrev pub called_and_reset : (asked taken read done more again : End) → List Deed
+abbrev pub called_and_reset : (asked taken read done more again : End) → List CallDeed
 called_and_reset asked taken read done more again =
-    Resets Craft done.config (spelled done.node) memory loaded_content again
+    Resets Craft done.config (state_spelled done.node) memory loaded_content again
     ∷ Makes (record { side = Craft; call = Packet load_packet; new = more })
     ∷ Keeps Craft
     ∷ Makes (record { side = Craft; call = Execute; new = done })
@@ -92,4 +92,4 @@ CallsCanBe =
     (g k : End)
     → IsNew Ground usual [] [] g
     → IsNew Craft usual memory content k
-    → CanBeCalled (begun usual (memories_told content memory) 0 usual_own g k)
+    → CanBeCalled (standing_begun usual (memories_told content memory) 0 usual_own g k)

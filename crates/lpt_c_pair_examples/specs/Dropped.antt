@@ -5,17 +5,17 @@ use Rattle.lpt_c_end.specs.Contents.{memories_told}
 use Rattle.lpt_c_end.specs.declared.end.End.{End}
 use Rattle.lpt_c_end.specs.declared.kept.Kept.TheVariants.{Here}
 use Rattle.lpt_c_pair.specs.Pairs.{Execute, Packet, Plain, Read, Tick}
-use Rattle.lpt_c_pair.specs.Pasts.{Does, Event, Keeps, Resets, CanGoAll, just_begun, went_all}
-use Rattle.lpt_c_pair.specs.Services.{Calls, Deed, Drops, Serving, CanServeAll, no_serving, served_all}
+use Rattle.lpt_c_pair.specs.Pasts.{Does, PastEvent, Keeps, Resets, CanGoAll, just_begun, went_all}
+use Rattle.lpt_c_pair.specs.Services.{Calls, ServiceDeed, Drops, Serving, CanServeAll, no_serving, served_all}
 use Rattle.lpt_events.specs.declared.side.Side.TheVariants.{Ground, Craft}
 use Rattle.lpt_c_pair_examples.specs.Called.{content, loaded_content, memory, usual_own}
 use Rattle.lpt_journal_examples.specs.Passes.{load, load_packet, loaded_memories, usual}
-use Rattle.lpt_state.specs.Spellings.{spelled}
+use Rattle.lpt_state.specs.Spellings.{state_spelled}
 
 -- Ground asks for a load, whose packet is handed over twice. The program drops the request that
 -- comes first; it reads the second, and executes both in their turn. The newest stands first; these
 -- are the ends that came of it.
-abbrev pub dropped_once : (asked taken dropped again read passed done : End) → List Deed
+abbrev pub dropped_once : (asked taken dropped again read passed done : End) → List ServiceDeed
 dropped_once asked taken dropped again read passed done =
     Calls (record { side = Craft; call = Execute; new = done })
     ∷ Calls (record { side = Craft; call = Execute; new = passed })
@@ -27,21 +27,22 @@ dropped_once asked taken dropped again read passed done =
     ∷ []
 
 -- the same as what programs do whose machines are reset
-abbrev pub done_by : List Deed → List Event
+abbrev pub done_by : List ServiceDeed → List PastEvent
 done_by [] = []
 done_by (x ∷ xs) = Does x ∷ done_by xs
 
 -- The spacecraft's end is kept then, and its machine is reset behind the next tick of its clock:
 -- that is deleted, and the end is made again.
-abbrev pub dropped_and_reset : (xs : List Deed) → (done ticked resumed : End) → List Event
+abbrev pub dropped_and_reset : (xs : List ServiceDeed) → (done ticked resumed : End)
+    → List PastEvent
 dropped_and_reset xs done ticked resumed =
-    Resets Craft done.config (spelled done.node) memory loaded_content resumed
+    Resets Craft done.config (state_spelled done.node) memory loaded_content resumed
     ∷ Does (Calls (record { side = Craft; call = Tick; new = ticked }))
     ∷ Keeps Craft
     ∷ done_by xs
 
 -- what is left of all that was done
-abbrev pub left_of : (start : Serving) → List Event → Serving
+abbrev pub left_of : (start : Serving) → List PastEvent → Serving
 left_of start xs = served_all usual start (went_all (just_begun start) xs).deeds
 
 -- ends that come of it; what was executed, and the memories that the spacecraft's end has: behind

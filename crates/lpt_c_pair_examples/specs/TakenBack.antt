@@ -6,13 +6,13 @@ use Rattle.lpt_c_end.specs.Changes.{IsNew}
 use Rattle.lpt_c_end.specs.Sizes.{IsNewSized}
 use Rattle.lpt_c_end.specs.declared.end.End.{End}
 use Rattle.lpt_c_pair.specs.Keepers.{Does, Gives, Keeper, Puts, Settles, TakesBack, Writes, CanKeepAll, kept_all, new_keeper}
-use Rattle.lpt_c_pair.specs.Outages.{Acts, Event, Keeps, ResetsCraft, CanLiveAll, just_begun, lived_all}
+use Rattle.lpt_c_pair.specs.Outages.{Acts, OutageEvent, Keeps, ResetsCraft, CanLiveAll, just_begun, lived_all}
 use Rattle.lpt_c_pair.specs.Pairs.{Packet, Plain, Read}
 use Rattle.lpt_c_pair.specs.Services.{Calls, DropsRead}
 use Rattle.lpt_c_pair_examples.specs.Worked.{load_told, sizes, torn}
 use Rattle.lpt_events.specs.declared.side.Side.TheVariants.{Ground, Craft}
 use Rattle.lpt_journal_examples.specs.Passes.{load, load_packet, loaded_memories, usual, usual_memories}
-use Rattle.lpt_state.specs.Spellings.{spelled}
+use Rattle.lpt_state.specs.Spellings.{state_spelled}
 
 -- Ground asks for a load, whose packet is handed over twice. The program reads the request that
 -- comes first, writes the load, puts back what stood there, and lets the request go. It reads the
@@ -20,10 +20,10 @@ use Rattle.lpt_state.specs.Spellings.{spelled}
 -- machine is reset; its end is made again, and the write is made again. The newest stands first;
 -- these are the ends that came of it.
 abbrev pub taken_back : (asked taken read let_go again read_again given resumed : End)
-    → List Event
+    → List OutageEvent
 taken_back asked taken read let_go again read_again given resumed =
     Acts Settles
-    ∷ ResetsCraft given.config (spelled given.node) sizes torn resumed
+    ∷ ResetsCraft given.config (state_spelled given.node) sizes torn resumed
     ∷ Acts (Puts torn)
     ∷ Keeps Craft
     ∷ Acts (Gives [] (load_told ∷ []) given)
@@ -38,7 +38,7 @@ taken_back asked taken read let_go again read_again given resumed =
     ∷ []
 
 -- what is left of all that was done
-abbrev pub left_of : (start : Keeper) → List Event → Keeper
+abbrev pub left_of : (start : Keeper) → List OutageEvent → Keeper
 left_of start xs = kept_all usual start (lived_all usual start (just_begun start) xs).acts
 
 -- ends that come of it; what is left of all that was done can be done, what was executed in it, and

@@ -5,22 +5,22 @@ use Rattle.lpt_c_end.specs.Sizes.{IsNewSized}
 use Rattle.lpt_c_end.specs.declared.end.End.{End}
 use Rattle.lpt_c_end.specs.declared.sizing.LptSize.{LptSize}
 use Rattle.lpt_c_pair.specs.Pairs.{Packet, Plain, Read, ResumeSized}
-use Rattle.lpt_c_pair.specs.Programs.{Act, Calls, Gives, Program, Puts, Settles, Told, Writes, CanActAll, came_by, started}
-use Rattle.lpt_c_pair.specs.Resets.{Deed, Does, Keeps, ResetsCraft, AreCareful, CanLiveAll, just_begun, lived_all}
+use Rattle.lpt_c_pair.specs.Programs.{Act, Calls, Gives, Program, Puts, Settles, ToldWrite, Writes, CanActAll, came_by, program_started}
+use Rattle.lpt_c_pair.specs.Resets.{ActDeed, Does, Keeps, ResetsCraft, AreCareful, CanLiveAll, just_begun, lived_all}
 use Rattle.lpt_c_pair.specs.Runs.{CanStand}
 use Rattle.lpt_c_pair.specs.Withheld.{turns_of}
 use Rattle.lpt_c_pair_examples.specs.Called.{called_log, usual_own}
 use Rattle.lpt_events.specs.declared.side.Side.TheVariants.{Ground, Craft}
 use Rattle.lpt_journal_examples.specs.Passes.{load, load_packet, loaded_memories, usual, usual_memories}
 use Rattle.lpt_memory.specs.Memories.{Contents}
-use Rattle.lpt_state.specs.Spellings.{spelled}
+use Rattle.lpt_state.specs.Spellings.{state_spelled}
 
 -- the size of the one memory
 abbrev pub sizes : List LptSize
 sizes = record { id = 1; len = 256 } ∷ []
 
 -- the one write that the load asks for, as C is told it
-abbrev pub load_told : Told
+abbrev pub load_told : ToldWrite
 load_told = record {
   access = record { memory = 1; write = 1; address = 16; len = 4 };
   octets = 171 ∷ 205 ∷ 239 ∷ 1 ∷ [];
@@ -29,11 +29,11 @@ load_told = record {
 -- Ground asks for a load, and its packet is handed to the spacecraft. That reads the request and
 -- executes it, with its write owed; writes it; and is restored from its state. The newest stands
 -- first; these are the ends that came of it.
-abbrev pub worked : (asked taken read given again : End) → List Act
-worked asked taken read given again =
+abbrev pub worked_acts : (asked taken read given again : End) → List Act
+worked_acts asked taken read given again =
     Calls (record {
       side = Craft;
-      call = ResumeSized given.config (spelled given.node) sizes;
+      call = ResumeSized given.config (state_spelled given.node) sizes;
       new = again;
     })
     ∷ Settles
@@ -51,12 +51,12 @@ pub record CanBe (start : Program) : Type 0 where
   pub read : End
   pub given : End
   pub again : End
-  pub can : CanActAll usual start (worked asked taken read given again)
-  pub log : (came_by usual start (worked asked taken read given again)).ends.pair.ends.log
+  pub can : CanActAll usual start (worked_acts asked taken read given again)
+  pub log : (came_by usual start (worked_acts asked taken read given again)).ends.pair.ends.log
       ≡ called_log
-  pub left : (came_by usual start (worked asked taken read given again)).memories
+  pub left : (came_by usual start (worked_acts asked taken read given again)).memories
       ≡ loaded_memories
-  pub stands : CanStand usual start.ends (turns_of (worked asked taken read given again))
+  pub stands : CanStand usual start.ends (turns_of (worked_acts asked taken read given again))
 
 -- whatever two new ends there are
 abbrev pub WorkedCanBe : Type 0
@@ -64,7 +64,7 @@ WorkedCanBe =
     (g k : End)
     → IsNew Ground usual [] [] g
     → IsNewSized usual sizes k
-    → CanBe (started usual usual_memories 0 usual_own g k)
+    → CanBe (program_started usual usual_memories 0 usual_own g k)
 
 -- ---- a reset
 
@@ -76,10 +76,10 @@ torn = (1, replicate 16 0 ++ 171 ∷ 205 ∷ replicate 238 0) ∷ []
 -- behind the execution, with the write that is owed; the machine is reset in the middle of that
 -- write; and once the end was restored from what was kept, the write is made again. The newest
 -- stands first.
-abbrev pub torn_and_redone : (asked taken read given again : End) → List Deed
+abbrev pub torn_and_redone : (asked taken read given again : End) → List ActDeed
 torn_and_redone asked taken read given again =
     Does Settles
-    ∷ ResetsCraft given.config (spelled given.node) sizes torn again
+    ∷ ResetsCraft given.config (state_spelled given.node) sizes torn again
     ∷ Does (Puts torn)
     ∷ Keeps Craft
     ∷ Does (Gives [] (load_told ∷ []) given)
@@ -109,14 +109,14 @@ TornCanBeRedone =
     (g k : End)
     → IsNew Ground usual [] [] g
     → IsNewSized usual sizes k
-    → CanBeRedone (started usual usual_memories 0 usual_own g k)
+    → CanBeRedone (program_started usual usual_memories 0 usual_own g k)
 
 -- The end is kept before the load is written; the machine is reset once it is written and before
 -- the request is executed; what stood there is put back; and the end is made again. The newest
 -- stands first.
-abbrev pub written_and_put_back : (asked taken read again : End) → List Deed
+abbrev pub written_and_put_back : (asked taken read again : End) → List ActDeed
 written_and_put_back asked taken read again =
-    ResetsCraft read.config (spelled read.node) sizes usual_memories again
+    ResetsCraft read.config (state_spelled read.node) sizes usual_memories again
     ∷ Does (Writes load_told)
     ∷ Keeps Craft
     ∷ Does (Calls (record { side = Craft; call = Read; new = read }))
@@ -139,4 +139,4 @@ WrittenCanBePutBack =
     (g k : End)
     → IsNew Ground usual [] [] g
     → IsNewSized usual sizes k
-    → CanBePutBack (started usual usual_memories 0 usual_own g k)
+    → CanBePutBack (program_started usual usual_memories 0 usual_own g k)

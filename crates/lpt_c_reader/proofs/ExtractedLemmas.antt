@@ -13,7 +13,7 @@ use Rattle.lpt_extract.specs.declared.extracted.ExtractEnd.{ExtractEnd}
 use Rattle.lpt_extract.specs.declared.extracted.ExtractEnd.TheVariants as ends
 use Rattle.lpt_extract.specs.declared.extracted.Extracted.{Extracted}
 use Rattle.lpt_extract.specs.declared.notice.Notice.{Notice}
-use Rattle.lpt_extract.specs.declared.wanted.Place.{Place}
+use Rattle.lpt_extract.specs.declared.wanted.ImagePlace.{ImagePlace}
 use Rattle.lpt_extract.specs.declared.wanted.Wanted.{Wanted}
 use Rattle.lpt_memory.specs.declared.request.Area.{Area}
 use Rattle.lpt_packet.proofs.Readings.{eq_false}

@@ -4,7 +4,7 @@ use Rattle.lpt_carried.specs.declared.layouts.Layouts.{Layouts}
 use Rattle.lpt_carried.specs.declared.layouts.Tailored.{Tailored}
 use Rattle.lpt_carried.specs.declared.reading.Reading.{Reading}
 use Rattle.lpt_carried.specs.Carried.{cut}
-use Rattle.lpt_carried.specs.Layouts.{tailored}
+use Rattle.lpt_carried.specs.Layouts.{tailored_in}
 use Rattle.lpt_packet.specs.declared.direction.Direction.{Direction}
 use Rattle.lpt_reader.specs.Fronts.{cut_by}
 use Rattle.lpt_reader.specs.Items.{untold}
@@ -38,7 +38,7 @@ if_held F o a b is same h =
 pub new_join : (d apid any p : ℕ) (text : List ℕ) (l : Layouts) (dir : Direction) (t : Tailored)
     (r : Reading) (a : Archive)
     → dir ≡ direction_from d
-    → t ≡ tailored dir l
+    → t ≡ tailored_in dir l
     → IsReading dir apid t r
     → Means p text l
     → a.layouts ≡ l
@@ -54,7 +54,7 @@ new_join d apid any p text l dir t r a de te is means le told ended reads cut_is
       reading = r;
       reading_is =
           subst (λ (x : Tailored). IsReading (direction_from d) apid x r)
-          (te ∙ (λ i. tailored (de i) (sym le i)))
+          (te ∙ (λ i. tailored_in (de i) (sym le i)))
           (subst (λ (x : Direction). IsReading x apid t r) de is);
       layouts = subst (λ (x : Layouts). Means p text x) (sym le) means;
       told = told;

@@ -2,50 +2,50 @@
 use Rattle.std.proofs.Common.{◌≡◌, ◌∙◌, ap, sym, refl, ℕ, suc, ◌+◌, ◌<◌, List, [], ◌∷◌, length, option_map, Option, Some, None, arith}
 use Rattle.lpt_memory.specs.Fields.{◌>>=◌, all_areas}
 use Rattle.lpt_c_reader.specs.Named.{nth_area}
-use Rattle.lpt_c_reader.specs.declared.naming.Found.{Found}
+use Rattle.lpt_c_reader.specs.declared.naming.FoundName.{FoundName}
 use Rattle.lpt_c_reader.specs.declared.naming.Named.{Named}
 
 -- what was found before, or else what is found
-abbrev pub or_else : Option Found → Option Found → Option Found
+abbrev pub or_else : Option FoundName → Option FoundName → Option FoundName
 or_else (Some p) later = Some p
 or_else None later = later
 
-pub or_none : (found : Option Found) → or_else found None ≡ found
+pub or_none : (found : Option FoundName) → or_else found None ≡ found
 or_none (Some p) = refl
 or_none None = refl
 
 -- what is found with what is left
-abbrev pub left : (List ℕ → Option (Named × List ℕ)) → Option Found → (at k n : ℕ) → List ℕ
-    → Option (Option Found)
+abbrev pub left : (List ℕ → Option (Named × List ℕ)) → Option FoundName → (at k n : ℕ) → List ℕ
+    → Option (Option FoundName)
 left one found at k n octets =
     option_map (λ xs. or_else found (nth_area at k xs)) (all_areas one n octets)
 
 -- where no area is read, nothing is
-pub left-none : (one : List ℕ → Option (Named × List ℕ)) (found : Option Found)
+pub left-none : (one : List ℕ → Option (Named × List ℕ)) (found : Option FoundName)
     (at k n m : ℕ) (octets : List ℕ)
     → n ≡ suc m
     → one octets ≡ None
     → None ≡ left one found at k n octets
 left-none one found at k n m octets same read =
-    let f : List Named → Option Found = λ xs. or_else found (nth_area at k xs) in
+    let f : List Named → Option FoundName = λ xs. or_else found (nth_area at k xs) in
     sym (ap (λ j. option_map f (all_areas one j octets)) same
     ∙ ap (λ r. option_map f
     (r >>= λ first. all_areas one m first.1 >>= λ others. Some (first.0 ∷ others))) read)
 
 -- where one is, it stands in front of what is left behind it
-front : (one : List ℕ → Option (Named × List ℕ)) (found : Option Found)
+front : (one : List ℕ → Option (Named × List ℕ)) (found : Option FoundName)
     (at k n m : ℕ) (octets behind : List ℕ) (a : Named)
     → n ≡ suc m
     → one octets ≡ Some (a, behind)
     → option_map (λ xs. or_else found (nth_area at k (a ∷ xs))) (all_areas one m behind)
     ≡ left one found at k n octets
 front one found at k n m octets behind a same read =
-    let f : List Named → Option Found = λ xs. or_else found (nth_area at k xs) in
+    let f : List Named → Option FoundName = λ xs. or_else found (nth_area at k xs) in
     sym (ap (λ j. option_map f (all_areas one j octets)) same
     ∙ ap (λ r. option_map f
     (r >>= λ first. all_areas one m first.1 >>= λ others. Some (first.0 ∷ others))) read
     ∙ mapped f (all_areas one m behind)) where
-      mapped : (f : List Named → Option Found) (r : Option (List Named))
+      mapped : (f : List Named → Option FoundName) (r : Option (List Named))
           → option_map f (r >>= λ others. Some (a ∷ others)) ≡ option_map (λ xs. f (a ∷ xs)) r
       mapped f (Some xs) = refl
       mapped f None = refl
@@ -63,7 +63,7 @@ next-here one at later k j n m octets behind a same read here =
     ∙ ap (λ i. left one None at i n octets) (sym here)
 
 -- it comes later, unless one was found before
-pub next-other : (one : List ℕ → Option (Named × List ℕ)) (found : Option Found)
+pub next-other : (one : List ℕ → Option (Named × List ℕ)) (found : Option FoundName)
     (at later k j n m : ℕ) (octets behind : List ℕ) (a : Named)
     → n ≡ suc m
     → one octets ≡ Some (a, behind)
@@ -78,7 +78,7 @@ next-other one None at later k j n m octets behind a same read more size =
     ∙ ap (λ i. left one None at i n octets) (sym (more refl))
 
 -- octets that are left over
-pub left-over : (one : List ℕ → Option (Named × List ℕ)) (found : Option Found)
+pub left-over : (one : List ℕ → Option (Named × List ℕ)) (found : Option FoundName)
     (at k n : ℕ) (octets : List ℕ)
     → n ≡ 0
     → 0 < length octets
@@ -88,7 +88,7 @@ left-over one found at k n (x ∷ rest) none some =
     sym (ap (λ i. left one found at k i (x ∷ rest)) none)
 
 -- none are
-pub left-all : (one : List ℕ → Option (Named × List ℕ)) (found : Option Found)
+pub left-all : (one : List ℕ → Option (Named × List ℕ)) (found : Option FoundName)
     (at k n : ℕ) (octets : List ℕ)
     → n ≡ 0
     → octets ≡ []
@@ -96,4 +96,4 @@ pub left-all : (one : List ℕ → Option (Named × List ℕ)) (found : Option F
 left-all one found at k n octets none empty =
     sym (ap (λ i. left one found at k i octets) none
     ∙ ap (λ (b : List ℕ). left one found at k 0 b) empty
-    ∙ ap (λ (f : Option Found). Some f) (or_none found))
+    ∙ ap (λ (f : Option FoundName). Some f) (or_none found))

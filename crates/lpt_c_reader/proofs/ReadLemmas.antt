@@ -22,7 +22,7 @@ use Rattle.lpt_packet.specs.Packets.{Fields, Sight, IdlePacket, APacket}
 use Rattle.lpt_packet.specs.declared.fault.PacketFault.{PacketFault}
 use Rattle.lpt_packet.specs.declared.packet.PacketKind.{PacketKind}
 use Rattle.lpt_packet.specs.declared.packet.PacketKind.TheVariants.{Tm, Tc}
-use Rattle.lpt_pus.specs.Messages.{tested}
+use Rattle.lpt_pus.specs.Messages.{headers_tested}
 use Rattle.lpt_pus.specs.declared.fault.PusFault.{PusFault}
 use Rattle.lpt_c_reader.specs.Lays.{is_untaken}
 use Rattle.lpt_c_reader.specs.LaysInside.{dump_typed, taken_of, typed_dump, with_areas}
@@ -37,7 +37,7 @@ other-type : (l : Layout) (f : Fields)
     → option_and_then dump_of (result_ok (message_verdict l Tm f)) ≡ None
 unfolding message_verdict
 other-type l f e =
-    ap (λ k. option_and_then dump_of (result_ok (tested (is_kind Tm k)
+    ap (λ k. option_and_then dump_of (result_ok (headers_tested (is_kind Tm k)
     (nat_le (body_at l) (length f.octets))
     (slice_index f.octets 0 / 16 == version_number l.version) (said_at l f)))) e
 

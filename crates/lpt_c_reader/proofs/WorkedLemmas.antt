@@ -11,7 +11,7 @@ use Rattle.lpt_layout.specs.Packets.{verdict_as}
 use Rattle.lpt_list.specs.Lists.{cut_for}
 use Rattle.lpt_memory.specs.Requests.{front_head, front_load_area, request_in}
 use Rattle.lpt_packet.specs.Checksums.{checksum, octets_in, shift_all}
-use Rattle.lpt_packet.specs.Packets.{seen, spelling, verdict}
+use Rattle.lpt_packet.specs.Packets.{packet_seen, spelling, verdict}
 use Rattle.lpt_reader.specs.declared.item.Shown.TheVariants as shown
 use Rattle.lpt_reader.specs.declared.reader.Reader.{Reader}
 use Rattle.lpt_reader.specs.Fronts.{cut_by}
@@ -42,7 +42,7 @@ use Rattle.lpt_c_reader.proofs.ItemLemmas.{packet-at}
 
 pub front-is : piece_by Sealed true a_report
     ≡ record { kind = Whole; octets = a_report }
-unfolding piece_by verdict seen spelling checksum octets_in shift_all
+unfolding piece_by verdict packet_seen spelling checksum octets_in shift_all
 front-is = refl
 
 abbrev pub found : Found
@@ -280,7 +280,7 @@ abbrev a_body : List ℕ
 a_body = 9 ∷ 1 ∷ 0 ∷ 0 ∷ 0 ∷ 16 ∷ 0 ∷ 2 ∷ 97 ∷ 98 ∷ 105 ∷ 240 ∷ []
 
 report-is : dump_in own_tm a_report ≡ Some (ADump 100 a_body)
-unfolding dump_in verdict_as verdict seen spelling checksum octets_in shift_all message_verdict
+unfolding dump_in verdict_as verdict packet_seen spelling checksum octets_in shift_all message_verdict
 report-is = refl
 
 body-says : body_report a_body

@@ -13,7 +13,7 @@ use Rattle.lpt_c_reader.specs.Seen.{Typed, typed_in}
 use Rattle.lpt_c_reader.specs.declared.archives.Archive.{Archive}
 use Rattle.lpt_c_reader.specs.declared.areas.LptNamed.{LptNamed}
 use Rattle.lpt_c_reader.specs.declared.naming.Coding.{Coding}
-use Rattle.lpt_c_reader.specs.declared.naming.Found.{Found}
+use Rattle.lpt_c_reader.specs.declared.naming.FoundName.{FoundName}
 use Rattle.lpt_c_reader.specs.declared.naming.Named.{Named}
 
 -- ---- the first
@@ -47,11 +47,11 @@ first_in l b = first_of (typed_in (layout_in l b).packets b)
 -- ---- each
 
 -- where the octets of an area stand in a message whose body stands there, if it has them
-abbrev pub octets_at : (body : ℕ) → Found → ℕ
+abbrev pub octets_at : (body : ℕ) → FoundName → ℕ
 octets_at body f = if f.area.head == 0 then 0 else body + (f.at + f.area.head)
 
 -- an area as it is told, of a body that begins with the memory and how many areas there are
-abbrev pub area_told : (at : ℕ) → (body : List ℕ) → Found → LptNamed
+abbrev pub area_told : (at : ℕ) → (body : List ℕ) → FoundName → LptNamed
 area_told at body f = record {
   at = octets_at at f;
   length = f.area.len;
@@ -62,7 +62,7 @@ area_told at body f = record {
   areas = slice_index body 1;
 }
 
-abbrev pub if_found : (at : ℕ) → (body : List ℕ) → Option Found → Result LptNamed ℕ
+abbrev pub if_found : (at : ℕ) → (body : List ℕ) → Option FoundName → Result LptNamed ℕ
 if_found at body None = Err range
 if_found at body (Some f) = Ok (area_told at body f)
 

@@ -4,7 +4,7 @@ use Rattle.lpt_carried.specs.declared.layouts.Tailored.{Tailored}
 use Rattle.lpt_carried.specs.declared.name.Name.{Name}
 use Rattle.lpt_carried.specs.declared.reading.Reading.{Reading}
 use Rattle.lpt_carried.specs.Carried.{cut}
-use Rattle.lpt_carried.specs.Layouts.{tailored}
+use Rattle.lpt_carried.specs.Layouts.{tailored_in}
 use Rattle.lpt_layout_each.specs.declared.news.NewsAs.{NewsAs}
 use Rattle.lpt_layout_join.specs.declared.came.CameAs.{CameAs}
 use Rattle.lpt_packet.specs.declared.direction.Direction.{Direction}
@@ -51,7 +51,7 @@ is_refused d any = nat_lt 1 d || nat_lt 1 any
 pub record IsNewJoin (d apid any p : ℕ) (text : List ℕ) (a : Archive) : Type 0 where
   pub reading : Reading
   pub reading_is :
-      IsReading (direction_from d) apid (tailored (direction_from d) a.layouts) reading
+      IsReading (direction_from d) apid (tailored_in (direction_from d) a.layouts) reading
   pub layouts : Means p text a.layouts
   pub told : HasTold [] untold (state_of a.reader)
   pub ended : (state_of a.reader).ended ≡ false

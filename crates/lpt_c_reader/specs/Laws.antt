@@ -2,7 +2,7 @@
 use Rattle.std.specs.Prelude.{◌≡◌, ℕ, ◌==◌, ◌++◌, List, [], ◌∷◌, Some}
 use Rattle.lpt_carried.specs.declared.layouts.Layouts.{Layouts}
 use Rattle.lpt_carried.specs.declared.reading.Reading.{Reading}
-use Rattle.lpt_carried.specs.Layouts.{tailored}
+use Rattle.lpt_carried.specs.Layouts.{tailored_in}
 use Rattle.lpt_layout_each.specs.News.{Event}
 use Rattle.lpt_list.specs.Lists.{cut_for}
 use Rattle.lpt_reader.specs.Items.{Telling, TellsWhole}
@@ -21,7 +21,7 @@ ToldOneWay =
 pub record IsEach (d apid any : ℕ) (l : Layouts) (stream : List ℕ) (ws : List Written)
     : Type 0 where
   pub reading : Reading
-  pub reading_is : IsReading (direction_from d) apid (tailored (direction_from d) l) reading
+  pub reading_is : IsReading (direction_from d) apid (tailored_in (direction_from d) l) reading
   pub events : List Event
   pub told : TellsEach reading (any == 1) stream events
   pub written : AreOf (direction_from d) events ws

@@ -6,7 +6,7 @@ use Rattle.lpt_extract.specs.Areas.{extent}
 use Rattle.lpt_extract.specs.Extracts.{areas_of}
 use Rattle.lpt_extract.specs.Notices.{is_taken}
 use Rattle.lpt_extract.specs.Reports.{Saying, Other, APart, Foreign, Unread, Areas, dump_in, said_in}
-use Rattle.lpt_extract.specs.declared.wanted.Place.{Place}
+use Rattle.lpt_extract.specs.declared.wanted.ImagePlace.{ImagePlace}
 use Rattle.lpt_memory.specs.declared.request.Area.{Area}
 use Rattle.lpt_memory.specs.Memories.{put_at}
 use Rattle.lpt_memory.specs.Requests.{LoadArea}
@@ -18,7 +18,7 @@ use Rattle.lpt_c_reader.specs.declared.laying.LptLaid.{LptLaid}
 -- ---- what octets give
 
 -- where an image stands, as `lpt extract` has it
-abbrev pub place_of : LptImage → Place
+abbrev pub place_of : LptImage → ImagePlace
 place_of i = record { memory = i.memory; from = i.start; fill = 0; whole = false }
 
 -- what octets say to whom wants an image, as `lpt extract` reads them

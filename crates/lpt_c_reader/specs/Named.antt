@@ -11,7 +11,7 @@ use Rattle.lpt_c_reader.specs.Codes.{all_done, range, wrong_checksum}
 use Rattle.lpt_c_reader.specs.declared.naming.Coding.{Coding}
 use Rattle.lpt_c_reader.specs.declared.naming.Coding.TheVariants.{Loaded, Bare, Checked}
 use Rattle.lpt_c_reader.specs.declared.naming.Named.{Named}
-use Rattle.lpt_c_reader.specs.declared.naming.Found.{Found}
+use Rattle.lpt_c_reader.specs.declared.naming.FoundName.{FoundName}
 
 -- ---- an area
 
@@ -98,7 +98,7 @@ abbrev pub coding_of : PacketKind → (service subtype : ℕ) → Option Coding
 coding_of kind service subtype = if service == 6 then coding_by kind subtype else None
 
 -- the area of a number, from 0, of those that stand one behind the other from a place on
-abbrev pub nth_area : (at k : ℕ) → List Named → Option Found
+abbrev pub nth_area : (at k : ℕ) → List Named → Option FoundName
 nth_area at k [] = None
 nth_area at zero (a ∷ rest) = Some (record { at = at; area = a })
 nth_area at (suc k) (a ∷ rest) = nth_area (at + a.size) k rest

@@ -2,7 +2,7 @@
 use Rattle.std.specs.Prelude.{◌≡◌, ℕ, List, Result, Ok, Err}
 use Rattle.lpt_layout.specs.declared.layout.Layout.{Layout}
 use Rattle.lpt_layout.specs.declared.message.Message.{Message}
-use Rattle.lpt_layout.specs.Messages.{Said, message_verdict, said}
+use Rattle.lpt_layout.specs.Messages.{Said, message_verdict, message_said}
 use Rattle.lpt_layout.specs.Packets.{verdict_as}
 use Rattle.lpt_packet.specs.declared.fault.PacketFault.{PacketFault}
 use Rattle.lpt_packet.specs.declared.packet.PacketKind.{PacketKind}
@@ -34,5 +34,5 @@ typed_in l b = typed_by l (verdict_as l.has_checksum b)
 
 -- what was read is this
 abbrev pub IsTyped : Result (PacketKind × Message) ℕ → Result Typed ℕ → Type 0
-IsTyped (Ok r) v = v ≡ Ok (record { kind = r.0; said = said r.1 })
+IsTyped (Ok r) v = v ≡ Ok (record { kind = r.0; said = message_said r.1 })
 IsTyped (Err e) v = v ≡ Err e

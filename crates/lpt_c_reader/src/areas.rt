@@ -6,7 +6,7 @@ ghost use Rattle.lpt_c_reader.specs.Areas.{area_by, area_in, area_told, by_held,
 use crate::choice::{direction_of, kind_in};
 use crate::codes::{DONE, EMPTY, NO_REPORT, NOTHING, RANGE};
 use crate::handle::{LptReader, put, take};
-use crate::naming::{Coding, Found, coding_of, find_area};
+use crate::naming::{Coding, FoundName, coding_of, find_area};
 use crate::seen::{places_in, typed_in};
 use lpt_areas::{Areas, read_areas};
 use lpt_carried::Layouts;
@@ -90,7 +90,7 @@ fn tell_first(layouts: &Layouts, octets: &[u8], first: &mut LptNamed) -> u32
     ensures code { result ≡ code_read (first_in layouts.now octets.now) }
     ensures first { first.new ≡ left_in (first_in layouts.now octets.now) first.old }
 {
-    let tailored = layouts.tailored(direction_of(kind_in(octets)));
+    let tailored = layouts.tailored_in(direction_of(kind_in(octets)));
     match typed_in(&tailored.packets, octets) {
         Ok((kind, message)) => {
             let direction = direction_of(kind);
@@ -135,7 +135,7 @@ fn tell_area(layouts: &Layouts, octets: &[u8], number: usize, area: &mut LptName
     ensures code { result ≡ code_read (area_in layouts.now octets.now number) }
     ensures area { area.new ≡ left_in (area_in layouts.now octets.now number) area.old }
 {
-    let layout = &layouts.tailored(direction_of(kind_in(octets))).packets;
+    let layout = &layouts.tailored_in(direction_of(kind_in(octets))).packets;
     match typed_in(layout, octets) {
         Ok((kind, message)) => {
             let coding = coding_of(kind, message.service, message.subtype);
@@ -176,7 +176,7 @@ fn write_area(
 }
 
 // What is told of an area, of a body that stands there.
-fn area_told(at: usize, body: &[u8], found: &Found) -> LptNamed
+fn area_told(at: usize, body: &[u8], found: &FoundName) -> LptNamed
     requires place { at ≤ 1000 }
     requires head { 2 ≤ length body.now }
     requires near { found.now.at ≤ 16713467 }

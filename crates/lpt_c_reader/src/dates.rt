@@ -56,7 +56,7 @@ fn copy_date(
         → needed.new ≡ needed_by (date_in layouts.now octets.now) needed.old }
     ensures refused { result ≡ 58 → (out.new ≡ out.old) × (needed.new ≡ needed.old) }
 {
-    let tailored = layouts.tailored(direction_of(kind_in(octets)));
+    let tailored = layouts.tailored_in(direction_of(kind_in(octets)));
     let Some(code) = tailored.time else {
         return NOTHING;
     };

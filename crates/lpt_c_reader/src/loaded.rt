@@ -5,7 +5,7 @@ ghost use Rattle.lpt_extract.specs.Areas.{end_of, extent};
 ghost use Rattle.lpt_extract.specs.Extracts.{whole_areas};
 ghost use Rattle.lpt_extract.specs.Notices.{is_in_reach, is_taken};
 ghost use Rattle.lpt_extract.specs.Reports.{dump_in, dump_or_part};
-ghost use Rattle.lpt_layout.specs.Messages.{said};
+ghost use Rattle.lpt_layout.specs.Messages.{message_said};
 ghost use Rattle.lpt_memory.specs.Fields.{all_areas};
 ghost use Rattle.lpt_memory.specs.Meanings.{area};
 ghost use Rattle.lpt_memory.specs.Memories.{put_at};
@@ -58,7 +58,7 @@ pub(crate) fn dump_in<'a>(layout: &Layout, octets: &'a [u8]) -> Option<Dump<'a>>
 
 // Which of them a message is, of a packet of this type.
 fn dump_of<'a>(kind: PacketKind, message: &Message<'a>) -> Option<Dump<'a>>
-    ensures { dump_found result ≡ typed_dump kind (said message.now) }
+    ensures { dump_found result ≡ typed_dump kind (message_said message.now) }
 {
     match kind {
         PacketKind::Tm => {

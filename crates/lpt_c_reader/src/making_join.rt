@@ -39,7 +39,7 @@ pub fn lpt_reader_new_join(
     match layouts_from(alloc, part_size, layout) {
         Ok(layouts) => {
             let direction = direction_from(direction);
-            let reading = reading_of(direction, apid, layouts.tailored(direction));
+            let reading = reading_of(direction, apid, layouts.tailored_in(direction));
             let archive = Archive::joining(alloc, layouts, &reading, any == 1);
             match Box::new(alloc, archive) {
                 Ok(made) => hand_out(alloc, made, reader),

@@ -38,7 +38,7 @@ pub(crate) struct Named {
 
 /// An area, and where it begins in the body.
 #[derive(Clone, Copy)]
-pub(crate) struct Found {
+pub(crate) struct FoundName {
     pub at: usize,
     pub area: Named,
 }
@@ -80,7 +80,7 @@ pub(crate) fn find_area(
     octets: &[u8],
     areas: u8,
     number: usize,
-) -> Option<Option<Found>>
+) -> Option<Option<FoundName>>
     ensures value { result
         ≡ option_map (nth_area 2 number) (all_areas (front_named coding) areas octets.now) }
     ensures near { IfSome result (λ r. IfSome r (λ f. f.at ≤ 16713467)) }
@@ -91,7 +91,7 @@ pub(crate) fn find_area(
     for k in 0..areas {
         let (area, behind) = front_named(coding, rest)?;
         if usize::from(k) == number {
-            found = Some(Found { at, area });
+            found = Some(FoundName { at, area });
         }
         at += area.size as usize;
         rest = behind;

@@ -2,7 +2,7 @@
 
 ghost use Rattle.std.specs.Prelude.{◌≡◌, length, Result};
 ghost use Rattle.lpt_carried.specs.Layouts.{SizeFits, SizesFit};
-ghost use Rattle.lpt_layout.specs.Messages.{message_verdict, said};
+ghost use Rattle.lpt_layout.specs.Messages.{message_verdict, message_said};
 ghost use Rattle.lpt_layout.specs.Packets.{fields};
 ghost use Rattle.lpt_list.specs.Said.{direction_of, part_at};
 ghost use Rattle.lpt_events.specs.Arrivals.{carried_kind};
@@ -21,7 +21,7 @@ pub(crate) fn packet_item(layouts: &Layouts, place: u64, stray: u64, octets: &[u
     requires { SizesFit layouts.now }
     ensures { result ≡ packet_item layouts.now place stray octets.now }
 {
-    let tailored = layouts.tailored(direction_of(kind_in(octets)));
+    let tailored = layouts.tailored_in(direction_of(kind_in(octets)));
     let item = LptItem {
         length: octets.len(),
         ..end_item(place, stray)
@@ -107,7 +107,7 @@ fn with_field(tailored: &Tailored, packet: &PacketAs<'_>, item: LptItem) -> LptI
 
 // With a secondary header.
 fn with_header(layout: &Layout, message: &Message<'_>, item: LptItem) -> LptItem
-    ensures { result ≡ with_header layout.now (said message.now) item }
+    ensures { result ≡ with_header layout.now (message_said message.now) item }
 {
     let (time_at, body_at) = places_in(layout);
     LptItem {

@@ -6,7 +6,7 @@ use Rattle.std.proofs.Math.Seq.{drop-append-add, take-append-add, drop-append-le
 use Rattle.lpt_packet.specs.Sizes.{longest_packet}
 use Rattle.lpt_capture.specs.declared.fault.CaptureFault.{CaptureFault}
 use Rattle.lpt_capture.specs.declared.fault.CaptureFault.TheVariants.{Header, Short, LinkType, Size, Pcapng}
-use Rattle.lpt_capture.specs.Captured.{Finding, sound, broken, before, number_at, begins_so, order_of, in_record, place_behind, some_records, records_of, is_pcapng, found_by, found_in}
+use Rattle.lpt_capture.specs.Captured.{Finding, sound, broken_finding, before, number_at, begins_so, order_of, in_record, place_behind, some_records, records_of, is_pcapng, found_by, found_in}
 
 -- ---- the octets in front
 
@@ -78,16 +78,17 @@ none-left at b others =
 pub other_front : (h b : List ℕ)
     → order_of h ≡ None
     → (length h < 4 → b ≡ [])
-    → found_in (h ++ b) ≡ (if is_pcapng h then broken [] Pcapng else sound (h ++ b))
+    → found_in (h ++ b) ≡ (if is_pcapng h then broken_finding [] Pcapng else sound (h ++ b))
 unfolding found_in
 other_front h b plain short =
     ⊎_elim (λ less.
     let same = none-behind h b (short less) in
     ap (λ o. found_by o (h ++ b)) (ap order_of same ∙ plain)
-    ∙ ap (λ (other : Bool). if other then broken [] Pcapng else sound (h ++ b)) (ap is_pcapng same))
+    ∙ ap (λ (other : Bool). if other then broken_finding [] Pcapng else sound (h ++ b))
+    (ap is_pcapng same))
     (λ more.
     ap (λ o. found_by o (h ++ b)) (order-front h b more ∙ plain)
-    ∙ ap (λ (other : Bool). if other then broken [] Pcapng else sound (h ++ b))
+    ∙ ap (λ (other : Bool). if other then broken_finding [] Pcapng else sound (h ++ b))
     (begins-front 0x0a 0x0d 0x0d 0x0a h b more))
     (cases_lt (length h) 4)
 
@@ -97,7 +98,7 @@ pub capture_whole : (t : Bool) (h b : List ℕ)
     → 24 ≤ length h
     → found_in (h ++ b)
     ≡ (if number_at t h 20 == 147 then records_of t 24 (drop 24 h ++ b)
-    else broken [] (LinkType (number_at t h 20)))
+    else broken_finding [] (LinkType (number_at t h 20)))
 unfolding found_in
 capture_whole t h b is whole =
     let total = length-append h b in
@@ -112,10 +113,10 @@ pub capture_other : (t : Bool) (h b : List ℕ)
     → order_of h ≡ Some t
     → 24 ≤ length h
     → (number_at t h 20 ≡ 147 → ⊥)
-    → found_in (h ++ b) ≡ broken [] (LinkType (number_at t h 20))
+    → found_in (h ++ b) ≡ broken_finding [] (LinkType (number_at t h 20))
 capture_other t h b is whole other =
     capture_whole t h b is whole
-    ∙ ap (λ same. if same then records_of t 24 (drop 24 h ++ b) else broken []
+    ∙ ap (λ same. if same then records_of t 24 (drop 24 h ++ b) else broken_finding []
     (LinkType (number_at t h 20)))
     (ne_eqb (number_at t h 20) 147 other)
 
@@ -127,7 +128,7 @@ pub capture_records : (t : Bool) (h b : List ℕ)
     → found_in (h ++ b) ≡ in_record 0 0 (drop 24 h ++ b) (records_of t 24)
 capture_records t h b is whole same =
     capture_whole t h b is whole
-    ∙ ap (λ same. if same then records_of t 24 (drop 24 h ++ b) else broken []
+    ∙ ap (λ same. if same then records_of t 24 (drop 24 h ++ b) else broken_finding []
     (LinkType (number_at t h 20)))
     (eq-eqb (number_at t h 20) 147 same)
     ∙ sym (none-left 0 (drop 24 h ++ b) (records_of t 24))
@@ -137,7 +138,7 @@ pub capture_short : (t : Bool) (h b : List ℕ)
     → order_of h ≡ Some t
     → length h < 24
     → b ≡ []
-    → found_in (h ++ b) ≡ broken [] Header
+    → found_in (h ++ b) ≡ broken_finding [] Header
 unfolding found_in
 capture_short t h b is short none =
     let less = lt-true (length h) 24 short in
@@ -151,10 +152,10 @@ capture_short t h b is short none =
 abbrev with_others : (t : Bool) (at : ℕ) (b : List ℕ) → Finding → Finding
 with_others t at b f =
     if length b == 0 then sound []
-    else if nat_lt (length b) 16 then broken [] (Short at)
+    else if nat_lt (length b) 16 then broken_finding [] (Short at)
     else if (number_at t b 8 == 0) || nat_lt longest_packet (number_at t b 8)
-    then broken [] (Size at (number_at t b 8))
-    else if nat_lt (length (drop 16 b)) (number_at t b 8) then broken (drop 16 b) (Short at)
+    then broken_finding [] (Size at (number_at t b 8))
+    else if nat_lt (length (drop 16 b)) (number_at t b 8) then broken_finding (drop 16 b) (Short at)
     else before (take (number_at t b 8) (drop 16 b)) f
 
 -- as many records as there may be are all
@@ -194,7 +195,7 @@ pub record_short : (t : Bool) (at : ℕ) (h b : List ℕ)
     → 0 < length h
     → length h < 16
     → b ≡ []
-    → records_of t at (h ++ b) ≡ broken [] (Short at)
+    → records_of t at (h ++ b) ≡ broken_finding [] (Short at)
 unfolding records_of
 record_short t at h b some short end =
     let nonzero = ne_eqb (length h) 0 (λ e. omega (arith, e, some)) in
@@ -206,14 +207,14 @@ record_short t at h b some short end =
 -- what is found of a record of s octets, whose header was passed over, where f is found behind it
 abbrev behind_header : (at s : ℕ) (b : List ℕ) → Finding → Finding
 behind_header at s b f =
-    if nat_lt (length b) s then broken b (Short at) else before (take s b) f
+    if nat_lt (length b) s then broken_finding b (Short at) else before (take s b) f
 
 -- one whose header is
 pub record_whole : (t : Bool) (at : ℕ) (h b : List ℕ)
     → 16 ≤ length h
     → records_of t at (h ++ b)
     ≡ (if (number_at t h 8 == 0) || nat_lt longest_packet (number_at t h 8)
-    then broken [] (Size at (number_at t h 8))
+    then broken_finding [] (Size at (number_at t h 8))
     else in_record at (number_at t h 8) (drop 16 h ++ b)
     (records_of t (place_behind at (number_at t h 8))))
 unfolding records_of
@@ -233,7 +234,7 @@ record_whole t at h b whole =
     let same : length c ≡ n - 16 = ap length (sym rest) ∙ one in
     fuel n (suc n) t at all (omega arith) (omega arith)
     ∙ rw (nonzero, long, size, rest)
-    (ap (λ f. if (s == 0) || nat_lt longest_packet s then broken []
+    (ap (λ f. if (s == 0) || nat_lt longest_packet s then broken_finding []
     (Size at s) else behind_header at s c f)
     (fuel n (length (drop s c)) t place (drop s c) (omega (arith, left, same)) (omega arith)))
 

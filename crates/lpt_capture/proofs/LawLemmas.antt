@@ -13,7 +13,7 @@ use Rattle.lpt_packet.proofs.Codec.{length-spelling, word_at-0}
 use Rattle.lpt_capture.specs.Captures.{capture_header, record_header, record_of, capture_of}
 use Rattle.lpt_stream.specs.Streams.{IsPacketOrIdle, IsStream, all_octets}
 use Rattle.lpt_capture.specs.declared.fault.CaptureFault.TheVariants.{Pcapng}
-use Rattle.lpt_capture.specs.Captured.{Finding, sound, broken, before, number_at, order_of, begins_so, is_pcapng, in_record, place_behind, records_of, found_by, found_in}
+use Rattle.lpt_capture.specs.Captured.{Finding, sound, broken_finding, before, number_at, order_of, begins_so, is_pcapng, in_record, place_behind, records_of, found_by, found_in}
 use Rattle.lpt_capture.proofs.CaptureLemmas.{capture_whole, record_whole, record_given, no-records, none-left}
 
 -- ---- sizes
@@ -181,5 +181,5 @@ stream_read (p ∷ ps) h =
     get_or_append_left p rest 0 2 (omega (arith, size)) in
     let small = first-small p h.0 in
     ap (λ o. found_by o all) (no-capture all (omega (arith, first, small)))
-    ∙ ap (λ (other : Bool). if other then broken [] Pcapng else sound all)
+    ∙ ap (λ (other : Bool). if other then broken_finding [] Pcapng else sound all)
     (not-pcapng all (λ a b c. other-kind p h.0 (sym first ∙ a) (sym second ∙ b) (sym third ∙ c)))

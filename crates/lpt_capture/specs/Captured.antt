@@ -17,8 +17,8 @@ abbrev pub sound : List ℕ → Finding
 sound b = record { octets = b; fault = None }
 
 -- these are, and then this is wrong
-abbrev pub broken : List ℕ → CaptureFault → Finding
-broken b fault = record { octets = b; fault = Some fault }
+abbrev pub broken_finding : List ℕ → CaptureFault → Finding
+broken_finding b fault = record { octets = b; fault = Some fault }
 
 -- these octets, and then what is found behind them
 abbrev pub before : List ℕ → Finding → Finding
@@ -55,7 +55,7 @@ order_of b =
 -- so many octets of a record that begins at this place are still to come, and then others
 abbrev pub in_record : (at left : ℕ) → List ℕ → (others : List ℕ → Finding) → Finding
 in_record at left b others =
-    if nat_lt (length b) left then broken b (Short at)
+    if nat_lt (length b) left then broken_finding b (Short at)
     else before (take left b) (others (drop left b))
 
 -- the place behind a record; places end at the greatest of 64 bits
@@ -67,9 +67,9 @@ abbrev pub some_records : (n : ℕ) → (turned : Bool) → (at : ℕ) → List 
 some_records zero turned at b = sound []
 some_records (suc n) turned at b =
     if length b == 0 then sound []
-    else if nat_lt (length b) 16 then broken [] (Short at)
+    else if nat_lt (length b) 16 then broken_finding [] (Short at)
     else if (number_at turned b 8 == 0) || nat_lt longest_packet (number_at turned b 8)
-    then broken [] (Size at (number_at turned b 8))
+    then broken_finding [] (Size at (number_at turned b 8))
     else in_record at (number_at turned b 8) (drop 16 b)
     (some_records n turned (place_behind at (number_at turned b 8)))
 
@@ -82,9 +82,9 @@ records_of turned at b = some_records (length b) turned at b
 -- a capture: nothing is found where its front isn't whole, or where it has another link type
 abbrev pub found_in_capture : (turned : Bool) → List ℕ → Finding
 found_in_capture turned b =
-    if nat_lt (length b) 24 then broken [] Header
+    if nat_lt (length b) 24 then broken_finding [] Header
     else if number_at turned b 20 == 147 then records_of turned 24 (drop 24 b)
-    else broken [] (LinkType (number_at turned b 20))
+    else broken_finding [] (LinkType (number_at turned b 20))
 
 -- whether a file begins as one of the form pcapng does
 abbrev pub is_pcapng : List ℕ → Bool
@@ -92,7 +92,7 @@ is_pcapng b = begins_so 0x0a 0x0d 0x0d 0x0a b
 
 -- octets that are no capture: those of another form of captures aren't taken for packets
 abbrev pub found_in_other : List ℕ → Finding
-found_in_other b = if is_pcapng b then broken [] Pcapng else sound b
+found_in_other b = if is_pcapng b then broken_finding [] Pcapng else sound b
 
 -- a capture, or octets that are none
 abbrev pub found_by : Option Bool → List ℕ → Finding

@@ -8,20 +8,20 @@ use Rattle.lpt_capture.specs.declared.fault.CaptureFault.{CaptureFault}
 use Rattle.lpt_capture.specs.declared.fault.CaptureFault.TheVariants.{Short}
 use Rattle.lpt_capture.specs.declared.place.Place.{Place}
 use Rattle.lpt_capture.specs.declared.place.Place.TheVariants.{Front, Plain, Record, Ended, Cut, Broken}
-use Rattle.lpt_capture.specs.Captured.{Finding, sound, broken, before, in_record, records_of, found_in}
+use Rattle.lpt_capture.specs.Captured.{Finding, sound, broken_finding, before, in_record, records_of, found_in}
 
 -- ---- octets read ahead
 
 -- the octets that were read and not given yet
-abbrev pub held : {S : Type 0} → Ahead S → List ℕ
-held a = take a.have a.octets
+abbrev pub octets_held : {S : Type 0} → Ahead S → List ℕ
+octets_held a = take a.have a.octets
 
 abbrev pub source_of : {S : Type 0} → Ahead S → S
 source_of a = a.source
 
 -- the octets that are still to be given, where those of the source are known
-abbrev pub known : {S : Type 0} → (S → Option (List ℕ)) → Ahead S → Option (List ℕ)
-known remaining a = prepend_known (held a) (remaining (source_of a))
+abbrev pub octets_known : {S : Type 0} → (S → Option (List ℕ)) → Ahead S → Option (List ℕ)
+octets_known remaining a = prepend_known (octets_held a) (remaining (source_of a))
 
 -- ---- places
 
@@ -31,8 +31,8 @@ found_at Front b = found_in b
 found_at Plain b = sound b
 found_at (Record r) b = in_record r.at r.left b (records_of r.turned r.next)
 found_at Ended b = sound []
-found_at (Cut at) b = broken [] (Short at)
-found_at (Broken fault) b = broken [] fault
+found_at (Cut at) b = broken_finding [] (Short at)
+found_at (Broken fault) b = broken_finding [] fault
 
 -- how many octets are looked at in front of a file: those that show that it is no capture, or all
 -- of its header
@@ -80,8 +80,8 @@ abbrev pub has_failed : {S : Type 0} → Captured S → Bool
 has_failed c = c.failed
 
 -- what is still to be found, where the octets of the source are known
-abbrev pub found : {S : Type 0} → (S → Option (List ℕ)) → Captured S → Option Finding
-found remaining c = option_map (found_at c.place) (known remaining c.ahead)
+abbrev pub finding_ahead : {S : Type 0} → (S → Option (List ℕ)) → Captured S → Option Finding
+finding_ahead remaining c = option_map (found_at c.place) (octets_known remaining c.ahead)
 
 -- the octets that are found
 abbrev pub octets_of : Finding → List ℕ
@@ -89,7 +89,7 @@ octets_of f = f.octets
 
 -- the octets that are still to be given, where those of the source are known
 abbrev pub octets_left : {S : Type 0} → (S → Option (List ℕ)) → Captured S → Option (List ℕ)
-octets_left remaining c = option_map octets_of (found remaining c)
+octets_left remaining c = option_map octets_of (finding_ahead remaining c)
 
 -- these octets were given of what was to be found
 abbrev pub Gives : (old new : Option Finding) → List ℕ → Type 0

@@ -19,11 +19,11 @@ pub(crate) struct Ahead<S> {
 
 impl<S> Ahead<S> {
     ghost use Rattle.std.specs.Prelude.{◌≡◌, [], drop};
-    ghost use Rattle.lpt_capture.specs.States.{held, source_of};
+    ghost use Rattle.lpt_capture.specs.States.{octets_held, source_of};
 
     /// A source of which nothing was read.
     pub(crate) fn new(source: S) -> Self
-        ensures held { held result ≡ [] }
+        ensures held { octets_held result ≡ [] }
         ensures source { source_of result ≡ source }
     {
         Ahead {
@@ -41,15 +41,15 @@ impl<S> Ahead<S> {
     }
 
     /// The octets that were read and not given yet.
-    pub(crate) fn held(&self) -> &[u8]
-        ensures { result.now ≡ held self.now }
+    pub(crate) fn octets_held(&self) -> &[u8]
+        ensures { result.now ≡ octets_held self.now }
     {
         &self.octets[..self.have]
     }
 
     /// Passes over so many octets that are held, or over all.
     pub(crate) fn skip(&mut self, count: usize)
-        ensures held { held self.new ≡ drop count (held self.old) }
+        ensures held { octets_held self.new ≡ drop count (octets_held self.old) }
         ensures source { source_of self.new ≡ source_of self.old }
     {
         let passed = count.min(self.have);
@@ -61,18 +61,18 @@ impl<S> Ahead<S> {
 impl<S: Source> Ahead<S> {
     ghost use Rattle.std.specs.Prelude.{◌≡◌, ◌<◌, ◌≤◌, ◌+◌, true, false, length, take, MatchOption, IfSome, IfNone};
     ghost use Rattle.std.specs.Io.KnownBytes.{Consumes, IsAtEnd, Keeps};
-    ghost use Rattle.lpt_capture.specs.States.{held, known, source_of};
+    ghost use Rattle.lpt_capture.specs.States.{octets_held, octets_known, source_of};
 
     /// Reads until so many octets are held, or the source is at its end, and answers whether it
     /// could: if not, the source has failed.
     pub(crate) fn hold(&mut self, count: usize) -> bool
         requires { count ≤ 24 }
-        ensures same { Keeps (known S.remaining self.old) (known S.remaining self.new) }
-        ensures enough { result ≡ true → length (held self.new) < count
+        ensures same { Keeps (octets_known S.remaining self.old) (octets_known S.remaining self.new) }
+        ensures enough { result ≡ true → length (octets_held self.new) < count
             → IsAtEnd (S.remaining (source_of self.new)) }
         ensures cause { result ≡ false → S.failed (source_of self.new) ≡ true }
     {
-        while self.held().len() < count {
+        while self.octets_held().len() < count {
             match self.read_more(count) {
                 Some(0) => return true,
                 Some(_) => {}
@@ -84,10 +84,11 @@ impl<S: Source> Ahead<S> {
 
     // Reads some octets behind those that are held, so that there are no more than so many.
     fn read_more(&mut self, count: usize) -> Option<usize>
-        requires room { length (held self.old) < count }
+        requires room { length (octets_held self.old) < count }
         requires most { count ≤ 24 }
-        ensures same { Keeps (known S.remaining self.old) (known S.remaining self.new) }
-        ensures more { IfSome result (λ n. length (held self.new) ≡ length (held self.old) + n) }
+        ensures same { Keeps (octets_known S.remaining self.old) (octets_known S.remaining self.new) }
+        ensures more { IfSome result
+            (λ n. length (octets_held self.new) ≡ length (octets_held self.old) + n) }
         ensures end { IfSome result (λ n. n ≡ 0 → IsAtEnd (S.remaining (source_of self.new))) }
         ensures cause { IfNone result (S.failed (source_of self.new) ≡ true) }
     {
@@ -105,13 +106,13 @@ impl<S: Source> Ahead<S> {
     pub(crate) fn read(&mut self, buf: &mut [u8]) -> Option<usize>
         ensures bound { IfSome result (λ n. n ≤ length buf.new) }
         ensures bytes { MatchOption result
-            (Keeps (known S.remaining self.old) (known S.remaining self.new))
-            (λ n. Consumes (known S.remaining self.old) (known S.remaining self.new)
+            (Keeps (octets_known S.remaining self.old) (octets_known S.remaining self.new))
+            (λ n. Consumes (octets_known S.remaining self.old) (octets_known S.remaining self.new)
             (take n buf.new)
-            × (n ≡ 0 → 0 < length buf.new → IsAtEnd (known S.remaining self.new))) }
+            × (n ≡ 0 → 0 < length buf.new → IsAtEnd (octets_known S.remaining self.new))) }
         ensures cause { IfNone result (S.failed (source_of self.new) ≡ true) }
     {
-        let held = self.held();
+        let held = self.octets_held();
         if held.is_empty() {
             return self.source.read(buf);
         }

@@ -5,7 +5,7 @@ ghost use Rattle.std.specs.Io.KnownBytes.{Consumes, IsAtEnd, Keeps};
 ghost use Rattle.lpt_text.specs.Streams.{read_failed};
 ghost use Rattle.lpt_capture.specs.declared.place.Place.{Place};
 ghost use Rattle.lpt_capture.specs.Captured.{Finding, found_in, order_of};
-ghost use Rattle.lpt_capture.specs.States.{ahead_of, fault_at, found, found_at, front_size, has_failed, held, known, octets_left, place_of, source_of, Gives, IsBroken, IsSettled, Reads};
+ghost use Rattle.lpt_capture.specs.States.{ahead_of, fault_at, finding_ahead, found_at, front_size, has_failed, octets_held, octets_known, octets_left, place_of, source_of, Gives, IsBroken, IsSettled, Reads};
 
 use crate::CaptureFault;
 use crate::ahead::Ahead;
@@ -34,7 +34,7 @@ impl<S> Captured<S> {
     pub fn new(source: S) -> Self
         ensures source { source_of (ahead_of result) ≡ source }
         ensures failed { has_failed result ≡ false }
-        ensures held { held (ahead_of result) ≡ [] }
+        ensures held { octets_held (ahead_of result) ≡ [] }
         ensures found { (b : List ℕ) → found_at (place_of result) b ≡ found_in b }
     {
         Captured {
@@ -75,7 +75,8 @@ impl<S: Source> Source for Captured<S> {
             (take n buf.new)
             × (n ≡ 0 → 0 < length buf.new → IsAtEnd (octets_left S.remaining self.new))) }
         ensures cause { has_failed self.new ≡ read_failed result (has_failed self.old) }
-        ensures found { Reads result (found S.remaining self.old) (found S.remaining self.new)
+        ensures found { Reads result (finding_ahead S.remaining self.old)
+            (finding_ahead S.remaining self.new)
             buf.new }
         ensures fault { IfNone result ((S.failed (source_of (ahead_of self.new)) ≡ true)
             ⊎ IsBroken (place_of self.new)) }
@@ -96,7 +97,8 @@ impl<S: Source> Captured<S> {
     fn read_on(&mut self, buf: &mut [u8]) -> Option<usize>
         requires { 0 < length buf.old }
         ensures bound { IfSome result (λ n. n ≤ length buf.new) }
-        ensures found { Reads result (found S.remaining self.old) (found S.remaining self.new)
+        ensures found { Reads result (finding_ahead S.remaining self.old)
+            (finding_ahead S.remaining self.new)
             buf.new }
         ensures cause { IfNone result ((S.failed (source_of (ahead_of self.new)) ≡ true)
             ⊎ IsBroken (place_of self.new)) }
@@ -120,7 +122,8 @@ impl<S: Source> Captured<S> {
         requires some { 0 < current.left }
         requires room { 0 < length buf.old }
         ensures bound { IfSome result (λ n. n ≤ length buf.new) }
-        ensures found { Reads result (found S.remaining self.old) (found S.remaining self.new)
+        ensures found { Reads result (finding_ahead S.remaining self.old)
+            (finding_ahead S.remaining self.new)
             buf.new }
         ensures cause { IfNone result ((S.failed (source_of (ahead_of self.new)) ≡ true)
             ⊎ IsBroken (place_of self.new)) }
@@ -144,7 +147,8 @@ impl<S: Source> Captured<S> {
     // Reads the headers in front of the next octets of packets, and answers whether it could: if
     // not, the source has failed.
     fn settle(&mut self) -> bool
-        ensures same { Gives (found S.remaining self.old) (found S.remaining self.new) [] }
+        ensures same { Gives (finding_ahead S.remaining self.old)
+            (finding_ahead S.remaining self.new) [] }
         ensures settled { result ≡ true → IsSettled (place_of self.new) }
         ensures cause { result ≡ false → S.failed (source_of (ahead_of self.new)) ≡ true }
         ensures failed { has_failed self.new ≡ has_failed self.old }
@@ -160,7 +164,8 @@ impl<S: Source> Captured<S> {
 
     // Reads the front of the file, where that wasn't done yet.
     fn settle_front(&mut self) -> bool
-        ensures same { Gives (found S.remaining self.old) (found S.remaining self.new) [] }
+        ensures same { Gives (finding_ahead S.remaining self.old)
+            (finding_ahead S.remaining self.new) [] }
         ensures behind { result ≡ true → (place_of self.new ≡ Place.Front → ⊥) }
         ensures cause { result ≡ false → S.failed (source_of (ahead_of self.new)) ≡ true }
         ensures failed { has_failed self.new ≡ has_failed self.old }
@@ -172,10 +177,10 @@ impl<S: Source> Captured<S> {
         if !self.hold_front() {
             return false;
         }
-        match order_in(self.ahead.held()) {
-            None => self.place = behind_other(self.ahead.held()),
+        match order_in(self.ahead.octets_held()) {
+            None => self.place = behind_other(self.ahead.octets_held()),
             Some(turned) => {
-                self.place = behind_file_header(self.ahead.held(), turned);
+                self.place = behind_file_header(self.ahead.octets_held(), turned);
                 self.ahead.skip(FILE_HEADER);
             }
         }
@@ -184,10 +189,11 @@ impl<S: Source> Captured<S> {
 
     // Holds the front of a file, as far as it is looked at.
     fn hold_front(&mut self) -> bool
-        ensures same { Keeps (known S.remaining (ahead_of self.old))
-            (known S.remaining (ahead_of self.new)) }
+        ensures same { Keeps (octets_known S.remaining (ahead_of self.old))
+            (octets_known S.remaining (ahead_of self.new)) }
         ensures enough { result ≡ true
-            → length (held (ahead_of self.new)) < front_size (order_of (held (ahead_of self.new)))
+            → length (octets_held (ahead_of self.new))
+            < front_size (order_of (octets_held (ahead_of self.new)))
             → IsAtEnd (S.remaining (source_of (ahead_of self.new))) }
         ensures cause { result ≡ false → S.failed (source_of (ahead_of self.new)) ≡ true }
         ensures place { place_of self.new ≡ place_of self.old }
@@ -196,7 +202,7 @@ impl<S: Source> Captured<S> {
         if !self.ahead.hold(MAGIC) {
             return false;
         }
-        match order_in(self.ahead.held()) {
+        match order_in(self.ahead.octets_held()) {
             None => true,
             Some(_) => self.ahead.hold(FILE_HEADER),
         }
@@ -206,7 +212,8 @@ impl<S: Source> Captured<S> {
     fn settle_record(&mut self, current: Record) -> bool
         requires place { self.old.place ≡ Place.Record current }
         requires none { current.left ≡ 0 }
-        ensures same { Gives (found S.remaining self.old) (found S.remaining self.new) [] }
+        ensures same { Gives (finding_ahead S.remaining self.old)
+            (finding_ahead S.remaining self.new) [] }
         ensures settled { result ≡ true → IsSettled (place_of self.new) }
         ensures cause { result ≡ false → S.failed (source_of (ahead_of self.new)) ≡ true }
         ensures failed { has_failed self.new ≡ has_failed self.old }
@@ -214,7 +221,7 @@ impl<S: Source> Captured<S> {
         if !self.ahead.hold(RECORD_HEADER) {
             return false;
         }
-        self.place = behind_record_header(self.ahead.held(), current.turned, current.next);
+        self.place = behind_record_header(self.ahead.octets_held(), current.turned, current.next);
         self.ahead.skip(RECORD_HEADER);
         true
     }

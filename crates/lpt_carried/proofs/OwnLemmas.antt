@@ -8,7 +8,7 @@ use Rattle.lpt_packet.specs.declared.fault.PacketFault.{PacketFault}
 use Rattle.lpt_packet.specs.declared.packet.PacketKind.TheVariants.{Tm, Tc}
 use Rattle.lpt_packet.specs.Names.{named_by}
 use Rattle.lpt_packet.specs.Numbers.{IsOctets}
-use Rattle.lpt_packet.specs.Packets.{Fields, Sight, IdlePacket, APacket, seen, verdict}
+use Rattle.lpt_packet.specs.Packets.{Fields, Sight, IdlePacket, APacket, packet_seen, verdict}
 use Rattle.lpt_packet.proofs.OctetLists.{IsOctets-drop, IsOctets-take}
 use Rattle.lpt_packet.proofs.Readings.{tests_passed}
 use Rattle.lpt_pus.specs.declared.fault.PusFault.{PusFault}
@@ -21,7 +21,7 @@ use Rattle.lpt_part.specs.Aborts.{abort_in}
 use Rattle.lpt_part.specs.Identifiers.{TransactionId}
 use Rattle.lpt_part.specs.Parts.{Piece, part_verdict}
 use Rattle.lpt_events.specs.Arrivals.{AReport, ARequest, APart, AnAbort, Foreign, NoPart, NotRead, abort_arrival, arrival, carried_kind, command_arrival, packet_arrival, part_arrival, report_arrival, sight_arrival, telemetry_arrival}
-use Rattle.lpt_events.specs.NamedParts.{NamedPart, named}
+use Rattle.lpt_events.specs.NamedParts.{NamedPart, part_named}
 use Rattle.lpt_events.specs.Sides.{receiver_side}
 use Rattle.lpt_layout.specs.declared.layout.Layout.{Layout}
 use Rattle.lpt_layout.specs.Messages.{message_verdict}
@@ -31,7 +31,7 @@ use Rattle.lpt_layout.specs.Parts.{octets_at, part_verdict_as}
 use Rattle.lpt_carried.specs.declared.reading.Reading.{Reading}
 use Rattle.lpt_carried.specs.declared.skip.Skip.{Skip}
 use Rattle.lpt_carried.specs.declared.skip.Skip.TheVariants.{OtherApid}
-use Rattle.lpt_carried.specs.Carried.{Named, carried, kind_to, of_kind, of_message, of_part, of_sight}
+use Rattle.lpt_carried.specs.Carried.{Named, part_carried, kind_to, of_kind, of_message, of_part, of_sight}
 use Rattle.lpt_carried.specs.Own.{IsOwn, in_own, own_layout, part_arrived}
 use Rattle.lpt_carried.specs.Sizes.{size_for}
 
@@ -50,7 +50,7 @@ view v = option_map in_own (result_ok v)
 
 part-read : (user : ℕ) (v : Result Piece PartFault)
     → view (of_part user v)
-    ≡ part_arrived (option_map_or (λ q. APart (named user q)) (result_ok v) NoPart)
+    ≡ part_arrived (option_map_or (λ q. APart (part_named user q)) (result_ok v) NoPart)
 part-read user (Ok q) = refl
 part-read user (Err e) = refl
 
@@ -166,10 +166,10 @@ module _ (r : Reading) (p : ℕ) (own : IsOwn r p)
 
     pub carried-own : IsOctets b
         → ((has : Bool) → has ≡ true → verdict_as has b ≡ verdict b)
-        → seen b ≡ result_ok (verdict b)
-        → view (carried r b)
+        → packet_seen b ≡ result_ok (verdict b)
+        → view (part_carried r b)
         ≡ part_arrived (arrival (receiver_side r.direction) r.apid p b)
-    unfolding carried arrival
+    unfolding part_carried arrival
     carried-own octets packets see =
         ap (λ v. view (of_sight r v)) (packets r.layout.has_checksum
         (ap (λ (l : Layout). l.has_checksum) own.layout_is ∙ sealed r.direction))

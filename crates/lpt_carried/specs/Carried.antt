@@ -31,8 +31,8 @@ pub record Named : Type 0 where
   pub piece : Piece
 
 -- a part that was read
-abbrev pub named : CarriedPart → Named
-named c = record { user = c.user; piece = piece c.part }
+abbrev pub part_named : CarriedPart → Named
+part_named c = record { user = c.user; piece = piece c.part }
 
 -- the name of a part's transaction
 abbrev pub name_of : Named → Name
@@ -74,8 +74,8 @@ of_sight r (Ok (APacket f)) =
 
 -- the part that octets carry: of a packet of the layout, of the APID, the direction and a type that
 -- carries parts; or the first test that they fail, in this order
-unfoldable pub carried : Reading → List ℕ → Result Named Skip
-carried r b = of_sight r (verdict_as r.layout.has_checksum b)
+unfoldable pub part_carried : Reading → List ℕ → Result Named Skip
+part_carried r b = of_sight r (verdict_as r.layout.has_checksum b)
 
 -- how a stream of these packets is cut: by checksums, where they have one
 abbrev pub cut_for : (has_checksum : Bool) → Cut
@@ -87,8 +87,8 @@ cut r = cut_for r.layout.has_checksum
 
 -- the part that a piece of a stream carries
 abbrev pub carried_in : Reading → PieceKind → List ℕ → Result Named Skip
-carried_in r piece_kind.Whole b = carried r b
-carried_in r piece_kind.Damaged b = carried r b
+carried_in r piece_kind.Whole b = part_carried r b
+carried_in r piece_kind.Damaged b = part_carried r b
 carried_in r piece_kind.Stray b = Err (Stray (length b))
 
 -- the part of this name among what a packet carries
@@ -98,5 +98,5 @@ part_of n (Err e) = None
 
 -- what a reader answered is this
 abbrev pub Gives : Result CarriedPart Skip → Result Named Skip → Type 0
-Gives (Ok c) v = v ≡ Ok (named c)
+Gives (Ok c) v = v ≡ Ok (part_named c)
 Gives (Err e) v = v ≡ Err e

@@ -27,9 +27,9 @@ own_layouts_of p = record {
 }
 
 -- what goes in a direction
-abbrev pub tailored : Direction → Layouts → Tailored
-tailored Up l = l.telecommands
-tailored Down l = l.telemetry
+abbrev pub tailored_in : Direction → Layouts → Tailored
+tailored_in Up l = l.telecommands
+tailored_in Down l = l.telemetry
 
 -- a part size, where there is one, is 1 to 65,535 octets
 abbrev pub SizeIsSize : Option ℕ → Type 0

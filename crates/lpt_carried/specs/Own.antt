@@ -3,7 +3,7 @@ use Rattle.std.specs.Prelude.{◌≡◌, ℕ, Option, Some, None}
 use Rattle.lpt_packet.specs.declared.direction.Direction.{Direction}
 use Rattle.lpt_packet.specs.declared.direction.Direction.TheVariants.{Up, Down}
 use Rattle.lpt_events.specs.Arrivals.{Arrival, APart}
-use Rattle.lpt_events.specs.NamedParts.{NamedPart, named}
+use Rattle.lpt_events.specs.NamedParts.{NamedPart, part_named}
 use Rattle.lpt_layout.specs.declared.layout.Layout.{Layout}
 use Rattle.lpt_layout.specs.Own.{own_parts, own_tc, own_tm}
 use Rattle.lpt_carried.specs.declared.reading.Reading.{Reading}
@@ -22,7 +22,7 @@ pub record IsOwn (r : Reading) (p : ℕ) : Type 0 where
 
 -- a part that a packet carries, in the profile's words
 abbrev pub in_own : Named → NamedPart
-in_own c = named c.user c.piece
+in_own c = part_named c.user c.piece
 
 -- the part that has arrived, where one has
 abbrev pub part_arrived : Arrival → Option NamedPart

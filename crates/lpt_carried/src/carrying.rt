@@ -4,12 +4,12 @@ ghost use Rattle.std.specs.Prelude.{◌≡◌, ◌≤◌, length, Result, IfOk, 
 ghost use Rattle.lpt_packet.specs.declared.fault.PacketFault.{PacketFault};
 ghost use Rattle.lpt_packet.specs.Packets.{APacket, Sight};
 ghost use Rattle.lpt_packet.specs.Sizes.{longest_packet};
-ghost use Rattle.lpt_layout.specs.Messages.{said, message_verdict};
+ghost use Rattle.lpt_layout.specs.Messages.{message_said, message_verdict};
 ghost use Rattle.lpt_layout.specs.Packets as packets;
 ghost use Rattle.lpt_layout.specs.Packets.{fields, sight};
 ghost use Rattle.lpt_layout.specs.Parts.{IsPartSizeAs};
 ghost use Rattle.lpt_pus.specs.Messages as messages;
-ghost use Rattle.lpt_carried.specs.Carried.{Gives, carried, carried_in, cut, kind_to, of_kind, of_message, of_sight};
+ghost use Rattle.lpt_carried.specs.Carried.{Gives, part_carried, carried_in, cut, kind_to, of_kind, of_message, of_sight};
 ghost use Rattle.lpt_carried.specs.Sizes.{size_for};
 ghost use Rattle.lpt_stream.specs.Pieces.{IsSealedBy};
 
@@ -35,11 +35,11 @@ pub struct CarriedPart<'a> {
 
 impl<'a> CarriedPart<'a> {
     ghost use Rattle.std.specs.Prelude.{◌≡◌};
-    ghost use Rattle.lpt_carried.specs.Carried.{name_of, named};
+    ghost use Rattle.lpt_carried.specs.Carried.{name_of, part_named};
 
     /// The name of the part's transaction.
     pub fn name(&self) -> Name
-        ensures { result ≡ name_of (named self.now) }
+        ensures { result ≡ name_of (part_named self.now) }
     {
         Name {
             user: self.user,
@@ -51,9 +51,9 @@ impl<'a> CarriedPart<'a> {
 /// The part that octets carry, read like this.
 ///
 /// Errors: why they carry none.
-#[tactic(auto, unfolding(crate::specs::Carried::carried))]
-pub fn carried<'a>(reading: &Reading, octets: &'a [u8]) -> Result<CarriedPart<'a>, Skip>
-    ensures exact { Gives result (carried reading.now octets.now) }
+#[tactic(auto, unfolding(crate::specs::Carried::part_carried))]
+pub fn part_carried<'a>(reading: &Reading, octets: &'a [u8]) -> Result<CarriedPart<'a>, Skip>
+    ensures exact { Gives result (part_carried reading.now octets.now) }
     ensures number { IfOk result (λ c. 1 ≤ c.part.number) }
     ensures short { IfOk result (λ c. length c.part.octets.now ≤ longest_packet) }
 {
@@ -64,7 +64,7 @@ pub fn carried<'a>(reading: &Reading, octets: &'a [u8]) -> Result<CarriedPart<'a
 /// that of a whole piece was taken before, and is right; it isn't taken again.
 ///
 /// Errors: why it carries none.
-#[tactic(auto, unfolding(crate::specs::Carried::carried))]
+#[tactic(auto, unfolding(crate::specs::Carried::part_carried))]
 pub fn carried_in<'a>(
     reading: &Reading,
     kind: PieceKind,
@@ -77,7 +77,7 @@ pub fn carried_in<'a>(
 {
     match kind {
         PieceKind::Whole => in_read(reading, read_sealed_as(&reading.layout, octets)),
-        PieceKind::Damaged => carried(reading, octets),
+        PieceKind::Damaged => part_carried(reading, octets),
         PieceKind::Stray => Err(Skip::Stray(octets.len())),
     }
 }
@@ -127,7 +127,7 @@ fn in_packet<'a>(reading: &Reading, packet: &PacketAs<'a>) -> Result<CarriedPart
 
 // Reads a packet as a message of the direction.
 fn read_message<'a>(reading: &Reading, packet: &PacketAs<'a>) -> Result<Message<'a>, PusFault>
-    ensures { messages.Gives said result
+    ensures { messages.Gives message_said result
         (message_verdict reading.now.layout (kind_to reading.now.direction) (fields packet.now)) }
 {
     match reading.direction {
@@ -138,7 +138,7 @@ fn read_message<'a>(reading: &Reading, packet: &PacketAs<'a>) -> Result<Message<
 
 // The part that a message carries.
 fn in_message<'a>(reading: &Reading, message: &Message<'a>) -> Result<CarriedPart<'a>, Skip>
-    ensures exact { Gives result (of_message reading.now (Ok (said message.now))) }
+    ensures exact { Gives result (of_message reading.now (Ok (message_said message.now))) }
     ensures number { IfOk result (λ c. 1 ≤ c.part.number) }
     ensures short { IfOk result (λ c. length c.part.octets.now ≤ longest_packet) }
 {
@@ -157,7 +157,7 @@ fn in_body<'a>(
     message: &Message<'a>,
     kind: Kind,
 ) -> Result<CarriedPart<'a>, Skip>
-    ensures exact { Gives result (of_kind reading.now (said message.now) (Some kind)) }
+    ensures exact { Gives result (of_kind reading.now (message_said message.now) (Some kind)) }
     ensures number { IfOk result (λ c. 1 ≤ c.part.number) }
     ensures short { IfOk result (λ c. length c.part.octets.now ≤ longest_packet) }
 {

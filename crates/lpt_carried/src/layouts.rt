@@ -1,7 +1,7 @@
 //! How a mission lays out what goes up and what comes down.
 
 ghost use Rattle.std.specs.Prelude.{◌≡◌};
-ghost use Rattle.lpt_carried.specs.Layouts.{own_layouts, own_layouts_of, tailored, SizesFit};
+ghost use Rattle.lpt_carried.specs.Layouts.{own_layouts, own_layouts_of, tailored_in, SizesFit};
 ghost use Rattle.lpt_part.specs.Splitting.{IsPartSize};
 
 use lpt_layout::{Layout, PartLayout};
@@ -74,8 +74,8 @@ impl Layouts {
     }
 
     /// What goes in this direction.
-    pub fn tailored(&self, direction: Direction) -> &Tailored
-        ensures { result.now ≡ tailored direction self.now }
+    pub fn tailored_in(&self, direction: Direction) -> &Tailored
+        ensures { result.now ≡ tailored_in direction self.now }
     {
         match direction {
             Direction::Up => &self.telecommands,

@@ -3,7 +3,7 @@
 //!
 //! The main type is `Reading`. The first calls are `Reading::own`, which is the profile's, or a
 //! reading with a mission's layouts; then `cut`, by which its stream is cut, and `carried_in` of
-//! each piece, or `carried` of octets. A mission's layouts are `Layouts`.
+//! each piece, or `part_carried` of octets. A mission's layouts are `Layouts`.
 #![tactic(auto)]
 
 mod carrying;
@@ -13,7 +13,7 @@ mod name;
 mod reading;
 mod skip;
 
-pub use carrying::{CarriedPart, carried, carried_in};
+pub use carrying::{CarriedPart, carried_in, part_carried};
 pub use layouts::{Layouts, Tailored};
 pub use lpt_layout::{Layout, PartAs, PartLayout};
 pub use lpt_layout_time::TimeCode;

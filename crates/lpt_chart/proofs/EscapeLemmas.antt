@@ -2,7 +2,7 @@
 use Rattle.std.proofs.Common.{◌≡◌, ◌∙◌, ℕ, true, ◌&&◌, List, [], ◌∷◌, refl, ap, arith}
 use Rattle.std.specs.List.{list_all, flat_map}
 use Rattle.std.proofs.lemmas.List.Folds.{list_all-append}
-use Rattle.lpt_chart.specs.Shapes.{escaped, escaped_octet, is_plain}
+use Rattle.lpt_chart.specs.Shapes.{text_escaped, escaped_octet, is_plain}
 
 -- an octet
 pub octet-plain : (b : ℕ) → list_all is_plain (escaped_octet b) ≡ true
@@ -10,8 +10,8 @@ unfolding escaped_octet
 octet-plain b = grind arith
 
 -- a text
-pub escaped-plain : (t : List ℕ) → list_all is_plain (escaped t) ≡ true
-unfolding escaped
+pub escaped-plain : (t : List ℕ) → list_all is_plain (text_escaped t) ≡ true
+unfolding text_escaped
 escaped-plain [] = refl
 escaped-plain (b ∷ t) =
     list_all-append is_plain (escaped_octet b) (flat_map escaped_octet t)

@@ -10,8 +10,8 @@ use Rattle.lpt_events.specs.declared.outcome.Outcome.{Outcome}
 use Rattle.lpt_events.specs.declared.reply.Answer.{Answer}
 use Rattle.lpt_events.specs.declared.reply.Answer.TheVariants as answer
 use Rattle.lpt_events.specs.declared.side.Side.TheVariants.{Ground, Craft}
-use Rattle.lpt_chart.specs.Events.{delivered, delivery_in, drawn, outcome_weight, outcome_words, shown_by, shown_one}
-use Rattle.lpt_chart.specs.Pictures.{Picture, cleared, flown, hand_in, landed, lost, put, rowed, taken, ticked, tracked}
+use Rattle.lpt_chart.specs.Events.{delivery_drawn, delivery_in, event_drawn, outcome_weight, outcome_words, shown_by, shown_one}
+use Rattle.lpt_chart.specs.Pictures.{Picture, columns_cleared, flown, hand_in, flight_landed, packet_lost, put, row_added, packet_taken, clock_drawn, stage_tracked}
 use Rattle.lpt_chart.proofs.FlightLemmas.{came_to-flights, executed-flights, landed-flights, landed-place, ticked-flights}
 
 -- the flights are the same
@@ -30,14 +30,15 @@ flown-flights p l o =
 
 -- and its row and what it does to the tracks draw none
 delivered-flights : (p : Picture) (l : Lane) (o : Outcome)
-    → shown_by (delivered p l o).flights ≡ shown_by p.flights ++ delivery_in p.place (Deliver l)
+    → shown_by (delivery_drawn p l o).flights ≡ shown_by p.flights
+    ++ delivery_in p.place (Deliver l)
     (answer.Delivered o)
 delivered-flights p l o =
     let d = lane_direction l in
     let held = hand_in p.hands l in
     let w = outcome_weight o in
     let t = outcome_words p held d o in
-    let q = landed p l (receiver_side d) w t in
+    let q = flight_landed p l (receiver_side d) w t in
     ap shown_by (came_to-flights (flown q l o) held d o)
     ∙ flown-flights q l o
     ∙ ap (λ fs. shown_by fs ++ delivery_in q.place (Deliver l) (answer.Delivered o))
@@ -47,8 +48,8 @@ delivered-flights p l o =
 
 -- each event by its answer
 pub drawn-flights : (p : Picture) (e : Event) (a : Answer)
-    → shown_by (drawn p e a).flights ≡ shown_by p.flights ++ delivery_in p.place e a
-unfolding rowed put taken lost tracked cleared
+    → shown_by (event_drawn p e a).flights ≡ shown_by p.flights ++ delivery_in p.place e a
+unfolding row_added put packet_taken packet_lost stage_tracked columns_cleared
 drawn-flights p (Open d name m) (answer.Opened n) = sym (append-nil (shown_by p.flights))
 drawn-flights p (Send d name k) (answer.Put n) = sym (append-nil (shown_by p.flights))
 drawn-flights p (Plain source flags service subtype body) (answer.Put n) =
@@ -59,13 +60,13 @@ drawn-flights p (Damage d b) (answer.Put n) = sym (append-nil (shown_by p.flight
 drawn-flights p (Take l n) (answer.Took k) = sym (append-nil (shown_by p.flights))
 drawn-flights p (Deliver l) (answer.Delivered o) = delivered-flights p l o
 drawn-flights p (Tick side) (answer.Clock clock) =
-    kept_flights p (ticked p side clock) (ticked-flights p side clock)
+    kept_flights p (clock_drawn p side clock) (ticked-flights p side clock)
 drawn-flights p (Expire side) (answer.Expired d name) = sym (append-nil (shown_by p.flights))
 drawn-flights p (Claim w) (answer.Claimed boot job) = sym (append-nil (shown_by p.flights))
 drawn-flights p (Commit w) (answer.Committed boot job) = sym (append-nil (shown_by p.flights))
 drawn-flights p (Commit w) (answer.Stale boot job) = sym (append-nil (shown_by p.flights))
 drawn-flights p Apply (answer.Applied a) =
-    kept_flights p (drawn p Apply (answer.Applied a)) (executed-flights _ a)
+    kept_flights p (event_drawn p Apply (answer.Applied a)) (executed-flights _ a)
 drawn-flights p (Retire d name) answer.Retired = sym (append-nil (shown_by p.flights))
 drawn-flights p (Restart Ground) (answer.Restarted boot) = sym (append-nil (shown_by p.flights))
 drawn-flights p (Restart Craft) (answer.Restarted boot) = sym (append-nil (shown_by p.flights))

@@ -2,7 +2,7 @@
 use Rattle.std.proofs.Common.{◌≡◌, ◌∙◌, ℕ, ◌+◌, ◌++◌, List, [], ◌∷◌, filter, fold, take, drop, ap, sym, append_assoc, append-nil}
 use Rattle.lpt_events.specs.declared.entry.Entry.{Entry}
 use Rattle.lpt_chart.specs.Types.{Kind, Opened, Refusal}
-use Rattle.lpt_chart.specs.Events.{DrawsDeliveries, DrawsReleases, after, after_all, before, deliveries_from, delivery_in, drawn, is_release, own_puts, refusal_row, shown_by}
+use Rattle.lpt_chart.specs.Events.{DrawsDeliveries, DrawsReleases, after, after_all, before, deliveries_from, delivery_in, event_drawn, is_release, own_puts, refusal_row, shown_by}
 use Rattle.lpt_chart.specs.Pictures.{Picture, blank}
 use Rattle.lpt_chart.proofs.EventFlights.{drawn-flights}
 use Rattle.lpt_chart.proofs.FlightLemmas.{refused-flights, reported-flights}
@@ -13,7 +13,8 @@ pub after-flights : (p : Picture) (place : ℕ) (x : Entry)
     ++ delivery_in place x.event x.reply.answer
 after-flights p place x =
     let q : Picture = record p { place = place } in
-    ap shown_by (reported-flights (own_puts x.event x.reply.puts) (drawn q x.event x.reply.answer))
+    ap shown_by
+    (reported-flights (own_puts x.event x.reply.puts) (event_drawn q x.event x.reply.answer))
     ∙ drawn-flights q x.event x.reply.answer
 
 -- entries from a place on, and refused lines

@@ -7,7 +7,7 @@ use Rattle.lpt_chart.specs.declared.marks.Bar.{Bar}
 use Rattle.lpt_chart.specs.declared.marks.Track.{Track}
 use Rattle.lpt_chart.specs.declared.marks.Refusal.{Refusal}
 use Rattle.lpt_chart.specs.Events.{after, after_all, before, refusal_row}
-use Rattle.lpt_chart.specs.Pictures.{Picture, all_bars, bar_up_to, own_put, reported}
+use Rattle.lpt_chart.specs.Pictures.{Picture, all_bars, bar_up_to, own_put, reports_drawn}
 
 -- the rest of a list begins with its next element
 pub drop_step : {A : Type 0} (xs : List A) (i : ℕ) (d : A)
@@ -19,15 +19,15 @@ drop_step xs i d within =
 -- one packet of the spacecraft's own, and then the rest
 pub reported_more : (a b : ℕ) (p : Picture)
     → a ≡ b + 1
-    → reported a p ≡ reported b (own_put p)
-reported_more a b p e = ap (λ n. reported n p) (e ∙ add-one b)
+    → reports_drawn a p ≡ reports_drawn b (own_put p)
+reported_more a b p e = ap (λ n. reports_drawn n p) (e ∙ add-one b)
 
 -- the same, by the picture after it
 pub reported_next : (a b : ℕ) (p q : Picture)
     → a ≡ b + 1
     → q ≡ own_put p
-    → reported b q ≡ reported a p
-reported_next a b p q e packet = ap (reported b) packet ∙ sym (reported_more a b p e)
+    → reports_drawn b q ≡ reports_drawn a p
+reported_next a b p q e packet = ap (reports_drawn b) packet ∙ sym (reported_more a b p e)
 
 -- the entry of a place behind its refused lines, and those after it
 pub entry_step : (p : Picture) (i : ℕ) (xs : List Entry) (d : Entry) (refused : List Refusal)

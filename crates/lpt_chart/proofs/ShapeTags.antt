@@ -17,9 +17,9 @@ use Rattle.lpt_chart.specs.declared.style.Weight.TheVariants.{Quiet, Plain, Stro
 use Rattle.lpt_chart.specs.Charts.{IsChart, IsPicture}
 use Rattle.lpt_chart.specs.Events.{picture}
 use Rattle.lpt_chart.specs.Pictures.{Picture}
-use Rattle.lpt_chart.specs.Shapes.{closing_text, end_text, escaped, opening_text, seen_text, shape_text, sign_steps, size_text, view_text}
+use Rattle.lpt_chart.specs.Shapes.{closing_text, end_text, text_escaped, opening_text, seen_text, shape_text, sign_steps, size_text, view_text}
 use Rattle.lpt_chart.specs.Styles.{letters_text, style_text}
-use Rattle.lpt_chart.specs.Words.{counts_words, joined}
+use Rattle.lpt_chart.specs.Words.{counts_words, words_joined}
 
 -- ---- attributes
 
@@ -112,7 +112,8 @@ seen-tagged : (most : ℕ) (t : List ℕ) → Tagged (seen_text most t)
 unfolding seen_text
 seen-tagged most t =
     either (nat_lt most (length t)) _ _
-    (joined-tagged (codes "<title>" ∷ escaped t ∷ codes "</title>" ∷ escaped (take (most - 2) t)
+    (joined-tagged
+    (codes "<title>" ∷ text_escaped t ∷ codes "</title>" ∷ text_escaped (take (most - 2) t)
     ∷ codes ".." ∷ [])
     (refl, (escaped-tagged t, (refl, (escaped-tagged (take (most - 2) t), (refl, refl))))))
     (escaped-tagged t)
@@ -247,7 +248,7 @@ shape-tagged (shape.Text x y l most t) =
       ),
     )
 shape-tagged (shape.Group t) =
-    joined-tagged (codes "<g><title>" ∷ escaped t ∷ codes "</title>" ∷ [])
+    joined-tagged (codes "<g><title>" ∷ text_escaped t ∷ codes "</title>" ∷ [])
     (refl, (escaped-tagged t, (refl, refl)))
 shape-tagged shape.GroupEnd = refl
 shape-tagged (shape.Part y wide high top) =
@@ -268,14 +269,14 @@ opening-tagged : (wide high : ℕ) (title counts : List ℕ)
     → Tagged (opening_text wide high title counts)
 unfolding opening_text
 opening-tagged wide high title counts =
-    let size = joined
+    let size = words_joined
     (codes "<svg xmlns='http://www.w3.org/2000/svg' width='" ∷ decimal wide
     ∷ codes "' height='" ∷ decimal high ∷ codes "'" ∷ LETTERS_HEAD.now ∷ []) in
-    let front = size ++ escaped title in
-    tagged-append (front ++ DESC_HEAD.now ++ escaped counts) (codes "</desc>" ++ 10 ∷ [])
-    (tagged-append (front ++ DESC_HEAD.now) (escaped counts)
+    let front = size ++ text_escaped title in
+    tagged-append (front ++ DESC_HEAD.now ++ text_escaped counts) (codes "</desc>" ++ 10 ∷ [])
+    (tagged-append (front ++ DESC_HEAD.now) (text_escaped counts)
     (tagged-append front DESC_HEAD.now
-    (tagged-append size (escaped title)
+    (tagged-append size (text_escaped title)
     (joined-tagged
     (codes "<svg xmlns='http://www.w3.org/2000/svg' width='" ∷ decimal wide
     ∷ codes "' height='" ∷ decimal high ∷ codes "'" ∷ LETTERS_HEAD.now ∷ [])

@@ -5,8 +5,8 @@ use Rattle.std.specs.Prelude.{◌==◌, if◌then◌else◌, nat_le, decimal}
 use Rattle.std.specs.List.{list_all}
 use Rattle.std.specs.Fmt.{digit_glyph, digits_onto, digits}
 use Rattle.lpt_chart.proofs.EscapeLemmas.{escaped-plain}
-use Rattle.lpt_chart.specs.Shapes.{begins, begins_one, escaped, is_plain, is_tagged, tags}
-use Rattle.lpt_chart.specs.Words.{joined}
+use Rattle.lpt_chart.specs.Shapes.{begins, begins_one, text_escaped, is_plain, is_tagged, tags}
+use Rattle.lpt_chart.specs.Words.{words_joined}
 
 -- each '<' of a text opens or closes an element
 abbrev pub Tagged : List ℕ → Type 0
@@ -60,10 +60,11 @@ abbrev pub AllTagged : List (List ℕ) → Type 0
 AllTagged [] = true ≡ true
 AllTagged (w ∷ ws) = Tagged w × AllTagged ws
 
-pub joined-tagged : (ws : List (List ℕ)) → AllTagged ws → Tagged (joined ws)
+pub joined-tagged : (ws : List (List ℕ)) → AllTagged ws → Tagged (words_joined ws)
 joined-tagged [] p = refl
 joined-tagged (w ∷ []) p = p.0
-joined-tagged (w ∷ v ∷ ws) p = tagged-append w (joined (v ∷ ws)) p.0 (joined-tagged (v ∷ ws) p.1)
+joined-tagged (w ∷ v ∷ ws) p =
+    tagged-append w (words_joined (v ∷ ws)) p.0 (joined-tagged (v ∷ ws) p.1)
 
 -- ---- texts without a '<'
 
@@ -83,8 +84,8 @@ plain-tagged (x ∷ xs) p =
     (plain-tagged xs (and_snd (is_plain x) (list_all is_plain xs) p))
 
 -- a text that was escaped
-pub escaped-tagged : (t : List ℕ) → Tagged (escaped t)
-escaped-tagged t = plain-tagged (escaped t) (escaped-plain t)
+pub escaped-tagged : (t : List ℕ) → Tagged (text_escaped t)
+escaped-tagged t = plain-tagged (text_escaped t) (escaped-plain t)
 
 -- a digit
 glyph-plain : (d : ℕ) → d < 10 → is_plain (digit_glyph false d) ≡ true

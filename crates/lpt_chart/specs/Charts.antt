@@ -6,7 +6,7 @@ use Rattle.lpt_chart.specs.Types.{Choice, Frame, Kind, Opened, Refusal, Shape}
 use Rattle.lpt_chart.specs.Events.{picture}
 use Rattle.lpt_chart.specs.Frames.{IsFrame}
 use Rattle.lpt_chart.specs.Pictures.{Picture}
-use Rattle.lpt_chart.specs.Rows.{rest_told, told}
+use Rattle.lpt_chart.specs.Rows.{rest_told, shapes_told}
 use Rattle.lpt_chart.specs.Shapes.{closing_text, opening_text, shape_text}
 use Rattle.lpt_chart.specs.Words.{counts_words}
 
@@ -22,7 +22,7 @@ pub record IsPicture (events : ℕ) (c : Choice) (title : List ℕ) (p : Picture
   pub rows : List Shape
   pub legend : List Shape
   pub framed : IsFrame c p frame
-  pub tells : told rows ≡ rest_told frame p
+  pub tells : shapes_told rows ≡ rest_told frame p
   pub written : text ≡ opening_text wide high title
       (counts_words events (length p.sent) (length p.flights) (length p.losses))
       ++ flat_map shape_text front ++ flat_map shape_text rows ++ flat_map shape_text legend

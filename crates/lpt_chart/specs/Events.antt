@@ -27,8 +27,8 @@ use Rattle.lpt_chart.specs.declared.marks.Stage.TheVariants.{Sending, Kept, Clai
 use Rattle.lpt_chart.specs.declared.marks.Thing.TheVariants.{Sender, Reception, Job}
 use Rattle.lpt_chart.specs.declared.style.Style.TheVariants as style
 use Rattle.lpt_chart.specs.declared.style.Weight.TheVariants as weight
-use Rattle.lpt_chart.specs.Pictures.{Picture, all_bars, asked_from, asked_in, blank, cleared, flown, hand_in, kept_in, landed, lost, parts_in, put, reported, rowed, said, stage_of, taken, task_in, ticked, tracked, with_job, without_job}
-use Rattle.lpt_chart.specs.Words.{applied_words, job_words, joined, lane_word, of_words, plural, reason_word, refusal_words, report_words, request_words}
+use Rattle.lpt_chart.specs.Pictures.{Picture, all_bars, asked_from, asked_in, blank, columns_cleared, flown, hand_in, kept_in, flight_landed, packet_lost, parts_in, put, reports_drawn, row_added, row_said, stage_of, packet_taken, task_in, clock_drawn, stage_tracked, with_job, without_job}
+use Rattle.lpt_chart.specs.Words.{applied_words, job_words, words_joined, lane_word, of_words, plural, reason_word, refusal_words, report_words, request_words}
 
 -- of how many parts the message of a packet in a hand is, and what that asks for
 abbrev pub parts_held : Option Held → ℕ
@@ -53,46 +53,65 @@ outcome_weight _ = weight.Plain
 -- what a delivery came to; what is released at the spacecraft is a job
 unfoldable pub outcome_words : Picture → Option Held → Direction → Outcome → List ℕ
 outcome_words p held d (outcome.Kept name k) =
-    joined (codes "kept " ∷ direction_word d ∷ codes " " ∷ name_text p.source name ∷ codes " part " ∷ decimal k ∷ codes ": "
+    words_joined
+    (codes "kept " ∷ direction_word d ∷ codes " " ∷ name_text p.source name ∷ codes " part "
+    ∷ decimal k ∷ codes ": "
     ∷ decimal (kept_then p d name) ∷ of_words (parts_held held) ∷ [])
 outcome_words p held d (outcome.Again name k) =
-    joined (codes "again " ∷ direction_word d ∷ codes " " ∷ name_text p.source name ∷ codes " part " ∷ decimal k ∷ [])
+    words_joined
+    (codes "again " ∷ direction_word d ∷ codes " " ∷ name_text p.source name ∷ codes " part "
+    ∷ decimal k ∷ [])
 outcome_words p held Up (outcome.Released name len) =
-    joined (codes "released up " ∷ name_text p.source name ∷ codes ": " ∷ decimal len ∷ codes " octets, job " ∷ decimal p.boot
+    words_joined
+    (codes "released up " ∷ name_text p.source name ∷ codes ": " ∷ decimal len
+    ∷ codes " octets, job " ∷ decimal p.boot
     ∷ codes "." ∷ decimal (length p.tasks) ∷ [])
 outcome_words p held Down (outcome.Released name len) =
-    joined (codes "released down " ∷ name_text p.source name ∷ codes ": " ∷ decimal len ∷ codes " octets" ∷ [])
+    words_joined
+    (codes "released down " ∷ name_text p.source name ∷ codes ": " ∷ decimal len ∷ codes " octets"
+    ∷ [])
 outcome_words p held d (outcome.PlainReleased len) =
-    joined (codes "released request: " ∷ decimal len ∷ codes " octets, job " ∷ decimal p.boot ∷ codes "." ∷ decimal (length p.tasks) ∷ [])
+    words_joined
+    (codes "released request: " ∷ decimal len ∷ codes " octets, job " ∷ decimal p.boot ∷ codes "."
+    ∷ decimal (length p.tasks) ∷ [])
 outcome_words p held d (outcome.ReportNoted service subtype) = report_words service subtype
 outcome_words p held d (outcome.AbortNoted name reason) =
-    joined (codes "broken off: up " ∷ name_text p.source name ∷ codes ", " ∷ reason_word reason ∷ [])
+    words_joined
+    (codes "broken off: up " ∷ name_text p.source name ∷ codes ", " ∷ reason_word reason ∷ [])
 outcome_words p held d (outcome.Broken name reason) =
-    joined (codes "broken " ∷ direction_word d ∷ codes " " ∷ name_text p.source name ∷ codes ": " ∷ reason_word reason ∷ [])
-outcome_words p held d (outcome.Ignored why) = joined (codes "ignored: " ∷ why_name why ∷ [])
+    words_joined
+    (codes "broken " ∷ direction_word d ∷ codes " " ∷ name_text p.source name ∷ codes ": "
+    ∷ reason_word reason ∷ [])
+outcome_words p held d (outcome.Ignored why) = words_joined (codes "ignored: " ∷ why_name why ∷ [])
 
 -- what an outcome does to the tracks
 unfoldable pub came_to : Picture → Option Held → Direction → Outcome → Picture
 came_to p held d (outcome.Kept name k) =
-    tracked p (receiver_side d) (Reception name) (Some (Kept (kept_then p d name) (parts_held held)))
-came_to p held Up (outcome.Released name len) = with_job (tracked p Craft (Reception name) None) (task_held held)
-came_to p held Down (outcome.Released name len) = tracked p Ground (Reception name) None
+    stage_tracked p (receiver_side d) (Reception name)
+    (Some (Kept (kept_then p d name) (parts_held held)))
+came_to p held Up (outcome.Released name len) =
+    with_job (stage_tracked p Craft (Reception name) None) (task_held held)
+came_to p held Down (outcome.Released name len) = stage_tracked p Ground (Reception name) None
 came_to p held d (outcome.PlainReleased len) = with_job p (task_held held)
-came_to p held d (outcome.AbortNoted name reason) = tracked p Ground (Sender name) None
-came_to p held d (outcome.Broken name reason) = tracked p (receiver_side d) (Reception name) None
+came_to p held d (outcome.AbortNoted name reason) = stage_tracked p Ground (Sender name) None
+came_to p held d (outcome.Broken name reason) =
+    stage_tracked p (receiver_side d) (Reception name) None
 came_to p held d _ = p
 
 -- a delivery
-abbrev pub delivered : Picture → Lane → Outcome → Picture
-delivered p lane o =
+abbrev pub delivery_drawn : Picture → Lane → Outcome → Picture
+delivery_drawn p lane o =
     let d = lane_direction lane in
     let held = hand_in p.hands lane in
-    came_to (flown (landed p lane (receiver_side d) (outcome_weight o) (outcome_words p held d o)) lane o) held d o
+    came_to (flown
+    (flight_landed p lane (receiver_side d) (outcome_weight o) (outcome_words p held d o)) lane o)
+    held d o
 
 -- a packet is put by who sends in its direction
 abbrev pub packet_put : Picture → Direction → (number : ℕ) → (noise : Bool) → (parts : ℕ) → Option Task → (words : List ℕ) → Picture
 packet_put p d n noise parts task words =
-    put (said p (sender_side d) weight.Quiet (mark.Bead d n noise) words) d words noise parts task
+    put (row_said p (sender_side d) weight.Quiet (mark.Bead d n noise) words) d words noise parts
+    task
 
 -- of how many parts the message is that the entry opened which is drawn
 abbrev pub parts_opened : Picture → ℕ
@@ -102,7 +121,8 @@ parts_opened p =
 
 -- the sender of a report of data, where one was opened
 abbrev pub opened_by : Picture → Applied → Picture
-opened_by p (applied.Done (Some name)) = tracked p Craft (Sender name) (Some (Sending (parts_opened p) None))
+opened_by p (applied.Done (Some name)) =
+    stage_tracked p Craft (Sender name) (Some (Sending (parts_opened p) None))
 opened_by p _ = p
 
 -- how an executed job is marked
@@ -113,55 +133,74 @@ applied_mark (applied.Code code) = mark.Failed
 
 -- what an accepted event draws by its answer; nothing for an answer that isn't the event's own. Of how
 -- many parts a message is, and what it asks for, is known of the open sender
-abbrev pub drawn : Picture → Event → Answer → Picture
-drawn p (Open d name m) (answer.Opened n) =
-    tracked (said p (sender_side d) weight.Plain (mark.Square style.Opened)
-    (joined (codes "open " ∷ direction_word d ∷ codes " " ∷ name_text p.source name ∷ codes ": " ∷ decimal (length m) ∷ codes " octets, "
+abbrev pub event_drawn : Picture → Event → Answer → Picture
+event_drawn p (Open d name m) (answer.Opened n) =
+    stage_tracked (row_said p (sender_side d) weight.Plain (mark.Square style.Opened)
+    (words_joined
+    (codes "open " ∷ direction_word d ∷ codes " " ∷ name_text p.source name ∷ codes ": "
+    ∷ decimal (length m) ∷ codes " octets, "
     ∷ decimal n ∷ codes " parts" ∷ []))) (sender_side d) (Sender name) (Some (Sending n (asked_in d m)))
-drawn p (Send d name k) (answer.Put n) =
+event_drawn p (Send d name k) (answer.Put n) =
     let stage = stage_of p (sender_side d) (Sender name) in
     packet_put p d n false (parts_in stage) (task_in stage)
-    (joined (direction_word d ∷ codes " " ∷ name_text p.source name ∷ codes " part " ∷ decimal k ∷ of_words (parts_in stage) ∷ []))
-drawn p (Plain source flags service subtype body) (answer.Put n) =
+    (words_joined
+    (direction_word d ∷ codes " " ∷ name_text p.source name ∷ codes " part " ∷ decimal k
+    ∷ of_words (parts_in stage) ∷ []))
+event_drawn p (Plain source flags service subtype body) (answer.Put n) =
     packet_put p Up n false 0 (Some (asked_from service subtype body 0))
     (request_words service subtype)
-drawn p (Finish d name) answer.Finished =
-    tracked (said p (sender_side d) weight.Plain (mark.Square style.Finished)
-    (joined (codes "finished " ∷ direction_word d ∷ codes " " ∷ name_text p.source name ∷ [])))
+event_drawn p (Finish d name) answer.Finished =
+    stage_tracked (row_said p (sender_side d) weight.Plain (mark.Square style.Finished)
+    (words_joined
+    (codes "finished " ∷ direction_word d ∷ codes " " ∷ name_text p.source name ∷ [])))
     (sender_side d) (Sender name) None
-drawn p (Lose n) answer.Lost =
-    lost (said p (sender_side (option_map_or (λ s. s.direction) (slice_get p.sent n) Up)) weight.Plain mark.Nothing
-    (joined (codes "packet " ∷ decimal n ∷ codes " is lost" ∷ []))) n
-drawn p (Damage d b) (answer.Put n) =
-    packet_put p d n true 0 None (joined (codes "noise: " ∷ decimal (length b) ∷ codes " octet" ∷ plural (length b) ∷ []))
-drawn p (Take l n) (answer.Took k) =
-    taken (said p (receiver_side (lane_direction l)) weight.Quiet (mark.Took l)
-    (joined (lane_word l ∷ codes " takes " ∷ decimal n ∷ []))) l n
-drawn p (Deliver l) (answer.Delivered o) = delivered p l o
-drawn p (Tick side) (answer.Clock clock) = ticked p side clock
-drawn p (Expire side) (answer.Expired d name) =
+event_drawn p (Lose n) answer.Lost =
+    packet_lost
+    (row_said p (sender_side (option_map_or (λ s. s.direction) (slice_get p.sent n) Up))
+    weight.Plain mark.Nothing
+    (words_joined (codes "packet " ∷ decimal n ∷ codes " is lost" ∷ []))) n
+event_drawn p (Damage d b) (answer.Put n) =
+    packet_put p d n true 0 None
+    (words_joined (codes "noise: " ∷ decimal (length b) ∷ codes " octet" ∷ plural (length b) ∷ []))
+event_drawn p (Take l n) (answer.Took k) =
+    packet_taken (row_said p (receiver_side (lane_direction l)) weight.Quiet (mark.Took l)
+    (words_joined (lane_word l ∷ codes " takes " ∷ decimal n ∷ []))) l n
+event_drawn p (Deliver l) (answer.Delivered o) = delivery_drawn p l o
+event_drawn p (Tick side) (answer.Clock clock) = clock_drawn p side clock
+event_drawn p (Expire side) (answer.Expired d name) =
     let stage = stage_of p (receiver_side d) (Reception name) in
-    tracked (said p (receiver_side d) weight.Strong mark.Expired
-    (joined (codes "expired " ∷ direction_word d ∷ codes " " ∷ name_text p.source name ∷ codes ": " ∷ decimal (kept_in stage)
+    stage_tracked (row_said p (receiver_side d) weight.Strong mark.Expired
+    (words_joined
+    (codes "expired " ∷ direction_word d ∷ codes " " ∷ name_text p.source name ∷ codes ": "
+    ∷ decimal (kept_in stage)
     ∷ of_words (parts_in stage) ∷ []))) (receiver_side d) (Reception name) None
-drawn p (Claim w) (answer.Claimed boot job) =
-    tracked (said p Craft weight.Plain mark.Nothing (job_words w (codes "claims") boot job [])) Craft (Job job) (Some Claimed)
-drawn p (Commit w) (answer.Committed boot job) =
-    tracked (said p Craft weight.Plain mark.Nothing (job_words w (codes "commits") boot job [])) Craft (Job job) (Some Committed)
-drawn p (Commit w) (answer.Stale boot job) =
-    said p Craft weight.Plain mark.Stale (job_words w (codes "hands in") boot job (codes ": stale"))
-drawn p Apply (answer.Applied a) =
-    opened_by (without_job (said p Craft weight.Strong (applied_mark a)
+event_drawn p (Claim w) (answer.Claimed boot job) =
+    stage_tracked
+    (row_said p Craft weight.Plain mark.Nothing (job_words w (codes "claims") boot job [])) Craft
+    (Job job) (Some Claimed)
+event_drawn p (Commit w) (answer.Committed boot job) =
+    stage_tracked
+    (row_said p Craft weight.Plain mark.Nothing (job_words w (codes "commits") boot job [])) Craft
+    (Job job) (Some Committed)
+event_drawn p (Commit w) (answer.Stale boot job) =
+    row_said p Craft weight.Plain mark.Stale
+    (job_words w (codes "hands in") boot job (codes ": stale"))
+event_drawn p Apply (answer.Applied a) =
+    opened_by (without_job (row_said p Craft weight.Strong (applied_mark a)
     (applied_words p.source p.boot p.applied (option_flatten (slice_get p.tasks p.applied)) a))) a
-drawn p (Retire d name) answer.Retired =
-    said p (sender_side d) weight.Plain mark.Retired
-    (joined (codes "retired " ∷ direction_word d ∷ codes " " ∷ name_text p.source name ∷ []))
-drawn p (Restart Ground) (answer.Restarted boot) =
-    cleared (said p Ground weight.Strong mark.Restarted (joined (codes "starts anew: boot " ∷ decimal boot ∷ []))) Ground
-drawn p (Restart Craft) (answer.Restarted boot) =
-    record (cleared (said p Craft weight.Strong mark.Restarted (joined (codes "starts anew: boot " ∷ decimal boot ∷ []))) Craft)
+event_drawn p (Retire d name) answer.Retired =
+    row_said p (sender_side d) weight.Plain mark.Retired
+    (words_joined (codes "retired " ∷ direction_word d ∷ codes " " ∷ name_text p.source name ∷ []))
+event_drawn p (Restart Ground) (answer.Restarted boot) =
+    columns_cleared
+    (row_said p Ground weight.Strong mark.Restarted
+    (words_joined (codes "starts anew: boot " ∷ decimal boot ∷ []))) Ground
+event_drawn p (Restart Craft) (answer.Restarted boot) =
+    record (columns_cleared
+    (row_said p Craft weight.Strong mark.Restarted
+    (words_joined (codes "starts anew: boot " ∷ decimal boot ∷ []))) Craft)
     { boot = boot; tasks = []; applied = 0 }
-drawn p _ _ = p
+event_drawn p _ _ = p
 
 -- how many packets of its own an event puts
 abbrev pub own_puts : Event → Option Puts → ℕ
@@ -173,12 +212,14 @@ own_puts _ puts = 0
 -- the picture after the entry of this place
 abbrev pub after : Picture → ℕ → Entry → Picture
 after p place x =
-    reported (own_puts x.event x.reply.puts) (drawn (record p { place = place }) x.event x.reply.answer)
+    reports_drawn (own_puts x.event x.reply.puts)
+    (event_drawn (record p { place = place }) x.event x.reply.answer)
 
 -- a row for a refused line
 abbrev pub refusal_row : Picture → Refusal → Picture
 refusal_row p r =
-    rowed (record p { place = r.place }) p.next false false false r.side weight.Quiet mark.Refused (refusal_words r)
+    row_added (record p { place = r.place }) p.next false false false r.side weight.Quiet
+    mark.Refused (refusal_words r)
 
 -- how many refused lines come before the entry of a place
 abbrev pub before : ℕ → List Refusal → ℕ
@@ -193,8 +234,8 @@ after_all p place (x ∷ xs) refused =
     (drop (before place refused) refused)
 
 -- the picture of a journal, to its end: what is open goes on to the last row
-abbrev pub closed : Picture → Picture
-closed p = record p {
+abbrev pub picture_closed : Picture → Picture
+picture_closed p = record p {
   rows = p.rows ++ option_to_list p.last;
   last = None;
   bars = (p.bars ++ all_bars Ground p.next 0 p.ground) ++ all_bars Craft p.next 0 p.craft;
@@ -203,7 +244,8 @@ closed p = record p {
 -- the picture of a journal, with lines that were refused, where this source is configured, and this is
 -- known of packets and openings
 abbrev pub picture : (source : ℕ) → List Kind → List Opened → List Entry → List Refusal → Picture
-picture source kinds opened journal refused = closed (after_all (blank source kinds opened) 0 journal refused)
+picture source kinds opened journal refused =
+    picture_closed (after_all (blank source kinds opened) 0 journal refused)
 
 -- a delivery: its place in the journal, its lane, and what became of the packet
 pub record Delivery : Type 0 where

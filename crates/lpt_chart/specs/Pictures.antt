@@ -83,8 +83,9 @@ ground_of last on = option_map_or (λ r. if on then r.dark else not r.dark) last
 
 -- a row more at this height: whether it goes on with the last, shows its place, and has a line to its
 -- words; the greatest height is 2 ^ 32 - 1
-unfoldable pub rowed : Picture → (at : ℕ) → (on numbered lined : Bool) → Side → Weight → Mark → (words : List ℕ) → Picture
-rowed p at on numbered lined side weight mark words = record p {
+unfoldable pub row_added : Picture → (at : ℕ) → (on numbered lined : Bool) → Side → Weight → Mark
+    → (words : List ℕ) → Picture
+row_added p at on numbered lined side weight mark words = record p {
   here = at;
   next = min (at + 2) (2 ^ 32 - 1);
   rows = p.rows ++ option_to_list p.last;
@@ -102,8 +103,8 @@ rowed p at on numbered lined side weight mark words = record p {
 }
 
 -- an event's row
-abbrev pub said : Picture → Side → Weight → Mark → (words : List ℕ) → Picture
-said p side weight mark words = rowed p p.next false true true side weight mark words
+abbrev pub row_said : Picture → Side → Weight → Mark → (words : List ℕ) → Picture
+row_said p side weight mark words = row_added p p.next false true true side weight mark words
 
 -- whether a row says that this lane took a packet
 abbrev pub takes : Lane → Mark → Bool
@@ -111,15 +112,16 @@ takes lane (mark.Took l) = same_lane lane l
 takes lane _ = false
 
 -- the row without its words and the line to them
-abbrev pub hushed : Option Row → Option Row
-hushed last = option_map {T = Row} (λ r. record r { lined = false; words = [] }) last
+abbrev pub row_hushed : Option Row → Option Row
+row_hushed last = option_map {T = Row} (λ r. record r { lined = false; words = [] }) last
 
 -- a delivery's row: right below the row in which its lane took the packet, where that is the last
-unfoldable pub landed : Picture → Lane → Side → Weight → (words : List ℕ) → Picture
-landed p lane side weight words =
+unfoldable pub flight_landed : Picture → Lane → Side → Weight → (words : List ℕ) → Picture
+flight_landed p lane side weight words =
     if option_map_or (λ r. takes lane r.mark) p.last false
-    then rowed (record p { last = hushed p.last }) (p.next - 1) true true true side weight mark.Nothing words
-    else said p side weight mark.Nothing words
+    then row_added (record p { last = row_hushed p.last }) (p.next - 1) true true true side weight
+    mark.Nothing words
+    else row_said p side weight mark.Nothing words
 
 -- how many ticks of this node the last row tells
 abbrev pub ticks_in : Mark → ℕ
@@ -134,10 +136,10 @@ abbrev pub retold : Option Row → (run : ℕ) → (words : List ℕ) → Option
 retold last run words = option_map {T = Row} (λ r. record r { mark = mark.Ticks run; words = words }) last
 
 -- a tick: ticks of one node in a row are one row
-unfoldable pub ticked : Picture → Side → (clock : ℕ) → Picture
-ticked p side clock =
+unfoldable pub clock_drawn : Picture → Side → (clock : ℕ) → Picture
+clock_drawn p side clock =
     let run : ℕ = one_more (run_of side p.last) in
-    if run == 1 then said p side Quiet (mark.Ticks run) (tick_words clock run)
+    if run == 1 then row_said p side Quiet (mark.Ticks run) (tick_words clock run)
     else record p { last = retold p.last run (tick_words clock run) }
 
 -- a packet more, of these words, that noise may have left; of how many parts its message is, and what
@@ -171,8 +173,9 @@ abbrev pub without : List Sent → ℕ → List Sent
 without sent n = option_map_or (λ s. slice_set sent n (record s { gone = true })) (slice_get sent n) sent
 
 -- a lane takes a packet
-unfoldable pub taken : Picture → Lane → ℕ → Picture
-taken p lane n = record p { sent = without p.sent n; hands = with_hand p.hands lane (held_now p n) }
+unfoldable pub packet_taken : Picture → Lane → ℕ → Picture
+packet_taken p lane n =
+    record p { sent = without p.sent n; hands = with_hand p.hands lane (held_now p n) }
 
 -- a delivery is drawn, and the hand is empty
 unfoldable pub flown : Picture → Lane → Outcome → Picture
@@ -183,8 +186,9 @@ flown p lane o = record p {
 }
 
 -- a loss is drawn
-unfoldable pub lost : Picture → ℕ → Picture
-lost p n = record p { sent = without p.sent n; losses = p.losses ++ option_to_list (held_now p n) }
+unfoldable pub packet_lost : Picture → ℕ → Picture
+packet_lost p n =
+    record p { sent = without p.sent n; losses = p.losses ++ option_to_list (held_now p n) }
 
 -- what the next packet is, where it is the spacecraft's own: a report
 abbrev pub own_words : Picture → List ℕ
@@ -194,13 +198,14 @@ own_words p =
 -- a packet of the spacecraft's own, with a row that goes on with the last
 unfoldable pub own_put : Picture → Picture
 own_put p =
-    put (rowed p p.next true false true Craft Quiet (mark.Bead Down (length p.sent) false) (own_words p))
+    put (row_added p p.next true false true Craft Quiet (mark.Bead Down (length p.sent) false)
+    (own_words p))
     Down (own_words p) false 0 None
 
 -- so many of them
-abbrev pub reported : ℕ → Picture → Picture
-reported zero p = p
-reported (suc k) p = reported k (own_put p)
+abbrev pub reports_drawn : ℕ → Picture → Picture
+reports_drawn zero p = p
+reports_drawn (suc k) p = reports_drawn k (own_put p)
 
 -- the first at ground, the second at the spacecraft
 abbrev pub at_side : {A : Type 0} → Side → A → A → A
@@ -219,20 +224,22 @@ abbrev pub column_of : List (Option Track) → Thing → Option ℕ
 column_of columns thing = position (λ c. option_map_or (λ t. same_thing t.thing thing) c false) columns
 
 -- the columns, where a track begins in the first that is free; of more than 64 none is drawn
-abbrev pub begun : List (Option Track) → Option ℕ → Track → List (Option Track)
-begun columns (Some i) t = slice_set columns i (Some t)
-begun columns None t = if nat_lt (length columns) 64 then columns ++ Some t ∷ [] else columns
+abbrev pub track_begun : List (Option Track) → Option ℕ → Track → List (Option Track)
+track_begun columns (Some i) t = slice_set columns i (Some t)
+track_begun columns None t = if nat_lt (length columns) 64 then columns ++ Some t ∷ [] else columns
 
 -- the columns, where this one has that track, or a track begins
-abbrev pub placed : List (Option Track) → Option ℕ → Option Track → List (Option Track)
-placed columns (Some i) t = slice_set columns i t
-placed columns None None = columns
-placed columns None (Some t) = begun columns (position (λ c. is_none c) columns) t
+abbrev pub track_placed : List (Option Track) → Option ℕ → Option Track → List (Option Track)
+track_placed columns (Some i) t = slice_set columns i t
+track_placed columns None None = columns
+track_placed columns None (Some t) = track_begun columns (position (λ c. is_none c) columns) t
 
 -- the columns, where a track comes to a stage here, or to its end
-abbrev pub moved : (here : ℕ) → List (Option Track) → Thing → Option Stage → List (Option Track)
-moved here columns thing stage =
-    placed columns (column_of columns thing) (option_map {U = Track} (λ s. record { thing = thing; from = here; stage = s }) stage)
+abbrev pub track_moved : (here : ℕ) → List (Option Track) → Thing → Option Stage
+    → List (Option Track)
+track_moved here columns thing stage =
+    track_placed columns (column_of columns thing)
+    (option_map {U = Track} (λ s. record { thing = thing; from = here; stage = s }) stage)
 
 -- the piece of a column's track, up to here
 abbrev pub bar_up_to : Side → (here i : ℕ) → Option Track → List Bar
@@ -254,16 +261,16 @@ abbrev pub open_at : Picture → Side → List (Option Track)
 open_at p side = at_side side p.ground p.craft
 
 -- a track comes to a stage, or to its end: its piece up to here is drawn
-unfoldable pub tracked : Picture → Side → Thing → Option Stage → Picture
-tracked p side thing stage = record p {
-  ground = at_side side (moved p.here p.ground thing stage) p.ground;
-  craft = at_side side p.craft (moved p.here p.craft thing stage);
+unfoldable pub stage_tracked : Picture → Side → Thing → Option Stage → Picture
+stage_tracked p side thing stage = record p {
+  ground = at_side side (track_moved p.here p.ground thing stage) p.ground;
+  craft = at_side side p.craft (track_moved p.here p.craft thing stage);
   bars = p.bars ++ bar_in side p.here (open_at p side) (column_of (open_at p side) thing);
 }
 
 -- all tracks of a node end
-unfoldable pub cleared : Picture → Side → Picture
-cleared p side = record p {
+unfoldable pub columns_cleared : Picture → Side → Picture
+columns_cleared p side = record p {
   ground = at_side side (replicate (length p.ground) None) p.ground;
   craft = at_side side p.craft (replicate (length p.craft) None);
   bars = p.bars ++ all_bars side p.here 0 (open_at p side);
@@ -324,8 +331,11 @@ asked_in Down message = None
 -- a job is released that asks for this
 unfoldable pub with_job : Picture → Option Task → Picture
 with_job p task =
-    record (tracked p Craft (Job (length p.tasks)) (Some Waits)) { tasks = p.tasks ++ task ∷ [] }
+    record (stage_tracked p Craft (Job (length p.tasks)) (Some Waits)) {
+      tasks = p.tasks ++ task
+          ∷ [];
+    }
 
 -- a job was executed
 unfoldable pub without_job : Picture → Picture
-without_job p = record (tracked p Craft (Job p.applied) None) { applied = one_more p.applied }
+without_job p = record (stage_tracked p Craft (Job p.applied) None) { applied = one_more p.applied }

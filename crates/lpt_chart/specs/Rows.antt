@@ -22,8 +22,8 @@ told_in (Group t) = Of t ∷ []
 told_in _ = []
 
 -- what shapes tell, one behind the other
-unfoldable pub told : List Shape → List Told
-told shapes = flat_map told_in shapes
+unfoldable pub shapes_told : List Shape → List Told
+shapes_told shapes = flat_map told_in shapes
 
 -- it is told, where this is so
 abbrev pub where_so : Bool → Told → List Told

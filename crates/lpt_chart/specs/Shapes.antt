@@ -7,7 +7,7 @@ use Rattle.lpt_chart.specs.declared.shape.Shape.TheVariants.{Line, Box, Text, Gr
 use Rattle.lpt_chart.specs.declared.shape.Shape.TheVariants as shape
 use Rattle.lpt_chart.specs.declared.shape.Sign.TheVariants.{HeadRight, HeadLeft, Cross, Hourglass}
 use Rattle.lpt_chart.specs.Styles.{letters_text, style_text}
-use Rattle.lpt_chart.specs.Words.{joined}
+use Rattle.lpt_chart.specs.Words.{words_joined}
 
 -- an octet of a text: what has a meaning in an element is written by its name, and what isn't a
 -- character of ASCII that is seen as a question mark
@@ -22,8 +22,8 @@ escaped_octet b =
     else b ∷ []
 
 -- a text, each octet escaped
-unfoldable pub escaped : List ℕ → List ℕ
-escaped t = flat_map escaped_octet t
+unfoldable pub text_escaped : List ℕ → List ℕ
+text_escaped t = flat_map escaped_octet t
 
 -- whether an octet can stand in a text: it is a character of ASCII that is seen, and neither opens
 -- nor closes an element
@@ -34,9 +34,10 @@ is_plain b = nat_le 32 b && nat_le b 126 && not (b == 60) && not (b == 62)
 unfoldable pub seen_text : (most : ℕ) → List ℕ → List ℕ
 seen_text most t =
     if nat_lt most (length t)
-    then joined (codes "<title>" ∷ escaped t ∷ codes "</title>" ∷ escaped (take (most - 2) t)
+    then words_joined
+    (codes "<title>" ∷ text_escaped t ∷ codes "</title>" ∷ text_escaped (take (most - 2) t)
     ∷ codes ".." ∷ [])
-    else escaped t
+    else text_escaped t
 
 -- the end of an element
 abbrev pub end_text : List ℕ
@@ -44,7 +45,8 @@ end_text = codes "/>" ++ 10 ∷ []
 
 -- the attributes of a size
 abbrev pub size_text : (wide high : ℕ) → List ℕ
-size_text wide high = joined (codes "width='" ∷ decimal wide ∷ codes "' height='" ∷ decimal high ∷ codes "'" ∷ [])
+size_text wide high = words_joined
+    (codes "width='" ∷ decimal wide ∷ codes "' height='" ∷ decimal high ∷ codes "'" ∷ [])
 
 -- the steps of a sign, from its point on
 abbrev pub sign_steps : Sign → List ℕ
@@ -56,7 +58,8 @@ sign_steps Hourglass = codes "m-5 -6h10l-10 12h10z"
 -- the size of a part, and the heights that it shows, from one on
 unfoldable pub view_text : (wide high top : ℕ) → List ℕ
 view_text wide high top =
-    joined (codes " width='" ∷ decimal wide ∷ codes "' height='" ∷ decimal high ∷ codes "' viewBox='0 "
+    words_joined
+    (codes " width='" ∷ decimal wide ∷ codes "' height='" ∷ decimal high ∷ codes "' viewBox='0 "
     ∷ decimal top ∷ codes " " ∷ decimal wide ∷ codes " " ∷ decimal high ∷ codes "'>" ∷ (10 ∷ []) ∷ [])
 
 -- the end of a part
@@ -66,28 +69,36 @@ closing_text = codes "</svg>" ++ 10 ∷ []
 -- a shape
 unfoldable pub shape_text : Shape → List ℕ
 shape_text (Line x0 y0 x1 y1 look) =
-    joined (codes "<path d='M" ∷ decimal x0 ∷ codes " " ∷ decimal y0 ∷ codes "L" ∷ decimal x1 ∷ codes " " ∷ decimal y1
+    words_joined
+    (codes "<path d='M" ∷ decimal x0 ∷ codes " " ∷ decimal y0 ∷ codes "L" ∷ decimal x1 ∷ codes " "
+    ∷ decimal y1
     ∷ codes "' " ∷ style_text look ∷ end_text ∷ [])
 shape_text (Box x y wide high round look) =
-    joined (codes "<rect x='" ∷ decimal x ∷ codes "' y='" ∷ decimal y ∷ codes "' " ∷ size_text wide high ∷ codes " rx='"
+    words_joined
+    (codes "<rect x='" ∷ decimal x ∷ codes "' y='" ∷ decimal y ∷ codes "' " ∷ size_text wide high
+    ∷ codes " rx='"
     ∷ decimal round ∷ codes "' " ∷ style_text look ∷ end_text ∷ [])
 shape_text (shape.Sign x y sign look) =
-    joined (codes "<path d='M" ∷ decimal x ∷ codes " " ∷ decimal y ∷ sign_steps sign ∷ codes "' " ∷ style_text look ∷ end_text ∷ [])
+    words_joined
+    (codes "<path d='M" ∷ decimal x ∷ codes " " ∷ decimal y ∷ sign_steps sign ∷ codes "' "
+    ∷ style_text look ∷ end_text ∷ [])
 shape_text (Text x y letters most t) =
-    joined (codes "<text x='" ∷ decimal x ∷ codes "' y='" ∷ decimal y ∷ codes "' " ∷ letters_text letters ∷ codes ">"
+    words_joined
+    (codes "<text x='" ∷ decimal x ∷ codes "' y='" ∷ decimal y ∷ codes "' " ∷ letters_text letters
+    ∷ codes ">"
     ∷ seen_text most t ∷ codes "</text>" ∷ (10 ∷ []) ∷ [])
-shape_text (Group t) = joined (codes "<g><title>" ∷ escaped t ∷ codes "</title>" ∷ [])
+shape_text (Group t) = words_joined (codes "<g><title>" ∷ text_escaped t ∷ codes "</title>" ∷ [])
 shape_text GroupEnd = codes "</g>" ++ 10 ∷ []
 shape_text (Part y wide high top) =
-    joined (codes "<svg x='0' y='" ∷ decimal y ∷ codes "'" ∷ view_text wide high top ∷ [])
+    words_joined (codes "<svg x='0' y='" ∷ decimal y ∷ codes "'" ∷ view_text wide high top ∷ [])
 shape_text PartEnd = closing_text
 
 -- the beginning of a picture: its size, its letters, its title, and what it shows
 unfoldable pub opening_text : (wide high : ℕ) → (title counts : List ℕ) → List ℕ
 opening_text wide high title counts =
-    joined (codes "<svg xmlns='http://www.w3.org/2000/svg' width='" ∷ decimal wide
+    words_joined (codes "<svg xmlns='http://www.w3.org/2000/svg' width='" ∷ decimal wide
     ∷ codes "' height='" ∷ decimal high ∷ codes "'" ∷ LETTERS_HEAD.now ∷ [])
-    ++ escaped title ++ DESC_HEAD.now ++ escaped counts ++ (codes "</desc>" ++ 10 ∷ [])
+    ++ text_escaped title ++ DESC_HEAD.now ++ text_escaped counts ++ (codes "</desc>" ++ 10 ∷ [])
 
 -- whether a text begins with a word
 abbrev pub begins : (word text : List ℕ) → Bool

@@ -24,10 +24,10 @@ use Rattle.lpt_chart.specs.declared.marks.Stage.TheVariants.{Sending, Kept, Wait
 use Rattle.lpt_chart.specs.declared.marks.Thing.TheVariants.{Sender, Reception, Job}
 
 -- pieces of a text, one behind the other
-abbrev pub joined : List (List ℕ) → List ℕ
-joined [] = []
-joined (w ∷ []) = w
-joined (w ∷ v ∷ ws) = w ++ joined (v ∷ ws)
+abbrev pub words_joined : List (List ℕ) → List ℕ
+words_joined [] = []
+words_joined (w ∷ []) = w
+words_joined (w ∷ v ∷ ws) = w ++ words_joined (v ∷ ws)
 
 -- what makes a word of more than one thing, behind it
 abbrev pub plural : (count : ℕ) → List ℕ
@@ -91,81 +91,95 @@ code_word TooManyOpen = codes "8 too many open"
 
 -- of how many parts, where that is known
 unfoldable pub of_words : (parts : ℕ) → List ℕ
-of_words parts = if parts == 0 then [] else joined (codes " of " ∷ decimal parts ∷ [])
+of_words parts = if parts == 0 then [] else words_joined (codes " of " ∷ decimal parts ∷ [])
 
 -- a request and a report of a type
 unfoldable pub request_words : (service subtype : ℕ) → List ℕ
 request_words service subtype =
-    joined (codes "request " ∷ decimal service ∷ codes "," ∷ decimal subtype ∷ request_word service subtype ∷ [])
+    words_joined
+    (codes "request " ∷ decimal service ∷ codes "," ∷ decimal subtype ∷ request_word service subtype
+    ∷ [])
 
 unfoldable pub report_words : (service subtype : ℕ) → List ℕ
 report_words service subtype =
-    joined (codes "report " ∷ decimal service ∷ codes "," ∷ decimal subtype ∷ report_word service subtype ∷ [])
+    words_joined
+    (codes "report " ∷ decimal service ∷ codes "," ∷ decimal subtype ∷ report_word service subtype
+    ∷ [])
 
 -- a clock, after so many ticks in a row
 unfoldable pub tick_words : (clock run : ℕ) → List ℕ
 tick_words clock run =
-    if run == 1 then joined (codes "clock " ∷ decimal clock ∷ [])
-    else joined (codes "clock " ∷ decimal clock ∷ codes " (" ∷ decimal run ∷ codes " ticks)" ∷ [])
+    if run == 1 then words_joined (codes "clock " ∷ decimal clock ∷ [])
+    else words_joined
+    (codes "clock " ∷ decimal clock ∷ codes " (" ∷ decimal run ∷ codes " ticks)" ∷ [])
 
 -- what a worker does with a job
 unfoldable pub job_words : Worker → (does : List ℕ) → (boot job : ℕ) → (end : List ℕ) → List ℕ
 job_words w does boot job end =
-    joined (worker_word w ∷ codes " " ∷ does ∷ codes " job " ∷ decimal boot ∷ codes "." ∷ decimal job ∷ end ∷ [])
+    words_joined
+    (worker_word w ∷ codes " " ∷ does ∷ codes " job " ∷ decimal boot ∷ codes "." ∷ decimal job ∷ end
+    ∷ [])
 
 -- how many areas more there are
 unfoldable pub more_words : Task → List ℕ
 more_words task =
     if nat_le task.areas 1 then []
-    else joined (codes " and " ∷ decimal (task.areas - 1) ∷ codes " area" ∷ plural (task.areas - 1) ∷ [])
+    else words_joined
+    (codes " and " ∷ decimal (task.areas - 1) ∷ codes " area" ∷ plural (task.areas - 1) ∷ [])
 
 -- what an executed request has changed: a load a memory, from the address of its first area on
 unfoldable pub change_words : Task → List ℕ
 change_words task =
     if (task.service == 6) && (task.subtype == 2)
-    then joined (codes ", memory " ∷ decimal task.memory ∷ codes " at " ∷ decimal task.address ∷ codes ": "
+    then words_joined
+    (codes ", memory " ∷ decimal task.memory ∷ codes " at " ∷ decimal task.address ∷ codes ": "
     ∷ decimal task.octets ∷ codes " octet" ∷ plural task.octets ∷ more_words task ∷ [])
     else []
 
 -- what the execution of a job came to
 unfoldable pub ended_words : (source : ℕ) → Option Task → Applied → List ℕ
 ended_words source task (Done None) =
-    joined (codes ": done" ∷ option_map_or (λ t. change_words t) task [] ∷ [])
-ended_words source task (Done (Some name)) = joined (codes ": done, opens down " ∷ name_text source name ∷ [])
+    words_joined (codes ": done" ∷ option_map_or (λ t. change_words t) task [] ∷ [])
+ended_words source task (Done (Some name)) =
+    words_joined (codes ": done, opens down " ∷ name_text source name ∷ [])
 ended_words source task Silent = codes ": no request, nothing done"
-ended_words source task (Code code) = joined (codes ": refused, " ∷ code_word code ∷ [])
+ended_words source task (Code code) = words_joined (codes ": refused, " ∷ code_word code ∷ [])
 
 -- a job, what it is, and what its execution came to
 unfoldable pub applied_words : (source : ℕ) → (boot job : ℕ) → Option Task → Applied → List ℕ
 applied_words source boot job task a =
-    joined (codes "job " ∷ decimal boot ∷ codes "." ∷ decimal job
+    words_joined (codes "job " ∷ decimal boot ∷ codes "." ∷ decimal job
     ∷ option_map_or (λ t. request_word t.service t.subtype) task [] ∷ ended_words source task a ∷ [])
 
 -- a refused line: its fault, its number, and the line
 unfoldable pub refusal_words : Refusal → List ℕ
 refusal_words r =
-    joined (codes "refused " ∷ decimal (code_of r.fault) ∷ codes " " ∷ name_of r.fault ∷ codes ", line " ∷ decimal r.line
+    words_joined
+    (codes "refused " ∷ decimal (code_of r.fault) ∷ codes " " ∷ name_of r.fault ∷ codes ", line "
+    ∷ decimal r.line
     ∷ codes ": " ∷ r.words ∷ [])
 
 -- how much has happened
 unfoldable pub counts_words : (events packets flights losses : ℕ) → List ℕ
 counts_words events packets flights losses =
-    joined (decimal events ∷ codes " event" ∷ plural events ∷ codes ", " ∷ decimal packets ∷ codes " packet"
+    words_joined
+    (decimal events ∷ codes " event" ∷ plural events ∷ codes ", " ∷ decimal packets
+    ∷ codes " packet"
     ∷ plural packets ∷ codes ", " ∷ decimal flights ∷ codes " delivered, " ∷ decimal losses ∷ codes " lost" ∷ [])
 
 -- that rows are left out, above, below, or both
 unfoldable pub hidden_words : (above below : ℕ) → List ℕ
 hidden_words above below =
-    if above == 0 then joined
+    if above == 0 then words_joined
     (codes "rows left out: " ∷ decimal below ∷ codes " below; --from and --to choose" ∷ [])
-    else if below == 0 then joined
+    else if below == 0 then words_joined
     (codes "rows left out: " ∷ decimal above ∷ codes " above; --from and --to choose" ∷ [])
-    else joined (codes "rows left out: " ∷ decimal above ∷ codes " above, " ∷ decimal below
+    else words_joined (codes "rows left out: " ∷ decimal above ∷ codes " above, " ∷ decimal below
     ∷ codes " below; --from and --to choose" ∷ [])
 
 -- a packet by its words
 unfoldable pub packet_words : (words : List ℕ) → (number : ℕ) → List ℕ
-packet_words words number = joined (words ∷ codes ", packet " ∷ decimal number ∷ [])
+packet_words words number = words_joined (words ∷ codes ", packet " ∷ decimal number ∷ [])
 
 -- how a thing is named: by its transaction's name, or by its number
 unfoldable pub thing_words : (source : ℕ) → Thing → List ℕ
@@ -181,10 +195,10 @@ sends Craft = Down
 -- what a piece of the track of a thing of this name is
 unfoldable pub piece_words : Side → (name : List ℕ) → Stage → List ℕ
 piece_words side name (Sending n task) =
-    joined (codes "sender of " ∷ direction_word (sends side) ∷ codes " " ∷ name ∷ [])
+    words_joined (codes "sender of " ∷ direction_word (sends side) ∷ codes " " ∷ name ∷ [])
 piece_words side name (Kept k n) =
-    joined (codes "reception of " ∷ direction_word (direction_to side) ∷ codes " " ∷ name
+    words_joined (codes "reception of " ∷ direction_word (direction_to side) ∷ codes " " ∷ name
     ∷ codes ": kept " ∷ decimal k ∷ [])
-piece_words side name Waits = joined (codes "job " ∷ name ∷ codes " waits" ∷ [])
-piece_words side name Claimed = joined (codes "job " ∷ name ∷ codes " is claimed" ∷ [])
-piece_words side name Committed = joined (codes "job " ∷ name ∷ codes " is committed" ∷ [])
+piece_words side name Waits = words_joined (codes "job " ∷ name ∷ codes " waits" ∷ [])
+piece_words side name Claimed = words_joined (codes "job " ∷ name ∷ codes " is claimed" ∷ [])
+piece_words side name Committed = words_joined (codes "job " ∷ name ∷ codes " is committed" ∷ [])

@@ -1,12 +1,12 @@
 //! What a delivery and the execution of a job draw, and what they do to what is open.
 
 ghost use Rattle.std.specs.Prelude.{◌≡◌, ◌==◌, position, IfOk, OnOk, string_bytes};
-ghost use Rattle.lpt_chart.specs.Events.{applied_mark, came_to, delivered, drawn, kept_then, opened_by, outcome_weight, outcome_words, parts_held, parts_opened, task_held};
+ghost use Rattle.lpt_chart.specs.Events.{applied_mark, came_to, delivery_drawn, event_drawn, kept_then, opened_by, outcome_weight, outcome_words, parts_held, parts_opened, task_held};
 
 use crate::marks::{Held, Mark, Opened, Stage, Task, Thing};
 use crate::picture::Picture;
 use crate::style::{Style, Weight};
-use crate::tracks::kept;
+use crate::tracks::parts_kept;
 use crate::words::{applied_words, of_words, reason_word, report_words};
 use lpt_events::{Answer, Applied, Event, Lane, Outcome, Side, name_word};
 use lpt_packet::{Direction, Name};
@@ -15,7 +15,7 @@ use std::alloc::AllocError;
 impl Picture {
     // A packet is delivered.
     pub(crate) fn deliver(&mut self, lane: Lane, outcome: Outcome) -> Result<(), AllocError>
-        ensures { OnOk result (self.new ≡ delivered self.old lane outcome) }
+        ensures { OnOk result (self.new ≡ delivery_drawn self.old lane outcome) }
     {
         let (direction, held) = (lane.direction(), self.hand(lane));
         let words = self.outcome_words(held, direction, outcome)?;
@@ -35,7 +35,7 @@ impl Picture {
         ensures { result ≡ kept_then self.now direction name }
     {
         let stage = self.stage_of(Side::receiver(direction), Thing::Reception(name));
-        kept(stage).saturating_add(1)
+        parts_kept(stage).saturating_add(1)
     }
 
     // What a delivery came to. What is released at the spacecraft is a job.
@@ -120,7 +120,7 @@ impl Picture {
 
     // A job is executed.
     pub(crate) fn execute(&mut self, applied: Applied) -> Result<(), AllocError>
-        ensures { OnOk result (self.new ≡ drawn self.old Event.Apply (Answer.Applied applied)) }
+        ensures { OnOk result (self.new ≡ event_drawn self.old Event.Apply (Answer.Applied applied)) }
     {
         let (boot, job) = (self.boot, self.applied);
         let task = self.tasks.get(job as usize).copied().flatten();

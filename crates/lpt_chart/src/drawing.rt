@@ -1,15 +1,15 @@
 //! What each event draws.
 
 ghost use Rattle.std.specs.Prelude.{◌≡◌, ◌≤◌, fold, length, nat_lt, position, IfOk, IfSome, OnOk, [], string_bytes};
-ghost use Rattle.lpt_chart.specs.Events.{after, after_all, before, closed, drawn, own_puts, packet_put, picture, refusal_row};
-ghost use Rattle.lpt_chart.specs.Pictures.{said, tracked};
+ghost use Rattle.lpt_chart.specs.Events.{after, after_all, before, picture_closed, event_drawn, own_puts, packet_put, picture, refusal_row};
+ghost use Rattle.lpt_chart.specs.Pictures.{row_said, stage_tracked};
 ghost use Rattle.lpt_chart.specs.Words.{job_words};
 
 use crate::marks::{Kind, Mark, Opened, Refusal, Stage, Task, Thing};
 use crate::picture::Picture;
 use crate::style::{Style, Weight};
 use crate::task::{asked_from, asked_in};
-use crate::tracks::{kept, parts, task};
+use crate::tracks::{parts, parts_kept, task};
 use crate::words::{job_words, lane_word, of_words, plural, refusal_words, request_words};
 use lpt_events::{Answer, Entry, Event, Lane, Puts, Side, Worker, name_word};
 use lpt_packet::{Direction, Name, Octets};
@@ -59,7 +59,8 @@ impl Picture {
     // Draws all entries, and the lines that were refused between them.
     #[tactic(auto, using(crate::proofs::PictureLemmas::entry_step))]
     fn draw_all(&mut self, journal: &[Entry], refused: &[Refusal]) -> Result<(), AllocError>
-        ensures { OnOk result (self.new ≡ closed (after_all self.old 0 journal.now refused.now)) }
+        ensures { OnOk result
+            (self.new ≡ picture_closed (after_all self.old 0 journal.now refused.now)) }
     {
         let mut rest = refused;
         for (place, entry) in journal.iter().enumerate() {
@@ -112,7 +113,7 @@ impl Picture {
 
     // Draws an event by its answer.
     fn draw(&mut self, event: &Event, answer: Answer) -> Result<(), AllocError>
-        ensures { OnOk result (self.new ≡ drawn self.old event.now answer) }
+        ensures { OnOk result (self.new ≡ event_drawn self.old event.now answer) }
     {
         match (event, answer) {
             (Event::Open(direction, name, message), Answer::Opened(parts)) => {
@@ -162,7 +163,8 @@ impl Picture {
         parts: u16,
     ) -> Result<(), AllocError>
         ensures { OnOk result
-            (self.new ≡ drawn self.old (Event.Open direction name message.now) (Answer.Opened parts)) }
+            (self.new ≡ event_drawn self.old (Event.Open direction name message.now)
+            (Answer.Opened parts)) }
     {
         let (side, task) = (
             Side::sender(direction),
@@ -206,7 +208,7 @@ impl Picture {
         number: u64,
     ) -> Result<(), AllocError>
         ensures { OnOk result
-            (self.new ≡ drawn self.old (Event.Send direction name part) (Answer.Put number)) }
+            (self.new ≡ event_drawn self.old (Event.Send direction name part) (Answer.Put number)) }
     {
         let stage = self.stage_of(Side::sender(direction), Thing::Sender(name));
         let of = of_words(self.alloc(), parts(stage))?;
@@ -223,7 +225,8 @@ impl Picture {
         number: u64,
     ) -> Result<(), AllocError>
         ensures { OnOk result
-            (self.new ≡ drawn self.old (Event.Damage direction octets.now) (Answer.Put number)) }
+            (self.new ≡ event_drawn self.old (Event.Damage direction octets.now)
+            (Answer.Put number)) }
     {
         let octets = octets.as_slice().len() as u64;
         let s = plural(octets);
@@ -234,7 +237,7 @@ impl Picture {
     // A sender is closed.
     fn finish(&mut self, direction: Direction, name: Name) -> Result<(), AllocError>
         ensures { OnOk result
-            (self.new ≡ drawn self.old (Event.Finish direction name) Answer.Finished) }
+            (self.new ≡ event_drawn self.old (Event.Finish direction name) Answer.Finished) }
     {
         let (way, word) = (direction.word(), name_word(self.source, name));
         let (side, mark) = (Side::sender(direction), Mark::Square(Style::Finished));
@@ -249,7 +252,7 @@ impl Picture {
 
     // A packet is lost. Its row stands at ground where there is no such packet.
     fn lose_packet(&mut self, number: u64) -> Result<(), AllocError>
-        ensures { OnOk result (self.new ≡ drawn self.old (Event.Lose number) Answer.Lost) }
+        ensures { OnOk result (self.new ≡ event_drawn self.old (Event.Lose number) Answer.Lost) }
     {
         let side = match self.sent.get(number as usize) {
             Some(sent) => Side::sender(sent.direction),
@@ -262,7 +265,8 @@ impl Picture {
 
     // A lane takes a packet.
     fn take_packet(&mut self, lane: Lane, number: u64) -> Result<(), AllocError>
-        ensures { OnOk result (self.new ≡ drawn self.old (Event.Take lane number) (Answer.Took 0)) }
+        ensures { OnOk result
+            (self.new ≡ event_drawn self.old (Event.Take lane number) (Answer.Took 0)) }
     {
         let word = lane_word(lane);
         let words = format!(in self.alloc(); "{word} takes {number}")?;
@@ -274,12 +278,17 @@ impl Picture {
     // A reception has expired.
     fn expire(&mut self, direction: Direction, name: Name) -> Result<(), AllocError>
         ensures { OnOk result
-            (self.new ≡ drawn self.old (Event.Expire Side.Ground) (Answer.Expired direction name)) }
+            (self.new ≡ event_drawn self.old (Event.Expire Side.Ground)
+            (Answer.Expired direction name)) }
     {
         let (side, thing) = (Side::receiver(direction), Thing::Reception(name));
         let stage = self.stage_of(side, thing);
         let of = of_words(self.alloc(), parts(stage))?;
-        let (way, word, kept) = (direction.word(), name_word(self.source, name), kept(stage));
+        let (way, word, kept) = (
+            direction.word(),
+            name_word(self.source, name),
+            parts_kept(stage),
+        );
         let words = format!(in self.alloc(); "expired {way} {word}: {kept}{of}")?;
         self.say(side, Weight::Strong, Mark::Expired, words)?;
         self.track(side, thing, None)
@@ -294,8 +303,9 @@ impl Picture {
         job: u64,
         stage: Stage,
     ) -> Result<(), AllocError>
-        ensures { OnOk result (self.new ≡ tracked
-            (said self.old Side.Craft Weight.Plain Mark.Nothing (job_words worker does.now boot job []))
+        ensures { OnOk result (self.new ≡ stage_tracked
+            (row_said self.old Side.Craft Weight.Plain Mark.Nothing
+            (job_words worker does.now boot job []))
             Side.Craft (Thing.Job job) (Some stage)) }
     {
         let words = job_words(self.alloc(), worker, does, boot, job, "")?;
@@ -306,7 +316,7 @@ impl Picture {
     // A transaction is free at both ends.
     fn retire(&mut self, direction: Direction, name: Name) -> Result<(), AllocError>
         ensures { OnOk result
-            (self.new ≡ drawn self.old (Event.Retire direction name) Answer.Retired) }
+            (self.new ≡ event_drawn self.old (Event.Retire direction name) Answer.Retired) }
     {
         let (way, word) = (direction.word(), name_word(self.source, name));
         let words = format!(in self.alloc(); "retired {way} {word}")?;
@@ -315,7 +325,8 @@ impl Picture {
 
     // A node is restarted.
     fn restart(&mut self, side: Side, boot: u64) -> Result<(), AllocError>
-        ensures { OnOk result (self.new ≡ drawn self.old (Event.Restart side) (Answer.Restarted boot)) }
+        ensures { OnOk result
+            (self.new ≡ event_drawn self.old (Event.Restart side) (Answer.Restarted boot)) }
     {
         let words = format!(in self.alloc(); "starts anew: boot {boot}")?;
         self.say(side, Weight::Strong, Mark::Restarted, words)?;

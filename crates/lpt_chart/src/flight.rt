@@ -1,7 +1,7 @@
 //! How deliveries, losses, and packets that stay on the link are drawn.
 
 ghost use Rattle.std.specs.Prelude.{◌≡◌, ◌+◌, ◌<◌, ◌^◌, ◌∷◌, ◌++◌, [], decimal, IfOk, OnOk};
-ghost use Rattle.lpt_chart.specs.Rows.{At, bead_told, end_told, held_told, loss_told, packet_told, path_told, told, told_in};
+ghost use Rattle.lpt_chart.specs.Rows.{At, bead_told, end_told, held_told, loss_told, packet_told, path_told, shapes_told, told_in};
 
 use crate::frame::{Frame, half, holds, lane_x, middle_x, side_x, toward, y_of};
 use crate::marks::{Held, Sent};
@@ -48,7 +48,9 @@ fn add_stub(
 ) -> Result<(), AllocError>
     requires near { x < 2 ^ 40 }
     requires high { end < 2 ^ 40 }
-    ensures { OnOk result (told out.new.items ≡ told out.old.items ++ At (end + 4) (decimal number) ∷ []) }
+    ensures { OnOk result
+        (shapes_told out.new.items ≡ shapes_told out.old.items ++ At (end + 4) (decimal number)
+        ∷ []) }
 {
     draw(out, Shape::Line(x, y, toward(x, to, 24, 0), end, style))?;
     add_number(
@@ -77,7 +79,7 @@ fn add_path(
     requires from { x < 2 ^ 40 }
     requires to { to < 2 ^ 40 }
     ensures { OnOk result
-        (told out.new.items ≡ told out.old.items ++ path_told frame number at end) }
+        (shapes_told out.new.items ≡ shapes_told out.old.items ++ path_told frame number at end) }
 {
     let (y, y_end) = (y_of(at), y_of(end));
     match (holds(frame, at), holds(frame, end)) {
@@ -114,7 +116,8 @@ pub(crate) fn add_released(
     number: u64,
     direction: Direction,
 ) -> Result<(), AllocError>
-    ensures { OnOk result (told out.new.items ≡ told out.old.items ++ bead_told to number) }
+    ensures { OnOk result
+        (shapes_told out.new.items ≡ shapes_told out.old.items ++ bead_told to number) }
 {
     let (half, ring) = (half(number), Style::Ring(direction));
     let (left, top) = (x.saturating_sub(half + 3), y_of(to) - 10);
@@ -140,7 +143,8 @@ fn add_outcome(
     direction: Direction,
     outcome: Outcome,
 ) -> Result<(), AllocError>
-    ensures { OnOk result (told out.new.items ≡ told out.old.items ++ bead_told to number) }
+    ensures { OnOk result
+        (shapes_told out.new.items ≡ shapes_told out.old.items ++ bead_told to number) }
 {
     let white = Letters::BeadWhite;
     match outcome {
@@ -170,7 +174,7 @@ fn add_end(
     outcome: Option<Outcome>,
 ) -> Result<(), AllocError>
     ensures { OnOk result
-        (told out.new.items ≡ told out.old.items ++ end_told frame to number outcome) }
+        (shapes_told out.new.items ≡ shapes_told out.old.items ++ end_told frame to number outcome) }
 {
     let Some(outcome) = outcome else {
         return Ok(());
@@ -202,7 +206,8 @@ pub(crate) fn add_held(
     held: Option<Held>,
 ) -> Result<(), AllocError>
     ensures { OnOk result
-        (told out.new.items ≡ told out.old.items ++ held_told frame words.now to outcome held) }
+        (shapes_told out.new.items ≡ shapes_told out.old.items
+        ++ held_told frame words.now to outcome held) }
 {
     let Some(held) = held else {
         return Ok(());
@@ -228,7 +233,8 @@ pub(crate) fn add_loss(
     words: &[Octets],
     loss: Held,
 ) -> Result<(), AllocError>
-    ensures { OnOk result (told out.new.items ≡ told out.old.items ++ loss_told frame words.now loss) }
+    ensures { OnOk result
+        (shapes_told out.new.items ≡ shapes_told out.old.items ++ loss_told frame words.now loss) }
 {
     let (number, at, sent) = (loss.number, loss.at, loss.sent);
     if !(holds(frame, sent.at) || holds(frame, at)) {
@@ -257,7 +263,7 @@ pub(crate) fn add_open(
     at: u32,
     direction: Direction,
 ) -> Result<(), AllocError>
-    ensures { OnOk result (told out.new.items ≡ told out.old.items) }
+    ensures { OnOk result (shapes_told out.new.items ≡ shapes_told out.old.items) }
 {
     let (y, left) = (y_of(at), end.saturating_sub(3));
     draw(out, Shape::Line(x, y, end, y, Style::Waiting(direction)))?;
@@ -269,7 +275,7 @@ pub(crate) fn add_open(
 
 /// Adds a short line for a packet that is on the link to the end.
 pub(crate) fn add_waiting(out: &mut Vec<Shape>, frame: Frame, sent: Sent) -> Result<(), AllocError>
-    ensures { OnOk result (told out.new.items ≡ told out.old.items) }
+    ensures { OnOk result (shapes_told out.new.items ≡ shapes_told out.old.items) }
 {
     if sent.gone || !holds(frame, sent.at) {
         return Ok(());

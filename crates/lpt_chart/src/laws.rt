@@ -9,7 +9,7 @@ ghost use Rattle.lpt_chart.specs.declared.marks.Opened.{Opened};
 ghost use Rattle.lpt_chart.specs.declared.marks.Refusal.{Refusal};
 ghost use Rattle.lpt_chart.specs.Charts.{IsChart};
 ghost use Rattle.lpt_chart.specs.Events.{DrawsDeliveries, DrawsReleases};
-ghost use Rattle.lpt_chart.specs.Shapes.{escaped, is_plain, is_tagged};
+ghost use Rattle.lpt_chart.specs.Shapes.{text_escaped, is_plain, is_tagged};
 
 /// Each delivery of a journal is drawn exactly once, in order, and so is each release, whatever lines
 /// were refused.
@@ -24,7 +24,7 @@ pub fn each_delivery_is_drawn_once()
 
 /// What is written of a text neither opens nor closes an element, and is ASCII that is seen.
 pub fn escaped_texts_are_plain()
-    ensures { (t : List ℕ) → list_all is_plain (escaped t) ≡ true }
+    ensures { (t : List ℕ) → list_all is_plain (text_escaped t) ≡ true }
 {}
 
 /// Each '<' of a picture opens or closes one of these: `svg`, `title`, `desc`, `style`, `g`,

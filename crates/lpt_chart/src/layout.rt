@@ -3,7 +3,7 @@
 ghost use Rattle.std.specs.Prelude.{◌≡◌, ◌≤◌, ◌++◌, [], length, IfOk, OnOk};
 ghost use Rattle.std.specs.List.{flat_map};
 ghost use Rattle.lpt_chart.specs.Frames.{IsFrame};
-ghost use Rattle.lpt_chart.specs.Rows.{bar_told, flight_told, hands_told, loss_told, rest_told, row_told, told, told_in};
+ghost use Rattle.lpt_chart.specs.Rows.{bar_told, flight_told, hands_told, loss_told, rest_told, row_told, shapes_told, told_in};
 
 use crate::flight::{add_held, add_loss, add_waiting};
 use crate::frame::{
@@ -106,7 +106,8 @@ fn add_ends(out: &mut Vec<Shape>, frame: Frame) -> Result<(), AllocError> {
 // The packets that hands have where the picture ends.
 #[tactic(auto, unfolding(crate::specs::Rows::hands_told))]
 fn add_hands(out: &mut Vec<Shape>, frame: Frame, picture: &Picture) -> Result<(), AllocError>
-    ensures { OnOk result (told out.new.items ≡ told out.old.items ++ hands_told frame picture.now) }
+    ensures { OnOk result
+        (shapes_told out.new.items ≡ shapes_told out.old.items ++ hands_told frame picture.now) }
 {
     let (hands, end) = (picture.hands, picture.next.saturating_sub(1));
     let words = picture.words.as_slice();
@@ -134,7 +135,7 @@ fn add_under(
     words: &[Octets],
     losses: &[Held],
 ) -> Result<(), AllocError>
-    ensures { OnOk result (told out.new.items ≡ told out.old.items
+    ensures { OnOk result (shapes_told out.new.items ≡ shapes_told out.old.items
         ++ flat_map (bar_told source frame) bars.now
         ++ flat_map (loss_told frame words.now) losses.now) }
 {
@@ -158,7 +159,7 @@ fn add_over(
     flights: &[Flight],
     rows: &[Row],
 ) -> Result<(), AllocError>
-    ensures { OnOk result (told out.new.items ≡ told out.old.items
+    ensures { OnOk result (shapes_told out.new.items ≡ shapes_told out.old.items
         ++ flat_map (flight_told frame words.now) flights.now
         ++ flat_map (row_told frame) rows.now) }
 {
@@ -190,7 +191,8 @@ fn add_grounds(out: &mut Vec<Shape>, frame: Frame, rows: &[Row]) -> Result<(), A
 // Rows over packets over tracks.
 #[tactic(auto, unfolding(crate::specs::Rows::rest_told))]
 fn add_window(out: &mut Vec<Shape>, frame: Frame, picture: &Picture) -> Result<(), AllocError>
-    ensures { OnOk result (told out.new.items ≡ told out.old.items ++ rest_told frame picture.now) }
+    ensures { OnOk result
+        (shapes_told out.new.items ≡ shapes_told out.old.items ++ rest_told frame picture.now) }
 {
     let (p, words) = (picture, picture.words.as_slice());
     let (bars, sent, losses) = (p.bars.as_slice(), p.sent.as_slice(), p.losses.as_slice());
@@ -200,9 +202,9 @@ fn add_window(out: &mut Vec<Shape>, frame: Frame, picture: &Picture) -> Result<(
 }
 
 // The shapes of the rows, over their grounds.
-#[tactic(auto, unfolding(crate::specs::Rows::told))]
+#[tactic(auto, unfolding(crate::specs::Rows::shapes_told))]
 fn rest_of(alloc: Global, frame: Frame, picture: &Picture) -> Result<Vec<Shape>, AllocError>
-    ensures { IfOk result (λ v. told v.items ≡ rest_told frame picture.now) }
+    ensures { IfOk result (λ v. shapes_told v.items ≡ rest_told frame picture.now) }
 {
     let mut out = Vec::new(alloc);
     draw(&mut out, window(frame))?;
@@ -262,7 +264,7 @@ pub(crate) fn layers_of(
     picture: &Picture,
 ) -> Result<Layers, AllocError>
     ensures framed { IfOk result (λ l. IsFrame choice picture.now l.frame) }
-    ensures tells { IfOk result (λ l. told l.rows.items ≡ rest_told l.frame picture.now) }
+    ensures tells { IfOk result (λ l. shapes_told l.rows.items ≡ rest_told l.frame picture.now) }
 {
     let frame = frame_of(choice, title, picture);
     let rows = rest_of(alloc, frame, picture)?;

@@ -1,8 +1,8 @@
 //! Packets, and what is open at the nodes, as they are drawn.
 
 ghost use Rattle.std.specs.Prelude.{◌≡◌, [], ◌∷◌, ◌++◌, IfOk, OnOk, string_bytes};
-ghost use Rattle.lpt_chart.specs.Events.{closed};
-ghost use Rattle.lpt_chart.specs.Pictures.{cleared, flown, hand_in, held_now, lost, open_at, own_put, own_words, put, reported, stage_of, taken, tracked, with_hand, with_job, without, without_job};
+ghost use Rattle.lpt_chart.specs.Events.{picture_closed};
+ghost use Rattle.lpt_chart.specs.Pictures.{columns_cleared, flown, hand_in, held_now, packet_lost, open_at, own_put, own_words, put, reports_drawn, stage_of, packet_taken, stage_tracked, with_hand, with_job, without, without_job};
 
 use crate::marks::{Flight, Hands, Held, Mark, Sent, Stage, Task, Thing, Track};
 use crate::picture::Picture;
@@ -63,9 +63,9 @@ impl Picture {
     }
 
     // A lane takes a packet.
-    #[tactic(auto, unfolding(crate::specs::Pictures::taken))]
+    #[tactic(auto, unfolding(crate::specs::Pictures::packet_taken))]
     pub(crate) fn take(&mut self, lane: Lane, number: u64)
-        ensures { self.new ≡ taken self.old lane number }
+        ensures { self.new ≡ packet_taken self.old lane number }
     {
         let held = self.held_now(number);
         mark_gone(self.sent.as_mut_slice(), number);
@@ -90,9 +90,9 @@ impl Picture {
     }
 
     // A loss.
-    #[tactic(auto, unfolding(crate::specs::Pictures::lost))]
+    #[tactic(auto, unfolding(crate::specs::Pictures::packet_lost))]
     pub(crate) fn lose(&mut self, number: u64) -> Result<(), AllocError>
-        ensures { OnOk result (self.new ≡ lost self.old number) }
+        ensures { OnOk result (self.new ≡ packet_lost self.old number) }
     {
         if let Some(held) = self.held_now(number) {
             self.losses.push(held)?;
@@ -134,7 +134,7 @@ impl Picture {
 
     // So many packets of the spacecraft's own, each with a row.
     pub(crate) fn report(&mut self, count: u64) -> Result<(), AllocError>
-        ensures { OnOk result (self.new ≡ reported count self.old) }
+        ensures { OnOk result (self.new ≡ reports_drawn count self.old) }
     {
         for _ in 0..count {
             self.put_own()?;
@@ -161,14 +161,14 @@ impl Picture {
     }
 
     // A track comes to a stage, or to its end: its piece up to here is drawn.
-    #[tactic(auto, unfolding(crate::specs::Pictures::tracked))]
+    #[tactic(auto, unfolding(crate::specs::Pictures::stage_tracked))]
     pub(crate) fn track(
         &mut self,
         side: Side,
         thing: Thing,
         stage: Option<Stage>,
     ) -> Result<(), AllocError>
-        ensures { OnOk result (self.new ≡ tracked self.old side thing stage) }
+        ensures { OnOk result (self.new ≡ stage_tracked self.old side thing stage) }
     {
         let bars = &mut self.bars;
         match side {
@@ -178,9 +178,9 @@ impl Picture {
     }
 
     // All tracks of a node end.
-    #[tactic(auto, unfolding(crate::specs::Pictures::cleared))]
+    #[tactic(auto, unfolding(crate::specs::Pictures::columns_cleared))]
     pub(crate) fn clear(&mut self, side: Side) -> Result<(), AllocError>
-        ensures { OnOk result (self.new ≡ cleared self.old side) }
+        ensures { OnOk result (self.new ≡ columns_cleared self.old side) }
     {
         match side {
             Side::Ground => end_all(&mut self.bars, &mut self.ground, side, self.here),
@@ -189,7 +189,7 @@ impl Picture {
     }
 
     // A job is released that asks for this.
-    #[tactic(auto, unfolding(crate::specs::Pictures::with_job, crate::specs::Pictures::tracked))]
+    #[tactic(auto, unfolding(crate::specs::Pictures::with_job, crate::specs::Pictures::stage_tracked))]
     pub(crate) fn release(&mut self, task: Option<Task>) -> Result<(), AllocError>
         ensures { OnOk result (self.new ≡ with_job self.old task) }
     {
@@ -200,7 +200,7 @@ impl Picture {
     }
 
     // A job was executed.
-    #[tactic(auto, unfolding(crate::specs::Pictures::without_job, crate::specs::Pictures::tracked))]
+    #[tactic(auto, unfolding(crate::specs::Pictures::without_job, crate::specs::Pictures::stage_tracked))]
     pub(crate) fn apply(&mut self) -> Result<(), AllocError>
         ensures { OnOk result (self.new ≡ without_job self.old) }
     {
@@ -211,7 +211,7 @@ impl Picture {
 
     // The run ends here: what is open goes on to the last row.
     pub(crate) fn close(&mut self) -> Result<(), AllocError>
-        ensures { OnOk result (self.new ≡ closed self.old) }
+        ensures { OnOk result (self.new ≡ picture_closed self.old) }
     {
         if let Some(row) = self.last.take() {
             self.rows.push(row)?;

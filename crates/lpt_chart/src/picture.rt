@@ -4,7 +4,7 @@ ghost use Rattle.std.specs.Prelude.{◌≡◌, [], false, IfOk, OnOk, string_byt
 ghost use Rattle.std.specs.Option.{option_map_or};
 ghost use Rattle.lpt_events.specs.Lanes.{same_lane};
 ghost use Rattle.lpt_events.specs.Sides.{same_side};
-ghost use Rattle.lpt_chart.specs.Pictures.{blank, ground_of, hushed, landed, retold, rowed, run_of, said, takes, ticked};
+ghost use Rattle.lpt_chart.specs.Pictures.{blank, ground_of, row_hushed, flight_landed, retold, row_added, run_of, row_said, takes, clock_drawn};
 
 use crate::marks::{
     Bar, Flight, Hands, Held, Kind, Mark, Opened, Row, Sent, Stage, Task, Thing, Track,
@@ -114,7 +114,7 @@ impl Picture {
     }
 
     // A row more: whether it goes on with the last, shows its place, and has a line to its words.
-    #[tactic(auto, unfolding(crate::specs::Pictures::rowed))]
+    #[tactic(auto, unfolding(crate::specs::Pictures::row_added))]
     pub(crate) fn row(
         &mut self,
         at: u32,
@@ -126,7 +126,8 @@ impl Picture {
         mark: Mark,
         words: Octets,
     ) -> Result<(), AllocError>
-        ensures { OnOk result (self.new ≡ rowed self.old at on numbered lined side weight mark words) }
+        ensures { OnOk result
+            (self.new ≡ row_added self.old at on numbered lined side weight mark words) }
     {
         let dark = self.ground_of(on);
         if let Some(row) = self.last.take() {
@@ -167,7 +168,7 @@ impl Picture {
         mark: Mark,
         words: String,
     ) -> Result<(), AllocError>
-        ensures { OnOk result (self.new ≡ said self.old side weight mark (string_bytes words)) }
+        ensures { OnOk result (self.new ≡ row_said self.old side weight mark (string_bytes words)) }
     {
         let words = Octets::from_vec(words.into_bytes());
         self.row(self.next, false, true, true, side, weight, mark, words)
@@ -189,7 +190,7 @@ impl Picture {
     // Takes its words and the line to them from the last row.
     fn hush(&mut self, none: Octets)
         requires { none ≡ [] }
-        ensures { self.new ≡ record self.old { last = hushed self.old.last } }
+        ensures { self.new ≡ record self.old { last = row_hushed self.old.last } }
     {
         if let Some(row) = self.last.take() {
             self.last = Some(Row {
@@ -201,7 +202,7 @@ impl Picture {
     }
 
     // A delivery's row: right below that in which its lane took the packet, where that is the last.
-    #[tactic(auto, unfolding(crate::specs::Pictures::landed))]
+    #[tactic(auto, unfolding(crate::specs::Pictures::flight_landed))]
     pub(crate) fn land(
         &mut self,
         lane: Lane,
@@ -209,7 +210,8 @@ impl Picture {
         weight: Weight,
         words: String,
     ) -> Result<(), AllocError>
-        ensures { OnOk result (self.new ≡ landed self.old lane side weight (string_bytes words)) }
+        ensures { OnOk result
+            (self.new ≡ flight_landed self.old lane side weight (string_bytes words)) }
     {
         if !self.takes_last(lane) {
             return self.say(side, weight, Mark::Nothing, words);
@@ -249,9 +251,9 @@ impl Picture {
     }
 
     // A tick. Ticks of one node in a row are one row.
-    #[tactic(auto, unfolding(crate::specs::Pictures::ticked))]
+    #[tactic(auto, unfolding(crate::specs::Pictures::clock_drawn))]
     pub(crate) fn tick(&mut self, side: Side, clock: u32) -> Result<(), AllocError>
-        ensures { OnOk result (self.new ≡ ticked self.old side clock) }
+        ensures { OnOk result (self.new ≡ clock_drawn self.old side clock) }
     {
         let run = self.run(side).saturating_add(1);
         let words = tick_words(self.alloc(), clock, run)?;

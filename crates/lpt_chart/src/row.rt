@@ -2,7 +2,7 @@
 
 ghost use Rattle.std.specs.Prelude.{◌≡◌, ◌<◌, ◌^◌, ◌==◌, ◌++◌, [], decimal, length, not, OnOk};
 ghost use Rattle.lpt_chart.specs.Frames.{y_of};
-ghost use Rattle.lpt_chart.specs.Rows.{At, Of, bar_told, mark_told, row_told, told, told_in, where_so};
+ghost use Rattle.lpt_chart.specs.Rows.{At, Of, bar_told, mark_told, row_told, shapes_told, told_in, where_so};
 
 use crate::frame::{Frame, bar_x, holds, middle_x, shows, side_x, y_of};
 use crate::marks::{Bar, Mark, Row, Stage};
@@ -29,7 +29,7 @@ pub(crate) fn ring(x: u64, at: u32, style: Style) -> Shape
 
 // Adds a ring with a cross, of a refused line.
 pub(crate) fn add_crossed(out: &mut Vec<Shape>, x: u64, at: u32) -> Result<(), AllocError>
-    ensures { OnOk result (told out.new.items ≡ told out.old.items) }
+    ensures { OnOk result (shapes_told out.new.items ≡ shapes_told out.old.items) }
 {
     draw(out, ring(x, at, Style::Refused))?;
     draw(out, Shape::Sign(x, y_of(at), Sign::Cross, Style::Life))
@@ -42,7 +42,7 @@ pub(crate) fn add_double(
     to: u64,
     at: u32,
 ) -> Result<(), AllocError>
-    ensures { OnOk result (told out.new.items ≡ told out.old.items) }
+    ensures { OnOk result (shapes_told out.new.items ≡ shapes_told out.old.items) }
 {
     let (upper, lower) = (y_of(at) - 2, y_of(at) + 2);
     draw(out, Shape::Line(from, upper, to, upper, Style::Restart))?;
@@ -69,7 +69,8 @@ fn add_mark(
     side: Side,
     mark: Mark,
 ) -> Result<(), AllocError>
-    ensures { OnOk result (told out.new.items ≡ told out.old.items ++ mark_told at mark) }
+    ensures { OnOk result
+        (shapes_told out.new.items ≡ shapes_told out.old.items ++ mark_told at mark) }
 {
     let (x, y) = (side_x(frame, side), y_of(at));
     match mark {
@@ -141,7 +142,7 @@ fn words_x(frame: Frame, side: Side) -> u64 {
 
 /// Adds a row's ground, if it is dark, and its line to the words, if its height is drawn.
 pub(crate) fn add_base(out: &mut Vec<Shape>, frame: Frame, row: &Row) -> Result<(), AllocError>
-    ensures { OnOk result (told out.new.items ≡ told out.old.items) }
+    ensures { OnOk result (shapes_told out.new.items ≡ shapes_told out.old.items) }
 {
     if !holds(frame, row.at) {
         return Ok(());
@@ -166,7 +167,7 @@ fn add_words(
     letters: Letters,
     words: &[u8],
 ) -> Result<(), AllocError>
-    ensures { OnOk result (told out.new.items ≡ told out.old.items
+    ensures { OnOk result (shapes_told out.new.items ≡ shapes_told out.old.items
         ++ where_so (not (length words.now == 0)) (At y words.now)) }
 {
     if words.is_empty() {
@@ -177,7 +178,7 @@ fn add_words(
 
 // Adds a row's place in the journal, where it is shown.
 fn add_place(out: &mut Vec<Shape>, so: bool, y: u64, place: u64) -> Result<(), AllocError>
-    ensures { OnOk result (told out.new.items ≡ told out.old.items
+    ensures { OnOk result (shapes_told out.new.items ≡ shapes_told out.old.items
         ++ where_so so (At y (decimal place))) }
 {
     if !so {
@@ -188,7 +189,8 @@ fn add_place(out: &mut Vec<Shape>, so: bool, y: u64, place: u64) -> Result<(), A
 
 /// Adds a row, if its height is drawn: its place in the journal, its words, and its mark.
 pub(crate) fn add_row(out: &mut Vec<Shape>, frame: Frame, row: &Row) -> Result<(), AllocError>
-    ensures { OnOk result (told out.new.items ≡ told out.old.items ++ row_told frame row.now) }
+    ensures { OnOk result
+        (shapes_told out.new.items ≡ shapes_told out.old.items ++ row_told frame row.now) }
 {
     if !holds(frame, row.at) {
         return Ok(());
@@ -201,7 +203,7 @@ pub(crate) fn add_row(out: &mut Vec<Shape>, frame: Frame, row: &Row) -> Result<(
 }
 
 // How much of a bar of width 8 so many parts fill.
-fn filled(kept: u16, parts: u16) -> u64
+fn width_filled(kept: u16, parts: u16) -> u64
     ensures { result < 2 ^ 40 }
 {
     if parts == 0 {
@@ -221,7 +223,7 @@ pub(crate) fn add_stage(
     stage: Stage,
 ) -> Result<(), AllocError>
     requires { x < 2 ^ 40 }
-    ensures { OnOk result (told out.new.items ≡ told out.old.items) }
+    ensures { OnOk result (shapes_told out.new.items ≡ shapes_told out.old.items) }
 {
     match stage {
         Stage::Sending(_, _) => {
@@ -231,7 +233,11 @@ pub(crate) fn add_stage(
             )
         }
         Stage::Kept(kept, parts) => {
-            let (way, wide, top) = (side.receives(), filled(kept, parts), y.saturating_sub(2));
+            let (way, wide, top) = (
+                side.receives(),
+                width_filled(kept, parts),
+                y.saturating_sub(2),
+            );
             draw(out, Shape::Box(x, y, 8, high, 0, Style::Reception(way)))?;
             draw(out, Shape::Box(x, y, wide, high, 0, Style::Light(way)))?;
             draw(out, Shape::Box(x + 2, top, 4, 4, 2, Style::Filled(way)))
@@ -256,7 +262,8 @@ pub(crate) fn add_bar(
     frame: Frame,
     bar: Bar,
 ) -> Result<(), AllocError>
-    ensures { OnOk result (told out.new.items ≡ told out.old.items ++ bar_told source frame bar) }
+    ensures { OnOk result
+        (shapes_told out.new.items ≡ shapes_told out.old.items ++ bar_told source frame bar) }
 {
     let (from, stage) = (bar.track.from, bar.track.stage);
     if !shows(frame, from, bar.to) {

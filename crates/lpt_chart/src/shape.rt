@@ -2,7 +2,7 @@
 
 ghost use Rattle.std.specs.Prelude.{◌≡◌, ◌<◌, ◌^◌, ◌∷◌, ◌++◌, [], decimal, OnOk};
 ghost use Rattle.lpt_chart.specs.Frames.{y_of};
-ghost use Rattle.lpt_chart.specs.Rows.{At, bead_told, told, told_in, where_so};
+ghost use Rattle.lpt_chart.specs.Rows.{At, bead_told, shapes_told, told_in, where_so};
 
 use crate::frame::{half, y_of};
 use crate::style::{Letters, Style};
@@ -41,19 +41,19 @@ pub(crate) enum Shape {
 }
 
 // Adds a shape.
-#[tactic(auto, using(crate::proofs::ToldLemmas::told_more), unfolding(crate::specs::Rows::told))]
+#[tactic(auto, using(crate::proofs::ToldLemmas::told_more), unfolding(crate::specs::Rows::shapes_told))]
 pub(crate) fn add(out: &mut Vec<Shape>, shape: Shape) -> Result<(), AllocError>
-    ensures { OnOk result (told out.new.items ≡ told out.old.items ++ told_in shape) }
+    ensures { OnOk result (shapes_told out.new.items ≡ shapes_told out.old.items ++ told_in shape) }
 {
     out.push(shape)?;
     Ok(())
 }
 
 // Adds a shape that tells nothing.
-#[tactic(auto, using(crate::proofs::ToldLemmas::told_silent), unfolding(crate::specs::Rows::told))]
+#[tactic(auto, using(crate::proofs::ToldLemmas::told_silent), unfolding(crate::specs::Rows::shapes_told))]
 pub(crate) fn draw(out: &mut Vec<Shape>, shape: Shape) -> Result<(), AllocError>
     requires { told_in shape ≡ [] }
-    ensures { OnOk result (told out.new.items ≡ told out.old.items) }
+    ensures { OnOk result (shapes_told out.new.items ≡ shapes_told out.old.items) }
 {
     out.push(shape)?;
     Ok(())
@@ -62,7 +62,7 @@ pub(crate) fn draw(out: &mut Vec<Shape>, shape: Shape) -> Result<(), AllocError>
 // Adds a shape that tells nothing, where this is so.
 pub(crate) fn draw_if(out: &mut Vec<Shape>, so: bool, shape: Shape) -> Result<(), AllocError>
     requires { told_in shape ≡ [] }
-    ensures { OnOk result (told out.new.items ≡ told out.old.items) }
+    ensures { OnOk result (shapes_told out.new.items ≡ shapes_told out.old.items) }
 {
     if so { draw(out, shape) } else { Ok(()) }
 }
@@ -76,7 +76,8 @@ pub(crate) fn add_text(
     most: u64,
     words: &[u8],
 ) -> Result<(), AllocError>
-    ensures { OnOk result (told out.new.items ≡ told out.old.items ++ At y words.now ∷ []) }
+    ensures { OnOk result
+        (shapes_told out.new.items ≡ shapes_told out.old.items ++ At y words.now ∷ []) }
 {
     let words = Octets::from_vec(Vec::from_slice(*out.allocator(), words)?);
     add(out, Shape::Text(x, y, letters, most, words))
@@ -90,7 +91,8 @@ pub(crate) fn add_number(
     letters: Letters,
     number: u64,
 ) -> Result<(), AllocError>
-    ensures { OnOk result (told out.new.items ≡ told out.old.items ++ At y (decimal number) ∷ []) }
+    ensures { OnOk result
+        (shapes_told out.new.items ≡ shapes_told out.old.items ++ At y (decimal number) ∷ []) }
 {
     let words = format!(in *out.allocator(); "{number}")?;
     add_text(out, x, y, letters, 60, words.as_bytes())
@@ -106,7 +108,8 @@ pub(crate) fn add_bead(
     style: Style,
     letters: Letters,
 ) -> Result<(), AllocError>
-    ensures { OnOk result (told out.new.items ≡ told out.old.items ++ bead_told at number) }
+    ensures { OnOk result
+        (shapes_told out.new.items ≡ shapes_told out.old.items ++ bead_told at number) }
 {
     let (half, y) = (half(number), y_of(at));
     let left = x.saturating_sub(half);

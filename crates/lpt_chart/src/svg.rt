@@ -4,7 +4,7 @@ ghost use Rattle.std.specs.Prelude.{◌≡◌, ◌<◌, ◌-◌, ◌++◌, lengt
 ghost use Rattle.std.specs.List.{flat_map};
 ghost use Rattle.lpt_chart.specs.Charts.{IsChart, IsPicture};
 ghost use Rattle.lpt_chart.specs.Words.{counts_words};
-ghost use Rattle.lpt_chart.specs.Shapes.{closing_text, escaped, escaped_octet, opening_text, seen_text, shape_text, sign_steps, view_text};
+ghost use Rattle.lpt_chart.specs.Shapes.{closing_text, text_escaped, escaped_octet, opening_text, seen_text, shape_text, sign_steps, view_text};
 
 use crate::drawing::draw_journal;
 use crate::layout::{Layers, layers_of};
@@ -61,9 +61,9 @@ fn write_octet(out: &mut String, octet: u8) -> Result<(), AllocError>
 }
 
 // Writes a text behind another, escaped.
-#[tactic(auto, unfolding(crate::specs::Shapes::escaped))]
+#[tactic(auto, unfolding(crate::specs::Shapes::text_escaped))]
 fn write_escaped(out: &mut String, text: &[u8]) -> Result<(), AllocError>
-    ensures { OnOk result (string_bytes out.new ≡ string_bytes out.old ++ escaped text.now) }
+    ensures { OnOk result (string_bytes out.new ≡ string_bytes out.old ++ text_escaped text.now) }
 {
     for octet in text {
         write_octet(out, *octet)?;

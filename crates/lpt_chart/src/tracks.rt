@@ -1,7 +1,7 @@
 //! What is open at a node, each in a column of its own, and the pieces of it that are drawn.
 
 ghost use Rattle.std.specs.Prelude.{◌≡◌, ◌<◌, ◌++◌, length, position, is_none, replicate, false, None, IfSome, OnOk};
-ghost use Rattle.lpt_chart.specs.Pictures.{all_bars, bar_in, bar_up_to, begun, column_of, kept_in, moved, parts_in, same_thing, stage_in, task_in};
+ghost use Rattle.lpt_chart.specs.Pictures.{all_bars, bar_in, bar_up_to, track_begun, column_of, kept_in, track_moved, parts_in, same_thing, stage_in, task_in};
 ghost use Rattle.std.specs.Option.{option_map_or};
 
 use crate::marks::{Bar, Stage, Task, Thing, Track};
@@ -52,7 +52,8 @@ fn first_free(columns: &[Option<Track>]) -> Option<usize>
 // Begins a track in the first column that is free. Of more than 64 none is drawn.
 fn begin(columns: &mut Vec<Option<Track>>, track: Track) -> Result<(), AllocError>
     ensures { OnOk result
-        (columns.new.items ≡ begun columns.old.items (position (λ c. is_none c) columns.old.items) track) }
+        (columns.new.items ≡ track_begun columns.old.items
+        (position (λ c. is_none c) columns.old.items) track) }
 {
     match first_free(columns) {
         Some(at) => columns[at] = Some(track),
@@ -72,7 +73,7 @@ fn bring(
     thing: Thing,
     stage: Option<Stage>,
 ) -> Result<(), AllocError>
-    ensures { OnOk result (columns.new.items ≡ moved here columns.old.items thing stage) }
+    ensures { OnOk result (columns.new.items ≡ track_moved here columns.old.items thing stage) }
 {
     let track = match stage {
         Some(stage) => Some(Track {
@@ -163,7 +164,8 @@ pub(crate) fn move_track(
 ) -> Result<(), AllocError>
     ensures bars { OnOk result (bars.new.items
         ≡ bars.old.items ++ bar_in side here columns.old.items (column_of columns.old.items thing)) }
-    ensures columns { OnOk result (columns.new.items ≡ moved here columns.old.items thing stage) }
+    ensures columns { OnOk result
+        (columns.new.items ≡ track_moved here columns.old.items thing stage) }
 {
     add_track(bars, columns.as_slice(), side, here, thing)?;
     bring(columns, here, thing, stage)
@@ -194,11 +196,11 @@ pub(crate) fn stage_in(columns: &[Option<Track>], thing: Thing) -> Option<Stage>
 }
 
 // How many parts were kept at a stage.
-pub(crate) fn kept(stage: Option<Stage>) -> u16
+pub(crate) fn parts_kept(stage: Option<Stage>) -> u16
     ensures { result ≡ kept_in stage }
 {
     match stage {
-        Some(Stage::Kept(kept, _)) => kept,
+        Some(Stage::Kept(count, _)) => count,
         _ => 0,
     }
 }

@@ -30,13 +30,13 @@ use Rattle.lpt_chart_script.specs.Titles.{title_of}
 
 -- what a run leaves to be drawn: the world, the lines that were refused, and the number of an unreadable
 -- line, which ended it
-pub record Run : Type 0 where
+pub record ScriptRun : Type 0 where
   pub world : Shown
   pub refused : List Refusal
   pub bad : Option ℕ
 
 -- that a run left
-abbrev pub left_by : Shown → List Refusal → Option ℕ → Run
+abbrev pub left_by : Shown → List Refusal → Option ℕ → ScriptRun
 left_by w refused bad = record { world = w; refused = refused; bad = bad }
 
 -- a line of this number that was refused for this reason, after so many entries, and is told at
@@ -47,12 +47,12 @@ refusals_at place n side line (Some fault) =
     record { place = place; side = side; line = n; fault = fault; words = take 200 line } ∷ []
 
 -- what a line and the rest leave: the rest isn't run where the line is unreadable
-abbrev pub run_on : Ran → List Refusal → Run → (bad : Option ℕ) → Run
+abbrev pub run_on : Ran → List Refusal → ScriptRun → (bad : Option ℕ) → ScriptRun
 run_on ran refused rest (Some n) = left_by ran.world refused (Some n)
 run_on ran refused rest None = rest
 
 -- what lines leave, from this world on, the first of which has this number, with so many refused before
-abbrev pub lines_run : List (List ℕ) → Shown → ℕ → List Refusal → Run
+abbrev pub lines_run : List (List ℕ) → Shown → ℕ → List Refusal → ScriptRun
 lines_run [] w n refused = left_by w refused None
 lines_run (line ∷ more) w n refused =
     let says = reading_of w.config.source line in
@@ -71,7 +71,7 @@ LineLeaves ran n side line false w before after = (ran.bad ≡ Some n) × (w ≡
     × (after ≡ before)
 
 -- what a script leaves of a world
-abbrev pub text_run : Shown → List ℕ → Run
+abbrev pub text_run : Shown → List ℕ → ScriptRun
 text_run w text = lines_run (lines text) w 1 []
 
 -- What is left of a script here is what a run of it leaves that prints each line in its place: it ends at
@@ -98,22 +98,23 @@ abbrev pub openings_of : Shown → List Opened
 openings_of w = map (opening_told w.config.part_size) (opened (history w))
 
 -- a text is the picture of what a script left
-abbrev pub IsRunChart : Choice → (all : Bool) → (title : List ℕ) → Run → (text : List ℕ) → Type 0
+abbrev pub IsRunChart : Choice → (all : Bool) → (title : List ℕ) → ScriptRun → (text : List ℕ)
+    → Type 0
 IsRunChart c all title run text =
     IsChart run.world.config.source c title (kinds_of run.world)
     (openings_of run.world) run.world.journal
     (drawn_refusals all run.refused) text
 
 -- how a script's run ended whose text was read to this end
-abbrev pub ended : End → ℕ → Result ScriptEnd ScriptFault
-ended Whole n = Ok (record { refused = n })
-ended Failed n = Err (scripts.Stream faults.Read)
-ended TooLong n = Err (scripts.Stream faults.Read)
+abbrev pub script_ended : End → ℕ → Result ScriptEnd ScriptFault
+script_ended Whole n = Ok (record { refused = n })
+script_ended Failed n = Err (scripts.Stream faults.Read)
+script_ended TooLong n = Err (scripts.Stream faults.Read)
 
 -- the same; an unreadable line ends it before
 abbrev pub run_end : End → (refused : ℕ) → (bad : Option ℕ) → Result ScriptEnd ScriptFault
 run_end end refused (Some n) = Err (scripts.Line n)
-run_end end refused None = ended end refused
+run_end end refused None = script_ended end refused
 
 -- the drawing of what these octets leave of a world, which were read to this end
 pub record IsDrawn (w : Shown) (c : Choice) (all : Bool) (end : End) (text : List ℕ) (d : Drawing) : Type 0 where

@@ -45,7 +45,7 @@ fn part_count(len: usize, part_size: u32) -> usize
 }
 
 // An opening with the number of its message's parts, as far as 16 bits hold it.
-fn told(part_size: u32, opening: &Opening) -> Opened
+fn opening_told(part_size: u32, opening: &Opening) -> Opened
     requires { IsPartSize part_size }
     ensures { result ≡ opening_told part_size opening.now }
 {
@@ -63,7 +63,7 @@ pub(crate) fn openings_of(alloc: Global, world: &World) -> Result<Vec<Opened>, A
     let part_size = world.config().part_size;
     let mut openings = Vec::new(alloc);
     for opening in world.opened() {
-        openings.push(told(part_size, opening))?;
+        openings.push(opening_told(part_size, opening))?;
     }
     Ok(openings)
 }

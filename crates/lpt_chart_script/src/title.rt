@@ -9,7 +9,7 @@ use std::marker::Model;
 
 /// If in a line an octet stands.
 #[derive(Clone, Copy)]
-pub(crate) enum Place {
+pub(crate) enum TitlePlace {
     /// Before anything but spaces.
     Start,
     /// Behind a comment's mark.
@@ -24,7 +24,7 @@ pub(crate) enum Place {
 #[derive(Drop)]
 pub(crate) struct Heading {
     letters: Vec<u8>,
-    place: Place,
+    place: TitlePlace,
     stop: bool,
     over: bool,
 }
@@ -44,7 +44,7 @@ impl Heading {
     {
         Heading {
             letters: Vec::new(alloc),
-            place: Place::Start,
+            place: TitlePlace::Start,
             stop: false,
             over: false,
         }
@@ -77,36 +77,36 @@ impl Heading {
 }
 
 // Where the octet behind this one stands, in the same line.
-fn place_in(place: Place, octet: u8) -> Place
+fn place_in(place: TitlePlace, octet: u8) -> TitlePlace
     ensures { result ≡ place_in place octet }
 {
     match place {
-        Place::Start => {
+        TitlePlace::Start => {
             if octet == b' ' {
-                Place::Start
+                TitlePlace::Start
             } else if octet == b'#' {
-                Place::Mark
+                TitlePlace::Mark
             } else {
-                Place::Other
+                TitlePlace::Other
             }
         }
-        Place::Mark => {
+        TitlePlace::Mark => {
             if octet == b' ' || octet == b'#' {
-                Place::Mark
+                TitlePlace::Mark
             } else {
-                Place::Comment
+                TitlePlace::Comment
             }
         }
-        Place::Comment | Place::Other => place,
+        TitlePlace::Comment | TitlePlace::Other => place,
     }
 }
 
 // The same. A line feed ends the line.
-fn place_behind(place: Place, octet: u8) -> Place
+fn place_behind(place: TitlePlace, octet: u8) -> TitlePlace
     ensures { result ≡ place_behind place octet }
 {
     if octet == b'\n' {
-        Place::Start
+        TitlePlace::Start
     } else {
         place_in(place, octet)
     }
@@ -120,21 +120,26 @@ fn is_gap(octet: u8) -> bool
 }
 
 // Whether a line with this octet at its front is no comment.
-fn leaves(place: Place, octet: u8) -> bool
+fn leaves(place: TitlePlace, octet: u8) -> bool
     ensures { result ≡ leaves place octet }
 {
     match place {
-        Place::Start => octet != b' ' && octet != b'#',
-        Place::Mark | Place::Comment | Place::Other => false,
+        TitlePlace::Start => octet != b' ' && octet != b'#',
+        TitlePlace::Mark | TitlePlace::Comment | TitlePlace::Other => false,
     }
 }
 
 // Adds an octet of a comment's words.
-fn add_word(letters: &mut Vec<u8>, before: Place, more: bool, octet: u8) -> Result<(), AllocError>
+fn add_word(
+    letters: &mut Vec<u8>,
+    before: TitlePlace,
+    more: bool,
+    octet: u8,
+) -> Result<(), AllocError>
     ensures { OnOk result (letters.new.items ≡ letters.old.items ++ letters_in before more octet) }
 {
     match before {
-        Place::Mark => {
+        TitlePlace::Mark => {
             if octet == b'\r' {
                 Ok(())
             } else if more {
@@ -143,40 +148,40 @@ fn add_word(letters: &mut Vec<u8>, before: Place, more: bool, octet: u8) -> Resu
                 letters.extend_from_slice(&[octet])
             }
         }
-        Place::Comment => {
+        TitlePlace::Comment => {
             if octet == b'\r' {
                 Ok(())
             } else {
                 letters.extend_from_slice(&[octet])
             }
         }
-        Place::Start | Place::Other => Ok(()),
+        TitlePlace::Start | TitlePlace::Other => Ok(()),
     }
 }
 
 // The same, where the octet is one of them.
 fn add_letters(
     letters: &mut Vec<u8>,
-    before: Place,
-    behind: Place,
+    before: TitlePlace,
+    behind: TitlePlace,
     more: bool,
     octet: u8,
 ) -> Result<(), AllocError>
     ensures { OnOk result (letters.new.items ≡ letters.old.items ++ letters_of before behind more octet) }
 {
     match behind {
-        Place::Comment => add_word(letters, before, more, octet),
-        Place::Start | Place::Mark | Place::Other => Ok(()),
+        TitlePlace::Comment => add_word(letters, before, more, octet),
+        TitlePlace::Start | TitlePlace::Mark | TitlePlace::Other => Ok(()),
     }
 }
 
 // Whether an octet is a full stop among a comment's words.
-fn is_stop(place: Place, was: bool, octet: u8) -> bool
+fn is_stop(place: TitlePlace, was: bool, octet: u8) -> bool
     ensures { result ≡ is_stop place was octet }
 {
     match place {
-        Place::Comment => { if octet == b'\r' { was } else { octet == b'.' } }
-        Place::Start | Place::Mark | Place::Other => was,
+        TitlePlace::Comment => { if octet == b'\r' { was } else { octet == b'.' } }
+        TitlePlace::Start | TitlePlace::Mark | TitlePlace::Other => was,
     }
 }
 

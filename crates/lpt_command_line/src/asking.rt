@@ -2,7 +2,7 @@
 
 use crate::commands::{COUNT, JSON, QUIET, TEXT, U8};
 use crate::layout_words::LAYOUT;
-use crate::row::{Configured, Named, Need, Row, Word};
+use crate::row::{CommandRow, Configured, NamedRow, Need, Word};
 use clap::ArgAction;
 use clap::builder::ValueParser;
 
@@ -34,7 +34,7 @@ const PLACES: Word = Word {
     help: "Addresses, each followed by a number of octets, 1 to 4294967295 or 0xffffffff",
 };
 
-const EACH: Named = Named {
+const EACH: NamedRow = NamedRow {
     name: "each",
     value: ValueParser::Signed(1, 65_535),
     behind: &["N"],
@@ -43,7 +43,7 @@ const EACH: Named = Named {
     help: "At most so many octets in a request; as many as fit if not given",
 };
 
-const ACK: Named = Named {
+const ACK: NamedRow = NamedRow {
     name: "ack",
     value: ValueParser::Signed(0, 15),
     behind: &["N"],
@@ -53,7 +53,7 @@ const ACK: Named = Named {
 };
 
 /// `verify`.
-pub(crate) static VERIFY: Row = Row {
+pub(crate) static VERIFY: CommandRow = CommandRow {
     name: "verify",
     about: "List requests with what verification reports say about them",
     words: &[
@@ -67,7 +67,7 @@ pub(crate) static VERIFY: Row = Row {
     ],
     named: &[
         JSON,
-        Named {
+        NamedRow {
             name: "open",
             value: ValueParser::Bool,
             behind: &[],
@@ -82,7 +82,7 @@ pub(crate) static VERIFY: Row = Row {
 };
 
 /// `compare`.
-pub(crate) static COMPARE: Row = Row {
+pub(crate) static COMPARE: CommandRow = CommandRow {
     name: "compare",
     about: "Compare a file with the checksums in check reports",
     words: &[
@@ -101,7 +101,7 @@ pub(crate) static COMPARE: Row = Row {
 };
 
 /// `checksum`.
-pub(crate) static CHECKSUM: Row = Row {
+pub(crate) static CHECKSUM: CommandRow = CommandRow {
     name: "checksum",
     about: "Print the checksum that a check report has for a file",
     words: &[Word {
@@ -111,7 +111,7 @@ pub(crate) static CHECKSUM: Row = Row {
         help: "The octets' file, or - for standard input",
     }],
     named: &[
-        Named {
+        NamedRow {
             name: "from",
             value: TEXT,
             behind: &["PLACE"],
@@ -119,7 +119,7 @@ pub(crate) static CHECKSUM: Row = Row {
             other: &["0"],
             help: "The place of the first octet",
         },
-        Named {
+        NamedRow {
             name: "length",
             value: TEXT,
             behind: &["N"],
@@ -132,7 +132,7 @@ pub(crate) static CHECKSUM: Row = Row {
 };
 
 /// `request load`.
-pub(crate) static REQUEST_LOAD: Row = Row {
+pub(crate) static REQUEST_LOAD: CommandRow = CommandRow {
     name: "load",
     about: "Load octets into a memory",
     words: &[
@@ -146,7 +146,7 @@ pub(crate) static REQUEST_LOAD: Row = Row {
         },
     ],
     named: &[
-        Named {
+        NamedRow {
             name: "area",
             value: TEXT,
             behind: &["ADDRESS", "FILE"],
@@ -162,7 +162,7 @@ pub(crate) static REQUEST_LOAD: Row = Row {
 };
 
 /// `request dump`.
-pub(crate) static REQUEST_DUMP: Row = Row {
+pub(crate) static REQUEST_DUMP: CommandRow = CommandRow {
     name: "dump",
     about: "Ask for octets of a memory",
     words: &[MEMORY, PLACES],
@@ -171,7 +171,7 @@ pub(crate) static REQUEST_DUMP: Row = Row {
 };
 
 /// `request check`.
-pub(crate) static REQUEST_CHECK: Row = Row {
+pub(crate) static REQUEST_CHECK: CommandRow = CommandRow {
     name: "check",
     about: "Ask for checksums of a memory",
     words: &[MEMORY, PLACES],

@@ -7,7 +7,7 @@ use crate::grounds::{
     PASS_LOAD, PASS_PATCH, PASS_WORDS,
 };
 use crate::passes::{LINK, SPACECRAFT};
-use crate::row::{Configured, Family, Named, Row, Word};
+use crate::row::{CommandRow, Configured, Family, NamedRow, Word};
 use crate::setting_words::{PASS_SETTINGS, SETTINGS};
 use clap::builder::ValueParser;
 use clap::{Arg, Command};
@@ -158,8 +158,8 @@ fn add_commands<'a>(
     alloc: Global,
     name: Option<&str>,
     commands: &mut Vec<Command<'a>>,
-    rows: &[&'a Row],
-    shared: &'a [Named],
+    rows: &[&'a CommandRow],
+    shared: &'a [NamedRow],
 ) -> Result<(), AllocError> {
     for row in rows {
         if is_meant(name, row.name) {
@@ -172,8 +172,8 @@ fn add_commands<'a>(
 // A command with its words, and with these after its own.
 fn command_of<'a>(
     alloc: Global,
-    row: &'a Row,
-    shared: &'a [Named],
+    row: &'a CommandRow,
+    shared: &'a [NamedRow],
 ) -> Result<Command<'a>, AllocError> {
     let words = words_of(alloc, row, shared)?;
     Command::new(alloc, row.name).about(row.about).args(words)
@@ -182,8 +182,8 @@ fn command_of<'a>(
 // The words of a command, with these after its own.
 fn words_of<'a>(
     alloc: Global,
-    row: &'a Row,
-    shared: &'a [Named],
+    row: &'a CommandRow,
+    shared: &'a [NamedRow],
 ) -> Result<Vec<Arg<'a>>, AllocError> {
     let mut words = Vec::new(alloc);
     for word in row.words {
@@ -199,7 +199,7 @@ fn words_of<'a>(
 fn add_named<'a>(
     alloc: Global,
     words: &mut Vec<Arg<'a>>,
-    list: &'a [Named],
+    list: &'a [NamedRow],
 ) -> Result<(), AllocError> {
     for named in list {
         words.push(named_of(alloc, named))?;
@@ -208,7 +208,7 @@ fn add_named<'a>(
 }
 
 // The words of a configuration that a command takes.
-fn settings_of(configured: Configured) -> &'static [Named] {
+fn settings_of(configured: Configured) -> &'static [NamedRow] {
     match configured {
         Configured::No => &[],
         // All but the last, `mode`.
@@ -229,7 +229,7 @@ fn word_of<'a>(alloc: Global, word: &'a Word) -> Arg<'a> {
 }
 
 // A word that is given behind its name.
-fn named_of<'a>(alloc: Global, named: &'a Named) -> Arg<'a> {
+fn named_of<'a>(alloc: Global, named: &'a NamedRow) -> Arg<'a> {
     any_word(alloc, named.name, named.value, named.help)
         .long(named.name)
         .action(named.action)

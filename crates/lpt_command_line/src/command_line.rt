@@ -123,7 +123,7 @@ pub fn read_words<'a>(
 
 // What the words that were read ask for.
 fn asked_by<'a>(alloc: Global, matches: ArgMatches<'a>) -> Result<CommandLine<'a>, NoCommand<'a>> {
-    let asked = meant(alloc, &matches);
+    let asked = words_meant(alloc, &matches);
     drop(matches);
     match asked {
         Ok(asked) => Ok(asked),
@@ -131,7 +131,10 @@ fn asked_by<'a>(alloc: Global, matches: ArgMatches<'a>) -> Result<CommandLine<'a
     }
 }
 
-fn meant<'a>(alloc: Global, matches: &ArgMatches<'a>) -> Result<CommandLine<'a>, WordFault<'a>> {
+fn words_meant<'a>(
+    alloc: Global,
+    matches: &ArgMatches<'a>,
+) -> Result<CommandLine<'a>, WordFault<'a>> {
     let (name, inner) = matches.subcommand().ok_or(WordFault::Missing)?;
     let (words, command) = match inner.subcommand() {
         None => (inner, command_of(alloc, name, inner)?),

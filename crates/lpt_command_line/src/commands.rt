@@ -1,7 +1,7 @@
 //! The commands, and the words of each.
 
 use crate::layout_words::{LAYOUT, MORE};
-use crate::row::{Configured, Named, Need, Row, Word};
+use crate::row::{CommandRow, Configured, NamedRow, Need, Word};
 use clap::ArgAction;
 use clap::builder::ValueParser;
 
@@ -20,7 +20,7 @@ const SCRIPT: Word = Word {
     help: "The script's path, or - for standard input",
 };
 
-pub(crate) const JSON: Named = Named {
+pub(crate) const JSON: NamedRow = NamedRow {
     name: "json",
     value: ValueParser::Bool,
     behind: &[],
@@ -29,7 +29,7 @@ pub(crate) const JSON: Named = Named {
     help: "Print each line as a JSON object",
 };
 
-pub(crate) const QUIET: Named = Named {
+pub(crate) const QUIET: NamedRow = NamedRow {
     name: "quiet",
     value: ValueParser::Bool,
     behind: &[],
@@ -52,7 +52,7 @@ pub(crate) const PACKETS: Word = Word {
     help: "Files of packets, or - for standard input",
 };
 
-const FROM: Named = Named {
+const FROM: NamedRow = NamedRow {
     name: "from",
     value: U64,
     behind: &["PLACE"],
@@ -61,7 +61,7 @@ const FROM: Named = Named {
     help: "Read from this place on, the number of an octet as list prints it",
 };
 
-const TO: Named = Named {
+const TO: NamedRow = NamedRow {
     name: "to",
     value: U64,
     behind: &["PLACE"],
@@ -70,7 +70,7 @@ const TO: Named = Named {
     help: "Read up to this place, without its octet",
 };
 
-pub(crate) const COUNT: Named = Named {
+pub(crate) const COUNT: NamedRow = NamedRow {
     name: "count",
     value: ValueParser::Signed(0, 16_383),
     behind: &["N"],
@@ -80,7 +80,7 @@ pub(crate) const COUNT: Named = Named {
 };
 
 /// `run`.
-pub(crate) static RUN: Row = Row {
+pub(crate) static RUN: CommandRow = CommandRow {
     name: "run",
     about: "Run a script of the simulator",
     words: &[SCRIPT],
@@ -89,7 +89,7 @@ pub(crate) static RUN: Row = Row {
 };
 
 /// `threads`.
-pub(crate) static THREADS: Row = Row {
+pub(crate) static THREADS: CommandRow = CommandRow {
     name: "threads",
     about: "Run a script, then let ten threads send and deliver what is open",
     words: &[SCRIPT],
@@ -98,7 +98,7 @@ pub(crate) static THREADS: Row = Row {
 };
 
 /// `shell`.
-pub(crate) static SHELL: Row = Row {
+pub(crate) static SHELL: CommandRow = CommandRow {
     name: "shell",
     about: "Run a script's lines as you type them",
     words: &[],
@@ -107,7 +107,7 @@ pub(crate) static SHELL: Row = Row {
 };
 
 /// `lint`.
-pub(crate) static LINT: Row = Row {
+pub(crate) static LINT: CommandRow = CommandRow {
     name: "lint",
     about: "Print which lines of a script can't be read, and why",
     words: &[SCRIPT],
@@ -116,7 +116,7 @@ pub(crate) static LINT: Row = Row {
 };
 
 /// `chart`.
-pub(crate) static CHART: Row = Row {
+pub(crate) static CHART: CommandRow = CommandRow {
     name: "chart",
     about: "Draw a script's run, or a file of packets, as an SVG picture",
     words: &[Word {
@@ -125,7 +125,7 @@ pub(crate) static CHART: Row = Row {
         ..SCRIPT
     }],
     named: &[
-        Named {
+        NamedRow {
             name: "stream",
             value: ValueParser::Bool,
             behind: &[],
@@ -133,7 +133,7 @@ pub(crate) static CHART: Row = Row {
             other: &[],
             help: "Draw packets instead of a script, a row for each transaction",
         },
-        Named {
+        NamedRow {
             name: "from",
             value: U64,
             behind: &["N"],
@@ -141,7 +141,7 @@ pub(crate) static CHART: Row = Row {
             other: &[],
             help: "Begin at this event of the run, or at this octet of the packets",
         },
-        Named {
+        NamedRow {
             name: "to",
             value: U64,
             behind: &["N"],
@@ -149,7 +149,7 @@ pub(crate) static CHART: Row = Row {
             other: &[],
             help: "End with this event of the run, or before this octet of the packets",
         },
-        Named {
+        NamedRow {
             name: "refused",
             value: ValueParser::Bool,
             behind: &[],
@@ -157,7 +157,7 @@ pub(crate) static CHART: Row = Row {
             other: &[],
             help: "Draw refused lines too; not with --stream",
         },
-        Named {
+        NamedRow {
             help: "A TOML file with the mission's layouts of the packets, with --stream",
             ..LAYOUT
         },
@@ -166,7 +166,7 @@ pub(crate) static CHART: Row = Row {
 };
 
 /// `decode`.
-pub(crate) static DECODE: Row = Row {
+pub(crate) static DECODE: CommandRow = CommandRow {
     name: "decode",
     about: "Decode a packet given in hexadecimal",
     words: &[Word {
@@ -180,13 +180,13 @@ pub(crate) static DECODE: Row = Row {
 };
 
 /// `list`.
-pub(crate) static LIST: Row = Row {
+pub(crate) static LIST: CommandRow = CommandRow {
     name: "list",
     about: "List the packets of a file or a pipe",
     words: &[PACKETS],
     named: &[
         JSON,
-        Named {
+        NamedRow {
             name: "strict",
             value: ValueParser::Bool,
             behind: &[],
@@ -203,7 +203,7 @@ pub(crate) static LIST: Row = Row {
 };
 
 /// `split`.
-pub(crate) static SPLIT: Row = Row {
+pub(crate) static SPLIT: CommandRow = CommandRow {
     name: "split",
     about: "Split a message into parts, and write their packets",
     words: &[
@@ -222,7 +222,7 @@ pub(crate) static SPLIT: Row = Row {
         },
     ],
     named: &[
-        Named {
+        NamedRow {
             name: "parts",
             value: TEXT,
             behind: &["LIST"],
@@ -231,7 +231,7 @@ pub(crate) static SPLIT: Row = Row {
             help: "The parts to write, such as 3,7-9,12-; with --each ID:LIST",
         },
         COUNT,
-        Named {
+        NamedRow {
             name: "each",
             value: ValueParser::Bool,
             behind: &[],
@@ -239,7 +239,7 @@ pub(crate) static SPLIT: Row = Row {
             other: &[],
             help: "Split each packet of the file; the IDs count up from this one",
         },
-        Named {
+        NamedRow {
             name: "whole",
             value: ValueParser::Bool,
             behind: &[],
@@ -247,7 +247,7 @@ pub(crate) static SPLIT: Row = Row {
             other: &[],
             help: "Write a message that fits in one part as it is, unsplit",
         },
-        Named {
+        NamedRow {
             name: "pcap",
             value: ValueParser::Bool,
             behind: &[],
@@ -261,12 +261,12 @@ pub(crate) static SPLIT: Row = Row {
 };
 
 /// `join`.
-pub(crate) static JOIN: Row = Row {
+pub(crate) static JOIN: CommandRow = CommandRow {
     name: "join",
     about: "Join the parts that packets carry, and write the message",
     words: &[DIRECTION, PACKETS],
     named: &[
-        Named {
+        NamedRow {
             name: "id",
             value: TEXT,
             behind: &["ID"],
@@ -274,7 +274,7 @@ pub(crate) static JOIN: Row = Row {
             other: &[],
             help: "The message's ID or SOURCE/ID; needed if parts of several messages came",
         },
-        Named {
+        NamedRow {
             name: "first",
             value: ValueParser::Bool,
             behind: &[],
@@ -282,7 +282,7 @@ pub(crate) static JOIN: Row = Row {
             other: &[],
             help: "Write the first message that is whole, whatever comes after it",
         },
-        Named {
+        NamedRow {
             name: "any",
             value: ValueParser::Bool,
             behind: &[],
@@ -290,7 +290,7 @@ pub(crate) static JOIN: Row = Row {
             other: &[],
             help: "Write the joined message even if it is no packet",
         },
-        Named {
+        NamedRow {
             name: "each",
             value: TEXT,
             behind: &["DIR"],
@@ -307,12 +307,12 @@ pub(crate) static JOIN: Row = Row {
 };
 
 /// `extract`.
-pub(crate) static EXTRACT: Row = Row {
+pub(crate) static EXTRACT: CommandRow = CommandRow {
     name: "extract",
     about: "Extract octets of memory from dump reports",
     words: &[PACKETS],
     named: &[
-        Named {
+        NamedRow {
             name: "at",
             value: U8,
             behind: &["MEMORY"],
@@ -320,7 +320,7 @@ pub(crate) static EXTRACT: Row = Row {
             other: &[],
             help: "Write an image of this memory, each area at its address",
         },
-        Named {
+        NamedRow {
             name: "from",
             value: TEXT,
             behind: &["ADDRESS"],
@@ -328,7 +328,7 @@ pub(crate) static EXTRACT: Row = Row {
             other: &[],
             help: "The address at which the image begins; 0 if not given",
         },
-        Named {
+        NamedRow {
             name: "fill",
             value: U8,
             behind: &["OCTET"],
@@ -336,7 +336,7 @@ pub(crate) static EXTRACT: Row = Row {
             other: &[],
             help: "The octet for addresses that no area covers, 0 to 255; 0 if not given",
         },
-        Named {
+        NamedRow {
             name: "whole",
             value: ValueParser::Bool,
             behind: &[],
@@ -344,7 +344,7 @@ pub(crate) static EXTRACT: Row = Row {
             other: &[],
             help: "Write the image only if nothing of it is missing or was passed over",
         },
-        Named {
+        NamedRow {
             name: "join",
             value: ValueParser::Bool,
             behind: &[],

@@ -5,7 +5,7 @@ use crate::commands::{COUNT, JSON, QUIET, TEXT};
 use crate::passes::{
     DAMAGE, DELAY, LOSE, MEMORY as CRAFT_MEMORY, REPEAT, RESYNC, SAVE, SEED, STATE,
 };
-use crate::row::{Configured, Named, Need, Row, Word};
+use crate::row::{CommandRow, Configured, NamedRow, Need, Word};
 use clap::ArgAction;
 use clap::builder::ValueParser;
 
@@ -30,7 +30,7 @@ const LENGTH: Word = Word {
     help: "How many octets, 1 to 4294967295 or 0xffffffff",
 };
 
-const WAIT: Named = Named {
+const WAIT: NamedRow = NamedRow {
     name: "wait",
     value: ValueParser::Signed(1, 86_400_000),
     behind: &["MS"],
@@ -39,12 +39,12 @@ const WAIT: Named = Named {
     help: "Send again what is open if nothing came for so long: more than a round trip",
 };
 
-const SHORT_WAIT: Named = Named {
+const SHORT_WAIT: NamedRow = NamedRow {
     other: &["200"],
     ..WAIT
 };
 
-const TRIES: Named = Named {
+const TRIES: NamedRow = NamedRow {
     name: "tries",
     value: ValueParser::Signed(1, 1_000_000),
     behind: &["N"],
@@ -53,13 +53,13 @@ const TRIES: Named = Named {
     help: "Give up after so many waits in a row that settled nothing",
 };
 
-const LOAD_TRIES: Named = Named {
+const LOAD_TRIES: NamedRow = NamedRow {
     other: &[],
     help: "Give up after so many waits in a row that settled nothing [default: 10]",
     ..TRIES
 };
 
-const LARGE: Named = Named {
+const LARGE: NamedRow = NamedRow {
     name: "large",
     value: ValueParser::Bool,
     behind: &[],
@@ -68,7 +68,7 @@ const LARGE: Named = Named {
     help: "Load the file in one step, all or nothing: by one request, as a large message",
 };
 
-const NAME: Named = Named {
+const NAME: NamedRow = NamedRow {
     name: "name",
     value: ValueParser::Signed(0, 65_535),
     behind: &["ID"],
@@ -77,7 +77,7 @@ const NAME: Named = Named {
     help: "The transaction ID under which a large message goes first [default: 0]",
 };
 
-const NAMES: Named = Named {
+const NAMES: NamedRow = NamedRow {
     name: "names",
     value: ValueParser::Signed(1, 65_536),
     behind: &["N"],
@@ -86,7 +86,7 @@ const NAMES: Named = Named {
     help: "Give a large message up after so many IDs, which get 4 waits, 8, 12 and so on [default: 6]",
 };
 
-const UP: Named = Named {
+const UP: NamedRow = NamedRow {
     name: "up",
     value: TEXT,
     behind: &["FIFO"],
@@ -95,7 +95,7 @@ const UP: Named = Named {
     help: "Where requests are written, in place of standard output",
 };
 
-const JOB: Named = Named {
+const JOB: NamedRow = NamedRow {
     name: "job",
     value: TEXT,
     behind: &["FILE"],
@@ -104,7 +104,7 @@ const JOB: Named = Named {
     help: "Keep what is settled in this file, so that the same command goes on from it",
 };
 
-const CHART: Named = Named {
+const CHART: NamedRow = NamedRow {
     name: "chart",
     value: TEXT,
     behind: &["FILE"],
@@ -113,7 +113,7 @@ const CHART: Named = Named {
     help: "Draw what was sent and settled in each round into this file, as SVG",
 };
 
-const PASSES: Named = Named {
+const PASSES: NamedRow = NamedRow {
     name: "passes",
     value: TEXT,
     behind: &["FILE"],
@@ -122,7 +122,7 @@ const PASSES: Named = Named {
     help: "Take the source after the one in this file, and write it there, in place of --source",
 };
 
-const AREA: Named = Named {
+const AREA: NamedRow = NamedRow {
     name: "area",
     value: TEXT,
     behind: &["ADDRESS", "FILE"],
@@ -131,7 +131,7 @@ const AREA: Named = Named {
     help: "Another file at another address, in the same pass",
 };
 
-const DUMPED_AREA: Named = Named {
+const DUMPED_AREA: NamedRow = NamedRow {
     name: "area",
     value: TEXT,
     behind: &["ADDRESS", "LENGTH", "FILE"],
@@ -140,7 +140,7 @@ const DUMPED_AREA: Named = Named {
     help: "Other octets and their file, in the same pass",
 };
 
-const ACK: Named = Named {
+const ACK: NamedRow = NamedRow {
     name: "ack",
     value: ValueParser::Names(&["8", "10"]),
     behind: &["N"],
@@ -149,7 +149,7 @@ const ACK: Named = Named {
     help: "The acknowledgement flags: with 10 a report of start counts as well",
 };
 
-const VERIFY: Named = Named {
+const VERIFY: NamedRow = NamedRow {
     name: "verify",
     value: ValueParser::Bool,
     behind: &[],
@@ -158,7 +158,7 @@ const VERIFY: Named = Named {
     help: "Dump the octets after the load, and compare them",
 };
 
-const TO: Named = Named {
+const TO: NamedRow = NamedRow {
     name: "to",
     value: TEXT,
     behind: &["FILE"],
@@ -168,10 +168,10 @@ const TO: Named = Named {
 };
 
 /// The words that each command below `ground` takes after its own.
-pub(crate) static GROUND_WORDS: [Named; 6] = [UP, JOB, CHART, RESYNC, JSON, QUIET];
+pub(crate) static GROUND_WORDS: [NamedRow; 6] = [UP, JOB, CHART, RESYNC, JSON, QUIET];
 
 /// `ground load`.
-pub(crate) static GROUND_LOAD: Row = Row {
+pub(crate) static GROUND_LOAD: CommandRow = CommandRow {
     name: "load",
     about: "Load a file into a memory, and end once all of it is there",
     words: &[MEMORY, ADDRESS, FILE],
@@ -182,7 +182,7 @@ pub(crate) static GROUND_LOAD: Row = Row {
 };
 
 /// `ground dump`.
-pub(crate) static GROUND_DUMP: Row = Row {
+pub(crate) static GROUND_DUMP: CommandRow = CommandRow {
     name: "dump",
     about: "Fetch octets of a memory, and write them once all have come",
     words: &[MEMORY, ADDRESS, LENGTH],
@@ -191,7 +191,7 @@ pub(crate) static GROUND_DUMP: Row = Row {
 };
 
 /// `ground check`.
-pub(crate) static GROUND_CHECK: Row = Row {
+pub(crate) static GROUND_CHECK: CommandRow = CommandRow {
     name: "check",
     about: "Compare a file with checksums of a memory",
     words: &[MEMORY, ADDRESS, FILE],
@@ -200,7 +200,7 @@ pub(crate) static GROUND_CHECK: Row = Row {
 };
 
 /// `ground patch`.
-pub(crate) static GROUND_PATCH: Row = Row {
+pub(crate) static GROUND_PATCH: CommandRow = CommandRow {
     name: "patch",
     about: "Load the files of a list into memories, and end once all of them are there",
     words: &[LIST],
@@ -209,7 +209,7 @@ pub(crate) static GROUND_PATCH: Row = Row {
 };
 
 /// The words that each command below `pass` takes after its own.
-pub(crate) static PASS_WORDS: [Named; 12] = [
+pub(crate) static PASS_WORDS: [NamedRow; 12] = [
     JOB,
     CHART,
     JSON,
@@ -225,7 +225,7 @@ pub(crate) static PASS_WORDS: [Named; 12] = [
 ];
 
 /// `pass load`.
-pub(crate) static PASS_LOAD: Row = Row {
+pub(crate) static PASS_LOAD: CommandRow = CommandRow {
     name: "load",
     about: "Load a file into a memory over links that lose",
     words: &[MEMORY, ADDRESS, FILE],
@@ -236,7 +236,7 @@ pub(crate) static PASS_LOAD: Row = Row {
 };
 
 /// `pass dump`.
-pub(crate) static PASS_DUMP: Row = Row {
+pub(crate) static PASS_DUMP: CommandRow = CommandRow {
     name: "dump",
     about: "Fetch octets of a memory over links that lose",
     words: &[MEMORY, ADDRESS, LENGTH],
@@ -245,7 +245,7 @@ pub(crate) static PASS_DUMP: Row = Row {
 };
 
 /// `pass check`.
-pub(crate) static PASS_CHECK: Row = Row {
+pub(crate) static PASS_CHECK: CommandRow = CommandRow {
     name: "check",
     about: "Compare a file with checksums of a memory over links that lose",
     words: &[MEMORY, ADDRESS, FILE],
@@ -254,7 +254,7 @@ pub(crate) static PASS_CHECK: Row = Row {
 };
 
 /// `pass patch`.
-pub(crate) static PASS_PATCH: Row = Row {
+pub(crate) static PASS_PATCH: CommandRow = CommandRow {
     name: "patch",
     about: "Load the files of a list into memories over links that lose",
     words: &[LIST],

@@ -1,13 +1,13 @@
 //! The word that gives a mission's layouts, and the command that takes it for octets.
 
 use crate::commands::TEXT;
-use crate::row::Named;
+use crate::row::NamedRow;
 use crate::word_fault::WordFault;
 use clap::builder::ValueParser;
 use clap::{ArgAction, ArgMatches};
 
 /// The file of a mission's layouts.
-pub(crate) const LAYOUT: Named = Named {
+pub(crate) const LAYOUT: NamedRow = NamedRow {
     name: "layout",
     value: TEXT,
     behind: &["FILE"],
@@ -17,7 +17,7 @@ pub(crate) const LAYOUT: Named = Named {
 };
 
 /// That more is said of octets than what they are.
-pub(crate) const MORE: Named = Named {
+pub(crate) const MORE: NamedRow = NamedRow {
     name: "more",
     value: ValueParser::Bool,
     behind: &[],

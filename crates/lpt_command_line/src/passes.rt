@@ -1,11 +1,11 @@
 //! The commands that play a pass: the link, and the spacecraft's end.
 
 use crate::commands::{PACKETS, QUIET, TEXT, U32, U64};
-use crate::row::{Configured, Named, Row};
+use crate::row::{CommandRow, Configured, NamedRow};
 use clap::ArgAction;
 use clap::builder::ValueParser;
 
-pub(crate) const LOSE: Named = Named {
+pub(crate) const LOSE: NamedRow = NamedRow {
     name: "lose",
     value: TEXT,
     behind: &["P"],
@@ -14,7 +14,7 @@ pub(crate) const LOSE: Named = Named {
     help: "The share of packets that get lost",
 };
 
-pub(crate) const REPEAT: Named = Named {
+pub(crate) const REPEAT: NamedRow = NamedRow {
     name: "repeat",
     value: TEXT,
     behind: &["P"],
@@ -23,7 +23,7 @@ pub(crate) const REPEAT: Named = Named {
     help: "The share of packets that are written twice",
 };
 
-pub(crate) const DAMAGE: Named = Named {
+pub(crate) const DAMAGE: NamedRow = NamedRow {
     name: "damage",
     value: TEXT,
     behind: &["P"],
@@ -32,7 +32,7 @@ pub(crate) const DAMAGE: Named = Named {
     help: "The share of packets in which bits change, so that the checksum is wrong",
 };
 
-pub(crate) const DELAY: Named = Named {
+pub(crate) const DELAY: NamedRow = NamedRow {
     name: "delay",
     value: ValueParser::Signed(0, 1000),
     behind: &["N"],
@@ -41,7 +41,7 @@ pub(crate) const DELAY: Named = Named {
     help: "Delay packets, each by at most N others, 0 to 1000",
 };
 
-pub(crate) const SEED: Named = Named {
+pub(crate) const SEED: NamedRow = NamedRow {
     name: "seed",
     value: U64,
     behind: &["S"],
@@ -50,7 +50,7 @@ pub(crate) const SEED: Named = Named {
     help: "The random seed; the same seed gives the same run",
 };
 
-pub(crate) const MEMORY: Named = Named {
+pub(crate) const MEMORY: NamedRow = NamedRow {
     name: "memory",
     value: TEXT,
     behind: &["ID=FILE"],
@@ -59,7 +59,7 @@ pub(crate) const MEMORY: Named = Named {
     help: "The ID of a memory, and the file of its first content, 1 to 1048576 octets",
 };
 
-pub(crate) const SAVE: Named = Named {
+pub(crate) const SAVE: NamedRow = NamedRow {
     name: "save",
     value: ValueParser::Bool,
     behind: &[],
@@ -68,7 +68,7 @@ pub(crate) const SAVE: Named = Named {
     help: "Write a memory back to its file after each load, and all of them at the end",
 };
 
-pub(crate) const STATE: Named = Named {
+pub(crate) const STATE: NamedRow = NamedRow {
     name: "state",
     value: TEXT,
     behind: &["FILE"],
@@ -77,7 +77,7 @@ pub(crate) const STATE: Named = Named {
     help: "Keep the state and the memories in this file, and go on from it next time",
 };
 
-pub(crate) const RESYNC: Named = Named {
+pub(crate) const RESYNC: NamedRow = NamedRow {
     name: "resync",
     value: ValueParser::Bool,
     behind: &[],
@@ -87,7 +87,7 @@ pub(crate) const RESYNC: Named = Named {
 };
 
 /// `link`.
-pub(crate) static LINK: Row = Row {
+pub(crate) static LINK: CommandRow = CommandRow {
     name: "link",
     about: "Lose, repeat, delay and damage packets, as a link does",
     words: &[PACKETS],
@@ -96,14 +96,14 @@ pub(crate) static LINK: Row = Row {
 };
 
 /// `spacecraft`.
-pub(crate) static SPACECRAFT: Row = Row {
+pub(crate) static SPACECRAFT: CommandRow = CommandRow {
     name: "spacecraft",
     about: "Play the spacecraft: take packets, execute requests, write reports",
     words: &[],
     named: &[
         MEMORY,
         SAVE,
-        Named {
+        NamedRow {
             name: "tick-every",
             value: U64,
             behind: &["N"],
@@ -111,7 +111,7 @@ pub(crate) static SPACECRAFT: Row = Row {
             other: &[],
             help: "Move the clock on by a tick after every N packets; never if 0 or not given",
         },
-        Named {
+        NamedRow {
             name: "tick",
             value: ValueParser::Unsigned(1, u32::MAX as u64),
             behind: &["MS"],
@@ -119,7 +119,7 @@ pub(crate) static SPACECRAFT: Row = Row {
             other: &[],
             help: "Tick every MS milliseconds of the machine's clock, also while nothing comes",
         },
-        Named {
+        NamedRow {
             name: "reuse",
             value: U32,
             behind: &["N"],
@@ -128,7 +128,7 @@ pub(crate) static SPACECRAFT: Row = Row {
             help: "Free a name N ticks after its use; no older packet may be on its way then",
         },
         RESYNC,
-        Named {
+        NamedRow {
             name: "log",
             value: ValueParser::Bool,
             behind: &[],

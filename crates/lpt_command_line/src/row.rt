@@ -5,7 +5,7 @@ use clap::builder::ValueParser;
 use std::ops::RangeInclusive;
 
 /// A command.
-pub(crate) struct Row {
+pub(crate) struct CommandRow {
     /// Its name.
     pub(crate) name: &'static str,
     /// What it does.
@@ -13,7 +13,7 @@ pub(crate) struct Row {
     /// The words that are given by their place.
     pub(crate) words: &'static [Word],
     /// The words that are given behind a name.
-    pub(crate) named: &'static [Named],
+    pub(crate) named: &'static [NamedRow],
     /// Which words of a configuration it takes.
     pub(crate) configured: Configured,
 }
@@ -39,9 +39,9 @@ pub(crate) struct Family<'f> {
     /// What the commands below it do.
     pub(crate) about: &'static str,
     /// The commands below it.
-    pub(crate) below: &'f [&'static Row],
+    pub(crate) below: &'f [&'static CommandRow],
     /// The words that each of these takes behind a name, after its own.
-    pub(crate) shared: &'static [Named],
+    pub(crate) shared: &'static [NamedRow],
 }
 
 /// A word that is given by its place.
@@ -102,7 +102,7 @@ impl Need {
 }
 
 /// A word that is given behind its name.
-pub(crate) struct Named {
+pub(crate) struct NamedRow {
     /// The name by which it is read, without its hyphens.
     pub(crate) name: &'static str,
     /// What it has to be.

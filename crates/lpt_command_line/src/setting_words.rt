@@ -1,7 +1,7 @@
 //! The words that say what a configuration says, in its place or beside it.
 
 use crate::commands::TEXT;
-use crate::row::Named;
+use crate::row::NamedRow;
 use clap::builder::ValueParser;
 use clap::{ArgAction, ArgMatches};
 use lpt_part::Mode;
@@ -21,7 +21,7 @@ pub struct SettingWords<'a> {
     pub mode: Option<Mode>,
 }
 
-const CONFIG: Named = Named {
+const CONFIG: NamedRow = NamedRow {
     name: "config",
     value: TEXT,
     behind: &["FILE"],
@@ -30,7 +30,7 @@ const CONFIG: Named = Named {
     help: "A TOML file with the configuration",
 };
 
-const APID: Named = Named {
+const APID: NamedRow = NamedRow {
     name: "apid",
     value: ValueParser::Signed(0, 2046),
     behind: &["N"],
@@ -39,7 +39,7 @@ const APID: Named = Named {
     help: "The APID of all packets, 0 to 2046",
 };
 
-const PART_SIZE: Named = Named {
+const PART_SIZE: NamedRow = NamedRow {
     name: "part-size",
     value: ValueParser::Signed(4, 1024),
     behind: &["N"],
@@ -49,10 +49,10 @@ const PART_SIZE: Named = Named {
 };
 
 /// The configuration's file, and the words that win over it.
-pub(crate) static SETTINGS: [Named; 5] = [
+pub(crate) static SETTINGS: [NamedRow; 5] = [
     CONFIG,
     APID,
-    Named {
+    NamedRow {
         name: "source",
         value: ValueParser::Signed(0, 65_535),
         behind: &["N"],
@@ -61,7 +61,7 @@ pub(crate) static SETTINGS: [Named; 5] = [
         help: "The source of an ID that is written without one, 0 to 65535",
     },
     PART_SIZE,
-    Named {
+    NamedRow {
         name: "mode",
         value: ValueParser::Names(&["any", "strict"]),
         behind: &["MODE"],
@@ -72,10 +72,10 @@ pub(crate) static SETTINGS: [Named; 5] = [
 ];
 
 /// Those of a pass, which has a source of its own.
-pub(crate) static PASS_SETTINGS: [Named; 4] = [
+pub(crate) static PASS_SETTINGS: [NamedRow; 4] = [
     CONFIG,
     APID,
-    Named {
+    NamedRow {
         name: "source",
         value: ValueParser::Signed(1, 65_535),
         behind: &["N"],

@@ -6,7 +6,7 @@ ghost use Rattle.lpt_packet.specs.declared.packet.PacketKind.TheVariants.{Tm};
 ghost use Rattle.lpt_packet.specs.Packets.{verdict};
 ghost use Rattle.lpt_memory.specs.Fields.{all_areas};
 ghost use Rattle.lpt_carried.specs.Carried.{cut_for};
-ghost use Rattle.lpt_layout.specs.Messages.{message_verdict, said};
+ghost use Rattle.lpt_layout.specs.Messages.{message_verdict, message_said};
 ghost use Rattle.lpt_layout.specs.Packets.{fields};
 ghost use Rattle.lpt_stream.specs.Pieces.{IsSealedBy};
 ghost use Rattle.lpt_compare.specs.Checks.{in_body, one_area, piece_said, said_by, said_in};
@@ -117,7 +117,7 @@ fn in_message(
     memory: u8,
     message: &Message<'_>,
 ) -> Result<Said, AllocError>
-    ensures { IfOk result (λ r. saying_of r ≡ said_by apid memory (Ok (said message.now))) }
+    ensures { IfOk result (λ r. saying_of r ≡ said_by apid memory (Ok (message_said message.now))) }
 {
     if message.apid != apid {
         return Ok(Said::Other);

@@ -92,9 +92,9 @@ const OCTETS: [u8; 8] = [0, 1, 2, 3, 4, 5, 6, 7];
 
 /// A part's kind, its part sequence number, how many octets it has at part size 8, and the fault's
 /// number.
-type Row = (Kind, u16, usize, Option<u16>);
+type FaultRow = (Kind, u16, usize, Option<u16>);
 
-const ROWS: [Row; 12] = [
+const ROWS: [FaultRow; 12] = [
     (Kind::First, 1, 8, None),
     (Kind::Middle, 2, 8, None),
     (Kind::Last, 8193, 6, None),
@@ -110,7 +110,7 @@ const ROWS: [Row; 12] = [
 ];
 
 // The fault with which a part is read, and whether one is made.
-fn judged(alloc: Global, row: &Row) -> Result<(Option<u16>, bool), Fail> {
+fn fault_judged(alloc: Global, row: &FaultRow) -> Result<(Option<u16>, bool), Fail> {
     let (kind, number, len, _) = *row;
     let octets = OCTETS.get(..len).ok_or("a longer part")?;
     let body = body_of(alloc, number, octets)?;
@@ -122,7 +122,7 @@ fn judged(alloc: Global, row: &Row) -> Result<(Option<u16>, bool), Fail> {
 fn refuses_parts_in_order(rt: HostRuntime) -> Result<(), Fail> {
     for row in &ROWS {
         let (kind, number, len, fault) = *row;
-        let (read, made) = judged(rt.alloc(), row)?;
+        let (read, made) = fault_judged(rt.alloc(), row)?;
         assert!(rt;
             read == fault && made == fault.is_none(),
             "{kind:?} {number}, {len}"

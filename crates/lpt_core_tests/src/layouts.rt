@@ -11,7 +11,7 @@ use std::alloc::Global;
 
 // A packet of APID 100 and count 5, and what it says: flags, counter and ID, the time, the spare
 // octets. Its body is part 1 of identifier 7.
-struct Row {
+struct LayoutRow {
     layout: Layout,
     packet: &'static [u8],
     numbers: (u8, u32, u32),
@@ -21,9 +21,9 @@ struct Row {
 
 const BODY: [u8; 7] = [0x00, 0x07, 0x00, 0x01, 0xa1, 0xa2, 0xa3];
 
-static ROWS: [Row; 11] = [
+static ROWS: [LayoutRow; 11] = [
     // CUC 4+0, as the profile has it
-    Row {
+    LayoutRow {
         layout: Layout {
             has_checksum: true,
             version: Version::Two,
@@ -41,7 +41,7 @@ static ROWS: [Row; 11] = [
         spare: &[],
     },
     // CUC 4+2
-    Row {
+    LayoutRow {
         layout: Layout {
             has_checksum: true,
             version: Version::Two,
@@ -59,7 +59,7 @@ static ROWS: [Row; 11] = [
         spare: &[],
     },
     // CUC 4+3
-    Row {
+    LayoutRow {
         layout: Layout {
             has_checksum: true,
             version: Version::Two,
@@ -78,7 +78,7 @@ static ROWS: [Row; 11] = [
         spare: &[],
     },
     // CUC 4+3 with P-field
-    Row {
+    LayoutRow {
         layout: Layout {
             has_checksum: true,
             version: Version::Two,
@@ -97,7 +97,7 @@ static ROWS: [Row; 11] = [
         spare: &[],
     },
     // spare 1
-    Row {
+    LayoutRow {
         layout: Layout {
             has_checksum: true,
             version: Version::Two,
@@ -115,7 +115,7 @@ static ROWS: [Row; 11] = [
         spare: &[0x00],
     },
     // spare 3, 8-bit ID
-    Row {
+    LayoutRow {
         layout: Layout {
             has_checksum: true,
             version: Version::Two,
@@ -133,7 +133,7 @@ static ROWS: [Row; 11] = [
         spare: &[0x00, 0x01, 0x00],
     },
     // no checksum
-    Row {
+    LayoutRow {
         layout: Layout {
             has_checksum: false,
             version: Version::Two,
@@ -151,7 +151,7 @@ static ROWS: [Row; 11] = [
         spare: &[],
     },
     // PUS-A, 8-bit counter, no ID
-    Row {
+    LayoutRow {
         layout: Layout {
             has_checksum: true,
             version: Version::One,
@@ -169,7 +169,7 @@ static ROWS: [Row; 11] = [
         spare: &[],
     },
     // PUS-A, as gen.py has it
-    Row {
+    LayoutRow {
         layout: Layout {
             has_checksum: true,
             version: Version::One,
@@ -187,7 +187,7 @@ static ROWS: [Row; 11] = [
         spare: &[],
     },
     // tc spare 2
-    Row {
+    LayoutRow {
         layout: Layout {
             has_checksum: true,
             version: Version::Two,
@@ -205,7 +205,7 @@ static ROWS: [Row; 11] = [
         spare: &[0x00, 0x00],
     },
     // tc no checksum, no ID, PUS-A
-    Row {
+    LayoutRow {
         layout: Layout {
             has_checksum: false,
             version: Version::One,
@@ -225,7 +225,12 @@ static ROWS: [Row; 11] = [
 ];
 
 // The octets that are written of a message of this type.
-fn written(alloc: Global, row: &Row, kind: PacketKind, message: &Message<'_>) -> Option<bool> {
+fn is_written(
+    alloc: Global,
+    row: &LayoutRow,
+    kind: PacketKind,
+    message: &Message<'_>,
+) -> Option<bool> {
     let octets = match kind {
         PacketKind::Tm => write_tm_as(alloc, &row.layout, message).ok()?,
         PacketKind::Tc => write_tc_as(alloc, &row.layout, message).ok()?,
@@ -234,7 +239,7 @@ fn written(alloc: Global, row: &Row, kind: PacketKind, message: &Message<'_>) ->
 }
 
 // Whether a row is read as what it says, and written again.
-fn is_right(alloc: Global, row: &Row) -> Option<bool> {
+fn is_right(alloc: Global, row: &LayoutRow) -> Option<bool> {
     let SeenAs::Packet(packet) = read_packet_as(&row.layout, row.packet).ok()? else {
         return None;
     };
@@ -247,7 +252,7 @@ fn is_right(alloc: Global, row: &Row) -> Option<bool> {
         && message.time == row.time
         && message.spare == row.spare
         && message.body == BODY.as_slice();
-    Some(is_said && written(alloc, row, packet.kind, &message)?)
+    Some(is_said && is_written(alloc, row, packet.kind, &message)?)
 }
 
 #[test]

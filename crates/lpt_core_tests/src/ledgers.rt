@@ -8,7 +8,7 @@ use std::test::Fail;
 
 /// A call. The first four name an identifier.
 #[derive(Clone, Copy)]
-enum Call {
+enum LedgerCall {
     Open,
     Close,
     Shut,
@@ -38,18 +38,18 @@ fn least(ledger: &Ledger) -> Option<u16> {
 
 // The code of the fault that a call answers, or 0 where it answers none. Of `OpenEach` it is how many
 // were refused.
-fn code(ledger: &mut Ledger, call: Call, id: u16) -> u16 {
+fn code(ledger: &mut Ledger, call: LedgerCall, id: u16) -> u16 {
     let name = name(id);
     let answer = match call {
-        Call::Open => ledger.open(name),
-        Call::Close => ledger.close(name),
-        Call::Shut => ledger.shut(name),
-        Call::Retire => ledger.retire(name),
-        Call::CloseAll => {
+        LedgerCall::Open => ledger.open(name),
+        LedgerCall::Close => ledger.close(name),
+        LedgerCall::Shut => ledger.shut(name),
+        LedgerCall::Retire => ledger.retire(name),
+        LedgerCall::CloseAll => {
             ledger.close_all();
             Ok(())
         }
-        Call::OpenEach => return open_each(ledger),
+        LedgerCall::OpenEach => return open_each(ledger),
     };
     match answer {
         Ok(()) => 0,
@@ -70,10 +70,10 @@ fn open_each(ledger: &mut Ledger) -> u16 {
 
 /// A call, its identifier, its code, the state in which it leaves that identifier, and the least free
 /// one behind it.
-type Row = (Call, u16, u16, State, Option<u16>);
+type LedgerRow = (LedgerCall, u16, u16, State, Option<u16>);
 
 // Each call answers its code, and leaves its identifier in its state. Another source's names stay free.
-fn check_calls(rt: &impl Abort, ledger: &mut Ledger, rows: &[Row]) {
+fn check_calls(rt: &impl Abort, ledger: &mut Ledger, rows: &[LedgerRow]) {
     for (at, (call, id, number, state, want)) in rows.iter().enumerate() {
         let answer = code(ledger, *call, *id);
         let left = (answer, ledger.state(name(*id)), least(ledger));
@@ -87,7 +87,7 @@ fn check_calls(rt: &impl Abort, ledger: &mut Ledger, rows: &[Row]) {
 }
 
 // The same of a ledger of which all is free.
-fn check(rt: &impl Abort, alloc: Global, rows: &[Row]) -> Result<(), Fail> {
+fn check(rt: &impl Abort, alloc: Global, rows: &[LedgerRow]) -> Result<(), Fail> {
     let mut ledger = Ledger::new(alloc);
     assert!(rt; least(&ledger) == Some(0));
     check_calls(rt, &mut ledger, rows);
@@ -96,48 +96,48 @@ fn check(rt: &impl Abort, alloc: Global, rows: &[Row]) -> Result<(), Fail> {
 }
 
 /// Each call changes one identifier.
-static CALLS: [Row; 16] = [
-    (Call::Open, 7, 0, State::Open, Some(0)),
-    (Call::Close, 6, 33, State::Free, Some(0)),
-    (Call::Close, 8, 33, State::Free, Some(0)),
-    (Call::Close, 7, 0, State::Closed, Some(0)),
-    (Call::Retire, 7, 0, State::Free, Some(0)),
-    (Call::Shut, 7, 0, State::Closed, Some(0)),
-    (Call::Open, 1, 0, State::Open, Some(0)),
-    (Call::Shut, 2, 0, State::Closed, Some(0)),
-    (Call::Close, 0, 33, State::Free, Some(0)),
-    (Call::Retire, 0, 33, State::Free, Some(0)),
-    (Call::Open, 1, 31, State::Open, Some(0)),
-    (Call::Shut, 1, 31, State::Open, Some(0)),
-    (Call::Retire, 1, 32, State::Open, Some(0)),
-    (Call::Open, 2, 31, State::Closed, Some(0)),
-    (Call::Close, 2, 33, State::Closed, Some(0)),
-    (Call::Shut, 2, 31, State::Closed, Some(0)),
+static CALLS: [LedgerRow; 16] = [
+    (LedgerCall::Open, 7, 0, State::Open, Some(0)),
+    (LedgerCall::Close, 6, 33, State::Free, Some(0)),
+    (LedgerCall::Close, 8, 33, State::Free, Some(0)),
+    (LedgerCall::Close, 7, 0, State::Closed, Some(0)),
+    (LedgerCall::Retire, 7, 0, State::Free, Some(0)),
+    (LedgerCall::Shut, 7, 0, State::Closed, Some(0)),
+    (LedgerCall::Open, 1, 0, State::Open, Some(0)),
+    (LedgerCall::Shut, 2, 0, State::Closed, Some(0)),
+    (LedgerCall::Close, 0, 33, State::Free, Some(0)),
+    (LedgerCall::Retire, 0, 33, State::Free, Some(0)),
+    (LedgerCall::Open, 1, 31, State::Open, Some(0)),
+    (LedgerCall::Shut, 1, 31, State::Open, Some(0)),
+    (LedgerCall::Retire, 1, 32, State::Open, Some(0)),
+    (LedgerCall::Open, 2, 31, State::Closed, Some(0)),
+    (LedgerCall::Close, 2, 33, State::Closed, Some(0)),
+    (LedgerCall::Shut, 2, 31, State::Closed, Some(0)),
 ];
 
 /// The least free one rises with what is opened, and falls if one below it is retired.
-static LEAST_FREE: [Row; 6] = [
-    (Call::Open, 0, 0, State::Open, Some(1)),
-    (Call::Open, 2, 0, State::Open, Some(1)),
-    (Call::Open, 1, 0, State::Open, Some(3)),
-    (Call::Close, 1, 0, State::Closed, Some(3)),
-    (Call::Retire, 1, 0, State::Free, Some(1)),
-    (Call::Shut, 1, 0, State::Closed, Some(3)),
+static LEAST_FREE: [LedgerRow; 6] = [
+    (LedgerCall::Open, 0, 0, State::Open, Some(1)),
+    (LedgerCall::Open, 2, 0, State::Open, Some(1)),
+    (LedgerCall::Open, 1, 0, State::Open, Some(3)),
+    (LedgerCall::Close, 1, 0, State::Closed, Some(3)),
+    (LedgerCall::Retire, 1, 0, State::Free, Some(1)),
+    (LedgerCall::Shut, 1, 0, State::Closed, Some(3)),
 ];
 
 /// With every identifier taken none is free.
-static TAKEN: [Row; 11] = [
-    (Call::Shut, 1, 0, State::Closed, Some(0)),
-    (Call::CloseAll, 0, 0, State::Free, Some(0)),
-    (Call::CloseAll, 1, 0, State::Closed, Some(0)),
-    (Call::OpenEach, 0, 1, State::Open, None),
-    (Call::CloseAll, 65_535, 0, State::Closed, None),
-    (Call::Retire, 65_535, 0, State::Free, Some(65_535)),
-    (Call::Retire, 64, 0, State::Free, Some(64)),
-    (Call::Open, 64, 0, State::Open, Some(65_535)),
-    (Call::Retire, 40_000, 0, State::Free, Some(40_000)),
-    (Call::Shut, 40_000, 0, State::Closed, Some(65_535)),
-    (Call::Shut, 65_535, 0, State::Closed, None),
+static TAKEN: [LedgerRow; 11] = [
+    (LedgerCall::Shut, 1, 0, State::Closed, Some(0)),
+    (LedgerCall::CloseAll, 0, 0, State::Free, Some(0)),
+    (LedgerCall::CloseAll, 1, 0, State::Closed, Some(0)),
+    (LedgerCall::OpenEach, 0, 1, State::Open, None),
+    (LedgerCall::CloseAll, 65_535, 0, State::Closed, None),
+    (LedgerCall::Retire, 65_535, 0, State::Free, Some(65_535)),
+    (LedgerCall::Retire, 64, 0, State::Free, Some(64)),
+    (LedgerCall::Open, 64, 0, State::Open, Some(65_535)),
+    (LedgerCall::Retire, 40_000, 0, State::Free, Some(40_000)),
+    (LedgerCall::Shut, 40_000, 0, State::Closed, Some(65_535)),
+    (LedgerCall::Shut, 65_535, 0, State::Closed, None),
 ];
 
 #[test]

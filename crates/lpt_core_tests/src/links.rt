@@ -9,7 +9,7 @@ use std::test::Fail;
 
 /// What a link is asked to do, or to tell.
 #[derive(Clone, Copy)]
-enum Call {
+enum LinkCall {
     /// A packet of these octets: its number.
     Put(Direction, Option<Name>, &'static [u8]),
     Take(Lane, u64),
@@ -48,22 +48,22 @@ fn put(
 }
 
 // What a link answers: a number, 0 where there is nothing to tell, or a fault.
-fn answer(alloc: Global, link: &mut Link, call: Call) -> Result<u64, LinkFault> {
+fn answer(alloc: Global, link: &mut Link, call: LinkCall) -> Result<u64, LinkFault> {
     let done = match call {
-        Call::Put(direction, tag, octets) => return put(alloc, link, direction, tag, octets),
-        Call::DropHand(lane) => return link.drop_hand(lane),
-        Call::Holds(direction, name) => return Ok(u64::from(link.holds(direction, name))),
-        Call::IsHeld(n) => return Ok(u64::from(link.is_held(n))),
-        Call::Hand(lane) => return link.hand(lane).ok_or(LinkFault::HandEmpty),
-        Call::IsPacket(n, octets) => return Ok(u64::from(link.packet(n) == octets)),
-        Call::Packets => return Ok(link.packets()),
-        Call::Take(lane, n) => link.take(lane, n),
-        Call::Lose(n) => link.lose(n),
-        Call::RefusalDrop(lane) => match link.refusal_drop(lane) {
+        LinkCall::Put(direction, tag, octets) => return put(alloc, link, direction, tag, octets),
+        LinkCall::DropHand(lane) => return link.drop_hand(lane),
+        LinkCall::Holds(direction, name) => return Ok(u64::from(link.holds(direction, name))),
+        LinkCall::IsHeld(n) => return Ok(u64::from(link.is_held(n))),
+        LinkCall::Hand(lane) => return link.hand(lane).ok_or(LinkFault::HandEmpty),
+        LinkCall::IsPacket(n, octets) => return Ok(u64::from(link.packet(n) == octets)),
+        LinkCall::Packets => return Ok(link.packets()),
+        LinkCall::Take(lane, n) => link.take(lane, n),
+        LinkCall::Lose(n) => link.lose(n),
+        LinkCall::RefusalDrop(lane) => match link.refusal_drop(lane) {
             Some(fault) => Err(fault),
             None => Ok(()),
         },
-        Call::Reserve(room, tag) => match link.reserve(room, tag) {
+        LinkCall::Reserve(room, tag) => match link.reserve(room, tag) {
             Ok(()) => Ok(()),
             Err(_) => Err(LinkFault::Memory),
         },
@@ -83,10 +83,10 @@ const NINE: Name = Name { source: 1, id: 9 };
 /// The same identifier of another source.
 const OTHER_SEVEN: Name = Name { source: 2, id: 7 };
 
-type Row = (Call, Result<u64, LinkFault>);
+type LinkRow = (LinkCall, Result<u64, LinkFault>);
 
 // Each call answers what its row says.
-fn check_calls(rt: &impl Abort, alloc: Global, link: &mut Link, rows: &[Row]) {
+fn check_calls(rt: &impl Abort, alloc: Global, link: &mut Link, rows: &[LinkRow]) {
     for (at, (call, wanted)) in rows.iter().enumerate() {
         let answer = answer(alloc, link, *call);
         assert!(rt; answer == *wanted, "row {at}");
@@ -94,7 +94,7 @@ fn check_calls(rt: &impl Abort, alloc: Global, link: &mut Link, rows: &[Row]) {
 }
 
 // The same of an empty link.
-fn check(rt: &impl Abort, alloc: Global, rows: &[Row]) -> Result<(), Fail> {
+fn check(rt: &impl Abort, alloc: Global, rows: &[LinkRow]) -> Result<(), Fail> {
     let mut link = Link::new(alloc)?;
     check_calls(rt, alloc, &mut link, rows);
     drop(link);
@@ -102,68 +102,68 @@ fn check(rt: &impl Abort, alloc: Global, rows: &[Row]) -> Result<(), Fail> {
 }
 
 /// A packet of transaction 7, taken by both lanes and lost, is held until both hands are empty.
-static HANDS: [Row; 12] = [
-    (Call::Put(Direction::Up, Some(SEVEN), &[1, 2]), Ok(0)),
-    (Call::Take(Lane::S1, 0), Ok(0)),
-    (Call::Take(Lane::S2, 0), Ok(0)),
-    (Call::Lose(0), Ok(0)),
-    (Call::Holds(Direction::Down, SEVEN), Ok(0)),
-    (Call::Holds(Direction::Up, EIGHT), Ok(0)),
-    (Call::Holds(Direction::Up, OTHER_SEVEN), Ok(0)),
-    (Call::Holds(Direction::Up, SEVEN), Ok(1)),
-    (Call::DropHand(Lane::S1), Ok(0)),
-    (Call::Holds(Direction::Up, SEVEN), Ok(1)),
-    (Call::DropHand(Lane::S2), Ok(0)),
-    (Call::Holds(Direction::Up, SEVEN), Ok(0)),
+static HANDS: [LinkRow; 12] = [
+    (LinkCall::Put(Direction::Up, Some(SEVEN), &[1, 2]), Ok(0)),
+    (LinkCall::Take(Lane::S1, 0), Ok(0)),
+    (LinkCall::Take(Lane::S2, 0), Ok(0)),
+    (LinkCall::Lose(0), Ok(0)),
+    (LinkCall::Holds(Direction::Down, SEVEN), Ok(0)),
+    (LinkCall::Holds(Direction::Up, EIGHT), Ok(0)),
+    (LinkCall::Holds(Direction::Up, OTHER_SEVEN), Ok(0)),
+    (LinkCall::Holds(Direction::Up, SEVEN), Ok(1)),
+    (LinkCall::DropHand(Lane::S1), Ok(0)),
+    (LinkCall::Holds(Direction::Up, SEVEN), Ok(1)),
+    (LinkCall::DropHand(Lane::S2), Ok(0)),
+    (LinkCall::Holds(Direction::Up, SEVEN), Ok(0)),
 ];
 
 /// Two packets go up, of the transactions 7 and 8, and one down, of the transaction 7.
-static LOSSES: [Row; 27] = [
-    (Call::Put(Direction::Up, Some(SEVEN), &[7]), Ok(0)),
-    (Call::Put(Direction::Up, Some(EIGHT), &[8]), Ok(1)),
-    (Call::Put(Direction::Down, Some(SEVEN), &[7]), Ok(2)),
+static LOSSES: [LinkRow; 27] = [
+    (LinkCall::Put(Direction::Up, Some(SEVEN), &[7]), Ok(0)),
+    (LinkCall::Put(Direction::Up, Some(EIGHT), &[8]), Ok(1)),
+    (LinkCall::Put(Direction::Down, Some(SEVEN), &[7]), Ok(2)),
     // A lane takes what is held of its direction into an empty hand.
-    (Call::Take(Lane::S1, 2), Err(LinkFault::NotHeld)),
-    (Call::Take(Lane::S1, 3), Err(LinkFault::NotHeld)),
-    (Call::Take(Lane::S1, 1), Ok(0)),
-    (Call::Take(Lane::S1, 1), Err(LinkFault::HandFull)),
-    (Call::Take(Lane::S1, 2), Err(LinkFault::HandFull)),
-    (Call::Take(Lane::G1, 2), Ok(0)),
-    (Call::IsHeld(1), Ok(1)),
-    (Call::Hand(Lane::S1), Ok(1)),
-    (Call::Hand(Lane::S2), Err(LinkFault::HandEmpty)),
+    (LinkCall::Take(Lane::S1, 2), Err(LinkFault::NotHeld)),
+    (LinkCall::Take(Lane::S1, 3), Err(LinkFault::NotHeld)),
+    (LinkCall::Take(Lane::S1, 1), Ok(0)),
+    (LinkCall::Take(Lane::S1, 1), Err(LinkFault::HandFull)),
+    (LinkCall::Take(Lane::S1, 2), Err(LinkFault::HandFull)),
+    (LinkCall::Take(Lane::G1, 2), Ok(0)),
+    (LinkCall::IsHeld(1), Ok(1)),
+    (LinkCall::Hand(Lane::S1), Ok(1)),
+    (LinkCall::Hand(Lane::S2), Err(LinkFault::HandEmpty)),
     // A hand lets go once.
-    (Call::Lose(0), Ok(0)),
-    (Call::Take(Lane::S2, 0), Err(LinkFault::NotHeld)),
-    (Call::DropHand(Lane::G1), Ok(2)),
-    (Call::RefusalDrop(Lane::G1), Err(LinkFault::HandEmpty)),
-    (Call::DropHand(Lane::G1), Err(LinkFault::HandEmpty)),
+    (LinkCall::Lose(0), Ok(0)),
+    (LinkCall::Take(Lane::S2, 0), Err(LinkFault::NotHeld)),
+    (LinkCall::DropHand(Lane::G1), Ok(2)),
+    (LinkCall::RefusalDrop(Lane::G1), Err(LinkFault::HandEmpty)),
+    (LinkCall::DropHand(Lane::G1), Err(LinkFault::HandEmpty)),
     // A lost packet's octets stay.
-    (Call::Lose(1), Ok(0)),
-    (Call::Lose(1), Err(LinkFault::NotHeld)),
-    (Call::Lose(3), Err(LinkFault::NotHeld)),
-    (Call::IsHeld(0), Ok(0)),
-    (Call::IsHeld(1), Ok(0)),
-    (Call::IsHeld(2), Ok(1)),
-    (Call::IsHeld(3), Ok(0)),
-    (Call::IsPacket(1, Some(&[8])), Ok(1)),
-    (Call::IsPacket(3, None), Ok(1)),
-    (Call::Packets, Ok(3)),
+    (LinkCall::Lose(1), Ok(0)),
+    (LinkCall::Lose(1), Err(LinkFault::NotHeld)),
+    (LinkCall::Lose(3), Err(LinkFault::NotHeld)),
+    (LinkCall::IsHeld(0), Ok(0)),
+    (LinkCall::IsHeld(1), Ok(0)),
+    (LinkCall::IsHeld(2), Ok(1)),
+    (LinkCall::IsHeld(3), Ok(0)),
+    (LinkCall::IsPacket(1, Some(&[8])), Ok(1)),
+    (LinkCall::IsPacket(3, None), Ok(1)),
+    (LinkCall::Packets, Ok(3)),
 ];
 
 /// Packets of no transaction and of one are put into reserved room. A place that was made holds
 /// nothing, and is made again if its last packet was lost.
-static ROOM: [Row; 10] = [
-    (Call::Reserve(40, None), Ok(0)),
-    (Call::Put(Direction::Down, None, &[]), Ok(0)),
-    (Call::Holds(Direction::Down, ZERO), Ok(0)),
-    (Call::Reserve(2, Some((Direction::Up, NINE))), Ok(0)),
-    (Call::Holds(Direction::Up, NINE), Ok(0)),
-    (Call::Put(Direction::Up, Some(NINE), &[9]), Ok(1)),
-    (Call::Reserve(0, Some((Direction::Up, NINE))), Ok(0)),
-    (Call::Holds(Direction::Up, NINE), Ok(1)),
-    (Call::Lose(1), Ok(0)),
-    (Call::Put(Direction::Up, Some(NINE), &[9]), Ok(2)),
+static ROOM: [LinkRow; 10] = [
+    (LinkCall::Reserve(40, None), Ok(0)),
+    (LinkCall::Put(Direction::Down, None, &[]), Ok(0)),
+    (LinkCall::Holds(Direction::Down, ZERO), Ok(0)),
+    (LinkCall::Reserve(2, Some((Direction::Up, NINE))), Ok(0)),
+    (LinkCall::Holds(Direction::Up, NINE), Ok(0)),
+    (LinkCall::Put(Direction::Up, Some(NINE), &[9]), Ok(1)),
+    (LinkCall::Reserve(0, Some((Direction::Up, NINE))), Ok(0)),
+    (LinkCall::Holds(Direction::Up, NINE), Ok(1)),
+    (LinkCall::Lose(1), Ok(0)),
+    (LinkCall::Put(Direction::Up, Some(NINE), &[9]), Ok(2)),
 ];
 
 #[test]

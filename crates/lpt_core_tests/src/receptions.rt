@@ -32,7 +32,7 @@ const LAST_OF_TWO: Fields = (2, Kind::Last, &ONE);
 
 /// What a reception answers to a part.
 #[derive(Clone, Copy, PartialEq, Eq)]
-enum Said {
+enum StepSaid {
     Kept,
     Again,
     Whole,
@@ -42,9 +42,9 @@ enum Said {
     NoPart,
 }
 
-const CONFLICT: Said = Said::Broken(Reason::Conflict, Reason::Conflict);
+const CONFLICT: StepSaid = StepSaid::Broken(Reason::Conflict, Reason::Conflict);
 
-const GAP: Said = Said::Broken(Reason::Discontinuity, Reason::Discontinuity);
+const GAP: StepSaid = StepSaid::Broken(Reason::Discontinuity, Reason::Discontinuity);
 
 // A part of transaction 7, for parts of 8 octets.
 fn part(fields: Fields) -> Option<Part<'static>>
@@ -55,7 +55,7 @@ fn part(fields: Fields) -> Option<Part<'static>>
 }
 
 // What a reception answers to a part, where parts are taken in order or aren't.
-fn judge(filling: Filling, part: &Part<'_>, in_order: bool) -> Said
+fn judge(filling: Filling, part: &Part<'_>, in_order: bool) -> StepSaid
     requires id { part.now.id ≡ filling.id }
     requires p { part.now.p ≡ filling.p }
 {
@@ -65,39 +65,39 @@ fn judge(filling: Filling, part: &Part<'_>, in_order: bool) -> Said
         filling.accept(part)
     };
     match step {
-        Step::Conflict(broken) => Said::Broken(broken.reason(), broken.abort()),
+        Step::Conflict(broken) => StepSaid::Broken(broken.reason(), broken.abort()),
         Step::Whole(whole) => {
             drop(whole.back());
-            Said::Whole
+            StepSaid::Whole
         }
         Step::Again(left) => {
             drop(left);
-            Said::Again
+            StepSaid::Again
         }
         Step::Filling(left) => {
             drop(left);
-            Said::Kept
+            StepSaid::Kept
         }
         Step::NoMemory(left) => {
             drop(left);
-            Said::NoMemory
+            StepSaid::NoMemory
         }
     }
 }
 
 // What a reception that begins with the first of two parts answers to the second.
-fn answer(alloc: Global, first: Fields, second: Fields, in_order: bool) -> Said {
+fn answer(alloc: Global, first: Fields, second: Fields, in_order: bool) -> StepSaid {
     let (Some(first), Some(second)) = (part(first), part(second)) else {
-        return Said::NoPart;
+        return StepSaid::NoPart;
     };
     match Filling::start(alloc, &first, 8) {
         Ok(filling) => judge(filling, &second, in_order),
-        Err(_) => Said::NoMemory,
+        Err(_) => StepSaid::NoMemory,
     }
 }
 
 /// Two parts, whether they are taken in order, and what is said of the second.
-static PAIRS: [(Fields, Fields, bool, Said); 16] = [
+static PAIRS: [(Fields, Fields, bool, StepSaid); 16] = [
     // A second last part, a last part below another part, a part above the last one, another kind,
     // other octets.
     (LAST, LAST_OF_TWO, false, CONFLICT),
@@ -112,14 +112,14 @@ static PAIRS: [(Fields, Fields, bool, Said); 16] = [
         CONFLICT,
     ),
     // Two that agree, or end the message.
-    (FIRST, FIRST, false, Said::Again),
-    (LAST, (2, Kind::Middle, &EIGHT), false, Said::Kept),
-    (LAST_OF_TWO, FIRST, false, Said::Whole),
+    (FIRST, FIRST, false, StepSaid::Again),
+    (LAST, (2, Kind::Middle, &EIGHT), false, StepSaid::Kept),
+    (LAST_OF_TWO, FIRST, false, StepSaid::Whole),
     // In order.
-    (FIRST, LAST_OF_TWO, true, Said::Whole),
-    (FIRST, (2, Kind::Middle, &EIGHT), true, Said::Kept),
+    (FIRST, LAST_OF_TWO, true, StepSaid::Whole),
+    (FIRST, (2, Kind::Middle, &EIGHT), true, StepSaid::Kept),
     // A late repeat is no gap.
-    (THIRD, THIRD, true, Said::Again),
+    (THIRD, THIRD, true, StepSaid::Again),
     (FIRST, THIRD, true, GAP),
     (THIRD, FIRST, true, GAP),
     // A contradiction comes before a gap, and where there is none.

@@ -30,7 +30,7 @@ enum Expected {
 
 /// What is asked of a table, or what it shows.
 #[derive(Clone, Copy)]
-enum Row {
+enum TableRow {
     /// A part is offered: its source, identifier, number, kind and octets, the tick, and what is to come of it.
     Offers(u16, u16, u16, Kind, [u8; 4], u32, Expected),
     /// Which reception is due at a tick, if one is.
@@ -48,7 +48,7 @@ enum Row {
 }
 
 // The name of an identifier of a source.
-fn named(of: (u16, u16)) -> Name
+fn name_from(of: (u16, u16)) -> Name
     ensures { result ≡ record { source = of.0; id = of.1 } }
 {
     Name {
@@ -104,7 +104,7 @@ fn offer(table: &mut Table, source: u16, part: &Part<'_>, now: u32, puts_back: b
     ensures p { table.new.p ≡ table.old.p }
     ensures settled { table.new.out ≡ None }
 {
-    let name = named((source, part.id));
+    let name = name_from((source, part.id));
     match table.offer(source, part, now) {
         Offer::Kept => Expected::Kept,
         Offer::Again => Expected::Again,
@@ -130,26 +130,26 @@ fn set_back(table: &mut Table, ticks: u32) -> bool
 }
 
 // Whether a row comes as it says.
-fn comes(table: &mut Table, row: &Row) -> bool
+fn comes(table: &mut Table, row: &TableRow) -> bool
     requires p { table.old.p ≡ 4 }
     requires settled { table.old.out ≡ None }
     ensures p { table.new.p ≡ 4 }
     ensures settled { table.new.out ≡ None }
 {
     match row {
-        Row::Offers(source, id, number, kind, octets, now, want) => {
+        TableRow::Offers(source, id, number, kind, octets, now, want) => {
             let came = match Part::new(*id, *number, *kind, octets, 4) {
                 Some(part) => offer(table, *source, &part, *now, *want == Expected::PutBack),
                 None => Expected::NoPart,
             };
             came == *want
         }
-        Row::Due(now, want) => table.due(*now) == want.map(named),
-        Row::Expires(source, id, want) => table.expire(named((*source, *id))) == *want,
-        Row::Open(count) => table.len() == *count,
-        Row::IsOpen(source, id, want) => table.is_open(named((*source, *id))) == *want,
-        Row::SetsBack(ticks, want) => set_back(table, *ticks) == *want,
-        Row::Clears => {
+        TableRow::Due(now, want) => table.due(*now) == want.map(name_from),
+        TableRow::Expires(source, id, want) => table.expire(name_from((*source, *id))) == *want,
+        TableRow::Open(count) => table.len() == *count,
+        TableRow::IsOpen(source, id, want) => table.is_open(name_from((*source, *id))) == *want,
+        TableRow::SetsBack(ticks, want) => set_back(table, *ticks) == *want,
+        TableRow::Clears => {
             table.clear_all();
             true
         }
@@ -157,7 +157,7 @@ fn comes(table: &mut Table, row: &Row) -> bool
 }
 
 // Each row comes as it says.
-fn check_rows(rt: &impl Abort, table: &mut Table, rows: &[Row])
+fn check_rows(rt: &impl Abort, table: &mut Table, rows: &[TableRow])
     requires p { table.old.p ≡ 4 }
     requires settled { table.old.out ≡ None }
 {
@@ -170,7 +170,13 @@ fn check_rows(rt: &impl Abort, table: &mut Table, rows: &[Row])
 }
 
 // The same of a new table of so many receptions, whose timeout is 10 ticks.
-fn check(rt: &impl Abort, alloc: Global, limit: u32, mode: Mode, rows: &[Row]) -> Result<(), Fail> {
+fn check(
+    rt: &impl Abort,
+    alloc: Global,
+    limit: u32,
+    mode: Mode,
+    rows: &[TableRow],
+) -> Result<(), Fail> {
     assert!(rt; 1 <= limit && limit <= 64);
     let mut table = Table::new(alloc, limit, 10, 4, mode)?;
     check_rows(rt, &mut table, rows);
@@ -179,12 +185,12 @@ fn check(rt: &impl Abort, alloc: Global, limit: u32, mode: Mode, rows: &[Row]) -
 }
 
 /// One reception at a time, of which a whole or a broken one makes room.
-static ROOM: [Row; 9] = [
-    Row::Offers(1, 7, 1, Kind::First, ZEROS, 0, Expected::Kept),
-    Row::Offers(1, 8, 1, Kind::First, ZEROS, 0, Expected::NoRoom),
-    Row::Offers(1, 7, 2, Kind::Last, ONES, 0, Expected::Released(8)),
-    Row::Offers(1, 8, 1, Kind::First, ZEROS, 0, Expected::Kept),
-    Row::Offers(
+static ROOM: [TableRow; 9] = [
+    TableRow::Offers(1, 7, 1, Kind::First, ZEROS, 0, Expected::Kept),
+    TableRow::Offers(1, 8, 1, Kind::First, ZEROS, 0, Expected::NoRoom),
+    TableRow::Offers(1, 7, 2, Kind::Last, ONES, 0, Expected::Released(8)),
+    TableRow::Offers(1, 8, 1, Kind::First, ZEROS, 0, Expected::Kept),
+    TableRow::Offers(
         1,
         8,
         1,
@@ -193,20 +199,20 @@ static ROOM: [Row; 9] = [
         1,
         Expected::BrokenOff(Reason::Conflict),
     ),
-    Row::Offers(1, 9, 1, Kind::First, ZEROS, 2, Expected::Kept),
-    Row::Open(1),
-    Row::IsOpen(1, 9, true),
-    Row::IsOpen(1, 8, false),
+    TableRow::Offers(1, 9, 1, Kind::First, ZEROS, 2, Expected::Kept),
+    TableRow::Open(1),
+    TableRow::IsOpen(1, 9, true),
+    TableRow::IsOpen(1, 8, false),
 ];
 
 /// If parts are taken in order, a part that is neither kept nor the next one breaks off.
-static IN_ORDER: [Row; 11] = [
-    Row::Offers(1, 7, 2, Kind::Last, ONES, 0, Expected::Gap),
-    Row::Offers(1, 7, 1, Kind::First, ZEROS, 0, Expected::Kept),
-    Row::Offers(1, 8, 2, Kind::Last, ONES, 0, Expected::NoRoom),
-    Row::Offers(1, 7, 2, Kind::Middle, ONES, 1, Expected::Kept),
-    Row::Offers(1, 7, 1, Kind::First, ZEROS, 2, Expected::Again),
-    Row::Offers(
+static IN_ORDER: [TableRow; 11] = [
+    TableRow::Offers(1, 7, 2, Kind::Last, ONES, 0, Expected::Gap),
+    TableRow::Offers(1, 7, 1, Kind::First, ZEROS, 0, Expected::Kept),
+    TableRow::Offers(1, 8, 2, Kind::Last, ONES, 0, Expected::NoRoom),
+    TableRow::Offers(1, 7, 2, Kind::Middle, ONES, 1, Expected::Kept),
+    TableRow::Offers(1, 7, 1, Kind::First, ZEROS, 2, Expected::Again),
+    TableRow::Offers(
         1,
         7,
         4,
@@ -215,8 +221,8 @@ static IN_ORDER: [Row; 11] = [
         3,
         Expected::BrokenOff(Reason::Discontinuity),
     ),
-    Row::Offers(1, 8, 1, Kind::First, ZEROS, 4, Expected::Kept),
-    Row::Offers(
+    TableRow::Offers(1, 8, 1, Kind::First, ZEROS, 4, Expected::Kept),
+    TableRow::Offers(
         1,
         8,
         1,
@@ -225,83 +231,83 @@ static IN_ORDER: [Row; 11] = [
         5,
         Expected::BrokenOff(Reason::Conflict),
     ),
-    Row::Offers(1, 9, 1, Kind::First, ZEROS, 6, Expected::Kept),
-    Row::Offers(1, 9, 2, Kind::Last, ONES, 7, Expected::Released(8)),
-    Row::Open(0),
+    TableRow::Offers(1, 9, 1, Kind::First, ZEROS, 6, Expected::Kept),
+    TableRow::Offers(1, 9, 2, Kind::Last, ONES, 7, Expected::Released(8)),
+    TableRow::Open(0),
 ];
 
 /// The oldest overdue reception is due, and of two that are as old the one of the least name. A table
 /// that is cleared has no reception.
-static DUE: [Row; 17] = [
-    Row::Offers(1, 9, 1, Kind::First, ZEROS, 0, Expected::Kept),
-    Row::Offers(1, 3, 1, Kind::First, ZEROS, 0, Expected::Kept),
-    Row::Offers(1, 1, 1, Kind::First, ZEROS, 4, Expected::Kept),
-    Row::Due(9, None),
-    Row::Due(10, Some((1, 3))),
-    Row::Due(14, Some((1, 3))),
-    Row::Expires(1, 3, true),
-    Row::Expires(1, 3, false),
-    Row::Due(9, None),
-    Row::Due(10, Some((1, 9))),
-    Row::Due(14, Some((1, 9))),
-    Row::Expires(1, 9, true),
-    Row::Due(13, None),
-    Row::Due(14, Some((1, 1))),
-    Row::Clears,
-    Row::Open(0),
-    Row::Due(14, None),
+static DUE: [TableRow; 17] = [
+    TableRow::Offers(1, 9, 1, Kind::First, ZEROS, 0, Expected::Kept),
+    TableRow::Offers(1, 3, 1, Kind::First, ZEROS, 0, Expected::Kept),
+    TableRow::Offers(1, 1, 1, Kind::First, ZEROS, 4, Expected::Kept),
+    TableRow::Due(9, None),
+    TableRow::Due(10, Some((1, 3))),
+    TableRow::Due(14, Some((1, 3))),
+    TableRow::Expires(1, 3, true),
+    TableRow::Expires(1, 3, false),
+    TableRow::Due(9, None),
+    TableRow::Due(10, Some((1, 9))),
+    TableRow::Due(14, Some((1, 9))),
+    TableRow::Expires(1, 9, true),
+    TableRow::Due(13, None),
+    TableRow::Due(14, Some((1, 1))),
+    TableRow::Clears,
+    TableRow::Open(0),
+    TableRow::Due(14, None),
 ];
 
 /// Last ticks are set back, none below 0, and what is due then is due so many ticks before.
-static SET_BACK: [Row; 11] = [
-    Row::Offers(1, 9, 1, Kind::First, ZEROS, 20, Expected::Kept),
-    Row::Offers(1, 3, 1, Kind::First, ZEROS, 24, Expected::Kept),
-    Row::SetsBack(21, false),
-    Row::SetsBack(20, true),
-    Row::Due(9, None),
-    Row::Due(10, Some((1, 9))),
-    Row::Expires(1, 9, true),
-    Row::Due(13, None),
-    Row::Due(14, Some((1, 3))),
-    Row::SetsBack(4, true),
-    Row::Due(10, Some((1, 3))),
+static SET_BACK: [TableRow; 11] = [
+    TableRow::Offers(1, 9, 1, Kind::First, ZEROS, 20, Expected::Kept),
+    TableRow::Offers(1, 3, 1, Kind::First, ZEROS, 24, Expected::Kept),
+    TableRow::SetsBack(21, false),
+    TableRow::SetsBack(20, true),
+    TableRow::Due(9, None),
+    TableRow::Due(10, Some((1, 9))),
+    TableRow::Expires(1, 9, true),
+    TableRow::Due(13, None),
+    TableRow::Due(14, Some((1, 3))),
+    TableRow::SetsBack(4, true),
+    TableRow::Due(10, Some((1, 3))),
 ];
 
 /// A part that comes again renews the last tick, and what is put back keeps it.
-static RENEWED: [Row; 8] = [
-    Row::Offers(1, 7, 1, Kind::First, ZEROS, 0, Expected::Kept),
-    Row::Offers(1, 7, 1, Kind::First, ZEROS, 5, Expected::Again),
-    Row::Due(14, None),
-    Row::Due(15, Some((1, 7))),
-    Row::Offers(1, 7, 2, Kind::Last, ONES, 9, Expected::PutBack),
-    Row::Due(14, None),
-    Row::Due(15, Some((1, 7))),
-    Row::Offers(1, 7, 2, Kind::Last, ONES, 9, Expected::Released(8)),
+static RENEWED: [TableRow; 8] = [
+    TableRow::Offers(1, 7, 1, Kind::First, ZEROS, 0, Expected::Kept),
+    TableRow::Offers(1, 7, 1, Kind::First, ZEROS, 5, Expected::Again),
+    TableRow::Due(14, None),
+    TableRow::Due(15, Some((1, 7))),
+    TableRow::Offers(1, 7, 2, Kind::Last, ONES, 9, Expected::PutBack),
+    TableRow::Due(14, None),
+    TableRow::Due(15, Some((1, 7))),
+    TableRow::Offers(1, 7, 2, Kind::Last, ONES, 9, Expected::Released(8)),
 ];
 
 /// A part that comes again puts its reception behind the others.
-static BEHIND: [Row; 8] = [
-    Row::Offers(1, 9, 1, Kind::First, ZEROS, 0, Expected::Kept),
-    Row::Offers(1, 3, 1, Kind::First, ZEROS, 0, Expected::Kept),
-    Row::Offers(1, 3, 1, Kind::First, ZEROS, 2, Expected::Again),
-    Row::Due(10, Some((1, 9))),
-    Row::Due(12, Some((1, 9))),
-    Row::Expires(1, 9, true),
-    Row::Due(11, None),
-    Row::Due(12, Some((1, 3))),
+static BEHIND: [TableRow; 8] = [
+    TableRow::Offers(1, 9, 1, Kind::First, ZEROS, 0, Expected::Kept),
+    TableRow::Offers(1, 3, 1, Kind::First, ZEROS, 0, Expected::Kept),
+    TableRow::Offers(1, 3, 1, Kind::First, ZEROS, 2, Expected::Again),
+    TableRow::Due(10, Some((1, 9))),
+    TableRow::Due(12, Some((1, 9))),
+    TableRow::Expires(1, 9, true),
+    TableRow::Due(11, None),
+    TableRow::Due(12, Some((1, 3))),
 ];
 
 /// Two sources may use one identifier: their receptions are apart, and of two that are as old the one of
 /// the lesser source is due.
-static SOURCES: [Row; 14] = [
-    Row::Offers(2, 7, 1, Kind::First, ONES, 0, Expected::Kept),
-    Row::Offers(1, 7, 1, Kind::First, ZEROS, 0, Expected::Kept),
-    Row::Open(2),
-    Row::Offers(3, 7, 1, Kind::First, ZEROS, 0, Expected::NoRoom),
-    Row::Due(10, Some((1, 7))),
-    Row::Offers(1, 7, 1, Kind::First, ZEROS, 3, Expected::Again),
-    Row::Due(10, Some((2, 7))),
-    Row::Offers(
+static SOURCES: [TableRow; 14] = [
+    TableRow::Offers(2, 7, 1, Kind::First, ONES, 0, Expected::Kept),
+    TableRow::Offers(1, 7, 1, Kind::First, ZEROS, 0, Expected::Kept),
+    TableRow::Open(2),
+    TableRow::Offers(3, 7, 1, Kind::First, ZEROS, 0, Expected::NoRoom),
+    TableRow::Due(10, Some((1, 7))),
+    TableRow::Offers(1, 7, 1, Kind::First, ZEROS, 3, Expected::Again),
+    TableRow::Due(10, Some((2, 7))),
+    TableRow::Offers(
         1,
         7,
         1,
@@ -310,12 +316,12 @@ static SOURCES: [Row; 14] = [
         4,
         Expected::BrokenOff(Reason::Conflict),
     ),
-    Row::IsOpen(2, 7, true),
-    Row::IsOpen(1, 7, false),
-    Row::Expires(1, 7, false),
-    Row::Offers(2, 7, 2, Kind::Last, ONES, 5, Expected::Released(8)),
-    Row::IsOpen(2, 7, false),
-    Row::Open(0),
+    TableRow::IsOpen(2, 7, true),
+    TableRow::IsOpen(1, 7, false),
+    TableRow::Expires(1, 7, false),
+    TableRow::Offers(2, 7, 2, Kind::Last, ONES, 5, Expected::Released(8)),
+    TableRow::IsOpen(2, 7, false),
+    TableRow::Open(0),
 ];
 
 #[test]

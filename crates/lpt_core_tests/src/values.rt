@@ -25,7 +25,7 @@ fn copies_are_equal(rt: HostRuntime) -> Result<(), Fail> {
 
 // Adds a job and takes it out again. The answer is how many octets its message has.
 fn add_and_pop_back(queue: &mut JobQueue, message: Octets) -> Option<usize> {
-    if queue.numbered() == u64::MAX {
+    if queue.jobs_numbered() == u64::MAX {
         return None;
     }
     queue.push(message).ok()?;
@@ -37,7 +37,7 @@ fn gives_the_number_of_a_job_that_is_taken_out_again(rt: HostRuntime) -> Result<
     let message = Octets::from_vec(vec![in rt.alloc(); 0; 13]?);
     let mut queue = JobQueue::new(rt.alloc());
     let popped = add_and_pop_back(&mut queue, message);
-    assert!(rt; (popped, queue.numbered()) == (Some(13), 0));
+    assert!(rt; (popped, queue.jobs_numbered()) == (Some(13), 0));
     Ok(())
 }
 

@@ -12,12 +12,12 @@ use Rattle.lpt_reception.specs.Received.{Kept, Parts, is_last, no_parts}
 use Rattle.lpt_reception.proofs.MessageLemmas.{last_number}
 use Rattle.lpt_join.specs.declared.messages.Misfit.{Misfit}
 use Rattle.lpt_join.specs.declared.transaction.Transaction.{Transaction}
-use Rattle.lpt_join.specs.Joins.{Joined, Missing, Complete, Broken, added, join_part, joined}
+use Rattle.lpt_join.specs.Joins.{Joined, Missing, Complete, Broken, part_added, join_part, packets_joined}
 use Rattle.lpt_join.specs.Laws.{AllBelong, AllCame, Belongs, Carries, came, is_part}
-use Rattle.lpt_join.specs.Offers.{offered}
+use Rattle.lpt_join.specs.Offers.{part_offered}
 use Rattle.lpt_join.proofs.GatherLemmas.{joined-next}
 use Rattle.lpt_join.proofs.LawLemmas.{joined_whole}
-use Rattle.lpt_each.specs.Eaches.{Course, Ends, Gives, GivesUp, Goes, Held, Run, Turn, Waits, after, after_all, all_turn, are_own, end_by, end_run, gather, gave_before, go_on, held, held_from, higher, is_given, is_old, is_same, left, listed, new_turn, news, news_from, no_run, nothing, repeats, run_before, run_by, run_turn, step, step_by, step_of, told_in_order, turn, turn_by, unfit, whole_turn}
+use Rattle.lpt_each.specs.Eaches.{Course, Ends, Gives, GivesUp, Goes, Held, Run, Turn, Waits, after, after_all, all_turn, are_own, end_by, end_run, gather, gave_before, go_on, course_held, held_from, higher, is_given, is_old, is_same, news_left, news_listed, new_turn, news, news_from, no_run, nothing, repeats, run_before, run_by, run_turn, step, step_by, step_of, told_in_order, turn, turn_by, unfit, whole_turn}
 use Rattle.lpt_each.specs.Laws.{InOrder, Runs}
 use Rattle.lpt_each.specs.News.{News, messages_in, messages_of}
 use Rattle.lpt_each.proofs.SieveLemmas.{Messages, Splits, all_belong-append, came-append, news_from-append, still_missing}
@@ -49,13 +49,13 @@ no_true h = cc
 -- no message is given out, or this one, and it is the last
 abbrev Told : Option (List ℕ) → Held × Option News → Type 0
 Told l w =
-    ((is_given w.1 ≡ false) × (messages_in (listed w.1) ≡ []) × (w.0.last ≡ l))
-    ⊎ ((m : List ℕ) × (messages_in (listed w.1) ≡ m ∷ []) × (w.0.last ≡ Some m))
+    ((is_given w.1 ≡ false) × (messages_in (news_listed w.1) ≡ []) × (w.0.last ≡ l))
+    ⊎ ((m : List ℕ) × (messages_in (news_listed w.1) ≡ m ∷ []) × (w.0.last ≡ Some m))
 
 -- what is given up tells of none
 abbrev IsQuiet : Turn → Type 0
 IsQuiet (Waits s) = Unit {0}
-IsQuiet (GivesUp w s) = (is_given (Some w) ≡ false) × (messages_in (listed (Some w)) ≡ [])
+IsQuiet (GivesUp w s) = (is_given (Some w) ≡ false) × (messages_in (news_listed (Some w)) ≡ [])
 IsQuiet (Gives m) = Unit {0}
 
 all-told : (h : Held) (s : Parts) (o : Option Turn) → Told h.last (after_all h s o)
@@ -81,7 +81,7 @@ module _ (t : Transaction) (any again : Bool) (x : ℕ × Kept) where
 
   turn-quiet : (s : Parts) → IsQuiet (turn t any again s x)
   unfolding turn
-  turn-quiet s = by-quiet s (added s x.0 x.1)
+  turn-quiet s = by-quiet s (part_added s x.0 x.1)
 
   gather-told : (h : Held) → Told h.last (gather t any again h x)
   unfolding gather
@@ -99,7 +99,7 @@ GaveBy gave last ms =
 gave-next : (gave : Bool) (last : Option (List ℕ)) (ms : List (List ℕ)) (w : Held × Option News)
     → GaveBy gave last ms
     → Told last w
-    → GaveBy (gave || is_given w.1) w.0.last (ms ++ messages_in (listed w.1))
+    → GaveBy (gave || is_given w.1) w.0.last (ms ++ messages_in (news_listed w.1))
 gave-next gave last ms w (inl e) (inl v) = inl (λ i. e i || v.0 i)
 gave-next gave last ms w (inr u) (inl v) =
     inr (u.0, u.1, ap (λ ns. ms ++ ns) v.1 ∙ append-nil ms ∙ u.2, v.2 ∙ u.3)
@@ -111,7 +111,7 @@ module _ (messages : Messages) (splits : Splits) (t : Transaction) (any : Bool) 
   -- these came in their order, up to this one, and not the last
   record IsUpTo (k : ℕ) (r : Run) (those : List (List ℕ)) : Type 0 where
     pub count : r.count ≡ k
-    pub are : joined t those ≡ Missing r.parts
+    pub are : packets_joined t those ≡ Missing r.parts
     pub belong : AllBelong t m those
     pub first : came t (number + 1) those ≡ false
     pub each : (n : ℕ) → 1 ≤ n → n ≤ k → came t n those ≡ true
@@ -129,8 +129,8 @@ module _ (messages : Messages) (splits : Splits) (t : Transaction) (any : Bool) 
 
   added_is : (k : ℕ) (r : Run) (those : List (List ℕ)) (b : List ℕ) (x : ℕ × Kept)
       → IsUpTo k r those
-      → offered t b ≡ Some x
-      → joined t (those ++ b ∷ []) ≡ added r.parts x.0 x.1
+      → part_offered t b ≡ Some x
+      → packets_joined t (those ++ b ∷ []) ≡ part_added r.parts x.0 x.1
   added_is k r those b x h is =
       joined-next t (Missing no_parts) those b ∙ (λ i. join_part (h.are i) (is i))
 
@@ -183,7 +183,8 @@ module _ (messages : Messages) (splits : Splits) (t : Transaction) (any : Bool) 
       → higher k n ≡ j
       → ((q : ℕ) → 1 ≤ q → q ≤ j → (q ≤ k) ⊎ (q ≡ n))
       → (q : Run)
-      × (run_by r.count (n, kept_of m t.part_size n) (added r.parts n (kept_of m t.part_size n))
+      × (run_by r.count (n, kept_of m t.part_size n)
+      (part_added r.parts n (kept_of m t.part_size n))
       ≡ Goes q)
       × IsUpTo j q (those ++ b ∷ [])
   run-next k j n r those b h c low next top covers =
@@ -215,12 +216,12 @@ module _ (messages : Messages) (splits : Splits) (t : Transaction) (any : Bool) 
       → (r : Run)
       → run_before c x.0 ≡ r
       → x.0 ≤ r.count + 1
-      → run_turn c x ≡ run_by r.count x (added r.parts x.0 x.1)
+      → run_turn c x ≡ run_by r.count x (part_added r.parts x.0 x.1)
   unfolding run_turn
   turn-is c x r before next =
       ap (λ (r : Run). if nat_le x.0 (r.count + 1) then run_by r.count x
-      (added r.parts x.0 x.1) else Goes no_run) before
-      ∙ ap (λ (b : Bool). if b then run_by r.count x (added r.parts x.0 x.1) else Goes no_run)
+      (part_added r.parts x.0 x.1) else Goes no_run) before
+      ∙ ap (λ (b : Bool). if b then run_by r.count x (part_added r.parts x.0 x.1) else Goes no_run)
       (le_true x.0 (r.count + 1) next)
 
   before-one : (c : Run) → run_before c 1 ≡ no_run
@@ -232,7 +233,8 @@ module _ (messages : Messages) (splits : Splits) (t : Transaction) (any : Bool) 
   -- ---- a step
 
   -- with the last part the message is given out, or it was
-  told-own : (own : Bool) (s : Parts) → messages_in (listed (Some (told_in_order own s m))) ≡ m ∷ []
+  told-own : (own : Bool) (s : Parts) → messages_in (news_listed (Some (told_in_order own s m))) ≡ m
+      ∷ []
   told-own true s = refl
   told-own false s = refl
 
@@ -263,19 +265,19 @@ module _ (messages : Messages) (splits : Splits) (t : Transaction) (any : Bool) 
       → unfit t any m ≡ None
       → run_turn c.run x ≡ Ends m
       → GaveBy (gave_before c x.0) c.held.last ms
-      → Among (ms ++ messages_in (listed (step t any c x).1))
+      → Among (ms ++ messages_in (news_listed (step t any c x).1))
   unfolding step
   ends-among c x ms fit turns gave =
-      subst (λ (w : Course × Option News). Among (ms ++ messages_in (listed w.1)))
+      subst (λ (w : Course × Option News). Among (ms ++ messages_in (news_listed w.1)))
       (sym (ap (step_by t any c x) turns ∙ ap (end_run t any (record c { run = no_run }) x m) fit))
       (go (repeats c x.0 m) refl) where
         go : (again : Bool)
             → repeats c x.0 m ≡ again
             → Among (ms ++ messages_in
-            (listed (end_by t any (record c { run = no_run }) x m again).1))
+            (news_listed (end_by t any (record c { run = no_run }) x m again).1))
         go true e =
             was_given (gave_before c x.0) c.held.last ms
-            (messages_in (listed (go_on t any false (record c { run = no_run }) x).1)) gave
+            (messages_in (news_listed (go_on t any false (record c { run = no_run }) x).1)) gave
             (and_left (gave_before c x.0) (is_same c.held.last m) e)
             (and_right (gave_before c x.0) (is_same c.held.last m) e)
         go false e = (ms, [], ap (λ ns. ms ++ ns) (told-own (are_own c t.part_size m) c.held.new))
@@ -290,10 +292,10 @@ module _ (messages : Messages) (splits : Splits) (t : Transaction) (any : Bool) 
       → run_turn c.run x ≡ Goes q
       → IsUpTo k q those
       → GaveBy (gave_before c x.0) c.held.last ms
-      → IsOn k (step t any c x).0 (ms ++ messages_in (listed (step t any c x).1))
+      → IsOn k (step t any c x).0 (ms ++ messages_in (news_listed (step t any c x).1))
   unfolding step
   step-goes c x q k those ms turns up gave =
-      subst (λ (w : Course × Option News). IsOn k w.0 (ms ++ messages_in (listed w.1)))
+      subst (λ (w : Course × Option News). IsOn k w.0 (ms ++ messages_in (news_listed w.1)))
       (sym (ap (step_by t any c x) turns)) (
         (those, up),
         gave-next (gave_before c x.0) c.held.last ms (gather t any true c.held x) gave
@@ -309,14 +311,14 @@ module _ (messages : Messages) (splits : Splits) (t : Transaction) (any : Bool) 
       → higher k n ≡ j
       → ((q : ℕ) → 1 ≤ q → q ≤ j → (q ≤ k) ⊎ (q ≡ n))
       → GaveBy (gave_before c n) c.held.last ms
-      → IsOn j (step_of t any c (offered t b)).0 (ms ++ messages_in
-      (listed (step_of t any c (offered t b)).1))
+      → IsOn j (step_of t any c (part_offered t b)).0 (ms ++ messages_in
+      (news_listed (step_of t any c (part_offered t b)).1))
   step-on c r k j n b those ms before h carries low next top covers gave =
       let x : ℕ × Kept = (n, kept_of m t.part_size n) in
       let now = run-next k j n r those b h carries low next top covers in
       let turns = turn-is c.run x r before (subst (λ i. n ≤ i + 1) (sym h.count) next) ∙ now.1 in
       subst (λ (o : Option (ℕ × Kept)). IsOn j (step_of t any c o).0 (ms ++ messages_in
-      (listed (step_of t any c o).1)))
+      (news_listed (step_of t any c o).1)))
       (sym carries.is) (step-goes c x now.0 j (those ++ b ∷ []) ms turns now.2 gave)
 
   gave-one : (c : Course) → gave_before c 1 ≡ false
@@ -334,15 +336,15 @@ module _ (messages : Messages) (splits : Splits) (t : Transaction) (any : Bool) 
 
   -- one packet, and those behind it
   on-more : (c : Course) (b : List ℕ) (bs : List (List ℕ)) (ms : List (List ℕ))
-      → IsOn number (held_from t any (step_of t any c (offered t b)).0 bs)
-      ((ms ++ messages_in (listed (step_of t any c (offered t b)).1))
-      ++ messages_in (news_from t any (step_of t any c (offered t b)).0 bs))
+      → IsOn number (held_from t any (step_of t any c (part_offered t b)).0 bs)
+      ((ms ++ messages_in (news_listed (step_of t any c (part_offered t b)).1))
+      ++ messages_in (news_from t any (step_of t any c (part_offered t b)).0 bs))
       → IsOn number (held_from t any c (b ∷ bs)) (ms ++ messages_in (news_from t any c (b ∷ bs)))
   on-more c b bs ms h =
-      let w = step_of t any c (offered t b) in
+      let w = step_of t any c (part_offered t b) in
       subst (λ (ns : List (List ℕ)). IsOn number (held_from t any w.0 bs) ns)
-      (append_assoc ms (messages_in (listed w.1)) (messages_in (news_from t any w.0 bs))
-      ∙ ap (λ ns. ms ++ ns) (sym (messages-append (listed w.1) (news_from t any w.0 bs)))) h
+      (append_assoc ms (messages_in (news_listed w.1)) (messages_in (news_from t any w.0 bs))
+      ∙ ap (λ ns. ms ++ ns) (sym (messages-append (news_listed w.1) (news_from t any w.0 bs)))) h
 
   runs-on : (bs : List (List ℕ)) (c : Course) (k : ℕ) (ms : List (List ℕ))
       → IsOn k c ms
@@ -353,11 +355,11 @@ module _ (messages : Messages) (splits : Splits) (t : Transaction) (any : Bool) 
       subst (λ (ns : List (List ℕ)). IsOn number c ns) (sym (append-nil ms))
       (subst (λ (k : ℕ). IsOn k c ms) is h)
   runs-on (b ∷ bs) c k ms h some (inl w) =
-      let same : ◌≡◌ {A = Course × Option News} (step_of t any c (offered t b)) (c, None) =
+      let same : ◌≡◌ {A = Course × Option News} (step_of t any c (part_offered t b)) (c, None) =
       ap (step_of t any c) w.0 in
       on-more c b bs ms
       (subst (λ (u : Course × Option News). IsOn number (held_from t any u.0 bs)
-      ((ms ++ messages_in (listed u.1)) ++ messages_in (news_from t any u.0 bs))) (sym same)
+      ((ms ++ messages_in (news_listed u.1)) ++ messages_in (news_from t any u.0 bs))) (sym same)
       (runs-on bs c k (ms ++ [])
       (subst (λ (ns : List (List ℕ)). IsOn k c ns) (sym (append-nil ms)) h) some w.1))
   runs-on (b ∷ bs) c k ms h some (inr (inl w)) =
@@ -365,8 +367,8 @@ module _ (messages : Messages) (splits : Splits) (t : Transaction) (any : Bool) 
       let low : w.0 ≤ number = omega (arith, below, w.3) in
       let next : w.0 ≤ k + 1 = omega (arith, w.3) in
       on-more c b bs ms
-      (runs-on bs (step_of t any c (offered t b)).0 k (ms ++ messages_in
-      (listed (step_of t any c (offered t b)).1))
+      (runs-on bs (step_of t any c (part_offered t b)).0 k (ms ++ messages_in
+      (news_listed (step_of t any c (part_offered t b)).1))
       (step-on c c.run k k w.0 b h.0.0 ms (before-more c.run w.0 w.2) h.0.1 w.1 low next
       (higher-again k w.0 w.3)
       (λ q some up. inl up)
@@ -376,8 +378,8 @@ module _ (messages : Messages) (splits : Splits) (t : Transaction) (any : Bool) 
       let two : 2 ≤ k + 1 = omega (arith, some) in
       let more : 1 ≤ k + 1 = omega arith in
       on-more c b bs ms
-      (runs-on bs (step_of t any c (offered t b)).0 (k + 1)
-      (ms ++ messages_in (listed (step_of t any c (offered t b)).1))
+      (runs-on bs (step_of t any c (part_offered t b)).0 (k + 1)
+      (ms ++ messages_in (news_listed (step_of t any c (part_offered t b)).1))
       (step-on c c.run k (k + 1) (k + 1) b h.0.0 ms (before-more c.run (k + 1) two) h.0.1 w.0 below
       (omega arith)
       (higher-next k) (λ q some up. up_to k q up)
@@ -401,7 +403,7 @@ module _ (messages : Messages) (splits : Splits) (t : Transaction) (any : Bool) 
       → IsOn number c ms
       → 1 ≤ number
       → Carries t m (number + 1) last
-      → Among (ms ++ messages_in (listed (step_of t any c (offered t last)).1))
+      → Among (ms ++ messages_in (news_listed (step_of t any c (part_offered t last)).1))
   last-told c last ms message fit on some ends =
       let those = on.0.0 in
       let h = on.0.1 in
@@ -413,7 +415,8 @@ module _ (messages : Messages) (splits : Splits) (t : Transaction) (any : Bool) 
       let turns = turn-is c.run x c.run (before-more c.run (number + 1) two)
       (subst (λ i. number + 1 ≤ i + 1) (sym h.count) (omega arith))
       ∙ ap (run_by c.run.count x) (sym (added_is number c.run those last x h ends.is) ∙ complete) in
-      subst (λ (o : Option (ℕ × Kept)). Among (ms ++ messages_in (listed (step_of t any c o).1)))
+      subst (λ (o : Option (ℕ × Kept)). Among
+      (ms ++ messages_in (news_listed (step_of t any c o).1)))
       (sym ends.is)
       (ends-among c x ms fit turns
       (subst (λ (g : Bool). GaveBy g c.held.last ms) (gave-more c (number + 1) two) on.1))
@@ -432,15 +435,16 @@ module _ (messages : Messages) (splits : Splits) (t : Transaction) (any : Bool) 
       (omega arith)
       (higher-next 0) (λ q some up. up_to 0 q up) (inl (gave-one c)) in
       let on = on-more c first middle []
-      (runs-on middle (step_of t any c (offered t first)).0 1
-      (messages_in (listed (step_of t any c (offered t first)).1)) began (omega arith) runs) in
+      (runs-on middle (step_of t any c (part_offered t first)).0 1
+      (messages_in (news_listed (step_of t any c (part_offered t first)).1)) began (omega arith)
+      runs) in
       let front = news_from t any c (first ∷ middle) in
       let behind = held_from t any c (first ∷ middle) in
       subst Among
       (sym (ap messages_in (news_from-append t any c (first ∷ middle) (last ∷ [])
       ∙ ap (λ (ws : List News). front ++ ws)
-      (append-nil (listed (step_of t any behind (offered t last)).1)))
-      ∙ messages-append front (listed (step_of t any behind (offered t last)).1)))
+      (append-nil (news_listed (step_of t any behind (part_offered t last)).1)))
+      ∙ messages-append front (news_listed (step_of t any behind (part_offered t last)).1)))
       (last-told behind last (messages_in front) message fit on some ends)
 
 -- the message is given out with one of these packets
@@ -448,41 +452,41 @@ pub order_given : (messages : Messages) (splits : Splits) (t : Transaction) (any
     (before front behind : List (List ℕ)) (last m : List ℕ)
     → InOrder t any m front last
     → (earlier : List (List ℕ)) × (later : List (List ℕ)) × (after : List (List ℕ))
-    × (messages_in (news_from t any (held t any before) (front ++ last ∷ []))
+    × (messages_in (news_from t any (course_held t any before) (front ++ last ∷ []))
     ≡ earlier ++ m ∷ later)
     × (messages_in (news t any (before ++ (front ++ last ∷ []) ++ behind))
     ≡ messages_in (news_from t any nothing before) ++ (earlier ++ m ∷ later) ++ after)
 order_given messages splits t any before front behind last m h =
     let told = subst (λ (bs : List (List ℕ)). Among messages splits t any m h.number h.whole
-    (messages_in (news_from t any (held t any before) (bs ++ last ∷ [])))) (sym h.are)
+    (messages_in (news_from t any (course_held t any before) (bs ++ last ∷ [])))) (sym h.are)
     (order-told messages splits t any m h.number h.whole
-    (held t any before) h.first h.middle last h.message h.fit
+    (course_held t any before) h.first h.middle last h.message h.fit
     h.begins h.runs h.ends) in (
       told.0,
       told.1,
-      messages_in (news_from t any (held t any (before ++ (front ++ last ∷ []))) behind)
-          ++ messages_in (left (held t any (before ++ (front ++ last ∷ []) ++ behind))),
+      messages_in (news_from t any (course_held t any (before ++ (front ++ last ∷ []))) behind)
+          ++ messages_in (news_left (course_held t any (before ++ (front ++ last ∷ []) ++ behind))),
       told.2,
       among before (front ++ last ∷ []) behind (told.0 ++ m ∷ told.1) told.2,
     ) where
       among : (xs bs cs ms : List (List ℕ))
-          → messages_in (news_from t any (held t any xs) bs) ≡ ms
+          → messages_in (news_from t any (course_held t any xs) bs) ≡ ms
           → messages_in (news t any (xs ++ bs ++ cs))
           ≡ messages_in (news_from t any nothing xs)
-          ++ ms ++ (messages_in (news_from t any (held t any (xs ++ bs)) cs)
-          ++ messages_in (left (held t any (xs ++ bs ++ cs))))
+          ++ ms ++ (messages_in (news_from t any (course_held t any (xs ++ bs)) cs)
+          ++ messages_in (news_left (course_held t any (xs ++ bs ++ cs))))
       among xs bs cs ms is =
           let front_ones = messages_in (news_from t any nothing xs) in
-          let behind_ones = messages_in (news_from t any (held t any (xs ++ bs)) cs) in
-          let left_ones = messages_in (left (held t any (xs ++ bs ++ cs))) in
+          let behind_ones = messages_in (news_from t any (course_held t any (xs ++ bs)) cs) in
+          let left_ones = messages_in (news_left (course_held t any (xs ++ bs ++ cs))) in
           messages-append (news_from t any nothing (xs ++ bs ++ cs))
-          (left (held t any (xs ++ bs ++ cs)))
+          (news_left (course_held t any (xs ++ bs ++ cs)))
           ∙ ap (λ (ns : List (List ℕ)). ns ++ left_ones) (
           ap messages_in (news_from-append t any nothing (xs ++ bs) cs)
           ∙ messages-append (news_from t any nothing (xs ++ bs))
-          (news_from t any (held t any (xs ++ bs)) cs)
+          (news_from t any (course_held t any (xs ++ bs)) cs)
           ∙ ap (λ (ns : List (List ℕ)). ns ++ behind_ones) (
           ap messages_in (news_from-append t any nothing xs bs)
-          ∙ messages-append (news_from t any nothing xs) (news_from t any (held t any xs) bs)
+          ∙ messages-append (news_from t any nothing xs) (news_from t any (course_held t any xs) bs)
           ∙ ap (λ (ns : List (List ℕ)). front_ones ++ ns) is))
           ∙ append_assoc (front_ones ++ ms) behind_ones left_ones

@@ -6,7 +6,7 @@ use Rattle.lpt_packet.proofs.EntryLemmas.{passes_none, none_passes, passes_some}
 use Rattle.lpt_packet.proofs.Readings.{eq_true}
 use Rattle.lpt_reception.specs.Received.{Kept, Parts, contradicts, is_last, is_whole, no_parts, with_part}
 use Rattle.lpt_reception.proofs.MessageLemmas.{whole_has}
-use Rattle.lpt_join.specs.Joins.{Joined, Missing, Complete, Broken, added, kept_by}
+use Rattle.lpt_join.specs.Joins.{Joined, Missing, Complete, Broken, part_added, kept_by}
 use Rattle.lpt_join.proofs.SetLemmas.{get_none, not_none, added_cases, get_other, get_same}
 use Rattle.lpt_each.specs.Eaches.{Ends, Goes, Run, higher, no_run, run_before, run_by, run_turn, is_empty}
 use Rattle.lpt_each.specs.News.{has_end}
@@ -68,7 +68,8 @@ no_kept (Some x) h = absurd (no_true h)
 inner-added : (s : Parts) (n : ℕ) (x : Kept)
     → has_end s ≡ false
     → is_last x ≡ false
-    → ((r : Parts) × (added s n x ≡ Missing r) × (has_end r ≡ false)) ⊎ (added s n x ≡ Broken)
+    → ((r : Parts) × (part_added s n x ≡ Missing r) × (has_end r ≡ false))
+    ⊎ (part_added s n x ≡ Broken)
 inner-added s n x none inner =
     go (contradicts s n x) (is_some (map.get s n)) (is_whole (with_part s n x)) refl refl where
       more : is_some (map.get s n) ≡ false → has_end (with_part s n x) ≡ false
@@ -132,9 +133,9 @@ run-cases r x h =
       by : (k : ℕ) (s : Parts) (last : Bool)
           → has_end s ≡ false
           → is_last x.1 ≡ last
-          → ((q : Run) × (run_by k x (added s x.0 x.1) ≡ Goes q) × IsInner q)
-          ⊎ ((is_last x.1 ≡ true) × (m : List ℕ) × (run_by k x (added s x.0 x.1) ≡ Ends m))
-      by k s true none e = by_last k (added s x.0 x.1) e
+          → ((q : Run) × (run_by k x (part_added s x.0 x.1) ≡ Goes q) × IsInner q)
+          ⊎ ((is_last x.1 ≡ true) × (m : List ℕ) × (run_by k x (part_added s x.0 x.1) ≡ Ends m))
+      by k s true none e = by_last k (part_added s x.0 x.1) e
       by k s false none e = elim (inner-added s x.0 x.1 none e) [
         | inl w ↦
             inl (
@@ -150,9 +151,10 @@ run-cases r x h =
       go : (r : Run) (next : Bool)
           → IsInner r
           → ((q : Run)
-          × ((if next then run_by r.count x (added r.parts x.0 x.1) else Goes no_run) ≡ Goes q)
+          × ((if next then run_by r.count x (part_added r.parts x.0 x.1) else Goes no_run) ≡ Goes q)
           × IsInner q)
           ⊎ ((is_last x.1 ≡ true) × (m : List ℕ)
-          × ((if next then run_by r.count x (added r.parts x.0 x.1) else Goes no_run) ≡ Ends m))
+          × ((if next then run_by r.count x (part_added r.parts x.0 x.1) else Goes no_run)
+          ≡ Ends m))
       go r true h = by r.count r.parts (is_last x.1) h refl
       go r false h = inl (no_run, refl, none_inner)

@@ -8,14 +8,14 @@ use Rattle.lpt_part.specs.Splitting.{part_count}
 use Rattle.lpt_reception.specs.PartsOf.{IsMessage, kept_of}
 use Rattle.lpt_reception.specs.Received.{Kept, Parts, is_last, no_parts}
 use Rattle.lpt_join.specs.declared.transaction.Transaction.{Transaction}
-use Rattle.lpt_join.specs.Joins.{Joined, Missing, Complete, Broken, added, join_part, joined}
+use Rattle.lpt_join.specs.Joins.{Joined, Missing, Complete, Broken, part_added, join_part, packets_joined}
 use Rattle.lpt_join.specs.Laws.{AllBelong, AllCame, Belongs, came, is_end, is_part}
-use Rattle.lpt_join.specs.Offers.{offered}
+use Rattle.lpt_join.specs.Offers.{part_offered}
 use Rattle.lpt_join.proofs.GatherLemmas.{join_none, joined-next}
 use Rattle.lpt_join.proofs.LawLemmas.{IsGathered, gathered_all, gathered_none, joined_whole}
-use Rattle.lpt_each.specs.Eaches.{Course, Ends, Goes, Held, Run, RunTurn, Turn, Waits, Gives, after, after_all, all_turn, are_of, are_own, begun, course_by, end_by, end_run, fresh, gather, gave_before, given, held_from, higher, is_old, is_same, left, listed, news, news_from, no_run, run_before, run_by, run_turn, staleness, step, step_by, step_of, told_in_order, turn, turn_by, unfit, whole_turn}
+use Rattle.lpt_each.specs.Eaches.{Course, Ends, Goes, Held, Run, RunTurn, Turn, Waits, Gives, after, after_all, all_turn, are_of, are_own, held_begun, course_by, end_by, end_run, fresh, gather, gave_before, message_given, held_from, higher, is_old, is_same, news_left, news_listed, news, news_from, no_run, run_before, run_by, run_turn, staleness, step, step_by, step_of, told_in_order, turn, turn_by, unfit, whole_turn}
 use Rattle.lpt_each.specs.Laws.{FirstBeforeLast, IsSentBy, Sends}
-use Rattle.lpt_each.specs.News.{News, Given, dropped}
+use Rattle.lpt_each.specs.News.{News, Given, parts_dropped}
 use Rattle.lpt_each.proofs.OwnLemmas.{gathered-of}
 use Rattle.lpt_each.proofs.RunLemmas.{IsInner, empty-none, none_inner, run-cases}
 use Rattle.lpt_each.proofs.SieveLemmas.{Messages, Splits, all_belong-append, came-append, held_from-append, is_again, kept, news_from-append, none-from, set_of, sieved, sieved-belong, sieved-first, sieved-more, sieved-none, still_missing}
@@ -25,9 +25,9 @@ use Rattle.lpt_each.proofs.SieveLemmas.{Messages, Splits, all_belong-append, cam
 module _ (t : Transaction) (any again : Bool) where
   -- what a part makes of parts that packets are joined to
   turn-joined : (bs : List (List ℕ)) (b : List ℕ) (x : ℕ × Kept) (s : Parts)
-      → offered t b ≡ Some x
-      → joined t bs ≡ Missing s
-      → turn t any again s x ≡ turn_by t any again s x (joined t (bs ++ b ∷ []))
+      → part_offered t b ≡ Some x
+      → packets_joined t bs ≡ Missing s
+      → turn t any again s x ≡ turn_by t any again s x (packets_joined t (bs ++ b ∷ []))
   unfolding turn
   turn-joined bs b x s is missing =
       ap (turn_by t any again s x)
@@ -35,10 +35,11 @@ module _ (t : Transaction) (any again : Bool) where
 
   -- parts are still missing
   turn-still : (bs : List (List ℕ)) (b : List ℕ) (x : ℕ × Kept)
-      → offered t b ≡ Some x
-      → (was : (s : Parts) × (joined t bs ≡ Missing s))
-      → (now : (s : Parts) × (joined t (bs ++ b ∷ []) ≡ Missing s))
-      → turn t any again (set_of (joined t bs)) x ≡ Waits (set_of (joined t (bs ++ b ∷ [])))
+      → part_offered t b ≡ Some x
+      → (was : (s : Parts) × (packets_joined t bs ≡ Missing s))
+      → (now : (s : Parts) × (packets_joined t (bs ++ b ∷ []) ≡ Missing s))
+      → turn t any again (set_of (packets_joined t bs)) x
+      ≡ Waits (set_of (packets_joined t (bs ++ b ∷ [])))
   turn-still bs b x is was now =
       ap (λ (j : Joined). turn t any again (set_of j) x) was.1
       ∙ turn-joined bs b x was.0 is was.1
@@ -47,11 +48,11 @@ module _ (t : Transaction) (any again : Bool) where
 
   -- they are joined to a message that may be given out
   turn-whole : (m : List ℕ) (bs : List (List ℕ)) (b : List ℕ) (x : ℕ × Kept)
-      → offered t b ≡ Some x
-      → (was : (s : Parts) × (joined t bs ≡ Missing s))
-      → joined t (bs ++ b ∷ []) ≡ Complete m
+      → part_offered t b ≡ Some x
+      → (was : (s : Parts) × (packets_joined t bs ≡ Missing s))
+      → packets_joined t (bs ++ b ∷ []) ≡ Complete m
       → unfit t any m ≡ None
-      → turn t any again (set_of (joined t bs)) x ≡ Gives m
+      → turn t any again (set_of (packets_joined t bs)) x ≡ Gives m
   turn-whole m bs b x is was now fit =
       ap (λ (j : Joined). turn t any again (set_of j) x) was.1
       ∙ turn-joined bs b x was.0 is was.1
@@ -61,12 +62,12 @@ module _ (t : Transaction) (any again : Bool) where
 -- ---- a packet more
 
 same_state : (t : Transaction) (bs : List (List ℕ)) (b : List ℕ)
-    → offered t b ≡ None
-    → joined t (bs ++ b ∷ []) ≡ joined t bs
+    → part_offered t b ≡ None
+    → packets_joined t (bs ++ b ∷ []) ≡ packets_joined t bs
 same_state t bs b none =
     joined-next t (Missing no_parts) bs b
-    ∙ ap (λ (o : Option (ℕ × Kept)). join_part (joined t bs) o) none
-    ∙ join_none (joined t bs)
+    ∙ ap (λ (o : Option (ℕ × Kept)). join_part (packets_joined t bs) o) none
+    ∙ join_none (packets_joined t bs)
 
 -- the same of what a packet carries, in any order
 abbrev gather_of : Transaction → (any again : Bool) → Held → Option (ℕ × Kept) → Held × Option News
@@ -93,35 +94,35 @@ each_waits t any again x a r (Some m) h = ap Some h
 module _ (t : Transaction) (any again : Bool) (last : Option (List ℕ)) (bs : List (List ℕ))
     (b : List ℕ) where
   new-waits : (x : ℕ × Kept) (old : Bool)
-      → offered t b ≡ Some x
+      → part_offered t b ≡ Some x
       → is_old last t.part_size x ≡ old
-      → ((s : Parts) × (joined t (sieved t last bs) ≡ Missing s))
-      → ((s : Parts) × (joined t (sieved t last (bs ++ b ∷ [])) ≡ Missing s))
-      → (if old then Waits (set_of (joined t (sieved t last bs)))
-      else turn t any again (set_of (joined t (sieved t last bs))) x)
-      ≡ Waits (set_of (joined t (sieved t last (bs ++ b ∷ []))))
+      → ((s : Parts) × (packets_joined t (sieved t last bs) ≡ Missing s))
+      → ((s : Parts) × (packets_joined t (sieved t last (bs ++ b ∷ [])) ≡ Missing s))
+      → (if old then Waits (set_of (packets_joined t (sieved t last bs)))
+      else turn t any again (set_of (packets_joined t (sieved t last bs))) x)
+      ≡ Waits (set_of (packets_joined t (sieved t last (bs ++ b ∷ []))))
   new-waits x true is o was now =
-      ap (λ xs. Waits (set_of (joined t xs)))
+      ap (λ xs. Waits (set_of (packets_joined t xs)))
       (sym (sieved-more t last bs b true (ap (is_again t last) is ∙ o)))
   new-waits x false is o was now =
       let more = sieved-more t last bs b false (ap (is_again t last) is ∙ o) in
       turn-still t any again (sieved t last bs) b x is was
-      (subst (λ xs. (s : Parts) × (joined t xs ≡ Missing s)) more now)
-      ∙ ap (λ xs. Waits (set_of (joined t xs))) (sym more)
+      (subst (λ xs. (s : Parts) × (packets_joined t xs ≡ Missing s)) more now)
+      ∙ ap (λ xs. Waits (set_of (packets_joined t xs))) (sym more)
 
   step-still : (o : Option (ℕ × Kept))
-      → offered t b ≡ o
-      → ((s : Parts) × (joined t bs ≡ Missing s))
-      → ((s : Parts) × (joined t (bs ++ b ∷ []) ≡ Missing s))
-      → ((s : Parts) × (joined t (sieved t last bs) ≡ Missing s))
-      → ((s : Parts) × (joined t (sieved t last (bs ++ b ∷ [])) ≡ Missing s))
+      → part_offered t b ≡ o
+      → ((s : Parts) × (packets_joined t bs ≡ Missing s))
+      → ((s : Parts) × (packets_joined t (bs ++ b ∷ []) ≡ Missing s))
+      → ((s : Parts) × (packets_joined t (sieved t last bs) ≡ Missing s))
+      → ((s : Parts) × (packets_joined t (sieved t last (bs ++ b ∷ [])) ≡ Missing s))
       → ◌≡◌ {A = Held
       × Option News} (gather_of t any again (kept t last bs) o)
       (kept t last (bs ++ b ∷ []), None)
   unfolding gather
   step-still None is wa na wn nn =
       let all = same_state t bs b is in
-      let new = ap (joined t) (sieved-more t last bs b false (ap (is_again t last) is))
+      let new = ap (packets_joined t) (sieved-more t last bs b false (ap (is_again t last) is))
       ∙ same_state t (sieved t last bs) b is in
       λ i. (
         record {
@@ -132,10 +133,10 @@ module _ (t : Transaction) (any again : Bool) (last : Option (List ℕ)) (bs : L
         None,
       )
   step-still (Some x) is wa na wn nn =
-      let a = set_of (joined t bs) in
-      let r = set_of (joined t (bs ++ b ∷ [])) in
-      let n = set_of (joined t (sieved t last bs)) in
-      let s = set_of (joined t (sieved t last (bs ++ b ∷ []))) in
+      let a = set_of (packets_joined t bs) in
+      let r = set_of (packets_joined t (bs ++ b ∷ [])) in
+      let n = set_of (packets_joined t (sieved t last bs)) in
+      let s = set_of (packets_joined t (sieved t last (bs ++ b ∷ []))) in
       (λ i. after (kept t last bs) (new-waits x (is_old last t.part_size x) is refl wn nn i)
       (each_waits t any again x a r last (turn-still t any again bs b x is wa na) i))
       ∙ finish last a r n s
@@ -176,13 +177,13 @@ module _ (messages : Messages) (splits : Splits) (t : Transaction) (any : Bool)
   missing_all : (bs : List (List ℕ))
       → AllBelong t m bs
       → came t number bs ≡ false
-      → (s : Parts) × (joined t bs ≡ Missing s)
+      → (s : Parts) × (packets_joined t bs ≡ Missing s)
   missing_all = still_missing messages splits t m number some within
 
   missing_new : (bs : List (List ℕ))
       → AllBelong t m bs
       → came t number bs ≡ false
-      → (s : Parts) × (joined t (sieved t last bs) ≡ Missing s)
+      → (s : Parts) × (packets_joined t (sieved t last bs) ≡ Missing s)
   missing_new bs all first =
       missing_all (sieved t last bs) (sieved-belong t m last bs all)
       (sieved-first t number last bs first)
@@ -190,13 +191,13 @@ module _ (messages : Messages) (splits : Splits) (t : Transaction) (any : Bool)
   front-gather : (again : Bool) (bs : List (List ℕ)) (b : List ℕ)
       → AllBelong t m (bs ++ b ∷ [])
       → came t number (bs ++ b ∷ []) ≡ false
-      → ◌≡◌ {A = Held × Option News} (gather_of t any again (kept t last bs) (offered t b))
+      → ◌≡◌ {A = Held × Option News} (gather_of t any again (kept t last bs) (part_offered t b))
       (kept t last (bs ++ b ∷ []), None)
   front-gather again bs b all first =
       let before = all_belong-front t m bs (b ∷ []) all in
       let first_before = ((or_parts (came t number bs) (came t number (b ∷ []))
       (sym (came-append t number bs (b ∷ [])) ∙ first)).0) in
-      step-still t any again last bs b (offered t b) refl
+      step-still t any again last bs b (part_offered t b) refl
       (missing_all bs before first_before) (missing_all (bs ++ b ∷ []) all first)
       (missing_new bs before first_before) (missing_new (bs ++ b ∷ []) all first)
 
@@ -207,7 +208,7 @@ module _ (messages : Messages) (splits : Splits) (t : Transaction) (any : Bool)
     pub those : List (List ℕ)
     pub belong : AllBelong t m those
     pub first : came t number those ≡ false
-    pub are : joined t those ≡ Missing r.parts
+    pub are : packets_joined t those ≡ Missing r.parts
 
   none_before : IsBefore no_run
   none_before = record { those = []; belong = tt; first = refl; are = refl }
@@ -217,14 +218,14 @@ module _ (messages : Messages) (splits : Splits) (t : Transaction) (any : Bool)
   begins_before r false h = h
 
   added_is : (r : Run) (h : IsBefore r) (b : List ℕ) (x : ℕ × Kept)
-      → offered t b ≡ Some x
-      → joined t (h.those ++ b ∷ []) ≡ added r.parts x.0 x.1
+      → part_offered t b ≡ Some x
+      → packets_joined t (h.those ++ b ∷ []) ≡ part_added r.parts x.0 x.1
   added_is r h b x is =
       joined-next t (Missing no_parts) h.those b ∙ (λ i. join_part (h.are i) (is i))
 
   -- with a packet that isn't the last to come it goes on
   run-front : (r : Run) (b : List ℕ) (x : ℕ × Kept)
-      → offered t b ≡ Some x
+      → part_offered t b ≡ Some x
       → Belongs t m b
       → came t number (b ∷ []) ≡ false
       → IsInner r
@@ -252,7 +253,7 @@ module _ (messages : Messages) (splits : Splits) (t : Transaction) (any : Bool)
         by : (k : ℕ) (s : Parts) (those : List (List ℕ)) (last : Bool)
             → AllBelong t m those
             → came t number those ≡ false
-            → joined t those ≡ Missing s
+            → packets_joined t those ≡ Missing s
             → is_last x.1 ≡ last
             → (q : Run)
             × (Goes (if is_last x.1 then no_run else record { count = higher k x.0; parts = s })
@@ -274,7 +275,8 @@ module _ (messages : Messages) (splits : Splits) (t : Transaction) (any : Bool)
         go : (r : Run) (next : Bool)
             → IsBefore r
             → (q : Run)
-            × ((if next then run_by r.count x (added r.parts x.0 x.1) else Goes no_run) ≡ Goes q)
+            × ((if next then run_by r.count x (part_added r.parts x.0 x.1) else Goes no_run)
+            ≡ Goes q)
             × IsBefore q
         go r false h = (no_run, refl, none_before)
         go r true h =
@@ -293,7 +295,7 @@ module _ (messages : Messages) (splits : Splits) (t : Transaction) (any : Bool)
 
   -- with the last packet it goes on, or is the message
   run-last : (r : Run) (b : List ℕ) (x : ℕ × Kept)
-      → offered t b ≡ Some x
+      → part_offered t b ≡ Some x
       → Belongs t m b
       → IsInner r
       → IsBefore (run_before r x.0)
@@ -317,10 +319,10 @@ module _ (messages : Messages) (splits : Splits) (t : Transaction) (any : Bool)
 
         go : (r : Run) (next : Bool)
             → IsBefore r
-            → IsOwn (if next then run_by r.count x (added r.parts x.0 x.1) else Goes no_run)
+            → IsOwn (if next then run_by r.count x (part_added r.parts x.0 x.1) else Goes no_run)
         go r false h = tt
         go r true h =
-            by r.count (added r.parts x.0 x.1)
+            by r.count (part_added r.parts x.0 x.1)
             (subst (IsGathered m t.part_size) (added_is r h b x is)
             (gathered_all t m (h.those ++ b ∷ []) (Missing no_parts) t.size
             (gathered_none m t.part_size)
@@ -349,7 +351,7 @@ module _ (messages : Messages) (splits : Splits) (t : Transaction) (any : Bool)
 
   -- a part behind packets of it
   run-step : (r : Run) (stale gave : Bool) (done rest : List (List ℕ)) (b : List ℕ) (x : ℕ × Kept)
-      → offered t b ≡ Some x
+      → part_offered t b ≡ Some x
       → Belongs t m b
       → came t number (b ∷ []) ≡ false
       → IsInner r
@@ -397,7 +399,7 @@ module _ (messages : Messages) (splits : Splits) (t : Transaction) (any : Bool)
     ]
 
   front-some : (bs rest : List (List ℕ)) (b : List ℕ) (r : Run) (stale gave : Bool) (x : ℕ × Kept)
-      → offered t b ≡ Some x
+      → part_offered t b ≡ Some x
       → AllBelong t m (bs ++ b ∷ [])
       → came t number (bs ++ b ∷ []) ≡ false
       → IsInner r
@@ -426,7 +428,7 @@ module _ (messages : Messages) (splits : Splits) (t : Transaction) (any : Bool)
 
   front-step : (bs rest : List (List ℕ)) (b : List ℕ) (r : Run) (stale gave : Bool) (o : Option (ℕ
       × Kept))
-      → offered t b ≡ o
+      → part_offered t b ≡ o
       → AllBelong t m (bs ++ b ∷ [])
       → came t number (bs ++ b ∷ []) ≡ false
       → IsInner r
@@ -478,7 +480,7 @@ module _ (messages : Messages) (splits : Splits) (t : Transaction) (any : Bool)
       let assoc : (done ++ b ∷ []) ++ rest ≡ done ++ b ∷ rest = append_assoc done (b ∷ []) rest in
       let all_more = subst (AllBelong t m) (sym assoc) all in
       let first_more = ap (came t number) assoc ∙ first in
-      let step = front-step done rest b r stale gave (offered t b) refl
+      let step = front-step done rest b r stale gave (part_offered t b) refl
       (all_belong-front t m (done ++ b ∷ []) rest all_more)
       (((or_parts (came t number (done ++ b ∷ [])) (came t number rest)
       (sym (came-append t number (done ++ b ∷ []) rest) ∙ first_more)).0)) none h in
@@ -491,21 +493,22 @@ module _ (messages : Messages) (splits : Splits) (t : Transaction) (any : Bool)
         subst (λ (bs : List (List ℕ)). Stands next.0 next.2 bs []) assoc next.4,
         ap (λ (s : Course × Option News). held_from t any s.0 rest) step.5 ∙ next.5
             ∙ ap (λ bs. behind bs next.0 next.1 next.2) assoc,
-        ap (λ (s : Course × Option News). listed s.1 ++ news_from t any s.0 rest) step.5 ∙ next.6,
+        ap (λ (s : Course × Option News). news_listed s.1 ++ news_from t any s.0 rest) step.5
+            ∙ next.6,
       )
 
   -- ---- the last packet
 
   last-new : (again : Bool) (bs : List (List ℕ)) (b : List ℕ) (x : ℕ
       × Kept) (l : List ℕ) (h : Held) (j : Joined)
-      → offered t b ≡ Some x
+      → part_offered t b ≡ Some x
       → unfit t any m ≡ None
-      → ((s : Parts) × (joined t bs ≡ Missing s))
-      → joined t (bs ++ b ∷ []) ≡ j
+      → ((s : Parts) × (packets_joined t bs ≡ Missing s))
+      → packets_joined t (bs ++ b ∷ []) ≡ j
       → IsGathered m t.part_size j
       → ◌≡◌ {A = Held
-      × Option News} (after h (turn t any again (set_of (joined t bs)) x) (Some (Gives m)))
-      (given m)
+      × Option News} (after h (turn t any again (set_of (packets_joined t bs)) x) (Some (Gives m)))
+      (message_given m)
   last-new again bs b x l h (Missing r) is fit was now gathered =
       ap (λ (u : Turn). after h u (Some (Gives m))) (turn-still t any again bs b x is was (r, now))
   last-new again bs b x l h (Complete y) is fit was now gathered =
@@ -515,37 +518,38 @@ module _ (messages : Messages) (splits : Splits) (t : Transaction) (any : Bool)
 
   last-some : (again : Bool) (bs : List (List ℕ)) (b : List ℕ) (x : ℕ
       × Kept) (l : List ℕ) (old : Bool)
-      → offered t b ≡ Some x
+      → part_offered t b ≡ Some x
       → last ≡ Some l
       → unfit t any m ≡ None
       → AllBelong t m bs
       → came t number bs ≡ false
       → Belongs t m b
-      → joined t (bs ++ b ∷ []) ≡ Complete m
+      → packets_joined t (bs ++ b ∷ []) ≡ Complete m
       → ◌≡◌ {A = Held × Option News}
       (after (kept t last bs)
-      (if old then Waits (set_of (joined t (sieved t last bs)))
-      else turn t any again (set_of (joined t (sieved t last bs))) x)
-      (all_turn t any again (kept t last bs) x)) (given m)
+      (if old then Waits (set_of (packets_joined t (sieved t last bs)))
+      else turn t any again (set_of (packets_joined t (sieved t last bs))) x)
+      (all_turn t any again (kept t last bs) x)) (message_given m)
   last-some again bs b x l old is e fit all first belongs whole =
       ap (λ (o : Option Turn). after (kept t last bs)
-      (if old then Waits (set_of (joined t (sieved t last bs)))
-      else turn t any again (set_of (joined t (sieved t last bs))) x) o)
+      (if old then Waits (set_of (packets_joined t (sieved t last bs)))
+      else turn t any again (set_of (packets_joined t (sieved t last bs))) x) o)
       (ap (λ (l : Option (List ℕ)). option_map (λ s. turn t any again s x)
-      (option_map (λ _. set_of (joined t bs)) l)) e
+      (option_map (λ _. set_of (packets_joined t bs)) l)) e
       ∙ ap Some (turn-whole t any again m bs b x is (missing_all bs all first) whole fit))
       ∙ new old where
         new : (old : Bool)
             → ◌≡◌ {A = Held × Option News}
             (after (kept t last bs)
-            (if old then Waits (set_of (joined t (sieved t last bs)))
-            else turn t any again (set_of (joined t (sieved t last bs))) x)
-            (Some (Gives m))) (given m)
+            (if old then Waits (set_of (packets_joined t (sieved t last bs)))
+            else turn t any again (set_of (packets_joined t (sieved t last bs))) x)
+            (Some (Gives m))) (message_given m)
         new true = refl
         new false =
             let others = sieved t last bs in
             let belong = sieved-belong t m last bs all in
-            last-new again others b x l (kept t last bs) (joined t (others ++ b ∷ [])) is fit
+            last-new again others b x l (kept t last bs) (packets_joined t (others ++ b ∷ [])) is
+            fit
             (missing_new bs all first) refl
             (gathered_all t m (others ++ b ∷ []) (Missing no_parts) t.size
             (gathered_none m t.part_size)
@@ -559,17 +563,17 @@ module _ (messages : Messages) (splits : Splits) (t : Transaction) (any : Bool) 
   -- with the last packet it is given out
   last-gather : (again : Bool) (last : Option (List ℕ)) (bs : List (List ℕ)) (b : List ℕ) (x : ℕ
       × Kept)
-      → offered t b ≡ Some x
+      → part_offered t b ≡ Some x
       → unfit t any m ≡ None
       → AllBelong t m bs
       → came t number bs ≡ false
       → Belongs t m b
-      → joined t (bs ++ b ∷ []) ≡ Complete m
-      → ◌≡◌ {A = Held × Option News} (gather t any again (kept t last bs) x) (given m)
+      → packets_joined t (bs ++ b ∷ []) ≡ Complete m
+      → ◌≡◌ {A = Held × Option News} (gather t any again (kept t last bs) x) (message_given m)
   unfolding gather
   last-gather again None bs b x is fit all first belongs whole =
       ap (λ (xs : List (List ℕ)). after (kept t None bs) (turn t any again
-      (set_of (joined t xs)) x) None)
+      (set_of (packets_joined t xs)) x) None)
       (sieved-none t bs)
       ∙ ap (λ (u : Turn). after (kept t None bs) u None)
       (turn-whole t any again
@@ -588,19 +592,19 @@ module _ (messages : Messages) (splits : Splits) (t : Transaction) (any : Bool) 
   abbrev Anew : Course × Option News → Type 0
   Anew w = (q : Run) × (s : Bool) × (g : Bool) × IsInner q
       × (w ≡ (
-        record { held = begun (Some m) no_parts; run = q; stale = s; gave = g },
+        record { held = held_begun (Some m) no_parts; run = q; stale = s; gave = g },
         Some
             (Given m),
       ))
 
   last-step : (last : Option (List ℕ)) (bs : List (List ℕ)) (b : List ℕ) (x : ℕ
       × Kept) (r : Run) (stale gave : Bool)
-      → offered t b ≡ Some x
+      → part_offered t b ≡ Some x
       → unfit t any m ≡ None
       → AllBelong t m bs
       → came t number bs ≡ false
       → Belongs t m b
-      → joined t (bs ++ b ∷ []) ≡ Complete m
+      → packets_joined t (bs ++ b ∷ []) ≡ Complete m
       → IsInner r
       → IsMessage m t.part_size
       → IsBefore messages splits t any last m number some within (run_before r x.0)
@@ -642,19 +646,19 @@ module _ (messages : Messages) (splits : Splits) (t : Transaction) (any : Bool) 
 
   all_packets : (last : Option (List ℕ)) (front : List (List ℕ)) (b : List ℕ) (x : ℕ
       × Kept) (r : Run) (stale gave : Bool)
-      → offered t b ≡ Some x
+      → part_offered t b ≡ Some x
       → unfit t any m ≡ None
       → AllBelong t m front
       → came t number front ≡ false
       → Belongs t m b
-      → joined t (front ++ b ∷ []) ≡ Complete m
+      → packets_joined t (front ++ b ∷ []) ≡ Complete m
       → came t 1 (front ++ b ∷ []) ≡ true
       → FirstBeforeLast t m front
       → IsInner r
       → IsMessage m t.part_size
       → (q : Run) × (s : Bool) × (g : Bool) × IsInner q
       × (held_from t any (at last [] r stale gave) (front ++ b ∷ [])
-      ≡ record { held = begun (Some m) no_parts; run = q; stale = s; gave = g })
+      ≡ record { held = held_begun (Some m) no_parts; run = q; stale = s; gave = g })
       × (news_from t any (at last [] r stale gave) (front ++ b ∷ []) ≡ Given m ∷ [])
   all_packets last front b x r stale gave is fit all first belongs whole one order none message =
       let k = front-kept messages splits t any last m number some within
@@ -671,11 +675,11 @@ module _ (messages : Messages) (splits : Splits) (t : Transaction) (any : Bool) 
         end.2,
         end.3,
         held_from-append t any (at last [] r stale gave) front (b ∷ [])
-            ∙ ap (λ (h : Course). (step_of t any h (offered t b)).0) k.5
+            ∙ ap (λ (h : Course). (step_of t any h (part_offered t b)).0) k.5
             ∙ ap (λ (s : Course × Option News). s.0) ends,
         news_from-append t any (at last [] r stale gave) front (b ∷ [])
-            ∙ (λ i. k.6 i ++ (listed (step_of t any (k.5 i) (offered t b)).1 ++ []))
-            ∙ ap (λ (s : Course × Option News). listed s.1 ++ []) ends,
+            ∙ (λ i. k.6 i ++ (news_listed (step_of t any (k.5 i) (part_offered t b)).1 ++ []))
+            ∙ ap (λ (s : Course × Option News). news_listed s.1 ++ []) ends,
       ) where
         began : (q : Run) (g : Bool)
             → Stands messages splits t any last m number some within q g front []
@@ -708,7 +712,7 @@ module _ (parts : Messages) (splits : Splits) (t : Transaction) (any : Bool) whe
   -- this is kept behind a message, or at the beginning
   abbrev from : Option (List ℕ) → Run → (stale gave : Bool) → Course
   from last r stale gave =
-      record { held = begun last no_parts; run = r; stale = stale; gave = gave }
+      record { held = held_begun last no_parts; run = r; stale = stale; gave = gave }
 
   one_sent : (last : Option (List ℕ)) (m : List ℕ) (bs : List (List ℕ)) (r : Run)
       (stale gave : Bool)
@@ -732,29 +736,31 @@ module _ (parts : Messages) (splits : Splits) (t : Transaction) (any : Bool) whe
 
   -- nothing is left of it
   nothing_left : (last : Option (List ℕ)) (r : Run) (stale gave : Bool)
-      → left (from last r stale gave) ≡ []
+      → news_left (from last r stale gave) ≡ []
   nothing_left last r stale gave =
-      ap (λ (b : Bool). if b then [] else dropped no_parts ∷ []) empty-none
+      ap (λ (b : Bool). if b then [] else parts_dropped no_parts ∷ []) empty-none
 
   all_sent : (ms : List (List ℕ)) (last : Option (List ℕ)) (bs : List (List ℕ)) (r : Run)
       (stale gave : Bool)
       → IsInner r
       → Sends t any ms bs
-      → news_from t any (from last r stale gave) bs ++ left
+      → news_from t any (from last r stale gave) bs ++ news_left
       (held_from t any (from last r stale gave) bs) ≡ map Given ms
   all_sent [] last bs r stale gave inner none =
       let nothing = none-from t any (from last r stale gave) bs none in
-      (λ i. nothing.1 i ++ left (nothing.0 i)) ∙ nothing_left last r stale gave
+      (λ i. nothing.1 i ++ news_left (nothing.0 i)) ∙ nothing_left last r stale gave
   all_sent (m ∷ ms) last bs r stale gave inner h =
       let front = h.0 in
       let rest = h.1 in
       let one = one_sent last m front r stale gave inner h.3 in
       let start = from last r stale gave in
       let more = all_sent ms (Some m) rest one.0 one.1 one.2 one.3 h.4 in
-      ap (λ (xs : List (List ℕ)). news_from t any start xs ++ left (held_from t any start xs)) h.2
-      ∙ (λ i. news_from-append t any start front rest i ++ left
+      ap (λ (xs : List (List ℕ)). news_from t any start xs ++ news_left (held_from t any start xs))
+      h.2
+      ∙ (λ i. news_from-append t any start front rest i ++ news_left
       (held_from-append t any start front rest i))
-      ∙ (λ i. (one.5 i ++ news_from t any (one.4 i) rest) ++ left (held_from t any (one.4 i) rest))
+      ∙ (λ i. (one.5 i ++ news_from t any (one.4 i) rest)
+      ++ news_left (held_from t any (one.4 i) rest))
       ∙ ap (λ (ws : List News). Given m ∷ ws) more
 
   pub sent_given : (ms : List (List ℕ)) (bs : List (List ℕ)) → Sends t any ms bs → news t any bs

@@ -9,14 +9,14 @@ use Rattle.lpt_part.specs.Splitting.{IsPartSize, part_count}
 use Rattle.lpt_reception.specs.PartsOf.{AllFit, IsMessage, IsSplit, kept_of}
 use Rattle.lpt_reception.specs.Received.{Kept, Parts, no_parts, is_overrun, is_whole, spelled}
 use Rattle.lpt_join.specs.declared.transaction.Transaction.{Transaction}
-use Rattle.lpt_join.specs.Joins.{Joined, Missing, Complete, Broken, joined}
+use Rattle.lpt_join.specs.Joins.{Joined, Missing, Complete, Broken, packets_joined}
 use Rattle.lpt_join.specs.Laws.{AllBelong, IsThere, came, is_part}
-use Rattle.lpt_join.specs.Offers.{offered}
-use Rattle.lpt_join.specs.Several.{carried}
+use Rattle.lpt_join.specs.Offers.{part_offered}
+use Rattle.lpt_join.specs.Several.{is_carried}
 use Rattle.lpt_join.proofs.LawLemmas.{IsGathered, gathered_all, gathered_none}
 use Rattle.lpt_join.proofs.SeveralLemmas.{not_some}
 use Rattle.lpt_join.proofs.ThereLemmas.{complete_there}
-use Rattle.lpt_each.specs.Eaches.{Course, Held, held_from, is_old, listed, news_from, step_of}
+use Rattle.lpt_each.specs.Eaches.{Course, Held, held_from, is_old, news_listed, news_from, step_of}
 use Rattle.lpt_each.specs.News.{News}
 
 abbrev pub Messages : Type 0
@@ -48,8 +48,8 @@ there-came t n x (b ∷ bs) (inl e) =
     ap (λ (o : Option (ℕ × Kept)). is_part n o || came t n bs) e
     ∙ ap (λ e. e || came t n bs) (eq_true n n refl)
 there-came t n x (b ∷ bs) (inr h) =
-    ap (λ e. is_part n (offered t b) || e) (there-came t n x bs h)
-    ∙ or_right (is_part n (offered t b)) where
+    ap (λ e. is_part n (part_offered t b) || e) (there-came t n x bs h)
+    ∙ or_right (is_part n (part_offered t b)) where
       or_right : (a : Bool) → (a || true) ≡ true
       or_right true = refl
       or_right false = refl
@@ -58,8 +58,8 @@ pub came-append : (t : Transaction) (n : ℕ) (bs cs : List (List ℕ)) → came
     ≡ (came t n bs || came t n cs)
 came-append t n [] cs = refl
 came-append t n (b ∷ bs) cs =
-    ap (λ e. is_part n (offered t b) || e) (came-append t n bs cs)
-    ∙ or_assoc (is_part n (offered t b)) (came t n bs) (came t n cs) where
+    ap (λ e. is_part n (part_offered t b) || e) (came-append t n bs cs)
+    ∙ or_assoc (is_part n (part_offered t b)) (came t n bs) (came t n cs) where
       or_assoc : (a b c : Bool) → (a || (b || c)) ≡ ((a || b) || c)
       or_assoc true b c = refl
       or_assoc false b c = refl
@@ -68,10 +68,10 @@ pub held_from-append : (t : Transaction) (any : Bool) (h : Course) (bs cs : List
     → held_from t any h (bs ++ cs) ≡ held_from t any (held_from t any h bs) cs
 held_from-append t any h [] cs = refl
 held_from-append t any h (b ∷ bs) cs =
-    held_from-append t any (step_of t any h (offered t b)).0 bs cs
+    held_from-append t any (step_of t any h (part_offered t b)).0 bs cs
 
 pub held_from-next : (t : Transaction) (any : Bool) (h : Course) (bs : List (List ℕ)) (b : List ℕ)
-    → held_from t any h (bs ++ b ∷ []) ≡ (step_of t any (held_from t any h bs) (offered t b)).0
+    → held_from t any h (bs ++ b ∷ []) ≡ (step_of t any (held_from t any h bs) (part_offered t b)).0
 held_from-next t any h bs b = held_from-append t any h bs (b ∷ [])
 
 pub news_from-append : (t : Transaction) (any : Bool) (h : Course) (bs cs : List (List ℕ))
@@ -79,22 +79,24 @@ pub news_from-append : (t : Transaction) (any : Bool) (h : Course) (bs cs : List
     ≡ news_from t any h bs ++ news_from t any (held_from t any h bs) cs
 news_from-append t any h [] cs = refl
 news_from-append t any h (b ∷ bs) cs =
-    ap (λ (ws : List News). listed (step_of t any h (offered t b)).1 ++ ws)
-    (news_from-append t any (step_of t any h (offered t b)).0 bs cs)
-    ∙ sym (append_assoc (listed (step_of t any h (offered t b)).1)
-    (news_from t any (step_of t any h (offered t b)).0 bs)
-    (news_from t any (held_from t any (step_of t any h (offered t b)).0 bs) cs))
+    ap (λ (ws : List News). news_listed (step_of t any h (part_offered t b)).1 ++ ws)
+    (news_from-append t any (step_of t any h (part_offered t b)).0 bs cs)
+    ∙ sym (append_assoc (news_listed (step_of t any h (part_offered t b)).1)
+    (news_from t any (step_of t any h (part_offered t b)).0 bs)
+    (news_from t any (held_from t any (step_of t any h (part_offered t b)).0 bs) cs))
 
 -- packets that carry no part of the name
 pub none-from : (t : Transaction) (any : Bool) (h : Course) (bs : List (List ℕ))
-    → carried t bs ≡ false
+    → is_carried t bs ≡ false
     → (held_from t any h bs ≡ h) × (news_from t any h bs ≡ [])
 none-from t any h [] none = (refl, refl)
 none-from t any h (b ∷ bs) none =
-    let first = not_some (offered t b) ((or_parts (is_some (offered t b)) (carried t bs) none).0) in
-    let rest = none-from t any h bs ((or_parts (is_some (offered t b)) (carried t bs) none).1) in (
+    let first = not_some (part_offered t b)
+    ((or_parts (is_some (part_offered t b)) (is_carried t bs) none).0) in
+    let rest =
+    none-from t any h bs ((or_parts (is_some (part_offered t b)) (is_carried t bs) none).1) in (
       ap (λ (o : Option (ℕ × Kept)). held_from t any (step_of t any h o).0 bs) first ∙ rest.0,
-      ap (λ (o : Option (ℕ × Kept)). listed (step_of t any h o).1 ++ news_from t any
+      ap (λ (o : Option (ℕ × Kept)). news_listed (step_of t any h o).1 ++ news_from t any
           (step_of t any h o).0 bs) first
           ∙ rest.1,
     )
@@ -108,7 +110,7 @@ module _ (messages : Messages) (splits : Splits) (t : Transaction) (m : List ℕ
   IsMissing j = (s : Parts) × (j ≡ Missing s)
 
   missing_by : (bs : List (List ℕ)) (j : Joined)
-      → joined t bs ≡ j
+      → packets_joined t bs ≡ j
       → IsGathered m t.part_size j
       → came t number bs ≡ false
       → IsMissing j
@@ -125,9 +127,9 @@ module _ (messages : Messages) (splits : Splits) (t : Transaction) (m : List ℕ
   pub still_missing : (bs : List (List ℕ))
       → AllBelong t m bs
       → came t number bs ≡ false
-      → IsMissing (joined t bs)
+      → IsMissing (packets_joined t bs)
   still_missing bs all first =
-      missing_by bs (joined t bs) refl
+      missing_by bs (packets_joined t bs) refl
       (gathered_all t m bs (Missing no_parts) t.size (gathered_none m t.part_size) all) first
 
 -- ---- what is kept of a message as its packets come
@@ -146,26 +148,26 @@ is_again t last (Some x) = is_old last t.part_size x
 -- the packets without those
 abbrev pub sieved : Transaction → Option (List ℕ) → List (List ℕ) → List (List ℕ)
 sieved t last [] = []
-sieved t last (b ∷ bs) = if is_again t last (offered t b) then sieved t last bs else b ∷
+sieved t last (b ∷ bs) = if is_again t last (part_offered t b) then sieved t last bs else b ∷
     sieved t last bs
 
 -- what is kept behind packets none of which makes a message whole
 abbrev pub kept : Transaction → Option (List ℕ) → List (List ℕ) → Held
 kept t last bs = record {
   last = last;
-  all = option_map (λ _. set_of (joined t bs)) last;
-  new = set_of (joined t (sieved t last bs));
+  all = option_map (λ _. set_of (packets_joined t bs)) last;
+  new = set_of (packets_joined t (sieved t last bs));
 }
 
 pub sieved-more : (t : Transaction) (last : Option (List ℕ)) (bs : List (List ℕ)) (b : List ℕ)
     (again : Bool)
-    → is_again t last (offered t b) ≡ again
+    → is_again t last (part_offered t b) ≡ again
     → sieved t last (bs ++ b ∷ [])
     ≡ (if again then sieved t last bs else sieved t last bs ++ b ∷ [])
 sieved-more t last [] b true e = ap (λ (a : Bool). if a then [] else b ∷ []) e
 sieved-more t last [] b false e = ap (λ (a : Bool). if a then [] else b ∷ []) e
 sieved-more t last (c ∷ bs) b again e =
-    front (is_again t last (offered t c)) again (sieved-more t last bs b again e) where
+    front (is_again t last (part_offered t c)) again (sieved-more t last bs b again e) where
       front : (a again : Bool)
           → sieved t last (bs ++ b ∷ [])
           ≡ (if again then sieved t last bs else sieved t last bs ++ b ∷ [])
@@ -182,7 +184,7 @@ pub sieved-belong : (t : Transaction) (m : List ℕ) (last : Option (List ℕ)) 
     → AllBelong t m (sieved t last bs)
 sieved-belong t m last [] h = tt
 sieved-belong t m last (b ∷ bs) h =
-    front (is_again t last (offered t b)) (sieved-belong t m last bs h.1) where
+    front (is_again t last (part_offered t b)) (sieved-belong t m last bs h.1) where
       front : (a : Bool)
           → AllBelong t m (sieved t last bs)
           → AllBelong t m (if a then sieved t last bs else b ∷ sieved t last bs)
@@ -194,19 +196,19 @@ pub sieved-first : (t : Transaction) (n : ℕ) (last : Option (List ℕ)) (bs : 
     → came t n (sieved t last bs) ≡ false
 sieved-first t n last [] h = refl
 sieved-first t n last (b ∷ bs) h =
-    front (is_again t last (offered t b))
-    (sieved-first t n last bs ((or_parts (is_part n (offered t b)) (came t n bs) h).1)) where
+    front (is_again t last (part_offered t b))
+    (sieved-first t n last bs ((or_parts (is_part n (part_offered t b)) (came t n bs) h).1)) where
       front : (a : Bool)
           → came t n (sieved t last bs) ≡ false
           → came t n (if a then sieved t last bs else b ∷ sieved t last bs) ≡ false
       front true k = k
       front false k =
           ap (λ e. e || came t n (sieved t last bs))
-          ((or_parts (is_part n (offered t b)) (came t n bs) h).0) ∙ k
+          ((or_parts (is_part n (part_offered t b)) (came t n bs) h).0) ∙ k
 
 pub sieved-none : (t : Transaction) (bs : List (List ℕ)) → sieved t None bs ≡ bs
 sieved-none t [] = refl
-sieved-none t (b ∷ bs) = front (offered t b) (sieved-none t bs) where
+sieved-none t (b ∷ bs) = front (part_offered t b) (sieved-none t bs) where
   front : (o : Option (ℕ × Kept))
       → sieved t None bs ≡ bs
       → (if is_again t None o then sieved t None bs else b ∷ sieved t None bs) ≡ b ∷ bs

@@ -8,14 +8,14 @@ use Rattle.lpt_reception.specs.Received.{Kept, Parts, is_last, no_parts, is_over
 use Rattle.lpt_reception.proofs.StartLemmas.{contradicts-none}
 use Rattle.lpt_join.specs.declared.messages.Misfit.{Misfit}
 use Rattle.lpt_join.specs.declared.transaction.Transaction.{Transaction}
-use Rattle.lpt_join.specs.Joins.{Joined, Missing, Complete, Broken, added}
+use Rattle.lpt_join.specs.Joins.{Joined, Missing, Complete, Broken, part_added}
 use Rattle.lpt_join.specs.Laws.{IsThere}
-use Rattle.lpt_join.specs.Offers.{offered}
+use Rattle.lpt_join.specs.Offers.{part_offered}
 use Rattle.lpt_join.proofs.FitLemmas.{offered-fits}
 use Rattle.lpt_join.proofs.ThereLemmas.{AreIn, IsFrom, IsOf, are_in, from_more, from_none, of_step, whole_there}
-use Rattle.lpt_each.specs.Eaches.{Course, Ends, Goes, Held, Run, RunTurn, Turn, Waits, GivesUp, Gives, after, after_all, all_turn, alone, are_own, begun, end_by, end_run, gather, go_on, held, higher, is_empty, is_old, left, listed, new_turn, news, news_from, no_run, nothing, repeats, run_before, run_by, run_turn, seed, step, step_by, step_of, told_in_order, turn, turn_by, unfit, whole_turn}
+use Rattle.lpt_each.specs.Eaches.{Course, Ends, Goes, Held, Run, RunTurn, Turn, Waits, GivesUp, Gives, after, after_all, all_turn, alone, are_own, held_begun, end_by, end_run, gather, go_on, course_held, higher, is_empty, is_old, news_left, news_listed, new_turn, news, news_from, no_run, nothing, repeats, run_before, run_by, run_turn, seed, step, step_by, step_of, told_in_order, turn, turn_by, unfit, whole_turn}
 use Rattle.lpt_each.specs.Laws.{IsGood}
-use Rattle.lpt_each.specs.News.{News, Given, Dropped, Unfit, Overtaken, dropped, messages_in}
+use Rattle.lpt_each.specs.News.{News, Given, Dropped, Unfit, Overtaken, parts_dropped, messages_in}
 
 module _ (t : Transaction) (any : Bool) (all : List (List ℕ)) where
   -- news of a message tells one that comes of such parts
@@ -77,7 +77,7 @@ module _ (t : Transaction) (any : Bool) (all : List (List ℕ)) where
     same_some n y h = cc
 
     -- what parts that stand in the stream are joined to, with this one
-    added-from : (s : Parts) → IsFrom t all s → IsOf t all (added s x.0 x.1)
+    added-from : (s : Parts) → IsFrom t all s → IsOf t all (part_added s x.0 x.1)
     added-from s h =
         of_step t all (Missing s) (Some x) h
         (λ n y e. subst (λ (z : ℕ × Kept). PartFits z.1.kind z.0 (length z.1.octets) t.part_size
@@ -86,9 +86,10 @@ module _ (t : Transaction) (any : Bool) (all : List (List ℕ)) where
 
     turn-from : (again : Bool) (s : Parts) → IsFrom t all s → TurnFrom (turn t any again s x)
     unfolding turn
-    turn-from again s h = turn_by-from again s (added s x.0 x.1) (added-from s h)
+    turn-from again s h = turn_by-from again s (part_added s x.0 x.1) (added-from s h)
 
-    begun-from : (last : Option (List ℕ)) (s : Parts) → IsFrom t all s → HeldFrom (begun last s)
+    begun-from : (last : Option (List ℕ)) (s : Parts) → IsFrom t all s
+        → HeldFrom (held_begun last s)
     begun-from None s h = (tt, h)
     begun-from (Some m) s h = (h, h)
 
@@ -159,8 +160,9 @@ module _ (t : Transaction) (any : Bool) (all : List (List ℕ)) where
 
           go : (r : Run) (next : Bool)
               → IsFrom t all r.parts
-              → RunTurnFrom (if next then run_by r.count x (added r.parts x.0 x.1) else Goes no_run)
-          go r true h = run_by-from r.count (added r.parts x.0 x.1) (added-from r.parts h)
+              → RunTurnFrom
+              (if next then run_by r.count x (part_added r.parts x.0 x.1) else Goes no_run)
+          go r true h = run_by-from r.count (part_added r.parts x.0 x.1) (added-from r.parts h)
           go r false h = from_none t all
 
     go_on-from : (again : Bool) (c : Course)
@@ -213,15 +215,15 @@ module _ (t : Transaction) (any : Bool) (all : List (List ℕ)) where
   IsCourseFrom c = HeldFrom c.held × IsFrom t all c.run.parts
 
   step_of-from : (h : Course) (b : List ℕ) (o : Option (ℕ × Kept))
-      → offered t b ≡ o
-      → ((n : ℕ) (y : Kept) → offered t b ≡ Some (n, y) → IsThere t n y all)
+      → part_offered t b ≡ o
+      → ((n : ℕ) (y : Kept) → part_offered t b ≡ Some (n, y) → IsThere t n y all)
       → IsCourseFrom h
       → IsCourseFrom (step_of t any h o).0 × IsTold (step_of t any h o).1
   step_of-from h b None e are k = (k, tt)
   step_of-from h b (Some x) e are k = step-from x (offered-fits t b x.0 x.1 e) (are x.0 x.1 e) h k
 
   listed-sound : (o : Option News) (ws : List News) → IsTold o → AllSound ws
-      → AllSound (listed o ++ ws)
+      → AllSound (news_listed o ++ ws)
   listed-sound None ws h k = k
   listed-sound (Some w) ws h k = (h, k)
 
@@ -229,15 +231,15 @@ module _ (t : Transaction) (any : Bool) (all : List (List ℕ)) where
       → AllSound (news_from t any h bs)
   news-sound h [] k are = tt
   news-sound h (b ∷ bs) k are =
-      let next = step_of-from h b (offered t b) refl are.0 k in
-      listed-sound (step_of t any h (offered t b)).1
-      (news_from t any (step_of t any h (offered t b)).0 bs) next.1
-      (news-sound (step_of t any h (offered t b)).0 bs next.0 are.1)
+      let next = step_of-from h b (part_offered t b) refl are.0 k in
+      listed-sound (step_of t any h (part_offered t b)).1
+      (news_from t any (step_of t any h (part_offered t b)).0 bs) next.1
+      (news-sound (step_of t any h (part_offered t b)).0 bs next.0 are.1)
 
   -- what is left at the end is no message
-  left-sound : (h : Course) → AllSound (left h)
+  left-sound : (h : Course) → AllSound (news_left h)
   left-sound h = go (is_empty h.held.new) where
-    go : (b : Bool) → AllSound (if b then [] else dropped h.held.new ∷ [])
+    go : (b : Bool) → AllSound (if b then [] else parts_dropped h.held.new ∷ [])
     go true = tt
     go false = (tt, tt)
 
@@ -272,9 +274,10 @@ pub given_good : (t : Transaction) (any : Bool) (bs : List (List ℕ)) (m : List
     → messages_in (news t any bs) ≡ front ++ m ∷ back
     → IsGood t any bs m
 given_good t any bs m front back messages splits is =
-    let every = append-sound t any bs (news_from t any nothing bs) (left (held t any bs))
+    let every =
+    append-sound t any bs (news_from t any nothing bs) (news_left (course_held t any bs))
     (news-sound t any bs nothing bs ((tt, from_none t bs), from_none t bs) (are_in t bs))
-    (left-sound t any bs (held t any bs)) in
+    (left-sound t any bs (course_held t any bs)) in
     let sound = sound-there t any bs front back m
     (subst (AllSoundMessages t any bs) is (messages-sound t any bs (news t any bs) every)) in
     let there = whole_there t bs m messages splits sound.0 in

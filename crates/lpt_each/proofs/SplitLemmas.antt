@@ -13,10 +13,10 @@ use Rattle.lpt_reception.specs.Received.{Kept, is_last}
 use Rattle.lpt_reception.proofs.MessageLemmas.{last_number}
 use Rattle.lpt_join.specs.declared.transaction.Transaction.{Transaction}
 use Rattle.lpt_join.specs.Laws.{Carries, HasNumber, IsSending, came, is_end, is_part}
-use Rattle.lpt_join.specs.Offers.{offered}
+use Rattle.lpt_join.specs.Offers.{part_offered}
 use Rattle.lpt_join.proofs.RoundLemmas.{among, made, made_all}
 use Rattle.lpt_join.proofs.SentLemmas.{all_belong, carries, has_come}
-use Rattle.lpt_each.specs.Eaches.{Course, held_from, left, listed, news, news_from, nothing, step_of}
+use Rattle.lpt_each.specs.Eaches.{Course, held_from, news_left, news_listed, news, news_from, nothing, step_of}
 use Rattle.lpt_each.specs.Laws.{AllSplitWhole, FirstBeforeLast, IsSentBy, IsSplitWhole, OneBefore, Sends, Split, carriers, packets_of}
 use Rattle.lpt_each.specs.News.{News, Given}
 use Rattle.lpt_each.proofs.SendLemmas.{sent_given}
@@ -55,7 +55,7 @@ module _ (t : Transaction) (c : Config) (m : List ℕ) (sending : IsSending t c 
   carried-part : (count n : ℕ)
       → count ≤ 16383
       → IsNumber (part_count (length m) t.part_size) n
-      → offered t (packet count n) ≡ Some (n, kept_of m t.part_size n)
+      → part_offered t (packet count n) ≡ Some (n, kept_of m t.part_size n)
   carried-part count n k h = carries t c m sending n (packet count n)
       (made t c m sending n count h k)
 
@@ -153,9 +153,9 @@ module _ (t : Transaction) (any : Bool) where
       × (news_from t any h bs ≡ news_from t any h (carriers t bs))
   carriers-alike h [] = (refl, refl)
   carriers-alike h (b ∷ bs) =
-      go (offered t b) refl (λ k. carriers-alike k bs) where
+      go (part_offered t b) refl (λ k. carriers-alike k bs) where
         go : (o : Option (ℕ × Kept))
-            → offered t b ≡ o
+            → part_offered t b ≡ o
             → ((k : Course) → (held_from t any k bs ≡ held_from t any k (carriers t bs))
             × (news_from t any k bs ≡ news_from t any k (carriers t bs)))
             → (held_from t any h (b ∷ bs) ≡ held_from t any h (carriers t (b ∷ bs)))
@@ -166,7 +166,7 @@ module _ (t : Transaction) (any : Bool) where
             in (
               ap (λ (o : Option (ℕ × Kept)). held_from t any (step_of t any h o).0 bs) e
                   ∙ (rest h).0 ∙ ap (held_from t any h) (sym out),
-              ap (λ (o : Option (ℕ × Kept)). listed (step_of t any h o).1 ++ news_from t any
+              ap (λ (o : Option (ℕ × Kept)). news_listed (step_of t any h o).1 ++ news_from t any
                   (step_of t any h o).0 bs) e
                   ∙ (rest h).1 ∙ ap (news_from t any h) (sym out),
             )
@@ -174,16 +174,17 @@ module _ (t : Transaction) (any : Bool) where
             let kept : carriers t (b ∷ bs) ≡ b ∷ carriers t bs =
             ap (λ (o : Option (ℕ × Kept)). cond (is_some o) (b ∷ carriers t bs) (carriers t bs)) e
             in
-            let k = (step_of t any h (offered t b)).0 in (
+            let k = (step_of t any h (part_offered t b)).0 in (
               (rest k).0 ∙ ap (held_from t any h) (sym kept),
-              ap (λ (ws : List News). listed (step_of t any h (offered t b)).1 ++ ws) (rest k).1
+              ap (λ (ws : List News). news_listed (step_of t any h (part_offered t b)).1 ++ ws)
+                  (rest k).1
                   ∙ ap (news_from t any h) (sym kept),
             )
 
   carriers_tell : (bs : List (List ℕ)) → news t any bs ≡ news t any (carriers t bs)
   carriers_tell bs =
       let alike = carriers-alike nothing bs in
-      λ i. alike.1 i ++ left (alike.0 i)
+      λ i. alike.1 i ++ news_left (alike.0 i)
 
 given_map : (ss : List Split) → map Given (map (λ s. s.message) ss) ≡ map (λ s. Given s.message) ss
 given_map [] = refl

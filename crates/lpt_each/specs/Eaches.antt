@@ -9,10 +9,10 @@ use Rattle.lpt_reception.specs.PartsOf.{kept_of}
 use Rattle.lpt_reception.specs.Received.{Kept, Parts, is_last, no_parts, with_part}
 use Rattle.lpt_join.specs.declared.messages.Misfit.{Misfit}
 use Rattle.lpt_join.specs.declared.transaction.Transaction.{Transaction}
-use Rattle.lpt_join.specs.Joins.{Joined, Missing, Complete, Broken, added, join_part}
+use Rattle.lpt_join.specs.Joins.{Joined, Missing, Complete, Broken, part_added, join_part}
 use Rattle.lpt_join.specs.Messages.{is_part_of, misfit}
-use Rattle.lpt_join.specs.Offers.{offered}
-use Rattle.lpt_each.specs.News.{News, Given, Dropped, Unfit, Overtaken, dropped, overtaken}
+use Rattle.lpt_join.specs.Offers.{part_offered}
+use Rattle.lpt_each.specs.News.{News, Given, Dropped, Unfit, Overtaken, parts_dropped, overtaken}
 
 -- ---- what is kept of a name
 
@@ -25,8 +25,8 @@ pub record Held : Type 0 where
 
 -- these parts came behind a message, and no others; where there is none, both would be the same,
 -- and one is enough
-abbrev pub begun : (last : Option (List ℕ)) → Parts → Held
-begun last s = record { last = last; all = option_map (λ _. s) last; new = s }
+abbrev pub held_begun : (last : Option (List ℕ)) → Parts → Held
+held_begun last s = record { last = last; all = option_map (λ _. s) last; new = s }
 
 -- ---- a further part
 
@@ -58,11 +58,11 @@ whole_turn again x m (Some e) = GivesUp (Unfit e) (seed again x)
 abbrev pub turn_by : Transaction → (any again : Bool) → Parts → ℕ × Kept → Joined → Turn
 turn_by t any again s x (Missing now) = Waits now
 turn_by t any again s x (Complete m) = whole_turn again x m (unfit t any m)
-turn_by t any again s x Broken = GivesUp (dropped s) (alone x)
+turn_by t any again s x Broken = GivesUp (parts_dropped s) (alone x)
 
 -- what a part makes of others
 unfoldable pub turn : Transaction → (any again : Bool) → Parts → ℕ × Kept → Turn
-turn t any again s x = turn_by t any again s x (added s x.0 x.1)
+turn t any again s x = turn_by t any again s x (part_added s x.0 x.1)
 
 -- whether it is a part of the last message
 abbrev pub is_old : Option (List ℕ) → (p : ℕ) → ℕ × Kept → Bool
@@ -79,8 +79,8 @@ abbrev pub all_turn : Transaction → (any again : Bool) → Held → ℕ × Kep
 all_turn t any again h x = option_map (λ s. turn t any again s x) h.all
 
 -- a message is given out, and its name is begun anew
-abbrev pub given : List ℕ → Held × Option News
-given m = (begun (Some m) no_parts, Some (Given m))
+abbrev pub message_given : List ℕ → Held × Option News
+message_given m = (held_begun (Some m) no_parts, Some (Given m))
 
 -- by all parts, where the new ones are these and not whole: where all would be given up, only the
 -- new ones are gone on with, in which nothing is lost
@@ -88,13 +88,13 @@ abbrev pub after_all : Held → Parts → Option Turn → Held × Option News
 after_all h new None = (record h { new = new }, None)
 after_all h new (Some (Waits s)) = (record { last = h.last; all = Some s; new = new }, None)
 after_all h new (Some (GivesUp w s)) = (record { last = h.last; all = None; new = new }, None)
-after_all h new (Some (Gives m)) = given m
+after_all h new (Some (Gives m)) = message_given m
 
 -- by the new parts first: where they are given up this is told, and all begin anew as they do
 abbrev pub after : Held → Turn → Option Turn → Held × Option News
 after h (Waits s) o = after_all h s o
-after h (GivesUp w s) o = (begun h.last s, Some w)
-after h (Gives m) o = given m
+after h (GivesUp w s) o = (held_begun h.last s, Some w)
+after h (Gives m) o = message_given m
 
 -- what is kept with a part more, and what is told
 unfoldable pub gather : Transaction → (any again : Bool) → Held → ℕ × Kept → Held × Option News
@@ -136,7 +136,7 @@ run_before r n = if n == 1 then no_run else r
 unfoldable pub run_turn : Run → ℕ × Kept → RunTurn
 run_turn r x =
     if nat_le x.0 ((run_before r x.0).count + 1)
-    then run_by (run_before r x.0).count x (added (run_before r x.0).parts x.0 x.1)
+    then run_by (run_before r x.0).count x (part_added (run_before r x.0).parts x.0 x.1)
     else Goes no_run
 
 -- ---- both
@@ -151,7 +151,7 @@ pub record Course : Type 0 where
 
 -- nothing came behind this message
 abbrev pub fresh : (last : Option (List ℕ)) → Course
-fresh last = record { held = begun last no_parts; run = no_run; stale = false; gave = false }
+fresh last = record { held = held_begun last no_parts; run = no_run; stale = false; gave = false }
 
 -- nothing came
 abbrev pub nothing : Course
@@ -259,27 +259,28 @@ step_of t any c (Some x) = step t any c x
 -- what is kept behind these packets
 abbrev pub held_from : Transaction → (any : Bool) → Course → List (List ℕ) → Course
 held_from t any c [] = c
-held_from t any c (b ∷ bs) = held_from t any (step_of t any c (offered t b)).0 bs
+held_from t any c (b ∷ bs) = held_from t any (step_of t any c (part_offered t b)).0 bs
 
 -- the news, as a list
-abbrev pub listed : Option News → List News
-listed None = []
-listed (Some w) = w ∷ []
+abbrev pub news_listed : Option News → List News
+news_listed None = []
+news_listed (Some w) = w ∷ []
 
 -- what is told as they come
 abbrev pub news_from : Transaction → (any : Bool) → Course → List (List ℕ) → List News
 news_from t any c [] = []
 news_from t any c (b ∷ bs) =
-    listed (step_of t any c (offered t b)).1 ++ news_from t any (step_of t any c (offered t b)).0 bs
+    news_listed (step_of t any c (part_offered t b)).1
+    ++ news_from t any (step_of t any c (part_offered t b)).0 bs
 
 -- what is kept behind packets
-abbrev pub held : Transaction → (any : Bool) → List (List ℕ) → Course
-held t any bs = held_from t any nothing bs
+abbrev pub course_held : Transaction → (any : Bool) → List (List ℕ) → Course
+course_held t any bs = held_from t any nothing bs
 
 -- what is told at the end: of new parts that are left
-abbrev pub left : Course → List News
-left c = if is_empty c.held.new then [] else dropped c.held.new ∷ []
+abbrev pub news_left : Course → List News
+news_left c = if is_empty c.held.new then [] else parts_dropped c.held.new ∷ []
 
 -- all that is told of the packets of a stream
 abbrev pub news : Transaction → (any : Bool) → List (List ℕ) → List News
-news t any bs = news_from t any nothing bs ++ left (held t any bs)
+news t any bs = news_from t any nothing bs ++ news_left (course_held t any bs)

@@ -8,8 +8,8 @@ use Rattle.lpt_part.specs.Splitting.{part_count}
 use Rattle.lpt_reception.specs.PartsOf.{IsMessage, kept_of}
 use Rattle.lpt_join.specs.declared.transaction.Transaction.{Transaction}
 use Rattle.lpt_join.specs.Laws.{AllBelong, AllCame, Carries, HasNumber, IsSending, IsThere, came, is_end}
-use Rattle.lpt_join.specs.Offers.{offered}
-use Rattle.lpt_join.specs.Several.{carried}
+use Rattle.lpt_join.specs.Offers.{part_offered}
+use Rattle.lpt_join.specs.Several.{is_carried}
 use Rattle.lpt_each.specs.Eaches.{unfit}
 use Rattle.lpt_each.specs.News.{Event, News}
 
@@ -17,7 +17,7 @@ use Rattle.lpt_each.specs.News.{Event, News}
 abbrev pub FirstBeforeLast : Transaction → List ℕ → List (List ℕ) → Type 0
 FirstBeforeLast t m [] = Unit {0}
 FirstBeforeLast t m (b ∷ bs) =
-    Carries t m 1 b ⊎ ((is_end (offered t b) ≡ false) × FirstBeforeLast t m bs)
+    Carries t m 1 b ⊎ ((is_end (part_offered t b) ≡ false) × FirstBeforeLast t m bs)
 
 -- each of these packets carries a part of the message, or no part of its name; each part of it is
 -- there, the last one not before the first, and it is whole with the last packet alone: it may be
@@ -38,7 +38,7 @@ pub record IsSentBy (t : Transaction) (any : Bool) (m : List ℕ) (bs : List (Li
 -- the packets are those of these messages, one behind the other, and behind them others that carry
 -- no part of their name
 abbrev pub Sends : Transaction → (any : Bool) → List (List ℕ) → List (List ℕ) → Type 0
-Sends t any [] bs = carried t bs ≡ false
+Sends t any [] bs = is_carried t bs ≡ false
 Sends t any (m ∷ ms) bs =
     (front : List (List ℕ)) × (rest : List (List ℕ))
     × (bs ≡ front ++ rest) × IsSentBy t any m front × Sends t any ms rest
@@ -90,14 +90,14 @@ AllSplitWhole t any c (s ∷ ss) = IsSplitWhole t any c s × AllSplitWhole t any
 
 -- the packets that carry a part of the name
 abbrev pub carriers : Transaction → List (List ℕ) → List (List ℕ)
-carriers t bs = filter (λ b. is_some (offered t b)) bs
+carriers t bs = filter (λ b. is_some (part_offered t b)) bs
 
 -- each of these packets carries no part of the name, or behind part `from` of the message the next
 -- one, or one of these again but the first; the last of them that comes anew is part `to`
 abbrev pub Runs : Transaction → List ℕ → (from to : ℕ) → List (List ℕ) → Type 0
 Runs t m from to [] = from ≡ to
 Runs t m from to (b ∷ bs) =
-    ((offered t b ≡ None) × Runs t m from to bs)
+    ((part_offered t b ≡ None) × Runs t m from to bs)
     ⊎ (((n : ℕ) × Carries t m n b × (2 ≤ n) × (n ≤ from) × Runs t m from to bs)
     ⊎ (Carries t m (from + 1) b × Runs t m (from + 1) to bs))
 

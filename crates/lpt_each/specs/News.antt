@@ -20,8 +20,8 @@ abbrev pub has_end : Parts → Bool
 has_end s = list_any (λ e. is_last e.1) (map.entries s)
 
 -- what is told of parts that are given up
-abbrev pub dropped : Parts → News
-dropped s = Dropped (λ n. is_some (map.get s n)) (has_end s)
+abbrev pub parts_dropped : Parts → News
+parts_dropped s = Dropped (λ n. is_some (map.get s n)) (has_end s)
 
 -- what is told of parts that are given up for a message
 abbrev pub overtaken : Parts → List ℕ → News

@@ -7,7 +7,7 @@ ghost use Rattle.lpt_events.specs.declared.config.Config.{Config};
 ghost use Rattle.lpt_packet.specs.Names.{Name};
 ghost use Rattle.lpt_join.specs.Several.{of_name};
 ghost use Rattle.lpt_join.specs.declared.transaction.Transaction.{Transaction};
-ghost use Rattle.lpt_each.specs.Eaches.{held, news, news_from, nothing};
+ghost use Rattle.lpt_each.specs.Eaches.{course_held, news, news_from, nothing};
 ghost use Rattle.lpt_each.specs.Laws.{AllSplitWhole, InOrder, IsGood, Sends, Split, carriers, news_of_name, packets_of};
 ghost use Rattle.lpt_each.specs.News.{News, Given, messages_in};
 ghost use Rattle.lpt_each.specs.Streams.{events};
@@ -56,7 +56,7 @@ pub fn in_order_is_given()
     ensures { (t : Transaction) (any : Bool) (before front behind : List (List ℕ)) (last m : List ℕ)
         → InOrder t any m front last
         → (earlier : List (List ℕ)) × (later : List (List ℕ)) × (after : List (List ℕ))
-        × (messages_in (news_from t any (held t any before) (front ++ last ∷ []))
+        × (messages_in (news_from t any (course_held t any before) (front ++ last ∷ []))
         ≡ earlier ++ m ∷ later)
         × (messages_in (news t any (before ++ (front ++ last ∷ []) ++ behind))
         ≡ messages_in (news_from t any nothing before) ++ (earlier ++ m ∷ later) ++ after) }

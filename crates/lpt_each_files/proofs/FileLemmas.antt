@@ -3,8 +3,8 @@ use Rattle.std.proofs.Common.{◌≡◌, ◌∙◌, ap, sym, refl, ℕ, Bool, tr
 use Rattle.std.specs.List.{flat_map}
 use Rattle.lpt_carried.specs.declared.name.Name.{Name}
 use Rattle.lpt_carried.specs.declared.reading.Reading.{Reading}
-use Rattle.lpt_layout_each.specs.Eaches.{Course, held, is_empty, left}
-use Rattle.lpt_layout_each.specs.News.{Event, dropped}
+use Rattle.lpt_layout_each.specs.Eaches.{Course, course_held, is_empty, news_left}
+use Rattle.lpt_layout_each.specs.News.{Event, parts_dropped}
 use Rattle.lpt_layout_each.specs.Streams.{Leaves, left_of, of}
 use Rattle.lpt_each_files.specs.Files.{NewFile, count_for, files_at, files_from, files_of, path_of}
 
@@ -36,12 +36,12 @@ module _ (front : List ℕ) where
   -- ---- what is left at the end makes none
 
   none-by : (n : Name) (c : Course) (before : List Event) (b : Bool)
-      → files_from front before (of n (cond b [] (dropped c.held.new ∷ []))) ≡ []
+      → files_from front before (of n (cond b [] (parts_dropped c.held.new ∷ []))) ≡ []
   none-by n c before true = refl
   none-by n c before false = refl
 
   none-left : (n : Name) (c : Course) (before : List Event)
-      → files_from front before (of n (left c)) ≡ []
+      → files_from front before (of n (news_left c)) ≡ []
   none-left n c before = none-by n c before (is_empty c.held.new)
 
   none-all : (r : Reading) (any : Bool) (bs : List (List ℕ)) (names : List Name)
@@ -50,7 +50,7 @@ module _ (front : List ℕ) where
   none-all r any bs [] before = refl
   none-all r any bs (n ∷ names) before =
       files-append before (left_of r any bs n) (flat_map (left_of r any bs) names)
-      ∙ (λ i. none-left n (held r any n bs) before i
+      ∙ (λ i. none-left n (course_held r any n bs) before i
       ++ none-all r any bs names (before ++ left_of r any bs n) i)
 
   pub files-left : (r : Reading) (any : Bool) (bs : List (List ℕ)) (xs es : List Event)

@@ -8,7 +8,7 @@ use lpt_command_line::{AckFlags, GroundWords, Job};
 use lpt_events::Config;
 use lpt_ground::{MOST, Pass, Terms};
 use lpt_ground_run::{
-    Area, Asked, Heads, Place, PlanFault, Read, Uplink, check_each, dump_each, plan_loads,
+    Area, AreaPlace, Asked, Heads, PlanFault, Read, Uplink, check_each, dump_each, plan_loads,
     plan_reads,
 };
 use std::alloc::Global;
@@ -23,7 +23,7 @@ const COMPLETION: u8 = 8;
 
 /// What a request is.
 #[derive(Clone, Copy)]
-pub enum Kind {
+pub enum ErrandKind {
     /// A load.
     Load,
     /// A dump.
@@ -38,7 +38,7 @@ pub struct Places {
     /// The number of the area, from 0 on.
     pub area: usize,
     /// What each of the requests is.
-    pub kind: Kind,
+    pub kind: ErrandKind,
     /// The memory's identifier.
     pub memory: u8,
     /// The address of the first octet.
@@ -203,20 +203,20 @@ fn asked_of(
     places: &Places,
     areas: &[Area],
 ) -> Result<Vec<Asked>, PlanFault> {
-    let range = Place {
+    let range = AreaPlace {
         address: places.address,
         len: places.len,
     };
     let each = places.each.max(1);
     let memory = places.memory;
     match places.kind {
-        Kind::Load => {
+        ErrandKind::Load => {
             let areas = areas.get(places.area..).unwrap_or(&[]);
             let (areas, _) = areas.split_at(areas.len().min(1));
             plan_loads(alloc, heads, memory, areas, each)
         }
-        Kind::Dump => plan_reads(alloc, heads, Read::Dump, memory, &[range], each),
-        Kind::Check => plan_reads(alloc, heads, Read::Check, memory, &[range], each),
+        ErrandKind::Dump => plan_reads(alloc, heads, Read::Dump, memory, &[range], each),
+        ErrandKind::Check => plan_reads(alloc, heads, Read::Check, memory, &[range], each),
     }
 }
 
@@ -262,9 +262,9 @@ fn places_of(
         None => part,
     };
     let (kind, each, len) = match words.job {
-        Job::Load { .. } => (Kind::Load, loaded, of_content),
-        Job::Dump => (Kind::Dump, dump_each(part)?, piece.len),
-        Job::Check => (Kind::Check, check_each(part)?, of_content),
+        Job::Load { .. } => (ErrandKind::Load, loaded, of_content),
+        Job::Dump => (ErrandKind::Dump, dump_each(part)?, piece.len),
+        Job::Check => (ErrandKind::Check, check_each(part)?, of_content),
     };
     Ok(Places {
         area,
@@ -291,7 +291,7 @@ fn verified_places(
     for (one, piece) in places.iter().zip(pieces) {
         if verify || piece.verify {
             let dumped = Places {
-                kind: Kind::Dump,
+                kind: ErrandKind::Dump,
                 each: dump_each(part)?,
                 ..*one
             };

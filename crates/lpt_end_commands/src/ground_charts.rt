@@ -4,7 +4,7 @@ ghost use Rattle.std.specs.Prelude.{◌≤◌};
 
 use crate::ground_puts::Puts;
 use lpt_ground_chart::{Ending, Flown, FlownRequest, FlownRound, draw, draw_both};
-use lpt_ground_run::{Asked, Counts, Fate};
+use lpt_ground_run::{Asked, Fate, RunCounts};
 use lpt_io::{Failure, Fault, write_for_good};
 use std::alloc::{AllocError, Global};
 
@@ -42,14 +42,19 @@ impl Charts {
 
     /// Before a round, and at the end of a pass, so much was counted, and this became of its
     /// requests.
-    pub fn note(&mut self, counts: Counts, asked: &[Asked]) {
+    pub fn note(&mut self, counts: RunCounts, asked: &[Asked]) {
         if self.rounds.note(counts, asked).is_err() {
             self.short = true;
         }
     }
 
     /// A pass of this title has ended, in which this was put and counted.
-    pub fn end_pass(&mut self, title: Result<String, AllocError>, counts: Counts, puts: &mut Puts) {
+    pub fn end_pass(
+        &mut self,
+        title: Result<String, AllocError>,
+        counts: RunCounts,
+        puts: &mut Puts,
+    ) {
         let Rounds { begins, requests } = self.rounds.take(self.alloc);
         let (places, is_whole) = puts.take(self.alloc);
         let rounds = rounds_of(self.alloc, &begins, requests.len(), &places);
@@ -102,7 +107,7 @@ impl Rounds {
 
     // Before a round so much was counted, and this became of the requests: what is new was heard in
     // the round before. The only error is out of memory.
-    fn note(&mut self, counts: Counts, asked: &[Asked]) -> Result<(), AllocError> {
+    fn note(&mut self, counts: RunCounts, asked: &[Asked]) -> Result<(), AllocError> {
         if self.begins.last() != Some(&counts.up) {
             self.begins.push(counts.up)?;
         }

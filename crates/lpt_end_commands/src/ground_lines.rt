@@ -1,6 +1,6 @@
 //! The lines that tell what becomes of a pass, for a reader or as objects of JSON.
 
-use lpt_ground_run::Counts;
+use lpt_ground_run::RunCounts;
 use lpt_io::octets_word;
 use std::alloc::{AllocError, Global};
 
@@ -97,7 +97,7 @@ pub fn done_line(
     json: bool,
     noun: &str,
     many: usize,
-    counts: Counts,
+    counts: RunCounts,
     done: bool,
 ) -> Result<String, AllocError> {
     let (put, rounds, came) = (counts.up, counts.rounds, counts.down);

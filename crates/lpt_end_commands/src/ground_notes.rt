@@ -3,8 +3,8 @@
 use crate::ground_charts::Charts;
 use crate::ground_told::Teller;
 use lpt_ground::Pass;
-use lpt_ground_run::{Asked, Counts, Fate, Notes, digest_of, hear_kept, kept_packets};
-use lpt_io::{Failure, Fault, file_at, octets_from, opened, write_for_good};
+use lpt_ground_run::{Asked, Fate, Notes, RunCounts, digest_of, hear_kept, kept_packets};
+use lpt_io::{Failure, Fault, file_at, octets_from, open_input, write_for_good};
 use std::alloc::{AllocError, Global};
 use std::fs;
 use std::io::ErrorKind;
@@ -90,7 +90,7 @@ impl GroundNotes {
 }
 
 impl Notes for GroundNotes {
-    fn keep(&mut self, counts: Counts, asked: &[Asked]) -> bool {
+    fn keep(&mut self, counts: RunCounts, asked: &[Asked]) -> bool {
         if let Some(charts) = &mut self.charts {
             charts.note(counts, asked);
         }
@@ -142,7 +142,7 @@ fn job_at(
             return Ok((name, line));
         }
     }
-    let mut source = opened(rt, path)?;
+    let mut source = open_input(rt, path)?;
     let octets = octets_from(rt, path, &mut source);
     drop(source);
     let octets = octets?;
@@ -182,7 +182,7 @@ fn source_in(line: &str) -> Option<u16> {
 // The first line of the file of a job of this pass. The only error is out of memory.
 fn line_of(alloc: Global, title: &str, pass: &Pass) -> Result<String, AllocError> {
     let mut line = format!(in alloc; "{FRONT}{title} requests ")?;
-    for octet in digest_of(pass.asked()) {
+    for octet in digest_of(pass.requests_asked()) {
         line.write(format_args!("{octet:02x}"))?;
     }
     line.push_str("\n")?;

@@ -1,7 +1,7 @@
 //! A pass's own source.
 
 use crate::ground_notes::source_at;
-use crate::locking::locked;
+use crate::locking::lock_file;
 use lpt_command_line::{GroundWords, SourceWords};
 use lpt_io::{Failure, Fault, file_at, tell_text, write_for_good};
 use std::fs;
@@ -26,7 +26,7 @@ pub fn source_of(
             return Ok(Some(source));
         }
     }
-    let lock = locked(rt, process, path)?;
+    let lock = lock_file(rt, process, path)?;
     let taken = next_source(rt, path);
     drop(lock);
     taken

@@ -1,12 +1,12 @@
 //! What standard error is told of a pass: of its rounds, and at its end.
 
-use crate::errands::{Kind, Places};
+use crate::errands::{ErrandKind, Places};
 use crate::ground_lines::{
     Became, Stretch, became_line, done_line, halt_line, round_line, strays_line, unkept_line,
 };
 use lpt_command_line::{GroundWords, SourceWords};
 use lpt_ground::{Pass, checks_agree};
-use lpt_ground_run::{Asked, Counts, Halt, Outcome, Run, runs_of};
+use lpt_ground_run::{Asked, GroundRun, Halt, Outcome, RunCounts, runs_of};
 use lpt_io::{Voice, tell_text};
 use std::alloc::{AllocError, Global};
 
@@ -87,12 +87,12 @@ impl Teller {
         words: &GroundWords<'_>,
         places: &[Places],
         pass: &Pass,
-        counts: Counts,
+        counts: RunCounts,
     ) {
         if !self.json {
             self.voice.clear(rt);
         }
-        let mut rest = pass.asked();
+        let mut rest = pass.requests_asked();
         let mut open = false;
         for one in places {
             let (asked, behind) = one.split(rest);
@@ -108,7 +108,7 @@ impl Teller {
                 rt.alloc(),
                 self.json,
                 noun,
-                pass.asked().len(),
+                pass.requests_asked().len(),
                 counts,
                 !open,
             );
@@ -185,7 +185,7 @@ fn tell_line(rt: &impl Eprint, text: Result<String, AllocError>) {
 }
 
 // What became of requests, if they weren't completed.
-fn open_as(run: &Run) -> Option<Became> {
+fn open_as(run: &GroundRun) -> Option<Became> {
     match run.outcome {
         Outcome::Done => None,
         Outcome::Failed(code) => Some(Became::Failed(code)),
@@ -254,8 +254,8 @@ fn areas_title(alloc: Global, places: &[Places]) -> Result<String, AllocError> {
 // What the requests are called that are of these octets.
 fn noun_of(places: &[Places]) -> &'static str {
     match places.first().map(|one| one.kind) {
-        Some(Kind::Load) => "load",
-        Some(Kind::Dump) => "dump",
+        Some(ErrandKind::Load) => "load",
+        Some(ErrandKind::Dump) => "dump",
         _ => "check",
     }
 }

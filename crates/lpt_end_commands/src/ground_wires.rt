@@ -2,7 +2,7 @@
 
 use crate::ground_notes::GroundNotes;
 use lpt_ground_run::{HearFault, Hearing};
-use lpt_io::{Failure, Fault, STANDARD, Watched, opened};
+use lpt_io::{Failure, Fault, STANDARD, Watched, open_input};
 use lpt_text::{FromStd, Source, StreamFault, flush_out};
 use std::fs::{File, OpenOptions};
 use std::io::{self, Printer, Write};
@@ -29,7 +29,7 @@ pub fn hear<T: Threads + Wait + Clock + Copy + Drop + Send + 'static>(
     wait: u32,
     notes: GroundNotes,
 ) -> Result<Ears<T>, Failure> {
-    hear_source(rt, threads, opened(rt, STANDARD)?, resumes, wait, notes)
+    hear_source(rt, threads, open_input(rt, STANDARD)?, resumes, wait, notes)
 }
 
 /// The same of what comes from this source.

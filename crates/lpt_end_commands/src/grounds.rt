@@ -9,7 +9,7 @@ use crate::ground_puts::{Noted, Puts};
 use crate::ground_sources::source_of;
 use crate::ground_told::{Teller, chart_title, title_of};
 use crate::ground_wires::{Ears, Wire, close, fifo_wire, hear, output_wire};
-use crate::locking::locked;
+use crate::locking::lock_file;
 use crate::outputs::{check_chart, overwritten};
 use crate::pieces::{Piece, pieces_of};
 use crate::uplinks::LONGEST_LOAD;
@@ -83,7 +83,7 @@ pub(crate) fn job_lock(
 ) -> Result<Option<File>, Failure> {
     match words.kept {
         None => Ok(None),
-        Some(path) => Ok(Some(locked(rt, process, path)?)),
+        Some(path) => Ok(Some(lock_file(rt, process, path)?)),
     }
 }
 
@@ -247,7 +247,7 @@ fn carry_all<T: Wait + Clock + Drop, K: Sink + Drop>(
     errand: &mut Errand,
     out: &mut Noted<K>,
 ) -> Result<Status, Failure> {
-    out.puts.begin(errand.first.asked());
+    out.puts.begin(errand.first.requests_asked());
     let ended = match &mut errand.uplink {
         Some(uplink) => carry_uplink(rt.alloc(), uplink, &mut errand.first, ears, out),
         None => carry_pass(&mut errand.first, ears, out),
@@ -276,7 +276,7 @@ fn write_dumps(
     words: &GroundWords<'_>,
     errand: &Errand,
 ) -> Result<Status, Failure> {
-    let mut rest = errand.first.asked();
+    let mut rest = errand.first.requests_asked();
     for (places, area) in errand.places.iter().zip(&words.areas) {
         let (asked, behind) = places.split(rest);
         let Ok(octets) = dumped_octets(rt.alloc(), asked) else {
@@ -296,7 +296,7 @@ fn status_of(alike: bool) -> Status {
 // Compares what was checked: whether it is the content.
 fn compare_all(rt: &(impl Eprint + AllocGlobal), teller: Teller, errand: &Errand) -> bool {
     let mut alike = true;
-    let mut rest = errand.first.asked();
+    let mut rest = errand.first.requests_asked();
     for places in &errand.places {
         let (asked, behind) = places.split(rest);
         let content = errand.content(places.area);
@@ -318,7 +318,7 @@ fn verify_load<T: Wait + Clock + Drop, K: Sink + Drop>(
         return Ok(Status::Done);
     };
     ears.notes().keep_no_more();
-    out.puts.begin(second.asked());
+    out.puts.begin(second.requests_asked());
     let ended = carry_pass(second, ears, out);
     tell(rt, ears, words, places, second, &mut out.puts);
     if !is_done(rt, ears, ended)? {
@@ -337,7 +337,7 @@ fn compare_dumps(
         return Ok(Status::Done);
     };
     let mut alike = true;
-    let mut rest = second.asked();
+    let mut rest = second.requests_asked();
     for places in all {
         let (asked, behind) = places.split(rest);
         let Ok(octets) = dumped_octets(rt.alloc(), asked) else {

@@ -10,7 +10,7 @@ use std::io::{self, Write};
 /// last. Whatever ends a process, the system gives up its locks.
 ///
 /// Errors: `Write` if another process holds it, or it can't be had.
-pub fn locked(rt: &HostRuntime, process: u32, path: &str) -> Result<File, Failure> {
+pub fn lock_file(rt: &HostRuntime, process: u32, path: &str) -> Result<File, Failure> {
     let Ok(name) = format!(in rt.alloc(); "{path}.lock") else {
         return Err(Failure::from(Fault::Memory));
     };

@@ -2,7 +2,7 @@
 
 use crate::same_files::is_same;
 use lpt_command_line::SpacecraftWords;
-use lpt_io::{Failure, Fault, octets_from, opened};
+use lpt_io::{Failure, Fault, octets_from, open_input};
 use lpt_memory::{MEMORY_LIMIT, Memories, SIZE_LIMIT};
 use lpt_packet::Octets;
 use std::fs;
@@ -88,7 +88,7 @@ fn read_one(rt: &HostRuntime, file: &str) -> Result<Octets, Failure> {
             return Err(wrong_size(rt, file, known.len()));
         }
     }
-    let mut source = opened(rt, file)?;
+    let mut source = open_input(rt, file)?;
     let octets = octets_from(rt, file, &mut source);
     drop(source);
     let octets = octets?;

@@ -2,7 +2,7 @@
 
 ghost use Rattle.lpt_events.specs.Configs.{IsConfig};
 
-use crate::errands::{Errand, Kind, Places};
+use crate::errands::{Errand, ErrandKind, Places};
 use crate::ground_notes::GroundNotes;
 use crate::ground_told::Teller;
 use crate::ground_wires::hear_source;
@@ -138,12 +138,12 @@ where
 // The first area of which the job's file says that octets were loaded, and the spacecraft has
 // others there.
 fn lost_of(errand: &Errand, craft: &Begun) -> Option<Places> {
-    let mut rest = errand.first.asked();
+    let mut rest = errand.first.requests_asked();
     for places in &errand.places {
         let (asked, behind) = places.split(rest);
         let held = craft.content(places.memory).unwrap_or(&[]);
         let held = held.get(places.address as usize..).unwrap_or(&[]);
-        let is_load = matches!(places.kind, Kind::Load);
+        let is_load = matches!(places.kind, ErrandKind::Load);
         if is_load && !stands(places, asked, errand.content(places.area), held) {
             return Some(*places);
         }

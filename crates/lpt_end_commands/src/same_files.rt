@@ -12,15 +12,15 @@ pub fn is_same(rt: &HostRuntime, one: &str, other: &str) -> bool {
         return true;
     }
     match (file_of(rt, one), file_of(rt, other)) {
-        (Found::File(one), Found::File(other)) => one == other,
-        (Found::Nothing, Found::Nothing) => is_made_alike(rt, one, other),
+        (FoundFile::File(one), FoundFile::File(other)) => one == other,
+        (FoundFile::Nothing, FoundFile::Nothing) => is_made_alike(rt, one, other),
         _ => false,
     }
 }
 
 // What stands at a path.
 #[derive(Clone, Copy)]
-enum Found {
+enum FoundFile {
     // A file: its device, and its number there.
     File((u64, u64)),
     // Something else, or it isn't known.
@@ -28,11 +28,11 @@ enum Found {
     Nothing,
 }
 
-fn file_of(rt: &HostRuntime, path: &str) -> Found {
+fn file_of(rt: &HostRuntime, path: &str) -> FoundFile {
     match fs::metadata(rt, path) {
-        Ok(known) if known.is_file() => Found::File((known.dev(), known.ino())),
-        Ok(_) => Found::Other,
-        Err(_) => Found::Nothing,
+        Ok(known) if known.is_file() => FoundFile::File((known.dev(), known.ino())),
+        Ok(_) => FoundFile::Other,
+        Err(_) => FoundFile::Nothing,
     }
 }
 

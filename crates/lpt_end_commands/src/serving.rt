@@ -5,12 +5,12 @@ ghost use Rattle.lpt_events.specs.Configs.{IsConfig};
 ghost use Rattle.lpt_spacecraft.specs.Streams.{IsIdle};
 
 use crate::keeping::save_all;
-use crate::locking::locked;
+use crate::locking::lock_file;
 use crate::memories::memories_of;
 use crate::wires::{Wires, serve_kept};
 use lpt_command_line::{SettingWords, SpacecraftWords};
 use lpt_events::Config;
-use lpt_io::{Failure, Fault, Status, file_behind, octets_from, opened, settings_of, tell_end};
+use lpt_io::{Failure, Fault, Status, file_behind, octets_from, open_input, settings_of, tell_end};
 use lpt_memory::Memories;
 use lpt_spacecraft::Spacecraft;
 use std::alloc::{AllocError, Global};
@@ -177,7 +177,7 @@ fn locked_file(rt: &HostRuntime, process: u32, path: &str) -> Result<(String, Fi
             return Err(Failure::at(Fault::Read, place));
         }
     };
-    let lock = locked(rt, process, path.as_str())?;
+    let lock = lock_file(rt, process, path.as_str())?;
     Ok((path, lock))
 }
 
@@ -289,7 +289,7 @@ fn craft_at(rt: &HostRuntime, config: &Config, path: &str) -> Result<Spacecraft,
     requires { IsConfig config.now }
     ensures { IfOk result IsIdle }
 {
-    let mut source = opened(rt, path)?;
+    let mut source = open_input(rt, path)?;
     let octets = octets_from(rt, path, &mut source);
     drop(source);
     let octets = octets?;

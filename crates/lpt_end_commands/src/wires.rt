@@ -10,8 +10,8 @@ use crate::pipe::{PipeReader, PipeWriter};
 use crate::ticker::{Stopped, Ticker};
 use lpt_command_line::SpacecraftWords;
 use lpt_io::{
-    Failure, Fault, STANDARD, Status, Watched, finish, first_failure, opened, output, read_failure,
-    tell_place,
+    Failure, Fault, STANDARD, Status, Watched, finish, first_failure, open_input, output,
+    read_failure, tell_place,
 };
 use lpt_spacecraft::{Keeper, Pace, Spacecraft, Stop, serve_stream, serve_waiting};
 use lpt_text::{FromStd, StreamFault};
@@ -90,7 +90,7 @@ fn serve_input<H: Keeper>(
     requires idle { IsIdle craft.old }
     requires kept { IsKeptAs (H.kept keeper.old) craft.old }
 {
-    let mut source = opened(rt, STANDARD)?;
+    let mut source = open_input(rt, STANDARD)?;
     let mut out = output(rt)?;
     let pace = pace_of(words);
     let mut log = Log::new(rt, craft.source(), words.log);
@@ -129,7 +129,7 @@ where
     requires kept { IsKeptAs (H.kept keeper.old) craft.old }
 {
     let mut clock = Ticker::new(rt, words.tick)?;
-    let source = opened(rt, STANDARD)?;
+    let source = open_input(rt, STANDARD)?;
     let mut inbox = Inbox::begin(rt, threads, source, words.resync, clock)?;
     let mut out = output(rt)?;
     let pace = pace_of(words);

@@ -24,7 +24,7 @@ use Rattle.lpt_events.specs.Arrivals.{NotRead, Foreign, ARequest, NoPart, APart,
 use Rattle.lpt_events.specs.Configs.{IsConfig}
 use Rattle.lpt_events.specs.Counts.{AreCounts}
 use Rattle.lpt_events.specs.MadePackets.{command_made, telemetry_made, part_made}
-use Rattle.lpt_events.specs.NamedParts.{named}
+use Rattle.lpt_events.specs.NamedParts.{part_named}
 
 -- ---- subtypes
 
@@ -60,9 +60,9 @@ packet_arrives side p f r =
 body_arrives : (p source : ℕ) (q : Piece)
     → q.id < 65536
     → PartFits q.kind q.number (length q.octets) p
-    → part_arrival p source (body_of q) q.kind ≡ APart (named source q)
+    → part_arrival p source (body_of q) q.kind ≡ APart (part_named source q)
 body_arrives p source q i fits =
-    ap (λ r. option_map_or (λ x. APart (named source x)) (result_ok r) NoPart)
+    ap (λ r. option_map_or (λ x. APart (part_named source x)) (result_ok r) NoPart)
     (part_verdict-body_of p q i fits)
 
 -- a telecommand that fits arrives as it is read
@@ -138,7 +138,7 @@ pub part_arrives : (c : Config) (d : Direction) (peer count counter time : ℕ) 
     → peer < 65536
     → q.id < 65536
     → PartFits q.kind q.number (length q.octets) c.part_size
-    → arrival_in c d (part_made c d peer count counter time q) ≡ APart (named peer q)
+    → arrival_in c d (part_made c d peer count counter time q) ≡ APart (part_named peer q)
 part_arrives c Up peer count counter time q good counts from i fits =
     let t = command_made c peer count 0 13 (part_subtype Up q.kind) (body_of q) in
     command_arrives c.apid c.part_size t

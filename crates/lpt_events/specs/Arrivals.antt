@@ -5,7 +5,7 @@ use Rattle.std.specs.Result.{result_ok}
 use Rattle.lpt_packet.specs.declared.direction.Direction.{Direction}
 use Rattle.lpt_packet.specs.declared.direction.Direction.TheVariants.{Up, Down}
 use Rattle.lpt_packet.specs.Names.{Name, named_by}
-use Rattle.lpt_packet.specs.Packets.{Fields, Sight, IdlePacket, APacket, seen}
+use Rattle.lpt_packet.specs.Packets.{Fields, Sight, IdlePacket, APacket, packet_seen}
 use Rattle.lpt_pus.specs.Commands.{Command, tc_verdict}
 use Rattle.lpt_pus.specs.Telemetry.{Telemetry, tm_verdict}
 use Rattle.lpt_part.specs.declared.kind.Kind.{Kind}
@@ -16,7 +16,7 @@ use Rattle.lpt_part.specs.Parts.{part_in}
 use Rattle.lpt_events.specs.declared.side.Side.{Side}
 use Rattle.lpt_events.specs.declared.side.Side.TheVariants.{Ground, Craft}
 use Rattle.lpt_events.specs.declared.config.Config.{Config}
-use Rattle.lpt_events.specs.NamedParts.{NamedPart, named}
+use Rattle.lpt_events.specs.NamedParts.{NamedPart, part_named}
 use Rattle.lpt_events.specs.Sides.{receiver_side}
 
 -- Not read as a packet, or not as a telecommand at the spacecraft or telemetry on ground; idle; of
@@ -53,7 +53,7 @@ carried_kind d service subtype =
 -- what comes with a body that should be a part of this kind, from this source or to it
 abbrev pub part_arrival : (p source : ℕ) → List ℕ → Kind → Arrival
 part_arrival p source body kind =
-    option_map_or (λ q. APart (named source q)) (part_in p kind body) NoPart
+    option_map_or (λ q. APart (part_named source q)) (part_in p kind body) NoPart
 
 -- what comes with a body that should be an abortion report's, to this source
 abbrev pub abort_arrival : (source : ℕ) → List ℕ → Arrival
@@ -90,7 +90,7 @@ sight_arrival side apid p b (Some (APacket f)) =
 
 -- what the node on this side sees in octets that are delivered to it
 unfoldable pub arrival : Side → (apid p : ℕ) → List ℕ → Arrival
-arrival side apid p b = sight_arrival side apid p b (seen b)
+arrival side apid p b = sight_arrival side apid p b (packet_seen b)
 
 -- the transaction that it is a part of, where it is a part
 abbrev pub part_name : Arrival → Option Name

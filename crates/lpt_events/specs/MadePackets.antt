@@ -12,7 +12,7 @@ use Rattle.lpt_part.specs.Parts.{Piece, body_of}
 pub use Rattle.lpt_part.specs.Parts.{nth_part}
 use Rattle.lpt_events.specs.declared.config.Config.{Config}
 use Rattle.lpt_events.specs.Arrivals.{part_subtype}
-use Rattle.lpt_events.specs.NamedParts.{NamedPart, named}
+use Rattle.lpt_events.specs.NamedParts.{NamedPart, part_named}
 
 -- what ground's telecommand of this source and count says
 abbrev pub command_made : Config → (peer count flags service subtype : ℕ) → List ℕ → Command
@@ -55,7 +55,7 @@ tm_made c peer count counter time service subtype body =
 
 -- part k of a message, under its name
 abbrev pub nth_named : (p : ℕ) → Name → List ℕ → ℕ → NamedPart
-nth_named p name m k = named name.source (nth_part p name.id m k)
+nth_named p name m k = part_named name.source (nth_part p name.id m k)
 
 -- the octets of a part's packet, of this source or to it; a telecommand has neither counter nor time
 abbrev pub part_made : Config → Direction → (peer count counter time : ℕ) → Piece → List ℕ

@@ -12,8 +12,8 @@ pub record NamedPart : Type 0 where
   pub octets : List ℕ
 
 -- a part that comes from this source, or goes to it
-abbrev pub named : (source : ℕ) → Piece → NamedPart
-named source q = record {
+abbrev pub part_named : (source : ℕ) → Piece → NamedPart
+part_named source q = record {
   name = named_by source q.id;
   number = q.number;
   kind = q.kind;

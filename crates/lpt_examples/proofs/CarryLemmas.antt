@@ -13,13 +13,13 @@ use Rattle.lpt_events.specs.declared.outcome.Outcome.{Outcome}
 use Rattle.lpt_events.specs.declared.outcome.Outcome.TheVariants as outcome
 use Rattle.lpt_events.specs.declared.side.Side.TheVariants.{Ground, Craft}
 use Rattle.lpt_node.specs.declared.accepted.Accepted.{Accepted}
-use Rattle.lpt_node.specs.Accepting.{accepted}
+use Rattle.lpt_node.specs.Accepting.{packet_accepted}
 use Rattle.lpt_node.specs.Nodes.{NodeData, NodeView, new_node}
 use Rattle.lpt_node.specs.ParsedViews.{arrival_at}
-use Rattle.lpt_node.specs.Sending.{refusal_open, opened, refusal_send, sent}
+use Rattle.lpt_node.specs.Sending.{refusal_open, message_opened, refusal_send, part_sent}
 use Rattle.lpt_model.specs.State.{as_list, released_of}
 use Rattle.lpt_apart.specs.Ends.{Ends, put_out}
-use Rattle.lpt_apart.specs.Facts.{AllDue, Log, awaited, with_abortion}
+use Rattle.lpt_apart.specs.Facts.{AllDue, Log, message_awaited, with_abortion}
 use Rattle.lpt_apart.specs.Moves.{Do, came_to}
 use Rattle.lpt_apart.specs.Steps.{Open, Send, Accept, IsOnTheWay, accepted_on, with_release}
 use Rattle.lpt_apart.proofs.Moving.{ends_apart_keep_the_promise}
@@ -121,7 +121,7 @@ pub opens : (name : Name) (m : List ℕ) (g new k : NodeView) (w : List ℕ → 
     → Stands g k w
     → IsEvent (event.Open Up name m)
     → refusal_open g.config g.at name (length m) ≡ None
-    → new.at ≡ opened g.at name m
+    → new.at ≡ message_opened g.at name m
     → new.side ≡ g.side
     → new.config ≡ g.config
     → Carries name m new k w
@@ -137,7 +137,7 @@ opens name m g new k w s vow none at side config = record {
     );
     ground_side = side ∙ s.ground_side;
     ground_config = config ∙ s.ground_config;
-    ground_at = at ∙ ap (λ (n : NodeData). opened n name m) s.ground_at;
+    ground_at = at ∙ ap (λ (n : NodeData). message_opened n name m) s.ground_at;
     craft_side = s.craft_side;
     craft_config = s.craft_config;
     craft_at = s.craft_at;
@@ -145,7 +145,7 @@ opens name m g new k w s vow none at side config = record {
   };
   awaits =
       ap (λ (t : Bool).
-      if t then Some m else awaited (came_to s.config s.first s.moves).ends.log Up name)
+      if t then Some m else message_awaited (came_to s.config s.first s.moves).ends.log Up name)
       (names.same_name-refl name);
 } where
   same_way : {b : List ℕ} → IsOnTheWay (came_to s.config s.first s.moves).ends Up b
@@ -166,7 +166,7 @@ pub sends : (name : Name) (m : List ℕ) (n : ℕ) (g new k : NodeView) (o : Lis
     → IsName name
     → n < 65536
     → refusal_send g.config g.at name n ≡ None
-    → (new.at, o) ≡ sent g.side g.config g.at name n
+    → (new.at, o) ≡ part_sent g.side g.config g.at name n
     → new.side ≡ g.side
     → new.config ≡ g.config
     → ((b : List ℕ) → v b → (b ≡ o) ⊎ w b)
@@ -194,8 +194,9 @@ sends name m n g new k o w v carries named fits none is side config more = recor
   s : Stands g k w
   s = carries.stands
 
-  made : (new.at, o) ≡ sent Ground s.config (came_to s.config s.first s.moves).ends.on_ground name n
-  made = is ∙ (λ i. sent (s.ground_side i) (s.ground_config i) (s.ground_at i) name n)
+  made : (new.at, o) ≡ part_sent Ground s.config (came_to s.config s.first s.moves).ends.on_ground
+      name n
+  made = is ∙ (λ i. part_sent (s.ground_side i) (s.ground_config i) (s.ground_at i) name n)
 
   way : (b : List ℕ) → (b ≡ o) ⊎ w b
       → IsOnTheWay (came_to s.config s.first (Do (Send Up name n) ∷ s.moves)).ends Up b
@@ -205,7 +206,7 @@ sends name m n g new k o w v carries named fits none is side config more = recor
       direction = Up;
       part_of = Some name;
       octets =
-          (sent Ground s.config (came_to s.config s.first s.moves).ends.on_ground name n).1;
+          (part_sent Ground s.config (came_to s.config s.first s.moves).ends.on_ground name n).1;
     };
     there = refl;
     goes = refl;
@@ -257,17 +258,17 @@ told log o released = with_abortion Up o (with_release log (released_of Up o) re
 
 -- a message is awaited still where its reception was neither ended nor broken off
 still : (name : Name) (m : List ℕ) (log : Log) (o : Outcome) (released : Option (List ℕ))
-    → awaited log Up name ≡ Some m
+    → message_awaited log Up name ≡ Some m
     → is_whole name o ≡ false
     → is_broken name o ≡ false
-    → awaited (told log o released) Up name ≡ Some m
+    → message_awaited (told log o released) Up name ≡ Some m
 still name m log (outcome.Released n len) None awaits whole broken = awaits
 still name m log (outcome.Released n len) (Some x) awaits whole broken =
-    ap (λ (t : Bool). if t then None else awaited log Up name) whole ∙ awaits
+    ap (λ (t : Bool). if t then None else message_awaited log Up name) whole ∙ awaits
 still name m log (outcome.Broken n reason) None awaits whole broken =
-    ap (λ (t : Bool). if t then None else awaited log Up name) broken ∙ awaits
+    ap (λ (t : Bool). if t then None else message_awaited log Up name) broken ∙ awaits
 still name m log (outcome.Broken n reason) (Some x) awaits whole broken =
-    ap (λ (t : Bool). if t then None else awaited log Up name) broken ∙ awaits
+    ap (λ (t : Bool). if t then None else message_awaited log Up name) broken ∙ awaits
 still name m log (outcome.Kept n k) None awaits whole broken = awaits
 still name m log (outcome.Kept n k) (Some x) awaits whole broken = awaits
 still name m log (outcome.Again n k) None awaits whole broken = awaits
@@ -283,15 +284,16 @@ still name m log (outcome.Ignored w) (Some x) awaits whole broken = awaits
 
 -- what was released of a name is what was awaited of it
 is_it : (name : Name) (m x : List ℕ) (log : Log) (o : Outcome) (released : Option (List ℕ))
-    → awaited log Up name ≡ Some m
+    → message_awaited log Up name ≡ Some m
     → AllDue (told log o released)
     → is_whole name o ≡ true
     → released ≡ Some x
     → x ≡ m
 is_it name m x log (outcome.Released n len) None awaits due whole is = absurd cc
 is_it name m x log (outcome.Released n len) (Some y) awaits due whole is =
-    let same : awaited log Up name ≡ Some y =
-    subst (λ (q : Name). awaited log Up q ≡ Some y) (names.same_name-true n name whole) due.1 in
+    let same : message_awaited log Up name ≡ Some y =
+    subst (λ (q : Name). message_awaited log Up q ≡ Some y) (names.same_name-true n name whole)
+    due.1 in
     cc
 is_it name m x log (outcome.Broken n reason) r awaits due whole is = absurd cc
 is_it name m x log (outcome.Kept n k) r awaits due whole is = absurd cc
@@ -310,7 +312,7 @@ only_it (Some x) m is = is x refl
 
 -- what was released was released by the node that took this packet
 pub by_node : (name : Name) (k new : NodeView) (b : List ℕ) (r : Accepted)
-    → (new.at, r) ≡ accepted k.side k.config k.at (arrival_at k b)
+    → (new.at, r) ≡ packet_accepted k.side k.config k.at (arrival_at k b)
     → is_whole name r.outcome ≡ true
     → IfSome r.released (λ m. HasReleased name m new)
 by_node name k new b r took whole = of r.released refl where
@@ -343,12 +345,12 @@ module _ (name : Name) (m : List ℕ) (g k new : NodeView) (b : List ℕ) (r : A
   e = (came_to s.config s.first s.moves).ends
 
   abbrev x : NodeData × Accepted
-  x = accepted Craft s.config e.on_craft (arrival_in s.config Up b)
+  x = packet_accepted Craft s.config e.on_craft (arrival_in s.config Up b)
 
-  taken : (new.at, r) ≡ accepted k.side k.config k.at (arrival_at k b) → (new.at, r) ≡ x
+  taken : (new.at, r) ≡ packet_accepted k.side k.config k.at (arrival_at k b) → (new.at, r) ≡ x
   taken is =
       is
-      ∙ (λ i. accepted (s.craft_side i) (s.craft_config i) (s.craft_at i)
+      ∙ (λ i. packet_accepted (s.craft_side i) (s.craft_config i) (s.craft_at i)
       (arrival (s.craft_side i) (s.craft_config i).apid (s.craft_config i).part_size b))
 
   accepts : w b
@@ -373,7 +375,7 @@ module _ (name : Name) (m : List ℕ) (g k new : NodeView) (b : List ℕ) (r : A
   }
 
   pub takes : w b
-      → (new.at, r) ≡ accepted k.side k.config k.at (arrival_at k b)
+      → (new.at, r) ≡ packet_accepted k.side k.config k.at (arrival_at k b)
       → new.side ≡ k.side
       → new.config ≡ k.config
       → ((o : List ℕ) → v o → w o)
@@ -386,7 +388,8 @@ module _ (name : Name) (m : List ℕ) (g k new : NodeView) (b : List ℕ) (r : A
     going = λ whole broken. record {
       stands = accepts may made side config rest;
       awaits =
-          subst (λ (a : Accepted). awaited (told e.log a.outcome a.released) Up name ≡ Some m)
+          subst (λ (a : Accepted). message_awaited (told e.log a.outcome a.released) Up name
+          ≡ Some m)
           (ap (λ (y : NodeData × Accepted). y.1) made)
           (still name m e.log r.outcome r.released carries.awaits whole broken);
     };

@@ -8,11 +8,11 @@ use Rattle.lpt_events.specs.declared.outcome.Outcome.{Outcome}
 use Rattle.lpt_events.specs.declared.outcome.Outcome.TheVariants.{Released, Broken}
 use Rattle.lpt_events.specs.declared.side.Side.TheVariants.{Ground, Craft}
 use Rattle.lpt_memory.specs.Memories.{Contents}
-use Rattle.lpt_node.specs.Accepting.{accepted}
+use Rattle.lpt_node.specs.Accepting.{packet_accepted}
 use Rattle.lpt_node.specs.declared.accepted.Accepted.{Accepted}
 use Rattle.lpt_node.specs.Nodes.{NodeView}
 use Rattle.lpt_node.specs.ParsedViews.{arrival_at}
-use Rattle.lpt_apart.specs.Facts.{awaited}
+use Rattle.lpt_apart.specs.Facts.{message_awaited}
 use Rattle.lpt_apart.specs.Moves.{Move, came_to, CanMoveAll}
 use Rattle.lpt_apart.specs.Steps.{IsOnTheWay}
 
@@ -36,7 +36,7 @@ pub record Stands (g k : NodeView) (may_come : List ℕ → Type 0) : Type 0 whe
 pub record Carries (name : Name) (message : List ℕ) (g k : NodeView)
     (may_come : List ℕ → Type 0) : Type 0 where
   pub stands : Stands g k may_come
-  pub awaits : awaited (came_to stands.config stands.first stands.moves).ends.log Up name
+  pub awaits : message_awaited (came_to stands.config stands.first stands.moves).ends.log Up name
       ≡ Some message
 
 -- whether an outcome says that the message of a name was released
@@ -54,6 +54,7 @@ pub record HasReleased (name : Name) (message : List ℕ) (k : NodeView) : Type 
   pub before : NodeView
   pub packet : List ℕ
   pub answer : Accepted
-  pub took : (k.at, answer) ≡ accepted before.side before.config before.at (arrival_at before packet)
+  pub took : (k.at, answer) ≡ packet_accepted before.side before.config before.at
+      (arrival_at before packet)
   pub of_name : is_whole name answer.outcome ≡ true
   pub released : answer.released ≡ Some message

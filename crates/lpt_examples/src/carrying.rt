@@ -6,9 +6,9 @@ ghost use Rattle.lpt_packet.specs.declared.direction.Direction.TheVariants.{Up};
 ghost use Rattle.lpt_events.specs.Configs.{IsConfig};
 ghost use Rattle.lpt_events.specs.Events.{IsEvent};
 ghost use Rattle.lpt_events.specs.declared.event.Event.TheVariants.{Open};
-ghost use Rattle.lpt_node.specs.Accepting.{accepted};
+ghost use Rattle.lpt_node.specs.Accepting.{packet_accepted};
 ghost use Rattle.lpt_node.specs.ParsedViews.{arrival_at};
-ghost use Rattle.lpt_node.specs.Sending.{opened, refusal_open};
+ghost use Rattle.lpt_node.specs.Sending.{message_opened, refusal_open};
 ghost use Rattle.lpt_examples.specs.Carrying.{HasReleased, Stands, is_broken, is_whole};
 
 use lpt_events::{Config, Outcome, Side};
@@ -104,7 +104,7 @@ fn begin(ground: &mut Node, name: Name, message: Octets) -> Result<(), NodeFault
     ensures range { IsEvent (Open Up name message) }
     ensures enabled { OnOk result
         (refusal_open ground.old.config ground.old.at name (length message) ≡ None) }
-    ensures ok { OnOk result (ground.new.at ≡ opened ground.old.at name message) }
+    ensures ok { OnOk result (ground.new.at ≡ message_opened ground.old.at name message) }
     ensures side { ground.new.side ≡ ground.old.side }
     ensures config { ground.new.config ≡ ground.old.config }
     ensures err { OnErr result (ground.new.at ≡ ground.old.at) }
@@ -122,7 +122,8 @@ fn begin(ground: &mut Node, name: Name, message: Octets) -> Result<(), NodeFault
 // more; nothing has changed then.
 fn take(craft: &mut Node, packet: &Octets) -> Result<Accepted, NodeFault>
     ensures ok { IfOk result (λ r. (craft.new.at, r)
-        ≡ accepted craft.old.side craft.old.config craft.old.at (arrival_at craft.old packet.now)) }
+        ≡ packet_accepted craft.old.side craft.old.config craft.old.at
+        (arrival_at craft.old packet.now)) }
     ensures side { craft.new.side ≡ craft.old.side }
     ensures config { craft.new.config ≡ craft.old.config }
     ensures err { OnErr result (craft.new.at ≡ craft.old.at) }

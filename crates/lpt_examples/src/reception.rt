@@ -1,7 +1,7 @@
 //! Calling `lpt_reception`: what becomes of a reception when a part comes.
 
 ghost use Rattle.std.specs.Prelude.{◌≡◌};
-ghost use Rattle.lpt_reception.specs.Steps.{kept};
+ghost use Rattle.lpt_reception.specs.Steps.{part_kept};
 ghost use Rattle.lpt_examples.specs.Hearing.{Hears};
 
 use lpt_packet::Octets;
@@ -27,7 +27,7 @@ pub enum Heard {
 pub fn hear(filling: Filling, part: &Part<'_>) -> Heard
     requires id { part.now.id ≡ filling.id }
     requires p { part.now.p ≡ filling.p }
-    ensures { Hears filling part.now.number (kept part.now) result }
+    ensures { Hears filling part.now.number (part_kept part.now) result }
 {
     match filling.accept(part) {
         Step::Filling(filling) => Heard::Kept(filling),

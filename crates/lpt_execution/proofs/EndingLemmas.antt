@@ -12,13 +12,13 @@ use Rattle.lpt_pus.specs.Commands.{Command, command_in}
 use Rattle.lpt_pus.specs.Numbers.{long_at}
 use Rattle.lpt_memory.specs.Meanings.{Meaning, Silent, Fault, Load, Dump, Check, command_meaning, meaning}
 use Rattle.lpt_memory.specs.Memories.{Contents}
-use Rattle.lpt_memory.specs.Readings.{Source, meant}
+use Rattle.lpt_memory.specs.Readings.{Source, source_meaning}
 use Rattle.lpt_verify.specs.Reports.{reports_before, reports_after}
 use Rattle.lpt_execution.specs.declared.ending.Ending.{Ending}
 use Rattle.lpt_execution.specs.declared.ending.Ending.TheVariants.{Silent as EndsSilent, Refused, Carried}
 use Rattle.lpt_execution.specs.declared.ending.Report.{Report}
 use Rattle.lpt_execution.specs.Reporting.{message_reports, reports_of, verification}
-use Rattle.lpt_execution.specs.Endings.{ending, has_data, replied, reply_fault, reply_refusal, reply_report}
+use Rattle.lpt_execution.specs.Endings.{ending, has_data, reply_ending, reply_fault, reply_refusal, reply_report}
 
 module _ (p : ℕ) (free room : Bool) where
   -- a reply of this length is refused as one of its length is
@@ -48,7 +48,7 @@ module _ (p : ℕ) (free room : Bool) where
   ending-refused effect.Silent code is = absurd cc
   ending-refused (effect.Code c) code is = absurd cc
   ending-refused effect.Done code is = absurd cc
-  ending-refused (effect.Reply k body) code is = ap (λ o. replied o k body) is
+  ending-refused (effect.Reply k body) code is = ap (λ o. reply_ending o k body) is
 
   -- a reply that is sent is the report of data
   pub ending-sent : (k : ReplyKind) (body : List ℕ) (e : Effect)
@@ -56,7 +56,7 @@ module _ (p : ℕ) (free room : Bool) where
       → None ≡ reply_refusal p free room e
       → Carried (Some (record { kind = reply_report k; body = body })) ≡ ending p free room e
   ending-sent k body e is none =
-      ap (λ o. replied o k body) (none ∙ ap (reply_refusal p free room) (sym is))
+      ap (λ o. reply_ending o k body) (none ∙ ap (reply_refusal p free room) (sym is))
       ∙ ap (ending p free room) is
 
   -- what has a reply that is sent has a report of data
@@ -67,7 +67,8 @@ module _ (p : ℕ) (free room : Bool) where
   has_data-replied effect.Silent some none = absurd cc
   has_data-replied (effect.Code code) some none = absurd cc
   has_data-replied effect.Done some none = absurd cc
-  has_data-replied (effect.Reply k body) some none = ap (λ o. has_data (replied o k body)) (sym none)
+  has_data-replied (effect.Reply k body) some none =
+      ap (λ o. has_data (reply_ending o k body)) (sym none)
 
   -- the same, of what isn't without a reply
   pub has_data-sent : (m : Meaning) (ms : Contents)
@@ -116,8 +117,8 @@ data-reported request flags (Carried (Some r)) has =
 -- a message that has a report of data has a report
 reports-some : (p : ℕ) (free room : Bool) (answers : Meaning → Effect) (r : Source)
     → has_data (ending p free room (answers Silent)) ≡ false
-    → has_data (ending p free room (answers (meant r))) ≡ true
-    → message_reports r.apid r.message (ending p free room (answers (meant r))) ≢ []
+    → has_data (ending p free room (answers (source_meaning r))) ≡ true
+    → message_reports r.apid r.message (ending p free room (answers (source_meaning r))) ≢ []
 unfolding meaning
 reports-some p free room answers r silent has = go (command_in r.apid r.message) has where
   go : (o : Option Command)
@@ -132,12 +133,13 @@ reports-some p free room answers r silent has = go (command_in r.apid r.message)
 
 -- the same over memories
 pub data-made : (p : ℕ) (free room : Bool) (ms : Contents) (r : Source)
-    → has_data (ending p free room (answer (meant r) ms)) ≡ true
-    → message_reports r.apid r.message (ending p free room (answer (meant r) ms)) ≢ []
+    → has_data (ending p free room (answer (source_meaning r) ms)) ≡ true
+    → message_reports r.apid r.message (ending p free room (answer (source_meaning r) ms)) ≢ []
 data-made p free room ms r = reports-some p free room (λ m. answer m ms) r refl
 
 -- the same by the octets that are read
 pub data-given : (p : ℕ) (free room : Bool) (octets : List ℕ) (r : Source)
-    → has_data (ending p free room (answer_of (meant r) octets)) ≡ true
-    → message_reports r.apid r.message (ending p free room (answer_of (meant r) octets)) ≢ []
+    → has_data (ending p free room (answer_of (source_meaning r) octets)) ≡ true
+    → message_reports r.apid r.message (ending p free room (answer_of (source_meaning r) octets))
+    ≢ []
 data-given p free room octets r = reports-some p free room (λ m. answer_of m octets) r refl

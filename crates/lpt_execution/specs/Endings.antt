@@ -31,16 +31,17 @@ reply_report reply.Dump = kind.Dump
 reply_report reply.Check = kind.Check
 
 -- how a request with this reply ends, with this fault or none
-abbrev pub replied : Option FailureCode → ReplyKind → List ℕ → Ending
-replied (Some code) k body = Refused code
-replied None k body = Carried (Some (record { kind = reply_report k; body = body }))
+abbrev pub reply_ending : Option FailureCode → ReplyKind → List ℕ → Ending
+reply_ending (Some code) k body = Refused code
+reply_ending None k body = Carried (Some (record { kind = reply_report k; body = body }))
 
 -- how a request ends that comes to this; free and room say whether a reply could be opened
 abbrev pub ending : (p : ℕ) → (free room : Bool) → Effect → Ending
 ending p free room effect.Silent = Silent
 ending p free room (effect.Code code) = Refused code
 ending p free room effect.Done = Carried None
-ending p free room (effect.Reply k body) = replied (reply_fault p (length body) free room) k body
+ending p free room (effect.Reply k body) =
+    reply_ending (reply_fault p (length body) free room) k body
 
 -- why the reply that a request comes to isn't sent, where it comes to one
 abbrev pub reply_refusal : (p : ℕ) → (free room : Bool) → Effect → Option FailureCode

@@ -10,7 +10,7 @@ use lpt_packet::{Name, Octets};
 
 impl Ending {
     /// What an execution answers that ended so and opened no message.
-    pub fn applied(&self) -> Applied
+    pub fn answer_alone(&self) -> Applied
         ensures { result ≡ applied_of self.now None }
     {
         match self {

@@ -4,7 +4,7 @@ ghost use Rattle.std.specs.Prelude.{◌≡◌, ℕ, Bool, true, List, None, leng
 ghost use Rattle.lpt_memory.specs.Effects.{answer, AnswerFits};
 ghost use Rattle.lpt_memory.specs.Given.{answer_of, read_length};
 ghost use Rattle.lpt_memory.specs.Memories.{Contents, sizes_of};
-ghost use Rattle.lpt_memory.specs.Readings.{meant};
+ghost use Rattle.lpt_memory.specs.Readings.{source_meaning};
 ghost use Rattle.lpt_execution.specs.Endings.{ending, has_data, is_small, reply_fault, reply_refusal, reply_report};
 ghost use Rattle.lpt_execution.specs.Ranges.{EndingFits};
 
@@ -44,9 +44,9 @@ pub fn reply_fault(p: u32, length: usize, free: bool, room: bool) -> Option<Fail
 // Why the reply to a message isn't sent, where it has one.
 fn reply_refusal(p: u32, free: bool, room: bool, reading: &Reading) -> Option<FailureCode>
     ensures held { (ms : Contents) → reading.now.sizes ≡ sizes_of ms
-        → result ≡ reply_refusal p free room (answer (meant reading.now) ms) }
-    ensures given { (octets : List ℕ) → length octets ≡ read_length (meant reading.now)
-        → result ≡ reply_refusal p free room (answer_of (meant reading.now) octets) }
+        → result ≡ reply_refusal p free room (answer (source_meaning reading.now) ms) }
+    ensures given { (octets : List ℕ) → length octets ≡ read_length (source_meaning reading.now)
+        → result ≡ reply_refusal p free room (answer_of (source_meaning reading.now) octets) }
 {
     match reading.reply_len() {
         Some(length) => reply_fault(p, length, free, room),
@@ -67,17 +67,17 @@ pub fn ending_of(
 ) -> Result<Ending, AllocError>
     requires { reading.now.sizes ≡ sizes_of memories.now }
     ensures ending { IfOk result (λ e.
-        e ≡ ending p free room (answer (meant reading.now) memories.now)) }
+        e ≡ ending p free room (answer (source_meaning reading.now) memories.now)) }
     ensures fits { IfOk result EndingFits }
 
     // Memory runs out only where a reply is made.
     ensures memory { OnErr result
-        (has_data (ending p free room (answer (meant reading.now) memories.now)) ≡ true) }
+        (has_data (ending p free room (answer (source_meaning reading.now) memories.now)) ≡ true) }
 {
     if let Some(code) = reply_refusal(p, free, room, reading) {
         return Ok(Ending::Refused(code));
     }
-    Ok(ended(memories.answer(reading)?))
+    Ok(effect_ending(memories.answer(reading)?))
 }
 
 /// The same of memories that are elsewhere, by the octets that the request reads of them, one area
@@ -92,21 +92,21 @@ pub fn ending_given(
     octets: &[u8],
     reading: &Reading,
 ) -> Result<Ending, AllocError>
-    requires { length octets.now ≡ read_length (meant reading.now) }
+    requires { length octets.now ≡ read_length (source_meaning reading.now) }
     ensures ending { IfOk result (λ e.
-        e ≡ ending p free room (answer_of (meant reading.now) octets.now)) }
+        e ≡ ending p free room (answer_of (source_meaning reading.now) octets.now)) }
     ensures fits { IfOk result EndingFits }
     ensures memory { OnErr result
-        (has_data (ending p free room (answer_of (meant reading.now) octets.now)) ≡ true) }
+        (has_data (ending p free room (answer_of (source_meaning reading.now) octets.now)) ≡ true) }
 {
     if let Some(code) = reply_refusal(p, free, room, reading) {
         return Ok(Ending::Refused(code));
     }
-    Ok(ended(reading.answer_of(alloc, octets)?))
+    Ok(effect_ending(reading.answer_of(alloc, octets)?))
 }
 
 // How a request ends that comes to this, where its reply is sent.
-fn ended(effect: Effect) -> Ending
+fn effect_ending(effect: Effect) -> Ending
     ensures ending { (p : ℕ) (free room : Bool) → None ≡ reply_refusal p free room effect
         → result ≡ ending p free room effect }
     ensures fits { AnswerFits effect → EndingFits result }

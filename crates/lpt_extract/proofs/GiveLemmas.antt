@@ -21,13 +21,13 @@ use Rattle.lpt_extract.specs.declared.holding.Holding.{Holding}
 use Rattle.lpt_extract.specs.declared.notice.Notice.{Notice}
 use Rattle.lpt_extract.specs.declared.notice.Notice.TheVariants.{OtherMemory}
 use Rattle.lpt_extract.specs.declared.seen_area.SeenArea.{SeenArea}
-use Rattle.lpt_extract.specs.declared.wanted.Place.{Place}
+use Rattle.lpt_extract.specs.declared.wanted.ImagePlace.{ImagePlace}
 use Rattle.lpt_extract.specs.declared.wanted.Wanted.{Wanted}
 use Rattle.lpt_extract.specs.Areas.{all_octets, end_of, extent}
-use Rattle.lpt_extract.specs.Extracts.{is_of, start, whole_areas, written, written_first, areas_in, notices_at, notices_in, areas_of, notices_of, Ends, LeavesFront}
+use Rattle.lpt_extract.specs.Extracts.{is_of, start, whole_areas, areas_written, written_first, areas_in, notices_at, notices_in, areas_of, notices_of, Ends, LeavesFront}
 use Rattle.lpt_extract.specs.CoversInside.{gaps_of}
 use Rattle.lpt_extract.specs.Gaps.{is_given, AreGaps}
-use Rattle.lpt_extract.specs.ExtractsInside.{given, told_of, written_last, EndsBy, HasImage, Held}
+use Rattle.lpt_extract.specs.ExtractsInside.{areas_given, told_of, written_last, EndsBy, HasImage, HeldAreas}
 use Rattle.lpt_extract.specs.ImagesInside.{end_of_image, octets_of_image}
 use Rattle.lpt_extract.specs.Notices.{is_taken, notice, untaken, Hears}
 use Rattle.lpt_extract.proofs.ImageLemmas.{extent-more, image-none}
@@ -36,12 +36,13 @@ use Rattle.lpt_extract.specs.ReportsInside.{load_area}
 
 -- ---- more
 
-pub first-append : (at : Option Place) (xs ys : List Area)
+pub first-append : (at : Option ImagePlace) (xs ys : List Area)
     → written_first at (xs ++ ys) ≡ written_first at xs ++ written_first at ys
 first-append None xs ys = flat_map-append (λ (a : Area). a.octets) xs ys
 first-append (Some p) xs ys = refl
 
-pub given-append : (xs ys : List SeenArea) → given (xs ++ ys) ≡ given xs ++ given ys
+pub given-append : (xs ys : List SeenArea) → areas_given (xs ++ ys) ≡ areas_given xs
+    ++ areas_given ys
 given-append xs ys =
     ap whole_areas (map-append load_area xs ys)
     ∙ ap (map area) (filter-append is_taken (map load_area xs) (map load_area ys))
@@ -55,8 +56,9 @@ told-append m n xs ys =
 -- of the next area
 pub given-more : (xs : List SeenArea) (i : ℕ) (d : SeenArea)
     → i < length xs
-    → given (take (i + 1) xs) ≡ given (take i xs) ++ given (get_or xs i d ∷ [])
-given-more xs i d h = ap given (take_more xs i d h) ∙ given-append (take i xs) (get_or xs i d ∷ [])
+    → areas_given (take (i + 1) xs) ≡ areas_given (take i xs) ++ areas_given (get_or xs i d ∷ [])
+given-more xs i d h =
+    ap areas_given (take_more xs i d h) ∙ given-append (take i xs) (get_or xs i d ∷ [])
 
 pub told-more : (m n : ℕ) (xs : List SeenArea) (i : ℕ) (d : SeenArea)
     → i < length xs
@@ -65,10 +67,10 @@ told-more m n xs i d h =
     ap (told_of m n) (take_more xs i d h) ∙ told-append m n (take i xs) (get_or xs i d ∷ [])
 
 -- of one that isn't taken, and of one that is
-pub given-wrong : (s : SeenArea) → is_taken (load_area s) ≡ false → given (s ∷ []) ≡ []
+pub given-wrong : (s : SeenArea) → is_taken (load_area s) ≡ false → areas_given (s ∷ []) ≡ []
 given-wrong s h = rw h refl
 
-pub given-right : (s : SeenArea) → is_taken (load_area s) ≡ true → given (s ∷ [])
+pub given-right : (s : SeenArea) → is_taken (load_area s) ≡ true → areas_given (s ∷ [])
     ≡ area (load_area s) ∷ []
 given-right s h = rw h refl
 
@@ -78,17 +80,19 @@ pub told-wrong : (m n : ℕ) (s : SeenArea)
 told-wrong m n s h = rw h refl
 
 -- what a report of a memory that is wanted gives
-pub areas-said : (at : Option Place) (m : ℕ) (xs ys : List SeenArea) (r : Saying)
+pub areas-said : (at : Option ImagePlace) (m : ℕ) (xs ys : List SeenArea) (r : Saying)
     → Areas (record { memory = m; areas = map load_area xs }) ≡ r
     → is_of at m ≡ true
     → ys ≡ xs
-    → given ys ≡ areas_of at r
+    → areas_given ys ≡ areas_of at r
 areas-said at m xs ys r h mine same =
-    subst (λ s. given ys ≡ areas_of at s) h (rw mine (ap given same))
+    subst (λ s. areas_given ys ≡ areas_of at s) h (rw mine (ap areas_given same))
 
 -- of a front part, and the rest
-pub given-split : (n : ℕ) (xs : List SeenArea) → given (take n xs) ++ given (drop n xs) ≡ given xs
-given-split n xs = sym (given-append (take n xs) (drop n xs)) ∙ ap given (take-append-drop n xs)
+pub given-split : (n : ℕ) (xs : List SeenArea) → areas_given (take n xs) ++ areas_given (drop n xs)
+    ≡ areas_given xs
+given-split n xs =
+    sym (given-append (take n xs) (drop n xs)) ∙ ap areas_given (take-append-drop n xs)
 
 pub areas-append : (w : Wanted) (xs ys : List (List ℕ)) → areas_in w (xs ++ ys)
     ≡ areas_in w xs ++ areas_in w ys
@@ -111,7 +115,7 @@ notices-next w n (q ∷ ps) p =
 
 -- ---- nothing
 
-pub image-held-none : (at : Option Place) (i : Image)
+pub image-held-none : (at : Option ImagePlace) (i : Image)
     → end_of_image i ≡ 0
     → gaps_of i.cover ≡ []
     → octets_of_image i ≡ []
@@ -128,7 +132,7 @@ image-held-none (Some p) i end gaps octets = record {
 }
 
 -- an area more that isn't put into an image
-pub image-held-next : (at : Option Place) (before : List Area) (a : Area) (i j : Image)
+pub image-held-next : (at : Option ImagePlace) (before : List Area) (a : Area) (i j : Image)
     → at ≡ None
     → end_of_image j ≡ max (end_of_image i) (end_of a)
     → gaps_of j.cover ≡ gaps_of i.cover
@@ -139,58 +143,58 @@ image-held-next None before a i j is e g h =
 image-held-next (Some p) before a i j is e g h = absurd cc
 
 -- nothing is written of none
-pub first-none : (at : Option Place) → written_first at [] ≡ []
+pub first-none : (at : Option ImagePlace) → written_first at [] ≡ []
 first-none None = refl
 first-none (Some p) = refl
 
-pub wrote-none : (at : Option Place) (a : Option (List ℕ)) → Appends a a (written_first at [])
+pub wrote-none : (at : Option ImagePlace) (a : Option (List ℕ)) → Appends a a (written_first at [])
 wrote-none None a = Appends-nil a
 wrote-none (Some p) a = Appends-nil a
 
 -- ---- what is held
 
 -- other areas and notices, which are the same
-pub held-as : (at : Option Place) (xs ys : List Area) (ns ms : List Notice) (h : Holding)
+pub held-as : (at : Option ImagePlace) (xs ys : List Area) (ns ms : List Notice) (h : Holding)
     → xs ≡ ys
     → ns ≡ ms
-    → Held at xs ns h
-    → Held at ys ms h
+    → HeldAreas at xs ns h
+    → HeldAreas at ys ms h
 held-as at xs ys ns ms h e f k =
-    subst (λ zs. Held at zs ms h) e (subst (λ ks. Held at xs ks h) f k)
+    subst (λ zs. HeldAreas at zs ms h) e (subst (λ ks. HeldAreas at xs ks h) f k)
 
 -- the same, where work went well
-pub on-held : {A E : Type 0} (r : Result A E) (at : Option Place) (before xs ys : List Area)
+pub on-held : {A E : Type 0} (r : Result A E) (at : Option ImagePlace) (before xs ys : List Area)
     (told ns ms : List Notice) (h : Holding)
     → xs ≡ ys
     → ns ≡ ms
-    → OnOk r (Held at (before ++ xs) (told ++ ns) h)
-    → OnOk r (Held at (before ++ ys) (told ++ ms) h)
+    → OnOk r (HeldAreas at (before ++ xs) (told ++ ns) h)
+    → OnOk r (HeldAreas at (before ++ ys) (told ++ ms) h)
 on-held (Ok x) at before xs ys told ns ms h e f k =
     held-as at _ _ _ _ h (ap (λ zs. before ++ zs) e) (ap (λ ks. told ++ ks) f) k
 on-held (Err x) at before xs ys told ns ms h e f k = tt
 
 -- with no area more
-pub held-same : (at : Option Place) (xs : List Area) (ns : List Notice) (h : Holding)
-    → Held at xs ns h
-    → Held at (xs ++ []) ns h
+pub held-same : (at : Option ImagePlace) (xs : List Area) (ns : List Notice) (h : Holding)
+    → HeldAreas at xs ns h
+    → HeldAreas at (xs ++ []) ns h
 held-same at xs ns h k = held-as at xs (xs ++ []) ns ns h (sym (append-nil xs)) refl k
 
 -- with a report of another memory
-pub held-other : (at : Option Place) (r : Request LoadArea) (place : ℕ) (xs : List Area)
+pub held-other : (at : Option ImagePlace) (r : Request LoadArea) (place : ℕ) (xs : List Area)
     (ns : List Notice)
     (h : Holding)
     → is_of at r.memory ≡ false
-    → Held at xs (ns ++ OtherMemory r.memory ∷ []) h
-    → Held at (xs ++ areas_of at (Areas r)) (ns ++ notices_of at place (Areas r)) h
+    → HeldAreas at xs (ns ++ OtherMemory r.memory ∷ []) h
+    → HeldAreas at (xs ++ areas_of at (Areas r)) (ns ++ notices_of at place (Areas r)) h
 held-other at r place xs ns h e k = rw e (held-same at xs _ h k)
 
 -- more and more
-pub held-more : (at : Option Place) (xs ys zs all : List Area) (ns ms ks told : List Notice)
+pub held-more : (at : Option ImagePlace) (xs ys zs all : List Area) (ns ms ks told : List Notice)
     (h : Holding)
     → all ≡ ys ++ zs
     → told ≡ ms ++ ks
-    → Held at ((xs ++ ys) ++ zs) ((ns ++ ms) ++ ks) h
-    → Held at (xs ++ all) (ns ++ told) h
+    → HeldAreas at ((xs ++ ys) ++ zs) ((ns ++ ms) ++ ks) h
+    → HeldAreas at (xs ++ all) (ns ++ told) h
 held-more at xs ys zs all ns ms ks told h e f k =
     held-as at _ (xs ++ all) _ (ns ++ told) h
     (append_assoc xs ys zs ∙ ap (λ l. xs ++ l) (sym e))
@@ -214,14 +218,14 @@ hears-more (Some xs) (Some ys) (Some zs) ms ns h k = grind (arith, h, k, common_
 -- ---- what was written
 
 -- more is written
-pub wrote-more : (at : Option Place) (a b c : Option (List ℕ)) (xs ys : List Area)
+pub wrote-more : (at : Option ImagePlace) (a b c : Option (List ℕ)) (xs ys : List Area)
     → Appends a b (written_first at xs)
     → Appends b c (written_first at ys)
     → Appends a c (written_first at (xs ++ ys))
 wrote-more at a b c xs ys h k =
     subst (Appends a c) (sym (first-append at xs ys)) (Appends-trans a b c _ _ h k)
 
-pub part-more : (at : Option Place) (a b c : Option (List ℕ)) (xs ys : List Area)
+pub part-more : (at : Option ImagePlace) (a b c : Option (List ℕ)) (xs ys : List Area)
     → Appends a b (written_first at xs)
     → AppendsPart b c (written_first at ys)
     → AppendsPart a c (written_first at (xs ++ ys))
@@ -229,20 +233,20 @@ part-more at a b c xs ys h k =
     subst (AppendsPart a c) (sym (first-append at xs ys)) (part_after a b c _ _ h k)
 
 -- and a front part of what is behind it
-pub part-before : (at : Option Place) (a b : Option (List ℕ)) (xs ys : List Area)
+pub part-before : (at : Option ImagePlace) (a b : Option (List ℕ)) (xs ys : List Area)
     → AppendsPart a b (written_first at xs)
     → AppendsPart a b (written_first at (xs ++ ys))
 part-before at a b xs ys h =
     subst (AppendsPart a b) (sym (first-append at xs ys)) (part_of_front a b _ _ h)
 
 -- all that is written is what is written first and last
-pub written-both : (at : Option Place) (areas : List Area)
-    → written_first at areas ++ written_last at areas ≡ written at areas
+pub written-both : (at : Option ImagePlace) (areas : List Area)
+    → written_first at areas ++ written_last at areas ≡ areas_written at areas
 written-both None areas = append-nil (all_octets areas)
 written-both (Some p) areas = refl
 
 -- areas that end nowhere have no octets
-none-first : (at : Option Place) (areas : List Area)
+none-first : (at : Option ImagePlace) (areas : List Area)
     → extent areas ≤ start at
     → written_first at areas ≡ []
 none-first None [] h = refl
@@ -255,7 +259,7 @@ never-false : true ≡ false → ⊥
 never-false h = cc
 
 -- how the whole ends, by how its end does
-pub ends-by : (at : Option Place) (areas : List Area) (u : Bool) (end : ExtractEnd)
+pub ends-by : (at : Option ImagePlace) (areas : List Area) (u : Bool) (end : ExtractEnd)
     (a b c : Option (List ℕ))
     → Appends a b (written_first at areas)
     → EndsBy at areas u end b c
@@ -279,7 +283,8 @@ ends-by (Some p) areas u NotWhole a b c h k = (k.0, k.1, k.2, Appends-trans a b 
 -- ---- what a fault leaves
 
 -- a front part of what is written first
-pub leaves-first : (e : StreamFault) (at : Option Place) (areas : List Area) (a b : Option (List ℕ))
+pub leaves-first : (e : StreamFault) (at : Option ImagePlace) (areas : List Area)
+    (a b : Option (List ℕ))
     → AppendsPart a b (written_first at areas)
     → LeavesFront e at areas a b
 leaves-first faults.Read at areas a b h = h
@@ -289,7 +294,7 @@ leaves-first faults.Write at areas a b h =
     (part_of_front a b _ (written_last at areas) h)
 
 -- and of the image
-pub leaves-last : (at : Option Place) (areas : List Area) (a b c : Option (List ℕ))
+pub leaves-last : (at : Option ImagePlace) (areas : List Area) (a b c : Option (List ℕ))
     → Appends a b (written_first at areas)
     → AppendsPart b c (written_last at areas)
     → LeavesFront faults.Write at areas a c
@@ -297,7 +302,7 @@ leaves-last at areas a b c h k =
     subst (AppendsPart a c) (written-both at areas) (part_after a b c _ _ h k)
 
 -- and of what was written last, where it couldn't be passed on
-pub part-by : (at : Option Place) (areas : List Area) (u : Bool) (end : ExtractEnd)
+pub part-by : (at : Option ImagePlace) (areas : List Area) (u : Bool) (end : ExtractEnd)
     (a b c : Option (List ℕ))
     → EndsBy at areas u end a b
     → Keeps b c

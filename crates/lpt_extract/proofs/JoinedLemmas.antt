@@ -17,7 +17,7 @@ use Rattle.lpt_extract.specs.declared.joins.InPlace.TheVariants.{Itself, Nothing
 use Rattle.lpt_extract.specs.declared.notice.Notice.{Notice}
 use Rattle.lpt_extract.specs.declared.wanted.Wanted.{Wanted}
 use Rattle.lpt_extract.specs.Extracts.{areas_in, notices_at, notices_of, written_first}
-use Rattle.lpt_extract.specs.ExtractsInside.{EndsAs, Held}
+use Rattle.lpt_extract.specs.ExtractsInside.{EndsAs, HeldAreas}
 use Rattle.lpt_extract.specs.Joined.{joined_at, joined_in, notices_by, reads, reads_from, ExtractsJoined, Reads}
 use Rattle.lpt_extract.specs.JoinedInside.{IsInPlace, IsRead}
 use Rattle.lpt_extract.specs.Notices.{Hears}
@@ -153,10 +153,10 @@ module _ (w : Wanted) (r : Reads) (ps : List Piece) (p : Piece) where
         ∙ sym (joined-next w r [] from ps p)
 
     pub held-next : (h : Holding)
-        → Held w.at (areas_in w (reads r (packets_of ps))
+        → HeldAreas w.at (areas_in w (reads r (packets_of ps))
         ++ areas_in w (reads_from r (packets_of ps) (packet_before p.kind p.octets [])))
         (joined_in w r [] from ps ++ joined_at w r (packets_of ps) place p.kind p.octets) h
-        → Held w.at (areas_in w (reads r (packets_of (ps ++ p ∷ []))))
+        → HeldAreas w.at (areas_in w (reads r (packets_of (ps ++ p ∷ []))))
         (joined_in w r [] from (ps ++ p ∷ [])) h
     held-next h held = held-as w.at _ _ _ _ h (sym (areas-next w r ps p)) more_notices held
 

@@ -9,7 +9,7 @@ use Rattle.lpt_events.specs.NamedParts.{NamedPart}
 use Rattle.lpt_events.specs.Sides.{receiver_side}
 use Rattle.lpt_carried.specs.declared.reading.Reading.{Reading}
 use Rattle.lpt_carried.specs.declared.skip.Skip.{Skip}
-use Rattle.lpt_carried.specs.Carried.{Named, carried}
+use Rattle.lpt_carried.specs.Carried.{Named, part_carried}
 use Rattle.lpt_carried.specs.Own.{in_own}
 use Rattle.lpt_join.specs.declared.transaction.Transaction.{Transaction}
 use Rattle.lpt_join.specs.Offers.{piece_in}
@@ -85,7 +85,7 @@ module _ (t : Transaction) (law : OwnParts) (before : List (List ℕ)) (b : List
   r = own_reading t
 
   -- the part that it carries
-  arrives : option_map in_own (result_ok (carried r b)) ≡ piece_in t b
+  arrives : option_map in_own (result_ok (part_carried r b)) ≡ piece_in t b
   arrives =
       law r t.part_size b (is-own t) octets
       ∙ arrived-part (arrival (receiver_side t.direction) t.apid t.part_size b)
@@ -106,8 +106,8 @@ module _ (t : Transaction) (law : OwnParts) (before : List (List ℕ)) (b : List
       → AllByRecursion IsOctets before
       → layout_reads r before b ≡ own.own_reads t before b
   read-own alike all =
-      read-by (carried r b) (piece_in t b) arrives
-      (events-behind (events r false before) (told_by r false before b (carried r b))
+      read-by (part_carried r b) (piece_in t b) arrives
+      (events-behind (events r false before) (told_by r false before b (part_carried r b))
       (profile.events t false before) (profile.told_by t false before b (piece_in t b))
       (alike before all)
       (subst (λ (es : List Event). AreOwnEvents es

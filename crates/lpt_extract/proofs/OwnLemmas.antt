@@ -4,7 +4,7 @@ use Rattle.std.specs.Prelude.{option_and_then}
 use Rattle.std.specs.Result.{result_ok}
 use Rattle.lpt_packet.specs.declared.fault.PacketFault.{PacketFault}
 use Rattle.lpt_packet.specs.declared.packet.PacketKind.TheVariants.{Tm}
-use Rattle.lpt_packet.specs.Packets.{Fields, Sight, IdlePacket, APacket, seen, verdict}
+use Rattle.lpt_packet.specs.Packets.{Fields, Sight, IdlePacket, APacket, packet_seen, verdict}
 use Rattle.lpt_pus.specs.declared.fault.PusFault.{PusFault}
 use Rattle.lpt_pus.specs.Messages.{in_packet}
 use Rattle.lpt_pus.specs.Telemetry.{Telemetry, tm_verdict}
@@ -13,7 +13,7 @@ use Rattle.lpt_layout.specs.Messages.{message_verdict}
 use Rattle.lpt_layout.specs.Own.{own_tm, of_telemetry, put_as}
 use Rattle.lpt_layout.specs.Packets.{verdict_as}
 use Rattle.lpt_extract.specs.declared.wanted.Wanted.{Wanted}
-use Rattle.lpt_extract.specs.Own.{dump_in_packet, dump_told, said}
+use Rattle.lpt_extract.specs.Own.{dump_in_packet, dump_told, packet_said}
 use Rattle.lpt_extract.specs.Reports.{dump_by, dump_in, dump_of, report_in, said_in}
 
 -- of a message that is read, and of one that isn't
@@ -36,10 +36,10 @@ dump-own (Err e) h = refl
 pub own-reports : (w : Wanted) (b : List ℕ)
     → w.layout ≡ own_tm
     → verdict_as own_tm.has_checksum b ≡ verdict b
-    → seen b ≡ result_ok (verdict b)
+    → packet_seen b ≡ result_ok (verdict b)
     → ((f : Fields) → verdict b ≡ Ok (APacket f)
     → message_verdict own_tm Tm f ≡ put_as of_telemetry (tm_verdict f))
-    → report_in w b ≡ said w.apid b
+    → report_in w b ≡ packet_said w.apid b
 unfolding report_in dump_in
 own-reports w b own packet see reads =
     ap (λ (l : Layout). said_in w.apid

@@ -18,7 +18,7 @@ use Rattle.lpt_extract.specs.declared.holding.Holding.{Holding}
 use Rattle.lpt_extract.specs.declared.notice.Notice.{Notice}
 use Rattle.lpt_extract.specs.declared.wanted.Wanted.{Wanted}
 use Rattle.lpt_extract.specs.Extracts.{areas_in, notices_at, notices_in, written_first}
-use Rattle.lpt_extract.specs.ExtractsInside.{is_sealed, Held}
+use Rattle.lpt_extract.specs.ExtractsInside.{is_sealed, HeldAreas}
 use Rattle.lpt_extract.specs.Notices.{Hears}
 use Rattle.lpt_extract.proofs.GiveLemmas.{areas-append, notices-next, held-as, hears-more, part-more, wrote-more}
 
@@ -40,11 +40,11 @@ module _ (w : Wanted) (from : ℕ) (ps : List Piece) (p : Piece) where
 
   pub held-next : (h k : Holding) (place : ℕ)
       → place ≡ up_to_limit (from + octets_in ps)
-      → Held w.at (areas_in w (packets_of ps)) (notices_in w from ps) h
-      → ((areas : List Area) (ns : List Notice) → Held w.at areas ns h
-      → Held w.at (areas ++ areas_in w (packet_before p.kind p.octets []))
+      → HeldAreas w.at (areas_in w (packets_of ps)) (notices_in w from ps) h
+      → ((areas : List Area) (ns : List Notice) → HeldAreas w.at areas ns h
+      → HeldAreas w.at (areas ++ areas_in w (packet_before p.kind p.octets []))
       (ns ++ notices_at w place p.kind p.octets) k)
-      → Held w.at (areas_in w (packets_of (ps ++ p ∷ []))) (notices_in w from (ps ++ p ∷ [])) k
+      → HeldAreas w.at (areas_in w (packets_of (ps ++ p ∷ []))) (notices_in w from (ps ++ p ∷ [])) k
   held-next h k place at was more =
       held-as w.at _ _ _ _ k (sym areas-next) (told place at) (more _ _ was)
 

@@ -19,7 +19,7 @@ use Rattle.lpt_extract.specs.declared.extracted.ExtractEnd.TheVariants as ends
 use Rattle.lpt_extract.specs.declared.extracted.Extracted.{Extracted}
 use Rattle.lpt_extract.specs.declared.notice.Notice.{Notice}
 use Rattle.lpt_extract.specs.declared.notice.Notice.TheVariants as notices
-use Rattle.lpt_extract.specs.declared.wanted.Place.{Place}
+use Rattle.lpt_extract.specs.declared.wanted.ImagePlace.{ImagePlace}
 use Rattle.lpt_extract.specs.declared.wanted.Wanted.{Wanted}
 use Rattle.lpt_extract.specs.Areas.{all_octets, extent, image, image_limit}
 use Rattle.lpt_extract.specs.Gaps.{gaps_in, is_given, AreGaps, Gap}
@@ -30,7 +30,7 @@ use Rattle.lpt_extract.specs.Tallies.{IsTally}
 -- ---- what reports give
 
 -- whether the areas of a memory are wanted
-abbrev pub is_of : Option Place → ℕ → Bool
+abbrev pub is_of : Option ImagePlace → ℕ → Bool
 is_of None m = true
 is_of (Some p) m = p.memory == m
 
@@ -39,7 +39,7 @@ abbrev pub whole_areas : List LoadArea → List Area
 whole_areas areas = map area (filter is_taken areas)
 
 -- the areas that a report gives
-abbrev pub areas_of : Option Place → Saying → List Area
+abbrev pub areas_of : Option ImagePlace → Saying → List Area
 areas_of at Other = []
 areas_of at APart = []
 areas_of at (Foreign apid) = []
@@ -53,7 +53,7 @@ areas_in w packets = flat_map (λ b. areas_of w.at (report_in w b)) packets
 -- ---- what is told
 
 -- of a report at a place
-abbrev pub notices_of : Option Place → (place : ℕ) → Saying → List Notice
+abbrev pub notices_of : Option ImagePlace → (place : ℕ) → Saying → List Notice
 notices_of at n Other = []
 notices_of at n APart = notices.OfPart n ∷ []
 notices_of at n (Foreign apid) = notices.OtherApid apid ∷ []
@@ -76,27 +76,27 @@ notices_in w n (p ∷ ps) =
 -- ---- what is written
 
 -- the address of the first octet that is wanted
-abbrev pub start : Option Place → ℕ
+abbrev pub start : Option ImagePlace → ℕ
 start None = 0
 start (Some p) = p.from
 
 -- what is to be written of areas: their octets, or the image
-abbrev pub written : Option Place → List Area → List ℕ
-written None areas = all_octets areas
-written (Some p) areas = image p.from p.fill areas
+abbrev pub areas_written : Option ImagePlace → List Area → List ℕ
+areas_written None areas = all_octets areas
+areas_written (Some p) areas = image p.from p.fill areas
 
 -- what is written as areas come: an image only once all have
-abbrev pub written_first : Option Place → List Area → List ℕ
+abbrev pub written_first : Option ImagePlace → List Area → List ℕ
 written_first None areas = all_octets areas
 written_first (Some p) areas = []
 
 -- the image of areas isn't too large
-abbrev pub Fits : Option Place → List Area → Type 0
+abbrev pub Fits : Option ImagePlace → List Area → Type 0
 Fits None areas = Unit {0}
 Fits (Some p) areas = extent areas - p.from ≤ image_limit
 
 -- the image of areas has so many octets, which is too many
-abbrev pub IsTooLarge : Option Place → List Area → ℕ → Type 0
+abbrev pub IsTooLarge : Option ImagePlace → List Area → ℕ → Type 0
 IsTooLarge None areas n = ⊥
 IsTooLarge (Some p) areas n = (n ≡ extent areas - p.from) × (image_limit < n)
 
@@ -105,18 +105,18 @@ abbrev pub is_unbroken : List Gap → (passed : ℕ) → Bool
 is_unbroken gaps passed = (length gaps == 0) && (passed == 0)
 
 -- whether that does: an image may be wanted only where it is unbroken
-abbrev pub suits : Option Place → (unbroken : Bool) → Bool
+abbrev pub suits : Option ImagePlace → (unbroken : Bool) → Bool
 suits None u = true
 suits (Some p) u = not p.whole || u
 
 -- how an extraction ends: what is wanted of areas was written; or nothing was, where none of them
 -- gives an octet that is wanted, where the image is too large, or where it was to be unbroken and
 -- isn't
-abbrev pub Ends : Option Place → List Area → (unbroken : Bool) → ExtractEnd
+abbrev pub Ends : Option ImagePlace → List Area → (unbroken : Bool) → ExtractEnd
     → (old new : Option (List ℕ)) → Type 0
 Ends at areas u ends.Written old new =
     (start at < extent areas) × Fits at areas × (suits at u ≡ true)
-    × Appends old new (written at areas)
+    × Appends old new (areas_written at areas)
 Ends at areas u ends.Nothing old new = (extent areas ≤ start at) × Appends old new []
 Ends at areas u (ends.TooLarge n) old new = IsTooLarge at areas n × Appends old new []
 Ends at areas u ends.NotWhole old new =
@@ -124,7 +124,7 @@ Ends at areas u ends.NotWhole old new =
     × Appends old new []
 
 -- the addresses of the image that no area gives; without an image none
-abbrev pub AreMissing : Option Place → List Area → List Gap → Type 0
+abbrev pub AreMissing : Option ImagePlace → List Area → List Gap → Type 0
 AreMissing None areas gaps = gaps ≡ []
 AreMissing (Some p) areas gaps = AreGaps (is_given areas) p.from (extent areas) gaps
 
@@ -165,9 +165,9 @@ is_clean x =
 
 -- what was written where memory ran out or a read failed is a front part of what is written as
 -- areas come; where a write failed, of what is to be written
-abbrev pub LeavesFront : StreamFault → Option Place → List Area → (old new : Option (List ℕ))
+abbrev pub LeavesFront : StreamFault → Option ImagePlace → List Area → (old new : Option (List ℕ))
     → Type 0
-LeavesFront faults.Write at areas old new = AppendsPart old new (written at areas)
+LeavesFront faults.Write at areas old new = AppendsPart old new (areas_written at areas)
 LeavesFront faults.Read at areas old new = AppendsPart old new (written_first at areas)
 LeavesFront faults.Memory at areas old new = AppendsPart old new (written_first at areas)
 

@@ -13,7 +13,7 @@ use Rattle.lpt_extract.specs.declared.holding.Holding.{Holding}
 use Rattle.lpt_extract.specs.declared.image.Image.{Image}
 use Rattle.lpt_extract.specs.declared.notice.Notice.{Notice}
 use Rattle.lpt_extract.specs.declared.seen_area.SeenArea.{SeenArea}
-use Rattle.lpt_extract.specs.declared.wanted.Place.{Place}
+use Rattle.lpt_extract.specs.declared.wanted.ImagePlace.{ImagePlace}
 use Rattle.lpt_extract.specs.Areas.{extent, image}
 use Rattle.lpt_extract.specs.CoversInside.{gaps_of}
 use Rattle.lpt_extract.specs.Extracts.{areas_in, is_unbroken, notices_in, AreMissing, start, suits, whole_areas, Fits, IsTooLarge}
@@ -24,31 +24,31 @@ use Rattle.lpt_extract.specs.ReportsInside.{load_area}
 use Rattle.lpt_extract.specs.Tallies.{IsTally}
 
 -- where the area ends that ends last of these, and their image, where one is wanted
-abbrev pub HasImage : Option Place → List Area → Image → Type 0
+abbrev pub HasImage : Option ImagePlace → List Area → Image → Type 0
 HasImage None areas i = (end_of_image i ≡ extent areas) × (gaps_of i.cover ≡ [])
 HasImage (Some p) areas i = Imaged p areas i
 
 -- and what was told is counted
-pub record Held (at : Option Place) (areas : List Area) (ns : List Notice) (h : Holding)
+pub record HeldAreas (at : Option ImagePlace) (areas : List Area) (ns : List Notice) (h : Holding)
     : Type 0 where
   pub image : HasImage at areas h.image
   pub counted : IsTally ns h.tally
 
 -- the areas that are taken of those that were seen
-abbrev pub given : List SeenArea → List Area
-given areas = whole_areas (map load_area areas)
+abbrev pub areas_given : List SeenArea → List Area
+areas_given areas = whole_areas (map load_area areas)
 
 -- what is told of areas that were seen in a report at a place
 abbrev pub told_of : (memory place : ℕ) → List SeenArea → List Notice
 told_of m n areas = map (notice m n) (map load_area areas)
 
 -- what is written once all areas have come
-abbrev pub written_last : Option Place → List Area → List ℕ
+abbrev pub written_last : Option ImagePlace → List Area → List ℕ
 written_last None areas = []
 written_last (Some p) areas = image p.from p.fill areas
 
 -- how an extraction ends, and what is written then
-abbrev pub EndsBy : Option Place → List Area → (unbroken : Bool) → ExtractEnd
+abbrev pub EndsBy : Option ImagePlace → List Area → (unbroken : Bool) → ExtractEnd
     → (old new : Option (List ℕ)) → Type 0
 EndsBy at areas u Written old new =
     (start at < extent areas) × Fits at areas × (suits at u ≡ true)
@@ -64,7 +64,7 @@ abbrev pub is_unbroken_so_far : Holding → Bool
 is_unbroken_so_far h = is_unbroken (gaps_of h.image.cover) h.tally.passed
 
 -- what an extraction gives that ends so
-pub record EndsAs (at : Option Place) (areas : List Area) (ns : List Notice) (x : Extracted)
+pub record EndsAs (at : Option ImagePlace) (areas : List Area) (ns : List Notice) (x : Extracted)
     (old new : Option (List ℕ)) : Type 0 where
   pub by : EndsBy at areas (is_unbroken (gaps_in x.gaps) x.tally.passed) x.end old new
   pub missing : AreMissing at areas (gaps_in x.gaps)
@@ -74,7 +74,7 @@ pub record EndsAs (at : Option Place) (areas : List Area) (ns : List Notice) (x 
 pub record IsExtracted (from : ℕ) (first now : Extraction) (heard hears : Option (List Notice))
     (ps : List Piece) : Type 0 where
   pub same : now.wanted ≡ first.wanted
-  pub held : Held now.wanted.at (areas_in now.wanted (packets_of ps))
+  pub held : HeldAreas now.wanted.at (areas_in now.wanted (packets_of ps))
       (notices_in now.wanted from ps) now.holding
   pub hears_is : Hears heard hears (notices_in now.wanted from ps)
 

@@ -2,7 +2,7 @@
 use Rattle.std.specs.Prelude.{◌≡◌, ◌<◌, ◌≤◌, ◌-◌, ℕ, List, Option, Some, None}
 use Rattle.lpt_memory.specs.declared.request.Area.{Area}
 use Rattle.lpt_extract.specs.declared.image.Image.{Image}
-use Rattle.lpt_extract.specs.declared.wanted.Place.{Place}
+use Rattle.lpt_extract.specs.declared.wanted.ImagePlace.{ImagePlace}
 use Rattle.lpt_extract.specs.Areas.{extent, image, image_limit}
 use Rattle.lpt_extract.specs.CoversInside.{end_of_cover, Covers}
 
@@ -20,6 +20,6 @@ IsSize n (Some size) = (size ≡ n) × (n ≤ image_limit)
 IsSize n None = image_limit < n
 
 -- it has the gaps of these areas, and the image of them, where that isn't too large
-pub record Imaged (p : Place) (areas : List Area) (i : Image) : Type 0 where
+pub record Imaged (p : ImagePlace) (areas : List Area) (i : Image) : Type 0 where
   pub covers : Covers p.from areas i.cover
   pub octets_are : extent areas - p.from ≤ image_limit → octets_of_image i ≡ image p.from p.fill areas

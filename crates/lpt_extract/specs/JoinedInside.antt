@@ -9,7 +9,7 @@ use Rattle.lpt_extract.specs.declared.joins.InPlace.TheVariants.{Itself, Nothing
 use Rattle.lpt_extract.specs.declared.notice.Notice.{Notice}
 use Rattle.lpt_extract.specs.declared.wanted.Wanted.{Wanted}
 use Rattle.lpt_extract.specs.Extracts.{areas_in}
-use Rattle.lpt_extract.specs.ExtractsInside.{Held}
+use Rattle.lpt_extract.specs.ExtractsInside.{HeldAreas}
 use Rattle.lpt_extract.specs.Joined.{Reads, joined_in, reads}
 use Rattle.lpt_extract.specs.Notices.{Hears}
 
@@ -29,5 +29,6 @@ IsInPlace r before k b (Message m) = (k ≡ Whole) × (r before b ≡ m ∷ [])
 pub record IsJoined (r : Reads) (from : ℕ) (first now : Wanted) (h : Holding)
     (heard hears : Option (List Notice)) (ps : List Piece) : Type 0 where
   pub same : now ≡ first
-  pub held : Held now.at (areas_in now (reads r (packets_of ps))) (joined_in now r [] from ps) h
+  pub held : HeldAreas now.at (areas_in now (reads r (packets_of ps))) (joined_in now r [] from ps)
+      h
   pub hears_is : Hears heard hears (joined_in now r [] from ps)

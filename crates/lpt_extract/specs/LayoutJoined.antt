@@ -1,7 +1,7 @@
 -- What is read in place of the packets of a layout where dump reports may come in parts.
 use Rattle.std.specs.Prelude.{ℕ, false, List, [], ◌∷◌, Result, Ok, Err}
 use Rattle.std.specs.List.{flat_map}
-use Rattle.lpt_carried.specs.Carried.{Named, carried}
+use Rattle.lpt_carried.specs.Carried.{Named, part_carried}
 use Rattle.lpt_carried.specs.declared.reading.Reading.{Reading}
 use Rattle.lpt_carried.specs.declared.skip.Skip.{Skip}
 use Rattle.lpt_layout_each.specs.News.{Event, messages_of}
@@ -20,4 +20,4 @@ reads_by r before b (Ok c) = messages_in (told_by r false before b (Ok c))
 reads_by r before b (Err e) = b ∷ []
 
 abbrev pub layout_reads : Reading → Reads
-layout_reads r = λ before b. reads_by r before b (carried r b)
+layout_reads r = λ before b. reads_by r before b (part_carried r b)

@@ -13,15 +13,15 @@ abbrev pub load_area : SeenArea → LoadArea
 load_area a = record { address = a.address; octets = a.octets.now; checksum = a.checksum }
 
 -- what a report says
-abbrev pub said : Report → Saying
-said seen.Other = Other
-said seen.OfPart = APart
-said (seen.Foreign apid) = Foreign apid
-said (seen.Unread n) = Unread n
-said (seen.Areas m areas) = Areas (record { memory = m; areas = map load_area areas.items })
+abbrev pub report_said : Report → Saying
+report_said seen.Other = Other
+report_said seen.OfPart = APart
+report_said (seen.Foreign apid) = Foreign apid
+report_said (seen.Unread n) = Unread n
+report_said (seen.Areas m areas) = Areas (record { memory = m; areas = map load_area areas.items })
 
 -- a dump report or a part that was found
-abbrev pub found : Option Dump → Option DumpOrPart
-found None = None
-found (Some (dumps.Report apid body)) = Some (ADump apid body.now)
-found (Some (dumps.PartOf apid)) = Some (APartOf apid)
+abbrev pub dump_found : Option Dump → Option DumpOrPart
+dump_found None = None
+dump_found (Some (dumps.Report apid body)) = Some (ADump apid body.now)
+dump_found (Some (dumps.PartOf apid)) = Some (APartOf apid)

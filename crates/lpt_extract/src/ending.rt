@@ -4,7 +4,7 @@ ghost use Rattle.std.specs.Prelude.{◌≡◌, List, IfErr, IfOk, IsOk};
 ghost use Rattle.lpt_text.specs.Streams.{AppendsPart, WriteEnds};
 ghost use Rattle.lpt_memory.specs.declared.request.Area.{Area};
 ghost use Rattle.lpt_extract.specs.declared.notice.Notice.{Notice};
-ghost use Rattle.lpt_extract.specs.ExtractsInside.{is_unbroken_so_far, written_last, EndsAs, EndsBy, HasImage, Held};
+ghost use Rattle.lpt_extract.specs.ExtractsInside.{is_unbroken_so_far, written_last, EndsAs, EndsBy, HasImage, HeldAreas};
 
 use crate::holding::Holding;
 use crate::{ExtractEnd, Extracted, Wanted};
@@ -19,12 +19,12 @@ pub fn end_extract<K: Sink>(
     holding: Holding,
     out: &mut K,
 ) -> Result<Extracted, StreamFault>
-    ensures ends { (areas : List Area) (ns : List Notice) → Held wanted.now.at areas ns holding
+    ensures ends { (areas : List Area) (ns : List Notice) → HeldAreas wanted.now.at areas ns holding
         → IfOk result (λ x. EndsAs wanted.now.at areas ns x
         (K.contents out.old) (K.contents out.new)) }
     ensures passed { IsOk result → K.flushed out.new ≡ K.contents out.new }
     ensures fault { IfErr result (λ e. e ≡ StreamFault.Write) }
-    ensures part { (areas : List Area) (ns : List Notice) → Held wanted.now.at areas ns holding
+    ensures part { (areas : List Area) (ns : List Notice) → HeldAreas wanted.now.at areas ns holding
         → IfErr result (λ _. AppendsPart (K.contents out.old) (K.contents out.new)
         (written_last wanted.now.at areas)) }
     ensures writer { WriteEnds result (K.failed out.old) (K.failed out.new) }

@@ -15,15 +15,15 @@ impl Holding {
     ghost use Rattle.std.specs.Prelude.{◌≡◌, ◌++◌, ◌∷◌, List, [], Option};
     ghost use Rattle.lpt_memory.specs.declared.request.Area.{Area};
     ghost use Rattle.lpt_extract.specs.declared.notice.Notice.{Notice};
-    ghost use Rattle.lpt_extract.specs.declared.wanted.Place.{Place};
+    ghost use Rattle.lpt_extract.specs.declared.wanted.ImagePlace.{ImagePlace};
     ghost use Rattle.lpt_extract.specs.CoversInside.{gaps_of};
-    ghost use Rattle.lpt_extract.specs.ExtractsInside.{is_unbroken_so_far, Held};
+    ghost use Rattle.lpt_extract.specs.ExtractsInside.{is_unbroken_so_far, HeldAreas};
     ghost use Rattle.lpt_extract.specs.Gaps.{gaps_in};
     ghost use Rattle.lpt_extract.specs.Notices.{Hears};
 
     /// Of nothing.
     pub fn new(alloc: Global) -> Holding
-        ensures { (at : Option Place) → Held at [] [] result }
+        ensures { (at : Option ImagePlace) → HeldAreas at [] [] result }
     {
         Holding {
             image: Image::new(alloc),
@@ -40,8 +40,8 @@ impl Holding {
 
     /// Tells something, and counts it.
     pub fn tell<L: Listener>(&mut self, listener: &mut L, notice: Notice)
-        ensures held { (at : Option Place) (areas : List Area) (ns : List Notice)
-            → Held at areas ns self.old → Held at areas (ns ++ notice ∷ []) self.new }
+        ensures held { (at : Option ImagePlace) (areas : List Area) (ns : List Notice)
+            → HeldAreas at areas ns self.old → HeldAreas at areas (ns ++ notice ∷ []) self.new }
         ensures heard { Hears (L.heard listener.old) (L.heard listener.new) (notice ∷ []) }
     {
         self.tally.count(notice);

@@ -2,7 +2,7 @@
 
 ghost use Rattle.std.specs.Prelude.{◌<◌, ◌≤◌, length};
 
-use crate::Place;
+use crate::ImagePlace;
 use crate::cover::Cover;
 use std::alloc::{AllocError, Global};
 use std::collections::BTreeMap;
@@ -89,7 +89,7 @@ impl Image {
     // Puts an area over the octets. The only error is out of memory.
     pub(crate) fn put(
         &mut self,
-        place: &Place,
+        place: &ImagePlace,
         address: u32,
         octets: &[u8],
     ) -> Result<(), AllocError>

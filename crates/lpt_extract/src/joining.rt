@@ -9,7 +9,7 @@ ghost use Rattle.lpt_stream.specs.Takes.{TakenAll};
 ghost use Rattle.lpt_memory.specs.declared.request.Area.{Area};
 ghost use Rattle.lpt_extract.specs.declared.notice.Notice.{Notice};
 ghost use Rattle.lpt_extract.specs.Extracts.{areas_in, written_first};
-ghost use Rattle.lpt_extract.specs.ExtractsInside.{Held};
+ghost use Rattle.lpt_extract.specs.ExtractsInside.{HeldAreas};
 ghost use Rattle.lpt_extract.specs.Joined.{joined_at, joined_in, reads, reads_from, ExtractsJoined, JoinedLeaves, Reads, ReadsCut};
 ghost use Rattle.lpt_extract.specs.JoinedInside.{IsInPlace};
 ghost use Rattle.lpt_extract.specs.Notices.{Hears};
@@ -169,8 +169,8 @@ fn take_in_place<K: Sink, L: Listener>(
 ) -> Result<(), StreamFault>
     requires { IsSealedBy cut kind octets.now }
     ensures held { (r : Reads) (bs : List (List ℕ)) → IsInPlace r bs kind octets.now read.now
-        → (areas : List Area) (ns : List Notice) → Held wanted.now.at areas ns holding.old
-        → OnOk result (Held wanted.now.at (areas
+        → (areas : List Area) (ns : List Notice) → HeldAreas wanted.now.at areas ns holding.old
+        → OnOk result (HeldAreas wanted.now.at (areas
         ++ areas_in wanted.now (reads_from r bs (packet_before kind octets.now [])))
         (ns ++ joined_at wanted.now r bs place kind octets.now) holding.new) }
     ensures wrote { (r : Reads) (bs : List (List ℕ)) → IsInPlace r bs kind octets.now read.now

@@ -11,7 +11,7 @@ ghost use Rattle.lpt_layout_join.specs.Own.{own_reading};
 ghost use Rattle.lpt_extract.specs.declared.wanted.Wanted.{Wanted};
 ghost use Rattle.lpt_extract.specs.Extracts.{cut_of};
 ghost use Rattle.lpt_extract.specs.LayoutJoined.{layout_reads};
-ghost use Rattle.lpt_extract.specs.Own.{said};
+ghost use Rattle.lpt_extract.specs.Own.{packet_said};
 ghost use Rattle.lpt_extract.specs.OwnJoined.{own_reads};
 ghost use Rattle.lpt_extract.specs.Reports.{report_in};
 
@@ -24,7 +24,7 @@ use lpt_packet::laws::seen_is_read;
 /// and a stream is cut by checksums.
 pub fn the_own_reports()
     ensures reports { (w : Wanted) (b : List ℕ) → w.layout ≡ own_tm → IsOctets b
-        → report_in w b ≡ said w.apid b }
+        → report_in w b ≡ packet_said w.apid b }
     ensures cut { (w : Wanted) → w.layout ≡ own_tm → cut_of w ≡ Sealed }
 {
     the_own_layouts();

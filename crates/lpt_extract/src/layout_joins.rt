@@ -6,7 +6,7 @@ ghost use Rattle.lpt_text.specs.Streams.{failed_write, ReadEnds};
 ghost use Rattle.lpt_stream.specs.Pieces.{IsSealedBy, packets_of};
 ghost use Rattle.lpt_stream.specs.Reads.{IsEndlessBy};
 ghost use Rattle.lpt_stream.specs.Takes.{TakenAll};
-ghost use Rattle.lpt_carried.specs.Carried.{carried, cut};
+ghost use Rattle.lpt_carried.specs.Carried.{part_carried, cut};
 ghost use Rattle.lpt_layout_each.specs.Told.{events_of};
 ghost use Rattle.lpt_layout_each.specs.News as teller;
 ghost use Rattle.lpt_layout_each.specs.Helds.{HoldsEach};
@@ -153,7 +153,7 @@ fn gather_packet<T: TakerAs>(
         → IfOk result (λ x. HoldsEach x.0.reading false (bs ++ octets.now ∷ []) x.0.helds) }
     ensures told { (bs : List (List ℕ)) → HoldsEach joins.reading false bs joins.helds
         → OnOk result (teller.Hears (T.heard taker.old) (T.heard taker.new)
-        (told_by joins.reading false bs octets.now (carried joins.reading octets.now))) }
+        (told_by joins.reading false bs octets.now (part_carried joins.reading octets.now))) }
     ensures placed { (bs : List (List ℕ)) → HoldsEach joins.reading false bs joins.helds
         → IfOk result (λ x. IsInPlace (layout_reads joins.reading) bs PieceKind.Whole octets.now
         x.1) }

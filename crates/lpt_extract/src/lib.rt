@@ -38,4 +38,4 @@ pub use lpt_layout_each::TakerAs;
 pub use lpt_text::{Sink, Source, StreamFault};
 pub use notice::{Listener, Notice, Span};
 pub use tally::{Others, Tally};
-pub use wanted::{Place, Wanted};
+pub use wanted::{ImagePlace, Wanted};

@@ -9,7 +9,7 @@ ghost use Rattle.lpt_packet.specs.declared.fault.PacketFault.TheVariants.{Checks
 ghost use Rattle.lpt_layout.specs.Packets.{fields, Gives};
 ghost use Rattle.lpt_memory.specs.Requests.{front_load_area};
 ghost use Rattle.lpt_extract.specs.Reports.{body_report, dump_by, dump_in, said_in};
-ghost use Rattle.lpt_extract.specs.ReportsInside.{found, load_area, said};
+ghost use Rattle.lpt_extract.specs.ReportsInside.{dump_found, load_area, report_said};
 
 use crate::seen_area::SeenArea;
 use lpt_events::part_kind;
@@ -55,7 +55,7 @@ pub(crate) fn read_report<'a>(
     apid: u16,
     dump: Option<Dump<'a>>,
 ) -> Result<Report<'a>, AllocError>
-    ensures { IfOk result (λ r. said r ≡ said_in apid (found dump.entry)) }
+    ensures { IfOk result (λ r. report_said r ≡ said_in apid (dump_found dump.entry)) }
 {
     match dump {
         Some(Dump::Report(of, body)) if of == apid => read_body(alloc, body),
@@ -70,7 +70,7 @@ pub(crate) fn read_report<'a>(
 #[tactic(auto, unfolding(crate::specs::Reports::dump_in))]
 pub(crate) fn dump_in<'a>(layout: &Layout, octets: &'a [u8], is_sealed: bool) -> Option<Dump<'a>>
     requires { is_sealed ≡ true → verdict octets.now ≢ Err Checksum }
-    ensures { found result ≡ dump_in layout.now octets.now }
+    ensures { dump_found result ≡ dump_in layout.now octets.now }
 {
     if is_sealed {
         dump_seen(layout, read_sealed_as(layout, octets))
@@ -82,7 +82,7 @@ pub(crate) fn dump_in<'a>(layout: &Layout, octets: &'a [u8], is_sealed: bool) ->
 // That which octets are that are read as this.
 fn dump_seen<'a>(layout: &Layout, read: Result<SeenAs<'a>, PacketFault>) -> Option<Dump<'a>>
     ensures { (v : Result Sight PacketFault) → Gives read.entry v
-        → found result ≡ option_and_then (dump_by layout.now) (result_ok v) }
+        → dump_found result ≡ option_and_then (dump_by layout.now) (result_ok v) }
 {
     match read {
         Ok(SeenAs::Packet(packet)) => dump_in_packet(layout, &packet),
@@ -93,7 +93,7 @@ fn dump_seen<'a>(layout: &Layout, read: Result<SeenAs<'a>, PacketFault>) -> Opti
 
 // That which a packet is.
 fn dump_in_packet<'a>(layout: &Layout, packet: &PacketAs<'a>) -> Option<Dump<'a>>
-    ensures { found result ≡ dump_by layout.now (APacket (fields packet.now)) }
+    ensures { dump_found result ≡ dump_by layout.now (APacket (fields packet.now)) }
 {
     let Ok(message) = read_tm_as(layout, packet) else {
         return None;
@@ -111,7 +111,7 @@ fn dump_in_packet<'a>(layout: &Layout, packet: &PacketAs<'a>) -> Option<Dump<'a>
 // What the body of a dump report says. The only error is out of memory.
 #[tactic(auto, unfolding(crate::specs::Reports::body_report, lpt_memory::specs::Requests::request_in))]
 fn read_body<'a>(alloc: Global, body: &'a [u8]) -> Result<Report<'a>, AllocError>
-    ensures { IfOk result (λ r. said r ≡ body_report body.now) }
+    ensures { IfOk result (λ r. report_said r ≡ body_report body.now) }
 {
     let Some((memory, count, rest)) = fields::head(body) else {
         return Ok(Report::Unread(body.len()));

@@ -10,11 +10,11 @@ ghost use Rattle.lpt_memory.specs.declared.request.Area.{Area};
 ghost use Rattle.lpt_memory.specs.Meanings.{area};
 ghost use Rattle.lpt_extract.specs.declared.notice.Notice.{Notice};
 ghost use Rattle.lpt_extract.specs.Extracts.{areas_in, areas_of, notices_at, notices_of, written_first};
-ghost use Rattle.lpt_extract.specs.ExtractsInside.{given, is_sealed, told_of, Held};
+ghost use Rattle.lpt_extract.specs.ExtractsInside.{areas_given, is_sealed, told_of, HeldAreas};
 ghost use Rattle.lpt_extract.specs.Joined.{notices_by};
 ghost use Rattle.lpt_extract.specs.Notices.{is_in_reach, is_taken, Hears};
 ghost use Rattle.lpt_extract.specs.Reports.{said_in};
-ghost use Rattle.lpt_extract.specs.ReportsInside.{found, load_area};
+ghost use Rattle.lpt_extract.specs.ReportsInside.{dump_found, load_area};
 
 use crate::holding::Holding;
 use crate::report::{Dump, Report, dump_in, read_report};
@@ -43,8 +43,9 @@ pub(crate) fn take_piece<K: Sink, L: Listener>(
     listener: &mut L,
 ) -> Result<(), StreamFault>
     requires { IsSealedBy cut kind octets.now }
-    ensures held { (areas : List Area) (ns : List Notice) → Held wanted.now.at areas ns holding.old
-        → OnOk result (Held wanted.now.at
+    ensures held { (areas : List Area) (ns : List Notice)
+        → HeldAreas wanted.now.at areas ns holding.old
+        → OnOk result (HeldAreas wanted.now.at
         (areas ++ areas_in wanted.now (packet_before kind octets.now []))
         (ns ++ notices_at wanted.now place kind octets.now) holding.new) }
     ensures wrote { OnOk result (Appends (K.contents out.old) (K.contents out.new)
@@ -93,8 +94,9 @@ pub(crate) fn take_packet<K: Sink, L: Listener>(
     listener: &mut L,
 ) -> Result<(), StreamFault>
     requires { is_sealed ≡ true → verdict octets.now ≢ Err Checksum }
-    ensures held { (areas : List Area) (ns : List Notice) → Held wanted.now.at areas ns holding.old
-        → OnOk result (Held wanted.now.at
+    ensures held { (areas : List Area) (ns : List Notice)
+        → HeldAreas wanted.now.at areas ns holding.old
+        → OnOk result (HeldAreas wanted.now.at
         (areas ++ areas_in wanted.now (octets.now ∷ []))
         (ns ++ notices_by wanted.now place (octets.now ∷ [])) holding.new) }
     ensures wrote { OnOk result (Appends (K.contents out.old) (K.contents out.new)
@@ -122,20 +124,21 @@ fn take_dump<K: Sink, L: Listener>(
     out: &mut K,
     listener: &mut L,
 ) -> Result<(), StreamFault>
-    ensures held { (areas : List Area) (ns : List Notice) → Held wanted.now.at areas ns holding.old
-        → OnOk result (Held wanted.now.at
-        (areas ++ areas_of wanted.now.at (said_in wanted.now.apid (found dump.entry)))
-        (ns ++ notices_of wanted.now.at place (said_in wanted.now.apid (found dump.entry)))
+    ensures held { (areas : List Area) (ns : List Notice)
+        → HeldAreas wanted.now.at areas ns holding.old
+        → OnOk result (HeldAreas wanted.now.at
+        (areas ++ areas_of wanted.now.at (said_in wanted.now.apid (dump_found dump.entry)))
+        (ns ++ notices_of wanted.now.at place (said_in wanted.now.apid (dump_found dump.entry)))
         holding.new) }
     ensures wrote { OnOk result (Appends (K.contents out.old) (K.contents out.new)
         (written_first wanted.now.at
-        (areas_of wanted.now.at (said_in wanted.now.apid (found dump.entry))))) }
+        (areas_of wanted.now.at (said_in wanted.now.apid (dump_found dump.entry))))) }
     ensures heard { OnOk result (Hears (L.heard listener.old) (L.heard listener.new)
-        (notices_of wanted.now.at place (said_in wanted.now.apid (found dump.entry)))) }
+        (notices_of wanted.now.at place (said_in wanted.now.apid (dump_found dump.entry)))) }
     ensures fault { IfErr result (λ e. (e ≡ StreamFault.Write) ⊎ (e ≡ StreamFault.Memory)) }
     ensures part { IfErr result (λ _. AppendsPart (K.contents out.old) (K.contents out.new)
         (written_first wanted.now.at
-        (areas_of wanted.now.at (said_in wanted.now.apid (found dump.entry))))) }
+        (areas_of wanted.now.at (said_in wanted.now.apid (dump_found dump.entry))))) }
     ensures writer { WriteEnds result (K.failed out.old) (K.failed out.new) }
 {
     let report = match read_report(alloc, wanted.apid, dump) {
@@ -177,16 +180,16 @@ fn take_areas<K: Sink, L: Listener>(
     listener: &mut L,
 ) -> Result<(), StreamFault>
     ensures held { (before : List Area) (ns : List Notice)
-        → Held wanted.now.at before ns holding.old
-        → OnOk result (Held wanted.now.at (before ++ given areas.now)
+        → HeldAreas wanted.now.at before ns holding.old
+        → OnOk result (HeldAreas wanted.now.at (before ++ areas_given areas.now)
         (ns ++ told_of memory place areas.now) holding.new) }
     ensures wrote { OnOk result (Appends (K.contents out.old) (K.contents out.new)
-        (written_first wanted.now.at (given areas.now))) }
+        (written_first wanted.now.at (areas_given areas.now))) }
     ensures heard { OnOk result (Hears (L.heard listener.old) (L.heard listener.new)
         (told_of memory place areas.now)) }
     ensures fault { IfErr result (λ e. (e ≡ StreamFault.Write) ⊎ (e ≡ StreamFault.Memory)) }
     ensures part { IfErr result (λ _. AppendsPart (K.contents out.old) (K.contents out.new)
-        (written_first wanted.now.at (given areas.now))) }
+        (written_first wanted.now.at (areas_given areas.now))) }
     ensures writer { WriteEnds result (K.failed out.old) (K.failed out.new) }
 {
     for seen in areas {
@@ -209,16 +212,16 @@ fn take_area<K: Sink, L: Listener>(
     listener: &mut L,
 ) -> Result<(), StreamFault>
     ensures held { (before : List Area) (ns : List Notice)
-        → Held wanted.now.at before ns holding.old
-        → OnOk result (Held wanted.now.at (before ++ given (seen.now ∷ []))
+        → HeldAreas wanted.now.at before ns holding.old
+        → OnOk result (HeldAreas wanted.now.at (before ++ areas_given (seen.now ∷ []))
         (ns ++ told_of memory place (seen.now ∷ [])) holding.new) }
     ensures wrote { OnOk result (Appends (K.contents out.old) (K.contents out.new)
-        (written_first wanted.now.at (given (seen.now ∷ [])))) }
+        (written_first wanted.now.at (areas_given (seen.now ∷ [])))) }
     ensures heard { OnOk result (Hears (L.heard listener.old) (L.heard listener.new)
         (told_of memory place (seen.now ∷ []))) }
     ensures fault { IfErr result (λ e. (e ≡ StreamFault.Write) ⊎ (e ≡ StreamFault.Memory)) }
     ensures part { IfErr result (λ _. AppendsPart (K.contents out.old) (K.contents out.new)
-        (written_first wanted.now.at (given (seen.now ∷ [])))) }
+        (written_first wanted.now.at (areas_given (seen.now ∷ [])))) }
     ensures writer { WriteEnds result (K.failed out.old) (K.failed out.new) }
 {
     let span = Span {
@@ -268,8 +271,8 @@ fn keep_area<K: Sink>(
     out: &mut K,
 ) -> Result<(), StreamFault>
     ensures held { (before : List Area) (ns : List Notice)
-        → Held wanted.now.at before ns holding.old
-        → OnOk result (Held wanted.now.at
+        → HeldAreas wanted.now.at before ns holding.old
+        → OnOk result (HeldAreas wanted.now.at
         (before ++ area (load_area seen.now) ∷ []) ns holding.new) }
     ensures wrote { OnOk result (Appends (K.contents out.old) (K.contents out.new)
         (written_first wanted.now.at (area (load_area seen.now) ∷ []))) }

@@ -12,12 +12,12 @@ pub struct Wanted {
     pub layout: Layout,
     /// The image that is wanted; without one, the octets of all areas, in the order in which they
     /// stand.
-    pub at: Option<Place>,
+    pub at: Option<ImagePlace>,
 }
 
 /// An image of one memory.
 #[derive(Clone, Copy)]
-pub struct Place {
+pub struct ImagePlace {
     /// The memory's identifier.
     pub memory: u8,
     /// The address of the image's first octet.

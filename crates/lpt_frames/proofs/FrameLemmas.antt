@@ -8,9 +8,9 @@ use Rattle.std.proofs.lemmas.List.{length-take-le, take-append-drop}
 use Rattle.lpt_packet.specs.Numbers.{word_at}
 use Rattle.lpt_text.specs.declared.fault.StreamFault.{StreamFault}
 use Rattle.lpt_text.specs.declared.fault.StreamFault.TheVariants as faults
-use Rattle.lpt_stream.specs.Streams.{all_octets, cut_at, front_of, wanted, IsUnfinished}
+use Rattle.lpt_stream.specs.Streams.{all_octets, cut_at, front_of, octets_wanted, IsUnfinished}
 use Rattle.lpt_stream.proofs.StreamLemmas.{framed_first}
-use Rattle.lpt_frames.specs.Buffers.{held, Adds, Fills, Finds, IsFoundBy, IsLast, Stands}
+use Rattle.lpt_frames.specs.Buffers.{octets_held, Adds, Fills, Finds, IsFoundBy, IsLast, Stands}
 use Rattle.lpt_frames.specs.Frames.{may_begin, IsCut, IsFrame, Stops}
 use Rattle.lpt_frames.specs.declared.buffer.FrameBuffer.{FrameBuffer}
 use Rattle.lpt_frames.specs.declared.front.Front.{Front}
@@ -20,7 +20,7 @@ use Rattle.lpt_frames.specs.declared.front.Front.TheVariants.{Frame, Stray, End}
 
 -- nothing was read
 pub adds-nothing : (b : FrameBuffer) (a : Option (List ℕ)) → Adds b b a a []
-adds-nothing b a = record { consumed = Consumes-nil a; behind = sym (append-nil (held b)) }
+adds-nothing b a = record { consumed = Consumes-nil a; behind = sym (append-nil (octets_held b)) }
 
 -- what is read after what was read
 pub adds-more : (old mid new : FrameBuffer) (a b c : Option (List ℕ)) (read more : List ℕ)
@@ -29,18 +29,18 @@ pub adds-more : (old mid new : FrameBuffer) (a b c : Option (List ℕ)) (read mo
     → Adds old new a c (read ++ more)
 adds-more old mid new a b c read more p q = record {
   consumed = Consumes-trans a b c read more p.consumed q.consumed;
-  behind = q.behind ∙ ap (λ x. x ++ more) p.behind ∙ append_assoc (held old) read more;
+  behind = q.behind ∙ ap (λ x. x ++ more) p.behind ∙ append_assoc (octets_held old) read more;
 }
 
 -- the longest packet is nearer
 pub nearer : (mid new : FrameBuffer) (b c : Option (List ℕ)) (more : List ℕ)
-    → length (held mid) < 65542
+    → length (octets_held mid) < 65542
     → Adds mid new b c more
     → 0 < length more
-    → 65542 - length (held new) < 65542 - length (held mid)
+    → 65542 - length (octets_held new) < 65542 - length (octets_held mid)
 nearer mid new b c more few added some =
-    let size : length (held new) ≡ length (held mid) + length more =
-    ap length added.behind ∙ length-append (held mid) more in
+    let size : length (octets_held new) ≡ length (octets_held mid) + length more =
+    ap length added.behind ∙ length-append (octets_held mid) more in
     omega arith
 
 -- what is found stands there
@@ -88,13 +88,13 @@ pub end-found : (s : Bool) (old mid new : FrameBuffer) (a b c : Option (List ℕ
     (had told failed : Bool)
     → Adds old mid a b read
     → told ≡ had
-    → IsLast s (held mid)
+    → IsLast s (octets_held mid)
     → Fills (Ok false) mid new b c told failed
     → Finds s (Ok End) old new a c had failed
 end-found s old mid new a b c read had told failed p same few q = (
   read ++ [],
   adds-more old mid new a b c read [] p q.0,
-  (subst (IsLast s) (sym (q.0.behind ∙ append-nil (held mid))) few, q.1),
+  (subst (IsLast s) (sym (q.0.behind ∙ append-nil (octets_held mid))) few, q.1),
   q.2 ∙ same,
 )
 
@@ -119,7 +119,7 @@ unfinished_front : (b : List ℕ) → IsUnfinished b → front_of b ≡ None
 unfolding front_of
 unfinished_front b h =
     ap (λ t. if t then None else Some (cut_at (7 + word_at b 4) b))
-    (lt_true (length b) (wanted b) h)
+    (lt_true (length b) (octets_wanted b) h)
 
 -- the parts of one front
 front_or : Option (List ℕ × List ℕ) → List ℕ × List ℕ

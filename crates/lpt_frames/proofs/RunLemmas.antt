@@ -7,7 +7,7 @@ use Rattle.std.proofs.lemmas.Bool.Decides.{nat_tests}
 use Rattle.std.proofs.lemmas.List.{drop-append-le, drop-drop}
 use Rattle.lpt_text.specs.declared.fault.StreamFault.{StreamFault}
 use Rattle.lpt_text.specs.declared.fault.StreamFault.TheVariants as faults
-use Rattle.lpt_frames.specs.Buffers.{held, Finds, FindsAgain, IsFoundAgain}
+use Rattle.lpt_frames.specs.Buffers.{octets_held, Finds, FindsAgain, IsFoundAgain}
 use Rattle.lpt_frames.specs.Frames.{IsStray}
 use Rattle.lpt_frames.specs.Stretches.{begins_again, IsFront, IsRun, NeverBegins}
 use Rattle.lpt_frames.specs.declared.buffer.FrameBuffer.{FrameBuffer}
@@ -150,20 +150,20 @@ run-here first now n a b more h stray next =
 pub again-packet : (x y : FrameBuffer) (first now : List ℕ) (n : ℕ) (a b d : Option (List ℕ))
     (more : List ℕ) (had failed : Bool)
     → Passes first now n a b
-    → first ≡ held x
+    → first ≡ octets_held x
     → IsStray first
     → Consumes b d more
-    → held y ≡ now ++ more
-    → ((rest : List ℕ) → begins_again (held y ++ rest) ≡ true)
+    → octets_held y ≡ now ++ more
+    → ((rest : List ℕ) → begins_again (octets_held y ++ rest) ≡ true)
     → failed ≡ had
     → FindsAgain (Ok (record { len = n; is_end = false })) x y a d had failed
 again-packet x y first now n a b d more had failed h is stray came held_is found same =
-    let k = passes-read first now (held y) n a b d more h came held_is in (
+    let k = passes-read first now (octets_held y) n a b d more h came held_is in (
       k.read,
       k.consumed,
       k.left ∙ ap (λ z. drop n (z ++ k.read)) is,
       (λ rest. subst (λ z. IsRun n ((z ++ k.read) ++ rest)) is
-          (run-here first (held y) n a d rest k stray (inl (found rest)))),
+          (run-here first (octets_held y) n a d rest k stray (inl (found rest)))),
       same,
     )
 
@@ -171,24 +171,24 @@ again-packet x y first now n a b d more had failed h is stray came held_is found
 pub again-end : (x y : FrameBuffer) (first now : List ℕ) (n : ℕ) (a b d : Option (List ℕ))
     (more : List ℕ) (had failed : Bool)
     → Passes first now n a b
-    → first ≡ held x
+    → first ≡ octets_held x
     → IsStray first
     → Consumes b d more
-    → held y ≡ now ++ more
-    → IsFront (held y)
+    → octets_held y ≡ now ++ more
+    → IsFront (octets_held y)
     → IsAtEnd d
     → failed ≡ had
     → FindsAgain (Ok (record { len = n; is_end = true })) x y a d had failed
 again-end x y first now n a b d more had failed h is stray came held_is last at_end same =
-    let k = passes-read first now (held y) n a b d more h came held_is in (
+    let k = passes-read first now (octets_held y) n a b d more h came held_is in (
       k.read,
       k.consumed,
       k.left ∙ ap (λ z. drop n (z ++ k.read)) is,
       (
         subst (λ z. IsRun n (z ++ k.read)) is
             (subst (IsRun n) (append-nil (first ++ k.read))
-            (run-here first (held y) n a d [] k stray
-            (inr (subst IsFront (sym (append-nil (held y))) last)))),
+            (run-here first (octets_held y) n a d [] k stray
+            (inr (subst IsFront (sym (append-nil (octets_held y))) last)))),
         subst (λ z. IsFront (drop n (z ++ k.read))) is (subst IsFront k.left last),
         at_end,
       ),
@@ -198,7 +198,7 @@ again-end x y first now n a b d more had failed h is stray came held_is last at_
 -- a read or a write failed, or octets were lost
 pub again-fault : (fault : StreamFault) (x y m : FrameBuffer) (first : List ℕ) (n : ℕ)
     (a b d : Option (List ℕ)) (had told failed : Bool)
-    → Passes first (held m) n a b
+    → Passes first (octets_held m) n a b
     → told ≡ had
     → Finds false (Err fault) m y b d told failed
     → FindsAgain (Err fault) x y a d had failed
@@ -213,7 +213,7 @@ again-fault faults.Memory x y m first n a b d had told failed h same q =
 pub again-endless : (x y : FrameBuffer) (first now : List ℕ) (n : ℕ) (a b : Option (List ℕ))
     (had failed : Bool)
     → Passes first now n a b
-    → first ≡ held x
+    → first ≡ octets_held x
     → n ≡ 18446744073709551615
     → FindsAgain (Err faults.Read) x y a b had failed
 again-endless x y first now n a b had failed h is most =

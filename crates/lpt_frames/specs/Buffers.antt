@@ -12,18 +12,18 @@ use Rattle.lpt_frames.specs.Frames.{IsFound}
 use Rattle.lpt_frames.specs.Stretches.{begins_again, IsFront, IsRun, NeverBegins}
 
 -- the octets that were read and not passed over yet
-abbrev pub held : FrameBuffer → List ℕ
-held b = drop b.start (take b.end b.octets.items)
+abbrev pub octets_held : FrameBuffer → List ℕ
+octets_held b = drop b.start (take b.end b.octets.items)
 
 -- all octets for which there is room
-abbrev pub kept : FrameBuffer → List ℕ
-kept b = b.octets.items
+abbrev pub octets_kept : FrameBuffer → List ℕ
+octets_kept b = b.octets.items
 
 -- octets were read, and are held behind the rest
 pub record Adds (old new : FrameBuffer) (before after : Option (List ℕ)) (read : List ℕ) : Type 0
   where
     pub consumed : Consumes before after read
-    pub behind : held new ≡ held old ++ read
+    pub behind : octets_held new ≡ octets_held old ++ read
 
 -- what a read gives: octets; or none at the end of the stream; or that it failed; where memory runs
 -- out, octets were read and lost
@@ -68,7 +68,7 @@ Stands s End b after = IsLast s b × IsAtEnd after
 abbrev pub Finds : (in_step : Bool) → Result Front StreamFault → (old new : FrameBuffer)
     → (before after : Option (List ℕ)) → (had failed : Bool) → Type 0
 Finds s (Ok front) old new before after had failed =
-    (read : List ℕ) × Adds old new before after read × Stands s front (held new) after ×
+    (read : List ℕ) × Adds old new before after read × Stands s front (octets_held new) after ×
     (failed ≡ had)
 Finds s (Err faults.Read) old new before after had failed =
     (read : List ℕ) × Adds old new before after read × (failed ≡ true)
@@ -94,11 +94,12 @@ RunsTo true n b after = IsRun n b × IsFront (drop n b) × IsAtEnd after
 abbrev pub FindsAgain : Result Skipped StreamFault → (old new : FrameBuffer)
     → (before after : Option (List ℕ)) → (had failed : Bool) → Type 0
 FindsAgain (Ok run) old new before after had failed =
-    (read : List ℕ) × Consumes before after read × (held new ≡ drop run.len (held old ++ read))
-    × RunsTo run.is_end run.len (held old ++ read) after × (failed ≡ had)
+    (read : List ℕ) × Consumes before after read
+    × (octets_held new ≡ drop run.len (octets_held old ++ read))
+    × RunsTo run.is_end run.len (octets_held old ++ read) after × (failed ≡ had)
 FindsAgain (Err faults.Read) old new before after had failed =
     (read : List ℕ) × Consumes before after read
-    × ((failed ≡ true) ⊎ (2 ^ 64 - 1 ≤ length (held old ++ read)))
+    × ((failed ≡ true) ⊎ (2 ^ 64 - 1 ≤ length (octets_held old ++ read)))
 FindsAgain (Err faults.Write) old new before after had failed =
     (read : List ℕ) × Consumes before after read × (failed ≡ had)
 FindsAgain (Err faults.Memory) old new before after had failed =

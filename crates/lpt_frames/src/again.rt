@@ -19,7 +19,7 @@ pub struct Skipped {
 impl FrameBuffer {
     ghost use Rattle.std.specs.Io.KnownBytes.{Keeps};
     ghost use Rattle.lpt_text.specs.Streams.{WriteEnds};
-    ghost use Rattle.lpt_frames.specs.Buffers.{held, FindsAgain};
+    ghost use Rattle.lpt_frames.specs.Buffers.{octets_held, FindsAgain};
     ghost use Rattle.lpt_frames.specs.Frames.{IsStray};
 
     /// Passes over the octets in front, with which no packet can begin, and those behind them, up
@@ -33,7 +33,7 @@ impl FrameBuffer {
         peer: &mut P,
         out: &mut K,
     ) -> Result<Skipped, StreamFault>
-        requires { IsStray (held self.old) }
+        requires { IsStray (octets_held self.old) }
         ensures finds { FindsAgain result self.old self.new (P.remaining peer.old)
             (P.remaining peer.new) (P.failed peer.old) (P.failed peer.new) }
         ensures same { Keeps (K.contents out.old) (K.contents out.new) }

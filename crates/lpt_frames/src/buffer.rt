@@ -32,11 +32,11 @@ impl FrameBuffer {
     ghost use Rattle.std.specs.Io.KnownBytes.{Keeps};
     ghost use Rattle.lpt_text.specs.Streams.{WriteEnds};
     ghost use Rattle.lpt_packet.specs.Sizes.{longest_packet};
-    ghost use Rattle.lpt_frames.specs.Buffers.{held, kept, Fills, Finds, FindsFrame};
+    ghost use Rattle.lpt_frames.specs.Buffers.{octets_held, octets_kept, Fills, Finds, FindsFrame};
 
     /// A stream of which nothing was read.
     pub fn new(alloc: Global) -> Self
-        ensures { held result ≡ [] }
+        ensures { octets_held result ≡ [] }
     {
         FrameBuffer {
             octets: Vec::new(alloc),
@@ -46,23 +46,23 @@ impl FrameBuffer {
     }
 
     /// The octets that were read and not passed over yet.
-    pub fn held(&self) -> &[u8]
-        ensures { result.now ≡ held self.now }
+    pub fn octets_held(&self) -> &[u8]
+        ensures { result.now ≡ octets_held self.now }
     {
         &self.octets[self.start..self.end]
     }
 
     /// Cites for how many octets there is room, of which some are held.
     pub fn few_are_kept(&self)
-        ensures { length (kept self.now) ≤ most_kept }
+        ensures { length (octets_kept self.now) ≤ most_kept }
     {
         let _start = self.start;
     }
 
     /// Passes over so many of the octets that are held.
     pub fn skip(&mut self, len: usize)
-        requires { len ≤ length (held self.old) }
-        ensures { held self.new ≡ drop len (held self.old) }
+        requires { len ≤ length (octets_held self.old) }
+        ensures { octets_held self.new ≡ drop len (octets_held self.old) }
     {
         self.start += len;
     }
@@ -98,7 +98,7 @@ impl FrameBuffer {
         ensures writer { WriteEnds result (K.failed out.old) (K.failed out.new) }
     {
         loop {
-            match front_by(self.held(), in_step) {
+            match front_by(self.octets_held(), in_step) {
                 Some(front) => return Ok(front),
                 None => {}
             }
@@ -114,7 +114,7 @@ impl FrameBuffer {
     // Reads some octets behind those that are held, and answers whether there were any.
     fn fill<P: Peer, K: Sink>(&mut self, peer: &mut P, out: &K) -> Result<bool, StreamFault>
         requires flushed { K.flushed out.now ≡ K.contents out.now }
-        requires few { length (held self.old) < longest_packet }
+        requires few { length (octets_held self.old) < longest_packet }
         ensures { Fills result self.old self.new (P.remaining peer.old) (P.remaining peer.new)
             (P.failed peer.old) (P.failed peer.new) }
     {
@@ -132,9 +132,9 @@ impl FrameBuffer {
 
     // Moves what is held to the front.
     fn compact(&mut self)
-        ensures held { held self.new ≡ held self.old }
+        ensures held { octets_held self.new ≡ octets_held self.old }
         ensures front { self.new.start ≡ 0 }
-        ensures last { self.new.end ≡ length (held self.old) }
+        ensures last { self.new.end ≡ length (octets_held self.old) }
     {
         self.octets.copy_within(self.start..self.end, 0);
         self.end -= self.start;
@@ -144,7 +144,7 @@ impl FrameBuffer {
     // Makes room behind it for what a read gives.
     fn make_room(&mut self) -> Result<(), AllocError>
         requires { self.old.end < longest_packet }
-        ensures held { held self.new ≡ held self.old }
+        ensures held { octets_held self.new ≡ octets_held self.old }
         ensures front { self.new.start ≡ self.old.start }
         ensures last { self.new.end ≡ self.old.end }
         ensures room { OnOk result (self.new.end + 65536 ≤ length self.new.octets.items) }

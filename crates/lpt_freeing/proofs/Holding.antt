@@ -12,7 +12,7 @@ use Rattle.lpt_events.specs.declared.event.Event.TheVariants as event
 use Rattle.lpt_journal.proofs.CountLemmas.{same_name-comm}
 use Rattle.lpt_apart.specs.Ends.{is_part}
 use Rattle.lpt_apart.specs.Facts.{is_same}
-use Rattle.lpt_apart.specs.Moves.{Pair, Move, Do, Free, freed_by, retired_by, moved, CanMove}
+use Rattle.lpt_apart.specs.Moves.{Pair, Move, Do, Free, freed_by, retired_by, pair_after, CanMove}
 use Rattle.lpt_apart.specs.Steps.{Step, Retire, CanHappen, after}
 use Rattle.lpt_apart.proofs.Closing.{IsNoRetirement, IsShut, closed_stays, kept_removed}
 use Rattle.lpt_freeing.specs.Lines.{Line, Part, Packet, Finished, Freed, sends, receives}
@@ -208,7 +208,7 @@ pub holds_on : (c : Config) (p : Pair) (x : Move) (xs : List Move) (l : Line)
     → IsFirst p x
     → InTurn p xs
     → Holds p xs l
-    → Holds (moved c p x) (x ∷ xs) l
+    → Holds (pair_after c p x) (x ∷ xs) l
 holds_on c p (Do (Retire e i)) xs l can first turns h = holds_retired c p e i xs l can.1 turns h
 holds_on c p (Do x) xs l can first turns h = holds_step c p x xs l can tt h
 holds_on c p (Free e i) xs l can first turns h = holds_freed c p e i xs l first turns h
@@ -226,7 +226,7 @@ pub all_hold_on : (c : Config) (p : Pair) (x : Move) (xs : List Move) (ls : List
     → IsFirst p x
     → InTurn p xs
     → AllHold p xs ls
-    → AllHold (moved c p x) (x ∷ xs) ls
+    → AllHold (pair_after c p x) (x ∷ xs) ls
 all_hold_on c p x xs [] can first turns h = tt
 all_hold_on c p x xs (l ∷ ls) can first turns h =
     (holds_on c p x xs l can first turns h.0, all_hold_on c p x xs ls can first turns h.1)

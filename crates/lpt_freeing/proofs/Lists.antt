@@ -9,10 +9,10 @@ use Rattle.lpt_events.specs.declared.side.Side.{Side}
 use Rattle.lpt_events.specs.declared.side.Side.TheVariants.{Ground, Craft}
 use Rattle.lpt_acts.specs.Acts.{Within, limits_of}
 use Rattle.lpt_apart.specs.Clocks.{after_all}
-use Rattle.lpt_apart.specs.Moves.{CanMove, Do, Move, Pair, moved}
+use Rattle.lpt_apart.specs.Moves.{CanMove, Do, Move, Pair, pair_after}
 use Rattle.lpt_apart.specs.Steps.{Accept, Retire, Restart, Send, Step, Tick}
 use Rattle.lpt_apart_kept.specs.Deeds.{with_restart}
-use Rattle.lpt_apart_kept.specs.Resets.{Lived, Reset, Write, left_without, lived, made, made_forgotten, side_of}
+use Rattle.lpt_apart_kept.specs.Resets.{Lived, Reset, Write, left_without, lived_after, move_made, made_forgotten, side_of}
 use Rattle.lpt_freeing.specs.Freeing.{IsOwn, part_line}
 use Rattle.lpt_freeing.specs.Lines.{Line}
 use Rattle.lpt_freeing.specs.Resets.{IsAsKept}
@@ -69,7 +69,7 @@ module _ (c : Config) (start : Pair) where
       → IsTold l ls
       → IsNext c (at l.moves) x
       → IsNext c (at (other_without l side)) x
-      → IsTold (made c l side x) ls
+      → IsTold (move_made c l side x) ls
   makes l ls x Ground of t next beside = record {
     all = sound_move c start l.moves ls x t.all next;
     no_ground = t.no_ground;
@@ -205,12 +205,12 @@ module _ (c : Config) (start : Pair) where
       let as_own : line l.moves ≡ line own = sym kept.same in
       let holds : (xs : List Move)
       → line l.moves ≡ line xs
-      → Holds (moved c (at xs) x) (x ∷ xs) (line l.moves) =
+      → Holds (pair_after c (at xs) x) (x ∷ xs) (line l.moves) =
       λ xs same.
-      subst (λ (m : Line). Holds (moved c (at xs) x) (x ∷ xs) m) (sym same)
+      subst (λ (m : Line). Holds (pair_after c (at xs) x) (x ∷ xs) m) (sym same)
       (made_holds c (at xs) xs d name k) in
       let it =
-      in_all (λ (xs : List Move). Holds (moved c (at xs) x) (x ∷ xs) (line l.moves)) l side
+      in_all (λ (xs : List Move). Holds (pair_after c (at xs) x) (x ∷ xs) (line l.moves)) l side
       (holds l.moves refl)
       (holds own as_own)
       (holds (other_without l side)
@@ -224,7 +224,7 @@ module _ (c : Config) (start : Pair) where
   -- once an end is kept
   pub keeps : (l : Lived) (ls : List Line) (side : Side)
       → IsTold l ls
-      → IsTold (lived c l (Write side)) ls
+      → IsTold (lived_after c l (Write side)) ls
   keeps l ls Ground t = record {
     all = t.all;
     no_ground = t.all;
@@ -290,7 +290,7 @@ module _ (c : Config) (start : Pair) where
   -- once a machine is reset
   pub resets : (l : Lived) (ls : List Line) (side : Side) (d : Config)
       → IsTold l ls
-      → IsTold (lived c l (Reset side d)) ls
+      → IsTold (lived_after c l (Reset side d)) ls
   resets l ls Ground d t = record {
     all = restarts l.but_ground ls d Ground t.no_ground;
     no_ground = t.no_ground;

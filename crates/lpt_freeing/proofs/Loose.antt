@@ -14,14 +14,14 @@ use Rattle.lpt_events.specs.Lanes.{same_direction}
 use Rattle.lpt_events.specs.declared.config.Config.{Config}
 use Rattle.lpt_events.specs.declared.side.Side.TheVariants.{Ground, Craft}
 use Rattle.lpt_events.specs.declared.worker.Worker.{Worker}
-use Rattle.lpt_node.specs.Accepting.{accepted}
-use Rattle.lpt_node.specs.Jobs.{executed}
+use Rattle.lpt_node.specs.Accepting.{packet_accepted}
+use Rattle.lpt_node.specs.Jobs.{job_executed}
 use Rattle.lpt_node.specs.Requests.{plain_made}
 use Rattle.lpt_node.specs.Times.{expired_of, which_ends}
 use Rattle.lpt_model.specs.State.{as_list}
 use Rattle.lpt_model.specs.Tickets.{ticket_of}
 use Rattle.lpt_apart.specs.Ends.{Ends, PutOut, put_out, is_part, without}
-use Rattle.lpt_apart.specs.Moves.{Do, Free, Move, Pair, moved}
+use Rattle.lpt_apart.specs.Moves.{Do, Free, Move, Pair, pair_after}
 use Rattle.lpt_apart.specs.Steps.{Accept, Apply, Claim, Commit, Expire, Finish, Open, Plain, Restart, Retire, Send, Tick, committed_on}
 use Rattle.lpt_apart_kept.specs.Resets.{side_of}
 use Rattle.lpt_apart_kept.proofs.GroundReports.{none_of_delivery, none_of_expiry}
@@ -128,7 +128,8 @@ pub ground_ways : (c : Config) (x : Move) (p q : Pair)
     → side_of x ≡ Ground
     → p.ends.on_ground ≡ q.ends.on_ground
     → loose_in Up p.ends.on_the_way ≡ loose_in Up q.ends.on_the_way
-    → loose_in Up (moved c p x).ends.on_the_way ≡ loose_in Up (moved c q x).ends.on_the_way
+    → loose_in Up (pair_after c p x).ends.on_the_way
+    ≡ loose_in Up (pair_after c q x).ends.on_the_way
 ground_ways c (Do (Open Up name m)) p q of node same = same
 ground_ways c (Do (Open Down name m)) p q of node same = absurd cc
 ground_ways c (Do (Send Up name k)) p q of node same = same
@@ -144,9 +145,10 @@ ground_ways c (Do (Finish Down name)) p q of node same = absurd cc
 ground_ways c (Do (Accept Up b)) p q of node same = absurd cc
 ground_ways c (Do (Accept Down b)) p q of node same =
     let a : Arrival = arrival_in c Down b in
-    put_down p.ends.on_the_way (as_list (accepted Ground c p.ends.on_ground a).1.packet)
+    put_down p.ends.on_the_way (as_list (packet_accepted Ground c p.ends.on_ground a).1.packet)
     ∙ same
-    ∙ sym (put_down q.ends.on_the_way (as_list (accepted Ground c q.ends.on_ground a).1.packet))
+    ∙ sym (put_down q.ends.on_the_way
+    (as_list (packet_accepted Ground c q.ends.on_ground a).1.packet))
 ground_ways c (Do (Tick Ground turn)) p q of node same = same
 ground_ways c (Do (Tick Craft turn)) p q of node same = absurd cc
 ground_ways c (Do (Expire Ground which)) p q of node same =
@@ -175,7 +177,7 @@ ground_ways c (Free Down name) p q of node same =
 -- a move of the spacecraft leaves them
 pub ground_left : (c : Config) (x : Move) (p : Pair)
     → side_of x ≡ Craft
-    → loose_in Up (moved c p x).ends.on_the_way ≡ loose_in Up p.ends.on_the_way
+    → loose_in Up (pair_after c p x).ends.on_the_way ≡ loose_in Up p.ends.on_the_way
 ground_left c (Do (Open Up name m)) p of = absurd cc
 ground_left c (Do (Open Down name m)) p of = refl
 ground_left c (Do (Send Up name k)) p of = absurd cc
@@ -185,7 +187,7 @@ ground_left c (Do (Finish Up name)) p of = absurd cc
 ground_left c (Do (Finish Down name)) p of = refl
 ground_left c (Do (Accept Up b)) p of =
     put_down p.ends.on_the_way
-    (as_list (accepted Craft c p.ends.on_craft (arrival_in c Up b)).1.packet)
+    (as_list (packet_accepted Craft c p.ends.on_craft (arrival_in c Up b)).1.packet)
 ground_left c (Do (Accept Down b)) p of = absurd cc
 ground_left c (Do (Tick Ground turn)) p of = absurd cc
 ground_left c (Do (Tick Craft turn)) p of = refl
@@ -201,7 +203,7 @@ ground_left c (Do (Commit w)) p of = go (ticket_of p.ends.tickets w) where
   go None = refl
   go (Some t) = refl
 ground_left c (Do Apply) p of =
-    put_down p.ends.on_the_way (executed c p.ends.on_craft p.ends.memories).0.1.packets
+    put_down p.ends.on_the_way (job_executed c p.ends.on_craft p.ends.memories).0.1.packets
 ground_left c (Do (Retire Up name)) p of = absurd cc
 ground_left c (Do (Retire Down name)) p of = left_loose Up Down name p.ends.on_the_way
 ground_left c (Do (Restart Ground)) p of = absurd cc
@@ -220,7 +222,8 @@ pub craft_ways : (c : Config) (x : Move) (p q : Pair)
     → side_of x ≡ Craft
     → aboard p.ends ≡ aboard q.ends
     → loose_in Down p.ends.on_the_way ≡ loose_in Down q.ends.on_the_way
-    → loose_in Down (moved c p x).ends.on_the_way ≡ loose_in Down (moved c q x).ends.on_the_way
+    → loose_in Down (pair_after c p x).ends.on_the_way
+    ≡ loose_in Down (pair_after c q x).ends.on_the_way
 craft_ways c (Do (Open Up name m)) p q of node same = absurd cc
 craft_ways c (Do (Open Down name m)) p q of node same = same
 craft_ways c (Do (Send Up name k)) p q of node same = absurd cc
@@ -230,9 +233,10 @@ craft_ways c (Do (Finish Up name)) p q of node same = absurd cc
 craft_ways c (Do (Finish Down name)) p q of node same = same
 craft_ways c (Do (Accept Up b)) p q of node same =
     let a : Arrival = arrival_in c Up b in
-    put_own p.ends.on_the_way (as_list (accepted Craft c p.ends.on_craft a).1.packet)
-    ∙ (λ i. put_out (same i) Down None (as_list (accepted Craft c ((node i).node) a).1.packet))
-    ∙ sym (put_own q.ends.on_the_way (as_list (accepted Craft c q.ends.on_craft a).1.packet))
+    put_own p.ends.on_the_way (as_list (packet_accepted Craft c p.ends.on_craft a).1.packet)
+    ∙ (λ i. put_out (same i) Down None
+    (as_list (packet_accepted Craft c ((node i).node) a).1.packet))
+    ∙ sym (put_own q.ends.on_the_way (as_list (packet_accepted Craft c q.ends.on_craft a).1.packet))
 craft_ways c (Do (Accept Down b)) p q of node same = absurd cc
 craft_ways c (Do (Tick Ground turn)) p q of node same = absurd cc
 craft_ways c (Do (Tick Craft turn)) p q of node same = same
@@ -251,9 +255,10 @@ craft_ways c (Do (Commit w)) p q of node same =
     ap (loose_in Down) (commits_nothing c p.ends (ticket_of p.ends.tickets w) w) ∙ same
     ∙ ap (loose_in Down) (sym (commits_nothing c q.ends (ticket_of q.ends.tickets w) w))
 craft_ways c (Do Apply) p q of node same =
-    put_own p.ends.on_the_way (executed c p.ends.on_craft p.ends.memories).0.1.packets
-    ∙ (λ i. put_out (same i) Down None (executed c ((node i).node) ((node i).memories)).0.1.packets)
-    ∙ sym (put_own q.ends.on_the_way (executed c q.ends.on_craft q.ends.memories).0.1.packets)
+    put_own p.ends.on_the_way (job_executed c p.ends.on_craft p.ends.memories).0.1.packets
+    ∙ (λ i. put_out (same i) Down None
+    (job_executed c ((node i).node) ((node i).memories)).0.1.packets)
+    ∙ sym (put_own q.ends.on_the_way (job_executed c q.ends.on_craft q.ends.memories).0.1.packets)
 craft_ways c (Do (Retire Up name)) p q of node same = absurd cc
 craft_ways c (Do (Retire Down name)) p q of node same =
     left_loose Down Down name p.ends.on_the_way ∙ same
@@ -268,7 +273,7 @@ craft_ways c (Free Down name) p q of node same = absurd cc
 -- a move of ground leaves them
 pub craft_left : (c : Config) (x : Move) (p : Pair)
     → side_of x ≡ Ground
-    → loose_in Down (moved c p x).ends.on_the_way ≡ loose_in Down p.ends.on_the_way
+    → loose_in Down (pair_after c p x).ends.on_the_way ≡ loose_in Down p.ends.on_the_way
 craft_left c (Do (Open Up name m)) p of = refl
 craft_left c (Do (Open Down name m)) p of = absurd cc
 craft_left c (Do (Send Up name k)) p of = refl

@@ -14,7 +14,7 @@ use Rattle.lpt_ledger.specs.States.{state_at}
 use Rattle.lpt_model.specs.Tickets.{ticket_of}
 use Rattle.lpt_node.specs.Jobs.{refusal_claim, refusal_apply}
 use Rattle.lpt_node.specs.Nodes.{NodeData}
-use Rattle.lpt_node.specs.Sending.{refusal_finish, refusal_open, refusal_send, sent}
+use Rattle.lpt_node.specs.Sending.{refusal_finish, refusal_open, refusal_send, part_sent}
 use Rattle.lpt_node.specs.Times.{refusal_tick, refusal_end, can_set_back}
 use Rattle.lpt_apart.specs.Clocks.{after_all}
 use Rattle.lpt_apart.specs.Ends.{Ends, PutOut}
@@ -275,9 +275,9 @@ module _ (c : Config) (start : Pair) where
       → Same (sender_side d) xs ys
       → part_line c (at xs) xs d name k ≡ part_line c (at ys) ys d name k
   part_same Up name k xs ys s = λ i.
-      Part Up name (s.sends_as name i) (sent Ground c (s.node i) name k).1
+      Part Up name (s.sends_as name i) (part_sent Ground c (s.node i) name k).1
   part_same Down name k xs ys s = λ i.
-      Part Down name (s.sends_as name i) (sent Craft c ((s.has i).node) name k).1
+      Part Down name (s.sends_as name i) (part_sent Craft c ((s.has i).node) name k).1
 
   -- ---- what it does
 

@@ -13,13 +13,13 @@ use Rattle.lpt_events.specs.Sides.{receiver_side, sender_side}
 use Rattle.lpt_events.specs.declared.config.Config.{Config}
 use Rattle.lpt_events.specs.declared.event.Event.TheVariants as event
 use Rattle.lpt_events.proofs.LaneLemmas.{same_direction-refl}
-use Rattle.lpt_node.specs.Accepting.{accepted}
-use Rattle.lpt_node.specs.Sending.{sent}
+use Rattle.lpt_node.specs.Accepting.{packet_accepted}
+use Rattle.lpt_node.specs.Sending.{part_sent}
 use Rattle.lpt_model.specs.State.{as_list}
 use Rattle.lpt_apart.specs.Clocks.{after_all, CanAll}
 use Rattle.lpt_apart.specs.Ends.{Ends, PutOut, node_at, without}
 use Rattle.lpt_apart.specs.Facts.{is_same}
-use Rattle.lpt_apart.specs.Moves.{CanMove, CanMoveAll, Do, Free, Move, Pair, came_to, moved, no_pair}
+use Rattle.lpt_apart.specs.Moves.{CanMove, CanMoveAll, Do, Free, Move, Pair, came_to, pair_after, no_pair}
 use Rattle.lpt_apart.specs.Plays.{moves_of}
 use Rattle.lpt_apart.specs.Steps.{Accept, IsOnTheWay, IsOver, Retire, Send, Step}
 use Rattle.lpt_apart.proofs.Freely.{steps_are_moves}
@@ -109,7 +109,7 @@ module _ (c : Config) (start : Pair) where
         lined = λ p i there tagged. go p i there.0 there.1 tagged;
       } where
         octets : List ℕ
-        octets = (sent (sender_side d) c (node_at (at ms).ends (sender_side d)) name k).1
+        octets = (part_sent (sender_side d) c (node_at (at ms).ends (sender_side d)) name k).1
 
         go : (p : PutOut) (i : Name) (n : ℕ)
             → slice_get (part_of d name octets ∷ (at ms).ends.on_the_way) n ≡ Some p
@@ -138,7 +138,7 @@ module _ (c : Config) (start : Pair) where
   accepted_before ms d b p name tagged there =
       let e : Ends = (at ms).ends in
       put_before e.on_the_way p name Down
-      (as_list (accepted (receiver_side d) c (node_at e (receiver_side d))
+      (as_list (packet_accepted (receiver_side d) c (node_at e (receiver_side d))
       (arrival_in c d b)).1.packet) tagged there
 
   -- with octets that are handed over, by whatever act, once these lines were said
@@ -320,7 +320,7 @@ module _ (c : Config) (start : Pair) where
 same_ends : (c : Config) (first : Contents) (ms : List Move)
     → after_all c (no_pair c first) ms ≡ came_to c first ms
 same_ends c first [] = refl
-same_ends c first (x ∷ ms) = ap (λ (p : Pair). moved c p x) (same_ends c first ms)
+same_ends c first (x ∷ ms) = ap (λ (p : Pair). pair_after c p x) (same_ends c first ms)
 
 same_can : (c : Config) (first : Contents) (ms : List Move)
     → CanMoveAll c first ms

@@ -9,7 +9,7 @@ use Rattle.lpt_events.specs.Sides.{receiver_side}
 use Rattle.lpt_events.specs.declared.config.Config.{Config}
 use Rattle.lpt_apart.specs.Clocks.{after_all, CanAll, no_pair_later}
 use Rattle.lpt_apart.specs.Ends.{node_at}
-use Rattle.lpt_apart.specs.Moves.{CanMove, Do, Free, Move, Pair, moved}
+use Rattle.lpt_apart.specs.Moves.{CanMove, Do, Free, Move, Pair, pair_after}
 use Rattle.lpt_apart.specs.Steps.{Accept, Retire, Send}
 use Rattle.lpt_apart.proofs.Closing.{IsShut}
 use Rattle.lpt_apart.proofs.Clocks.{ends_with_clocks_keep_the_promise, ends_with_clocks_withhold_nothing}
@@ -30,7 +30,8 @@ said_holds p xs (Freed d name turn) may = may
 
 -- the line of a part that was made holds
 pub made_holds : (c : Config) (p : Pair) (xs : List Move) (d : Direction) (name : Name) (k : ℕ)
-    → Holds (moved c p (Do (Send d name k))) (Do (Send d name k) ∷ xs) (part_line c p xs d name k)
+    → Holds (pair_after c p (Do (Send d name k))) (Do (Send d name k) ∷ xs)
+    (part_line c p xs d name k)
 made_holds c p xs d name k = (omega arith, λ at. (0, refl))
 
 -- ---- what is answered can be done

@@ -9,7 +9,7 @@ use Rattle.lpt_events.specs.Lanes.{same_direction}
 use Rattle.lpt_events.specs.declared.config.Config.{Config}
 use Rattle.lpt_events.proofs.LaneLemmas.{same_direction-true}
 use Rattle.lpt_apart.specs.Facts.{is_same}
-use Rattle.lpt_apart.specs.Moves.{Pair, Move, Do, Free, moved, CanMove}
+use Rattle.lpt_apart.specs.Moves.{Pair, Move, Do, Free, pair_after, CanMove}
 use Rattle.lpt_apart.specs.Steps.{Step, Open, Send, Plain, Finish, Accept, Tick, Expire, Claim, Commit, Apply, Retire, Restart, after}
 use Rattle.lpt_apart.proofs.Closing.{IsNoRetirement}
 use Rattle.lpt_freeing.specs.Lines.{sends, receives}
@@ -106,7 +106,7 @@ step_turns c p x xs stays t = record {
 retire_turns : (c : Config) (p : Pair) (e : Direction) (i : Name) (xs : List Move)
     → p.freed e i ≡ true
     → InTurn p xs
-    → InTurn (moved c p (Do (Retire e i))) (Do (Retire e i) ∷ xs)
+    → InTurn (pair_after c p (Do (Retire e i))) (Do (Retire e i) ∷ xs)
 retire_turns c p e i xs freed t = record {
   next = λ d name is.
       let other : is_same e i d name ≡ false =
@@ -128,7 +128,7 @@ retire_turns c p e i xs freed t = record {
 free_turns : (c : Config) (p : Pair) (e : Direction) (i : Name) (xs : List Move)
     → p.freed e i ≡ false
     → InTurn p xs
-    → InTurn (moved c p (Free e i)) (Free e i ∷ xs)
+    → InTurn (pair_after c p (Free e i)) (Free e i ∷ xs)
 free_turns c p e i xs first t = record {
   next = λ d name is. next d name (is_same e i d name) refl is;
   same = λ d name is.
@@ -151,7 +151,7 @@ pub turns_on : (c : Config) (p : Pair) (x : Move) (xs : List Move)
     → CanMove c p x
     → IsFirst p x
     → InTurn p xs
-    → InTurn (moved c p x) (x ∷ xs)
+    → InTurn (pair_after c p x) (x ∷ xs)
 turns_on c p (Do (Retire e i)) xs can first t = retire_turns c p e i xs can.1 t
 turns_on c p (Do x) xs can first t = step_turns c p x xs tt t
 turns_on c p (Free e i) xs can first t = free_turns c p e i xs first t

@@ -11,9 +11,9 @@ use Rattle.lpt_events.specs.Sides.{sender_side, receiver_side}
 use Rattle.lpt_events.specs.declared.config.Config.{Config}
 use Rattle.lpt_events.specs.declared.side.Side.{Side}
 use Rattle.lpt_events.specs.declared.side.Side.TheVariants.{Ground, Craft}
-use Rattle.lpt_node.specs.Jobs.{executed}
+use Rattle.lpt_node.specs.Jobs.{job_executed}
 use Rattle.lpt_node.specs.Nodes.{NodeData}
-use Rattle.lpt_node.specs.Accepting.{accepted}
+use Rattle.lpt_node.specs.Accepting.{packet_accepted}
 use Rattle.lpt_node.specs.Times.{expired_of, which_ends}
 use Rattle.lpt_model.specs.State.{as_list}
 use Rattle.lpt_model.specs.Tickets.{ticket_of}
@@ -120,7 +120,8 @@ there_step c e (Finish way i) p stays at = there_same e (sender_side way) _ p at
 there_step c e (Accept way b) p stays at =
     let a : Arrival = arrival_in c way b in
     let side : Side = receiver_side way in
-    there_put e.on_the_way p Down None (as_list (accepted side c (node_at e side) a).1.packet) at
+    there_put e.on_the_way p Down None
+    (as_list (packet_accepted side c (node_at e side) a).1.packet) at
 there_step c e (Tick side turn) p stays at = there_same e side _ p at
 there_step c e (Expire side which) p stays at =
     there_put e.on_the_way p Down None
@@ -131,6 +132,6 @@ there_step c e (Commit w) p stays at = go (ticket_of e.tickets w) where
   go None = at
   go (Some t) = at
 there_step c e Apply p stays at =
-    there_put e.on_the_way p Down None (executed c e.on_craft e.memories).0.1.packets at
+    there_put e.on_the_way p Down None (job_executed c e.on_craft e.memories).0.1.packets at
 there_step c e (Retire way i) p stays at = absurd stays
 there_step c e (Restart side) p stays at = there_same e side _ p at

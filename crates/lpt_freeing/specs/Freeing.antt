@@ -7,7 +7,7 @@ use Rattle.lpt_events.specs.Arrivals.{arrival_in}
 use Rattle.lpt_events.specs.Configs.{IsConfig}
 use Rattle.lpt_events.specs.Sides.{sender_side}
 use Rattle.lpt_events.specs.declared.config.Config.{Config}
-use Rattle.lpt_node.specs.Sending.{sent}
+use Rattle.lpt_node.specs.Sending.{part_sent}
 use Rattle.lpt_apart.specs.Clocks.{Own, later, own_config, no_pair_later, after_all, CanAll}
 use Rattle.lpt_apart.specs.Ends.{node_at}
 use Rattle.lpt_apart.specs.Moves.{CanMove, Do, Move, Pair, no_pair}
@@ -42,7 +42,7 @@ pub data Act : Type 0 where
 abbrev pub part_line : Config → Pair → List Move → Direction → Name → (k : ℕ) → Line
 part_line c p xs d name k =
     Part d name (sends xs d name)
-    (sent (sender_side d) c (node_at p.ends (sender_side d)) name k).1
+    (part_sent (sender_side d) c (node_at p.ends (sender_side d)) name k).1
 
 -- moves with one more, or none
 abbrev pub with_answer : Option Move → List Move → List Move

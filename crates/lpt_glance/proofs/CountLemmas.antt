@@ -16,10 +16,10 @@ use Rattle.lpt_stream.specs.declared.piece_kind.PieceKind.TheVariants as piece
 use Rattle.lpt_stream.specs.Pieces.{Piece, packet_before, packets_of, up_to_limit}
 use Rattle.lpt_stream.proofs.CutLemmas.{packets-next}
 use Rattle.lpt_carried.proofs.NameLemmas.{same_name-refl, same_name-true}
-use Rattle.lpt_carried.specs.Carried.{Named, carried, name_of, part_of, same_name}
+use Rattle.lpt_carried.specs.Carried.{Named, part_carried, name_of, part_of, same_name}
 use Rattle.lpt_carried.specs.declared.name.Name.{Name}
 use Rattle.lpt_carried.specs.declared.skip.Skip.{Skip}
-use Rattle.lpt_layout_each.specs.Eaches.{counts_of, held, listed, missing_at, step_of}
+use Rattle.lpt_layout_each.specs.Eaches.{counts_of, course_held, news_listed, missing_at, step_of}
 use Rattle.lpt_layout_each.specs.News.{News, Given, Dropped, Unfit, Overtaken, messages_in, messages_of}
 use Rattle.lpt_layout_each.specs.Streams.{of, waiting}
 use Rattle.lpt_layout_each.proofs.HeldsLemmas.{held-other, news-next, waiting-none}
@@ -28,7 +28,7 @@ use Rattle.lpt_glance.specs.declared.row.Row.{Row}
 use Rattle.lpt_glance.specs.declared.view.View.{View}
 use Rattle.lpt_glance.specs.Fates.{effect_in, fresh, gives, loses, more_if}
 use Rattle.lpt_glance.specs.Laws.{CountsEach, IsCounted, gives_up, news_of_name, row_at}
-use Rattle.lpt_glance.specs.Looks.{Seen, added, fate_by, fate_in, fate_of, is_of, nothing, opened, reading, row_of, rows_with, seen_from, stepped, with_piece}
+use Rattle.lpt_glance.specs.Looks.{Seen, part_added, fate_by, fate_in, fate_of, is_of, nothing, rows_opened, reading, row_of, rows_with, seen_from, row_stepped, with_piece}
 use Rattle.lpt_glance.proofs.RowLemmas.{row-own, row-within}
 
 and_none : (t : Bool) → (t && false) ≡ false
@@ -70,7 +70,7 @@ module _ (e : Direction) (m : Name) (rows : List Row) where
       let le = far-le d n in
       get_or_append_left rows (fresh e m ∷ []) (fresh d n) (row_of d n rows) (grind (arith, le))
 
-  at-opened : (d : Direction) (n : Name) → row_at d n (opened e m rows) ≡ row_at d n rows
+  at-opened : (d : Direction) (n : Name) → row_at d n (rows_opened e m rows) ≡ row_at d n rows
   at-opened d n = go (nat_lt (row_of e m rows) (length rows)) where
     go : (b : Bool)
         → row_at d n (if b then rows else rows ++ fresh e m ∷ []) ≡ row_at d n rows
@@ -81,7 +81,7 @@ module _ (e : Direction) (m : Name) (rows : List Row) where
         ∙ pushed d n (row_of d n rows == length rows) (is_of d n (fresh e m)) refl refl
 
   -- its own is where it was to be
-  own-place : row_of e m (opened e m rows) ≡ row_of e m rows
+  own-place : row_of e m (rows_opened e m rows) ≡ row_of e m rows
   own-place = go (nat_lt (row_of e m rows) (length rows)) refl where
     own : is_of e m (fresh e m) ≡ true
     own = (λ j. same_direction-refl e j && same_name m m) ∙ same_name-refl m
@@ -99,13 +99,13 @@ module _ (e : Direction) (m : Name) (rows : List Row) where
 
 module _ (f : Fate) (rows : List Row) where
   abbrev all : List Row
-  all = opened f.direction f.name rows
+  all = rows_opened f.direction f.name rows
 
   abbrev i : ℕ
   i = row_of f.direction f.name rows
 
   abbrev y : Row
-  y = (stepped f rows).0
+  y = (row_stepped f rows).0
 
   -- the places are the same with it
   same-place : (d : Direction) (n : Name) → row_of d n (rows_with f rows) ≡ row_of d n all
@@ -167,8 +167,8 @@ module _ (n : Name) (ws : List News) where
 
   whole-with : (o : Option News) (a : ℕ)
       → a ≡ up_to_limit (length (messages_in ws))
-      → more_if (gives (effect_in (of n (listed o)))) a
-      ≡ up_to_limit (length (messages_in (ws ++ listed o)))
+      → more_if (gives (effect_in (of n (news_listed o)))) a
+      ≡ up_to_limit (length (messages_in (ws ++ news_listed o)))
   whole-with None a e =
       e ∙ ap (λ (vs : List News). up_to_limit (length (messages_in vs))) (sym (append-nil ws))
   whole-with (Some (Given m)) a e =
@@ -183,8 +183,8 @@ module _ (n : Name) (ws : List News) where
 
   given_up-with : (o : Option News) (a : ℕ)
       → a ≡ up_to_limit (length (filter gives_up ws))
-      → more_if (loses (effect_in (of n (listed o)))) a
-      ≡ up_to_limit (length (filter gives_up (ws ++ listed o)))
+      → more_if (loses (effect_in (of n (news_listed o)))) a
+      ≡ up_to_limit (length (filter gives_up (ws ++ news_listed o)))
   given_up-with None a e =
       e ∙ ap (λ (vs : List News). up_to_limit (length (filter gives_up vs))) (sym (append-nil ws))
   given_up-with (Some (Given m)) a e =
@@ -202,14 +202,15 @@ module _ (n : Name) (ws : List News) where
 
 module _ (v : View) (d : Direction) (n : Name) (bs : List (List ℕ)) (b : List ℕ) where
   -- it carries no part of the transaction
-  counted-other : (r : Row) → part_of n (carried (reading v d) b) ≡ None → IsCounted v d n bs r
+  counted-other : (r : Row) → part_of n (part_carried (reading v d) b) ≡ None → IsCounted v d n bs r
       → IsCounted v d n (bs ++ b ∷ []) r
   counted-other r gone h =
       let t = reading v d in
       let same : news_of_name v d n (bs ++ b ∷ []) ≡ news_of_name v d n bs =
       news-next t false n bs b
       ∙ (λ j. news_of_name v d n bs
-      ++ listed (step_of t false (missing_at t (counts_of t bs) b) (held t false n bs) (gone j)).1)
+      ++ news_listed
+      (step_of t false (missing_at t (counts_of t bs) b) (course_held t false n bs) (gone j)).1)
       ∙ append-nil (news_of_name v d n bs) in record {
         whole = h.whole
             ∙ ap (λ (ws : List News). up_to_limit (length (messages_in ws))) (sym same);
@@ -228,8 +229,8 @@ counted-own v d c bs b rows h =
     let r = reading v d in
     let n = name_of c in
     let f = fate_by d r bs b c in
-    let o = (step_of r false (missing_at r (counts_of r bs) b) (held r false n bs)
-    (part_of n (carried r b))).1 in
+    let o = (step_of r false (missing_at r (counts_of r bs) b) (course_held r false n bs)
+    (part_of n (part_carried r b))).1 in
     subst (λ (row : Row). IsCounted v d n (bs ++ b ∷ []) row) (sym (at-own f rows)) (record {
       whole = ap (λ (row : Row). more_if (gives f.effect) row.whole) (own-was f rows)
           ∙ whole-with n (news_of_name v d n bs) o (row_at d n rows).whole h.whole
@@ -249,10 +250,10 @@ CountedTo v d bs rows = (n : Name) → IsCounted v d n bs (row_at d n rows)
 module _ (v : View) (bs : List (List ℕ)) (b : List ℕ) (s : Seen) where
   -- with what a packet carries in the direction
   counted-to : (d : Direction) → CountedTo v d bs s.rows
-      → CountedTo v d (bs ++ b ∷ []) (added (fate_in d (reading v d) bs b) s).rows
-  counted-to d h = go (carried (reading v d) b) refl where
-    go : (w : Result Named Skip) → carried (reading v d) b ≡ w
-        → CountedTo v d (bs ++ b ∷ []) (added (fate_of d (reading v d) bs b w) s).rows
+      → CountedTo v d (bs ++ b ∷ []) (part_added (fate_in d (reading v d) bs b) s).rows
+  counted-to d h = go (part_carried (reading v d) b) refl where
+    go : (w : Result Named Skip) → part_carried (reading v d) b ≡ w
+        → CountedTo v d (bs ++ b ∷ []) (part_added (fate_of d (reading v d) bs b w) s).rows
     go (Err e) is n =
         counted-other v d n bs b (row_at d n s.rows) (ap (part_of n) is) (h n)
     go (Ok c) is n = at (same_name (name_of c) n) refl where
@@ -275,10 +276,10 @@ module _ (v : View) (bs : List (List ℕ)) (b : List ℕ) (s : Seen) where
   -- with what it carries in the other one
   counted-apart : (e d : Direction) (cs : List (List ℕ)) → same_direction e d ≡ false
       → CountedTo v d cs s.rows
-      → CountedTo v d cs (added (fate_in e (reading v e) bs b) s).rows
-  counted-apart e d cs other h = go (carried (reading v e) b) where
+      → CountedTo v d cs (part_added (fate_in e (reading v e) bs b) s).rows
+  counted-apart e d cs other h = go (part_carried (reading v e) b) where
     go : (w : Result Named Skip)
-        → CountedTo v d cs (added (fate_of e (reading v e) bs b w) s).rows
+        → CountedTo v d cs (part_added (fate_of e (reading v e) bs b w) s).rows
     go (Err x) n = h n
     go (Ok c) n =
         subst (λ (row : Row). IsCounted v d n cs row)
@@ -297,9 +298,9 @@ counted-piece : (v : View) (bs : List (List ℕ)) (s : Seen) (k : PieceKind) (b 
     (with_piece v bs s (record { kind = k; octets = b })).rows
 counted-piece v bs s piece.Whole b h = go where
   mid : Seen
-  mid = added (fate_in Up v.up bs b) s
+  mid = part_added (fate_in Up v.up bs b) s
 
-  go : Counted v (bs ++ b ∷ []) (added (fate_in Down v.down bs b) mid).rows
+  go : Counted v (bs ++ b ∷ []) (part_added (fate_in Down v.down bs b) mid).rows
   go Up =
       counted-apart v bs b mid Down Up (bs ++ b ∷ []) refl (counted-to v bs b s Up (h Up))
   go Down =

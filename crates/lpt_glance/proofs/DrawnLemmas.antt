@@ -8,7 +8,7 @@ use Rattle.lpt_packet.specs.declared.direction.Direction.TheVariants.{Up, Down}
 use Rattle.lpt_stream.specs.declared.piece_kind.PieceKind.{PieceKind}
 use Rattle.lpt_stream.specs.declared.piece_kind.PieceKind.TheVariants as piece
 use Rattle.lpt_stream.specs.Pieces.{Piece, keeps_step, packets_of, up_to_limit}
-use Rattle.lpt_carried.specs.Carried.{Named, carried}
+use Rattle.lpt_carried.specs.Carried.{Named, part_carried}
 use Rattle.lpt_carried.specs.declared.name.Name.{Name}
 use Rattle.lpt_carried.specs.declared.reading.Reading.{Reading}
 use Rattle.lpt_carried.specs.declared.skip.Skip.{Skip}
@@ -23,7 +23,7 @@ use Rattle.lpt_glance.specs.declared.row.Row.{Row}
 use Rattle.lpt_glance.specs.declared.view.View.{View}
 use Rattle.lpt_glance.specs.Fates.{fresh, key_of_effect, quiet_key}
 use Rattle.lpt_glance.specs.Laws.{Drawn, DrawsParts, drawn_by, named_at, part_at, parts_at, parts_from}
-use Rattle.lpt_glance.specs.Looks.{Seen, added, bare, code_of, fate_of, fate_to, is_part, key_of, mark_of, nothing, opened, passed, row_of, rows_with, seen, seen_from, stepped, with_piece}
+use Rattle.lpt_glance.specs.Looks.{Seen, part_added, bare, code_of, fate_of, fate_to, is_part, key_of, mark_of, nothing, rows_opened, piece_passed, row_of, rows_with, stream_seen, seen_from, row_stepped, with_piece}
 use Rattle.lpt_glance.proofs.RowLemmas.{row-own, row-within}
 
 -- ---- a part is drawn as one
@@ -72,27 +72,27 @@ named-set (r ∷ rs) (suc i) y d zero h = refl
 named-set (r ∷ rs) (suc i) y d (suc k) h = named-set rs i y d k h
 
 module _ (d : Direction) (n : Name) (rows : List Row) where
-  extends-opened : Extends rows (opened d n rows)
+  extends-opened : Extends rows (rows_opened d n rows)
   extends-opened = go (nat_lt (row_of d n rows) (length rows)) where
     go : (b : Bool) → Extends rows (if b then rows else rows ++ fresh d n ∷ [])
     go true i t h = h
     go false i t h = named-append rows (fresh d n) i t h
 
   -- the row of a transaction is its own
-  its-own : named_at (opened d n rows) (row_of d n rows) ≡ Some (d, n)
+  its-own : named_at (rows_opened d n rows) (row_of d n rows) ≡ Some (d, n)
   its-own =
       let x = fresh d n in
       let own = row-own d n rows x in
       ap (λ (o : Option Row). option_map its o)
-      (slice_get-get_or (opened d n rows) (row_of d n rows) x (row-within d n rows))
+      (slice_get-get_or (rows_opened d n rows) (row_of d n rows) x (row-within d n rows))
       ∙ (λ j. Some (own.0 j, own.1 j))
 
 module _ (f : Fate) (rows : List Row) where
   named-with : (k : ℕ)
-      → named_at (rows_with f rows) k ≡ named_at (opened f.direction f.name rows) k
+      → named_at (rows_with f rows) k ≡ named_at (rows_opened f.direction f.name rows) k
   named-with k =
-      named-set (opened f.direction f.name rows) (row_of f.direction f.name rows)
-      (stepped f rows).0 (fresh f.direction f.name) k refl
+      named-set (rows_opened f.direction f.name rows) (row_of f.direction f.name rows)
+      (row_stepped f rows).0 (fresh f.direction f.name) k refl
 
   extends-with : Extends rows (rows_with f rows)
   extends-with i t h = named-with i ∙ extends-opened f.direction f.name rows i t h
@@ -101,7 +101,7 @@ module _ (f : Fate) (rows : List Row) where
       ≡ Some (f.direction, f.name)
   own-with = named-with (row_of f.direction f.name rows) ∙ its-own f.direction f.name rows
 
-extends-added : (o : Option Fate) (s : Seen) → Extends s.rows (added o s).rows
+extends-added : (o : Option Fate) (s : Seen) → Extends s.rows (part_added o s).rows
 extends-added None s i t h = h
 extends-added (Some f) s i t h = extends-with f s.rows i t h
 
@@ -109,7 +109,8 @@ extends-piece : (v : View) (bs : List (List ℕ)) (s : Seen) (x : Piece)
     → Extends s.rows (with_piece v bs s x).rows
 extends-piece v bs s x i t h =
     let up = fate_to v Up bs x.kind x.octets in
-    extends-added (fate_to v Down bs x.kind x.octets) (added up s) i t (extends-added up s i t h)
+    extends-added (fate_to v Down bs x.kind x.octets) (part_added up s) i t
+    (extends-added up s i t h)
 
 extends-from : (v : View) (before : List Piece) (s : Seen) (xs : List Piece)
     → Extends s.rows (seen_from v before s xs).rows
@@ -147,7 +148,7 @@ module _ (rows : List Row) where
 
   -- the end of a piece says nothing of a part
   said-passed : (k : PieceKind) (many : ℕ) (none : Bool) (s : Seen)
-      → said rows (passed k many none s).marks ≡ said rows s.marks
+      → said rows (piece_passed k many none s).marks ≡ said rows s.marks
   said-passed k many none s = go (none && (s.in_step || keeps_step k)) where
     go : (b : Bool)
         → said rows (if b then s.marks ++ bare s.octets (key_of k) ∷ [] else s.marks)
@@ -161,12 +162,12 @@ module _ (rows : List Row) where
   said-one : (m : Mark) → is_part m ≡ true → said rows (m ∷ []) ≡ drawn_by rows m ∷ []
   said-one m h = ap (λ b. map (drawn_by rows) (cond b (m ∷ []) [])) h
 
-  said-added : (o : Option Fate) (s : Seen) → Extends (added o s).rows rows
-      → said rows (added o s).marks ≡ said rows s.marks ++ said_of s.octets o
+  said-added : (o : Option Fate) (s : Seen) → Extends (part_added o s).rows rows
+      → said rows (part_added o s).marks ≡ said rows s.marks ++ said_of s.octets o
   said-added None s ext = sym (append-nil (said rows s.marks))
   said-added (Some f) s ext =
       let m = mark_of s.octets f s.rows in
-      let r = get_or (opened f.direction f.name s.rows) (row_of f.direction f.name s.rows)
+      let r = get_or (rows_opened f.direction f.name s.rows) (row_of f.direction f.name s.rows)
       (fresh f.direction f.name) in
       let part : is_part m ≡ true = key-part f.effect _ (quiet-part r.left f.left f.number) in
       let own = ext (row_of f.direction f.name s.rows) (f.direction, f.name) (own-with f s.rows) in
@@ -175,7 +176,7 @@ module _ (rows : List Row) where
       (said-one m part
       ∙ (λ j. record { place = s.octets; number = f.number; of = own j } ∷ []))
 
-octets-added : (o : Option Fate) (s : Seen) → (added o s).octets ≡ s.octets
+octets-added : (o : Option Fate) (s : Seen) → (part_added o s).octets ≡ s.octets
 octets-added None s = refl
 octets-added (Some f) s = refl
 
@@ -188,8 +189,8 @@ said-parts : (v : View) (place : ℕ) (bs : List (List ℕ)) (k : PieceKind) (b 
     → said_of place (fate_to v Up bs k b) ++ said_of place (fate_to v Down bs k b)
     ≡ parts_at v place k b
 said-parts v place bs piece.Whole b =
-    let up = said-fate place Up v.up bs b (carried v.up b) in
-    let down = said-fate place Down v.down bs b (carried v.down b) in
+    let up = said-fate place Up v.up bs b (part_carried v.up b) in
+    let down = said-fate place Down v.down bs b (part_carried v.down b) in
     λ j. up j ++ down j
 said-parts v place bs piece.Damaged b = refl
 said-parts v place bs piece.Stray b = refl
@@ -202,9 +203,9 @@ said-piece : (rows : List Row) (v : View) (bs : List (List ℕ)) (s : Seen) (x :
 said-piece rows v bs s x ext =
     let up = fate_to v Up bs x.kind x.octets in
     let down = fate_to v Down bs x.kind x.octets in
-    let mid = added up s in
+    let mid = part_added up s in
     let ext_mid : Extends mid.rows rows = λ i t h. ext i t (extends-added down mid i t h) in
-    said-passed rows x.kind (length x.octets) (is_none up && is_none down) (added down mid)
+    said-passed rows x.kind (length x.octets) (is_none up && is_none down) (part_added down mid)
     ∙ said-added rows down mid ext
     ∙ ap (λ at. said rows mid.marks ++ said_of at down) (octets-added up s)
     ∙ ap (λ ys. ys ++ said_of s.octets down) (said-added rows up s ext_mid)
@@ -216,7 +217,7 @@ octets-piece : (v : View) (bs : List (List ℕ)) (s : Seen) (x : Piece)
 octets-piece v bs s x =
     let up = fate_to v Up bs x.kind x.octets in
     ap (λ n. up_to_limit (n + length x.octets))
-    (octets-added (fate_to v Down bs x.kind x.octets) (added up s) ∙ octets-added up s)
+    (octets-added (fate_to v Down bs x.kind x.octets) (part_added up s) ∙ octets-added up s)
 
 said-from : (v : View) (before : List Piece) (s : Seen) (xs : List Piece) (rows : List Row)
     → Extends (seen_from v before s xs).rows rows
@@ -234,4 +235,4 @@ said-from v before s (x ∷ xs) rows ext =
     (parts_from v (up_to_limit (s.octets + length x.octets)) xs)
 
 pub draws_parts : (v : View) (pieces : List Piece) → DrawsParts v pieces
-draws_parts v pieces = said-from v [] nothing pieces (seen v pieces).rows (λ i t h. h)
+draws_parts v pieces = said-from v [] nothing pieces (stream_seen v pieces).rows (λ i t h. h)

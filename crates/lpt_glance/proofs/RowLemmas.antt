@@ -17,7 +17,7 @@ use Rattle.lpt_glance.specs.declared.places.Places.{Places}
 use Rattle.lpt_glance.specs.declared.row.Row.{Row}
 use Rattle.lpt_glance.specs.declared.fate.Fate.{Fate}
 use Rattle.lpt_glance.specs.Fates.{fresh}
-use Rattle.lpt_glance.specs.Looks.{advanced, is_of, opened, row_of, stepped}
+use Rattle.lpt_glance.specs.Looks.{row_advanced, is_of, rows_opened, row_of, row_stepped}
 use Rattle.lpt_glance.specs.Places.{Finds, place_in}
 
 -- a number as a place among so many, where it is one
@@ -108,7 +108,7 @@ finds-set p rows i y h way name = λ e m.
 
 module _ (d : Direction) (n : Name) (rows : List Row) where
   -- where the row of a transaction is, of those with one for it
-  pub row-within : row_of d n rows < length (opened d n rows)
+  pub row-within : row_of d n rows < length (rows_opened d n rows)
   row-within = go (nat_lt (row_of d n rows) (length rows)) refl where
     go : (b : Bool) → nat_lt (row_of d n rows) (length rows) ≡ b
         → row_of d n rows < length (if b then rows else rows ++ fresh d n ∷ [])
@@ -120,8 +120,8 @@ module _ (d : Direction) (n : Name) (rows : List Row) where
 
   -- it is its own
   pub row-own : (x : Row)
-      → ((get_or (opened d n rows) (row_of d n rows) x).direction ≡ d)
-      × ((get_or (opened d n rows) (row_of d n rows) x).name ≡ n)
+      → ((get_or (rows_opened d n rows) (row_of d n rows) x).direction ≡ d)
+      × ((get_or (rows_opened d n rows) (row_of d n rows) x).name ≡ n)
   row-own x = go (nat_lt (row_of d n rows) (length rows)) refl where
     row-last : nat_lt (row_of d n rows) (length rows) ≡ false → row_of d n rows ≡ length rows
     row-last e = let le = far-le (is_of d n) rows in grind (arith, le)
@@ -146,7 +146,7 @@ module _ (d : Direction) (n : Name) (rows : List Row) where
 
   -- what rows and the place are where it had none, and where it had one
   pub opened-none : (p : Places) → Finds p rows → place_in p d n ≡ None
-      → (opened d n rows ≡ rows ++ fresh d n ∷ []) × (row_of d n rows ≡ length rows)
+      → (rows_opened d n rows ≡ rows ++ fresh d n ∷ []) × (row_of d n rows ≡ length rows)
   opened-none p h none =
       let last = at-end (row_of d n rows) (length rows) (far-le (is_of d n) rows)
       (sym (h d n) ∙ none) in
@@ -155,13 +155,13 @@ module _ (d : Direction) (n : Name) (rows : List Row) where
         lt-same e = grind arith
 
   pub opened-some : (p : Places) (i : ℕ) → Finds p rows → place_in p d n ≡ Some i
-      → (opened d n rows ≡ rows) × (row_of d n rows ≡ i)
+      → (rows_opened d n rows ≡ rows) × (row_of d n rows ≡ i)
   opened-some p i h some =
       let is = at-some (row_of d n rows) (length rows) i (sym (h d n) ∙ some) in
       (ap (λ b. if b then rows else rows ++ fresh d n ∷ []) is.0, is.1)
 
 -- of rows with one for a transaction, and the place of its row
-module _ (d : Direction) (n : Name) (rows now : List Row) (i : ℕ) (is : now ≡ opened d n rows)
+module _ (d : Direction) (n : Name) (rows now : List Row) (i : ℕ) (is : now ≡ rows_opened d n rows)
     (at : i ≡ row_of d n rows) where
   pub its-place : i < length now
   its-place = subst (λ (k : ℕ). k < length now) (sym at)
@@ -176,10 +176,10 @@ module _ (d : Direction) (n : Name) (rows now : List Row) (i : ℕ) (is : now �
 
   -- what a part makes of it
   pub its-step : (f : Fate) (x : Row) → f.direction ≡ d → f.name ≡ n → x ≡ get_or now i x
-      → advanced f x ≡ stepped f rows
+      → row_advanced f x ≡ row_stepped f rows
   its-step f x way named there =
-      ap (λ (r : Row). advanced f r)
+      ap (λ (r : Row). row_advanced f r)
       (there ∙ (λ j. get_or (is j) (at j) x)
-      ∙ get_or_default (opened d n rows) (row_of d n rows) x (fresh d n) (row-within d n rows)
-      ∙ (λ j. get_or (opened (sym way j) (sym named j) rows)
+      ∙ get_or_default (rows_opened d n rows) (row_of d n rows) x (fresh d n) (row-within d n rows)
+      ∙ (λ j. get_or (rows_opened (sym way j) (sym named j) rows)
       (row_of (sym way j) (sym named j) rows) (fresh (sym way j) (sym named j))))

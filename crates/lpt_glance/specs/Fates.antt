@@ -59,8 +59,8 @@ abbrev pub more_if : Bool → ℕ → ℕ
 more_if so n = if so then up_to_limit (n + 1) else n
 
 -- a row with it
-abbrev pub counted : Fate → Row → Row
-counted f r = record r {
+abbrev pub part_counted : Fate → Row → Row
+part_counted f r = record r {
   whole = more_if (gives f.effect) r.whole;
   given_up = more_if (loses f.effect) r.given_up;
   left = f.left;

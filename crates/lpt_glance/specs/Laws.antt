@@ -6,7 +6,7 @@ use Rattle.lpt_packet.specs.declared.direction.Direction.TheVariants.{Up, Down}
 use Rattle.lpt_stream.specs.declared.piece_kind.PieceKind.{PieceKind}
 use Rattle.lpt_stream.specs.declared.piece_kind.PieceKind.TheVariants as piece
 use Rattle.lpt_stream.specs.Pieces.{Piece, packets_of, up_to_limit}
-use Rattle.lpt_carried.specs.Carried.{Named, carried, name_of}
+use Rattle.lpt_carried.specs.Carried.{Named, part_carried, name_of}
 use Rattle.lpt_carried.specs.declared.name.Name.{Name}
 use Rattle.lpt_carried.specs.declared.skip.Skip.{Skip}
 use Rattle.lpt_layout_each.specs.Eaches as each
@@ -18,7 +18,7 @@ use Rattle.lpt_glance.specs.declared.mark.Mark.{Mark}
 use Rattle.lpt_glance.specs.declared.row.Row.{Row}
 use Rattle.lpt_glance.specs.declared.view.View.{View}
 use Rattle.lpt_glance.specs.Fates.{effect_of, fresh, loses}
-use Rattle.lpt_glance.specs.Looks.{is_part, reading, row_of, seen}
+use Rattle.lpt_glance.specs.Looks.{is_part, reading, row_of, stream_seen}
 
 -- a part's place, its number, and the transaction of which it is
 pub record Drawn : Type 0 where
@@ -35,7 +35,7 @@ part_at place d (Ok c) =
 -- those of a piece
 abbrev pub parts_at : View → (place : ℕ) → PieceKind → List ℕ → List Drawn
 parts_at v place piece.Whole b =
-    part_at place Up (carried v.up b) ++ part_at place Down (carried v.down b)
+    part_at place Up (part_carried v.up b) ++ part_at place Down (part_carried v.down b)
 parts_at v place piece.Damaged b = []
 parts_at v place piece.Stray b = []
 
@@ -56,7 +56,7 @@ drawn_by rows m = record { place = m.place; number = m.number; of = named_at row
 -- the marks of parts are the stream's parts, each once, in order, in the row of its transaction
 abbrev pub DrawsParts : View → List Piece → Type 0
 DrawsParts v pieces =
-    map (drawn_by (seen v pieces).rows) (filter is_part (seen v pieces).marks)
+    map (drawn_by (stream_seen v pieces).rows) (filter is_part (stream_seen v pieces).marks)
     ≡ parts_from v 0 pieces
 
 -- the row of a transaction, or one of which nothing came
@@ -83,4 +83,4 @@ pub record IsCounted (v : View) (d : Direction) (n : Name) (bs : List (List ℕ)
 abbrev pub CountsEach : View → List Piece → Type 0
 CountsEach v pieces =
     (d : Direction) (n : Name)
-    → IsCounted v d n (packets_of pieces) (row_at d n (seen v pieces).rows)
+    → IsCounted v d n (packets_of pieces) (row_at d n (stream_seen v pieces).rows)

@@ -9,18 +9,18 @@ use Rattle.lpt_stream.specs.declared.cut.Cut.TheVariants.{Sealed, Framed}
 use Rattle.lpt_stream.specs.declared.piece_kind.PieceKind.{PieceKind}
 use Rattle.lpt_stream.specs.declared.piece_kind.PieceKind.TheVariants as piece
 use Rattle.lpt_stream.specs.Pieces.{Piece, keeps_step, packets_of, up_to_limit}
-use Rattle.lpt_carried.specs.Carried.{Named, carried, name_of, same_name}
+use Rattle.lpt_carried.specs.Carried.{Named, part_carried, name_of, same_name}
 use Rattle.lpt_carried.specs.declared.name.Name.{Name}
 use Rattle.lpt_carried.specs.declared.reading.Reading.{Reading}
 use Rattle.lpt_carried.specs.declared.skip.Skip.{Skip}
-use Rattle.lpt_layout_each.specs.Streams.{told, waiting_of}
+use Rattle.lpt_layout_each.specs.Streams.{events_told, waiting_of}
 use Rattle.lpt_glance.specs.declared.fate.Fate.{Fate}
 use Rattle.lpt_glance.specs.declared.mark.Key.{Key}
 use Rattle.lpt_glance.specs.declared.mark.Key.TheVariants.{New, Ahead, Again, Against, Whole, Unfit, NoPart, Damaged, Stray}
 use Rattle.lpt_glance.specs.declared.mark.Mark.{Mark}
 use Rattle.lpt_glance.specs.declared.row.Row.{Row}
 use Rattle.lpt_glance.specs.declared.view.View.{View}
-use Rattle.lpt_glance.specs.Fates.{counted, effect_in, fresh, key_by}
+use Rattle.lpt_glance.specs.Fates.{part_counted, effect_in, fresh, key_by}
 
 -- ---- the part that a packet carries
 
@@ -40,7 +40,7 @@ fate_by d r before b c = record {
   direction = d;
   name = name_of c;
   number = c.piece.number;
-  effect = effect_in (told r false (name_of c) before b);
+  effect = effect_in (events_told r false (name_of c) before b);
   left = waiting_of r false (before ++ b ∷ []) (name_of c);
 }
 
@@ -51,7 +51,7 @@ fate_of d r before b (Err e) = None
 fate_of d r before b (Ok c) = Some (fate_by d r before b c)
 
 abbrev pub fate_in : Direction → Reading → (before : List (List ℕ)) → List ℕ → Option Fate
-fate_in d r before b = fate_of d r before b (carried r b)
+fate_in d r before b = fate_of d r before b (part_carried r b)
 
 -- the same of a piece, in one direction
 abbrev pub fate_to : View → Direction → (before : List (List ℕ)) → PieceKind → List ℕ → Option Fate
@@ -62,8 +62,8 @@ fate_to v d before piece.Stray b = None
 -- ---- rows
 
 -- a row with a part more, and how that is drawn
-abbrev pub advanced : Fate → Row → Row × Key
-advanced f r = (counted f r, key_by f r.left)
+abbrev pub row_advanced : Fate → Row → Row × Key
+row_advanced f r = (part_counted f r, key_by f r.left)
 
 -- whether a row is this transaction's
 abbrev pub is_of : Direction → Name → Row → Bool
@@ -74,21 +74,22 @@ abbrev pub row_of : Direction → Name → List Row → ℕ
 row_of d n rows = position_or_len (is_of d n) rows
 
 -- the rows, with one for it
-abbrev pub opened : Direction → Name → List Row → List Row
-opened d n rows =
+abbrev pub rows_opened : Direction → Name → List Row → List Row
+rows_opened d n rows =
     if nat_lt (row_of d n rows) (length rows) then rows else rows ++ fresh d n ∷ []
 
 -- its row with a part more, and how that is drawn
-abbrev pub stepped : Fate → List Row → Row × Key
-stepped f rows =
-    advanced f
-    (slice_index_or (opened f.direction f.name rows) (row_of f.direction f.name rows)
+abbrev pub row_stepped : Fate → List Row → Row × Key
+row_stepped f rows =
+    row_advanced f
+    (slice_index_or (rows_opened f.direction f.name rows) (row_of f.direction f.name rows)
     (fresh f.direction f.name))
 
 -- the rows with a part more
 abbrev pub rows_with : Fate → List Row → List Row
 rows_with f rows =
-    slice_set (opened f.direction f.name rows) (row_of f.direction f.name rows) (stepped f rows).0
+    slice_set (rows_opened f.direction f.name rows) (row_of f.direction f.name rows)
+    (row_stepped f rows).0
 
 -- ---- marks
 
@@ -126,7 +127,7 @@ bare place key = record { place = place; key = key; row = 0; number = 0 }
 abbrev pub mark_of : (place : ℕ) → Fate → List Row → Mark
 mark_of place f rows = record {
   place = place;
-  key = (stepped f rows).1;
+  key = (row_stepped f rows).1;
   row = row_of f.direction f.name rows;
   number = f.number;
 }
@@ -146,17 +147,17 @@ abbrev pub nothing : Seen
 nothing = record { rows = []; marks = []; in_step = true; octets = 0 }
 
 -- with a part, where there is one
-abbrev pub added : Option Fate → Seen → Seen
-added None s = s
-added (Some f) s = record s {
+abbrev pub part_added : Option Fate → Seen → Seen
+part_added None s = s
+part_added (Some f) s = record s {
   rows = rows_with f s.rows;
   marks = s.marks ++ mark_of s.octets f s.rows ∷ [];
 }
 
 -- behind a piece of so many octets: one that carries no part is drawn, of octets that are no packet
 -- the first
-abbrev pub passed : PieceKind → (many : ℕ) → (is_bare : Bool) → Seen → Seen
-passed k many is_bare s = record s {
+abbrev pub piece_passed : PieceKind → (many : ℕ) → (is_bare : Bool) → Seen → Seen
+piece_passed k many is_bare s = record s {
   marks =
       if is_bare && (s.in_step || keeps_step k)
       then s.marks ++ bare s.octets (key_of k) ∷ [] else s.marks;
@@ -167,7 +168,8 @@ passed k many is_bare s = record s {
 -- with what a piece carries in each direction
 abbrev pub with_parts : Piece → (up down : Option Fate) → Seen → Seen
 with_parts x up down s =
-    passed x.kind (length x.octets) (is_none up && is_none down) (added down (added up s))
+    piece_passed x.kind (length x.octets) (is_none up && is_none down)
+    (part_added down (part_added up s))
 
 -- with a piece
 abbrev pub with_piece : View → (before : List (List ℕ)) → Seen → Piece → Seen
@@ -181,5 +183,5 @@ seen_from v before s (x ∷ xs) =
     seen_from v (before ++ x ∷ []) (with_piece v (packets_of before) s x) xs
 
 -- what is seen of a stream that is these pieces
-abbrev pub seen : View → List Piece → Seen
-seen v pieces = seen_from v [] nothing pieces
+abbrev pub stream_seen : View → List Piece → Seen
+stream_seen v pieces = seen_from v [] nothing pieces

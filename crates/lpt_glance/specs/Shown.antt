@@ -3,7 +3,7 @@ use Rattle.std.specs.Prelude.{◌≡◌, ℕ, List, false}
 use Rattle.lpt_stream.specs.Pieces.{Piece, packets_of}
 use Rattle.lpt_layout_each.specs.Helds.{HoldsEach}
 use Rattle.lpt_glance.specs.declared.glance.Glance.{Glance}
-use Rattle.lpt_glance.specs.Looks.{Seen, seen}
+use Rattle.lpt_glance.specs.Looks.{Seen, stream_seen}
 
 -- the same as the code has it
 abbrev pub seen_of : Glance → Seen
@@ -23,4 +23,4 @@ pub record Holds (bs : List (List ℕ)) (g : Glance) : Type 0 where
 pub record Shows (first now : Glance) (pieces : List Piece) : Type 0 where
   pub view_is : now.view ≡ first.view
   pub holds : Holds (packets_of pieces) now
-  pub seen_is : seen_of now ≡ seen first.view pieces
+  pub seen_is : seen_of now ≡ stream_seen first.view pieces

@@ -12,7 +12,7 @@ ghost use Rattle.lpt_glance.specs.Looks.{fate_in};
 
 use crate::Key;
 use lpt_carried::{
-    CarriedPart, Cut, Direction, Name, PieceKind, Reading, Skip, carried, carried_in,
+    CarriedPart, Cut, Direction, Name, PieceKind, Reading, Skip, carried_in, part_carried,
 };
 use lpt_layout_each::{HeldsAs, NewsAs, WaitingAs};
 use lpt_text::StreamFault;
@@ -126,13 +126,13 @@ fn quiet_key(was: WaitingAs, now: WaitingAs, number: u32) -> Key
 // The part that a packet carries in a direction, of a stream that is cut so.
 fn part_in<'a>(reading: &Reading, cut: Cut, octets: &'a [u8]) -> Result<CarriedPart<'a>, Skip>
     requires { IsSealedBy cut Whole octets.now }
-    ensures exact { carried.Gives result (carried.carried reading.now octets.now) }
+    ensures exact { carried.Gives result (carried.part_carried reading.now octets.now) }
     ensures number { IfOk result (λ c. 1 ≤ c.part.number) }
     ensures short { IfOk result (λ c. length c.part.octets.now ≤ longest_packet) }
 {
     match cut {
         Cut::Sealed => carried_in(reading, PieceKind::Whole, octets),
-        _ => carried(reading, octets),
+        _ => part_carried(reading, octets),
     }
 }
 

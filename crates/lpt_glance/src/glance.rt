@@ -7,7 +7,7 @@ ghost use Rattle.lpt_stream.specs.Pieces.{IsSealedBy, packet_before};
 ghost use Rattle.lpt_stream.specs.Reads.{IsEndlessBy};
 ghost use Rattle.lpt_text.specs.Streams.{ReadEnds};
 ghost use Rattle.lpt_layout_join.specs.Writes.{ReadsCut};
-ghost use Rattle.lpt_glance.specs.Looks.{added, cut, fate_in, passed, seen, with_piece};
+ghost use Rattle.lpt_glance.specs.Looks.{part_added, cut, fate_in, piece_passed, stream_seen, with_piece};
 ghost use Rattle.lpt_glance.specs.Shown.{Holds, seen_of};
 
 use crate::fate::{Fate, take_in};
@@ -43,7 +43,7 @@ pub struct Glance {
 /// Errors: `Read` if a read failed, or if 2^64 - 1 pieces came; `Memory`.
 pub fn look<S: Source>(alloc: Global, view: View, source: &mut S) -> Result<Glance, StreamFault>
     ensures shows { IfOk result (λ g. ReadsCut (cut view) (S.remaining source.old)
-        (S.remaining source.new) (λ pieces. seen_of g ≡ seen view pieces)) }
+        (S.remaining source.new) (λ pieces. seen_of g ≡ stream_seen view pieces)) }
     ensures view { IfOk result (λ g. g.view ≡ view) }
     ensures reader { ReadEnds
         (IsEndlessBy (cut view) (S.remaining source.old) (S.remaining source.new)) result
@@ -149,8 +149,8 @@ impl Glance {
         ensures holds { (bs : List (List ℕ)) → Holds bs self
             → IfOk result (λ r. Holds (bs ++ octets.now ∷ []) r.0) }
         ensures seen { (bs : List (List ℕ)) → Holds bs self → IfOk result (λ r. seen_of r.0
-            ≡ added (fate_in Direction.Down self.view.down bs octets.now)
-            (added (fate_in Direction.Up self.view.up bs octets.now) (seen_of self))) }
+            ≡ part_added (fate_in Direction.Down self.view.down bs octets.now)
+            (part_added (fate_in Direction.Up self.view.up bs octets.now) (seen_of self))) }
         ensures bare { (bs : List (List ℕ)) → Holds bs self → IfOk result (λ r. r.1
             ≡ (is_none (fate_in Direction.Up self.view.up bs octets.now)
             && is_none (fate_in Direction.Down self.view.down bs octets.now))) }
@@ -186,7 +186,7 @@ impl Glance {
         ensures view { IfOk result (λ g. g.view ≡ self.view) }
         ensures up { IfOk result (λ g. g.up ≡ self.up) }
         ensures down { IfOk result (λ g. g.down ≡ self.down) }
-        ensures seen { IfOk result (λ g. seen_of g ≡ added fate (seen_of self)) }
+        ensures seen { IfOk result (λ g. seen_of g ≡ part_added fate (seen_of self)) }
     {
         let Some(fate) = fate else {
             return Ok(self);
@@ -224,7 +224,7 @@ impl Glance {
         ensures view { IfOk result (λ g. g.view ≡ self.view) }
         ensures up { IfOk result (λ g. g.up ≡ self.up) }
         ensures down { IfOk result (λ g. g.down ≡ self.down) }
-        ensures seen { IfOk result (λ g. seen_of g ≡ passed kind many is_bare (seen_of self)) }
+        ensures seen { IfOk result (λ g. seen_of g ≡ piece_passed kind many is_bare (seen_of self)) }
     {
         let mut glance = self;
         let (key, stays) = match kind {

@@ -2,7 +2,7 @@
 
 ghost use Rattle.std.specs.Prelude.{◌≡◌};
 ghost use Rattle.lpt_glance.specs.Fates.{fresh, more_if};
-ghost use Rattle.lpt_glance.specs.Looks.{advanced};
+ghost use Rattle.lpt_glance.specs.Looks.{row_advanced};
 
 use crate::Key;
 use crate::fate::Fate;
@@ -43,8 +43,8 @@ impl Row {
 
     // Takes a part of it, and gives how that is drawn.
     pub(crate) fn take(&mut self, fate: &Fate) -> Key
-        ensures row { self.new ≡ (advanced fate.now self.old).0 }
-        ensures key { result ≡ (advanced fate.now self.old).1 }
+        ensures row { self.new ≡ (row_advanced fate.now self.old).0 }
+        ensures key { result ≡ (row_advanced fate.now self.old).1 }
     {
         let key = fate.key(self.left);
         self.whole = more_if(fate.gives(), self.whole);

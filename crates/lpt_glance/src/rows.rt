@@ -19,7 +19,7 @@ pub(crate) struct Rows {
 
 impl Rows {
     ghost use Rattle.std.specs.Prelude.{◌≡◌, [], IfOk};
-    ghost use Rattle.lpt_glance.specs.Looks.{opened, row_of, rows_with, stepped};
+    ghost use Rattle.lpt_glance.specs.Looks.{rows_opened, row_of, rows_with, row_stepped};
 
     // There is none.
     pub(crate) fn new(alloc: Global) -> Rows
@@ -37,7 +37,7 @@ impl Rows {
         ensures rows { IfOk result (λ r. r.0.list.items ≡ rows_with fate.now self.list.items) }
         ensures row { IfOk result (λ r. r.1
             ≡ row_of fate.now.direction fate.now.name self.list.items) }
-        ensures key { IfOk result (λ r. r.2 ≡ (stepped fate.now self.list.items).1) }
+        ensures key { IfOk result (λ r. r.2 ≡ (row_stepped fate.now self.list.items).1) }
     {
         let (rows, row) = self.with_row(fate.direction, fate.name)?;
         let Rows { mut list, places } = rows;
@@ -47,7 +47,8 @@ impl Rows {
 
     // With a row for a transaction, where it has none, and the place of its row.
     fn with_row(self, direction: Direction, name: Name) -> Result<(Rows, usize), AllocError>
-        ensures rows { IfOk result (λ r. r.0.list.items ≡ opened direction name self.list.items) }
+        ensures rows { IfOk result
+            (λ r. r.0.list.items ≡ rows_opened direction name self.list.items) }
         ensures row { IfOk result (λ r. r.1 ≡ row_of direction name self.list.items) }
     {
         if let Some(row) = self.places.get(direction, name) {

@@ -15,25 +15,27 @@ use Rattle.lpt_ground.specs.declared.pass.Step.{Step}
 use Rattle.lpt_ground.specs.declared.pass.Step.TheVariants.{Put, Listen, Stop}
 use Rattle.lpt_ground.specs.declared.telling.Said.{Said}
 use Rattle.lpt_ground.specs.declared.telling.Said.TheVariants as said
-use Rattle.lpt_ground.specs.Carrying.{Answer, Nothing, Came, Quiet, Over, AllTold, Hears, Stepped, WasTold, Went, answered, come_to, moved, packets_of, paced, written_at}
-use Rattle.lpt_ground.specs.Passes.{State, has_come, heard, is_done, next_step, put_from, step_from}
+use Rattle.lpt_ground.specs.Carrying.{Answer, Nothing, Came, Quiet, Over, AllTold, Hears, Stepped, WasTold, Went, state_answered, come_to, step_moved, packets_of, octets_written, written_at}
+use Rattle.lpt_ground.specs.Passes.{PassState, has_come, octets_heard, is_done, next_step, put_from, step_from}
 use Rattle.lpt_ground.specs.Telling.{fate_by, is_waiting, report_of, said_of}
 use Rattle.lpt_ground.proofs.ToldLemmas.{heard-fares}
 
 -- ---- answers, one after the other
 
-come_to-append : (terms : Terms) (s : State) (xs ys : List Answer)
+come_to-append : (terms : Terms) (s : PassState) (xs ys : List Answer)
     → come_to terms s (xs ++ ys) ≡ come_to terms (come_to terms s xs) ys
 come_to-append terms s [] ys = refl
-come_to-append terms s (x ∷ xs) ys = come_to-append terms (answered terms s x) xs ys
+come_to-append terms s (x ∷ xs) ys = come_to-append terms (state_answered terms s x) xs ys
 
-paced-append : (terms : Terms) (s : State) (xs ys : List Answer)
-    → paced terms s (xs ++ ys) ≡ paced terms s xs ++ paced terms (come_to terms s xs) ys
+paced-append : (terms : Terms) (s : PassState) (xs ys : List Answer)
+    → octets_written terms s (xs ++ ys) ≡ octets_written terms s xs
+    ++ octets_written terms (come_to terms s xs) ys
 paced-append terms s [] ys = refl
 paced-append terms s (x ∷ xs) ys =
-    ap (λ (more : List ℕ). written_at s x ++ more) (paced-append terms (answered terms s x) xs ys)
-    ∙ sym (append_assoc (written_at s x) (paced terms (answered terms s x) xs)
-    (paced terms (come_to terms (answered terms s x) xs) ys))
+    ap (λ (more : List ℕ). written_at s x ++ more)
+    (paced-append terms (state_answered terms s x) xs ys)
+    ∙ sym (append_assoc (written_at s x) (octets_written terms (state_answered terms s x) xs)
+    (octets_written terms (come_to terms (state_answered terms s x) xs) ys))
 
 pub hears-more : (had has more : Option (List Answer)) (xs ys : List Answer)
     → Hears had has xs
@@ -51,7 +53,7 @@ hears-none (Some old) has same =
     subst (λ (o : Option (List Answer)). Hears (Some old) o []) (sym same) (sym (append-nil old))
 
 -- a pass that begins
-pub went-none : (terms : Terms) (s : State) (had has : Option (List Answer))
+pub went-none : (terms : Terms) (s : PassState) (had has : Option (List Answer))
     (old : Option (List ℕ))
     → has ≡ had
     → Went terms s s had has old old
@@ -59,7 +61,7 @@ went-none terms s had has old same =
     record { answers = []; told = hears-none had has same; came = refl; written = Appends-nil old }
 
 -- one that goes on by one answer
-pub went-next : (terms now : Terms) (s t u : State) (had has more : Option (List Answer))
+pub went-next : (terms now : Terms) (s t u : PassState) (had has more : Option (List Answer))
     (old new newer : Option (List ℕ))
     → now ≡ terms
     → Went terms s t had has old new
@@ -67,49 +69,52 @@ pub went-next : (terms now : Terms) (s t u : State) (had has more : Option (List
     → Went terms s u had more old newer
 went-next terms now s t u had has more old new newer same w x =
     let a = x.answer in
-    let step : come_to terms s (w.answers ++ a ∷ []) ≡ answered now t a =
+    let step : come_to terms s (w.answers ++ a ∷ []) ≡ state_answered now t a =
     come_to-append terms s w.answers (a ∷ [])
-    ∙ ap (λ (m : State). answered terms m a) (sym w.came)
-    ∙ ap (λ (q : Terms). answered q t a) (sym same) in
-    let text : paced terms s (w.answers ++ a ∷ []) ≡ paced terms s w.answers ++ written_at t a =
+    ∙ ap (λ (m : PassState). state_answered terms m a) (sym w.came)
+    ∙ ap (λ (q : Terms). state_answered q t a) (sym same) in
+    let text : octets_written terms s (w.answers ++ a ∷ []) ≡ octets_written terms s w.answers
+    ++ written_at t a =
     paced-append terms s w.answers (a ∷ [])
-    ∙ ap (λ (m : State). paced terms s w.answers ++ (written_at m a ++ [])) (sym w.came)
-    ∙ ap (λ (l : List ℕ). paced terms s w.answers ++ l) (append-nil (written_at t a)) in
+    ∙ ap (λ (m : PassState). octets_written terms s w.answers ++ (written_at m a ++ []))
+    (sym w.came)
+    ∙ ap (λ (l : List ℕ). octets_written terms s w.answers ++ l) (append-nil (written_at t a)) in
     record {
       answers = w.answers ++ a ∷ [];
       told = hears-more had has more w.answers (a ∷ []) w.told x.told;
       came = x.came ∙ sym step;
       written =
           subst (Appends old newer) (sym text)
-          (Appends-trans old new newer (paced terms s w.answers) (written_at t a) w.written
+          (Appends-trans old new newer (octets_written terms s w.answers) (written_at t a) w.written
           x.written);
     }
 
 -- ---- what was told
 
 -- a request that is put stays as it is
-moved-keeps : (s : State) (x : Step) (k : ℕ)
-    → slice_get (moved s x).asked k ≡ slice_get s.asked k
+moved-keeps : (s : PassState) (x : Step) (k : ℕ)
+    → slice_get (step_moved s x).asked k ≡ slice_get s.asked k
 moved-keeps s (Put j) k = refl
 moved-keeps s Listen k = refl
 moved-keeps s (Stop e) k = refl
 
 -- what is settled stays as it is
-stays : (terms : Terms) (s : State) (answers : List Answer) (k : ℕ) (a : Asked)
+stays : (terms : Terms) (s : PassState) (answers : List Answer) (k : ℕ) (a : Asked)
     → slice_get s.asked k ≡ Some a
     → is_waiting a ≡ false
     → slice_get (come_to terms s answers).asked k ≡ Some a
 stays terms s [] k a is settled = is
 stays terms s (Came o ∷ rest) k a is settled =
     elim (heard-fares terms s o k a is) [
-      | inl same ↦ stays terms (heard terms s o) rest k a same settled
+      | inl same ↦ stays terms (octets_heard terms s o) rest k a same settled
       | inr one ↦ absurd (false≢true (sym settled ∙ one.is_told.waited))
     ]
 stays terms s (Nothing ∷ rest) k a is settled =
-    stays terms (moved s (next_step s)) rest k a (moved-keeps s (next_step s) k ∙ is) settled
+    stays terms (step_moved s (next_step s)) rest k a (moved-keeps s (next_step s) k ∙ is) settled
 stays terms s (Quiet ∷ rest) k a is settled =
-    stays terms (answered terms s Quiet) rest k a is settled
-stays terms s (Over ∷ rest) k a is settled = stays terms (answered terms s Over) rest k a is settled
+    stays terms (state_answered terms s Quiet) rest k a is settled
+stays terms s (Over ∷ rest) k a is settled =
+    stays terms (state_answered terms s Over) rest k a is settled
 
 -- a request is there at the end, and isn't done, or was told by these packets
 pub record Ends (terms : Terms) (a : Asked) (packets : List (List ℕ)) (ys : List Asked)
@@ -139,15 +144,15 @@ later terms a o packets ys k e = record {
 }
 
 -- what a packet says of a request is its end
-told-end : (terms : Terms) (s : State) (rest : List Answer) (o : List ℕ) (k : ℕ) (a : Asked)
+told-end : (terms : Terms) (s : PassState) (rest : List Answer) (o : List ℕ) (k : ℕ) (a : Asked)
     (t : Telemetry) (f : Said)
     → report_of terms o ≡ Some t
     → said_of terms.starts t a ≡ Some f
-    → slice_get (heard terms s o).asked k ≡ Some (record a { fate = fate_by f o })
-    → Ends terms a (o ∷ packets_of rest) (come_to terms (heard terms s o) rest).asked k
+    → slice_get (octets_heard terms s o).asked k ≡ Some (record a { fate = fate_by f o })
+    → Ends terms a (o ∷ packets_of rest) (come_to terms (octets_heard terms s o) rest).asked k
 told-end terms s rest o k a t said.Done by says is = record {
   end = record a { fate = Done o };
-  is_there = stays terms (heard terms s o) rest k (record a { fate = Done o }) is refl;
+  is_there = stays terms (octets_heard terms s o) rest k (record a { fate = Done o }) is refl;
   fares = inr (record {
     number = 0;
     packet = o;
@@ -157,11 +162,11 @@ told-end terms s rest o k a t said.Done by says is = record {
 }
 told-end terms s rest o k a t (said.Failed code) by says is = record {
   end = record a { fate = Failed code };
-  is_there = stays terms (heard terms s o) rest k (record a { fate = Failed code }) is refl;
+  is_there = stays terms (octets_heard terms s o) rest k (record a { fate = Failed code }) is refl;
   fares = inl refl;
 }
 
-fares : (terms : Terms) (s : State) (answers : List Answer) (k : ℕ) (a : Asked)
+fares : (terms : Terms) (s : PassState) (answers : List Answer) (k : ℕ) (a : Asked)
     → slice_get s.asked k ≡ Some a
     → a.fate ≡ Waiting
     → Ends terms a (packets_of answers) (come_to terms s answers).asked k
@@ -170,17 +175,18 @@ fares terms s [] k a is waiting =
 fares terms s (Came o ∷ rest) k a is waiting =
     elim (heard-fares terms s o k a is) [
       | inl same ↦
-          later terms a o (packets_of rest) (come_to terms (heard terms s o) rest).asked k
-          (fares terms (heard terms s o) rest k a same waiting)
+          later terms a o (packets_of rest) (come_to terms (octets_heard terms s o) rest).asked k
+          (fares terms (octets_heard terms s o) rest k a same waiting)
       | inr one ↦
           told-end terms s rest o k a one.report one.is_told.said one.is_report one.is_told.says
           one.is_told.is_there
     ]
 fares terms s (Nothing ∷ rest) k a is waiting =
-    fares terms (moved s (next_step s)) rest k a (moved-keeps s (next_step s) k ∙ is) waiting
+    fares terms (step_moved s (next_step s)) rest k a (moved-keeps s (next_step s) k ∙ is) waiting
 fares terms s (Quiet ∷ rest) k a is waiting =
-    fares terms (answered terms s Quiet) rest k a is waiting
-fares terms s (Over ∷ rest) k a is waiting = fares terms (answered terms s Over) rest k a is waiting
+    fares terms (state_answered terms s Quiet) rest k a is waiting
+fares terms s (Over ∷ rest) k a is waiting =
+    fares terms (state_answered terms s Over) rest k a is waiting
 
 -- ---- a pass that is done
 
@@ -188,7 +194,7 @@ ends-done : (b : Bool) → Stop (if b then ends.Done else ends.Failed) ≡ Stop 
 ends-done true is = refl
 ends-done false is = absurd cc
 
-goes-on : (s : State) (first : ℕ) (p : Option ℕ) (e : End) → put_from s first p ≡ Stop e → ⊥
+goes-on : (s : PassState) (first : ℕ) (p : Option ℕ) (e : End) → put_from s first p ≡ Stop e → ⊥
 goes-on s first (Some k) e is = cc
 goes-on s first None e is = waits-or-puts (s.owed == 0) is
   where
@@ -204,7 +210,7 @@ not-done true given x on is = cc
 not-done false true x on is = cc
 not-done false false x on is = on is
 
-step-done : (s : State) (p : Option ℕ)
+step-done : (s : PassState) (p : Option ℕ)
     → step_from s p ≡ Stop ends.Done
     → list_all is_done s.asked ≡ true
 step-done s None is = ends-done (list_all is_done s.asked) is
@@ -213,7 +219,7 @@ step-done s (Some first) is =
     (put_from s first (position is_waiting (drop s.at s.asked)))
     (goes-on s first (position is_waiting (drop s.at s.asked)) ends.Done) is)
 
-all-done : (s : State) → next_step s ≡ Stop ends.Done → list_all is_done s.asked ≡ true
+all-done : (s : PassState) → next_step s ≡ Stop ends.Done → list_all is_done s.asked ≡ true
 unfolding next_step
 all-done s is = step-done s (position is_waiting s.asked) is
 
@@ -229,7 +235,7 @@ entry-done (x ∷ xs) (suc k) b all is =
     entry-done xs k b (and_parts (is_done x) (list_all is_done xs) all).1 is
 
 -- where a pass ends as done, each request that waited was told by a packet that was heard
-pub done-told : (terms : Terms) (s : State) (answers : List Answer)
+pub done-told : (terms : Terms) (s : PassState) (answers : List Answer)
     → next_step (come_to terms s answers) ≡ Stop ends.Done
     → AllTold terms s.asked (packets_of answers)
 done-told terms s answers is k a there waiting =

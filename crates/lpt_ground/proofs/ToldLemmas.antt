@@ -9,8 +9,8 @@ use Rattle.lpt_pus.specs.Telemetry.{Telemetry}
 use Rattle.lpt_ground.specs.declared.asked.Asked.{Asked}
 use Rattle.lpt_ground.specs.declared.asked.Terms.{Terms}
 use Rattle.lpt_ground.specs.declared.telling.Said.{Said}
-use Rattle.lpt_ground.specs.Passes.{State, heard}
-use Rattle.lpt_ground.specs.Telling.{fate_by, fated, is_waiting, report_of, said_at, said_first, said_in, said_of, said_there, settles, told}
+use Rattle.lpt_ground.specs.Passes.{PassState, octets_heard}
+use Rattle.lpt_ground.specs.Telling.{fate_by, request_fated, is_waiting, report_of, said_at, said_first, said_in, said_of, said_there, settles, requests_told}
 
 -- ---- places
 
@@ -78,10 +78,11 @@ told-said : (starts : Bool) (t : Telemetry) (xs : List Asked) (o : List ℕ) (k 
     → slice_get xs k ≡ Some a
     → slice_get xs j ≡ Some b
     → said_of starts t b ≡ m
-    → Fares starts t o k a (told xs o (option_map {U = ℕ × Said} (λ s. (j, s)) m))
+    → Fares starts t o k a (requests_told xs o (option_map {U = ℕ × Said} (λ s. (j, s)) m))
 told-said starts t xs o k j a b None first is there says = inl is
 told-said starts t xs o k j a b (Some f) first is there says =
-    subst (λ (e : Option Asked). Fares starts t o k a (fated xs j (fate_by f o) e)) (sym there)
+    subst (λ (e : Option Asked). Fares starts t o k a (request_fated xs j (fate_by f o) e))
+    (sym there)
     (told-there starts t xs o k j a b f first is there says)
 
 told-entry : (starts : Bool) (t : Telemetry) (xs : List Asked) (o : List ℕ) (k j : ℕ) (a : Asked)
@@ -90,7 +91,7 @@ told-entry : (starts : Bool) (t : Telemetry) (xs : List Asked) (o : List ℕ) (k
     → slice_get xs k ≡ Some a
     → slice_get xs j ≡ e
     → Fares starts t o k a
-    (told xs o (option_map {U = ℕ × Said} (λ s. (j, s)) (said_there starts t e)))
+    (requests_told xs o (option_map {U = ℕ × Said} (λ s. (j, s)) (said_there starts t e)))
 told-entry starts t xs o k j a None first is there = inl is
 told-entry starts t xs o k j a (Some b) first is there =
     told-said starts t xs o k j a b (said_of starts t b) first is there refl
@@ -99,7 +100,7 @@ told-place : (starts : Bool) (t : Telemetry) (xs : List Asked) (o : List ℕ) (k
     (p : Option ℕ)
     → position (settles starts t) xs ≡ p
     → slice_get xs k ≡ Some a
-    → Fares starts t o k a (told xs o (said_at starts t xs p))
+    → Fares starts t o k a (requests_told xs o (said_at starts t xs p))
 told-place starts t xs o k a None first is = inl is
 told-place starts t xs o k a (Some j) first is =
     told-entry starts t xs o k j a (slice_get xs j) first is refl
@@ -115,8 +116,8 @@ heard-by : (terms : Terms) (xs : List Asked) (o : List ℕ) (k : ℕ) (a : Asked
     (r : Option Telemetry)
     → report_of terms o ≡ r
     → slice_get xs k ≡ Some a
-    → (slice_get (told xs o (said_first terms.starts xs r)) k ≡ Some a)
-    ⊎ WasHeard terms o k a (told xs o (said_first terms.starts xs r))
+    → (slice_get (requests_told xs o (said_first terms.starts xs r)) k ≡ Some a)
+    ⊎ WasHeard terms o k a (requests_told xs o (said_first terms.starts xs r))
 heard-by terms xs o k a None by is = inl is
 heard-by terms xs o k a (Some t) by is =
     elim (told-place terms.starts t xs o k a (position (settles terms.starts t) xs) refl is) [
@@ -124,9 +125,9 @@ heard-by terms xs o k a (Some t) by is =
       | inr one ↦ inr (record { report = t; is_report = by; is_told = one })
     ]
 
-pub heard-fares : (terms : Terms) (s : State) (o : List ℕ) (k : ℕ) (a : Asked)
+pub heard-fares : (terms : Terms) (s : PassState) (o : List ℕ) (k : ℕ) (a : Asked)
     → slice_get s.asked k ≡ Some a
-    → (slice_get (heard terms s o).asked k ≡ Some a)
-    ⊎ WasHeard terms o k a (heard terms s o).asked
-unfolding heard said_in
+    → (slice_get (octets_heard terms s o).asked k ≡ Some a)
+    ⊎ WasHeard terms o k a (octets_heard terms s o).asked
+unfolding octets_heard said_in
 heard-fares terms s o k a is = heard-by terms s.asked o k a (report_of terms o) refl is

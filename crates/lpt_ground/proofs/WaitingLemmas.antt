@@ -5,7 +5,7 @@ use Rattle.lpt_pus.specs.Telemetry.{Telemetry}
 use Rattle.lpt_ground.specs.declared.asked.Asked.{Asked}
 use Rattle.lpt_ground.specs.declared.telling.Said.{Said}
 use Rattle.lpt_ground.specs.declared.telling.Said.TheVariants as said
-use Rattle.lpt_ground.specs.Telling.{fate_by, fated, is_waiting, settles, waits}
+use Rattle.lpt_ground.specs.Telling.{fate_by, request_fated, is_waiting, settles, waits}
 use Rattle.lpt_ground.proofs.PlaceLemmas.{position-Some_from, position-None_from, prefix_len-set_more, prefix_len-weaker}
 
 -- ---- what is settled
@@ -53,7 +53,7 @@ settled-waits (said.Failed code) o = refl
 
 fated-front : (xs : List Asked) (k : ℕ) (f : Said) (o : List ℕ) (a : Option Asked) (from : ℕ)
     → from ≤ position_or_len is_waiting xs
-    → from ≤ position_or_len is_waiting (fated xs k (fate_by f o) a)
+    → from ≤ position_or_len is_waiting (request_fated xs k (fate_by f o) a)
 fated-front xs k f o None from front = front
 fated-front xs k f o (Some a) from front =
     omega (
@@ -66,6 +66,6 @@ fated-front xs k f o (Some a) from front =
 -- none in front of the first that waited waits then
 pub fated-first : (xs : List Asked) (k : ℕ) (f : Said) (o : List ℕ) (from : ℕ)
     → from ≡ position_or_len is_waiting xs
-    → from ≤ position_or_len is_waiting (fated xs k (fate_by f o) (slice_get xs k))
+    → from ≤ position_or_len is_waiting (request_fated xs k (fate_by f o) (slice_get xs k))
 fated-first xs k f o from first =
     fated-front xs k f o (slice_get xs k) from (omega (arith, first))

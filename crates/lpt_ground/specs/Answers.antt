@@ -28,9 +28,9 @@ octets_by (Done o) = octets_in o
 octets_by (Failed code) = []
 
 -- what all of them hold, one behind the other
-abbrev pub dumped : List Asked → List ℕ
-dumped [] = []
-dumped (a ∷ asked) = octets_by a.fate ++ dumped asked
+abbrev pub octets_dumped : List Asked → List ℕ
+octets_dumped [] = []
+octets_dumped (a ∷ asked) = octets_by a.fate ++ octets_dumped asked
 
 -- whether the packet of a check's report has the checksum of these octets
 abbrev pub holds_checksum : Fate → List ℕ → Bool

@@ -11,7 +11,7 @@ use Rattle.lpt_ground.specs.declared.pass.End.TheVariants as ends
 use Rattle.lpt_ground.specs.declared.pass.Step.{Step}
 use Rattle.lpt_ground.specs.declared.pass.Step.TheVariants.{Put, Listen, Stop}
 use Rattle.lpt_ground.specs.declared.telling.Said.TheVariants as said
-use Rattle.lpt_ground.specs.Passes.{State, closed, heard, next_step, put, waited}
+use Rattle.lpt_ground.specs.Passes.{PassState, pass_closed, octets_heard, next_step, put, pass_waited}
 use Rattle.lpt_ground.specs.Telling.{report_of, said_of}
 
 -- ---- what an ear answers
@@ -52,22 +52,22 @@ Hears (Some old) (Some new) answers = new ≡ old ++ answers
 -- ---- what a pass puts
 
 -- once a pass that was to put a request, or to listen, got nothing
-abbrev pub moved : State → Step → State
-moved s (Put k) = put s k
-moved s Listen = s
-moved s (Stop e) = s
+abbrev pub step_moved : PassState → Step → PassState
+step_moved s (Put k) = put s k
+step_moved s Listen = s
+step_moved s (Stop e) = s
 
 -- once it was answered so
-abbrev pub answered : Terms → State → Answer → State
-answered terms s Nothing = moved s (next_step s)
-answered terms s (Came o) = heard terms s o
-answered terms s Quiet = waited terms s
-answered terms s Over = closed s
+abbrev pub state_answered : Terms → PassState → Answer → PassState
+state_answered terms s Nothing = step_moved s (next_step s)
+state_answered terms s (Came o) = octets_heard terms s o
+state_answered terms s Quiet = pass_waited terms s
+state_answered terms s Over = pass_closed s
 
 -- once it was answered so, one answer after the other
-abbrev pub come_to : Terms → State → List Answer → State
+abbrev pub come_to : Terms → PassState → List Answer → PassState
 come_to terms s [] = s
-come_to terms s (a ∷ rest) = come_to terms (answered terms s a) rest
+come_to terms s (a ∷ rest) = come_to terms (state_answered terms s a) rest
 
 -- the octets of a request, if there is one
 abbrev pub octets_of : Option Asked → List ℕ
@@ -75,38 +75,39 @@ octets_of None = []
 octets_of (Some a) = a.octets
 
 -- what is written by a step, where nothing has come
-abbrev pub written_by : State → Step → List ℕ
+abbrev pub written_by : PassState → Step → List ℕ
 written_by s (Put k) = octets_of (slice_get s.asked k)
 written_by s Listen = []
 written_by s (Stop e) = []
 
 -- what is written where it is answered so
-abbrev pub written_at : State → Answer → List ℕ
+abbrev pub written_at : PassState → Answer → List ℕ
 written_at s Nothing = written_by s (next_step s)
 written_at s (Came o) = []
 written_at s Quiet = []
 written_at s Over = []
 
 -- what is written by these answers, one after the other
-abbrev pub paced : Terms → State → List Answer → List ℕ
-paced terms s [] = []
-paced terms s (a ∷ rest) = written_at s a ++ paced terms (answered terms s a) rest
+abbrev pub octets_written : Terms → PassState → List Answer → List ℕ
+octets_written terms s [] = []
+octets_written terms s (a ∷ rest) =
+    written_at s a ++ octets_written terms (state_answered terms s a) rest
 
 -- one answer was given, the pass came to that by it, and what it wrote was written
-pub record Stepped (terms : Terms) (s t : State) (had has : Option (List Answer))
+pub record Stepped (terms : Terms) (s t : PassState) (had has : Option (List Answer))
     (old new : Option (List ℕ)) : Type 0 where
   pub answer : Answer
   pub told : Hears had has (answer ∷ [])
-  pub came : t ≡ answered terms s answer
+  pub came : t ≡ state_answered terms s answer
   pub written : Appends old new (written_at s answer)
 
 -- the same of answers, one after the other
-pub record Went (terms : Terms) (s t : State) (had has : Option (List Answer))
+pub record Went (terms : Terms) (s t : PassState) (had has : Option (List Answer))
     (old new : Option (List ℕ)) : Type 0 where
   pub answers : List Answer
   pub told : Hears had has answers
   pub came : t ≡ come_to terms s answers
-  pub written : Appends old new (paced terms s answers)
+  pub written : Appends old new (octets_written terms s answers)
 
 -- ---- what has settled its requests
 
@@ -144,6 +145,6 @@ pub record AreTold (terms : Terms) (asked : List Asked)
 -- a pass that ends as done, whatever was heard
 abbrev pub DoneIsTold : Type 0
 DoneIsTold =
-    (terms : Terms) (s : State) (answers : List Answer)
+    (terms : Terms) (s : PassState) (answers : List Answer)
     → next_step (come_to terms s answers) ≡ Stop ends.Done
     → AllTold terms s.asked (packets_of answers)

@@ -10,14 +10,14 @@ use Rattle.lpt_ground.specs.declared.pass.End.TheVariants as ends
 use Rattle.lpt_ground.specs.declared.pass.Pass.{Pass}
 use Rattle.lpt_ground.specs.declared.pass.Step.{Step}
 use Rattle.lpt_ground.specs.declared.pass.Step.TheVariants.{Put, Listen, Stop}
-use Rattle.lpt_ground.specs.Telling.{is_waiting, said_in, told}
+use Rattle.lpt_ground.specs.Telling.{is_waiting, said_in, requests_told}
 
 -- ---- its state
 
 -- The requests with their fates; the place behind the one that was put last in this round; how many
 -- are still to be put in it at least; how many more waits may settle nothing; whether something was
 -- settled since the last wait; and whether nothing more will be heard.
-pub record State : Type 0 where
+pub record PassState : Type 0 where
   pub asked : List Asked
   pub at : ℕ
   pub owed : ℕ
@@ -26,7 +26,7 @@ pub record State : Type 0 where
   pub ended : Bool
 
 -- that of a pass
-abbrev pub state_of : Pass → State
+abbrev pub state_of : Pass → PassState
 state_of p = record {
   asked = p.asked.items;
   at = p.at;
@@ -37,8 +37,8 @@ state_of p = record {
 }
 
 -- that of a pass that begins
-abbrev pub begun : Terms → List Asked → State
-begun terms asked = record {
+abbrev pub pass_begun : Terms → List Asked → PassState
+pass_begun terms asked = record {
   asked = asked;
   at = 0;
   owed = 0;
@@ -64,12 +64,12 @@ abbrev pub end_of : List Asked → End
 end_of asked = if list_all is_done asked then ends.Done else ends.Failed
 
 -- The next that waits behind the place; where none does, the first, if this round owes one.
-abbrev pub put_from : State → (first : ℕ) → (behind : Option ℕ) → Step
+abbrev pub put_from : PassState → (first : ℕ) → (behind : Option ℕ) → Step
 put_from s first (Some k) = Put (s.at + k)
 put_from s first None = if s.owed == 0 then Listen else Put first
 
 -- where this is the first that waits, or none does
-abbrev pub step_from : State → Option ℕ → Step
+abbrev pub step_from : PassState → Option ℕ → Step
 step_from s None = Stop (end_of s.asked)
 step_from s (Some first) =
     if s.ended then Stop ends.Ended
@@ -77,19 +77,19 @@ step_from s (Some first) =
     else put_from s first (position is_waiting (drop s.at s.asked))
 
 -- what a pass does next
-unfoldable pub next_step : State → Step
+unfoldable pub next_step : PassState → Step
 next_step s = step_from s (position is_waiting s.asked)
 
 -- ---- what becomes of it
 
 -- once the request at this place was put
-abbrev pub put : State → (k : ℕ) → State
+abbrev pub put : PassState → (k : ℕ) → PassState
 put s k = record s { at = k + 1; owed = s.owed - 1 }
 
 -- once octets were heard
-unfoldable pub heard : Terms → State → List ℕ → State
-heard terms s o = record s {
-  asked = told s.asked o (said_in terms s.asked o);
+unfoldable pub octets_heard : Terms → PassState → List ℕ → PassState
+octets_heard terms s o = record s {
+  asked = requests_told s.asked o (said_in terms s.asked o);
   news = is_some (said_in terms s.asked o) || s.news;
 }
 
@@ -98,8 +98,8 @@ abbrev pub least : ℕ
 least = 8
 
 -- once nothing was heard for the wait: a new round begins
-abbrev pub waited : Terms → State → State
-waited terms s = record s {
+abbrev pub pass_waited : Terms → PassState → PassState
+pass_waited terms s = record s {
   at = 0;
   owed = least;
   left = (if s.news then terms.tries else s.left - 1);
@@ -107,5 +107,5 @@ waited terms s = record s {
 }
 
 -- once nothing more will be heard
-abbrev pub closed : State → State
-closed s = record s { ended = true }
+abbrev pub pass_closed : PassState → PassState
+pass_closed s = record s { ended = true }

@@ -44,8 +44,8 @@ asked_of octets request = record {
 }
 
 -- the requests of a pass, the first with this count
-abbrev pub planned : (apid source count flags : ℕ) → List Request → List Asked
-planned apid source count flags [] = []
-planned apid source count flags (r ∷ rest) =
+abbrev pub requests_planned : (apid source count flags : ℕ) → List Request → List Asked
+requests_planned apid source count flags [] = []
+requests_planned apid source count flags (r ∷ rest) =
     asked_of (request_packet apid source count flags r) r
-    ∷ planned apid source (next_count count) flags rest
+    ∷ requests_planned apid source (next_count count) flags rest

@@ -86,13 +86,13 @@ abbrev pub settles : (starts : Bool) → Telemetry → Asked → Bool
 settles starts t a = is_waiting a && is_some (said_of starts t a)
 
 -- telemetry to this source
-abbrev pub addressed : (source : ℕ) → Option Telemetry → Option Telemetry
-addressed source None = None
-addressed source (Some t) = if t.destination == source then Some t else None
+abbrev pub addressed_to : (source : ℕ) → Option Telemetry → Option Telemetry
+addressed_to source None = None
+addressed_to source (Some t) = if t.destination == source then Some t else None
 
 -- the report of a pass that octets are: telemetry of its APID, to its source
 unfoldable pub report_of : Terms → List ℕ → Option Telemetry
-report_of terms o = addressed terms.source (telemetry_in terms.apid o)
+report_of terms o = addressed_to terms.source (telemetry_in terms.apid o)
 
 -- what telemetry says of a request, if there is one
 abbrev pub said_there : (starts : Bool) → Telemetry → Option Asked → Option Said
@@ -115,11 +115,11 @@ unfoldable pub said_in : Terms → List Asked → List ℕ → Option (ℕ × Sa
 said_in terms asked o = said_first terms.starts asked (report_of terms o)
 
 -- the request at this place has this fate, if there is one
-abbrev pub fated : List Asked → (k : ℕ) → Fate → Option Asked → List Asked
-fated asked k f None = asked
-fated asked k f (Some a) = slice_set asked k (record a { fate = f })
+abbrev pub request_fated : List Asked → (k : ℕ) → Fate → Option Asked → List Asked
+request_fated asked k f None = asked
+request_fated asked k f (Some a) = slice_set asked k (record a { fate = f })
 
 -- the requests once that was said of one of them by these octets, or of none
-abbrev pub told : List Asked → List ℕ → Option (ℕ × Said) → List Asked
-told asked o None = asked
-told asked o (Some x) = fated asked x.0 (fate_by x.1 o) (slice_get asked x.0)
+abbrev pub requests_told : List Asked → List ℕ → Option (ℕ × Said) → List Asked
+requests_told asked o None = asked
+requests_told asked o (Some x) = request_fated asked x.0 (fate_by x.1 o) (slice_get asked x.0)

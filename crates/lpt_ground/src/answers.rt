@@ -1,7 +1,7 @@
 //! What the packets that settled a pass's requests hold of memories.
 
 ghost use Rattle.std.specs.Prelude.{◌≡◌, ◌++◌, IfOk, OnOk, take};
-ghost use Rattle.lpt_ground.specs.Answers.{checked_len, checks_agree, dumped, holds_checksum, octets_by};
+ghost use Rattle.lpt_ground.specs.Answers.{checked_len, checks_agree, octets_dumped, holds_checksum, octets_by};
 
 use crate::{Asked, Awaits, Fate};
 use lpt_packet::crc16;
@@ -15,7 +15,7 @@ const AREA_END: usize = 4;
 /// The octets that the reports of dumps hold, in the order of the requests. The only error is out
 /// of memory.
 pub fn dumped_octets(alloc: Global, asked: &[Asked]) -> Result<Vec<u8>, AllocError>
-    ensures { IfOk result (λ v. v.items ≡ dumped asked.now) }
+    ensures { IfOk result (λ v. v.items ≡ octets_dumped asked.now) }
 {
     let mut octets = Vec::new(alloc);
     for one in asked {

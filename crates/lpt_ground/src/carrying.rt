@@ -55,7 +55,7 @@ pub fn carry<E: Ear, K: Sink>(pass: &mut Pass, ear: &mut E, out: &mut K) -> Resu
         (E.told ear.old) (E.told ear.new) (K.contents out.old) (K.contents out.new)) }
     ensures terms { pass.new.terms ≡ pass.old.terms }
 {
-    if !ear.keep(pass.asked()) {
+    if !ear.keep(pass.requests_asked()) {
         return Err(StreamFault::Write);
     }
     for _ in 0..u64::MAX {
@@ -107,7 +107,7 @@ fn put_one<E: Ear, K: Sink>(
         }
         None => {
             write_out(out, pass.octets(k))?;
-            pass.sent(k);
+            pass.request_sent(k);
             Ok(())
         }
     }
@@ -125,7 +125,7 @@ fn listen<E: Ear, K: Sink>(pass: &mut Pass, ear: &mut E, out: &mut K) -> Result<
         Waited::End => pass.close(),
         Waited::Quiet => {
             pass.quiet();
-            if !ear.keep(pass.asked()) {
+            if !ear.keep(pass.requests_asked()) {
                 return Err(StreamFault::Write);
             }
         }

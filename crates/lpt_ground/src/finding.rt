@@ -4,7 +4,7 @@ ghost use Rattle.std.specs.Prelude.{◌≡◌, ◌<◌, ◌≤◌, length, posit
 ghost use Rattle.std.specs.List.{list_all, position_or_len};
 ghost use Rattle.lpt_pus.specs.Telemetry.{telemetry};
 ghost use Rattle.lpt_ground.specs.Passes.{is_done};
-ghost use Rattle.lpt_ground.specs.Telling.{fate_by, fated, is_waiting, settles};
+ghost use Rattle.lpt_ground.specs.Telling.{fate_by, request_fated, is_waiting, settles};
 
 use crate::{Asked, Fate, Said};
 use lpt_packet::Octets;
@@ -78,7 +78,8 @@ pub(crate) fn settle(
 ) -> usize
     requires first { first ≡ position_or_len is_waiting asked.old }
     requires within { first ≤ length asked.old }
-    ensures asked { asked.new ≡ fated asked.old k (fate_by said octets) (slice_get asked.old k) }
+    ensures asked { asked.new ≡ request_fated asked.old k (fate_by said octets)
+        (slice_get asked.old k) }
     ensures first { result ≡ position_or_len is_waiting asked.new }
     ensures within { result ≤ length asked.new }
 {
@@ -89,7 +90,7 @@ pub(crate) fn settle(
 // The request at this place has this fate from now on, if there is one.
 #[tactic(auto, using(std::proofs::lemmas::Option::slice_get_read, std::proofs::lemmas::Option::slice_get_past))]
 fn set_fate(asked: &mut [Asked], k: usize, fate: Fate)
-    ensures { asked.new ≡ fated asked.old k fate (slice_get asked.old k) }
+    ensures { asked.new ≡ request_fated asked.old k fate (slice_get asked.old k) }
 {
     if k < asked.len() {
         let one = &mut asked[k];

@@ -67,12 +67,12 @@ impl Pass {
     ghost use Rattle.std.specs.Prelude.{◌<◌, ℕ, drop, position, slice_get};
     ghost use Rattle.lpt_packet.specs.Numbers.{IsOctets};
     ghost use Rattle.lpt_ground.specs.Carrying.{octets_of};
-    ghost use Rattle.lpt_ground.specs.Passes.{begun, closed, end_of, heard, next_step, put, put_from, state_of, waited};
+    ghost use Rattle.lpt_ground.specs.Passes.{pass_begun, pass_closed, end_of, octets_heard, next_step, put, put_from, state_of, pass_waited};
     ghost use Rattle.lpt_ground.specs.Telling.{said_in};
 
     /// A pass of these requests that begins.
     pub fn new(terms: Terms, asked: Vec<Asked>) -> Pass
-        ensures state { state_of result ≡ begun terms asked.items }
+        ensures state { state_of result ≡ pass_begun terms asked.items }
         ensures terms { result.terms ≡ terms }
     {
         let first = first_from(&asked, 0);
@@ -97,7 +97,7 @@ impl Pass {
     }
 
     /// The requests, with what became of them.
-    pub fn asked(&self) -> &[Asked]
+    pub fn requests_asked(&self) -> &[Asked]
         ensures { result.now ≡ self.now.asked.items }
     {
         &self.asked
@@ -157,7 +157,7 @@ impl Pass {
     }
 
     /// The request at this place was put.
-    pub fn sent(&mut self, k: usize)
+    pub fn request_sent(&mut self, k: usize)
         requires { k < length self.old.asked.items }
         ensures state { state_of self.new ≡ put (state_of self.old) k }
         ensures terms { self.new.terms ≡ self.old.terms }
@@ -167,9 +167,9 @@ impl Pass {
     }
 
     /// A packet was heard. The first request that it settles has its fate then.
-    #[tactic(auto, unfolding(crate::specs::Passes::heard))]
+    #[tactic(auto, unfolding(crate::specs::Passes::octets_heard))]
     pub fn hear(&mut self, octets: Octets)
-        ensures state { state_of self.new ≡ heard self.old.terms (state_of self.old) octets }
+        ensures state { state_of self.new ≡ octets_heard self.old.terms (state_of self.old) octets }
         ensures terms { self.new.terms ≡ self.old.terms }
     {
         let Some((k, said)) = self.said_in(octets.as_slice()) else {
@@ -188,13 +188,13 @@ impl Pass {
         let (head, body) = self.terms.report_of(octets)?;
         let starts = self.terms.starts;
         let k = first_settled(&self.asked, self.first, starts, &head, body)?;
-        let said = self.asked.get(k)?.said(starts, &head, body)?;
+        let said = self.asked.get(k)?.telemetry_said(starts, &head, body)?;
         Some((k, said))
     }
 
     /// Nothing was heard for the wait: a new round begins.
     pub fn quiet(&mut self)
-        ensures state { state_of self.new ≡ waited self.old.terms (state_of self.old) }
+        ensures state { state_of self.new ≡ pass_waited self.old.terms (state_of self.old) }
         ensures terms { self.new.terms ≡ self.old.terms }
     {
         self.at = 0;
@@ -209,7 +209,7 @@ impl Pass {
 
     /// Nothing more will be heard.
     pub fn close(&mut self)
-        ensures state { state_of self.new ≡ closed (state_of self.old) }
+        ensures state { state_of self.new ≡ pass_closed (state_of self.old) }
         ensures terms { self.new.terms ≡ self.old.terms }
     {
         self.ended = true;

@@ -3,7 +3,7 @@
 ghost use Rattle.std.specs.Prelude.{◌≡◌, ◌≤◌, IfOk, length};
 ghost use Rattle.lpt_pus.specs.Numbers.{long_at};
 ghost use Rattle.lpt_requests.specs.Packets.{next_count};
-ghost use Rattle.lpt_ground.specs.Plans.{asked_of, awaits_of, planned};
+ghost use Rattle.lpt_ground.specs.Plans.{asked_of, awaits_of, requests_planned};
 
 use crate::{Asked, Awaits, Fate, Place};
 use lpt_memory::MemoryFault;
@@ -33,7 +33,7 @@ pub fn plan_requests(
     requires count { count ≤ 16383 }
     requires most { length requests.now ≤ 16384 }
     ensures planned { IfOk result (λ v. v.items
-        ≡ planned apid source count flags requests.now) }
+        ≡ requests_planned apid source count flags requests.now) }
 {
     let mut asked = Vec::new(alloc);
     let mut count = count;

@@ -80,12 +80,12 @@ impl Asked {
     pub(crate) fn is_settled_by(&self, starts: bool, head: &TmHead, body: &[u8]) -> bool
         ensures { result ≡ settles starts (telemetry head.now body.now) self.now }
     {
-        self.fate.waits() && self.said(starts, head, body).is_some()
+        self.fate.waits() && self.telemetry_said(starts, head, body).is_some()
     }
 
     // What telemetry says of it.
     #[tactic(auto, unfolding(crate::specs::Telling::said_of))]
-    pub(crate) fn said(&self, starts: bool, head: &TmHead, body: &[u8]) -> Option<Said>
+    pub(crate) fn telemetry_said(&self, starts: bool, head: &TmHead, body: &[u8]) -> Option<Said>
         ensures { result ≡ said_of starts (telemetry head.now body.now) self.now }
     {
         if head.service == VERIFICATION {

@@ -13,8 +13,8 @@ use Rattle.lpt_ground.specs.declared.asked.Asked.{Asked}
 use Rattle.lpt_ground.specs.declared.pass.End.TheVariants.{Done}
 use Rattle.lpt_ground.specs.declared.pass.Step.TheVariants.{Stop}
 use Rattle.lpt_ground.specs.Carrying.{come_to}
-use Rattle.lpt_ground.specs.Passes.{begun, next_step}
-use Rattle.lpt_ground.specs.Plans.{planned}
+use Rattle.lpt_ground.specs.Passes.{pass_begun, next_step}
+use Rattle.lpt_ground.specs.Plans.{requests_planned}
 use Rattle.lpt_ground_moves.specs.Chains.{DoneLeavesTheImage}
 use Rattle.lpt_ground_jobs.specs.Alone.{image_of}
 use Rattle.lpt_ground_jobs.specs.Areas.{AllAgree, ArePlans, DoneLeavesTheAreas, IsPlan, IsTask, Task}
@@ -72,7 +72,8 @@ module _ (apid source : ℕ) (first : Contents) (t : Task) (asked : List Asked)
       (pieces-short t.each t.areas plan.pieces task.some task.few
       (λ n a there. area-ends t.areas n a faults there) plan.cut) plan.planned.ask in
       subst (AllLoad apid images) (sym plan.planned.are)
-      (subst (λ (n : ℕ). AllLoad n images (planned t.heads.apid t.heads.source t.heads.count
+      (subst (λ (n : ℕ). AllLoad n images
+      (requests_planned t.heads.apid t.heads.source t.heads.count
       t.heads.flags plan.planned.requests)) task.of_apid all)
 
   plan-suit : (x : Image)
@@ -183,7 +184,7 @@ done-areas image c first xs tasks asked terms end old new place n k t a config c
     let task = all-at (IsTask c.apid terms.source first) tasks are n t there in
     let all = whole-pieces c.apid terms.source first tasks asked n k t a fits are plans there at
     agree in
-    let ended : next_step (come_to terms (begun terms asked) came.answers) ≡ Stop Done
+    let ended : next_step (come_to terms (pass_begun terms asked) came.answers) ≡ Stop Done
     = ap next_step (sym came.came) ∙ came.ends in
     done-leaves image c first xs x task.before terms all.pieces asked came.answers place config can
     task.is_known (area-within (length task.before) t.areas k a task.fit at) apid all.load all.suit

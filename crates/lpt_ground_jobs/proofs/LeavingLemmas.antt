@@ -8,7 +8,7 @@ use Rattle.lpt_memory.specs.Memories.{Contents, content_of, sizes_of}
 use Rattle.lpt_memory.specs.Overlaps.{Covers}
 use Rattle.lpt_events.specs.Configs.{IsConfig}
 use Rattle.lpt_events.specs.declared.config.Config.{Config}
-use Rattle.lpt_apart.specs.Facts.{executed}
+use Rattle.lpt_apart.specs.Facts.{requests_executed}
 use Rattle.lpt_apart.specs.Moves.{Move, came_to, CanMoveAll}
 use Rattle.lpt_reported.specs.Images.{Agrees, Image, IsLoaded, IsTrueTo, LoadsOctet, Stands}
 use Rattle.lpt_ground.specs.declared.asked.Asked.{Asked}
@@ -16,7 +16,7 @@ use Rattle.lpt_ground.specs.declared.asked.Terms.{Terms}
 use Rattle.lpt_ground.specs.declared.pass.End.TheVariants.{Done}
 use Rattle.lpt_ground.specs.declared.pass.Step.TheVariants.{Stop}
 use Rattle.lpt_ground.specs.Carrying.{Answer, come_to, packets_of}
-use Rattle.lpt_ground.specs.Passes.{begun, next_step}
+use Rattle.lpt_ground.specs.Passes.{pass_begun, next_step}
 use Rattle.lpt_ground_moves.specs.Chains.{AreLoads, DoneLeavesTheImage, WerePutOut, messages_of}
 use Rattle.lpt_ground_jobs.specs.Alone.{AreAlone, IsAmong}
 use Rattle.lpt_ground_jobs.proofs.AtLemmas.{all-behind, entry-of}
@@ -170,12 +170,13 @@ pub done-leaves : DoneLeavesTheImage
     → ((i : ℕ) → i < length x.octets → Reaches x i pieces)
     → AreAlone c first (came_to c first xs).ends.log x terms.source place (messages_of asked)
     → WerePutOut c first xs (packets_of answers)
-    → next_step (come_to terms (begun terms asked) answers) ≡ Stop Done
+    → next_step (come_to terms (pass_begun terms asked) answers) ≡ Stop Done
     → Stands x (came_to c first xs).ends.memories
 done-leaves image c first xs x before terms pieces asked answers place config can known fits apid
     all suit reaches alone put done =
     let log = (came_to c first xs).ends.log in
-    image c first xs x before place terms (begun terms asked) answers config can known fits apid
+    image c first xs x before place terms (pass_begun terms asked) answers config can known fits
+    apid
     (are-loads c.apid pieces asked all)
     (record {
       loaded = λ i within.
@@ -184,7 +185,7 @@ done-leaves image c first xs x before terms pieces asked answers place config ca
       is_new = alone.is_new;
       others =
           all-behind (λ (m : List ℕ). IsTrueTo x (meaning c.apid (sizes_of first) m)) place
-          (executed log)
+          (requests_executed log)
           (λ k b there from.
           elim (alone.others k b there from) [
             | inl own ↦ among-true c.apid (sizes_of first) x pieces asked b all suit own

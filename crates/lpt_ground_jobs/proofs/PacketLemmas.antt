@@ -20,7 +20,7 @@ use Rattle.lpt_requests.specs.Packets.{next_count}
 use Rattle.lpt_requests.specs.Requests.{request_packet}
 use Rattle.lpt_reported.specs.Images.{Image}
 use Rattle.lpt_ground.specs.declared.asked.Asked.{Asked}
-use Rattle.lpt_ground.specs.Plans.{asked_of, planned}
+use Rattle.lpt_ground.specs.Plans.{asked_of, requests_planned}
 use Rattle.lpt_ground_moves.specs.Chains.{IsLoad}
 use Rattle.lpt_ground_jobs.specs.Alone.{image_of}
 
@@ -133,7 +133,8 @@ pub planned-load : (apid source count flags memory : ℕ) (requests : List Reque
     → source < 65536
     → AllByRecursion IsShort pieces
     → map view requests ≡ map (as_load memory) pieces
-    → AllLoad apid (map (image_of memory) pieces) (planned apid source count flags requests)
+    → AllLoad apid (map (image_of memory) pieces)
+    (requests_planned apid source count flags requests)
 planned-load apid source count flags memory [] [] head from short ask = tt
 planned-load apid source count flags memory [] (p ∷ pieces) head from short ask = absurd cc
 planned-load apid source count flags memory (r ∷ requests) [] head from short ask = absurd cc

@@ -14,12 +14,12 @@ use Rattle.lpt_requests.specs.Cuts.{place_fault, place_faults, places_fault}
 use Rattle.lpt_apart.specs.Moves.{came_to}
 use Rattle.lpt_reported.specs.Images.{Agrees, Image}
 use Rattle.lpt_ground.specs.declared.asked.Terms.{Terms}
-use Rattle.lpt_ground.specs.Plans.{planned}
+use Rattle.lpt_ground.specs.Plans.{requests_planned}
 use Rattle.lpt_ground.specs.declared.pass.End.TheVariants.{Done, Failed, Given, Ended}
 use Rattle.lpt_ground.specs.declared.pass.Step.{Step}
 use Rattle.lpt_ground.specs.declared.pass.Step.TheVariants.{Put, Listen, Stop}
 use Rattle.lpt_ground.specs.Carrying.{come_to}
-use Rattle.lpt_ground.specs.Passes.{State, begun, next_step, state_of}
+use Rattle.lpt_ground.specs.Passes.{PassState, pass_begun, next_step, state_of}
 use Rattle.lpt_c_ground.specs.Calls.{CallsCarryAPass, step_word}
 use Rattle.lpt_c_ground.specs.Codes.{long_job, range}
 use Rattle.lpt_c_ground.specs.Jobs.{each_of, is_job, kind_from, numbers_fit, terms_of}
@@ -256,16 +256,17 @@ agreeing-places carry image c first xs j places content place k p config can job
       agrees = λ same. subst (Agrees x) (sym of.is) (agree n of.place of.is_there);
     }) in
     let pieces = map (image_of j.memory) loads.pieces in
-    let asked = planned j.apid j.source j.count j.flags made.requests in
+    let asked = requests_planned j.apid j.source j.count j.flags made.requests in
     let all = planned-load j.apid j.source j.count j.flags j.memory made.requests loads.pieces
     is.ranges.head (omega (arith, job.source_fits))
     (pieces-short j.part_size areas loads.pieces is.ranges.some (omega (arith, is.ranges.few))
     (λ n b at. (fits n b at).0) loads.cut)
     loads.ask in
     let came = carry done.answers done.new done.end done.goes in
-    let begins : state_of done.new.pass ≡ begun (terms_of j) asked = made.state in
-    let ended : next_step (come_to (terms_of j) (begun (terms_of j) asked) done.answers) ≡ Stop Done
-    = ap next_step (ap (λ (s : State). come_to (terms_of j) s done.answers) (sym begins)
+    let begins : state_of done.new.pass ≡ pass_begun (terms_of j) asked = made.state in
+    let ended : next_step (come_to (terms_of j) (pass_begun (terms_of j) asked) done.answers)
+    ≡ Stop Done
+    = ap next_step (ap (λ (s : PassState). come_to (terms_of j) s done.answers) (sym begins)
     ∙ ap (λ (t : Terms). come_to t (state_of done.new.pass) done.answers) (sym made.terms)
     ∙ sym came.0) ∙ done-by (next_step (state_of done.end.pass)) done.says in (
       long,
@@ -276,7 +277,7 @@ agreeing-places carry image c first xs j places content place k p config can job
           (size-known j.memory job.before first job.is_known) suit loads.cut)
           (λ i within. pieces-reach j.part_size j.memory areas loads.pieces k a i loads.cut at_k
           within)
-          (subst (λ (s : State). AreAlone c first (came_to c first xs).ends.log x j.source place
+          (subst (λ (s : PassState). AreAlone c first (came_to c first xs).ends.log x j.source place
           (messages_of s.asked)) begins alone)
           done.put_out ended,
     )

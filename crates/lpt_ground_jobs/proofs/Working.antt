@@ -6,7 +6,7 @@ use Rattle.lpt_packet.specs.declared.direction.Direction.TheVariants.{Up, Down}
 use Rattle.lpt_packet.specs.Checksums.{checksum, octets_in, shift_all}
 use Rattle.lpt_packet.specs.Names.{Name}
 use Rattle.lpt_packet.specs.Numbers.{IsOctets}
-use Rattle.lpt_packet.specs.Packets.{seen, spelling}
+use Rattle.lpt_packet.specs.Packets.{packet_seen, spelling}
 use Rattle.lpt_pus.specs.Commands.{command_in, packet_of, tc_field, tc_verdict}
 use Rattle.lpt_pus.specs.Numbers.{long_at}
 use Rattle.lpt_pus.specs.Telemetry.{telemetry_in, tm_field, tm_verdict}
@@ -36,8 +36,8 @@ use Rattle.lpt_ground.specs.declared.asked.Terms.{Terms}
 use Rattle.lpt_ground.specs.declared.pass.End.TheVariants.{Done}
 use Rattle.lpt_ground.specs.declared.pass.Step.TheVariants.{Stop}
 use Rattle.lpt_ground.specs.Carrying.{come_to, packets_of}
-use Rattle.lpt_ground.specs.Passes.{State, begun, heard, next_step, state_of}
-use Rattle.lpt_ground.specs.Plans.{planned}
+use Rattle.lpt_ground.specs.Passes.{PassState, pass_begun, octets_heard, next_step, state_of}
+use Rattle.lpt_ground.specs.Plans.{requests_planned}
 use Rattle.lpt_ground.specs.Telling.{report_of, said_in, said_of}
 use Rattle.lpt_ground_moves.specs.Chains.{WerePutOut, messages_of}
 use Rattle.lpt_c_ground.specs.Calls.{CallsCarryAPass, step_word}
@@ -88,11 +88,11 @@ packet-of memory areas = spelling (packet_of (record {
 }))
 
 packet-is : packet-of 1 (area ∷ []) ≡ request
-unfolding seen spelling checksum octets_in shift_all tc_field tc_verdict command_in body_of
+unfolding packet_seen spelling checksum octets_in shift_all tc_field tc_verdict command_in body_of
 packet-is = refl
 
 one-load : (r : Request) → view r ≡ as_load 1 area
-    → planned 100 7 0 8 (r ∷ []) ≡ asked-by request ∷ []
+    → requests_planned 100 7 0 8 (r ∷ []) ≡ asked-by request ∷ []
 one-load (Load memory areas) asks =
     let same : memory ≡ 1 = cc in
     let one : areas.items ≡ area ∷ [] = cc in
@@ -102,25 +102,26 @@ one-load (Dump memory ranges) asks = absurd cc
 one-load (Check memory ranges) asks = absurd cc
 
 one-asked : (rs : List Request) → map view rs ≡ as_load 1 area ∷ []
-    → planned 100 7 0 8 rs ≡ asked-by request ∷ []
+    → requests_planned 100 7 0 8 rs ≡ asked-by request ∷ []
 one-asked [] asks = absurd cc
 one-asked (r ∷ []) asks = one-load r cc
 one-asked (r ∷ s ∷ rs) asks = absurd cc
 
 -- its pass, as it begins
 begins : (g : Ground) → IsNew job (place ∷ []) content g
-    → state_of g.pass ≡ begun (terms_of job) (asked-by request ∷ [])
+    → state_of g.pass ≡ pass_begun (terms_of job) (asked-by request ∷ [])
 begins g made =
     let cut : AreasCut 8 (area ∷ []) made.are.pieces = made.are.cut in
     let asks : map view made.requests ≡ as_load 1 area ∷ [] =
     made.are.ask ∙ ap (map (as_load 1)) (one-piece made.are.pieces cut) in
-    made.state ∙ ap (begun (terms_of job)) (one-asked made.requests asks)
+    made.state ∙ ap (pass_begun (terms_of job)) (one-asked made.requests asks)
 
 -- and once it heard the report
-hears : next_step (come_to (terms_of job) (begun (terms_of job) (asked-by request ∷ [])) answers)
+hears : next_step
+    (come_to (terms_of job) (pass_begun (terms_of job) (asked-by request ∷ [])) answers)
     ≡ Stop Done
-unfolding seen spelling checksum octets_in shift_all telemetry_in tm_field tm_verdict next_step
-    heard said_in said_of report_of report_in
+unfolding packet_seen spelling checksum octets_in shift_all telemetry_in tm_field tm_verdict next_step
+    octets_heard said_in said_of report_of report_in
 hears = refl
 
 -- ---- two ends
@@ -159,14 +160,14 @@ abbrev log : Log
 log = Executed ∷ Released None request ∷ AskedFor request ∷ []
 
 logged : (came_to usual usual_memories run).ends.log ≡ log
-unfolding seen spelling checksum octets_in shift_all tc_field tc_verdict command_in tm_field
+unfolding packet_seen spelling checksum octets_in shift_all tc_field tc_verdict command_in tm_field
     tm_verdict body_of part_verdict arrival first_of_numbers front_load_area front_head request_in
     body_meaning meaning
 logged = λ i. Executed ∷ with_report (Released None request ∷ AskedFor request ∷ [])
     (opens-nothing (least_free_in (no_data usual).sending.ledger (request_source 100 request)) i)
 
 on-the-way : IsOnTheWay (came_to usual usual_memories run).ends Down report
-unfolding seen spelling checksum octets_in shift_all tc_field tc_verdict command_in tm_field
+unfolding packet_seen spelling checksum octets_in shift_all tc_field tc_verdict command_in tm_field
     tm_verdict body_of part_verdict arrival first_of_numbers front_load_area front_head request_in
     body_meaning meaning
 on-the-way = record {
@@ -190,7 +191,7 @@ put-out zero o there =
 put-out (suc k) o there = absurd cc
 
 can : CanMoveAll usual usual_memories run
-unfolding seen spelling checksum octets_in shift_all tc_field tc_verdict command_in tm_field
+unfolding packet_seen spelling checksum octets_in shift_all tc_field tc_verdict command_in tm_field
     tm_verdict body_of part_verdict arrival first_of_numbers front_load_area front_head request_in
     body_meaning meaning Below
 can = (
@@ -256,8 +257,8 @@ completed-can-be carry g new made goes =
     let x : Image = image_at job (place ∷ []) content 0 place in
     let ended : next_step (state_of new.pass) ≡ Stop Done =
     ap next_step (came.0 ∙ ap (λ (t : Terms). come_to t (state_of g.pass) answers) made.terms
-    ∙ ap (λ (s : State). come_to (terms_of job) s answers) first) ∙ hears in
-    let asked : requests_of g ≡ request ∷ [] = ap (λ (s : State). messages_of s.asked) first in
+    ∙ ap (λ (s : PassState). come_to (terms_of job) s answers) first) ∙ hears in
+    let asked : requests_of g ≡ request ∷ [] = ap (λ (s : PassState). messages_of s.asked) first in
     record {
       configured = configured;
       can = can;

@@ -6,7 +6,7 @@ use Rattle.lpt_memory.specs.Meanings.{meaning}
 use Rattle.lpt_memory.specs.Memories.{Contents, sizes_of}
 use Rattle.lpt_events.specs.declared.config.Config.{Config}
 use Rattle.lpt_execution.specs.Reporting.{request_source}
-use Rattle.lpt_apart.specs.Facts.{Log, executed}
+use Rattle.lpt_apart.specs.Facts.{Log, requests_executed}
 use Rattle.lpt_reported.specs.Images.{Image, IsTrueTo}
 use Rattle.lpt_passes.specs.Passes.{IsAloneIn}
 
@@ -27,10 +27,10 @@ pub record AreAlone (c : Config) (first : Contents) (log : Log) (x : Image) (fro
       → slice_get requests k ≡ Some m
       → IsAloneIn c log from (long_at m 0) m
   pub is_new : (k : ℕ) (b : List ℕ)
-      → slice_get (executed log) k ≡ Some b
+      → slice_get (requests_executed log) k ≡ Some b
       → request_source c.apid b ≡ from
       → place ≤ k
   pub others : (k : ℕ) (b : List ℕ)
-      → slice_get (executed log) k ≡ Some b
+      → slice_get (requests_executed log) k ≡ Some b
       → place ≤ k
       → IsAmong b requests ⊎ IsTrueTo x (meaning c.apid (sizes_of first) b)

@@ -13,7 +13,7 @@ use Rattle.lpt_ground.specs.declared.asked.Asked.{Asked}
 use Rattle.lpt_ground.specs.declared.asked.Terms.{Terms}
 use Rattle.lpt_ground.specs.declared.pass.End.TheVariants.{Done}
 use Rattle.lpt_ground.specs.Carrying.{packets_of}
-use Rattle.lpt_ground.specs.Passes.{State, begun}
+use Rattle.lpt_ground.specs.Passes.{PassState, pass_begun}
 use Rattle.lpt_ground_moves.specs.Chains.{WerePutOut, messages_of}
 use Rattle.lpt_ground_run.specs.declared.heads.Heads.{Heads}
 use Rattle.lpt_ground_run.specs.Carried.{CameTo}
@@ -62,14 +62,15 @@ AllAgree tasks x =
 abbrev pub DoneLeavesTheAreas : Type 0
 DoneLeavesTheAreas =
     (c : Config) (first : Contents) (xs : List Move) (tasks : List Task) (asked : List Asked)
-    (terms : Terms) (end : State) (old new : Option (List ℕ)) (place n k : ℕ) (t : Task) (a : Area)
+    (terms : Terms) (end : PassState) (old new : Option (List ℕ)) (place n k : ℕ) (t : Task)
+    (a : Area)
     → IsConfig c
     → CanMoveAll c first xs
     → terms.apid ≡ c.apid
     → terms.source < 65536
     → AllByRecursion (IsTask c.apid terms.source first) tasks
     → ArePlans tasks asked
-    → (came : CameTo terms (begun terms asked) end old new Done)
+    → (came : CameTo terms (pass_begun terms asked) end old new Done)
     → WerePutOut c first xs (packets_of came.answers)
     → slice_get tasks n ≡ Some t
     → slice_get t.areas k ≡ Some a

@@ -16,7 +16,7 @@ use Rattle.lpt_ground.specs.declared.pass.Step.TheVariants.{Put, Listen, Stop}
 use Rattle.lpt_ground.specs.Carrying as pass
 use Rattle.lpt_ground.specs.Carrying.{Answer, Nothing, Came, Quiet, Over, AllTold, packets_of}
 use Rattle.lpt_ground.specs.Passes as passes
-use Rattle.lpt_ground.specs.Passes.{State, next_step}
+use Rattle.lpt_ground.specs.Passes.{PassState, next_step}
 use Rattle.lpt_ground.proofs.CarryLemmas.{done-told, hears-more, hears-none}
 use Rattle.lpt_ground_large.specs.declared.large.Large.{Large}
 use Rattle.lpt_ground_large.specs.Carrying.{Stepped, Went, after_answer, come_to, after_step, all_written, written_at}
@@ -102,7 +102,7 @@ moved-request w (Put k) = refl
 moved-request w Listen = refl
 moved-request w (Stop e) = refl
 
-either-request : (b : Bool) (v w : Way) (s : State)
+either-request : (b : Bool) (v w : Way) (s : PassState)
     → v.of_request ≡ s
     → w.of_request ≡ s
     → (if b then v else w).of_request ≡ s
@@ -110,15 +110,17 @@ either-request true v w s left right = left
 either-request false v w s left right = right
 
 heard-request : (l : Large) (terms : Terms) (w : Way) (o : List ℕ)
-    → (with_packet l terms w o).of_request ≡ passes.heard terms w.of_request o
+    → (with_packet l terms w o).of_request ≡ passes.octets_heard terms w.of_request o
 heard-request l terms w o =
-    either-request (is_abort terms (id_of l w.used) o) _ _ (passes.heard terms w.of_request o)
+    either-request (is_abort terms (id_of l w.used) o) _ _
+    (passes.octets_heard terms w.of_request o)
     refl refl
 
 waited-request : (l : Large) (terms : Terms) (w : Way)
-    → (with_round l terms w).of_request ≡ passes.waited terms w.of_request
+    → (with_round l terms w).of_request ≡ passes.pass_waited terms w.of_request
 waited-request l terms w =
-    either-request (nat_lt (w.rounds + 1) (patience w.used)) _ _ (passes.waited terms w.of_request)
+    either-request (nat_lt (w.rounds + 1) (patience w.used)) _ _
+    (passes.pass_waited terms w.of_request)
     refl refl
 
 -- it hears what is heard
@@ -128,14 +130,15 @@ pub request-comes : (l : Large) (terms : Terms) (w : Way) (answers : List Answer
 request-comes l terms w [] = refl
 request-comes l terms w (Nothing ∷ rest) =
     request-comes l terms (after_answer l terms w Nothing) rest
-    ∙ ap (λ (s : State). pass.come_to terms s (without_nothing rest))
+    ∙ ap (λ (s : PassState). pass.come_to terms s (without_nothing rest))
     (moved-request w (next_way l w))
 request-comes l terms w (Came o ∷ rest) =
     request-comes l terms (with_packet l terms w o) rest
-    ∙ ap (λ (s : State). pass.come_to terms s (without_nothing rest)) (heard-request l terms w o)
+    ∙ ap (λ (s : PassState). pass.come_to terms s (without_nothing rest))
+    (heard-request l terms w o)
 request-comes l terms w (Quiet ∷ rest) =
     request-comes l terms (with_round l terms w) rest
-    ∙ ap (λ (s : State). pass.come_to terms s (without_nothing rest)) (waited-request l terms w)
+    ∙ ap (λ (s : PassState). pass.come_to terms s (without_nothing rest)) (waited-request l terms w)
 request-comes l terms w (Over ∷ rest) =
     request-comes l terms (after_answer l terms w Over) rest
 
@@ -145,22 +148,22 @@ request-comes l terms w (Over ∷ rest) =
 pub heard-abort : (l : Large) (terms : Terms) (w : Way) (o : List ℕ)
     → is_abort terms (id_of l w.used) o ≡ true
     → with_packet l terms w o
-    ≡ under_next_name l (record w { of_request = passes.heard terms w.of_request o })
+    ≡ under_next_name l (record w { of_request = passes.octets_heard terms w.of_request o })
 heard-abort l terms w o is =
     ap (λ (b : Bool).
-    if b then under_next_name l (record w { of_request = passes.heard terms w.of_request o })
-    else record w { of_request = passes.heard terms w.of_request o }) is
+    if b then under_next_name l (record w { of_request = passes.octets_heard terms w.of_request o })
+    else record w { of_request = passes.octets_heard terms w.of_request o }) is
 
 -- a name that is used up
 pub waited-out : (l : Large) (terms : Terms) (w : Way)
     → nat_lt (w.rounds + 1) (patience w.used) ≡ false
     → with_round l terms w
-    ≡ under_next_name l (record w { of_request = passes.waited terms w.of_request })
+    ≡ under_next_name l (record w { of_request = passes.pass_waited terms w.of_request })
 waited-out l terms w is =
     ap (λ (b : Bool).
     if b then
-    record w { of_request = passes.waited terms w.of_request; at = 0; rounds = w.rounds + 1 }
-    else under_next_name l (record w { of_request = passes.waited terms w.of_request })) is
+    record w { of_request = passes.pass_waited terms w.of_request; at = 0; rounds = w.rounds + 1 }
+    else under_next_name l (record w { of_request = passes.pass_waited terms w.of_request })) is
 
 -- ---- one that is done
 

@@ -8,7 +8,7 @@ use Rattle.lpt_ground.specs.declared.pass.End.TheVariants as ends
 use Rattle.lpt_ground.specs.declared.pass.Step.{Step}
 use Rattle.lpt_ground.specs.declared.pass.Step.TheVariants.{Put, Listen, Stop}
 use Rattle.lpt_ground.specs.Passes as pass
-use Rattle.lpt_ground.specs.Passes.{State, next_step}
+use Rattle.lpt_ground.specs.Passes.{PassState, next_step}
 use Rattle.lpt_ground.specs.Telling.{report_of}
 use Rattle.lpt_ground_large.specs.declared.large.Large.{Large}
 use Rattle.lpt_ground_large.specs.declared.uplink.Uplink.{Uplink}
@@ -20,14 +20,14 @@ use Rattle.lpt_ground_large.specs.Parts.{behind, id_of, parts_of, patience}
 -- the name behind them; how many of its parts were put in this round; and how many rounds under it
 -- settled nothing.
 pub record Way : Type 0 where
-  pub of_request : State
+  pub of_request : PassState
   pub used : ℕ
   pub count : ℕ
   pub at : ℕ
   pub rounds : ℕ
 
 -- that of an uplink, beside the pass of its request
-abbrev pub way_of : Uplink → State → Way
+abbrev pub way_of : Uplink → PassState → Way
 way_of u s = record {
   of_request = s;
   used = u.used;
@@ -37,7 +37,7 @@ way_of u s = record {
 }
 
 -- that of one that begins
-abbrev pub way_at_first : Large → State → Way
+abbrev pub way_at_first : Large → PassState → Way
 way_at_first l s = record { of_request = s; used = 0; count = l.count; at = 0; rounds = 0 }
 
 -- ---- what it does next
@@ -92,20 +92,20 @@ is_abort terms id o = aborts id (report_of terms o)
 abbrev pub with_packet : Large → Terms → Way → List ℕ → Way
 with_packet l terms w o =
     if is_abort terms (id_of l w.used) o then
-    under_next_name l (record w { of_request = pass.heard terms w.of_request o })
-    else record w { of_request = pass.heard terms w.of_request o }
+    under_next_name l (record w { of_request = pass.octets_heard terms w.of_request o })
+    else record w { of_request = pass.octets_heard terms w.of_request o }
 
 -- once nothing was heard for the wait: a new round begins
 abbrev pub with_round : Large → Terms → Way → Way
 with_round l terms w =
     if nat_lt (w.rounds + 1) (patience w.used) then
     record w {
-      of_request = pass.waited terms w.of_request;
+      of_request = pass.pass_waited terms w.of_request;
       at = 0;
       rounds = w.rounds + 1;
     }
-    else under_next_name l (record w { of_request = pass.waited terms w.of_request })
+    else under_next_name l (record w { of_request = pass.pass_waited terms w.of_request })
 
 -- once nothing more will be heard
 abbrev pub at_end : Way → Way
-at_end w = record w { of_request = pass.closed w.of_request }
+at_end w = record w { of_request = pass.pass_closed w.of_request }

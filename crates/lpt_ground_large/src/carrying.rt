@@ -38,7 +38,7 @@ pub fn carry_large<E: Ear, K: Sink>(
     ensures large { uplink.new.large ≡ uplink.old.large }
     ensures terms { pass.new.terms ≡ pass.old.terms }
 {
-    if !ear.keep(pass.asked()) {
+    if !ear.keep(pass.requests_asked()) {
         return Err(StreamFault::Write);
     }
     for _ in 0..u64::MAX {
@@ -124,7 +124,7 @@ fn listen<E: Ear, K: Sink>(
         Waited::End => uplink.close(pass),
         Waited::Quiet => {
             uplink.quiet(pass);
-            if !ear.keep(pass.asked()) {
+            if !ear.keep(pass.requests_asked()) {
                 return Err(StreamFault::Write);
             }
         }

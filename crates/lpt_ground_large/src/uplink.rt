@@ -37,14 +37,14 @@ pub struct Uplink {
 impl Uplink {
     ghost use Rattle.std.specs.Prelude.{◌≡◌, ◌<◌, ℕ, IfOk, length};
     ghost use Rattle.lpt_packet.specs.Numbers.{IsOctets};
-    ghost use Rattle.lpt_ground.specs.Passes.{State, state_of};
+    ghost use Rattle.lpt_ground.specs.Passes.{PassState, state_of};
     ghost use Rattle.lpt_ground.specs.declared.pass.Step.TheVariants.{Put};
     ghost use Rattle.lpt_ground_large.specs.Parts.{id_of, part_packet, parts_of};
     ghost use Rattle.lpt_ground_large.specs.Uplinks.{way_at_first, at_end, with_packet, is_abort, next_part, next_way, with_part_put, under_next_name, with_round, way_of};
 
     /// A message whose uplink begins.
     pub fn new(large: Large) -> Uplink
-        ensures way { (s : State) → way_of result s ≡ way_at_first large s }
+        ensures way { (s : PassState) → way_of result s ≡ way_at_first large s }
         ensures large { result.large ≡ large }
     {
         let count = large.count;
@@ -73,7 +73,7 @@ impl Uplink {
 
     // What is next while its request's pass goes on.
     fn next_part(&self) -> Step
-        ensures step { (s : State) → result ≡ next_part self.now.large (way_of self.now s) }
+        ensures step { (s : PassState) → result ≡ next_part self.now.large (way_of self.now s) }
         ensures within { (k : ℕ) → result ≡ Put k → k < parts_of self.now.large }
     {
         if self.used >= self.large.names.many {
@@ -98,7 +98,7 @@ impl Uplink {
     /// The part behind so many was put.
     pub fn part_sent(&mut self, k: usize)
         requires { k < parts_of self.old.large }
-        ensures way { (s : State) → way_of self.new s ≡ with_part_put (way_of self.old s) k }
+        ensures way { (s : PassState) → way_of self.new s ≡ with_part_put (way_of self.old s) k }
         ensures large { self.new.large ≡ self.old.large }
     {
         self.at = k + 1;
@@ -139,7 +139,7 @@ impl Uplink {
 
     // From now on the parts go under the next name.
     fn rename(&mut self)
-        ensures way { (s : State) → way_of self.new s
+        ensures way { (s : PassState) → way_of self.new s
             ≡ under_next_name self.old.large (way_of self.old s) }
         ensures large { self.new.large ≡ self.old.large }
     {

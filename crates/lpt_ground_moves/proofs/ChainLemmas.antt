@@ -23,8 +23,8 @@ use Rattle.lpt_ground.specs.declared.pass.Step.TheVariants.{Stop}
 use Rattle.lpt_ground.specs.declared.telling.Said.{Said}
 use Rattle.lpt_ground.specs.declared.telling.Said.TheVariants as said
 use Rattle.lpt_ground.specs.Carrying.{Answer, WasTold, come_to, packets_of}
-use Rattle.lpt_ground.specs.Passes.{State, next_step}
-use Rattle.lpt_ground.specs.Telling.{addressed, is_answer, is_success, report_of, said_by, said_of, said_with}
+use Rattle.lpt_ground.specs.Passes.{PassState, next_step}
+use Rattle.lpt_ground.specs.Telling.{addressed_to, is_answer, is_success, report_of, said_by, said_of, said_with}
 use Rattle.lpt_ground.proofs.CarryLemmas.{done-told}
 use Rattle.lpt_ground_moves.specs.Chains.{AreLoads, IsLoad, WasPutOut, WerePutOut, messages_of}
 
@@ -135,7 +135,7 @@ goes-to from u t false is_same is = absurd cc
 
 for-source : (apid from : ℕ) (o : List ℕ) (m : Option Telemetry) (t : Telemetry)
     → telemetry_in apid o ≡ m
-    → addressed from m ≡ Some t
+    → addressed_to from m ≡ Some t
     → IsFor apid from o t
 for-source apid from o None t read is = absurd cc
 for-source apid from o (Some u) t read is =
@@ -203,7 +203,7 @@ load-at : (entry : Option Asked) (m : List ℕ)
 load-at None m is = absurd cc
 load-at (Some a) m is = (a, refl, cc)
 
-pub done-heard : (c : Config) (first : Contents) (xs : List Move) (terms : Terms) (s : State)
+pub done-heard : (c : Config) (first : Contents) (xs : List Move) (terms : Terms) (s : PassState)
     (answers : List Answer)
     → terms.apid ≡ c.apid
     → AreLoads s.asked

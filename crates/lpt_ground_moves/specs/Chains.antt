@@ -16,7 +16,7 @@ use Rattle.lpt_ground.specs.declared.asked.Terms.{Terms}
 use Rattle.lpt_ground.specs.declared.pass.End.TheVariants.{Done}
 use Rattle.lpt_ground.specs.declared.pass.Step.TheVariants.{Stop}
 use Rattle.lpt_ground.specs.Carrying.{Answer, come_to, packets_of}
-use Rattle.lpt_ground.specs.Passes.{State, next_step}
+use Rattle.lpt_ground.specs.Passes.{PassState, next_step}
 use Rattle.lpt_ground_large.specs.declared.large.Large.{Large}
 use Rattle.lpt_ground_large.specs.Carrying as large
 use Rattle.lpt_ground_large.specs.Uplinks.{Way, next_way}
@@ -52,7 +52,7 @@ WerePutOut c first xs packets =
 -- what was heard of a pass that is done
 abbrev pub DoneWasHeard : Type 0
 DoneWasHeard =
-    (c : Config) (first : Contents) (xs : List Move) (terms : Terms) (s : State)
+    (c : Config) (first : Contents) (xs : List Move) (terms : Terms) (s : PassState)
     (answers : List Answer)
     → terms.apid ≡ c.apid
     → AreLoads s.asked
@@ -64,7 +64,7 @@ DoneWasHeard =
 abbrev pub DoneLeavesTheImage : Type 0
 DoneLeavesTheImage =
     (c : Config) (first : Contents) (xs : List Move) (x : Image) (content : List ℕ) (place : ℕ)
-    (terms : Terms) (s : State) (answers : List Answer)
+    (terms : Terms) (s : PassState) (answers : List Answer)
     → IsConfig c
     → CanMoveAll c first xs
     → content_of x.memory first ≡ Some content

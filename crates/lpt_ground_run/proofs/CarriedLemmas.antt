@@ -6,8 +6,8 @@ use Rattle.lpt_text.specs.declared.fault.StreamFault.{StreamFault}
 use Rattle.lpt_ground.specs.declared.asked.Terms.{Terms}
 use Rattle.lpt_ground.specs.declared.pass.End.{End}
 use Rattle.lpt_ground.specs.declared.pass.Step.TheVariants.{Stop}
-use Rattle.lpt_ground.specs.Carrying.{Answer, Came, Went, answered, come_to, paced}
-use Rattle.lpt_ground.specs.Passes.{State, next_step}
+use Rattle.lpt_ground.specs.Carrying.{Answer, Came, Went, state_answered, come_to, octets_written}
+use Rattle.lpt_ground.specs.Passes.{PassState, next_step}
 use Rattle.lpt_ground.proofs.CarryLemmas.{done-told}
 use Rattle.lpt_ground_large.specs.declared.large.Large.{Large}
 use Rattle.lpt_ground_large.specs.Carrying as large
@@ -43,7 +43,7 @@ came-up l m terms w v had has old new (Ok e) same stop went =
           (ap (next_way l) (sym went.came) ∙ ends ∙ ap Stop is);
     }
 
-pub came-to : (terms : Terms) (s t : State) (had has : Option (List Answer))
+pub came-to : (terms : Terms) (s t : PassState) (had has : Option (List Answer))
     (old new : Option (List ℕ)) (r : Result End StreamFault)
     → IfOk r (λ e. next_step t ≡ Stop e)
     → OnOk r (Went terms s t had has old new)
@@ -57,22 +57,23 @@ came-to terms s t had has old new (Ok e) stop w = record {
   told = λ is. done-told terms s w.answers (ap next_step (sym w.came) ∙ stop ∙ ap Stop is);
 }
 
-came-append : (terms : Terms) (s : State) (ps : List (List ℕ)) (xs : List Answer)
+came-append : (terms : Terms) (s : PassState) (ps : List (List ℕ)) (xs : List Answer)
     → come_to terms s (map Came ps ++ xs) ≡ come_to terms (come_to terms s (map Came ps)) xs
 came-append terms s [] xs = refl
-came-append terms s (p ∷ ps) xs = came-append terms (answered terms s (Came p)) ps xs
+came-append terms s (p ∷ ps) xs = came-append terms (state_answered terms s (Came p)) ps xs
 
-paced-append : (terms : Terms) (s : State) (ps : List (List ℕ)) (xs : List Answer)
-    → paced terms s (map Came ps ++ xs) ≡ paced terms (come_to terms s (map Came ps)) xs
+paced-append : (terms : Terms) (s : PassState) (ps : List (List ℕ)) (xs : List Answer)
+    → octets_written terms s (map Came ps ++ xs)
+    ≡ octets_written terms (come_to terms s (map Came ps)) xs
 paced-append terms s [] xs = refl
-paced-append terms s (p ∷ ps) xs = paced-append terms (answered terms s (Came p)) ps xs
+paced-append terms s (p ∷ ps) xs = paced-append terms (state_answered terms s (Came p)) ps xs
 
 -- a pass that heard again what was kept, and then was carried to its end
 pub one-pass : KeptRunsAreOnePass
 one-pass terms s t u octets all old new end h c =
     let xs : List Answer = map Came h.packets ++ c.answers in
     let came : u ≡ come_to terms s xs =
-    c.came ∙ ap (λ (m : State). come_to terms m c.answers) h.came
+    c.came ∙ ap (λ (m : PassState). come_to terms m c.answers) h.came
     ∙ sym (came-append terms s h.packets c.answers) in
     record {
       answers = xs;
@@ -80,7 +81,7 @@ one-pass terms s t u octets all old new end h c =
       ends = c.ends;
       written =
           subst (Appends old new)
-          (ap (λ (m : State). paced terms m c.answers) h.came
+          (ap (λ (m : PassState). octets_written terms m c.answers) h.came
           ∙ sym (paced-append terms s h.packets c.answers)) c.written;
       told = λ is. done-told terms s xs (ap next_step (sym came) ∙ c.ends ∙ ap Stop is);
     }

@@ -3,10 +3,10 @@ use Rattle.std.proofs.Common.{◌≡◌, ◌∙◌, ap, sym, refl, ℕ, zero, su
 use Rattle.std.specs.Prelude.{Option, replicate}
 use Rattle.std.specs.Option.{option_to_list}
 use Rattle.lpt_ground_run.specs.declared.runs.Outcome.{Outcome}
-use Rattle.lpt_ground_run.specs.declared.runs.Run.{Run}
+use Rattle.lpt_ground_run.specs.declared.runs.GroundRun.{GroundRun}
 use Rattle.lpt_ground_run.specs.Runs.{spread}
 
-pub spread-append : (xs ys : List Run) → spread (xs ++ ys) ≡ spread xs ++ spread ys
+pub spread-append : (xs ys : List GroundRun) → spread (xs ++ ys) ≡ spread xs ++ spread ys
 spread-append [] ys = refl
 spread-append (x ∷ xs) ys =
     ap (λ (l : List Outcome). replicate x.count x.outcome ++ l) (spread-append xs ys)
@@ -19,7 +19,8 @@ replicate-more zero o = refl
 replicate-more (suc n) o = ap (λ (l : List Outcome). o ∷ l) (replicate-more n o)
 
 -- runs with one request more
-pub runs-more : (old front new : List Run) (last before : Option Run) (run : Run) (o : Outcome)
+pub runs-more : (old front new : List GroundRun) (last before : Option GroundRun) (run : GroundRun)
+    (o : Outcome)
     → old ≡ front ++ option_to_list last
     → spread (option_to_list before ++ run ∷ []) ≡ spread (option_to_list last) ++ o ∷ []
     → new ≡ front ++ (option_to_list before ++ run ∷ [])

@@ -5,20 +5,20 @@ use Rattle.lpt_ground.specs.declared.asked.Terms.{Terms}
 use Rattle.lpt_ground.specs.declared.pass.End.{End}
 use Rattle.lpt_ground.specs.declared.pass.End.TheVariants.{Done}
 use Rattle.lpt_ground.specs.declared.pass.Step.TheVariants.{Stop}
-use Rattle.lpt_ground.specs.Carrying.{Answer, AllTold, come_to, packets_of, paced}
-use Rattle.lpt_ground.specs.Passes.{State, next_step}
+use Rattle.lpt_ground.specs.Carrying.{Answer, AllTold, come_to, packets_of, octets_written}
+use Rattle.lpt_ground.specs.Passes.{PassState, next_step}
 use Rattle.lpt_ground_large.specs.declared.large.Large.{Large}
 use Rattle.lpt_ground_large.specs.Carrying as large
 use Rattle.lpt_ground_large.specs.Uplinks.{Way, next_way}
 
 -- Whatever the ear answered: the pass came to this end by it, and wrote what follows from it. Where
 -- it is done, of each request that waited one of the packets among the answers says so.
-pub record CameTo (terms : Terms) (s t : State) (old new : Option (List ℕ))
+pub record CameTo (terms : Terms) (s t : PassState) (old new : Option (List ℕ))
     (end : End) : Type 0 where
   pub answers : List Answer
   pub came : t ≡ come_to terms s answers
   pub ends : next_step t ≡ Stop end
-  pub written : Appends old new (paced terms s answers)
+  pub written : Appends old new (octets_written terms s answers)
   pub told : end ≡ Done → AllTold terms s.asked (packets_of answers)
 
 -- The same of a large message: by the answers it came to this end, and what went up follows from

@@ -1,7 +1,7 @@
 -- What is counted of a pass.
 use Rattle.std.specs.Prelude.{◌≡◌, ℕ, ◌^◌, ◌-◌, ◌==◌, nat_lt, min, Bool, false, List, [], ◌∷◌, count_by}
 use Rattle.std.specs.List.{sum}
-use Rattle.lpt_ground_run.specs.declared.counts.Counts.{Counts}
+use Rattle.lpt_ground_run.specs.declared.counts.RunCounts.{RunCounts}
 
 -- a number, or the greatest that is counted
 abbrev pub at_most : ℕ → ℕ
@@ -15,7 +15,7 @@ none_yet (n ∷ ups) = n == 0
 
 -- Where so many packets went up in each round, the last of them in front, and so many came down:
 -- all that went up, the rounds in which some did, and those that came down.
-pub record AreCounted (c : Counts) (ups : List ℕ) (came : ℕ) : Type 0 where
+pub record AreCounted (c : RunCounts) (ups : List ℕ) (came : ℕ) : Type 0 where
   pub up : c.up ≡ at_most (sum ups)
   pub rounds : c.rounds ≡ at_most (count_by (λ n. nat_lt 0 n) ups)
   pub down : c.down ≡ at_most came

@@ -7,7 +7,7 @@ use Rattle.lpt_ground.specs.declared.asked.Fate.{Fate}
 use Rattle.lpt_ground.specs.declared.asked.Fate.TheVariants.{Waiting, Done, Failed}
 use Rattle.lpt_ground.specs.declared.asked.Terms.{Terms}
 use Rattle.lpt_ground.specs.Carrying.{Came, come_to}
-use Rattle.lpt_ground.specs.Passes.{State}
+use Rattle.lpt_ground.specs.Passes.{PassState}
 
 -- the packets of requests, one behind the other
 abbrev pub all_asked : List Asked → List ℕ
@@ -27,7 +27,8 @@ all_kept (a ∷ asked) = kept_by a.fate ++ all_kept asked
 
 -- a pass that heard the packets that stand in these octets, one behind the other; and whether
 -- nothing stands behind them
-pub record HearsAgain (terms : Terms) (s t : State) (octets : List ℕ) (all : Bool) : Type 0 where
+pub record HearsAgain (terms : Terms) (s t : PassState) (octets : List ℕ) (all : Bool) : Type
+    0 where
   pub packets : List (List ℕ)
   pub rest : List ℕ
   pub cut : octets ≡ all_octets packets ++ rest

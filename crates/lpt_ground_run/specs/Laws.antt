@@ -2,7 +2,7 @@
 use Rattle.std.specs.Prelude.{ℕ, Bool, List, Option}
 use Rattle.lpt_ground.specs.declared.asked.Terms.{Terms}
 use Rattle.lpt_ground.specs.declared.pass.End.{End}
-use Rattle.lpt_ground.specs.Passes.{State}
+use Rattle.lpt_ground.specs.Passes.{PassState}
 use Rattle.lpt_ground_run.specs.Carried.{CameTo}
 use Rattle.lpt_ground_run.specs.Keeping.{HearsAgain}
 
@@ -10,7 +10,7 @@ use Rattle.lpt_ground_run.specs.Keeping.{HearsAgain}
 -- beginning
 abbrev pub KeptRunsAreOnePass : Type 0
 KeptRunsAreOnePass =
-    (terms : Terms) (s t u : State) (octets : List ℕ) (all : Bool) (old new : Option (List ℕ))
+    (terms : Terms) (s t u : PassState) (octets : List ℕ) (all : Bool) (old new : Option (List ℕ))
     (end : End)
     → HearsAgain terms s t octets all
     → CameTo terms t u old new end

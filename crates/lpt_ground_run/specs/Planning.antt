@@ -6,7 +6,7 @@ use Rattle.lpt_requests.specs.declared.cut_fault.CutFault.TheVariants as cuts
 use Rattle.lpt_requests.specs.Cuts as asking
 use Rattle.lpt_requests.specs.Cuts.{view}
 use Rattle.lpt_ground.specs.declared.asked.Asked.{Asked}
-use Rattle.lpt_ground.specs.Plans.{planned}
+use Rattle.lpt_ground.specs.Plans.{requests_planned}
 use Rattle.lpt_ground_run.specs.declared.heads.Heads.{Heads}
 use Rattle.lpt_ground_run.specs.declared.planning.PlanFault.{PlanFault}
 use Rattle.lpt_ground_run.specs.declared.planning.PlanFault.TheVariants.{Empty, PastEnd, Narrow, NarrowCheck, Memory}
@@ -37,5 +37,5 @@ pub record IsBehind (h : Heads) (many : ℕ) (next : Heads) : Type 0 where
 pub record ArePlanned (h : Heads) (views : List asking.Asked) (asked : List Asked) : Type 0 where
   pub requests : List Request
   pub ask : map view requests ≡ views
-  pub are : asked ≡ planned h.apid h.source h.count h.flags requests
+  pub are : asked ≡ requests_planned h.apid h.source h.count h.flags requests
   pub few : length asked ≤ 16384

@@ -5,7 +5,7 @@ use Rattle.lpt_ground.specs.declared.asked.Fate.{Fate}
 use Rattle.lpt_ground.specs.declared.asked.Fate.TheVariants as fates
 use Rattle.lpt_ground_run.specs.declared.runs.Outcome.{Outcome}
 use Rattle.lpt_ground_run.specs.declared.runs.Outcome.TheVariants.{Open, Done, Failed}
-use Rattle.lpt_ground_run.specs.declared.runs.Run.{Run}
+use Rattle.lpt_ground_run.specs.declared.runs.GroundRun.{GroundRun}
 
 -- what became of a request of this fate
 abbrev pub outcome_of : Fate → Outcome
@@ -18,6 +18,6 @@ abbrev pub became : Asked → Outcome
 became a = outcome_of a.fate
 
 -- what became of each, where that is said in runs
-abbrev pub spread : List Run → List Outcome
+abbrev pub spread : List GroundRun → List Outcome
 spread [] = []
 spread (r ∷ rs) = replicate r.count r.outcome ++ spread rs

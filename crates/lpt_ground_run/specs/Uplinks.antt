@@ -1,6 +1,6 @@
 -- A request that goes up as a large message.
 use Rattle.std.specs.Prelude.{◌≡◌, ◌≤◌, ◌<◌, ℕ, ◌+◌, ◌%◌, length, Option, Some, None}
-use Rattle.lpt_ground.specs.Passes.{State}
+use Rattle.lpt_ground.specs.Passes.{PassState}
 use Rattle.lpt_ground.specs.declared.asked.Asked.{Asked}
 use Rattle.lpt_ground_large.specs.declared.large.Names.{Names}
 use Rattle.lpt_ground_large.specs.declared.uplink.Uplink.{Uplink}
@@ -18,7 +18,7 @@ pub record GoesInParts (h : Heads) (part_size : ℕ) (names : Names) (a : Asked)
   pub source : u.large.source ≡ h.source
   pub count : u.large.count ≡ (h.count + 1) % 16384
   pub size : u.large.part_size ≡ part_size
-  pub begins : (s : State) → way_of u s ≡ way_at_first u.large s
+  pub begins : (s : PassState) → way_of u s ≡ way_at_first u.large s
 
 -- how a request goes up: as it is where it is no longer than a part
 abbrev pub IsUplink : Heads → (part_size : ℕ) → Names → Asked → Option Uplink → Type 0

@@ -64,7 +64,7 @@ fn ended_by<R: Wait + Clock + Drop, N: Notes + Drop>(
 ) -> Result<End, StreamFault>
     ensures { IfOk result (λ e. ended ≡ Ok e) }
 {
-    if !hearing.tell_end(pass.asked()) {
+    if !hearing.tell_end(pass.requests_asked()) {
         return Err(StreamFault::Write);
     }
     match hearing.fault() {

@@ -7,7 +7,7 @@ ghost use Rattle.lpt_ground_run.specs.Counts.{AreCounted};
 ///
 /// Each number is at most 2^64 - 1.
 #[derive(Clone, Copy, Debug, PartialEq, Eq)]
-pub struct Counts {
+pub struct RunCounts {
     /// How many packets went up.
     pub up: u64,
     /// In how many rounds.
@@ -18,12 +18,12 @@ pub struct Counts {
     waits: bool,
 }
 
-impl Counts {
+impl RunCounts {
     /// Nothing was counted yet.
-    pub fn new() -> Counts
+    pub fn new() -> RunCounts
         ensures { AreCounted result [] 0 }
     {
-        Counts {
+        RunCounts {
             up: 0,
             rounds: 0,
             down: 0,

@@ -5,7 +5,7 @@ ghost use Rattle.lpt_ground_run.specs.Counts.{AreCounted};
 ghost use Rattle.lpt_ground_run.specs.Halts.{Rises};
 
 use crate::Halt;
-use crate::counts::Counts;
+use crate::counts::RunCounts;
 use crate::cutting::{Outlet, hand_packets};
 use crossbeam_channel::{Receiver, RecvTimeoutError, Sender, unbounded};
 use lpt_ground::{Asked, Ear, Waited};
@@ -32,7 +32,7 @@ pub enum HearFault {
 pub trait Notes {
     /// Before each round, and once the pass is at its end, so much was counted, and this became of
     /// its requests. It answers whether the pass may go on.
-    fn keep(&mut self, counts: Counts, asked: &[Asked]) -> bool;
+    fn keep(&mut self, counts: RunCounts, asked: &[Asked]) -> bool;
 }
 
 // What the thread that reads hands over.
@@ -89,7 +89,7 @@ pub struct Hearing<R: Wait + Clock + Drop, N: Notes + Drop> {
     halt: Option<Halt>,
     strays: u64,
     // What was counted since it was asked last.
-    counts: Counts,
+    counts: RunCounts,
 }
 
 impl<R: Threads + Wait + Clock + Copy + Drop + Send + 'static, N: Notes + Drop> Hearing<R, N> {
@@ -128,7 +128,7 @@ impl<R: Threads + Wait + Clock + Copy + Drop + Send + 'static, N: Notes + Drop> 
                 fault: None,
                 halt: None,
                 strays: 0,
-                counts: Counts::new(),
+                counts: RunCounts::new(),
             }),
             Err(_) => Err(HearFault::NoThread),
         }
@@ -202,12 +202,12 @@ impl<R: Wait + Clock + Drop, N: Notes + Drop> Hearing<R, N> {
     }
 
     /// What was counted since this was asked last.
-    pub fn counts(&mut self) -> Counts
+    pub fn counts(&mut self) -> RunCounts
         ensures counts { result ≡ self.old.counts }
         ensures anew { AreCounted self.new.counts [] 0 }
     {
         let counts = self.counts;
-        self.counts = Counts::new();
+        self.counts = RunCounts::new();
         counts
     }
 

@@ -9,7 +9,7 @@ ghost use Rattle.lpt_ground_run.specs.Planning.{check_each, dump_each, fault_of,
 use crate::Heads;
 use lpt_ground::{Asked, MOST, MemoryFault, Request, plan_requests};
 use lpt_pus::AckFlags;
-use lpt_requests::{Area, CutFault, Place, Read, load_requests, read_requests};
+use lpt_requests::{Area, AreaPlace, CutFault, Read, load_requests, read_requests};
 use std::alloc::Global;
 use thiserror::Error;
 
@@ -129,7 +129,7 @@ pub fn plan_reads(
     heads: &Heads,
     what: Read,
     memory: u8,
-    places: &[Place],
+    places: &[AreaPlace],
     each: u16,
 ) -> Result<Vec<Asked>, PlanFault>
     requires { 0 < each }

@@ -20,7 +20,7 @@ pub enum Outcome {
 
 /// Requests one behind the other of which the same became.
 #[derive(Clone, Copy, Debug, PartialEq, Eq)]
-pub struct Run {
+pub struct GroundRun {
     /// What became of them.
     pub outcome: Outcome,
     /// How many they are.
@@ -29,7 +29,7 @@ pub struct Run {
 
 /// What became of requests, in their order: as few runs as there can be. The only error is out of
 /// memory.
-pub fn runs_of(alloc: Global, asked: &[Asked]) -> Result<Vec<Run>, AllocError>
+pub fn runs_of(alloc: Global, asked: &[Asked]) -> Result<Vec<GroundRun>, AllocError>
     ensures { IfOk result (λ v. spread v.items ≡ map became asked.now) }
 {
     let mut runs = Vec::new(alloc);
@@ -51,7 +51,7 @@ fn outcome_of(fate: &Fate) -> Outcome
 }
 
 // Adds a request of which this became. The only error is out of memory.
-fn add(runs: &mut Vec<Run>, outcome: Outcome) -> Result<(), AllocError>
+fn add(runs: &mut Vec<GroundRun>, outcome: Outcome) -> Result<(), AllocError>
     ensures { OnOk result (spread runs.new.items ≡ spread runs.old.items ++ outcome ∷ []) }
 {
     let (before, run) = behind(runs.pop(), outcome);
@@ -67,15 +67,15 @@ fn add(runs: &mut Vec<Run>, outcome: Outcome) -> Result<(), AllocError>
 
 // The last run behind which a request comes of which this became: what stays of it before, and the
 // run of the request.
-fn behind(last: Option<Run>, outcome: Outcome) -> (Option<Run>, Run)
+fn behind(last: Option<GroundRun>, outcome: Outcome) -> (Option<GroundRun>, GroundRun)
     ensures { spread (option_to_list result.0 ++ result.1 ∷ [])
         ≡ spread (option_to_list last) ++ outcome ∷ [] }
 {
     match last {
         Some(last) if last.outcome == outcome && last.count < u64::MAX => {
             let count = last.count + 1;
-            (None, Run { outcome, count })
+            (None, GroundRun { outcome, count })
         }
-        before => (before, Run { outcome, count: 1 }),
+        before => (before, GroundRun { outcome, count: 1 }),
     }
 }

@@ -125,9 +125,9 @@ pub fn tell_text(rt: &impl Eprint, text: Result<String, AllocError>) {
 
 /// The status by which the program ends if its words ask for nothing that is to be done, after
 /// that was printed: a usage fault, or the help or the version that was asked for.
-pub fn explained<R: Print + Eprint>(rt: &R, alloc: Global, unasked: &NoCommand<'_>) -> Status {
+pub fn explain_words<R: Print + Eprint>(rt: &R, alloc: Global, unasked: &NoCommand<'_>) -> Status {
     match unasked {
-        NoCommand::Said(error) => said(rt, alloc, error),
+        NoCommand::Said(error) => say_and_end(rt, alloc, error),
         NoCommand::Fault(fault) => word_refused(rt, alloc, fault),
     }
 }
@@ -150,7 +150,7 @@ pub fn word_refused(rt: &impl Eprint, alloc: Global, fault: &WordFault<'_>) -> S
 
 // The status by which the program ends that only had to say this, after it was printed. Where
 // nobody reads it, nothing is reported of that.
-fn said<R: Print + Eprint>(rt: &R, alloc: Global, error: &clap::Error) -> Status {
+fn say_and_end<R: Print + Eprint>(rt: &R, alloc: Global, error: &clap::Error) -> Status {
     if error.kind() == ErrorKind::OutOfMemory {
         return tell_end(rt, Err(Failure::from(Fault::Memory)));
     }

@@ -66,7 +66,7 @@ pub type Packets<R> = Span<Chain<Captured<Incoming<R>>>>;
 /// The file at this path, or standard input for `-`, to be read.
 ///
 /// Errors: `Read` if it can't be opened.
-pub fn opened<R: Machine>(rt: &R, path: &str) -> Result<Incoming<R>, Failure> {
+pub fn open_input<R: Machine>(rt: &R, path: &str) -> Result<Incoming<R>, Failure> {
     let input = Paced::new(input_at(rt, path)?, None);
     Ok(FromStd::new(Watched::new(input)))
 }
@@ -153,7 +153,7 @@ pub fn name_of(path: &str) -> &str
 ///
 /// Errors: `Read` if it can't be opened or read; `Memory`.
 pub fn file_at(rt: &impl Machine, path: &str) -> Result<Octets, Failure> {
-    let mut source = opened(rt, path)?;
+    let mut source = open_input(rt, path)?;
     let octets = octets_from(rt, path, &mut source);
     drop(source);
     octets

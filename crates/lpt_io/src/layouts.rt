@@ -73,7 +73,7 @@ pub fn own_or_read(
 
 /// How the parts of a direction are read.
 pub fn reading_of(layouts: &Layouts, apid: u16, direction: Direction) -> Reading {
-    let tailored = layouts.tailored(direction);
+    let tailored = layouts.tailored_in(direction);
     let part_size = match tailored.part_size {
         Some(size) if 1 <= size && size <= 65_535 => Some(size),
         _ => None,

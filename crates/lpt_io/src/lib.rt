@@ -22,10 +22,10 @@ mod watched;
 
 pub use configuration::{config_of, read_file, settings_of};
 pub use counts::{octets_word, tell_no_packets};
-pub use end::{Failure, explained, tell_end, tell_place, tell_text, word_refused};
+pub use end::{Failure, explain_words, tell_end, tell_place, tell_text, word_refused};
 pub use fault::{Fault, Status, status_of};
 pub use input::{
-    Incoming, Origin, Packets, STANDARD, file_at, input_at, name_of, octets_from, opened,
+    Incoming, Origin, Packets, STANDARD, file_at, input_at, name_of, octets_from, open_input,
     opened_packets, packets_end, read_failure,
 };
 pub use layouts::{layouts_at, own_or_read, reading_of};

@@ -10,7 +10,7 @@ use Rattle.std.proofs.Math.ListN.{get_or-append, length-append}
 use Rattle.std.proofs.Math.Seq.{get_or-append_seam}
 use Rattle.lpt_jobs.specs.declared.job.Job.{Job}
 use Rattle.lpt_jobs.specs.declared.job.Job.TheVariants.{Waiting, Claimed, Committed}
-use Rattle.lpt_jobs.specs.Jobs.{Jobs, claimed_in, was_claimed, message_in, oldest, unclaimed, is_out, is_claimed, AreInOrder}
+use Rattle.lpt_jobs.specs.Jobs.{Jobs, claimed_in, was_claimed, message_in, oldest, oldest_unclaimed, is_out, is_claimed, AreInOrder}
 use Rattle.lpt_jobs.specs.JobsInside.{IsKept}
 
 -- ---- a claim
@@ -36,7 +36,7 @@ pub unclaimed-at : (q : Jobs) (claimed : ℕ) (j : Job)
     → claimed ≡ claimed_in q.jobs
     → claimed < length q.jobs
     → j ≡ get_or q.jobs claimed j
-    → unclaimed q ≡ option_map {U = ℕ × List ℕ} (λ m. (q.first + claimed, m)) (message_in j)
+    → oldest_unclaimed q ≡ option_map {U = ℕ × List ℕ} (λ m. (q.first + claimed, m)) (message_in j)
 unclaimed-at q claimed j count some is =
     let found : oldest q.jobs ≡ message_in j =
     ap (λ i. option_and_then message_in (slice_get q.jobs i)) (sym count)

@@ -23,8 +23,8 @@ no_jobs = record { first = 0; jobs = [] }
 -- ---- what is asked of it
 
 -- how many jobs have got a number in this boot
-abbrev pub numbered : Jobs → ℕ
-numbered q = q.first + length q.jobs
+abbrev pub jobs_numbered : Jobs → ℕ
+jobs_numbered q = q.first + length q.jobs
 
 -- the job of a number
 abbrev pub job_at : Jobs → ℕ → Option Job
@@ -55,8 +55,8 @@ abbrev pub oldest : List Job → Option (List ℕ)
 oldest jobs = option_and_then message_in (slice_get jobs (claimed_in jobs))
 
 -- the number and the message of the oldest job that waits
-abbrev pub unclaimed : Jobs → Option (ℕ × List ℕ)
-unclaimed q = option_map (λ m. (next_claim q, m)) (oldest q.jobs)
+abbrev pub oldest_unclaimed : Jobs → Option (ℕ × List ℕ)
+oldest_unclaimed q = option_map (λ m. (next_claim q, m)) (oldest q.jobs)
 
 -- whether a worker has a job
 abbrev pub is_out : Job → Bool

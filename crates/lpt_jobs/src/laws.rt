@@ -2,12 +2,12 @@
 
 ghost use Rattle.std.specs.Prelude.{◌≡◌, ◌≢◌, ℕ, List, ◌+◌, IsSome, IsTrue};
 ghost use Rattle.lpt_memory.specs.Readings.{Source};
-ghost use Rattle.lpt_jobs.specs.Jobs.{Jobs, AreInOrder, job_at, next_claim, unclaimed, is_claimed, head_of, is_ready, after_push, after_claim, after_commit, without_front};
+ghost use Rattle.lpt_jobs.specs.Jobs.{Jobs, AreInOrder, job_at, next_claim, oldest_unclaimed, is_claimed, head_of, is_ready, after_push, after_claim, after_commit, without_front};
 
 /// Jobs are claimed in the order of their numbers: a claim is of the number after the last one, and
 /// no other call changes which is next.
 pub fn claims_go_in_order()
-    ensures claim { (q : Jobs) → AreInOrder q.jobs → IsSome (unclaimed q)
+    ensures claim { (q : Jobs) → AreInOrder q.jobs → IsSome (oldest_unclaimed q)
         → next_claim (after_claim q) ≡ next_claim q + 1 }
     ensures push { (q : Jobs) (message : List ℕ)
         → next_claim (after_push q message) ≡ next_claim q }

@@ -3,7 +3,7 @@
 ghost use Rattle.std.specs.Prelude.{◌≡◌, ◌+◌, ◌-◌, ◌<◌, ◌^◌, ◌∷◌, length, Some, IsSome, IsTrue, IfErr, OnOk, OnErr};
 ghost use Rattle.std.specs.Option.{option_map, option_copied};
 ghost use Rattle.lpt_jobs.specs.declared.job.Job.TheVariants.{Committed};
-ghost use Rattle.lpt_jobs.specs.Jobs.{no_jobs, numbered, job_at, claimed_in, unclaimed, is_claimed, head, head_of, is_ready, after_push, after_claim, after_commit, without_front, AreInOrder, IsPushed};
+ghost use Rattle.lpt_jobs.specs.Jobs.{no_jobs, jobs_numbered, job_at, claimed_in, oldest_unclaimed, is_claimed, head, head_of, is_ready, after_push, after_claim, after_commit, without_front, AreInOrder, IsPushed};
 
 use crate::Front;
 use crate::job::Job;
@@ -53,8 +53,8 @@ impl JobQueue {
 
     /// How many jobs have got a number in this boot, executed ones among them. It is the number of
     /// the next job.
-    pub fn numbered(&self) -> u64
-        ensures { result ≡ numbered self.now }
+    pub fn jobs_numbered(&self) -> u64
+        ensures { result ≡ jobs_numbered self.now }
     {
         self.first + self.jobs.len() as u64
     }
@@ -74,8 +74,8 @@ impl JobQueue {
     }
 
     /// The number and the message of the oldest job that waits. `None` if none does.
-    pub fn unclaimed(&self) -> Option<(u64, &Octets)>
-        ensures value { option_map (λ x. (x.0, x.1.now)) result ≡ unclaimed self.now }
+    pub fn oldest_unclaimed(&self) -> Option<(u64, &Octets)>
+        ensures value { option_map (λ x. (x.0, x.1.now)) result ≡ oldest_unclaimed self.now }
 
         // Behind the oldest job that waits, all wait.
         ensures order { AreInOrder self.now.jobs }
@@ -114,7 +114,7 @@ impl JobQueue {
     ///
     /// Errors: out of memory alone, which gives the message back. Then nothing has changed.
     pub fn push(&mut self, message: Octets) -> Result<(), Octets>
-        requires { numbered self.old + 1 < 2 ^ 64 }
+        requires { jobs_numbered self.old + 1 < 2 ^ 64 }
         ensures ok { OnOk result (self.new ≡ after_push self.old message) }
         ensures back { IfErr result (λ m. m ≡ message) }
         ensures err { OnErr result (self.new ≡ self.old) }
@@ -144,8 +144,8 @@ impl JobQueue {
     /// Claims the oldest job that waits, of which there must be one: its number and its message,
     /// which is moved out. It takes no memory.
     pub fn claim(&mut self) -> (u64, Octets)
-        requires { IsSome (unclaimed self.old) }
-        ensures job { unclaimed self.old ≡ Some result }
+        requires { IsSome (oldest_unclaimed self.old) }
+        ensures job { oldest_unclaimed self.old ≡ Some result }
         ensures left { self.new ≡ after_claim self.old }
     {
         let number = self.first + self.claimed as u64;

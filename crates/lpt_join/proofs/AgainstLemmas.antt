@@ -16,10 +16,10 @@ use Rattle.lpt_stream.specs.declared.piece_kind.PieceKind.TheVariants.{Whole, Da
 use Rattle.lpt_stream.specs.Pieces.{Piece, packet_before, packets_of}
 use Rattle.lpt_join.specs.declared.transaction.Transaction.{Transaction}
 use Rattle.lpt_join.specs.Contradictions.{offered_in, is_against, place_or, place_if, against_from, first_against}
-use Rattle.lpt_join.specs.Joins.{Joined, Missing, Complete, Broken, kept_by, join_part, joined_from, joined}
+use Rattle.lpt_join.specs.Joins.{Joined, Missing, Complete, Broken, kept_by, join_part, joined_from, packets_joined}
 use Rattle.lpt_join.specs.Laws.{AllBelong, Belongs, IsThere}
 use Rattle.lpt_join.specs.Messages.{is_part_of}
-use Rattle.lpt_join.specs.Offers.{offered}
+use Rattle.lpt_join.specs.Offers.{part_offered}
 use Rattle.lpt_join.proofs.FitLemmas.{offered-fits}
 use Rattle.lpt_join.proofs.GatherLemmas.{against_none, join_none, joined-front}
 use Rattle.lpt_join.proofs.LawLemmas.{IsGathered, gathered_none, gathered_step}
@@ -71,7 +71,7 @@ module _ (t : Transaction) (m : List ℕ) (message : IsMessage m t.part_size) wh
   not_against : (b : List ℕ) (j : Joined)
       → IsGathered m t.part_size j
       → Belongs t m b
-      → is_against t.part_size j (offered t b) ≡ false
+      → is_against t.part_size j (part_offered t b) ≡ false
   not_against b j h (inl e) = ap (is_against t.part_size j) e ∙ against_none t.part_size j
   not_against b (Missing s) h (inr w) =
       ap (is_against t.part_size (Missing s)) w.1.is
@@ -218,7 +218,7 @@ module _ (splits : Splits) (t : Transaction) (all : List (List ℕ)) (m : List �
   front Damaged b bs are = (λ n x e. absurd cc, are)
   front Stray b bs are = (λ n x e. absurd cc, are)
 
-  own : (b : List ℕ) (o : Option (ℕ × Kept)) → offered t b ≡ o → IsOwn o → Belongs t m b
+  own : (b : List ℕ) (o : Option (ℕ × Kept)) → part_offered t b ≡ o → IsOwn o → Belongs t m b
   own b None e h = inl e
   own b (Some x) e h = inr (
     x.0,
@@ -229,7 +229,7 @@ module _ (splits : Splits) (t : Transaction) (all : List (List ℕ)) (m : List �
       → IsOwn (offered_in t k b)
       → AllBelong t m bs
       → AllBelong t m (packet_before k b bs)
-  belong Whole b bs h rest = (own b (offered t b) refl h, rest)
+  belong Whole b bs h rest = (own b (part_offered t b) refl h, rest)
   belong Damaged b bs h rest = rest
   belong Stray b bs h rest = rest
 
@@ -255,7 +255,7 @@ module _ (splits : Splits) (t : Transaction) (all : List (List ℕ)) (m : List �
 -- so are all
 pub all_of_message : Splits
     → (t : Transaction) (m : List ℕ) (ps : List Piece)
-    → joined t (packets_of ps) ≡ Complete m
+    → packets_joined t (packets_of ps) ≡ Complete m
     → first_against t ps ≡ None
     → AllBelong t m (packets_of ps)
 all_of_message splits t m ps e none =

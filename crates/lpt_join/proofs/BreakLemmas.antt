@@ -6,12 +6,12 @@ use Rattle.lpt_part.specs.declared.mode.Mode.TheVariants.{Any}
 use Rattle.lpt_part.specs.declared.reason.Reason.{Reason}
 use Rattle.lpt_part.specs.declared.reason.Reason.TheVariants.{Conflict}
 use Rattle.lpt_reception.specs.Received.{Kept, Parts, with_part, contradicts, break_reason, is_whole}
-use Rattle.lpt_join.specs.Joins.{Missing, Broken, kept_by, added}
+use Rattle.lpt_join.specs.Joins.{Missing, Broken, kept_by, part_added}
 
 -- a part that breaks a reception off
 pub added-broken : (s : Parts) (n : ℕ) (x : Kept) (reason : Reason)
     → break_reason Any s n x ≡ Some reason
-    → Broken ≡ added s n x
+    → Broken ≡ part_added s n x
 added-broken s n x reason is = go (contradicts s n x) (is_some (map.get s n)) is where
   go : (contra there : Bool)
       → (if contra then Some Conflict else if there then None else None) ≡ Some reason

@@ -8,7 +8,7 @@ use Rattle.lpt_stream.proofs.CutLemmas.{one_cut}
 use Rattle.lpt_join.specs.declared.gathering.Gathering.{Gathering}
 use Rattle.lpt_join.specs.declared.transaction.Transaction.{Transaction}
 use Rattle.lpt_join.specs.Gatherings.{state, Gives}
-use Rattle.lpt_join.specs.Joins.{Complete, joined}
+use Rattle.lpt_join.specs.Joins.{Complete, packets_joined}
 use Rattle.lpt_join.specs.Laws.{AllMadeOrOther, EachIsAmong, IsSending}
 use Rattle.lpt_stream.specs.Reads.{ReadsPieces}
 use Rattle.lpt_join.proofs.SentLemmas.{sent_joined}
@@ -51,5 +51,5 @@ pub message_given : (t : Transaction) (g : Gathering) (old new : Option (List �
     → EachIsAmong t c m packets
     → state g.joining ≡ Complete m
 message_given t g old new P h gives c m stream packets is found sending all each =
-    gives.state_is ∙ ap (joined t) (packets_read old new P h stream packets is found)
+    gives.state_is ∙ ap (packets_joined t) (packets_read old new P h stream packets is found)
     ∙ sent_joined t c m sending packets all each

@@ -3,7 +3,7 @@ use Rattle.std.proofs.Common.{◌≡◌, sym, subst, refl, ℕ, ◌-◌, ◌==�
 use Rattle.std.specs.Option.{option_map_or}
 use Rattle.std.specs.Result.{result_ok}
 use Rattle.lpt_packet.specs.Numbers.{word_at}
-use Rattle.lpt_packet.specs.Packets.{Fields, Sight, IdlePacket, APacket, seen}
+use Rattle.lpt_packet.specs.Packets.{Fields, Sight, IdlePacket, APacket, packet_seen}
 use Rattle.lpt_pus.specs.declared.fault.PusFault.{PusFault}
 use Rattle.lpt_pus.specs.Commands.{Command, tc_verdict}
 use Rattle.lpt_pus.specs.Telemetry.{Telemetry, tm_verdict}
@@ -23,8 +23,8 @@ use Rattle.lpt_events.specs.Sides.{receiver_side}
 use Rattle.lpt_reception.specs.Received.{Kept}
 use Rattle.lpt_join.specs.declared.transaction.Transaction.{Transaction}
 use Rattle.lpt_packet.specs.Names.{Name, named_by, same_name}
-use Rattle.lpt_events.specs.NamedParts.{NamedPart, bare, named}
-use Rattle.lpt_join.specs.Offers.{piece_of, piece_in, part_of_name, part_of_piece, offered}
+use Rattle.lpt_events.specs.NamedParts.{NamedPart, bare, part_named}
+use Rattle.lpt_join.specs.Offers.{piece_of, piece_in, part_of_name, part_of_piece, part_offered}
 
 -- where it is a part, it fits
 abbrev pub Fits : ℕ → Option Piece → Type 0
@@ -69,7 +69,7 @@ verdict_fits p kind b =
 
 part_by : (p source : ℕ) (o : Option Piece)
     → Fits p o
-    → NamedFits p (piece_of (option_map_or (λ q. APart (named source q)) o NoPart))
+    → NamedFits p (piece_of (option_map_or (λ q. APart (part_named source q)) o NoPart))
 part_by p source None h = tt
 part_by p source (Some q) h = h
 
@@ -120,7 +120,7 @@ sight_fits side apid p b (Some (APacket f)) = foreign_by side p b f (f.apid == a
 
 piece_fits : (t : Transaction) (b : List ℕ) → NamedFits t.part_size (piece_in t b)
 unfolding arrival
-piece_fits t b = sight_fits (receiver_side t.direction) t.apid t.part_size b (seen b)
+piece_fits t b = sight_fits (receiver_side t.direction) t.apid t.part_size b (packet_seen b)
 
 -- ---- the transaction
 
@@ -142,7 +142,7 @@ of_by p name (Some q) n x h e = name_by p q (same_name q.name name) n x h e
 
 -- a part that octets carry may be one
 pub offered-fits : (t : Transaction) (b : List ℕ) (n : ℕ) (x : Kept)
-    → offered t b ≡ Some (n, x)
+    → part_offered t b ≡ Some (n, x)
     → PartFits x.kind n (length x.octets) t.part_size
-unfolding offered
+unfolding part_offered
 offered-fits t b n x e = of_by t.part_size t.name (piece_in t b) n x (piece_fits t b) e

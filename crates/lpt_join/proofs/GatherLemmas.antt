@@ -5,7 +5,7 @@ use Rattle.std.specs.List.{list_any}
 use Rattle.lpt_reception.specs.Received.{Kept, is_last, no_parts}
 use Rattle.lpt_skips.specs.declared.wanted.Wanted.{Wanted}
 use Rattle.lpt_skips.specs.declared.skips.Skips.{Skips}
-use Rattle.lpt_skips.specs.Tallies.{noted, nothing_noted, skips_of}
+use Rattle.lpt_skips.specs.Tallies.{piece_noted, nothing_noted, skips_of}
 use Rattle.lpt_skips.proofs.TallyLemmas.{noted-append}
 use Rattle.lpt_stream.specs.declared.piece_kind.PieceKind.{PieceKind}
 use Rattle.lpt_stream.specs.declared.piece_kind.PieceKind.TheVariants.{Whole, Damaged, Stray}
@@ -16,16 +16,16 @@ use Rattle.lpt_join.specs.declared.transaction.Transaction.{Transaction}
 use Rattle.lpt_join.specs.PartNumbersInside.{has, is_ended}
 use Rattle.lpt_join.specs.Contradictions.{offered_in, is_against, place_or, place_if, against_from, first_against}
 use Rattle.lpt_join.specs.Gatherings.{state, IsJoiningOf, Gives}
-use Rattle.lpt_join.specs.Joins.{Joined, Missing, Complete, Broken, join_part, joined_from, joined}
-use Rattle.lpt_join.specs.Laws.{is_part, is_end, came, ended}
-use Rattle.lpt_join.specs.Offers.{offered}
+use Rattle.lpt_join.specs.Joins.{Joined, Missing, Complete, Broken, join_part, joined_from, packets_joined}
+use Rattle.lpt_join.specs.Laws.{is_part, is_end, came, has_ended}
+use Rattle.lpt_join.specs.Offers.{part_offered}
 
 -- ---- a packet more
 
 pub joined-next : (t : Transaction) (j : Joined) (bs : List (List ℕ)) (b : List ℕ)
-    → joined_from t j (bs ++ b ∷ []) ≡ join_part (joined_from t j bs) (offered t b)
+    → joined_from t j (bs ++ b ∷ []) ≡ join_part (joined_from t j bs) (part_offered t b)
 joined-next t j [] b = refl
-joined-next t j (x ∷ bs) b = joined-next t (join_part j (offered t x)) bs b
+joined-next t j (x ∷ bs) b = joined-next t (join_part j (part_offered t x)) bs b
 
 pub join_none : (j : Joined) → join_part j None ≡ j
 join_none (Missing s) = refl
@@ -51,34 +51,38 @@ abbrev part_of : Transaction → Piece → Option (ℕ × Kept)
 part_of t p = offered_in t p.kind p.octets
 
 joined-kind : (t : Transaction) (bs : List (List ℕ)) (k : PieceKind) (b : List ℕ)
-    → joined t (bs ++ packet_before k b []) ≡ join_part (joined t bs) (offered_in t k b)
+    → packets_joined t (bs ++ packet_before k b [])
+    ≡ join_part (packets_joined t bs) (offered_in t k b)
 joined-kind t bs Whole b = joined-next t (Missing no_parts) bs b
-joined-kind t bs Damaged b = ap (joined t) (append-nil bs) ∙ sym (join_none (joined t bs))
-joined-kind t bs Stray b = ap (joined t) (append-nil bs) ∙ sym (join_none (joined t bs))
+joined-kind t bs Damaged b =
+    ap (packets_joined t) (append-nil bs) ∙ sym (join_none (packets_joined t bs))
+joined-kind t bs Stray b =
+    ap (packets_joined t) (append-nil bs) ∙ sym (join_none (packets_joined t bs))
 
 pub joined-piece : (t : Transaction) (ps : List Piece) (p : Piece)
-    → joined t (packets_of (ps ++ p ∷ [])) ≡ join_part (joined t (packets_of ps)) (part_of t p)
+    → packets_joined t (packets_of (ps ++ p ∷ []))
+    ≡ join_part (packets_joined t (packets_of ps)) (part_of t p)
 joined-piece t ps p =
-    ap (joined t) (packets-next ps p) ∙ joined-kind t (packets_of ps) p.kind p.octets
+    ap (packets_joined t) (packets-next ps p) ∙ joined-kind t (packets_of ps) p.kind p.octets
 
 module _ (t : Transaction) (test : Option (ℕ × Kept) → Bool) (none : test None ≡ false) where
   any-kind : (bs : List (List ℕ)) (k : PieceKind) (b : List ℕ)
-      → list_any (λ c. test (offered t c)) (bs ++ packet_before k b [])
-      ≡ (test (offered_in t k b) || list_any (λ c. test (offered t c)) bs)
-  any-kind bs Whole b = any-next (λ c. test (offered t c)) bs b
+      → list_any (λ c. test (part_offered t c)) (bs ++ packet_before k b [])
+      ≡ (test (offered_in t k b) || list_any (λ c. test (part_offered t c)) bs)
+  any-kind bs Whole b = any-next (λ c. test (part_offered t c)) bs b
   any-kind bs Damaged b =
-      ap (list_any (λ c. test (offered t c))) (append-nil bs)
-      ∙ sym (ap (λ e. e || list_any (λ c. test (offered t c)) bs) none)
+      ap (list_any (λ c. test (part_offered t c))) (append-nil bs)
+      ∙ sym (ap (λ e. e || list_any (λ c. test (part_offered t c)) bs) none)
   any-kind bs Stray b =
-      ap (list_any (λ c. test (offered t c))) (append-nil bs)
-      ∙ sym (ap (λ e. e || list_any (λ c. test (offered t c)) bs) none)
+      ap (list_any (λ c. test (part_offered t c))) (append-nil bs)
+      ∙ sym (ap (λ e. e || list_any (λ c. test (part_offered t c)) bs) none)
 
   -- whether a packet of the pieces passes
   pub any-piece : (ps : List Piece) (p : Piece)
-      → list_any (λ c. test (offered t c)) (packets_of (ps ++ p ∷ []))
-      ≡ (test (part_of t p) || list_any (λ c. test (offered t c)) (packets_of ps))
+      → list_any (λ c. test (part_offered t c)) (packets_of (ps ++ p ∷ []))
+      ≡ (test (part_of t p) || list_any (λ c. test (part_offered t c)) (packets_of ps))
   any-piece ps p =
-      ap (list_any (λ c. test (offered t c))) (packets-next ps p)
+      ap (list_any (λ c. test (part_offered t c))) (packets-next ps p)
       ∙ any-kind (packets_of ps) p.kind p.octets
 
 came-piece : (t : Transaction) (n : ℕ) (ps : List Piece) (p : Piece)
@@ -86,7 +90,8 @@ came-piece : (t : Transaction) (n : ℕ) (ps : List Piece) (p : Piece)
 came-piece t n ps p = any-piece t (is_part n) refl ps p
 
 ended-piece : (t : Transaction) (ps : List Piece) (p : Piece)
-    → ended t (packets_of (ps ++ p ∷ [])) ≡ (is_end (part_of t p) || ended t (packets_of ps))
+    → has_ended t (packets_of (ps ++ p ∷ []))
+    ≡ (is_end (part_of t p) || has_ended t (packets_of ps))
 ended-piece t ps p = any-piece t is_end refl ps p
 
 -- ---- where it contradicts those before it
@@ -140,12 +145,15 @@ module _ (t : Transaction) where
   pub told-against : (ps : List Piece) (p : Piece)
       → option_map up_to_limit (first_against t (ps ++ p ∷ []))
       ≡ place_or (option_map up_to_limit (first_against t ps))
-      (place_if (is_against t.part_size (joined t (packets_of ps)) (part_of t p)) (up_to_limit (octets_in ps)))
+      (place_if (is_against t.part_size (packets_joined t (packets_of ps)) (part_of t p))
+      (up_to_limit (octets_in ps)))
   told-against ps p =
       ap (option_map up_to_limit) (against-next (Missing no_parts) 0 ps p)
-      ∙ told_or (first_against t ps) (is_against t.part_size (joined t (packets_of ps)) (part_of t p)) (0 + octets_in ps)
+      ∙ told_or (first_against t ps)
+      (is_against t.part_size (packets_joined t (packets_of ps)) (part_of t p)) (0 + octets_in ps)
       ∙ ap (λ n. place_or (option_map up_to_limit (first_against t ps))
-      (place_if (is_against t.part_size (joined t (packets_of ps)) (part_of t p)) (up_to_limit n))) (zero_front (octets_in ps))
+      (place_if (is_against t.part_size (packets_joined t (packets_of ps)) (part_of t p))
+      (up_to_limit n))) (zero_front (octets_in ps))
     where
       zero_front : (n : ℕ) → 0 + n ≡ n
       zero_front n = omega arith
@@ -164,15 +172,17 @@ pub gives-other : (t : Transaction) (ps : List Piece) (p : Piece) (g : Gathering
     → Gives t (ps ++ p ∷ []) g
 gives-other t ps p g h none = record {
   of = h.of;
-  state_is = h.state_is ∙ sym (join_none (joined t (packets_of ps)))
-      ∙ ap (join_part (joined t (packets_of ps))) none ∙ sym (joined-piece t ps p);
+  state_is = h.state_is ∙ sym (join_none (packets_joined t (packets_of ps)))
+      ∙ ap (join_part (packets_joined t (packets_of ps))) none ∙ sym (joined-piece t ps p);
   came_is = λ n. h.came_is n ∙ ap (λ o. is_part n o || came t n (packets_of ps)) none ∙ sym (came-piece t n ps p);
-  ended_is = h.ended_is ∙ ap (λ o. is_end o || ended t (packets_of ps)) none ∙ sym (ended-piece t ps p);
+  ended_is = h.ended_is ∙ ap (λ o. is_end o || has_ended t (packets_of ps)) none
+      ∙ sym (ended-piece t ps p);
   against_is = h.against_is ∙ sym (place_none (option_map up_to_limit (first_against t ps)))
       ∙ ap (λ b. place_or (option_map up_to_limit (first_against t ps)) (place_if b (up_to_limit (octets_in ps))))
-      (sym (against_none t.part_size (joined t (packets_of ps))))
+      (sym (against_none t.part_size (packets_joined t (packets_of ps))))
       ∙ ap (λ o. place_or (option_map up_to_limit (first_against t ps))
-      (place_if (is_against t.part_size (joined t (packets_of ps)) o) (up_to_limit (octets_in ps)))) none
+      (place_if (is_against t.part_size (packets_joined t (packets_of ps)) o)
+      (up_to_limit (octets_in ps)))) none
       ∙ sym (told-against t ps p);
 }
 
@@ -192,17 +202,17 @@ pub gives-part : (t : Transaction) (ps : List Piece) (p : Piece) (g h : Gatherin
 gives-part t ps p g h n x is place was some of joins comes ends against at found = record {
   of = of;
   state_is = joins ∙ ap (λ j. join_part j (Some (n, x))) was.state_is
-      ∙ ap (join_part (joined t (packets_of ps))) some ∙ sym (joined-piece t ps p);
+      ∙ ap (join_part (packets_joined t (packets_of ps))) some ∙ sym (joined-piece t ps p);
   came_is = λ q. comes q ∙ ap (λ e. (n == q) || e) (was.came_is q)
       ∙ ap (λ o. is_part q o || came t q (packets_of ps)) some ∙ sym (came-piece t q ps p);
   ended_is = ends ∙ ap (λ e. is_last x || e) was.ended_is
-      ∙ ap (λ o. is_end o || ended t (packets_of ps)) some ∙ sym (ended-piece t ps p);
+      ∙ ap (λ o. is_end o || has_ended t (packets_of ps)) some ∙ sym (ended-piece t ps p);
   against_is = found ∙ ap (λ o. place_or o (place_if is place)) was.against_is
       ∙ ap (λ b. place_or (option_map up_to_limit (first_against t ps)) (place_if b place))
       (against ∙ ap (λ j. is_against t.part_size j (Some (n, x))) was.state_is
-      ∙ ap (is_against t.part_size (joined t (packets_of ps))) some)
+      ∙ ap (is_against t.part_size (packets_joined t (packets_of ps))) some)
       ∙ ap (λ q. place_or (option_map up_to_limit (first_against t ps))
-      (place_if (is_against t.part_size (joined t (packets_of ps)) (part_of t p)) q)) at
+      (place_if (is_against t.part_size (packets_joined t (packets_of ps)) (part_of t p)) q)) at
       ∙ sym (told-against t ps p);
 }
 
@@ -211,7 +221,8 @@ pub noted-next : (r s : Wanted) (was now : Skips) (ps : List Piece) (p q : Piece
     → s ≡ r
     → was ≡ skips_of r ps
     → q ≡ p
-    → now ≡ noted s was q
+    → now ≡ piece_noted s was q
     → now ≡ skips_of r (ps ++ p ∷ [])
 noted-next r s was now ps p q reads before is notes =
-    notes ∙ (λ i. noted (reads i) (before i) (is i)) ∙ sym (noted-append r nothing_noted ps (p ∷ []))
+    notes ∙ (λ i. piece_noted (reads i) (before i) (is i))
+    ∙ sym (noted-append r nothing_noted ps (p ∷ []))

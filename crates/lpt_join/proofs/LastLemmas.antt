@@ -6,8 +6,8 @@ use Rattle.lpt_part.specs.Parts.{same_kind}
 use Rattle.lpt_part.specs.Splitting.{part_count}
 use Rattle.lpt_join.specs.declared.transaction.Transaction.{Transaction}
 use Rattle.lpt_join.specs.PartNumbersInside.{IsHighest}
-use Rattle.lpt_join.specs.Laws.{AllBelong, Belongs, came, ended, is_part, is_end}
-use Rattle.lpt_join.specs.Offers.{offered}
+use Rattle.lpt_join.specs.Laws.{AllBelong, Belongs, came, has_ended, is_part, is_end}
+use Rattle.lpt_join.specs.Offers.{part_offered}
 
 last_by : (one same : Bool)
     → same_kind (if one then First else if same then Last else Middle) Last ≡ true
@@ -22,7 +22,8 @@ module _ (t : Transaction) (m : List ℕ) where
   parts = part_count (length m) t.part_size
 
   -- a last part has that number
-  end_number : (b : List ℕ) → Belongs t m b → is_end (offered t b) ≡ true → is_part parts (offered t b) ≡ true
+  end_number : (b : List ℕ) → Belongs t m b → is_end (part_offered t b) ≡ true
+      → is_part parts (part_offered t b) ≡ true
   end_number b (inl e) h =
       let no : false ≡ true = sym (ap is_end e) ∙ h in
       absurd cc
@@ -36,20 +37,23 @@ module _ (t : Transaction) (m : List ℕ) where
 
   last_here : (b : List ℕ) (rest : Bool) (end : Bool)
       → Belongs t m b
-      → is_end (offered t b) ≡ end
+      → is_end (part_offered t b) ≡ end
       → (end ≡ false → rest ≡ true)
-      → (is_part parts (offered t b) || rest) ≡ true
+      → (is_part parts (part_offered t b) || rest) ≡ true
   last_here b rest true l e behind = ap (λ c. c || rest) (end_number b l e)
   last_here b rest false l e behind =
-      ap (λ c. is_part parts (offered t b) || c) (behind refl) ∙ or_true (is_part parts (offered t b))
+      ap (λ c. is_part parts (part_offered t b) || c) (behind refl)
+      ∙ or_true (is_part parts (part_offered t b))
 
-  last_came : (bs : List (List ℕ)) → AllBelong t m bs → ended t bs ≡ true → came t parts bs ≡ true
+  last_came : (bs : List (List ℕ)) → AllBelong t m bs → has_ended t bs ≡ true → came t parts bs
+      ≡ true
   last_came [] l h = absurd cc
   last_came (b ∷ bs) l h =
-      last_here b (came t parts bs) (is_end (offered t b)) l.0 refl
-      (λ e. last_came bs l.1 (sym (ap (λ c. c || ended t bs) e) ∙ h))
+      last_here b (came t parts bs) (is_end (part_offered t b)) l.0 refl
+      (λ e. last_came bs l.1 (sym (ap (λ c. c || has_ended t bs) e) ∙ h))
 
-  number_within : (n : ℕ) (b : List ℕ) → Belongs t m b → is_part n (offered t b) ≡ true → n ≤ parts
+  number_within : (n : ℕ) (b : List ℕ) → Belongs t m b → is_part n (part_offered t b) ≡ true → n
+      ≤ parts
   number_within n b (inl e) h =
       let no : false ≡ true = sym (ap (is_part n) e) ∙ h in
       absurd cc
@@ -58,7 +62,7 @@ module _ (t : Transaction) (m : List ℕ) where
 
   here_within : (n : ℕ) (b : List ℕ) (here : Bool)
       → Belongs t m b
-      → is_part n (offered t b) ≡ here
+      → is_part n (part_offered t b) ≡ here
       → (here ≡ false → n ≤ parts)
       → n ≤ parts
   here_within n b true l e behind = number_within n b l e
@@ -67,12 +71,12 @@ module _ (t : Transaction) (m : List ℕ) where
   came_within : (n : ℕ) (bs : List (List ℕ)) → AllBelong t m bs → came t n bs ≡ true → n ≤ parts
   came_within n [] l h = absurd cc
   came_within n (b ∷ bs) l h =
-      here_within n b (is_part n (offered t b)) l.0 refl
+      here_within n b (is_part n (part_offered t b)) l.0 refl
       (λ e. came_within n bs l.1 (sym (ap (λ c. c || came t n bs) e) ∙ h))
 
   pub ended_last : (bs : List (List ℕ)) (last : ℕ)
       → AllBelong t m bs
-      → ended t bs ≡ true
+      → has_ended t bs ≡ true
       → IsHighest (λ n. came t n bs) last
       → last ≡ parts
   ended_last bs last l h highest =

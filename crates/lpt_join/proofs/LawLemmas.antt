@@ -9,9 +9,9 @@ use Rattle.lpt_reception.specs.PartsOf.{kept_of, IsPartsOf, IsMessage}
 use Rattle.lpt_reception.specs.Received.{Kept, Parts, no_parts, with_part, is_whole}
 use Rattle.lpt_reception.proofs.MessageLemmas.{IsPartsOf-none, IsPartsOf-with_part, parts_agree, parts_spell}
 use Rattle.lpt_join.specs.declared.transaction.Transaction.{Transaction}
-use Rattle.lpt_join.specs.Joins.{Joined, Missing, Complete, Broken, added, kept_by, join_part, joined_from, joined}
+use Rattle.lpt_join.specs.Joins.{Joined, Missing, Complete, Broken, part_added, kept_by, join_part, joined_from, packets_joined}
 use Rattle.lpt_join.specs.Laws.{Belongs, AllBelong, is_part, came, AllCame}
-use Rattle.lpt_join.specs.Offers.{offered}
+use Rattle.lpt_join.specs.Offers.{part_offered}
 use Rattle.lpt_join.proofs.SetLemmas.{get_more, get_none, nothing_whole, whole_when_all}
 
 -- ---- what is gathered
@@ -53,7 +53,9 @@ added_agrees : (m : List ℕ) (p : ℕ) (s : Parts) (n : ℕ)
     → IsPartsOf m p s
     → 1 ≤ n
     → n ≤ part_count (length m) p
-    → added s n (kept_of m p n) ≡ (if is_some (map.get s n) then Missing s else kept_by (is_whole (with_part s n (kept_of m p n))) (with_part s n (kept_of m p n)))
+    → part_added s n (kept_of m p n)
+    ≡ (if is_some (map.get s n) then Missing s
+    else kept_by (is_whole (with_part s n (kept_of m p n))) (with_part s n (kept_of m p n)))
 added_agrees m p s n are some within =
     ap (λ b. if b then Broken else if is_some (map.get s n) then Missing s else kept_by (is_whole (with_part s n (kept_of m p n))) (with_part s n (kept_of m p n)))
     (parts_agree m p s n are some within)
@@ -63,7 +65,7 @@ pub gathered_step : (t : Transaction) (m b : List ℕ) (j : Joined)
     → IsPartSize t.part_size
     → IsGathered m t.part_size j
     → Belongs t m b
-    → IsGathered m t.part_size (join_part j (offered t b))
+    → IsGathered m t.part_size (join_part j (part_offered t b))
 gathered_step t m b (Missing s) size h (inl e) =
     subst (λ o. IsGathered m t.part_size (join_part (Missing s) o)) (sym e) h
 gathered_step t m b (Missing s) size h (inr w) =
@@ -82,7 +84,7 @@ pub gathered_all : (t : Transaction) (m : List ℕ) (bs : List (List ℕ)) (j : 
     → IsGathered m t.part_size (joined_from t j bs)
 gathered_all t m [] j size h l = h
 gathered_all t m (b ∷ bs) j size h l =
-    gathered_all t m bs (join_part j (offered t b)) size (gathered_step t m b j size h l.0) l.1
+    gathered_all t m bs (join_part j (part_offered t b)) size (gathered_step t m b j size h l.0) l.1
 
 -- ---- which parts are kept
 
@@ -112,7 +114,7 @@ pub keeps_step : (t : Transaction) (m b : List ℕ) (j : Joined) (q : ℕ) (k : 
     → IsGathered m t.part_size j
     → Belongs t m b
     → Keeps q k j
-    → Keeps q (is_part q (offered t b) || k) (join_part j (offered t b))
+    → Keeps q (is_part q (part_offered t b) || k) (join_part j (part_offered t b))
 keeps_step t m b (Missing s) q k h (inl e) was =
     subst (λ o. Keeps q (is_part q o || k) (join_part (Missing s) o)) (sym e) was
 keeps_step t m b (Missing s) q k h (inr w) was =
@@ -142,9 +144,9 @@ keeps_all : (t : Transaction) (m : List ℕ) (bs : List (List ℕ)) (j : Joined)
     → Keeps q (came t q bs || k) (joined_from t j bs)
 keeps_all t m [] j q k size h l was = was
 keeps_all t m (b ∷ bs) j q k size h l was =
-    subst (λ c. Keeps q c (joined_from t (join_part j (offered t b)) bs))
-    (sym (or_swap (came t q bs) (is_part q (offered t b)) k))
-    (keeps_all t m bs (join_part j (offered t b)) q (is_part q (offered t b) || k) size
+    subst (λ c. Keeps q c (joined_from t (join_part j (part_offered t b)) bs))
+    (sym (or_swap (came t q bs) (is_part q (part_offered t b)) k))
+    (keeps_all t m bs (join_part j (part_offered t b)) q (is_part q (part_offered t b) || k) size
     (gathered_step t m b j size h l.0) l.1 (keeps_step t m b j q k h l.0 was))
 
 -- ---- the law
@@ -173,18 +175,19 @@ pub joined_whole : (t : Transaction) (m : List ℕ) (bs : List (List ℕ))
     → IsMessage m t.part_size
     → AllBelong t m bs
     → AllCame t m bs
-    → joined t bs ≡ Complete m
+    → packets_joined t bs ≡ Complete m
 joined_whole t m bs size message l came_all =
     let start = gathered_none m t.part_size in
-    complete_by t m (joined t bs) size message (gathered_all t m bs (Missing no_parts) size start l)
+    complete_by t m (packets_joined t bs) size message
+    (gathered_all t m bs (Missing no_parts) size start l)
     (λ q some within.
-    subst (λ b. Keeps q b (joined t bs)) (or_none (came t q bs) ∙ came_all q some within)
+    subst (λ b. Keeps q b (packets_joined t bs)) (or_none (came t q bs) ∙ came_all q some within)
     (keeps_all t m bs (Missing no_parts) q false size start l (nothing_kept q)))
 
 pub joined_missing : (t : Transaction) (m : List ℕ) (bs : List (List ℕ)) (s : Parts)
     → IsPartSize t.part_size
     → AllBelong t m bs
-    → joined t bs ≡ Missing s
+    → packets_joined t bs ≡ Missing s
     → IsPartsOf m t.part_size s × ((n : ℕ) → is_some (map.get s n) ≡ came t n bs)
 joined_missing t m bs s size l e =
     let start = gathered_none m t.part_size in

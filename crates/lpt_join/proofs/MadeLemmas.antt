@@ -20,8 +20,8 @@ use Rattle.lpt_events.specs.Sides.{receiver_side}
 use Rattle.lpt_reception.specs.PartsOf.{kept_of}
 use Rattle.lpt_join.specs.declared.transaction.Transaction.{Transaction}
 use Rattle.lpt_join.specs.Laws.{IsSending}
-use Rattle.lpt_events.specs.NamedParts.{named}
-use Rattle.lpt_join.specs.Offers.{piece_of, part_of_name, offered}
+use Rattle.lpt_events.specs.NamedParts.{part_named}
+use Rattle.lpt_join.specs.Offers.{piece_of, part_of_name, part_offered}
 use Rattle.lpt_events.specs.Counts.{AreCounts}
 use Rattle.lpt_events.proofs.ArrivalLemmas.{part_command_fits, part_telemetry_fits, part_arrives}
 
@@ -68,13 +68,16 @@ module _ (t : Transaction) (c : Config) (m : List ℕ) (sending : IsSending t c 
       → AreCounts count counter time
       → 1 ≤ n
       → n ≤ part_count (length m) t.part_size
-      → offered t (part_made c t.direction t.name.source count counter time (nth_part t.part_size t.name.id m n))
+      → part_offered t
+      (part_made c t.direction t.name.source count counter time
+      (nth_part t.part_size t.name.id m n))
       ≡ Some (n, kept_of m t.part_size n)
-  unfolding offered
+  unfolding part_offered
   made_carries n count counter time counts some within =
       let q = nth_part t.part_size t.name.id m n in
       let b = part_made c t.direction t.name.source count counter time q in
-      let arrives : arrival (receiver_side t.direction) t.apid t.part_size b ≡ APart (named t.name.source q) =
+      let arrives : arrival (receiver_side t.direction) t.apid t.part_size b
+      ≡ APart (part_named t.name.source q) =
       (λ i. arrival (receiver_side t.direction) (sending.of.apid i) (sending.of.size i) b)
       ∙ part_arrives c t.direction t.name.source count counter time q sending.good counts sending.source_fits
       sending.id_fits

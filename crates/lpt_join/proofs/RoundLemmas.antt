@@ -7,7 +7,7 @@ use Rattle.lpt_events.specs.MadePackets.{part_made, nth_part}
 use Rattle.lpt_stream.specs.Streams.{IsStream}
 use Rattle.lpt_split.specs.Splits.{next_count, IsNumber, AreNumbers, split_of}
 use Rattle.lpt_join.specs.declared.transaction.Transaction.{Transaction}
-use Rattle.lpt_join.specs.Joins.{Complete, joined}
+use Rattle.lpt_join.specs.Joins.{Complete, packets_joined}
 use Rattle.lpt_join.specs.Laws.{IsMade, AllMadeOrOther, IsAmong, IsSending, HasNumber}
 use Rattle.lpt_join.proofs.MadeLemmas.{made_packet, nth_fits}
 use Rattle.lpt_join.proofs.SentLemmas.{sent_joined}
@@ -64,7 +64,7 @@ module _ (t : Transaction) (c : Config) (m : List ℕ) (sending : IsSending t c 
       → count ≤ 16383
       → AreNumbers (part_count (length m) t.part_size) ns
       → ((n : ℕ) → 1 ≤ n → n ≤ part_count (length m) t.part_size → HasNumber n ns)
-      → joined t (split_of c t.direction t.name m count ns) ≡ Complete m
+      → packets_joined t (split_of c t.direction t.name m count ns) ≡ Complete m
   split_joined count ns k h each =
       sent_joined t c m sending (split_of c t.direction t.name m count ns) (made_all ns count k h)
       (λ n some within. among n ns count k h (each n some within))

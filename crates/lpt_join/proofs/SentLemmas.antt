@@ -4,16 +4,17 @@ use Rattle.lpt_packet.proofs.Readings.{eq_true}
 use Rattle.lpt_events.specs.declared.config.Config.{Config}
 use Rattle.lpt_reception.specs.PartsOf.{kept_of}
 use Rattle.lpt_join.specs.declared.transaction.Transaction.{Transaction}
-use Rattle.lpt_join.specs.Joins.{Complete, joined}
-use Rattle.lpt_join.specs.Offers.{offered}
+use Rattle.lpt_join.specs.Joins.{Complete, packets_joined}
+use Rattle.lpt_join.specs.Offers.{part_offered}
 use Rattle.lpt_join.specs.Laws.{Belongs, AllBelong, is_part, came, IsMade, IsMadeOrOther, AllMadeOrOther, IsAmong, EachIsAmong, IsSending}
 use Rattle.lpt_join.proofs.MadeLemmas.{made_carries}
 use Rattle.lpt_join.proofs.LawLemmas.{joined_whole}
 
 module _ (t : Transaction) (c : Config) (m : List ℕ) (sending : IsSending t c m) where
-  pub carries : (n : ℕ) (b : List ℕ) → IsMade t c m n b → offered t b ≡ Some (n, kept_of m t.part_size n)
+  pub carries : (n : ℕ) (b : List ℕ) → IsMade t c m n b → part_offered t b
+      ≡ Some (n, kept_of m t.part_size n)
   carries n b h =
-      ap (offered t) h.is
+      ap (part_offered t) h.is
       ∙ made_carries t c m sending n h.count h.counter h.time h.counts h.some h.within
 
   belongs : (b : List ℕ) → IsMadeOrOther t c m b → Belongs t m b
@@ -32,12 +33,13 @@ module _ (t : Transaction) (c : Config) (m : List ℕ) (sending : IsSending t c 
   has_come n [] h = absurd h
   has_come n (b ∷ bs) (inl h) =
       ap (λ o. is_part n o || came t n bs) (carries n b h) ∙ ap (λ e. e || came t n bs) (eq_true n n refl)
-  has_come n (b ∷ bs) (inr h) = ap (λ e. is_part n (offered t b) || e) (has_come n bs h) ∙ or_right (is_part n (offered t b))
+  has_come n (b ∷ bs) (inr h) = ap (λ e. is_part n (part_offered t b) || e) (has_come n bs h)
+      ∙ or_right (is_part n (part_offered t b))
 
   pub sent_joined : (bs : List (List ℕ))
       → AllMadeOrOther t c m bs
       → EachIsAmong t c m bs
-      → joined t bs ≡ Complete m
+      → packets_joined t bs ≡ Complete m
   sent_joined bs all each =
       joined_whole t m bs t.size sending.message (all_belong bs all)
       (λ n some within. has_come n bs (each n some within))

@@ -5,7 +5,7 @@ use Rattle.std.proofs.lemmas.Bool.{or_parts}
 use Rattle.lpt_packet.specs.Names.{Name, named_by, same_name}
 use Rattle.lpt_packet.proofs.NameLemmas.{same_name-refl, same_name-true}
 use Rattle.lpt_part.specs.Parts as APart
-use Rattle.lpt_events.specs.NamedParts.{NamedPart, bare, named}
+use Rattle.lpt_events.specs.NamedParts.{NamedPart, bare, part_named}
 use Rattle.lpt_reception.specs.Received.{Kept}
 use Rattle.lpt_stream.specs.declared.piece_kind.PieceKind.{PieceKind}
 use Rattle.lpt_stream.specs.declared.piece_kind.PieceKind.TheVariants.{Whole, Damaged, Stray}
@@ -15,8 +15,8 @@ use Rattle.lpt_join.specs.declared.gatherings.Gatherings.{Gatherings}
 use Rattle.lpt_join.specs.declared.transaction.Transaction.{Transaction}
 use Rattle.lpt_join.specs.Contradictions.{offered_in}
 use Rattle.lpt_join.specs.Gatherings.{Gives}
-use Rattle.lpt_join.specs.Offers.{named_in, offered, part_of_name, part_of_piece, piece_in}
-use Rattle.lpt_join.specs.Several.{carried, GivesEach, IsKept, kept_of, of_name}
+use Rattle.lpt_join.specs.Offers.{named_in, part_offered, part_of_name, part_of_piece, piece_in}
+use Rattle.lpt_join.specs.Several.{is_carried, GivesEach, IsKept, kept_of, of_name}
 use Rattle.lpt_join.specs.SeveralInside.{HasPlace, IsFull}
 use Rattle.lpt_join.proofs.OtherLemmas.{none_carried, apart_carried}
 use Rattle.lpt_join.proofs.GatherLemmas.{any-piece, gives-other}
@@ -32,17 +32,17 @@ not_some (Some x) h = absurd (no_true h)
 
 module _ (t : Transaction) where
   carried-front : (k : PieceKind) (b : List ℕ) (bs : List (List ℕ))
-      → carried t (packet_before k b bs) ≡ false
-      → (offered_in t k b ≡ None) × (carried t bs ≡ false)
+      → is_carried t (packet_before k b bs) ≡ false
+      → (offered_in t k b ≡ None) × (is_carried t bs ≡ false)
   carried-front Whole b bs h =
-      let parts = or_parts (is_some (offered t b)) (carried t bs) h in
-      (not_some (offered t b) parts.0, parts.1)
+      let parts = or_parts (is_some (part_offered t b)) (is_carried t bs) h in
+      (not_some (part_offered t b) parts.0, parts.1)
   carried-front Damaged b bs h = (refl, h)
   carried-front Stray b bs h = (refl, h)
 
   gives-run : (ps qs : List Piece) (g : Gathering)
       → Gives t ps g
-      → carried t (packets_of qs) ≡ false
+      → is_carried t (packets_of qs) ≡ false
       → Gives t (ps ++ qs) g
   gives-run ps [] g h none = subst (λ x. Gives t x g) (sym (append-nil ps)) h
   gives-run ps (q ∷ qs) g h none =
@@ -53,15 +53,15 @@ module _ (t : Transaction) where
   -- pieces that carry no part of a transaction give of it what no piece gives
   pub gives-none : (bs : List Piece) (g : Gathering)
       → Gives t [] g
-      → carried t (packets_of bs) ≡ false
+      → is_carried t (packets_of bs) ≡ false
       → Gives t bs g
   gives-none bs g h none = gives-run [] bs g h none
 
   -- ---- a piece more
 
   carried-next : (bs : List Piece) (b : Piece)
-      → carried t (packets_of (bs ++ b ∷ []))
-      ≡ (is_some (offered_in t b.kind b.octets) || carried t (packets_of bs))
+      → is_carried t (packets_of (bs ++ b ∷ []))
+      ≡ (is_some (offered_in t b.kind b.octets) || is_carried t (packets_of bs))
   carried-next bs b = any-piece t is_some refl bs b
 
   -- a piece that carries no part of the transaction leaves what is kept
@@ -70,10 +70,10 @@ module _ (t : Transaction) where
       → IsKept t bs more o
       → IsKept t (bs ++ b ∷ []) more o
   kept-other bs b more None none h = λ few.
-      carried-next bs b ∙ ap (λ o. is_some o || carried t (packets_of bs)) none ∙ h few
+      carried-next bs b ∙ ap (λ o. is_some o || is_carried t (packets_of bs)) none ∙ h few
   kept-other bs b more (Some g) none h = (
     gives-other t bs b g h.0 (sym none),
-    carried-next bs b ∙ ap (λ o. is_some o || carried t (packets_of bs)) none ∙ h.1,
+    carried-next bs b ∙ ap (λ o. is_some o || is_carried t (packets_of bs)) none ∙ h.1,
   )
 
   -- one that does
@@ -82,7 +82,7 @@ module _ (t : Transaction) where
       → Gives t (bs ++ b ∷ []) g
       → IsKept t (bs ++ b ∷ []) more (Some g)
   kept-part bs b more x g some h =
-      (h, carried-next bs b ∙ ap (λ o. is_some o || carried t (packets_of bs)) some)
+      (h, carried-next bs b ∙ ap (λ o. is_some o || is_carried t (packets_of bs)) some)
 
 -- ---- of each transaction
 
@@ -138,7 +138,7 @@ each-packet t ps Damaged b q g h given = absurd (nothing_named q h)
 each-packet t ps Stray b q g h given = absurd (nothing_named q h)
 
 module _ (t : Transaction) (name : Name) (p : APart.Piece) (b : List ℕ)
-    (same : p.id ≡ name.id) (some : Some (named name.source p) ≡ piece_in t b) where
+    (same : p.id ≡ name.id) (some : Some (part_named name.source p) ≡ piece_in t b) where
   -- a part has this name
   pub named-name : Some name ≡ option_map (λ (q : NamedPart). q.name) (piece_in t b)
   named-name =
@@ -146,8 +146,8 @@ module _ (t : Transaction) (name : Name) (p : APart.Piece) (b : List ℕ)
       ∙ ap (option_map (λ (q : NamedPart). q.name)) some
 
   -- and is one of the transaction of that name
-  pub offered-named : Some (part_of_piece p) ≡ offered (of_name t name) b
-  unfolding offered
+  pub offered-named : Some (part_of_piece p) ≡ part_offered (of_name t name) b
+  unfolding part_offered
   offered-named =
       sym (ap (λ (s : Bool). if s then Some (part_of_piece p) else None) (same_name-refl name))
       ∙ ap (λ (n : ℕ). if same_name (named_by name.source n) name then Some (part_of_piece p) else None) (sym same)
@@ -183,8 +183,8 @@ module _ (old taken new : Gatherings)
 module _ (t : Transaction) (name : Name) (b : List ℕ)
     (e : Some name ≡ option_map (λ (q : NamedPart). q.name) (piece_in t b)) where
   -- it is a part of the transaction of its name
-  pub offered-its : (x : ℕ × Kept) × (offered (of_name t name) b ≡ Some x)
-  unfolding offered
+  pub offered-its : (x : ℕ × Kept) × (part_offered (of_name t name) b ≡ Some x)
+  unfolding part_offered
   offered-its =
       let its = its_part name (piece_in t b) e in (
         part_of_piece (bare its.0),
@@ -194,7 +194,7 @@ module _ (t : Transaction) (name : Name) (b : List ℕ)
       )
 
   -- and of no other
-  pub offered-other : (n : Name) → same_name name n ≡ false → offered (of_name t n) b ≡ None
+  pub offered-other : (n : Name) → same_name name n ≡ false → part_offered (of_name t n) b ≡ None
   offered-other n other =
       let its = its_part name (piece_in t b) e in
       apart_carried (of_name t n) b its.0 its.1 (ap (λ (m : Name). same_name m n) its.2 ∙ other)

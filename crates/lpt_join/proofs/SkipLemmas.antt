@@ -29,13 +29,13 @@ use Rattle.lpt_skips.specs.declared.why.Why.TheVariants as why
 use Rattle.lpt_skips.specs.Own.{own_body, own_command, own_telemetry, own_typed, own_unread, own_verdict, own_why}
 use Rattle.lpt_skips.specs.Skipping.{why_name, why_of}
 use Rattle.lpt_events.specs.Arrivals.{AReport, ARequest, APart, AnAbort, Foreign, NoPart, NotRead, abort_arrival, carried_kind, command_arrival, packet_arrival, part_arrival, report_arrival, sight_arrival, telemetry_arrival}
-use Rattle.lpt_events.specs.NamedParts.{NamedPart, bare, named}
+use Rattle.lpt_events.specs.NamedParts.{NamedPart, bare, part_named}
 use Rattle.lpt_events.specs.Sides.{receiver_side}
 use Rattle.lpt_stream.specs.declared.piece_kind.PieceKind.{PieceKind}
 use Rattle.lpt_stream.specs.declared.piece_kind.PieceKind.TheVariants.{Whole, Damaged, Stray}
 use Rattle.lpt_join.specs.declared.transaction.Transaction.{Transaction}
 use Rattle.lpt_join.specs.Contradictions.{offered_in}
-use Rattle.lpt_join.specs.Offers.{named_in, offered, part_of_name, part_of_piece, piece_in, piece_of}
+use Rattle.lpt_join.specs.Offers.{named_in, part_offered, part_of_name, part_of_piece, piece_in, piece_of}
 use Rattle.lpt_join.specs.Several.{reading_of}
 use Rattle.lpt_join.specs.Wide.{wide}
 use Rattle.lpt_join.proofs.ReadLemmas.{piece-seen}
@@ -63,13 +63,13 @@ abort_none source (Some a) = refl
 
 module _ (w : Wanted) (p : ℕ) (q : NamedPart) where
   body-why : (source : ℕ) (body : List ℕ) (kind : Kind) (o : Option Piece)
-      → piece_of (option_map_or (λ x. APart (named source x)) o NoPart) ≡ Some q
+      → piece_of (option_map_or (λ x. APart (part_named source x)) o NoPart) ≡ Some q
       → option_map_or (λ x. why_name w.name (record { user = source; id = x.id })) o
       (own_unread kind body)
       ≡ why_name w.name (wide q.name)
   body-why source body kind None h = absurd (none_some q h)
   body-why source body kind (Some x) h =
-      ap (λ (n : NamedPart). why_name w.name (wide n.name)) (same_some (named source x) q h)
+      ap (λ (n : NamedPart). why_name w.name (wide n.name)) (same_some (part_named source x) q h)
 
   command-why : (b : List ℕ) (c : Command) (k : Option Kind)
       → piece_of (option_map_or (part_arrival p c.source c.body) k (ARequest b)) ≡ Some q
@@ -171,7 +171,7 @@ module _ (law : OwnSkips) (t : Transaction) (b : List ℕ) (octets : IsOctets b)
 
   -- and one of this name, where it alone is
   pub own-why : (x : ℕ × Kept)
-      → Some x ≡ offered t b
+      → Some x ≡ part_offered t b
       → why_of (reading_of t (Some t.name)) Whole b ≡ Taken
-  unfolding offered
+  unfolding part_offered
   own-why x h = offered-why x (piece_in t b) refl h

@@ -8,10 +8,10 @@ use Rattle.lpt_reception.specs.Received.{Kept, no_parts}
 use Rattle.lpt_events.specs.declared.config.Config.{Config}
 use Rattle.lpt_events.specs.NamedParts.{NamedPart, bare}
 use Rattle.lpt_join.specs.declared.transaction.Transaction.{Transaction}
-use Rattle.lpt_join.specs.Joins.{Joined, Missing, Complete, join_part, joined_from, joined}
+use Rattle.lpt_join.specs.Joins.{Joined, Missing, Complete, join_part, joined_from, packets_joined}
 use Rattle.lpt_join.specs.Laws.{AllMadeOrNone, AllMadeOrOther, EachIsAmong, IsMadeOrNone, IsMadeOrOther, IsSending}
-use Rattle.lpt_join.specs.Offers.{offered, part_of_name, part_of_piece, piece_in}
-use Rattle.lpt_join.specs.Several.{carried, of_name}
+use Rattle.lpt_join.specs.Offers.{part_offered, part_of_name, part_of_piece, piece_in}
+use Rattle.lpt_join.specs.Several.{is_carried, of_name}
 use Rattle.lpt_join.proofs.GatherLemmas.{join_none}
 use Rattle.lpt_join.proofs.OtherLemmas.{apart_carried, none_carried}
 use Rattle.lpt_join.proofs.SentLemmas.{carries, sent_joined}
@@ -19,12 +19,12 @@ use Rattle.lpt_join.proofs.SeveralLemmas.{not_some}
 
 -- nothing is joined where no part is carried
 joined-none : (t : Transaction) (j : Joined) (bs : List (List ℕ))
-    → carried t bs ≡ false
+    → is_carried t bs ≡ false
     → joined_from t j bs ≡ j
 joined-none t j [] h = refl
 joined-none t j (b ∷ bs) h =
-    let parts = or_parts (is_some (offered t b)) (carried t bs) h in
-    ap (λ o. joined_from t (join_part j o) bs) (not_some (offered t b) parts.0)
+    let parts = or_parts (is_some (part_offered t b)) (is_carried t bs) h in
+    ap (λ o. joined_from t (join_part j o) bs) (not_some (part_offered t b) parts.0)
     ∙ ap (λ k. joined_from t k bs) (join_none j) ∙ joined-none t j bs parts.1
 
 name_by : (name : Name) (q : NamedPart) (same : Bool) (x : ℕ × Kept)
@@ -43,9 +43,9 @@ name_of name (Some q) x h = (q, refl, name_by name q (same_name q.name name) x r
 -- what carries a part of a transaction carries none of another
 apart : (t : Transaction) (n : Name) (b : List ℕ) (x : ℕ × Kept)
     → same_name t.name n ≡ false
-    → offered t b ≡ Some x
-    → offered (of_name t n) b ≡ None
-unfolding offered
+    → part_offered t b ≡ Some x
+    → part_offered (of_name t n) b ≡ None
+unfolding part_offered
 apart t n b x other h =
     let its = name_of t.name (piece_in t b) x h in
     apart_carried (of_name t n) b its.0 its.1 (ap (λ m. same_name m n) its.2 ∙ other)
@@ -63,16 +63,16 @@ module _ (t : Transaction) (c : Config) (m : List ℕ) (sending : IsSending t c 
   pub sole_joined : (bs : List (List ℕ))
       → AllMadeOrNone t c m bs
       → EachIsAmong t c m bs
-      → joined t bs ≡ Complete m
+      → packets_joined t bs ≡ Complete m
   sole_joined bs all each = sent_joined t c m sending bs (all_or_other bs all) each
 
   -- so its parts are carried
   pub sole_carried : (bs : List (List ℕ))
       → AllMadeOrNone t c m bs
       → EachIsAmong t c m bs
-      → carried t bs ≡ true
-  sole_carried bs all each = go (carried t bs) refl where
-    go : (some : Bool) → carried t bs ≡ some → some ≡ true
+      → is_carried t bs ≡ true
+  sole_carried bs all each = go (is_carried t bs) refl where
+    go : (some : Bool) → is_carried t bs ≡ some → some ≡ true
     go true e = refl
     go false e =
         let none = sym (joined-none t (Missing no_parts) bs e) ∙ sole_joined bs all each in
@@ -81,7 +81,7 @@ module _ (t : Transaction) (c : Config) (m : List ℕ) (sending : IsSending t c 
   other_none : (n : Name) (b : List ℕ)
       → same_name t.name n ≡ false
       → IsMadeOrNone t c m b
-      → offered (of_name t n) b ≡ None
+      → part_offered (of_name t n) b ≡ None
   other_none n b other (inl e) = none_carried (of_name t n) b e
   other_none n b other (inr w) =
       apart t n b (w.0, kept_of m t.part_size w.0) other (carries t c m sending w.0 b w.1)
@@ -90,8 +90,8 @@ module _ (t : Transaction) (c : Config) (m : List ℕ) (sending : IsSending t c 
   pub sole_others : (n : Name) (bs : List (List ℕ))
       → same_name t.name n ≡ false
       → AllMadeOrNone t c m bs
-      → carried (of_name t n) bs ≡ false
+      → is_carried (of_name t n) bs ≡ false
   sole_others n [] other h = refl
   sole_others n (b ∷ bs) other h =
-      ap (λ o. is_some o || carried (of_name t n) bs) (other_none n b other h.0)
+      ap (λ o. is_some o || is_carried (of_name t n) bs) (other_none n b other h.0)
       ∙ sole_others n bs other h.1

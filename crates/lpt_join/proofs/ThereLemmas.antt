@@ -8,9 +8,9 @@ use Rattle.lpt_part.specs.Splitting.{IsPartSize, part_count}
 use Rattle.lpt_reception.specs.PartsOf.{kept_of, AllFit, IsMessage, IsSplit}
 use Rattle.lpt_reception.specs.Received.{Kept, Parts, no_parts, with_part, differs, is_overrun, contradicts, is_whole, spelled}
 use Rattle.lpt_join.specs.declared.transaction.Transaction.{Transaction}
-use Rattle.lpt_join.specs.Joins.{Joined, Missing, Complete, Broken, kept_by, join_part, joined_from, joined}
+use Rattle.lpt_join.specs.Joins.{Joined, Missing, Complete, Broken, kept_by, join_part, joined_from, packets_joined}
 use Rattle.lpt_join.specs.Laws.{IsThere}
-use Rattle.lpt_join.specs.Offers.{offered}
+use Rattle.lpt_join.specs.Offers.{part_offered}
 use Rattle.lpt_join.proofs.FitLemmas.{offered-fits}
 use Rattle.lpt_join.proofs.SetLemmas.{added_cases, all_there, get_none, nothing_overrun, there}
 
@@ -80,13 +80,14 @@ module _ (t : Transaction) (all : List (List ℕ)) where
   -- each of these packets stands in the stream
   abbrev pub AreIn : List (List ℕ) → Type 0
   AreIn [] = Unit {0}
-  AreIn (b ∷ bs) = ((n : ℕ) (x : Kept) → offered t b ≡ Some (n, x) → IsThere t n x all) × AreIn bs
+  AreIn (b ∷ bs) =
+      ((n : ℕ) (x : Kept) → part_offered t b ≡ Some (n, x) → IsThere t n x all) × AreIn bs
 
   of_all : (bs : List (List ℕ)) (j : Joined) → IsOf j → AreIn bs → IsOf (joined_from t j bs)
   of_all [] j h are = h
   of_all (b ∷ bs) j h are =
-      of_all bs (join_part j (offered t b))
-      (of_step j (offered t b) h (λ n x e. (offered-fits t b n x e, are.0 n x e))) are.1
+      of_all bs (join_part j (part_offered t b))
+      (of_step j (part_offered t b) h (λ n x e. (offered-fits t b n x e, are.0 n x e))) are.1
 
 -- a packet further in front changes nothing of the others
 are_in_more : (t : Transaction) (c : List ℕ) (all bs : List (List ℕ)) → AreIn t all bs → AreIn t (c ∷ all) bs
@@ -129,7 +130,7 @@ pub complete_there : (t : Transaction) (bs : List (List ℕ)) (m : List ℕ)
     → IsMessage (spelled s) p)
     → ((p : ℕ) (s : Parts) → IsPartSize p → AllFit p s → is_overrun s ≡ false → is_whole s ≡ true
     → IsSplit (spelled s) p s)
-    → joined t bs ≡ Complete m
+    → packets_joined t bs ≡ Complete m
     → IsMessage m t.part_size
     × ((n : ℕ) → 1 ≤ n → n ≤ part_count (length m) t.part_size
     → IsThere t n (kept_of m t.part_size n) bs)

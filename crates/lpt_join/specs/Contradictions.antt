@@ -7,11 +7,11 @@ use Rattle.lpt_stream.specs.Pieces.{Piece}
 use Rattle.lpt_join.specs.declared.transaction.Transaction.{Transaction}
 use Rattle.lpt_join.specs.Joins.{Joined, Missing, Complete, Broken, join_part}
 use Rattle.lpt_join.specs.Messages.{is_part_of}
-use Rattle.lpt_join.specs.Offers.{offered}
+use Rattle.lpt_join.specs.Offers.{part_offered}
 
 -- the part of the transaction that a piece of a stream carries, where it is a packet that does
 abbrev pub offered_in : Transaction → PieceKind → List ℕ → Option (ℕ × Kept)
-offered_in t Whole b = offered t b
+offered_in t Whole b = part_offered t b
 offered_in t Damaged b = None
 offered_in t Stray b = None
 

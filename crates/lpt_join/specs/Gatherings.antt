@@ -9,8 +9,8 @@ use Rattle.lpt_join.specs.declared.joining.Joining.TheVariants as joining
 use Rattle.lpt_join.specs.declared.transaction.Transaction.{Transaction}
 use Rattle.lpt_join.specs.PartNumbersInside.{has, is_ended}
 use Rattle.lpt_join.specs.Contradictions.{first_against}
-use Rattle.lpt_join.specs.Joins.{Joined, Missing, Complete, Broken, joined}
-use Rattle.lpt_join.specs.Laws.{came, ended}
+use Rattle.lpt_join.specs.Joins.{Joined, Missing, Complete, Broken, packets_joined}
+use Rattle.lpt_join.specs.Laws.{came, has_ended}
 
 -- what the parts are joined to
 abbrev pub state : Joining → Joined
@@ -30,7 +30,7 @@ IsJoiningOf t joining.BrokenOff = Unit {0}
 -- where the first came that contradicts those before it
 pub record Gives (t : Transaction) (pieces : List Piece) (g : Gathering) : Type 0 where
   pub of : IsJoiningOf t g.joining
-  pub state_is : state g.joining ≡ joined t (packets_of pieces)
+  pub state_is : state g.joining ≡ packets_joined t (packets_of pieces)
   pub came_is : (n : ℕ) → has g.came n ≡ came t n (packets_of pieces)
-  pub ended_is : is_ended g.came ≡ ended t (packets_of pieces)
+  pub ended_is : is_ended g.came ≡ has_ended t (packets_of pieces)
   pub against_is : g.against ≡ option_map up_to_limit (first_against t pieces)

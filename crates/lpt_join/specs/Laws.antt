@@ -8,7 +8,7 @@ use Rattle.lpt_events.specs.MadePackets.{part_made, nth_part}
 use Rattle.lpt_reception.specs.PartsOf.{IsMessage, kept_of}
 use Rattle.lpt_reception.specs.Received.{Kept, is_last}
 use Rattle.lpt_join.specs.declared.transaction.Transaction.{Transaction}
-use Rattle.lpt_join.specs.Offers.{offered, piece_in}
+use Rattle.lpt_join.specs.Offers.{part_offered, piece_in}
 use Rattle.lpt_events.specs.Counts.{AreCounts}
 
 -- ---- packets that carry parts
@@ -17,11 +17,11 @@ use Rattle.lpt_events.specs.Counts.{AreCounts}
 pub record Carries (t : Transaction) (m : List ℕ) (n : ℕ) (b : List ℕ) : Type 0 where
   pub some : 1 ≤ n
   pub within : n ≤ part_count (length m) t.part_size
-  pub is : offered t b ≡ Some (n, kept_of m t.part_size n)
+  pub is : part_offered t b ≡ Some (n, kept_of m t.part_size n)
 
 -- the octets carry no part of the transaction, or a part of the message
 abbrev pub Belongs : Transaction → List ℕ → List ℕ → Type 0
-Belongs t m b = (offered t b ≡ None) ⊎ ((n : ℕ) × Carries t m n b)
+Belongs t m b = (part_offered t b ≡ None) ⊎ ((n : ℕ) × Carries t m n b)
 
 -- each of the packets does
 abbrev pub AllBelong : Transaction → List ℕ → List (List ℕ) → Type 0
@@ -40,11 +40,11 @@ is_end (Some x) = is_last x.1
 
 -- whether one of the packets carries a part n of the transaction
 abbrev pub came : Transaction → ℕ → List (List ℕ) → Bool
-came t n bs = list_any (λ b. is_part n (offered t b)) bs
+came t n bs = list_any (λ b. is_part n (part_offered t b)) bs
 
 -- whether one of the packets carries a last part of the transaction
-abbrev pub ended : Transaction → List (List ℕ) → Bool
-ended t bs = list_any (λ b. is_end (offered t b)) bs
+abbrev pub has_ended : Transaction → List (List ℕ) → Bool
+has_ended t bs = list_any (λ b. is_end (part_offered t b)) bs
 
 -- each part of the message came
 abbrev pub AllCame : Transaction → List ℕ → List (List ℕ) → Type 0
@@ -53,7 +53,7 @@ AllCame t m bs = (n : ℕ) → 1 ≤ n → n ≤ part_count (length m) t.part_si
 -- a packet among these carries part n of the transaction, and it is this
 abbrev pub IsThere : Transaction → ℕ → Kept → List (List ℕ) → Type 0
 IsThere t n x [] = ⊥
-IsThere t n x (b ∷ bs) = (offered t b ≡ Some (n, x)) ⊎ IsThere t n x bs
+IsThere t n x (b ∷ bs) = (part_offered t b ≡ Some (n, x)) ⊎ IsThere t n x bs
 
 -- ---- packets that are made of a message
 
@@ -82,7 +82,7 @@ pub record IsMade (t : Transaction) (c : Config) (m : List ℕ) (n : ℕ) (b : L
 
 -- the octets carry no part of the transaction, or are made of the message
 abbrev pub IsMadeOrOther : Transaction → Config → List ℕ → List ℕ → Type 0
-IsMadeOrOther t c m b = (offered t b ≡ None) ⊎ ((n : ℕ) × IsMade t c m n b)
+IsMadeOrOther t c m b = (part_offered t b ≡ None) ⊎ ((n : ℕ) × IsMade t c m n b)
 
 -- each of the packets does, or is
 abbrev pub AllMadeOrOther : Transaction → Config → List ℕ → List (List ℕ) → Type 0

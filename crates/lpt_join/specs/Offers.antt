@@ -36,5 +36,5 @@ part_of_name name None = None
 part_of_name name (Some q) = if same_name q.name name then Some (part_of_piece (bare q)) else None
 
 -- the part of the transaction that octets carry, where they do
-unfoldable pub offered : Transaction → List ℕ → Option (ℕ × Kept)
-offered t b = part_of_name t.name (piece_in t b)
+unfoldable pub part_offered : Transaction → List ℕ → Option (ℕ × Kept)
+part_offered t b = part_of_name t.name (piece_in t b)

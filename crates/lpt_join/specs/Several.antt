@@ -16,7 +16,7 @@ use Rattle.lpt_join.specs.declared.gathering.Gathering.{Gathering}
 use Rattle.lpt_join.specs.declared.gatherings.Gatherings.{Gatherings}
 use Rattle.lpt_join.specs.declared.transaction.Transaction.{Transaction}
 use Rattle.lpt_join.specs.Gatherings.{Gives}
-use Rattle.lpt_join.specs.Offers.{offered}
+use Rattle.lpt_join.specs.Offers.{part_offered}
 use Rattle.lpt_join.specs.Wide.{wide}
 
 -- the transaction of another name, whose packets are read alike
@@ -42,8 +42,8 @@ reading_of t name = record {
 }
 
 -- whether one of the packets carries a part of the transaction
-abbrev pub carried : Transaction → List (List ℕ) → Bool
-carried t bs = list_any (λ b. is_some (offered t b)) bs
+abbrev pub is_carried : Transaction → List (List ℕ) → Bool
+is_carried t bs = list_any (λ b. is_some (part_offered t b)) bs
 
 -- what is kept of the transaction of a name
 abbrev pub kept_of : Gatherings → Name → Option Gathering
@@ -52,8 +52,8 @@ kept_of g n = get name_cmp g.kept n
 -- it is what the packets give of a transaction of which they carry parts; nothing is kept of one of
 -- which they carry none, or where more came than are kept
 abbrev pub IsKept : Transaction → List Piece → (more : Bool) → Option Gathering → Type 0
-IsKept t bs more (Some g) = Gives t bs g × (carried t (packets_of bs) ≡ true)
-IsKept t bs more None = more ≡ false → carried t (packets_of bs) ≡ false
+IsKept t bs more (Some g) = Gives t bs g × (is_carried t (packets_of bs) ≡ true)
+IsKept t bs more None = more ≡ false → is_carried t (packets_of bs) ≡ false
 
 -- of each transaction that is read as this one is, what is kept is what the packets among these
 -- pieces give of it; of at most 64, and where more came, of as many

@@ -7,8 +7,8 @@ use Rattle.lpt_join.specs.declared.transaction.Transaction.{Transaction}
 use Rattle.lpt_join.specs.PartNumbersInside.{has, is_ended}
 use Rattle.lpt_join.specs.Contradictions.{first_against}
 use Rattle.lpt_stream.specs.Pieces.{up_to_limit, Piece, packets_of}
-use Rattle.lpt_join.specs.Joins.{Joined, Complete, Missing as MissingParts, Broken, joined}
-use Rattle.lpt_join.specs.Laws.{came, ended}
+use Rattle.lpt_join.specs.Joins.{Joined, Complete, Missing as MissingParts, Broken, packets_joined}
+use Rattle.lpt_join.specs.Laws.{came, has_ended}
 use Rattle.lpt_packet.specs.declared.direction.Direction.{Direction}
 use Rattle.lpt_reception.specs.Received.{Parts}
 use Rattle.lpt_text.specs.Streams.{AppendsPart}
@@ -50,9 +50,9 @@ LeavesJoined d any j old new =
 -- so was written what the packets among these pieces give; these parts came; the first that
 -- contradicts those before it came there; and that was passed over
 pub record Reports (t : Transaction) (any : Bool) (pieces : List Piece) (r : JoinReport) (old new : Option (List ℕ)) : Type 0 where
-  pub writes : WritesJoined t.direction any (joined t (packets_of pieces)) r.end old new
+  pub writes : WritesJoined t.direction any (packets_joined t (packets_of pieces)) r.end old new
   pub came_is : (n : ℕ) → has r.came n ≡ came t n (packets_of pieces)
-  pub ended_is : is_ended r.came ≡ ended t (packets_of pieces)
+  pub ended_is : is_ended r.came ≡ has_ended t (packets_of pieces)
   pub against_is : r.against ≡ option_map up_to_limit (first_against t pieces)
   pub skips_are : r.skips ≡ skips_of (reading_of t (Some t.name)) pieces
 
@@ -66,6 +66,7 @@ JoinsTo t any r before after old new =
 abbrev pub JoinLeaves :
     Transaction → (any : Bool) → StreamFault → (before after old new : Option (List ℕ)) → Type 0
 JoinLeaves t any faults.Write before after old new =
-    ReadsPieces before after (λ pieces. LeavesJoined t.direction any (joined t (packets_of pieces)) old new)
+    ReadsPieces before after
+    (λ pieces. LeavesJoined t.direction any (packets_joined t (packets_of pieces)) old new)
 JoinLeaves t any faults.Read before after old new = new ≡ old
 JoinLeaves t any faults.Memory before after old new = new ≡ old

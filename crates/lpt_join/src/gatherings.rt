@@ -3,7 +3,7 @@
 ghost use Rattle.std.specs.Prelude.{◌≡◌, ◌≤◌, ◌<◌, ◌+◌, ◌⊎◌, ℕ, List, [], ◌∷◌, ◌++◌, length, true, false, Some, None, IfOk, IfSome, OnOk, IfNone};
 ghost use Rattle.lpt_packet.specs.Names.{Name, same_name};
 ghost use Rattle.lpt_part.specs.Parts.{piece};
-ghost use Rattle.lpt_events.specs.NamedParts.{named};
+ghost use Rattle.lpt_events.specs.NamedParts.{part_named};
 ghost use Rattle.lpt_join.specs.declared.gathering.Gathering.{Gathering};
 ghost use Rattle.lpt_join.specs.declared.transaction.Transaction.{Transaction};
 
@@ -59,7 +59,7 @@ impl Gatherings {
         requires size { part.now.p ≡ transaction.now.part_size }
         ensures { (pieces : List Piece) (octets : List ℕ) → GivesEach transaction.now pieces self
             → place ≡ up_to_limit (octets_in pieces)
-            → Some (named name.source (piece part.now)) ≡ piece_in transaction.now octets
+            → Some (part_named name.source (piece part.now)) ≡ piece_in transaction.now octets
             → IfOk result (GivesEach transaction.now
             (pieces ++ record { kind = Whole; octets = octets } ∷ [])) }
     {

@@ -7,7 +7,7 @@ ghost use Rattle.lpt_reception.specs.Steps.{Answers};
 ghost use Rattle.lpt_reception.specs.Received.{Received, Kept, contradicts};
 ghost use Rattle.lpt_join.specs.declared.transaction.Transaction.{Transaction};
 ghost use Rattle.lpt_join.specs.Contradictions.{is_against};
-ghost use Rattle.lpt_join.specs.Joins.{added, join_part};
+ghost use Rattle.lpt_join.specs.Joins.{part_added, join_part};
 ghost use Rattle.lpt_join.specs.Offers.{part_of_piece};
 ghost use Rattle.lpt_join.specs.Gatherings.{state, IsJoiningOf};
 
@@ -84,7 +84,7 @@ impl Joining {
 // What a reception's answer makes of it, and whether the part contradicts those before it.
 fn after(step: Step) -> Result<(Joining, bool), AllocError>
     ensures state { (s : Received) (n : ℕ) (x : Kept) → Answers Any s n x step
-        → IfOk result (λ r. state r.0 ≡ added s.parts n x) }
+        → IfOk result (λ r. state r.0 ≡ part_added s.parts n x) }
     ensures against { (s : Received) (n : ℕ) (x : Kept) → Answers Any s n x step
         → IfOk result (λ r. r.1 ≡ contradicts s.parts n x) }
     ensures same { (s : Received) (n : ℕ) (x : Kept) (t : Transaction) → Answers Any s n x step

@@ -3,7 +3,7 @@
 ghost use Rattle.std.specs.Prelude.{◌≡◌, ◌≢◌, ◌<◌, ◌≤◌, ℕ, List, length, None, Some, is_some, true};
 ghost use Rattle.std.specs.FinMap as map;
 ghost use Rattle.lpt_packet.specs.Bursts.{DifferInBurst};
-ghost use Rattle.lpt_packet.specs.Packets.{Fields, IdlePacket, APacket, IsPacket, seen};
+ghost use Rattle.lpt_packet.specs.Packets.{Fields, IdlePacket, APacket, IsPacket, packet_seen};
 ghost use Rattle.lpt_part.specs.Splitting.{part_count};
 ghost use Rattle.lpt_events.specs.declared.config.Config.{Config};
 ghost use Rattle.lpt_events.specs.MadePackets.{part_made, nth_part};
@@ -16,9 +16,9 @@ ghost use Rattle.lpt_split.specs.Splits.{AreNumbers, split_of};
 ghost use Rattle.lpt_join.specs.declared.transaction.Transaction.{Transaction};
 ghost use Rattle.lpt_join.specs.PartNumbersInside.{IsHighest};
 ghost use Rattle.lpt_join.specs.Contradictions.{first_against};
-ghost use Rattle.lpt_join.specs.Joins.{Missing, Complete, joined};
-ghost use Rattle.lpt_join.specs.Laws.{AllBelong, AllCame, came, ended, IsSending, AllMadeOrOther, EachIsAmong, IsThere, HasNumber};
-ghost use Rattle.lpt_join.specs.Offers.{offered, piece_in};
+ghost use Rattle.lpt_join.specs.Joins.{Missing, Complete, packets_joined};
+ghost use Rattle.lpt_join.specs.Laws.{AllBelong, AllCame, came, has_ended, IsSending, AllMadeOrOther, EachIsAmong, IsThere, HasNumber};
+ghost use Rattle.lpt_join.specs.Offers.{part_offered, piece_in};
 ghost use Rattle.lpt_events.specs.Counts.{AreCounts};
 
 use lpt_reception::laws::whole_is_split;
@@ -31,7 +31,7 @@ pub fn split_joins()
         → IsSending t c m → first ≤ 16383
         → AreNumbers (part_count (length m) t.part_size) numbers
         → ((n : ℕ) → 1 ≤ n → n ≤ part_count (length m) t.part_size → HasNumber n numbers)
-        → joined t (split_of c t.direction t.name m first numbers) ≡ Complete m }
+        → packets_joined t (split_of c t.direction t.name m first numbers) ≡ Complete m }
     ensures stream { (t : Transaction) (c : Config) (m : List ℕ) (first : ℕ) (numbers : List ℕ)
         → IsSending t c m → first ≤ 16383
         → AreNumbers (part_count (length m) t.part_size) numbers
@@ -45,7 +45,7 @@ pub fn split_joins()
 pub fn made_is_joined()
     ensures { (t : Transaction) (c : Config) (m : List ℕ) (packets : List (List ℕ))
         → IsSending t c m → AllMadeOrOther t c m packets → EachIsAmong t c m packets
-        → joined t packets ≡ Complete m }
+        → packets_joined t packets ≡ Complete m }
 {}
 
 /// Over packets each of which carries a part of the message, or no part of its transaction, in
@@ -54,9 +54,9 @@ pub fn made_is_joined()
 pub fn split_is_joined()
     ensures whole { (t : Transaction) (m : List ℕ) (packets : List (List ℕ))
         → IsMessage m t.part_size → AllBelong t m packets
-        → AllCame t m packets → joined t packets ≡ Complete m }
+        → AllCame t m packets → packets_joined t packets ≡ Complete m }
     ensures missing { (t : Transaction) (m : List ℕ) (packets : List (List ℕ)) (s : Parts)
-        → AllBelong t m packets → joined t packets ≡ Missing s
+        → AllBelong t m packets → packets_joined t packets ≡ Missing s
         → IsPartsOf m t.part_size s
         × ((n : ℕ) → is_some (map.get s n) ≡ came t n packets) }
 {}
@@ -70,7 +70,7 @@ pub fn contradictions_are_told()
         → IsMessage m t.part_size → AllBelong t m (packets_of pieces)
         → first_against t pieces ≡ None }
     ensures all { (t : Transaction) (m : List ℕ) (pieces : List Piece)
-        → joined t (packets_of pieces) ≡ Complete m → first_against t pieces ≡ None
+        → packets_joined t (packets_of pieces) ≡ Complete m → first_against t pieces ≡ None
         → AllBelong t m (packets_of pieces) }
 {
     whole_is_split();
@@ -81,7 +81,7 @@ pub fn contradictions_are_told()
 /// the parts that are missing has just those of the message that didn't come.
 pub fn last_part_is_highest()
     ensures { (t : Transaction) (m : List ℕ) (packets : List (List ℕ)) (last : ℕ)
-        → AllBelong t m packets → ended t packets ≡ true
+        → AllBelong t m packets → has_ended t packets ≡ true
         → IsHighest (λ n. came t n packets) last
         → last ≡ part_count (length m) t.part_size }
 {}
@@ -89,7 +89,7 @@ pub fn last_part_is_highest()
 /// What is joined is a message each part of which stands among the packets, whatever these are.
 pub fn joined_is_there()
     ensures { (t : Transaction) (packets : List (List ℕ)) (m : List ℕ)
-        → joined t packets ≡ Complete m
+        → packets_joined t packets ≡ Complete m
         → IsMessage m t.part_size
         × ((n : ℕ) → 1 ≤ n → n ≤ part_count (length m) t.part_size
         → IsThere t n (kept_of m t.part_size n) packets) }
@@ -102,7 +102,7 @@ pub fn made_is_carried()
     ensures { (t : Transaction) (c : Config) (m : List ℕ) (n count counter time : ℕ)
         → IsSending t c m → AreCounts count counter time
         → 1 ≤ n → n ≤ part_count (length m) t.part_size
-        → offered t (part_made c t.direction t.name.source count counter time
+        → part_offered t (part_made c t.direction t.name.source count counter time
         (nth_part t.part_size t.name.id m n))
         ≡ Some (n, kept_of m t.part_size n) }
 {}
@@ -110,17 +110,19 @@ pub fn made_is_carried()
 /// Octets that are no packet carry no part of any transaction, nor do those of an idle packet, of a
 /// packet of another APID, or of one that carries a part of another transaction, or none.
 pub fn others_carry_none()
-    ensures unread { (t : Transaction) (b : List ℕ) → seen b ≡ None → offered t b ≡ None }
-    ensures idle { (t : Transaction) (b : List ℕ) → seen b ≡ Some IdlePacket → offered t b ≡ None }
+    ensures unread { (t : Transaction) (b : List ℕ) → packet_seen b ≡ None → part_offered t b
+        ≡ None }
+    ensures idle { (t : Transaction) (b : List ℕ) → packet_seen b ≡ Some IdlePacket
+        → part_offered t b ≡ None }
     ensures foreign { (t : Transaction) (b : List ℕ) (f : Fields)
-        → seen b ≡ Some (APacket f) → f.apid ≢ t.apid → offered t b ≡ None }
+        → packet_seen b ≡ Some (APacket f) → f.apid ≢ t.apid → part_offered t b ≡ None }
     ensures other { (t : Transaction) (b : List ℕ) (q : NamedPart)
-        → piece_in t b ≡ Some q → q.name ≢ t.name → offered t b ≡ None }
-    ensures none { (t : Transaction) (b : List ℕ) → piece_in t b ≡ None → offered t b ≡ None }
+        → piece_in t b ≡ Some q → q.name ≢ t.name → part_offered t b ≡ None }
+    ensures none { (t : Transaction) (b : List ℕ) → piece_in t b ≡ None → part_offered t b ≡ None }
 {}
 
 /// A packet that a burst of 1 to 16 changed bits has changed carries no part of any transaction.
 pub fn damage_is_left_out()
     ensures { (t : Transaction) (x y : List ℕ) (f : Fields)
-        → DifferInBurst x y → IsPacket x f → offered t y ≡ None }
+        → DifferInBurst x y → IsPacket x f → part_offered t y ≡ None }
 {}

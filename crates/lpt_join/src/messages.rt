@@ -3,7 +3,7 @@
 ghost use Rattle.std.specs.Prelude.{◌≡◌, ◌↔◌, IsOk};
 ghost use Rattle.lpt_part.specs.Parts.{piece, same_kind};
 ghost use Rattle.lpt_reception.specs.Received.{same_kept};
-ghost use Rattle.lpt_reception.specs.Steps.{kept};
+ghost use Rattle.lpt_reception.specs.Steps.{part_kept};
 ghost use Rattle.lpt_join.specs.Messages.{is_part_of, kind_misfit, misfit, Finding, IsFit};
 ghost use Rattle.lpt_join.specs.Offers.{part_of_piece};
 
@@ -64,7 +64,7 @@ pub fn is_part_of(message: &[u8], part: &Part<'_>) -> bool
 
 // Whether two parts of one number are the same.
 fn same_kept(a: &Part<'_>, b: &Part<'_>) -> bool
-    ensures { result ≡ same_kept (kept a.now) (kept b.now) }
+    ensures { result ≡ same_kept (part_kept a.now) (part_kept b.now) }
 {
     same_kind(a.kind, b.kind) && a.octets == b.octets
 }

@@ -7,13 +7,13 @@ ghost use Rattle.lpt_packet.specs.declared.fault.PacketFault.TheVariants.{Checks
 ghost use Rattle.lpt_part.specs.Parts.{piece};
 ghost use Rattle.lpt_part.specs.Splitting.{IsPartSize};
 ghost use Rattle.lpt_events.specs.Arrivals.{packet_arrival};
-ghost use Rattle.lpt_events.specs.NamedParts.{named};
+ghost use Rattle.lpt_events.specs.NamedParts.{part_named};
 ghost use Rattle.lpt_events.specs.declared.side.Side.TheVariants.{Ground, Craft};
 ghost use Rattle.lpt_stream.specs.Pieces.{IsSealed};
 ghost use Rattle.lpt_skips.specs.declared.why.Why.TheVariants.{Taken};
 ghost use Rattle.lpt_skips.specs.Skipping.{why_of};
 ghost use Rattle.lpt_join.specs.Contradictions.{offered_in};
-ghost use Rattle.lpt_join.specs.Offers.{named_in, offered, part_of_piece, piece_in, piece_of};
+ghost use Rattle.lpt_join.specs.Offers.{named_in, part_offered, part_of_piece, piece_in, piece_of};
 ghost use Rattle.lpt_join.specs.Several.{reading_of};
 
 use crate::Transaction;
@@ -58,7 +58,7 @@ pub fn named_part_in<'a>(
     transaction: &Transaction,
 ) -> Option<(Name, Part<'a>)>
     requires { IsSealed kind octets.now }
-    ensures part { option_map (λ x. named x.0.source (piece x.1)) result
+    ensures part { option_map (λ x. part_named x.0.source (piece x.1)) result
         ≡ named_in transaction.now kind octets.now }
     ensures id { IfSome result (λ x. x.1.id ≡ x.0.id) }
     ensures size { IfSome result (λ x. x.1.p ≡ transaction.now.part_size) }
@@ -80,11 +80,11 @@ pub fn named_part_in<'a>(
 }
 
 // The part of this transaction that the octets of a whole piece carry, where they do.
-#[tactic(auto, unfolding(crate::specs::Offers::offered))]
+#[tactic(auto, unfolding(crate::specs::Offers::part_offered))]
 fn part_in<'a>(octets: &'a [u8], transaction: &Transaction) -> Option<Part<'a>>
     requires { verdict octets.now ≢ Err Checksum }
     ensures part { option_map (λ x. part_of_piece (piece x)) result
-        ≡ offered transaction.now octets.now }
+        ≡ part_offered transaction.now octets.now }
     ensures id { IfSome result (λ x. x.id ≡ transaction.now.name.id) }
     ensures size { IfSome result (λ x. x.p ≡ transaction.now.part_size) }
 {
@@ -100,7 +100,7 @@ fn part_in<'a>(octets: &'a [u8], transaction: &Transaction) -> Option<Part<'a>>
 // The part of any transaction of this direction that they carry, where they do, behind its source.
 fn any_part_in<'a>(octets: &'a [u8], transaction: &Transaction) -> Option<(u16, Part<'a>)>
     requires { verdict octets.now ≢ Err Checksum }
-    ensures part { option_map (λ x. named x.0 (piece x.1)) result
+    ensures part { option_map (λ x. part_named x.0 (piece x.1)) result
         ≡ piece_in transaction.now octets.now }
     ensures size { IfSome result (λ x. x.1.p ≡ transaction.now.part_size) }
 {
@@ -123,7 +123,7 @@ fn any_part_in<'a>(octets: &'a [u8], transaction: &Transaction) -> Option<(u16, 
 // The part that a telecommand carries, behind where that comes from.
 fn part_in_uplink<'a>(packet: &Packet<'a>, p: u32) -> Option<(u16, Part<'a>)>
     requires { IsPartSize p }
-    ensures part { (b : List ℕ) → option_map (λ x. named x.0 (piece x.1)) result
+    ensures part { (b : List ℕ) → option_map (λ x. part_named x.0 (piece x.1)) result
         ≡ piece_of (packet_arrival Craft p b (fields packet.now)) }
     ensures size { IfSome result (λ x. x.1.p ≡ p) }
 {
@@ -142,7 +142,7 @@ fn part_in_uplink<'a>(packet: &Packet<'a>, p: u32) -> Option<(u16, Part<'a>)>
 // The part that telemetry carries, behind where that goes.
 fn part_in_downlink<'a>(packet: &Packet<'a>, p: u32) -> Option<(u16, Part<'a>)>
     requires { IsPartSize p }
-    ensures part { (b : List ℕ) → option_map (λ x. named x.0 (piece x.1)) result
+    ensures part { (b : List ℕ) → option_map (λ x. part_named x.0 (piece x.1)) result
         ≡ piece_of (packet_arrival Ground p b (fields packet.now)) }
     ensures size { IfSome result (λ x. x.1.p ≡ p) }
 {

@@ -14,7 +14,7 @@ use Rattle.lpt_journal.specs.Journal.{Recorded, History}
 use Rattle.lpt_journal.specs.Receivers.{is_closed}
 use Rattle.lpt_journal.specs.Releases.{released_by, releases}
 use Rattle.lpt_events.specs.Configs.{IsConfig}
-use Rattle.lpt_journal.specs.Replies.{entry, recorded}
+use Rattle.lpt_journal.specs.Replies.{entry, history_after}
 use Rattle.lpt_journal.specs.Legal.{Legal}
 use Rattle.lpt_journal.specs.Senders.{current}
 use Rattle.lpt_journal.proofs.ClosedLemmas.{unheard_step}
@@ -157,10 +157,10 @@ aborted_start c = record {
 pub every_aborted : (c : Config) (first : Contents) (es : List Act)
     → IsConfig c
     → Legal c first es
-    → AreAborted c (recorded c first es) × NothingIsKept c (recorded c first es)
+    → AreAborted c (history_after c first es) × NothingIsKept c (history_after c first es)
 every_aborted c first [] good legal = (aborted_start c, λ d name e. absurd cc)
 every_aborted c first (ev ∷ es) good legal =
-    let h = recorded c first es in
+    let h = history_after c first es in
     let had = every c first es good legal.0 in
     let gone = every_aborted c first es good legal.0 in (
       aborted_step c h (entry c first h ev) (owes c first h ev good had.0 had.2 legal.1) had.0
@@ -184,7 +184,7 @@ unheard_again c h sound past none k r o u d name e is now same =
 -- is never heard again; of an ended reception nothing is kept
 pub abortion_is_final : AbortionIsFinal
 abortion_is_final c first es good legal =
-    let h = recorded c first es in
+    let h = history_after c first es in
     let sound = every c first es good legal in
     let all = every_aborted c first es good legal in
     record {

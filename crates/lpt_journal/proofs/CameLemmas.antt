@@ -21,11 +21,11 @@ use Rattle.lpt_events.specs.declared.entry.Opening.{Opening}
 use Rattle.lpt_acts.specs.Acts.{Act, Deliver, Expire, Retire, Restart}
 use Rattle.lpt_events.specs.declared.reply.Answer.TheVariants.{Delivered}
 use Rattle.lpt_events.proofs.LaneLemmas.{same_direction-true}
-use Rattle.lpt_journal.specs.Delivery.{judged, outcome}
+use Rattle.lpt_journal.specs.Delivery.{arrival_judged, outcome}
 use Rattle.lpt_journal.specs.Hands.{in_hand}
 use Rattle.lpt_journal.specs.Journal.{History}
-use Rattle.lpt_journal.specs.Receivers.{kept, with_piece, ends, heard_now, heard, has_parts, reception_count, is_closed, limits}
-use Rattle.lpt_journal.specs.Replies.{answer, opens, entry, recorded}
+use Rattle.lpt_journal.specs.Receivers.{as_kept, with_piece, ends, heard_now, heard, has_parts, reception_count, is_closed, limits}
+use Rattle.lpt_journal.specs.Replies.{answer, opens, entry, history_after}
 use Rattle.lpt_journal.specs.Senders.{is_opening_of, retires, current}
 use Rattle.lpt_journal.specs.Whole.{brings, came_after, came}
 use Rattle.lpt_journal.proofs.OutcomeLemmas.{chosen}
@@ -39,7 +39,7 @@ kept_still : (s : Parts) (q : NamedPart) (k : ℕ)
     → is_some (map.get s k) ≡ true
     → is_some (map.get (with_piece s q) k) ≡ true
 kept_still s q k had = ap is_some (get-with_piece s q k) ∙ go (k == q.number) where
-  go : (b : Bool) → is_some (if b then Some (kept q) else map.get s k) ≡ true
+  go : (b : Bool) → is_some (if b then Some (as_kept q) else map.get s k) ≡ true
   go true = refl
   go false = had
 
@@ -47,7 +47,7 @@ kept_still s q k had = ap is_some (get-with_piece s q k) ∙ go (k == q.number) 
 kept_now : (s : Parts) (q : NamedPart) → is_some (map.get (with_piece s q) q.number) ≡ true
 kept_now s q =
     ap is_some (get-with_piece s q q.number)
-    ∙ ap (λ b. is_some (if b then Some (kept q) else map.get s q.number))
+    ∙ ap (λ b. is_some (if b then Some (as_kept q) else map.get s q.number))
     (eq_true q.number q.number refl)
 
 -- ---- a delivery
@@ -124,9 +124,10 @@ abbrev Keeps : Config → History → (w : Direction) → Arrival → Direction 
 Keeps c h w a d name k =
     (is_closed h d name ≡ false → came c h d name k ≡ true → is_some (map.get (heard c h d name) k)
     ≡ true)
-    → (ends (Delivered (judged c h w a)) name || is_closed h d name) ≡ false
-    → (brings a (Delivered (judged c h w a)) name k || came c h d name k) ≡ true
-    → is_some (map.get (heard_now (Delivered (judged c h w a)) a name (heard c h d name)) k) ≡ true
+    → (ends (Delivered (arrival_judged c h w a)) name || is_closed h d name) ≡ false
+    → (brings a (Delivered (arrival_judged c h w a)) name k || came c h d name k) ≡ true
+    → is_some (map.get (heard_now (Delivered (arrival_judged c h w a)) a name (heard c h d name)) k)
+    ≡ true
 
 judged_kept : (c : Config) (h : History) (d : Direction) (a : Arrival) (name : Name) (k : ℕ)
     → Keeps c h d a d name k
@@ -135,19 +136,21 @@ judged_kept c h d (APart q) name k had live t =
     let closed = is_closed h d q.name in
     let full = not (has_parts s)
     && nat_le (limits c h (receiver_side d)).receptions (reception_count c h d) in
-    let clash = contradicts s q.number (kept q) in
+    let clash = contradicts s q.number (as_kept q) in
     let again = is_some (map.get s q.number) in
     let gap = is_gap c.mode s q.number in
     let whole = is_whole (with_piece s q) in
     let len = length (spelled (with_piece s q)) in
     let still : is_closed h d name ≡ false =
-    or_false_right (ends (Delivered (judged c h d (APart q))) name) (is_closed h d name) live in
+    or_false_right (ends (Delivered (arrival_judged c h d (APart q))) name) (is_closed h d name)
+    live in
     chosen_kept closed full clash again gap whole q len name (heard c h d name) k
     (came c h d name k) (had still)
     (λ same. ap (is_closed h d) (same_name-true q.name name same) ∙ still)
     (λ same. ap (λ i. is_some (map.get (heard c h d i) q.number))
     (sym (same_name-true q.name name same)))
-    (or_false_left (ends (Delivered (judged c h d (APart q))) name) (is_closed h d name) live) t
+    (or_false_left (ends (Delivered (arrival_judged c h d (APart q))) name) (is_closed h d name)
+    live) t
 judged_kept c h d a name k had live t = had live t
 
 -- ---- what came is kept
@@ -218,10 +221,10 @@ came_step c first h e had d name o now live k t =
           event_kept c first h e d name k stays (λ live t. had d name o now live k t) live t
 
 pub came_kept : (c : Config) (first : Contents) (es : List Act)
-    → CameIsKept c (recorded c first es)
+    → CameIsKept c (history_after c first es)
 came_kept c first [] d name o now live k t = absurd cc
 came_kept c first (e ∷ es) d name o now live k t =
-    came_step c first (recorded c first es) e (came_kept c first es) d name o now live k t
+    came_step c first (history_after c first es) e (came_kept c first es) d name o now live k t
 
 -- ---- what is kept isn't whole
 
@@ -264,7 +267,7 @@ chosen_unwhole false false false false false false q len name s had all =
 abbrev LeavesUnwhole : Config → History → (w : Direction) → Arrival → Direction → Name → Type 0
 LeavesUnwhole c h w a d name =
     is_whole (heard c h d name) ≡ false
-    → is_whole (heard_now (Delivered (judged c h w a)) a name (heard c h d name)) ≡ false
+    → is_whole (heard_now (Delivered (arrival_judged c h w a)) a name (heard c h d name)) ≡ false
 
 judged_unwhole : (c : Config) (h : History) (d : Direction) (a : Arrival) (name : Name)
     → LeavesUnwhole c h d a d name
@@ -272,7 +275,7 @@ judged_unwhole c h d (APart q) name had =
     let s = heard c h d q.name in
     chosen_unwhole (is_closed h d q.name)
     (not (has_parts s) && nat_le (limits c h (receiver_side d)).receptions (reception_count c h d))
-    (contradicts s q.number (kept q)) (is_some (map.get s q.number)) (is_gap c.mode s q.number)
+    (contradicts s q.number (as_kept q)) (is_some (map.get s q.number)) (is_gap c.mode s q.number)
     (is_whole (with_piece s q)) q (length (spelled (with_piece s q))) name (heard c h d name) had
     (λ same. ap (λ i. is_whole (with_piece (heard c h d i) q))
     (sym (same_name-true q.name name same)))
@@ -304,7 +307,7 @@ event_unwhole c first h e d name had = had
 
 -- what is kept of a transaction is never all of its parts
 pub never_whole : (c : Config) (first : Contents) (es : List Act) (d : Direction) (name : Name)
-    → is_whole (heard c (recorded c first es) d name) ≡ false
+    → is_whole (heard c (history_after c first es) d name) ≡ false
 never_whole c first [] d name = nothing_whole
 never_whole c first (e ∷ es) d name =
-    event_unwhole c first (recorded c first es) e d name (never_whole c first es d name)
+    event_unwhole c first (history_after c first es) e d name (never_whole c first es d name)

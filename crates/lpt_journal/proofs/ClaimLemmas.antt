@@ -15,7 +15,7 @@ use Rattle.lpt_events.specs.declared.worker.Worker.{Worker}
 use Rattle.lpt_events.specs.declared.worker.Worker.TheVariants.{W1, W2}
 use Rattle.lpt_packet.proofs.Readings.{eq_true}
 use Rattle.lpt_journal.specs.Journal.{History}
-use Rattle.lpt_journal.specs.Jobs.{boot, jobs, claimed, job_given, ticket, is_committed}
+use Rattle.lpt_journal.specs.Jobs.{boot, jobs, jobs_claimed, job_given, ticket, is_committed}
 use Rattle.lpt_journal.specs.Refusals.{refusal}
 use Rattle.lpt_journal.specs.Replies.{entry}
 use Rattle.lpt_journal.specs.Work.{restarted_since}
@@ -37,33 +37,35 @@ third_same W2 W2 W2 e f g = cc
 
 not_committed : (c : Config) (h : History)
     → JobsAreSound c h
-    → is_committed h (claimed h) ≡ false
-not_committed c h sound = go (is_committed h (claimed h)) refl where
-  go : (b : Bool) → is_committed h (claimed h) ≡ b → b ≡ false
-  go true e = absurd (omega (arith, sound.committed (claimed h) e))
+    → is_committed h (jobs_claimed h) ≡ false
+not_committed c h sound = go (is_committed h (jobs_claimed h)) refl where
+  go : (b : Bool) → is_committed h (jobs_claimed h) ≡ b → b ≡ false
+  go true e = absurd (omega (arith, sound.committed (jobs_claimed h) e))
   go false e = refl
 
 -- the job that is given to a worker is the oldest that wasn't claimed, and of this boot
 record IsGiven (c : Config) (h : History) (t : Job) : Type 0 where
   boot_now : t.boot ≡ boot h Craft
-  is_next : t.job ≡ claimed h
-  message : slice_get (messages c h) (claimed h) ≡ Some t.message
+  is_next : t.job ≡ jobs_claimed h
+  message : slice_get (messages c h) (jobs_claimed h) ≡ Some t.message
 
 given : (c : Config) (h : History) (t : Job) → job_given c h ≡ Some t → IsGiven c h t
-given c h t e = go (slice_get (jobs c h) (claimed h)) refl e where
+given c h t e = go (slice_get (jobs c h) (jobs_claimed h)) refl e where
   go : (o : Option Release)
-      → slice_get (jobs c h) (claimed h) ≡ o
-      → option_map (λ r. record { boot = boot h Craft; job = claimed h; message = r.message }) o
+      → slice_get (jobs c h) (jobs_claimed h) ≡ o
+      → option_map (λ r. record { boot = boot h Craft; job = jobs_claimed h; message = r.message })
+      o
       ≡ Some t
       → IsGiven c h t
   go None is k = absurd cc
   go (Some r) is k =
-      let same : record { boot = boot h Craft; job = claimed h; message = r.message } ≡ t = cc in
+      let same : record { boot = boot h Craft; job = jobs_claimed h; message = r.message }
+      ≡ t = cc in
       record {
         boot_now = ap (λ (j : Job). j.boot) (sym same);
         is_next = ap (λ (j : Job). j.job) (sym same);
         message =
-            slice_get-map (λ (r : Release). r.message) (jobs c h) (claimed h)
+            slice_get-map (λ (r : Release). r.message) (jobs c h) (jobs_claimed h)
             ∙ ap (option_map (λ (r : Release). r.message)) is
             ∙ ap (λ (j : Job). Some j.message) same;
       }
@@ -75,8 +77,10 @@ pub claim_step : (c : Config) (first : Contents) (h : History) (w : Worker)
     → JobsAreSound c (entry c first h (Claim w) ∷ h)
 claim_step c first h w can sound =
     let t =
-    two_pass (is_some (ticket c h w)) (nat_le (length (jobs c h)) (claimed h)) HandFull NoJob can in
-    let more : claimed h < length (jobs c h) = le_false (length (jobs c h)) (claimed h) t.1 in
+    two_pass (is_some (ticket c h w)) (nat_le (length (jobs c h)) (jobs_claimed h)) HandFull NoJob
+    can in
+    let more : jobs_claimed h < length (jobs c h) =
+    le_false (length (jobs c h)) (jobs_claimed h) t.1 in
     record {
       applied_fits = omega (arith, sound.applied_fits);
       claimed_fits = omega (arith, more);

@@ -19,12 +19,12 @@ use Rattle.lpt_events.specs.Arrivals.{Arrival, APart}
 use Rattle.lpt_acts.specs.Acts.{Act, Deliver, Expire, Retire, Restart}
 use Rattle.lpt_events.specs.declared.reply.Answer.TheVariants.{Delivered}
 use Rattle.lpt_events.specs.declared.entry.Opening.{Opening}
-use Rattle.lpt_journal.specs.Delivery.{judged, outcome}
+use Rattle.lpt_journal.specs.Delivery.{arrival_judged, outcome}
 use Rattle.lpt_journal.specs.Abortions.{NothingIsKept}
 use Rattle.lpt_events.specs.Sides.{same_side, receiver_side}
 use Rattle.lpt_journal.specs.Journal.{History}
 use Rattle.lpt_journal.specs.Hands.{in_hand}
-use Rattle.lpt_journal.specs.Receivers.{kept, with_piece, with_arrival, ends, heard_now, heard, has_parts, reception_count, is_closed, limits}
+use Rattle.lpt_journal.specs.Receivers.{as_kept, with_piece, with_arrival, ends, heard_now, heard, has_parts, reception_count, is_closed, limits}
 use Rattle.lpt_journal.specs.Replies.{entry}
 use Rattle.lpt_journal.specs.Senders.{current}
 use Rattle.lpt_journal.proofs.CountLemmas.{none_open}
@@ -48,14 +48,14 @@ kept_open false false false false false true q len i k e = absurd cc
 kept_open false false false false false false q len i k e = (refl, cc)
 
 judged_open : (c : Config) (h : History) (d : Direction) (a : Arrival) (i : Name) (k : ℕ)
-    → judged c h d a ≡ Kept i k
+    → arrival_judged c h d a ≡ Kept i k
     → is_closed h d i ≡ false
 judged_open c h d (APart q) i k e =
     let s = heard c h d q.name in
     let it =
     kept_open (is_closed h d q.name)
     (not (has_parts s) && nat_le (limits c h (receiver_side d)).receptions (reception_count c h d))
-    (contradicts s q.number (kept q)) (is_some (map.get s q.number)) (is_gap c.mode s q.number)
+    (contradicts s q.number (as_kept q)) (is_some (map.get s q.number)) (is_gap c.mode s q.number)
     (is_whole (with_piece s q)) q
     (length (spelled (with_piece s q))) i k e in
     ap (is_closed h d) (sym it.1) ∙ it.0

@@ -1,7 +1,7 @@
 -- What a damaged packet owes, and that it pays it.
 use Rattle.std.proofs.Common.{◌≡◌, ap, subst, refl, ℕ, false, List, ◌∷◌, None}
 use Rattle.lpt_packet.specs.declared.direction.Direction.{Direction}
-use Rattle.lpt_packet.specs.Packets.{seen}
+use Rattle.lpt_packet.specs.Packets.{packet_seen}
 use Rattle.lpt_events.specs.declared.config.Config.{Config}
 use Rattle.lpt_events.specs.Arrivals.{NotRead, part_name, sight_arrival, arrival, arrival_in}
 use Rattle.lpt_events.specs.Damages.{is_damage_long, looks_whole}
@@ -24,7 +24,7 @@ pub unread : (c : Config) (d : Direction) (b : List ℕ)
     → arrival_in c d b ≡ NotRead
 unfolding arrival
 unread c d b e =
-    ap (sight_arrival (receiver_side d) c.apid c.part_size b) (none_is (seen b) e)
+    ap (sight_arrival (receiver_side d) c.apid c.part_size b) (none_is (packet_seen b) e)
 
 -- damage is calm, and puts what isn't read
 pub damage_owes : (c : Config) (first : Contents) (h : History) (d : Direction) (b : List ℕ)

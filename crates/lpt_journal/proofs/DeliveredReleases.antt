@@ -21,7 +21,7 @@ use Rattle.lpt_events.specs.declared.entry.Release.{Release}
 use Rattle.lpt_journal.specs.Journal.{History}
 use Rattle.lpt_journal.specs.Hands.{hand, in_hand}
 use Rattle.lpt_journal.specs.Senders.{current}
-use Rattle.lpt_journal.specs.Receivers.{kept, with_piece, heard, ends, is_closed}
+use Rattle.lpt_journal.specs.Receivers.{as_kept, with_piece, heard, ends, is_closed}
 use Rattle.lpt_journal.specs.Delivery.{outcome}
 use Rattle.lpt_journal.specs.Releases.{released_now}
 use Rattle.lpt_events.specs.Configs.{IsConfig}
@@ -54,7 +54,8 @@ spells c h l n q good sound e is all =
     IsPartsOf-with_part p.opening.message c.part_size s q.number
     (heard_parts c h (lane_direction l) q.name p.opening sound p.is_current) p.from_one
     p.to_last in
-    let same : kept_of p.opening.message c.part_size q.number ≡ kept q = ap kept (sym p.is_part) in
+    let same : kept_of p.opening.message c.part_size q.number ≡ as_kept q =
+    ap as_kept (sym p.is_part) in
     let now : IsPartsOf p.opening.message c.part_size (with_piece s q) =
     subst (λ y. IsPartsOf p.opening.message c.part_size (with_part s q.number y)) same parts in (
       p.opening,

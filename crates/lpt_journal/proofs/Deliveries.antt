@@ -30,8 +30,8 @@ use Rattle.lpt_journal.specs.Journal.{SentPacket, History}
 use Rattle.lpt_journal.specs.Link.{is_damaged}
 use Rattle.lpt_journal.specs.Hands.{hand, in_hand}
 use Rattle.lpt_journal.specs.Senders.{current}
-use Rattle.lpt_journal.specs.Receivers.{kept, with_arrival, heard_now, heard}
-use Rattle.lpt_journal.specs.Delivery.{judged, outcome}
+use Rattle.lpt_journal.specs.Receivers.{as_kept, with_arrival, heard_now, heard}
+use Rattle.lpt_journal.specs.Delivery.{arrival_judged, outcome}
 use Rattle.lpt_journal.specs.Replies.{outcome_puts, entry}
 use Rattle.lpt_journal.specs.Headline.{IsPartOfCurrent, kept_piece, IsSoundOutcome}
 use Rattle.lpt_events.proofs.LaneLemmas.{same_direction-true}
@@ -57,7 +57,7 @@ heard_parts c h d name o sound e n x had = go (sound.heard d name n x had) where
         some = p.from_one;
         within =
             subst (λ (u : Opening). n ≤ part_count (length u.message) c.part_size) same p.to_last;
-        is = ap kept p.is_part ∙ ap (λ (u : Opening). kept_of u.message c.part_size n) same;
+        is = ap as_kept p.is_part ∙ ap (λ (u : Opening). kept_of u.message c.part_size n) same;
       }
 
 -- a part in a lane's hand contradicts nothing that was heard
@@ -65,11 +65,11 @@ pub agrees : (c : Config) (h : History) (l : Lane) (n : ℕ) (q : NamedPart)
     → IsSound c h
     → hand h l ≡ Some n
     → in_hand c h l ≡ APart q
-    → contradicts (heard c h (lane_direction l) q.name) q.number (kept q) ≡ false
+    → contradicts (heard c h (lane_direction l) q.name) q.number (as_kept q) ≡ false
 agrees c h l n q sound e is =
     let p = hand_current c h l n q sound e is in
     let s = heard c h (lane_direction l) q.name in
-    ap (contradicts s q.number) (ap kept p.is_part)
+    ap (contradicts s q.number) (ap as_kept p.is_part)
     ∙ parts_agree p.opening.message c.part_size s q.number
     (heard_parts c h (lane_direction l) q.name p.opening sound p.is_current) p.from_one p.to_last
 
@@ -135,7 +135,7 @@ delivery_sound c h l n sound e =
       only_gaps = λ name reason is.
           let t = subst (λ o. TellsOf c h d a o) is tells in
           gap_alone c.mode (heard c h d t.0.name) t.0.number
-          (contradicts (heard c h d t.0.name) t.0.number (kept t.0)) reason
+          (contradicts (heard c h d t.0.name) t.0.number (as_kept t.0)) reason
           (agrees c h l n t.0 sound e t.1) t.2.why;
       not_bad_part = λ is. subst (λ b. IsNoStranger b) (subst (λ o. TellsOf c h d a o) is tells) known;
       not_idle = λ is. subst (λ b. IsNoStranger b) (subst (λ o. TellsOf c h d a o) is tells) known;
@@ -143,7 +143,7 @@ delivery_sound c h l n sound e =
       unreadable = (
         λ is. unread_damaged damaged
             (subst (λ b. IsAsPut damaged b) (subst (λ o. TellsOf c h d a o) is tells) put),
-        λ e. ap (judged c h d) (damaged_unread damaged a put e),
+        λ e. ap (arrival_judged c h d) (damaged_unread damaged a put e),
       );
     }
 

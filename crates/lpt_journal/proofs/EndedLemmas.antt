@@ -30,7 +30,7 @@ use Rattle.lpt_journal.specs.Journal.{Recorded, History}
 use Rattle.lpt_journal.specs.Legal.{Legal}
 use Rattle.lpt_journal.specs.Receivers.{with_piece, ends, heard, is_closed}
 use Rattle.lpt_journal.specs.Releases.{released_now, released_by, releases}
-use Rattle.lpt_journal.specs.Replies.{expired_now, entry, recorded}
+use Rattle.lpt_journal.specs.Replies.{expired_now, entry, history_after}
 use Rattle.lpt_journal.specs.Senders.{retires, current}
 use Rattle.lpt_journal.specs.Whole.{WasReleased, WasAborted}
 use Rattle.lpt_journal.proofs.AbortionLemmas.{AreAborted, every_aborted}
@@ -306,13 +306,13 @@ module _ (c : Config) (first : Contents) (h : History) (ev : Act)
 pub every_ended : (c : Config) (first : Contents) (es : List Act)
     → IsConfig c
     → Legal c first es
-    → AreEnded c (recorded c first es)
+    → AreEnded c (history_after c first es)
 every_ended c first [] good legal = record {
   free = λ d name e. refl;
   ended = λ d name o e shut. absurd cc;
 }
 every_ended c first (ev ∷ es) good legal =
-    let h = recorded c first es in
+    let h = history_after c first es in
     let had = every c first es good legal.0 in
     let gone = every_aborted c first es good legal.0 in
     ended_step c first h ev (owes c first h ev good had.0 had.2 legal.1)

@@ -21,11 +21,11 @@ use Rattle.lpt_journal.specs.Delivery.{outcome}
 use Rattle.lpt_journal.specs.Journal.{Recorded, History}
 use Rattle.lpt_journal.specs.Link.{is_damaged}
 use Rattle.lpt_journal.specs.Hands.{hand, arrival_at, in_hand}
-use Rattle.lpt_journal.specs.Jobs.{boot, applied, ticket, memories}
+use Rattle.lpt_journal.specs.Jobs.{boot, jobs_applied, ticket, memories}
 use Rattle.lpt_journal.specs.Releases.{released_by}
 use Rattle.lpt_events.specs.Configs.{IsConfig}
 use Rattle.lpt_journal.specs.Due.{given_up}
-use Rattle.lpt_journal.specs.Replies.{answer, expired_now, entry, recorded}
+use Rattle.lpt_journal.specs.Replies.{answer, expired_now, entry, history_after}
 use Rattle.lpt_journal.specs.Refusals.{refusal}
 use Rattle.lpt_journal.specs.Legal.{IsEnabled, Legal}
 use Rattle.lpt_journal.proofs.JobLemmas.{memories_follow}
@@ -93,7 +93,7 @@ owes c first h (Deliver l) good sound up can =
 owes c first h Apply good sound up can =
     apply_owes c first h good sound
     (λ r e.
-    let octets = up.requests (applied h) r e in
+    let octets = up.requests (jobs_applied h) r e in
     (answer_fits c.apid (memories c first h) r.message octets, source_fits c.apid r.message octets))
 owes c first h (Retire d name) good sound up can = retire_owes c first h d name sound can.accepted
 owes c first h (Restart side) good sound up can = restart_owes c first h side sound
@@ -144,12 +144,12 @@ past_start c = record {
 pub every : (c : Config) (first : Contents) (es : List Act)
     → IsConfig c
     → Legal c first es
-    → IsSound c (recorded c first es) × ArePast c (recorded c first es)
-    × AreUpOctets c (recorded c first es) × AreAsked c (recorded c first es)
+    → IsSound c (history_after c first es) × ArePast c (history_after c first es)
+    × AreUpOctets c (history_after c first es) × AreAsked c (history_after c first es)
 every c first [] good legal =
     (sound_start c good, past_start c, up_octets_start c, asked_start c)
 every c first (e ∷ es) good legal =
-    let h = recorded c first es in
+    let h = history_after c first es in
     let had = every c first es good legal.0 in
     let pays = owes c first h e good had.0 had.2 legal.1 in
     let frees = owes_releases c first h e good had.0 legal.1 in (
@@ -230,10 +230,10 @@ delivered_sound c first h e o sound can is = absurd cc
 each_delivered : (c : Config) (first : Contents) (es : List Act)
     → IsConfig c
     → Legal c first es
-    → DeliveriesWereSound c.mode (recorded c first es)
+    → DeliveriesWereSound c.mode (history_after c first es)
 each_delivered c first [] good legal k x o f is = absurd (no_place k x f)
 each_delivered c first (e ∷ es) good legal zero x o f is =
-    let h = recorded c first es in
+    let h = history_after c first es in
     let same : entry c first h e ≡ x = cc in
     subst (λ (y : Recorded). WasSoundDelivery c.mode h y.event o) same
     (delivered_sound c first h e o (every c first es good legal.0).0 legal.1.accepted
@@ -244,7 +244,7 @@ each_delivered c first (e ∷ es) good legal (suc k) x o f is =
 -- the main theorem
 pub headline : Headline
 headline c first es good legal =
-    let h = recorded c first es in
+    let h = history_after c first es in
     let all = every c first es good legal in
     let last = each_last c h all.1 in
     let memories = memories_follow c first h in

@@ -11,7 +11,7 @@ use Rattle.lpt_events.specs.declared.entry.Release.{Release}
 use Rattle.lpt_events.specs.declared.side.Side.TheVariants.{Craft}
 use Rattle.lpt_journal.specs.Headline.{EachWasReleased, MemoriesFollow}
 use Rattle.lpt_journal.specs.Journal.{Recorded, History, with_all}
-use Rattle.lpt_journal.specs.Jobs.{went_up, jobs, applied, applied_after, front_job, executed_by, executed}
+use Rattle.lpt_journal.specs.Jobs.{went_up, jobs, jobs_applied, applied_after, front_job, executed_by, executed}
 use Rattle.lpt_journal.specs.Releases.{released_by, releases}
 use Rattle.lpt_journal.specs.Senders.{restarts}
 use Rattle.lpt_journal.proofs.NewJobs.{came_up, new_job, job_cases, new_executed}
@@ -70,7 +70,7 @@ executed_released c (x ∷ h) k r e =
           → Contains (came_up (releases c h)) r
       go before (inl old) = before old
       go before (inr fresh) =
-          job_released c h (applied h) r
+          job_released c h (jobs_applied h) r
           (new_executed x.event (front_job c h) fresh.0 r fresh.2).2
 
 -- ---- in their order
@@ -93,7 +93,7 @@ pub record AreInOrder (c : Config) (h : History) : Type 0 where
   pub executed_rise : Rise (executed c h)
   pub waits : (j k : ℕ) (r s : Release)
       → slice_get (executed c h) j ≡ Some r → slice_get (jobs c h) k ≡ Some s
-      → applied h ≤ k
+      → jobs_applied h ≤ k
       → r.place < s.place
 
 applied_grows : (e : Act) (n : ℕ) → n ≤ applied_after e n
@@ -107,14 +107,14 @@ module _ (c : Config) (x : Recorded) (h : History) (had : AreInOrder c h) where
 
   -- what is executed now is the oldest job
   done_now : (k : ℕ) (r : Release) → slice_get (executed_by c x h) k ≡ Some r
-      → (k ≡ 0) × (x.event ≡ Apply) × (slice_get (jobs c h) (applied h) ≡ Some r)
+      → (k ≡ 0) × (x.event ≡ Apply) × (slice_get (jobs c h) (jobs_applied h) ≡ Some r)
   done_now k r e = new_executed x.event (front_job c h) k r e
 
   done_before : (k : ℕ) (r : Release)
       → IsOldOrNew (executed c h) (executed_by c x h) k r
       → r.place < length h
   done_before k r (inl old) = had.executed_past k r old
-  done_before k r (inr fresh) = had.jobs_past (applied h) r (done_now fresh.0 r fresh.2).2
+  done_before k r (inr fresh) = had.jobs_past (jobs_applied h) r (done_now fresh.0 r fresh.2).2
 
   jobs_past_step : (k : ℕ) (r : Release)
       → IsOldOrNew (jobs c h) (came_up (released_by c x h)) k r
@@ -142,7 +142,7 @@ module _ (c : Config) (x : Recorded) (h : History) (had : AreInOrder c h) where
       → r.place < s.place
   executed_rise_step j k r s (inl a) (inl b) less = had.executed_rise j k r s a b less
   executed_rise_step j k r s (inl a) (inr b) less =
-      had.waits j (applied h) r s a (done_now b.0 s b.2).2 (omega arith)
+      had.waits j (jobs_applied h) r s a (done_now b.0 s b.2).2 (omega arith)
   executed_rise_step j k r s (inr a) (inl b) less =
       absurd (omega (arith, a.1, slice_get_within (executed c h) k s b))
   executed_rise_step j k r s (inr a) (inr b) less =
@@ -151,21 +151,21 @@ module _ (c : Config) (x : Recorded) (h : History) (had : AreInOrder c h) where
   waits_step : (j k : ℕ) (r s : Release)
       → IsOldOrNew (executed c h) (executed_by c x h) j r
       → IsOldOrNew (jobs c h) (came_up (released_by c x h)) k s
-      → applied_after x.event (applied h) ≤ k
+      → applied_after x.event (jobs_applied h) ≤ k
       → r.place < s.place
   waits_step j k r s done (inr b) later =
       omega (arith, done_before j r done, (new_job c x h b.0 s b.2).1)
   waits_step j k r s (inl a) (inl b) later =
-      had.waits j k r s a b (omega (arith, later, applied_grows x.event (applied h)))
+      had.waits j k r s a b (omega (arith, later, applied_grows x.event (jobs_applied h)))
   waits_step j k r s (inr a) (inl b) later =
       let now = done_now a.0 r a.2 in
-      let one : applied_after x.event (applied h) ≡ applied h + 1 =
-      ap (λ e. applied_after e (applied h)) now.1 in
-      had.jobs_rise (applied h) k r s now.2 b (omega (arith, later, one))
+      let one : applied_after x.event (jobs_applied h) ≡ jobs_applied h + 1 =
+      ap (λ e. applied_after e (jobs_applied h)) now.1 in
+      had.jobs_rise (jobs_applied h) k r s now.2 b (omega (arith, later, one))
 
   applied_now : restarts x.event Craft ≡ false
-      → applied (x ∷ h) ≡ applied_after x.event (applied h)
-  applied_now on = ap (λ t. if t then 0 else applied_after x.event (applied h)) on
+      → jobs_applied (x ∷ h) ≡ applied_after x.event (jobs_applied h)
+  applied_now on = ap (λ t. if t then 0 else applied_after x.event (jobs_applied h)) on
 
   in_order_step : AreInOrder c (x ∷ h)
   in_order_step = record {

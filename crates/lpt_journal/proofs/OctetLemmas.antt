@@ -6,7 +6,7 @@ use Rattle.lpt_packet.specs.declared.direction.Direction.TheVariants.{Up, Down}
 use Rattle.lpt_packet.specs.Checksums.{checksum}
 use Rattle.lpt_packet.specs.Names.{named_by}
 use Rattle.lpt_packet.specs.Numbers.{be, IsOctets}
-use Rattle.lpt_packet.specs.Packets.{Fields, Sight, IdlePacket, APacket, packet_type, header, spelling, seen}
+use Rattle.lpt_packet.specs.Packets.{Fields, Sight, IdlePacket, APacket, packet_type, header, spelling, packet_seen}
 use Rattle.lpt_packet.proofs.OctetLists.{IsOctets-take, IsOctets-drop}
 use Rattle.lpt_pus.specs.Commands.{Command, packet_of, tc_field, tc_verdict}
 use Rattle.lpt_pus.specs.Telemetry.{Telemetry, tm_verdict}
@@ -15,7 +15,7 @@ use Rattle.lpt_part.specs.declared.kind.Kind.TheVariants.{First}
 use Rattle.lpt_part.specs.declared.reason.Reason.{Reason}
 use Rattle.lpt_part.specs.Aborts.{abort_in}
 use Rattle.lpt_part.specs.Parts.{Piece, part_in, body_of}
-use Rattle.lpt_events.specs.NamedParts.{named}
+use Rattle.lpt_events.specs.NamedParts.{part_named}
 use Rattle.lpt_events.specs.declared.config.Config.{Config}
 use Rattle.lpt_events.specs.declared.side.Side.{Side}
 use Rattle.lpt_events.specs.declared.side.Side.TheVariants.{Ground, Craft}
@@ -104,7 +104,8 @@ part_is_none : (p source : ℕ) (body : List ℕ) (kind : Kind) (r : List ℕ)
     → part_arrival p source body kind ≡ ARequest r
     → ⊥
 part_is_none p source body kind r = go (part_in p kind body) where
-  go : (o : Option Piece) → option_map_or (λ q. APart (named source q)) o NoPart ≡ ARequest r → ⊥
+  go : (o : Option Piece) → option_map_or (λ q. APart (part_named source q)) o NoPart ≡ ARequest r
+      → ⊥
   go None e = cc
   go (Some q) e = cc
 
@@ -161,7 +162,7 @@ pub request_is : (side : Side) (apid p : ℕ) (b r : List ℕ)
     → arrival side apid p b ≡ ARequest r
     → (side ≡ Craft) × (b ≡ r)
 unfolding arrival
-request_is side apid p b r = go (seen b) where
+request_is side apid p b r = go (packet_seen b) where
   of_apid : (f : Fields) (t : Bool)
       → (if t then packet_arrival side p b f else Foreign) ≡ ARequest r
       → (side ≡ Craft) × (b ≡ r)

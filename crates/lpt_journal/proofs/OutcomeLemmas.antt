@@ -15,8 +15,8 @@ use Rattle.lpt_events.specs.declared.outcome.Why.TheVariants.{Unreadable, Idle, 
 use Rattle.lpt_events.specs.Arrivals.{Arrival, NotRead, AnIdle, Foreign, ARequest, AReport, NoPart, APart, AnAbort}
 use Rattle.lpt_journal.specs.Journal.{History}
 use Rattle.lpt_events.specs.Sides.{receiver_side}
-use Rattle.lpt_journal.specs.Receivers.{kept, with_piece, heard, has_parts, reception_count, is_closed, limits}
-use Rattle.lpt_journal.specs.Delivery.{judged}
+use Rattle.lpt_journal.specs.Receivers.{as_kept, with_piece, heard, has_parts, reception_count, is_closed, limits}
+use Rattle.lpt_journal.specs.Delivery.{arrival_judged}
 
 -- ---- what an outcome tells
 
@@ -75,7 +75,7 @@ TellsOf c h d a (Released i len) =
     (is_whole (with_piece (heard c h d q.name) q)) q i
 TellsOf c h d a (Broken i reason) =
     (q : NamedPart) × (a ≡ APart q)
-    × IsBroken (is_closed h d q.name) (contradicts (heard c h d q.name) q.number (kept q))
+    × IsBroken (is_closed h d q.name) (contradicts (heard c h d q.name) q.number (as_kept q))
     (is_gap c.mode (heard c h d q.name) q.number) q i reason
 TellsOf c h d a (Ignored Unreadable) = a ≡ NotRead
 TellsOf c h d a (Ignored Idle) = a ≡ AnIdle
@@ -84,7 +84,7 @@ TellsOf c h d a (Ignored BadPart) = a ≡ NoPart
 TellsOf c h d a _ = Unit {0}
 
 part_tells : (c : Config) (h : History) (d : Direction) (q : NamedPart) (o : Outcome)
-    → Tells (is_closed h d q.name) (contradicts (heard c h d q.name) q.number (kept q))
+    → Tells (is_closed h d q.name) (contradicts (heard c h d q.name) q.number (as_kept q))
     (is_gap c.mode (heard c h d q.name) q.number)
     (is_whole (with_piece (heard c h d q.name) q)) q o
     → TellsOf c h d (APart q) o
@@ -99,7 +99,7 @@ part_tells c h d q o t = tt
 
 -- an outcome tells what arrived
 pub judged_tells : (c : Config) (h : History) (d : Direction) (a : Arrival)
-    → TellsOf c h d a (judged c h d a)
+    → TellsOf c h d a (arrival_judged c h d a)
 judged_tells c h d NotRead = refl
 judged_tells c h d AnIdle = refl
 judged_tells c h d Foreign = refl
@@ -109,9 +109,9 @@ judged_tells c h d NoPart = refl
 judged_tells c h d (AnAbort name reason) = tt
 judged_tells c h d (APart q) =
     let s = heard c h d q.name in
-    part_tells c h d q (judged c h d (APart q))
+    part_tells c h d q (arrival_judged c h d (APart q))
     (chosen_tells (is_closed h d q.name)
     (not (has_parts s) && nat_le (limits c h (receiver_side d)).receptions (reception_count c h d))
-    (contradicts s q.number (kept q)) (is_some (map.get s q.number)) (is_gap c.mode s q.number)
+    (contradicts s q.number (as_kept q)) (is_some (map.get s q.number)) (is_gap c.mode s q.number)
     (is_whole (with_piece s q)) q
     (length (spelled (with_piece s q))))

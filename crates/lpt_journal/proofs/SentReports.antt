@@ -12,7 +12,7 @@ use Rattle.lpt_pus.proofs.TelemetryLemmas.{length-spelling_tm}
 use Rattle.lpt_part.specs.declared.kind.Kind.{Kind}
 use Rattle.lpt_part.specs.declared.kind.Kind.TheVariants.{First, Middle, Last}
 use Rattle.lpt_verify.specs.declared.report.EncodedReport.{EncodedReport}
-use Rattle.lpt_verify.specs.Reports.{success_if, asks, failure, accepted, started, completed, reports_before, reports_after}
+use Rattle.lpt_verify.specs.Reports.{success_if, asks, failure, acceptance_reports, start_reports, completion_reports, reports_before, reports_after}
 use Rattle.lpt_memory.specs.Effects.{AnswerFits}
 use Rattle.lpt_memory.specs.declared.reply_kind.ReplyKind.{ReplyKind}
 use Rattle.lpt_memory.specs.declared.reply_kind.ReplyKind.TheVariants as reply
@@ -28,7 +28,7 @@ use Rattle.lpt_events.specs.Configs.{IsConfig}
 use Rattle.lpt_execution.specs.declared.ending.Ending.{Ending}
 use Rattle.lpt_execution.specs.declared.ending.Ending.TheVariants.{Silent, Refused, Carried}
 use Rattle.lpt_execution.specs.declared.ending.Report.{Report}
-use Rattle.lpt_execution.specs.Endings.{reply_fault, replied, ending}
+use Rattle.lpt_execution.specs.Endings.{reply_fault, reply_ending, ending}
 use Rattle.lpt_execution.specs.Reporting.{verification, data_report, reports_of, message_reports}
 use Rattle.lpt_journal.specs.Journal.{with_all}
 use Rattle.lpt_journal.specs.Senders.{count_after, counter_after}
@@ -166,12 +166,13 @@ if_asked false request subtype = tt
 before_short : (request flags : ℕ) (code : Option ℕ)
     → AreShort (reports_before request flags code)
 before_short request flags None =
-    all_append (λ (e : EncodedReport). length e.body ≤ 6) (accepted request flags)
-    (started request flags) (if_asked (asks flags 1) request 1) (if_asked (asks flags 2) request 3)
+    all_append (λ (e : EncodedReport). length e.body ≤ 6) (acceptance_reports request flags)
+    (start_reports request flags) (if_asked (asks flags 1) request 1)
+    (if_asked (asks flags 2) request 3)
 before_short request flags (Some code) =
     either AreShort (nat_le code 2) (failure request 2 code ∷ [])
-    (accepted request flags ++ failure request 4 code ∷ []) (omega arith, tt)
-    (all_append (λ (e : EncodedReport). length e.body ≤ 6) (accepted request flags)
+    (acceptance_reports request flags ++ failure request 4 code ∷ []) (omega arith, tt)
+    (all_append (λ (e : EncodedReport). length e.body ≤ 6) (acceptance_reports request flags)
     (failure request 4 code ∷ []) (if_asked (asks flags 1) request 1) (omega arith, tt))
 
 -- the report of data of an ending, where it has one, fits a packet
@@ -197,7 +198,7 @@ of_ending request flags (Carried r) fits =
     (all_append IsSendable front (data_report r)
     (verified (reports_before request flags None) (before_short request flags None))
     (data_sendable r fits))
-    (verified (completed request flags) (if_asked (asks flags 8) request 7))
+    (verified (completion_reports request flags) (if_asked (asks flags 8) request 7))
 
 -- the reports of a message fit packets
 pub message_sendable : (apid : ℕ) (m : List ℕ) (end : Ending)
@@ -222,7 +223,7 @@ ending_fits p free room (effect.Reply k body) fits =
   where
     go : (f : Option FailureCode) (k : ReplyKind)
         → length body ≤ 65523
-        → EndingFits (replied f k body)
+        → EndingFits (reply_ending f k body)
     go (Some code) k fits = tt
     go None reply.Dump fits = record { no_part = refl; fits = fits }
     go None reply.Check fits = record { no_part = refl; fits = fits }

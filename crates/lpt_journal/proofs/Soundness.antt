@@ -20,7 +20,7 @@ use Rattle.lpt_journal.specs.Journal.{SentPacket, Recorded, History}
 use Rattle.lpt_journal.specs.Link.{sent, loses, is_lost, damages, is_held, goes}
 use Rattle.lpt_journal.specs.Hands.{hand, arrival_of, arrival_at, in_hand}
 use Rattle.lpt_journal.specs.Senders.{is_opening_of, retires, current}
-use Rattle.lpt_journal.specs.Receivers.{kept, with_piece, heard}
+use Rattle.lpt_journal.specs.Receivers.{as_kept, with_piece, heard}
 use Rattle.lpt_journal.specs.Headline.{IsPartOfCurrent, kept_piece}
 use Rattle.lpt_events.proofs.LaneLemmas.{same_direction-true}
 use Rattle.lpt_journal.proofs.PutLemmas.{packets_step, names_step}
@@ -165,10 +165,10 @@ hand_current c h l n q sound e is =
 
 -- what a set with one part more has at a number
 pub get-with_piece : (s : Parts) (q : NamedPart) (n : ℕ)
-    → maps.get (with_piece s q) n ≡ (if n == q.number then Some (kept q) else maps.get s n)
+    → maps.get (with_piece s q) n ≡ (if n == q.number then Some (as_kept q) else maps.get s n)
 get-with_piece s q n =
-    maps.get-insert nat_cmp_total s q.number (kept q) n
-    ∙ ap (λ b. if b then Some (kept q) else maps.get s n) (unsigned_tied n q.number)
+    maps.get-insert nat_cmp_total s q.number (as_kept q) n
+    ∙ ap (λ b. if b then Some (as_kept q) else maps.get s n) (unsigned_tied n q.number)
 
 -- what a set with one part more has at a number is that part, or stood there
 pub with_piece_cases : (s : Parts) (q : NamedPart) (name : Name) (n : ℕ) (y : KeptPart)
@@ -178,11 +178,11 @@ pub with_piece_cases : (s : Parts) (q : NamedPart) (name : Name) (n : ℕ) (y : 
 with_piece_cases s q name n y i e = go (n == q.number) refl (sym (get-with_piece s q n) ∙ e) where
   go : (b : Bool)
       → (n == q.number) ≡ b
-      → ◌≡◌ {A = Option KeptPart} (if b then Some (kept q) else maps.get s n) (Some y)
+      → ◌≡◌ {A = Option KeptPart} (if b then Some (as_kept q) else maps.get s n) (Some y)
       → (q ≡ kept_piece name n y) ⊎ (maps.get s n ≡ Some y)
   go true t k =
       let at : n ≡ q.number = true_eq n q.number t in
-      let same : kept q ≡ y = cc in
+      let same : as_kept q ≡ y = cc in
       inl (λ j. kept_piece (i j) (sym at j) (same j))
   go false t k = inr k
 

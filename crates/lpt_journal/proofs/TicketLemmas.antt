@@ -10,7 +10,7 @@ use Rattle.lpt_events.specs.declared.entry.Release.{Release}
 use Rattle.lpt_events.specs.declared.side.Side.TheVariants.{Craft}
 use Rattle.lpt_events.specs.declared.worker.Worker.{Worker}
 use Rattle.lpt_journal.specs.Journal.{Recorded, History, with_all}
-use Rattle.lpt_journal.specs.Jobs.{boot, jobs, claimed, applied, ticket, is_committed}
+use Rattle.lpt_journal.specs.Jobs.{boot, jobs, jobs_claimed, jobs_applied, ticket, is_committed}
 use Rattle.lpt_journal.specs.Work.{restarted_since}
 use Rattle.lpt_journal.proofs.TestLemmas.{get-with_all, map-with_all}
 
@@ -27,8 +27,8 @@ messages c h = messages_of (jobs c h)
 -- A worker's job of the present boot was claimed and has its message. It isn't executed, and its
 -- reading wasn't handed in.
 pub record IsOut (c : Config) (h : History) (t : Job) : Type 0 where
-  pub waits : applied h ≤ t.job
-  pub was_claimed : t.job < claimed h
+  pub waits : jobs_applied h ≤ t.job
+  pub was_claimed : t.job < jobs_claimed h
   pub uncommitted : is_committed h t.job ≡ false
   pub message : slice_get (messages c h) t.job ≡ Some t.message
 
@@ -42,9 +42,9 @@ pub record IsTicket (c : Config) (h : History) (w : Worker) (t : Job) : Type 0 w
 -- The executed jobs were claimed, and the claimed ones are there. Only claimed jobs are committed,
 -- and no two workers have the same.
 pub record JobsAreSound (c : Config) (h : History) : Type 0 where
-  pub applied_fits : applied h ≤ claimed h
-  pub claimed_fits : claimed h ≤ length (jobs c h)
-  pub committed : (n : ℕ) → is_committed h n ≡ true → n < claimed h
+  pub applied_fits : jobs_applied h ≤ jobs_claimed h
+  pub claimed_fits : jobs_claimed h ≤ length (jobs c h)
+  pub committed : (n : ℕ) → is_committed h n ≡ true → n < jobs_claimed h
   pub tickets : (w : Worker) (t : Job) → ticket c h w ≡ Some t → IsTicket c h w t
   pub differ : (v w : Worker) (t u : Job)
       → same_worker v w ≡ false
@@ -57,8 +57,8 @@ pub record JobsAreSound (c : Config) (h : History) : Type 0 where
 
 -- the entry claims, commits and executes nothing, and drops no job
 pub record IsJobless (c : Config) (h : History) (x : Recorded) : Type 0 where
-  pub claims : claimed (x ∷ h) ≡ claimed h
-  pub applies : applied (x ∷ h) ≡ applied h
+  pub claims : jobs_claimed (x ∷ h) ≡ jobs_claimed h
+  pub applies : jobs_applied (x ∷ h) ≡ jobs_applied h
   pub tickets : (w : Worker) → ticket c (x ∷ h) w ≡ ticket c h w
   pub commits : (n : ℕ) → is_committed (x ∷ h) n ≡ is_committed h n
   pub boots : boot (x ∷ h) Craft ≡ boot h Craft

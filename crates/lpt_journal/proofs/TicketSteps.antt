@@ -16,11 +16,11 @@ use Rattle.lpt_packet.proofs.Readings.{eq_false, true_eq}
 use Rattle.lpt_events.specs.Sides.{direction_to}
 use Rattle.lpt_journal.specs.Due.{given_up}
 use Rattle.lpt_journal.specs.Journal.{History}
-use Rattle.lpt_journal.specs.Jobs.{boot, claimed, applied, ticket, commits, is_committed, front_job}
+use Rattle.lpt_journal.specs.Jobs.{boot, jobs_claimed, jobs_applied, ticket, commits, is_committed, front_job}
 use Rattle.lpt_journal.specs.Legal.{Legal}
 use Rattle.lpt_journal.specs.Refusals.{refusal}
 use Rattle.lpt_journal.specs.Releases.{released_by}
-use Rattle.lpt_journal.specs.Replies.{expired_now, entry, recorded}
+use Rattle.lpt_journal.specs.Replies.{expired_now, entry, history_after}
 use Rattle.lpt_journal.proofs.ClaimLemmas.{claim_step}
 use Rattle.lpt_journal.proofs.CommitLemmas.{committed_then}
 use Rattle.lpt_journal.proofs.NewJobs.{came_up}
@@ -61,7 +61,7 @@ commit_step c first h w can sound =
     was_claimed : (t : Job) → ticket c h w ≡ Some t → (n : ℕ) (b : Bool)
         → (t.boot == boot h Craft && t.job == n) ≡ b
         → (b || is_committed h n) ≡ true
-        → n < claimed h
+        → n < jobs_claimed h
     was_claimed t had n true is e =
         let now : t.boot ≡ boot h Craft =
         true_eq t.boot (boot h Craft) (and_left (t.boot == boot h Craft) (t.job == n) is) in
@@ -116,11 +116,12 @@ commit_step c first h w can sound =
 -- what is executed was committed
 pub ready_to_apply : (c : Config) (h : History)
     → refusal c h Apply ≡ None
-    → is_committed h (applied h) ≡ true
+    → is_committed h (jobs_applied h) ≡ true
 ready_to_apply c h can =
     let t =
-    two_pass (not (is_some (front_job c h))) (not (is_committed h (applied h))) NoJob NotReady can
-    in not_false (is_committed h (applied h)) t.1
+    two_pass (not (is_some (front_job c h))) (not (is_committed h (jobs_applied h))) NoJob NotReady
+    can
+    in not_false (is_committed h (jobs_applied h)) t.1
 
 apply_step : (c : Config) (first : Contents) (h : History)
     → refusal c h Apply ≡ None
@@ -129,7 +130,7 @@ apply_step : (c : Config) (first : Contents) (h : History)
 apply_step c first h can sound =
     let ready = ready_to_apply c h can in
     record {
-      applied_fits = omega (arith, sound.committed (applied h) ready);
+      applied_fits = omega (arith, sound.committed (jobs_applied h) ready);
       claimed_fits = sound.claimed_fits;
       committed = sound.committed;
       tickets = λ w u e.
@@ -149,8 +150,9 @@ apply_step c first h can sound =
       differ = sound.differ;
     }
   where
-    later : (u : Job) → IsOut c h u → is_committed h (applied h) ≡ true → applied h + 1 ≤ u.job
-    later u out ready = elim (eqb_tells (applied h) u.job) [
+    later : (u : Job) → IsOut c h u → is_committed h (jobs_applied h) ≡ true → jobs_applied h + 1
+        ≤ u.job
+    later u out ready = elim (eqb_tells (jobs_applied h) u.job) [
       | inl t ↦ absurd (
           let yes : is_committed h u.job ≡ true = ap (is_committed h) (sym t.1) ∙ ready in
           let no : is_committed h u.job ≡ false = out.uncommitted in cc)
@@ -228,7 +230,7 @@ jobs_start c = record {
 -- so it holds of every legal journal
 pub jobs_sound : (c : Config) (first : Contents) (es : List Act)
     → Legal c first es
-    → JobsAreSound c (recorded c first es)
+    → JobsAreSound c (history_after c first es)
 jobs_sound c first [] legal = jobs_start c
 jobs_sound c first (e ∷ es) legal =
-    jobs_step c first (recorded c first es) e legal.1.accepted (jobs_sound c first es legal.0)
+    jobs_step c first (history_after c first es) e legal.1.accepted (jobs_sound c first es legal.0)

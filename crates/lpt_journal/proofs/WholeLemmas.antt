@@ -20,7 +20,7 @@ use Rattle.lpt_events.specs.declared.entry.Opening.{Opening}
 use Rattle.lpt_acts.specs.Acts.{Act}
 use Rattle.lpt_journal.specs.Legal.{Legal}
 use Rattle.lpt_journal.specs.Receivers.{heard, is_closed}
-use Rattle.lpt_journal.specs.Replies.{recorded}
+use Rattle.lpt_journal.specs.Replies.{history_after}
 use Rattle.lpt_journal.specs.Senders.{current}
 use Rattle.lpt_journal.specs.Whole.{came, WasReleased, NothingIsWithheld}
 use Rattle.lpt_journal.proofs.CameLemmas.{came_kept, never_whole}
@@ -68,12 +68,12 @@ pub not_whole : (c : Config) (first : Contents) (es : List Act) (d : Direction) 
     (o : Opening)
     → IsConfig c
     → Legal c first es
-    → current (recorded c first es) d name ≡ Some o
-    → is_closed (recorded c first es) d name ≡ false
+    → current (history_after c first es) d name ≡ Some o
+    → is_closed (history_after c first es) d name ≡ false
     → ¬ ((k : ℕ) → 1 ≤ k → k ≤ part_count (length o.message) c.part_size
-    → came c (recorded c first es) d name k ≡ true)
+    → came c (history_after c first es) d name k ≡ true)
 not_whole c first es d name o good legal now is_open all =
-    let h = recorded c first es in
+    let h = history_after c first es in
     let sound = (every c first es good legal).0 in
     not_all o.message c.part_size (heard c h d name)
     (omega (arith, good.part_size_fits.0))
@@ -84,10 +84,10 @@ not_whole c first es d name o good legal now is_open all =
 -- what was last opened under a name, and all of which came, was released unless it was aborted
 pub nothing_is_withheld : NothingIsWithheld
 nothing_is_withheld c first es good legal d name o now all unaborted =
-    go (is_closed (recorded c first es) d name) refl where
+    go (is_closed (history_after c first es) d name) refl where
       go : (b : Bool)
-          → is_closed (recorded c first es) d name ≡ b
-          → WasReleased c (recorded c first es) o
+          → is_closed (history_after c first es) d name ≡ b
+          → WasReleased c (history_after c first es) o
       go true shut = elim ((every_ended c first es good legal).ended d name o now shut) [
         | inl released ↦ released
         | inr aborted ↦ absurd (unaborted aborted)

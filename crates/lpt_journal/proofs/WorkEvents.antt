@@ -27,7 +27,7 @@ use Rattle.lpt_journal.specs.Jobs.{front_job, memories}
 use Rattle.lpt_journal.specs.Journal.{SentPacket, History}
 use Rattle.lpt_journal.specs.Receivers.{clock, limits}
 use Rattle.lpt_journal.specs.Replies.{entry}
-use Rattle.lpt_journal.specs.Senders.{is_opening_of, sender, is_free, least_free, open_count, current, made}
+use Rattle.lpt_journal.specs.Senders.{is_opening_of, sender, is_free, least_free, open_count, current, packets_made}
 use Rattle.lpt_journal.proofs.Events.{free_current, only_opening}
 use Rattle.lpt_journal.proofs.SentReports.{IsSendable, IsReportMade, all_made, message_sendable, ending_fits}
 use Rattle.lpt_journal.proofs.Steps.{IsRead, IsPut, IsSound, IsNew, Owes, opening_found}
@@ -172,7 +172,8 @@ pub apply_owes : (c : Config) (first : Contents) (h : History)
 apply_owes c first h good sound fits =
     let xs = front_packets c first h in
     let all : AllByRecursion (IsReportMade c) xs =
-    all_made c (front_source c h) (made h Down) (clock c h Craft) (front_reports c first h) good to
+    all_made c (front_source c h) (packets_made h Down) (clock c h Craft) (front_reports c first h)
+    good to
     (sound.clocks Craft) (sendable (front_job c h) refl) in
     record {
       opens = opens_new c h (front_source c h) xs to all;

@@ -11,12 +11,12 @@ use Rattle.lpt_acts.specs.Acts.{Act, Commit, Apply}
 use Rattle.lpt_events.specs.declared.side.Side.TheVariants.{Craft}
 use Rattle.lpt_events.specs.declared.worker.Worker.{Worker}
 use Rattle.lpt_events.specs.declared.worker.Worker.TheVariants.{W1, W2}
-use Rattle.lpt_journal.specs.Jobs.{boot, applied, ticket, is_committed, front_job, executed_by}
+use Rattle.lpt_journal.specs.Jobs.{boot, jobs_applied, ticket, is_committed, front_job, executed_by}
 use Rattle.lpt_journal.specs.Journal.{Recorded, History}
 use Rattle.lpt_journal.specs.Legal.{Legal}
 use Rattle.lpt_journal.specs.Link.{sent, damages, is_damaged}
 use Rattle.lpt_journal.specs.Refusals.{refusal}
-use Rattle.lpt_journal.specs.Replies.{committed_now, entry, recorded}
+use Rattle.lpt_journal.specs.Replies.{committed_now, entry, history_after}
 use Rattle.lpt_journal.specs.Work.{commit_answer, IsSameBut, IsCommit, CommitsAreOfTheirBoot, WasOfThisBoot, ExecutionsAreOfTheirBoot, WorkIsOfItsBoot}
 use Rattle.lpt_journal.proofs.BootLemmas.{job_boot}
 use Rattle.lpt_journal.proofs.CommitLemmas.{commit_is, committed_then}
@@ -111,10 +111,10 @@ commit_holds c first h w sound can =
 
 commits_hold : (c : Config) (first : Contents) (es : List Act)
     → Legal c first es
-    → CommitsAreOfTheirBoot c first (recorded c first es)
+    → CommitsAreOfTheirBoot c first (history_after c first es)
 commits_hold c first [] legal k x w f is = absurd (no_place k x f)
 commits_hold c first (e ∷ es) legal zero x w f is =
-    let h = recorded c first es in
+    let h = history_after c first es in
     let same : entry c first h e ≡ x = cc in
     let event : e ≡ Commit w = ap (λ (y : Recorded). y.event) same ∙ is in
     subst (λ y. IsCommit c first y h w) (ap (entry c first h) (sym event) ∙ same)
@@ -131,15 +131,15 @@ execution_holds : (c : Config) (first : Contents) (h : History) (e : Act) (r : R
     → WasOfThisBoot h r
 execution_holds c first h Apply r can is =
     let it = new_executed Apply (front_job c h) 0 r (ap (λ rs. slice_get rs 0) is) in
-    record { released = job_boot c h (applied h) r it.2; committed = ready_to_apply c h can }
+    record { released = job_boot c h (jobs_applied h) r it.2; committed = ready_to_apply c h can }
 execution_holds c first h e r can is = absurd cc
 
 executions_hold : (c : Config) (first : Contents) (es : List Act)
     → Legal c first es
-    → ExecutionsAreOfTheirBoot c (recorded c first es)
+    → ExecutionsAreOfTheirBoot c (history_after c first es)
 executions_hold c first [] legal k x r f is = absurd (no_place k x f)
 executions_hold c first (e ∷ es) legal zero x r f is =
-    let h = recorded c first es in
+    let h = history_after c first es in
     let same : entry c first h e ≡ x = cc in
     execution_holds c first h e r legal.1.accepted
     (ap (λ (y : Recorded). executed_by c y h) same ∙ is)

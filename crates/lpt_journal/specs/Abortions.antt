@@ -16,7 +16,7 @@ use Rattle.lpt_journal.specs.Journal.{History, with_all}
 use Rattle.lpt_journal.specs.Receivers.{heard, has_parts, is_closed}
 use Rattle.lpt_journal.specs.Releases.{releases}
 use Rattle.lpt_events.specs.Configs.{IsConfig}
-use Rattle.lpt_journal.specs.Replies.{recorded}
+use Rattle.lpt_journal.specs.Replies.{history_after}
 use Rattle.lpt_journal.specs.Legal.{Legal}
 use Rattle.lpt_journal.specs.Senders.{current}
 
@@ -88,4 +88,4 @@ AbortionIsFinal =
     (c : Config) (first : Contents) (es : List Act)
     → IsConfig c
     → Legal c first es
-    → EndsAreFinal c (recorded c first es)
+    → EndsAreFinal c (history_after c first es)

@@ -21,7 +21,7 @@ use Rattle.lpt_execution.specs.Reporting.{message_reports, request_source, link_
 use Rattle.lpt_journal.specs.Journal.{SentPacket, History, with_all}
 use Rattle.lpt_journal.specs.Jobs.{front_job, memories}
 use Rattle.lpt_journal.specs.Receivers.{clock, limits}
-use Rattle.lpt_journal.specs.Senders.{least_free, open_count, made, count_after, counter_after}
+use Rattle.lpt_journal.specs.Senders.{least_free, open_count, packets_made, count_after, counter_after}
 
 -- what a message comes to, executed over these memories
 abbrev pub effect_of : Config → Contents → List ℕ → Effect
@@ -75,7 +75,8 @@ reports_after c peer packets time (r ∷ rs) =
 -- the reports of the oldest request's execution, with their packets
 abbrev pub front_packets : Config → Contents → History → List (Report × List ℕ)
 front_packets c first h =
-    reports_after c (front_source c h) (made h Down) (clock c h Craft) (front_reports c first h)
+    reports_after c (front_source c h) (packets_made h Down) (clock c h Craft)
+    (front_reports c first h)
 
 -- the report of data that is opened, as it is too long for the link: its name, which is of the
 -- request's own source, and its packet

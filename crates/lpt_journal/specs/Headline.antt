@@ -35,7 +35,7 @@ use Rattle.lpt_journal.specs.Delivery.{outcome}
 use Rattle.lpt_journal.specs.Releases.{releases}
 use Rattle.lpt_journal.specs.Jobs.{went_up, executed, left_by, memories}
 use Rattle.lpt_events.specs.Configs.{IsConfig}
-use Rattle.lpt_journal.specs.Replies.{plain_packet, recorded}
+use Rattle.lpt_journal.specs.Replies.{plain_packet, history_after}
 use Rattle.lpt_journal.specs.Legal.{Legal}
 
 -- ---- parts
@@ -217,4 +217,4 @@ Headline =
     (c : Config) (first : Contents) (es : List Act)
     → IsConfig c
     → Legal c first es
-    → Holds c first (recorded c first es)
+    → Holds c first (history_after c first es)

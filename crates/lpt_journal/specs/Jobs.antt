@@ -49,9 +49,9 @@ claimed_after (Claim w) before = before + 1
 claimed_after _ before = before
 
 -- how many jobs were claimed since the spacecraft was last restarted; they are the oldest
-abbrev pub claimed : History → ℕ
-claimed [] = 0
-claimed (x ∷ h) = if restarts x.event Craft then 0 else claimed_after x.event (claimed h)
+abbrev pub jobs_claimed : History → ℕ
+jobs_claimed [] = 0
+jobs_claimed (x ∷ h) = if restarts x.event Craft then 0 else claimed_after x.event (jobs_claimed h)
 
 -- how many jobs were executed after an event
 abbrev pub applied_after : Act → ℕ → ℕ
@@ -59,17 +59,17 @@ applied_after Apply before = before + 1
 applied_after _ before = before
 
 -- how many jobs were executed since the spacecraft was last restarted; they are the oldest
-abbrev pub applied : History → ℕ
-applied [] = 0
-applied (x ∷ h) = if restarts x.event Craft then 0 else applied_after x.event (applied h)
+abbrev pub jobs_applied : History → ℕ
+jobs_applied [] = 0
+jobs_applied (x ∷ h) = if restarts x.event Craft then 0 else applied_after x.event (jobs_applied h)
 
 -- ---- tickets and commits
 
 -- the job that a worker gets that claims: the oldest that wasn't claimed
 abbrev pub job_given : Config → History → Option Job
 job_given c h =
-    option_map (λ r. record { boot = boot h Craft; job = claimed h; message = r.message })
-    (slice_get (jobs c h) (claimed h))
+    option_map (λ r. record { boot = boot h Craft; job = jobs_claimed h; message = r.message })
+    (slice_get (jobs c h) (jobs_claimed h))
 
 -- the job that a worker has after an event, where this one is given to it that claims
 abbrev pub ticket_after : Act → (given : Option Job) → Worker → Option Job → Option Job
@@ -99,7 +99,7 @@ is_committed (x ∷ h) job =
 
 -- the oldest job that isn't executed
 abbrev pub front_job : Config → History → Option Release
-front_job c h = slice_get (jobs c h) (applied h)
+front_job c h = slice_get (jobs c h) (jobs_applied h)
 
 -- what an event executes, where this job is the oldest
 abbrev pub executed_now : Act → Option Release → List Release

@@ -4,7 +4,7 @@ use Rattle.lpt_memory.specs.Memories.{Contents}
 use Rattle.lpt_events.specs.declared.config.Config.{Config}
 use Rattle.lpt_acts.specs.Acts.{Act, IsAct}
 use Rattle.lpt_journal.specs.Journal.{History}
-use Rattle.lpt_journal.specs.Replies.{recorded}
+use Rattle.lpt_journal.specs.Replies.{history_after}
 use Rattle.lpt_journal.specs.Refusals.{refusal}
 
 -- an event can happen after this history
@@ -15,4 +15,4 @@ pub record IsEnabled (c : Config) (h : History) (e : Act) : Type 0 where
 -- each event can happen after those before it
 abbrev pub Legal : Config → Contents → List Act → Type 0
 Legal c first [] = ⊤
-Legal c first (e ∷ es) = Legal c first es × IsEnabled c (recorded c first es) e
+Legal c first (e ∷ es) = Legal c first es × IsEnabled c (history_after c first es) e

@@ -23,12 +23,12 @@ use Rattle.lpt_journal.specs.Senders.{once}
 -- ---- what was kept
 
 -- a part as a reception keeps it
-abbrev pub kept : NamedPart → KeptPart
-kept q = record { kind = q.kind; octets = q.octets }
+abbrev pub as_kept : NamedPart → KeptPart
+as_kept q = record { kind = q.kind; octets = q.octets }
 
 -- the kept parts with one more
 abbrev pub with_piece : Parts → NamedPart → Parts
-with_piece s q = with_part s q.number (kept q)
+with_piece s q = with_part s q.number (as_kept q)
 
 -- the kept parts with what arrived
 abbrev pub with_arrival : Arrival → Parts → Parts

@@ -12,7 +12,7 @@ use Rattle.lpt_events.specs.declared.fault.StepFault.TheVariants.{InUse, Short, 
 use Rattle.lpt_events.specs.Sides.{direction_to, sender_side}
 use Rattle.lpt_journal.specs.Clear.{is_clear}
 use Rattle.lpt_journal.specs.Journal.{History}
-use Rattle.lpt_journal.specs.Jobs.{jobs, claimed, applied, ticket, is_committed, front_job}
+use Rattle.lpt_journal.specs.Jobs.{jobs, jobs_claimed, jobs_applied, ticket, is_committed, front_job}
 use Rattle.lpt_journal.specs.Link.{is_held, goes}
 use Rattle.lpt_journal.specs.Hands.{hand}
 use Rattle.lpt_journal.specs.Senders.{Sender, OpenSender, sender, is_free, is_open, open_count}
@@ -66,11 +66,11 @@ reasons c h (Tick side turn) = turn_reasons (clock c h side) turn
 reasons c h (Expire side which) =
     (not (is_some (given_up c h (direction_to side) which)), expiry_fault which) ∷ []
 reasons c h (Claim w) =
-    (is_some (ticket c h w), HandFull) ∷ (nat_le (length (jobs c h)) (claimed h), NoJob) ∷ []
+    (is_some (ticket c h w), HandFull) ∷ (nat_le (length (jobs c h)) (jobs_claimed h), NoJob) ∷ []
 reasons c h (Commit w) = (not (is_some (ticket c h w)), HandEmpty) ∷ []
 reasons c h Apply =
     (not (is_some (front_job c h)), NoJob)
-    ∷ (not (is_committed h (applied h)), NotReady) ∷ []
+    ∷ (not (is_committed h (jobs_applied h)), NotReady) ∷ []
 reasons c h (Retire d name) =
     (is_free (sender h d name), NotOpen)
     ∷ (is_open (sender h d name), StillOpen)

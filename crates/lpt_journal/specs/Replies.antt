@@ -31,7 +31,7 @@ use Rattle.lpt_journal.specs.Receivers.{clock}
 use Rattle.lpt_journal.specs.Due.{given_up}
 use Rattle.lpt_journal.specs.Delivery.{outcome}
 use Rattle.lpt_journal.specs.Executions.{front_applied, front_puts, front_opens}
-use Rattle.lpt_journal.specs.Jobs.{boot, claimed, ticket}
+use Rattle.lpt_journal.specs.Jobs.{boot, jobs_claimed, ticket}
 
 -- the end of the reception that is given up; where none is, that is refused
 abbrev pub expired_now : Direction → Option Name → Answer
@@ -58,7 +58,7 @@ answer c first h (Deliver l) = Delivered (outcome c h l)
 answer c first h (Tick side turn) = Clock (clock_turned turn (clock c h side))
 answer c first h (Expire side which) =
     expired_now (direction_to side) (given_up c h (direction_to side) which)
-answer c first h (Claim w) = Claimed (boot h Craft) (claimed h)
+answer c first h (Claim w) = Claimed (boot h Craft) (jobs_claimed h)
 answer c first h (Commit w) = committed_now (boot h Craft) (ticket c h w)
 answer c first h Apply = Applied (front_applied c first h)
 answer c first h (Retire d name) = Retired
@@ -153,13 +153,14 @@ opens c first h (Retire d name) = []
 opens c first h (Restart side) = []
 
 -- how a reply tells of packets that were put, the first of which got this number
-abbrev pub told : ℕ → List SentPacket → Option Puts
-told first [] = None
-told first (p ∷ ps) = Some (record { first = first; count = length (p ∷ ps) })
+abbrev pub puts_told : ℕ → List SentPacket → Option Puts
+puts_told first [] = None
+puts_told first (p ∷ ps) = Some (record { first = first; count = length (p ∷ ps) })
 
 -- what an event answers
 abbrev pub reply : Config → Contents → History → Act → Reply
-reply c first h e = record { answer = answer c first h e; puts = told (length (sent h)) (puts c first h e) }
+reply c first h e =
+    record { answer = answer c first h e; puts = puts_told (length (sent h)) (puts c first h e) }
 
 -- ---- recorded
 
@@ -168,6 +169,6 @@ abbrev pub entry : Config → Contents → History → Act → Recorded
 entry c first h e = record { event = e; reply = reply c first h e; puts = puts c first h e; opens = opens c first h e }
 
 -- the history of a journal, whose newest event stands first
-abbrev pub recorded : Config → Contents → List Act → History
-recorded c first [] = []
-recorded c first (e ∷ es) = let h = recorded c first es in entry c first h e ∷ h
+abbrev pub history_after : Config → Contents → List Act → History
+history_after c first [] = []
+history_after c first (e ∷ es) = let h = history_after c first es in entry c first h e ∷ h

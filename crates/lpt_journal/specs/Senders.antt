@@ -147,9 +147,10 @@ made_by x d =
     if makes x.event then with_all (octets_put x.puts d) (messages_opened x.opens d) else []
 
 -- all packets that the node has made since it was last restarted
-abbrev pub made : History → Direction → List (List ℕ)
-made [] d = []
-made (x ∷ h) d = if restarts x.event (sender_side d) then [] else with_all (made h d) (made_by x d)
+abbrev pub packets_made : History → Direction → List (List ℕ)
+packets_made [] d = []
+packets_made (x ∷ h) d =
+    if restarts x.event (sender_side d) then [] else with_all (packets_made h d) (made_by x d)
 
 -- the sequence count of the next packet of a node that has made these: 14 bits
 abbrev pub count_after : List (List ℕ) → ℕ
@@ -157,7 +158,7 @@ count_after packets = length packets % sequence_counts
 
 -- the sequence count of the node's next packet
 abbrev pub count : History → Direction → ℕ
-count h d = count_after (made h d)
+count h d = count_after (packets_made h d)
 
 -- whether octets are telemetry of this service and message subtype, which stand at places 7 and 8
 abbrev pub is_report : (service subtype : ℕ) → List ℕ → Bool
@@ -170,4 +171,4 @@ counter_after packets service subtype = length (filter (is_report service subtyp
 
 -- the message type counter of the spacecraft's next telemetry of this service and message subtype
 abbrev pub type_counter : History → (service subtype : ℕ) → ℕ
-type_counter h service subtype = counter_after (made h Down) service subtype
+type_counter h service subtype = counter_after (packets_made h Down) service subtype

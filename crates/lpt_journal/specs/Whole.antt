@@ -25,7 +25,7 @@ use Rattle.lpt_journal.specs.Headline.{opening_of}
 use Rattle.lpt_journal.specs.Journal.{History}
 use Rattle.lpt_journal.specs.Legal.{Legal}
 use Rattle.lpt_journal.specs.Releases.{releases}
-use Rattle.lpt_journal.specs.Replies.{recorded}
+use Rattle.lpt_journal.specs.Replies.{history_after}
 use Rattle.lpt_journal.specs.Senders.{is_opening_of, current}
 
 -- whether a delivery brings part k of this name; one for which there is no room brings nothing
@@ -81,4 +81,4 @@ NothingIsWithheld =
     (c : Config) (first : Contents) (es : List Act)
     → IsConfig c
     → Legal c first es
-    → WholeIsReleased c (recorded c first es)
+    → WholeIsReleased c (history_after c first es)

@@ -17,14 +17,14 @@ use Rattle.lpt_events.specs.declared.side.Side.TheVariants.{Craft}
 use Rattle.lpt_events.specs.declared.worker.Worker.{Worker}
 use Rattle.lpt_journal.specs.Hands.{hand}
 use Rattle.lpt_journal.specs.Headline.{before}
-use Rattle.lpt_journal.specs.Jobs.{boot, jobs, claimed, applied, ticket, is_committed, executed_by, executed, memories}
+use Rattle.lpt_journal.specs.Jobs.{boot, jobs, jobs_claimed, jobs_applied, ticket, is_committed, executed_by, executed, memories}
 use Rattle.lpt_journal.specs.Journal.{Recorded, History}
 use Rattle.lpt_journal.specs.Legal.{Legal}
 use Rattle.lpt_journal.specs.Link.{sent, tags, is_held, is_damaged}
 use Rattle.lpt_journal.specs.Receivers.{heard, open_names, is_closed, last_tick, clock, limits}
 use Rattle.lpt_journal.specs.Releases.{releases}
-use Rattle.lpt_journal.specs.Replies.{recorded}
-use Rattle.lpt_journal.specs.Senders.{restarts, current, sender, opened, made}
+use Rattle.lpt_journal.specs.Replies.{history_after}
+use Rattle.lpt_journal.specs.Senders.{restarts, current, sender, opened, packets_made}
 
 -- ---- commits
 
@@ -50,8 +50,8 @@ pub record IsSameBut (c : Config) (first : Contents) (w : Worker) (new old : His
   pub tickets : (v : Worker) → same_worker w v ≡ false → ticket c new v ≡ ticket c old v
   pub committed : (job : ℕ) → is_committed new job ≡ is_committed old job
   pub jobs : jobs c new ≡ jobs c old
-  pub claimed : claimed new ≡ claimed old
-  pub applied : applied new ≡ applied old
+  pub claimed : jobs_claimed new ≡ jobs_claimed old
+  pub applied : jobs_applied new ≡ jobs_applied old
   pub executed : executed c new ≡ executed c old
   pub memories : memories c first new ≡ memories c first old
   pub boots : (side : Side) → boot new side ≡ boot old side
@@ -63,7 +63,7 @@ pub record IsSameBut (c : Config) (first : Contents) (w : Worker) (new old : His
   pub opened : opened new ≡ opened old
   pub current : (d : Direction) (name : Name) → current new d name ≡ current old d name
   pub senders : (d : Direction) (name : Name) → sender new d name ≡ sender old d name
-  pub made : (d : Direction) → made new d ≡ made old d
+  pub made : (d : Direction) → packets_made new d ≡ packets_made old d
   pub heard : (d : Direction) (name : Name) → heard c new d name ≡ heard c old d name
   pub receptions : (d : Direction) → open_names c new d ≡ open_names c old d
   pub closed : (d : Direction) (name : Name) → is_closed new d name ≡ is_closed old d name
@@ -93,7 +93,7 @@ CommitsAreOfTheirBoot c first h =
 -- what an entry executed after this history was released and committed in the same boot
 pub record WasOfThisBoot (h : History) (r : Release) : Type 0 where
   pub released : boot (before r.place h) Craft ≡ boot h Craft
-  pub committed : is_committed h (applied h) ≡ true
+  pub committed : is_committed h (jobs_applied h) ≡ true
 
 -- what was executed was released and committed since the spacecraft was last restarted
 abbrev pub ExecutionsAreOfTheirBoot : Config → History → Type 0
@@ -116,4 +116,4 @@ WorkIsOfItsBoot =
     (c : Config) (first : Contents) (es : List Act)
     → IsConfig c
     → Legal c first es
-    → WorkKeepsItsBoot c first (recorded c first es)
+    → WorkKeepsItsBoot c first (history_after c first es)

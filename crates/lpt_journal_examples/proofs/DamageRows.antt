@@ -3,7 +3,7 @@ use Rattle.std.proofs.Common.{◌≡◌, ap, true, false, ℕ, List, [], ◌∷�
 use Rattle.std.specs.Prelude.{replicate}
 use Rattle.lpt_packet.specs.declared.direction.Direction.TheVariants.{Up, Down}
 use Rattle.lpt_packet.specs.Checksums.{checksum, octets_in, shift_all}
-use Rattle.lpt_packet.specs.Packets.{seen, spelling}
+use Rattle.lpt_packet.specs.Packets.{packet_seen, spelling}
 use Rattle.lpt_pus.specs.Commands.{tc_field, tc_verdict}
 use Rattle.lpt_part.specs.Parts.{body_of, part_verdict}
 use Rattle.lpt_acts.specs.Acts.{Act, Open, Send, Damage, Take, Deliver}
@@ -39,19 +39,19 @@ pub tried-given : (played usual tried).given ≡
     ∷ gives (Took 0) ∷ gives (Delivered (Ignored Unreadable))
     ∷ gives (Took 1) ∷ gives (Delivered (Kept (own 7) 1))
     ∷ gives (Took 2) ∷ gives (Delivered (Ignored Unreadable)) ∷ []
-unfolding seen spelling checksum octets_in shift_all tc_field tc_verdict body_of part_verdict
+unfolding packet_seen spelling checksum octets_in shift_all tc_field tc_verdict body_of part_verdict
     arrival
 tried-given = ap (λ p. p.given) (played_is usual tried)
 
 -- the first and the last packet were damaged
 pub tried-damaged : map (is_damaged (played usual tried).after) (0 ∷ 1 ∷ 2 ∷ 3 ∷ [])
     ≡ true ∷ false ∷ true ∷ false ∷ []
-unfolding seen spelling checksum octets_in shift_all tc_field tc_verdict body_of part_verdict
+unfolding packet_seen spelling checksum octets_in shift_all tc_field tc_verdict body_of part_verdict
     arrival
 tried-damaged = ap (λ p. map (is_damaged p.after) (0 ∷ 1 ∷ 2 ∷ 3 ∷ [])) (played_is usual tried)
 
 -- ground has made one packet, the spacecraft none
 pub tried-counts : map (count (played usual tried).after) (Up ∷ Down ∷ []) ≡ 1 ∷ 0 ∷ []
-unfolding seen spelling checksum octets_in shift_all tc_field tc_verdict body_of part_verdict
+unfolding packet_seen spelling checksum octets_in shift_all tc_field tc_verdict body_of part_verdict
     arrival
 tried-counts = ap (λ p. map (count p.after) (Up ∷ Down ∷ [])) (played_is usual tried)

@@ -3,7 +3,7 @@ use Rattle.std.proofs.Common.{◌≡◌, ap, refl, ℕ, List, [], ◌∷◌, dro
 use Rattle.std.specs.List.{slice_get}
 use Rattle.lpt_packet.specs.declared.direction.Direction.TheVariants.{Down}
 use Rattle.lpt_packet.specs.Checksums.{checksum, octets_in, shift_all}
-use Rattle.lpt_packet.specs.Packets.{seen, spelling}
+use Rattle.lpt_packet.specs.Packets.{packet_seen, spelling}
 use Rattle.lpt_pus.specs.Commands.{tc_field, tc_verdict, command_in}
 use Rattle.lpt_pus.specs.Telemetry.{tm_field, tm_verdict}
 use Rattle.lpt_part.specs.Parts.{body_of, part_verdict}
@@ -27,7 +27,7 @@ use Rattle.lpt_journal_examples.proofs.LegalRows.{usual_pass}
 use Rattle.lpt_journal_examples.proofs.Listed.{recorded_is}
 use Rattle.lpt_journal_examples.proofs.ListedReleases.{releases_passed}
 use Rattle.lpt_journal_examples.proofs.Played.{Given, Gives, Refuses, played, played_is, gives, puts_packet}
-use Rattle.lpt_journal_examples.specs.Passes.{IsPass, passed, answers, usual, usual_memories, load, executed_load, loaded_memories, clear, two_loads, cleared_memories, dump, dump_packet, report_packet, large_report, own}
+use Rattle.lpt_journal_examples.specs.Passes.{IsPass, pass_history, answers, usual, usual_memories, load, executed_load, loaded_memories, clear, two_loads, cleared_memories, dump, dump_packet, report_packet, large_report, own}
 
 -- an execution that puts so many packets, the first of which gets this number
 abbrev applied_puts : (first count : ℕ) → Given
@@ -51,7 +51,7 @@ pub executed_load-given : (played usual executed_load).given ≡
     ∷ gives (Took 1) ∷ gives (Delivered (ReportNoted 1 1))
     ∷ gives (Took 2) ∷ gives (Delivered (ReportNoted 1 3))
     ∷ gives (Took 3) ∷ gives (Delivered (ReportNoted 1 7)) ∷ []
-unfolding seen spelling checksum octets_in shift_all tc_field tc_verdict command_in tm_field
+unfolding packet_seen spelling checksum octets_in shift_all tc_field tc_verdict command_in tm_field
     tm_verdict first_of_numbers front_load_area front_head request_in body_meaning meaning arrival
 executed_load-given = ap (λ p. p.given) (played_is usual executed_load)
 
@@ -60,26 +60,27 @@ pub executed_load-reports : drop 1 (sent (played usual executed_load).after) ≡
     downlink (8 ∷ 100 ∷ 192 ∷ 0 ∷ 0 ∷ 16 ∷ 32 ∷ 1 ∷ 1 ∷ 0 ∷ 0 ∷ 0 ∷ 1 ∷ 0 ∷ 0 ∷ 0 ∷ 0 ∷ 24 ∷ 100 ∷ 192 ∷ 0 ∷ 178 ∷ 177 ∷ [])
     ∷ downlink (8 ∷ 100 ∷ 192 ∷ 1 ∷ 0 ∷ 16 ∷ 32 ∷ 1 ∷ 3 ∷ 0 ∷ 0 ∷ 0 ∷ 1 ∷ 0 ∷ 0 ∷ 0 ∷ 0 ∷ 24 ∷ 100 ∷ 192 ∷ 0 ∷ 200 ∷ 70 ∷ [])
     ∷ downlink (8 ∷ 100 ∷ 192 ∷ 2 ∷ 0 ∷ 16 ∷ 32 ∷ 1 ∷ 7 ∷ 0 ∷ 0 ∷ 0 ∷ 1 ∷ 0 ∷ 0 ∷ 0 ∷ 0 ∷ 24 ∷ 100 ∷ 192 ∷ 0 ∷ 205 ∷ 153 ∷ []) ∷ []
-unfolding seen spelling checksum octets_in shift_all tc_field tc_verdict command_in tm_field
+unfolding packet_seen spelling checksum octets_in shift_all tc_field tc_verdict command_in tm_field
     tm_verdict first_of_numbers front_load_area front_head request_in body_meaning meaning arrival
 executed_load-reports = ap (λ p. drop 1 (sent p.after)) (played_is usual executed_load)
 
 -- none of its events is refused
 pub executed_load-pass : IsPass usual executed_load
-unfolding seen spelling checksum octets_in shift_all tc_field tc_verdict command_in tm_field
+unfolding packet_seen spelling checksum octets_in shift_all tc_field tc_verdict command_in tm_field
     tm_verdict first_of_numbers front_load_area front_head request_in body_meaning meaning arrival
 executed_load-pass = usual_pass executed_load refl
 
 -- the octets stand in the memory, and nothing else changed
-pub executed_load-left : memories usual usual_memories (passed usual executed_load) ≡ loaded_memories
-unfolding seen spelling checksum octets_in shift_all tc_field tc_verdict command_in tm_field
+pub executed_load-left : memories usual usual_memories (pass_history usual executed_load)
+    ≡ loaded_memories
+unfolding packet_seen spelling checksum octets_in shift_all tc_field tc_verdict command_in tm_field
     tm_verdict first_of_numbers front_load_area front_head request_in body_meaning meaning arrival
 executed_load-left = ap (memories usual usual_memories) (recorded_is usual (reverse executed_load))
 
 -- ground gets the report of completion last
 pub executed_load-reported :
     slice_get (answers usual executed_load) 11 ≡ Some (Delivered (ReportNoted 1 7))
-unfolding seen spelling checksum octets_in shift_all tc_field tc_verdict command_in tm_field
+unfolding packet_seen spelling checksum octets_in shift_all tc_field tc_verdict command_in tm_field
     tm_verdict first_of_numbers front_load_area front_head request_in body_meaning meaning arrival
 executed_load-reported =
     ap (λ h. slice_get (reverse (map (λ x. x.reply.answer) h)) 11)
@@ -105,26 +106,27 @@ pub asked_loads-given : (played usual asked_loads).given ≡
     ∷ gives (Committed 0 1) ∷ Refuses NoJob ∷ Refuses NotReady
     ∷ gives (Committed 0 0) ∷ gives (AppliedSo (Done None)) ∷ gives (AppliedSo (Done None))
     ∷ Refuses NoJob ∷ []
-unfolding seen spelling checksum octets_in shift_all tc_field tc_verdict command_in tm_field
+unfolding packet_seen spelling checksum octets_in shift_all tc_field tc_verdict command_in tm_field
     tm_verdict first_of_numbers front_load_area front_head request_in body_meaning meaning arrival
 asked_loads-given = ap (λ p. p.given) (played_is usual asked_loads)
 
 -- none of the pass's events is refused
 pub two_loads-pass : IsPass usual two_loads
-unfolding seen spelling checksum octets_in shift_all tc_field tc_verdict command_in tm_field
+unfolding packet_seen spelling checksum octets_in shift_all tc_field tc_verdict command_in tm_field
     tm_verdict first_of_numbers front_load_area front_head request_in body_meaning meaning arrival
 two_loads-pass = usual_pass two_loads refl
 
 -- the requests are executed in order of release
-pub two_loads-in_order : map (λ r. r.place) (executed usual (passed usual two_loads)) ≡ 3 ∷ 5 ∷ []
-unfolding seen spelling checksum octets_in shift_all tc_field tc_verdict command_in tm_field
+pub two_loads-in_order : map (λ r. r.place) (executed usual (pass_history usual two_loads)) ≡ 3 ∷ 5
+    ∷ []
+unfolding packet_seen spelling checksum octets_in shift_all tc_field tc_verdict command_in tm_field
     tm_verdict first_of_numbers front_load_area front_head request_in body_meaning meaning arrival
 two_loads-in_order =
     ap (λ h. map (λ r. r.place) (executed usual h)) (recorded_is usual (reverse two_loads))
 
 -- the second one's octets stand over the first one's
-pub two_loads-left : memories usual usual_memories (passed usual two_loads) ≡ cleared_memories
-unfolding seen spelling checksum octets_in shift_all tc_field tc_verdict command_in tm_field
+pub two_loads-left : memories usual usual_memories (pass_history usual two_loads) ≡ cleared_memories
+unfolding packet_seen spelling checksum octets_in shift_all tc_field tc_verdict command_in tm_field
     tm_verdict first_of_numbers front_load_area front_head request_in body_meaning meaning arrival
 two_loads-left = ap (memories usual usual_memories) (recorded_is usual (reverse two_loads))
 
@@ -144,7 +146,7 @@ pub dumps-given : (played usual dumps).given ≡
     ∷ puts_packet 2 ∷ gives (Took 2) ∷ gives (Delivered (PlainReleased 21))
     ∷ gives (Claimed 0 1) ∷ gives (Committed 0 1) ∷ gives (AppliedSo (Done (Some (own 0))))
     ∷ puts_packet 3 ∷ []
-unfolding seen spelling checksum octets_in shift_all tc_field tc_verdict command_in tm_field
+unfolding packet_seen spelling checksum octets_in shift_all tc_field tc_verdict command_in tm_field
     tm_verdict body_of first_of_numbers front_range front_head request_in body_meaning meaning arrival
 dumps-given = ap (λ p. p.given) (played_is usual dumps)
 
@@ -152,7 +154,7 @@ dumps-given = ap (λ p. p.given) (played_is usual dumps)
 pub dumps-packet : slice_get (sent (played usual dumps).after) 1 ≡ Some (downlink
     (8 ∷ 100 ∷ 192 ∷ 0 ∷ 0 ∷ 24 ∷ 32 ∷ 6 ∷ 6 ∷ 0 ∷ 0 ∷ 0 ∷ 1 ∷ 0 ∷ 0 ∷ 0 ∷ 0 ∷ 1 ∷ 1 ∷ 0 ∷ 0 ∷ 0 ∷ 16 ∷ 0
     ∷ 2 ∷ 0 ∷ 0 ∷ 29 ∷ 15 ∷ 231 ∷ 68 ∷ []))
-unfolding seen spelling checksum octets_in shift_all tc_field tc_verdict command_in tm_field
+unfolding packet_seen spelling checksum octets_in shift_all tc_field tc_verdict command_in tm_field
     tm_verdict body_of first_of_numbers front_range front_head request_in body_meaning meaning arrival
 dumps-packet = ap (λ p. slice_get (sent p.after) 1) (played_is usual dumps)
 
@@ -164,7 +166,7 @@ pub dumps-opened : opened (played usual dumps).after ≡ record {
       8 ∷ 100 ∷ 192 ∷ 1 ∷ 0 ∷ 25 ∷ 32 ∷ 6 ∷ 6 ∷ 0 ∷ 1 ∷ 0 ∷ 1 ∷ 0 ∷ 0 ∷ 0 ∷ 0 ∷ 1 ∷ 1 ∷ 0 ∷ 0 ∷ 0 ∷ 16 ∷ 0
       ∷ 3 ∷ 0 ∷ 0 ∷ 0 ∷ 204 ∷ 156 ∷ 233 ∷ 8 ∷ [];
 } ∷ []
-unfolding seen spelling checksum octets_in shift_all tc_field tc_verdict command_in tm_field
+unfolding packet_seen spelling checksum octets_in shift_all tc_field tc_verdict command_in tm_field
     tm_verdict body_of first_of_numbers front_range front_head request_in body_meaning meaning arrival
 dumps-opened = ap (λ p. opened p.after) (played_is usual dumps)
 
@@ -172,7 +174,7 @@ dumps-opened = ap (λ p. opened p.after) (played_is usual dumps)
 
 -- none of the pass's events is refused
 pub large_report-pass : IsPass usual large_report
-unfolding seen spelling checksum octets_in shift_all tc_field tc_verdict command_in tm_field
+unfolding packet_seen spelling checksum octets_in shift_all tc_field tc_verdict command_in tm_field
     tm_verdict body_of part_verdict first_of_numbers front_range front_head request_in body_meaning
     meaning arrival
 large_report-pass = usual_pass large_report refl
@@ -180,7 +182,7 @@ large_report-pass = usual_pass large_report refl
 -- the execution opens the report under the least free name
 pub large_report-opened :
     slice_get (answers usual large_report) 5 ≡ Some (AppliedSo (Done (Some (own 0))))
-unfolding seen spelling checksum octets_in shift_all tc_field tc_verdict command_in tm_field
+unfolding packet_seen spelling checksum octets_in shift_all tc_field tc_verdict command_in tm_field
     tm_verdict body_of part_verdict first_of_numbers front_range front_head request_in body_meaning
     meaning arrival
 large_report-opened =
@@ -188,10 +190,10 @@ large_report-opened =
     (recorded_is usual (reverse large_report))
 
 -- the request is released as it is, and the report on ground
-pub large_report-released : releases usual (passed usual large_report)
+pub large_report-released : releases usual (pass_history usual large_report)
     ≡ record { place = 2; of = None; message = dump_packet }
     ∷ record { place = 17; of = Some (Down, own 0); message = report_packet } ∷ []
-unfolding seen spelling checksum octets_in shift_all tc_field tc_verdict command_in tm_field
+unfolding packet_seen spelling checksum octets_in shift_all tc_field tc_verdict command_in tm_field
     tm_verdict body_of part_verdict first_of_numbers front_range front_head request_in body_meaning
     meaning arrival
 large_report-released = releases_passed usual large_report

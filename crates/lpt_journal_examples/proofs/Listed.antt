@@ -32,10 +32,10 @@ use Rattle.lpt_journal.specs.Link.{sent}
 use Rattle.lpt_journal.specs.Senders.{sender, is_free, is_open, once}
 use Rattle.lpt_journal.specs.Receivers.{with_piece, heard, has_parts, heard_names, open_names, is_closed, last_tick, limits}
 use Rattle.lpt_journal.specs.Due.{is_overdue, earliest, due, given_up}
-use Rattle.lpt_journal.specs.Delivery.{judged_part, judged}
+use Rattle.lpt_journal.specs.Delivery.{judged_part, arrival_judged}
 use Rattle.lpt_journal_examples.proofs.ListedSets.{Listed, with_listed, contradicts_listed, whole_listed, spelled_listed, entries-with_piece, contradicts_is, whole_is, listed, entries-heard}
 use Rattle.lpt_journal_examples.specs.Passes.{usual_memories}
-use Rattle.lpt_journal.specs.Replies.{expired_now, answer, outcome_puts, expiry_puts, puts, opens, told, entry, recorded}
+use Rattle.lpt_journal.specs.Replies.{expired_now, answer, outcome_puts, expiry_puts, puts, opens, puts_told, entry, history_after}
 use Rattle.lpt_journal.specs.Refusals.{expiry_fault, first_fault, refusal}
 
 -- ---- outcomes
@@ -83,7 +83,7 @@ judged_listed c h d (APart q) =
     judged_list c.mode (limits c h (receiver_side d)).receptions (is_closed h d q.name)
     (length (names_listed c h d))
     (listed c h d q.name) q
-judged_listed c h d a = judged c h d a
+judged_listed c h d a = arrival_judged c h d a
 
 -- what becomes of the packet in a lane's hand, by the lists
 abbrev pub outcome_listed : Config → History → Lane → Outcome
@@ -94,7 +94,7 @@ has_is : (c : Config) (h : History) (d : Direction) (name : Name)
 has_is c h d name = has_parts_is (heard c h d name) ∙ ap has_listed (entries-heard c h d name)
 
 judged_is : (c : Config) (h : History) (d : Direction) (a : Arrival)
-    → judged c h d a ≡ judged_listed c h d a
+    → arrival_judged c h d a ≡ judged_listed c h d a
 judged_is c h d (APart q) =
     judged_part_is c.mode (limits c h (receiver_side d)).receptions (is_closed h d q.name)
     (length (open_names c h d))
@@ -179,7 +179,7 @@ puts_listed c h e = puts c usual_memories h e
 
 abbrev reply_listed : Config → History → Act → Reply
 reply_listed c h e =
-    record { answer = answer_listed c h e; puts = told (length (sent h)) (puts_listed c h e) }
+    record { answer = answer_listed c h e; puts = puts_told (length (sent h)) (puts_listed c h e) }
 
 -- an event with what it gives, by the lists
 abbrev pub entry_listed : Config → History → Act → Recorded
@@ -197,7 +197,8 @@ entry_is c h (Deliver l) =
           record {
             answer = Delivered (o i);
             puts =
-                told (length (sent h)) (outcome_puts c h (receiver_side (lane_direction l)) (o i));
+                puts_told (length (sent h))
+                (outcome_puts c h (receiver_side (lane_direction l)) (o i));
           };
       puts = outcome_puts c h (receiver_side (lane_direction l)) (o i);
       opens = [];
@@ -209,7 +210,7 @@ entry_is c h (Expire side which) =
       reply =
           record {
             answer = expired_now (direction_to side) (o i);
-            puts = told (length (sent h)) (expiry_puts c h side (o i));
+            puts = puts_told (length (sent h)) (expiry_puts c h side (o i));
           };
       puts = expiry_puts c h side (o i);
       opens = [];
@@ -222,10 +223,12 @@ recorded_listed c [] = []
 recorded_listed c (e ∷ es) = let h = recorded_listed c es in entry_listed c h e ∷ h
 
 -- the history of a journal is the same by the lists
-pub recorded_is : (c : Config) (es : List Act) → recorded c usual_memories es ≡ recorded_listed c es
+pub recorded_is : (c : Config) (es : List Act) → history_after c usual_memories es
+    ≡ recorded_listed c es
 recorded_is c [] = refl
 recorded_is c (e ∷ es) =
     let before = recorded_is c es in
-    let now : entry c usual_memories (recorded c usual_memories es) e ≡ entry_listed c (recorded_listed c es) e =
+    let now : entry c usual_memories (history_after c usual_memories es) e
+    ≡ entry_listed c (recorded_listed c es) e =
     ap (λ h. entry c usual_memories h e) before ∙ entry_is c (recorded_listed c es) e in
     λ i. now i ∷ before i

@@ -20,7 +20,7 @@ use Rattle.lpt_journal.specs.Releases.{released_now, release_after, released_by,
 use Rattle.lpt_journal_examples.proofs.ListedSets.{Listed, with_listed, spelled_listed, entries-with_piece, listed, entries-heard}
 use Rattle.lpt_journal.specs.Replies.{answer}
 use Rattle.lpt_journal_examples.proofs.Listed.{recorded_listed, recorded_is}
-use Rattle.lpt_journal_examples.specs.Passes.{passed}
+use Rattle.lpt_journal_examples.specs.Passes.{pass_history}
 
 abbrev released_list : (place : ℕ) → Direction → Answer → (Name → Listed) → Arrival → List Release
 released_list place d (Delivered (Released name len)) s (APart q) =
@@ -79,6 +79,6 @@ releases_is c (x ∷ h) =
 
 -- the releases of a pass, by the lists
 pub releases_passed : (c : Config) (es : List Act)
-    → releases c (passed c es) ≡ releases_listed c (recorded_listed c (reverse es))
+    → releases c (pass_history c es) ≡ releases_listed c (recorded_listed c (reverse es))
 releases_passed c es =
     ap (releases c) (recorded_is c (reverse es)) ∙ releases_is c (recorded_listed c (reverse es))

@@ -21,7 +21,7 @@ use Rattle.lpt_events.specs.declared.reply.Answer.TheVariants.{Delivered}
 use Rattle.lpt_events.specs.Sides.{same_side, receiver_side}
 use Rattle.lpt_journal.specs.Journal.{History}
 use Rattle.lpt_journal.specs.Hands.{in_hand}
-use Rattle.lpt_journal.specs.Receivers.{kept, with_piece, with_arrival, ends, heard_now, heard_after, heard}
+use Rattle.lpt_journal.specs.Receivers.{as_kept, with_piece, with_arrival, ends, heard_now, heard_after, heard}
 use Rattle.lpt_journal.specs.Replies.{answer}
 
 -- ---- the set
@@ -32,7 +32,7 @@ Listed = List (ℕ × KeptPart)
 
 -- the list with a part added
 abbrev pub with_listed : Listed → NamedPart → Listed
-with_listed s q = put nat_cmp q.number (kept q) s
+with_listed s q = put nat_cmp q.number (as_kept q) s
 
 -- whether a last part's number is below another's
 abbrev pub overruns : Listed → Bool
@@ -40,7 +40,7 @@ overruns s = list_any (λ e. is_last e.1 && list_any (λ f. nat_lt e.0 f.0) s) s
 
 -- whether a part contradicts a list of parts
 abbrev pub contradicts_listed : Listed → NamedPart → Bool
-contradicts_listed s q = differs (find nat_cmp q.number s) (kept q) || overruns (with_listed s q)
+contradicts_listed s q = differs (find nat_cmp q.number s) (as_kept q) || overruns (with_listed s q)
 
 -- whether the parts 1 to n are there
 abbrev pub all_to : Listed → ℕ → Bool
@@ -58,13 +58,13 @@ spelled_listed s = flat_map (λ e. e.1.octets) s
 -- a set with a part added is the list with it added
 pub entries-with_piece : (s : Parts) (q : NamedPart)
     → map.entries (with_piece s q) ≡ with_listed (map.entries s) q
-entries-with_piece s q = map.entries-insert nat_cmp_total s q.number (kept q)
+entries-with_piece s q = map.entries-insert nat_cmp_total s q.number (as_kept q)
 
 -- the tests of a set are those of its list
 pub contradicts_is : (s : Parts) (q : NamedPart)
-    → contradicts s q.number (kept q) ≡ contradicts_listed (map.entries s) q
+    → contradicts s q.number (as_kept q) ≡ contradicts_listed (map.entries s) q
 contradicts_is s q =
-    λ i. differs (map.get-entries s q.number i) (kept q) || overruns (entries-with_piece s q i)
+    λ i. differs (map.get-entries s q.number i) (as_kept q) || overruns (entries-with_piece s q i)
 
 all_to_is : (s : Parts) (n : ℕ) → has_all_to s n ≡ all_to (map.entries s) n
 all_to_is s zero = refl

@@ -2,7 +2,7 @@
 use Rattle.std.proofs.Common.{◌≡◌, ap, List, [], ◌∷◌}
 use Rattle.lpt_packet.specs.declared.direction.Direction.TheVariants.{Up}
 use Rattle.lpt_packet.specs.Checksums.{checksum, octets_in, shift_all}
-use Rattle.lpt_packet.specs.Packets.{seen, spelling}
+use Rattle.lpt_packet.specs.Packets.{packet_seen, spelling}
 use Rattle.lpt_pus.specs.Commands.{tc_field, tc_verdict}
 use Rattle.lpt_part.specs.Parts.{body_of, part_verdict}
 use Rattle.lpt_acts.specs.Acts.{Act, Open, Send, Lose, Take, Deliver}
@@ -27,6 +27,6 @@ pub lossy-given : (played usual lossy).given ≡
     ∷ puts_packet 0
     ∷ gives (Took 0) ∷ gives Lost ∷ Refuses NotHeld ∷ Refuses NotHeld
     ∷ gives (Delivered (Kept (own 7) 1)) ∷ []
-unfolding seen spelling checksum octets_in shift_all tc_field tc_verdict body_of part_verdict
+unfolding packet_seen spelling checksum octets_in shift_all tc_field tc_verdict body_of part_verdict
     arrival
 lossy-given = ap (λ p. p.given) (played_is usual lossy)

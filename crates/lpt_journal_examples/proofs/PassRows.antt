@@ -3,7 +3,7 @@ use Rattle.std.proofs.Common.{◌≡◌, ap, refl, true, [], ◌∷◌, map, rev
 use Rattle.std.specs.List.{slice_get}
 use Rattle.lpt_packet.specs.declared.direction.Direction.TheVariants.{Up, Down}
 use Rattle.lpt_packet.specs.Checksums.{checksum, octets_in, shift_all}
-use Rattle.lpt_packet.specs.Packets.{seen, spelling}
+use Rattle.lpt_packet.specs.Packets.{packet_seen, spelling}
 use Rattle.lpt_pus.specs.Commands.{tc_field, tc_verdict}
 use Rattle.lpt_pus.specs.Telemetry.{tm_field, tm_verdict}
 use Rattle.lpt_part.specs.declared.reason.Reason.TheVariants.{Expired as TimedOut}
@@ -19,24 +19,25 @@ use Rattle.lpt_journal.specs.Whole.{came}
 use Rattle.lpt_journal_examples.proofs.LegalRows.{usual_pass, impatient_pass}
 use Rattle.lpt_journal_examples.proofs.Listed.{recorded_is}
 use Rattle.lpt_journal_examples.proofs.ListedReleases.{releases_passed}
-use Rattle.lpt_journal_examples.specs.Passes.{IsPass, passed, answers, usual, impatient, m9, m20, out_of_order, both_ways, noisy, two_expire, set_back, own, other}
+use Rattle.lpt_journal_examples.specs.Passes.{IsPass, pass_history, answers, usual, impatient, m9, m20, out_of_order, both_ways, noisy, two_expire, set_back, own, other}
 
 -- ---- three parts that come in another order
 
 pub out_of_order-pass : IsPass usual out_of_order
-unfolding seen spelling checksum octets_in shift_all tc_field tc_verdict body_of part_verdict
+unfolding packet_seen spelling checksum octets_in shift_all tc_field tc_verdict body_of part_verdict
     arrival
 out_of_order-pass = usual_pass out_of_order refl
 
-pub out_of_order-released : releases usual (passed usual out_of_order)
+pub out_of_order-released : releases usual (pass_history usual out_of_order)
     ≡ record { place = 9; of = Some (Up, own 7); message = m20 } ∷ []
-unfolding seen spelling checksum octets_in shift_all tc_field tc_verdict body_of part_verdict
+unfolding packet_seen spelling checksum octets_in shift_all tc_field tc_verdict body_of part_verdict
     arrival
 out_of_order-released = releases_passed usual out_of_order
 
-pub out_of_order-came : map (came usual (passed usual out_of_order) Up (own 7)) (1 ∷ 2 ∷ 3 ∷ [])
+pub out_of_order-came : map (came usual (pass_history usual out_of_order) Up (own 7))
+    (1 ∷ 2 ∷ 3 ∷ [])
     ≡ true ∷ true ∷ true ∷ []
-unfolding seen spelling checksum octets_in shift_all tc_field tc_verdict body_of part_verdict
+unfolding packet_seen spelling checksum octets_in shift_all tc_field tc_verdict body_of part_verdict
     arrival
 out_of_order-came =
     ap (λ h. map (came usual h Up (own 7)) (1 ∷ 2 ∷ 3 ∷ []))
@@ -45,79 +46,79 @@ out_of_order-came =
 -- ---- one name in both directions
 
 pub both_ways-pass : IsPass usual both_ways
-unfolding seen spelling checksum octets_in shift_all tc_field tc_verdict tm_field tm_verdict body_of
+unfolding packet_seen spelling checksum octets_in shift_all tc_field tc_verdict tm_field tm_verdict body_of
     part_verdict abort_verdict arrival
 both_ways-pass = usual_pass both_ways refl
 
-pub both_ways-released : releases usual (passed usual both_ways)
+pub both_ways-released : releases usual (pass_history usual both_ways)
     ≡ record { place = 14; of = Some (Down, own 7); message = m9 }
     ∷ record { place = 16; of = Some (Up, own 7); message = m20 } ∷ []
-unfolding seen spelling checksum octets_in shift_all tc_field tc_verdict tm_field tm_verdict body_of
+unfolding packet_seen spelling checksum octets_in shift_all tc_field tc_verdict tm_field tm_verdict body_of
     part_verdict abort_verdict arrival
 both_ways-released = releases_passed usual both_ways
 
 -- ---- what the link's noise leaves
 
 pub noisy-pass : IsPass usual noisy
-unfolding seen spelling checksum octets_in shift_all tc_field tc_verdict tm_field tm_verdict body_of
+unfolding packet_seen spelling checksum octets_in shift_all tc_field tc_verdict tm_field tm_verdict body_of
     part_verdict abort_verdict arrival
 noisy-pass = usual_pass noisy refl
 
 pub noisy-up : slice_get (answers usual noisy) 6 ≡ Some (Delivered (Ignored Unreadable))
-unfolding seen spelling checksum octets_in shift_all tc_field tc_verdict tm_field tm_verdict body_of
+unfolding packet_seen spelling checksum octets_in shift_all tc_field tc_verdict tm_field tm_verdict body_of
     part_verdict abort_verdict arrival
 noisy-up =
     ap (λ h. slice_get (reverse (map (λ x. x.reply.answer) h)) 6)
     (recorded_is usual (reverse noisy))
 
 pub noisy-down : slice_get (answers usual noisy) 10 ≡ Some (Delivered (Ignored Unreadable))
-unfolding seen spelling checksum octets_in shift_all tc_field tc_verdict tm_field tm_verdict body_of
+unfolding packet_seen spelling checksum octets_in shift_all tc_field tc_verdict tm_field tm_verdict body_of
     part_verdict abort_verdict arrival
 noisy-down =
     ap (λ h. slice_get (reverse (map (λ x. x.reply.answer) h)) 10)
     (recorded_is usual (reverse noisy))
 
-pub noisy-released : releases usual (passed usual noisy)
+pub noisy-released : releases usual (pass_history usual noisy)
     ≡ record { place = 12; of = Some (Up, own 7); message = m9 } ∷ []
-unfolding seen spelling checksum octets_in shift_all tc_field tc_verdict tm_field tm_verdict body_of
+unfolding packet_seen spelling checksum octets_in shift_all tc_field tc_verdict tm_field tm_verdict body_of
     part_verdict abort_verdict arrival
 noisy-released = releases_passed usual noisy
 
 -- ---- two receptions that expire
 
 pub two_expire-pass : IsPass impatient two_expire
-unfolding seen spelling checksum octets_in shift_all tc_field tc_verdict body_of part_verdict
+unfolding packet_seen spelling checksum octets_in shift_all tc_field tc_verdict body_of part_verdict
     arrival
 two_expire-pass = impatient_pass two_expire refl
 
-pub two_expire-expired : abortions (passed impatient two_expire)
+pub two_expire-expired : abortions (pass_history impatient two_expire)
     ≡ record { place = 9; direction = Up; name = own 9 }
     ∷ record { place = 10; direction = Up; name = other 3 } ∷ []
-unfolding seen spelling checksum octets_in shift_all tc_field tc_verdict body_of part_verdict
+unfolding packet_seen spelling checksum octets_in shift_all tc_field tc_verdict body_of part_verdict
     arrival
 two_expire-expired = ap abortions (recorded_is impatient (reverse two_expire))
 
-pub two_expire-released : releases impatient (passed impatient two_expire) ≡ []
-unfolding seen spelling checksum octets_in shift_all tc_field tc_verdict body_of part_verdict
+pub two_expire-released : releases impatient (pass_history impatient two_expire) ≡ []
+unfolding packet_seen spelling checksum octets_in shift_all tc_field tc_verdict body_of part_verdict
     arrival
 two_expire-released = releases_passed impatient two_expire
 
 -- ---- a clock that is set back, and limits that an end gets later
 
 pub set_back-pass : IsPass usual set_back
-unfolding seen spelling checksum octets_in shift_all tc_field tc_verdict tm_field tm_verdict body_of
+unfolding packet_seen spelling checksum octets_in shift_all tc_field tc_verdict tm_field tm_verdict body_of
     part_verdict abort_body abort_verdict arrival
 set_back-pass = usual_pass set_back refl
 
 pub set_back-clock : slice_get (answers usual set_back) 8 ≡ Some (Clock 1)
-unfolding seen spelling checksum octets_in shift_all tc_field tc_verdict tm_field tm_verdict body_of
+unfolding packet_seen spelling checksum octets_in shift_all tc_field tc_verdict tm_field tm_verdict body_of
     part_verdict abort_body abort_verdict arrival
 set_back-clock =
     ap (λ h. slice_get (reverse (map (λ x. x.reply.answer) h)) 8)
     (recorded_is usual (reverse set_back))
 
 pub set_back-crowded : slice_get (answers usual set_back) 15 ≡ Some (Delivered (Ignored NoRoom))
-unfolding seen spelling checksum octets_in shift_all tc_field tc_verdict tm_field tm_verdict body_of
+unfolding packet_seen spelling checksum octets_in shift_all tc_field tc_verdict tm_field tm_verdict body_of
     part_verdict abort_body abort_verdict arrival
 set_back-crowded =
     ap (λ h. slice_get (reverse (map (λ x. x.reply.answer) h)) 15)
@@ -125,20 +126,20 @@ set_back-crowded =
 
 pub set_back-noted : slice_get (answers usual set_back) 23
     ≡ Some (Delivered (AbortNoted (own 8) TimedOut))
-unfolding seen spelling checksum octets_in shift_all tc_field tc_verdict tm_field tm_verdict body_of
+unfolding packet_seen spelling checksum octets_in shift_all tc_field tc_verdict tm_field tm_verdict body_of
     part_verdict abort_body abort_verdict arrival
 set_back-noted =
     ap (λ h. slice_get (reverse (map (λ x. x.reply.answer) h)) 23)
     (recorded_is usual (reverse set_back))
 
-pub set_back-expired : abortions (passed usual set_back)
+pub set_back-expired : abortions (pass_history usual set_back)
     ≡ record { place = 18; direction = Up; name = own 7 }
     ∷ record { place = 21; direction = Up; name = own 8 } ∷ []
-unfolding seen spelling checksum octets_in shift_all tc_field tc_verdict tm_field tm_verdict body_of
+unfolding packet_seen spelling checksum octets_in shift_all tc_field tc_verdict tm_field tm_verdict body_of
     part_verdict abort_body abort_verdict arrival
 set_back-expired = ap abortions (recorded_is usual (reverse set_back))
 
-pub set_back-released : releases usual (passed usual set_back) ≡ []
-unfolding seen spelling checksum octets_in shift_all tc_field tc_verdict tm_field tm_verdict body_of
+pub set_back-released : releases usual (pass_history usual set_back) ≡ []
+unfolding packet_seen spelling checksum octets_in shift_all tc_field tc_verdict tm_field tm_verdict body_of
     part_verdict abort_body abort_verdict arrival
 set_back-released = releases_passed usual set_back

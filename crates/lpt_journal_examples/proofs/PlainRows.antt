@@ -3,7 +3,7 @@ use Rattle.std.proofs.Common.{◌≡◌, ◌∙◌, ap, refl, List, [], ◌∷�
 use Rattle.std.specs.List.{slice_get}
 use Rattle.lpt_packet.specs.declared.direction.Direction.TheVariants.{Up}
 use Rattle.lpt_packet.specs.Checksums.{checksum, octets_in, shift_all}
-use Rattle.lpt_packet.specs.Packets.{seen, spelling}
+use Rattle.lpt_packet.specs.Packets.{packet_seen, spelling}
 use Rattle.lpt_pus.specs.Commands.{tc_field, tc_verdict}
 use Rattle.lpt_events.specs.declared.lane.Lane.TheVariants.{S1}
 use Rattle.lpt_events.specs.declared.outcome.Outcome.TheVariants.{PlainReleased}
@@ -31,19 +31,19 @@ pub loading-given : (played usual loading).given ≡
     ∷ gives (Took 0) ∷ gives (Delivered (PlainReleased 27))
     ∷ Refuses PartRequest ∷ Refuses PartRequest ∷ Refuses Long
     ∷ puts_packet 1 ∷ []
-unfolding seen spelling checksum octets_in shift_all tc_field tc_verdict arrival
+unfolding packet_seen spelling checksum octets_in shift_all tc_field tc_verdict arrival
 loading-given = ap (λ p. p.given) (played_is usual loading)
 
 -- the packet is that of the request
 pub loading-sent : slice_get (sent (played usual loading).after) 0
     ≡ Some (record { direction = Up; octets = load_packet })
-unfolding seen spelling checksum octets_in shift_all tc_field tc_verdict arrival
+unfolding packet_seen spelling checksum octets_in shift_all tc_field tc_verdict arrival
 loading-sent = ap (λ p. slice_get (sent p.after) 0) (played_is usual loading)
 
 -- it is released as it is, with no transaction
 pub loading-released : releases usual (played usual loading).after
     ≡ record { place = 2; of = None; message = load_packet } ∷ []
-unfolding seen spelling checksum octets_in shift_all tc_field tc_verdict arrival
+unfolding packet_seen spelling checksum octets_in shift_all tc_field tc_verdict arrival
 loading-released =
     ap (λ p. releases usual p.after) (played_is usual loading)
     ∙ releases_is usual (played_listed usual loading).after
@@ -54,5 +54,5 @@ accepted = Plain 1 0 6 2 load ∷ Take S1 0 ∷ Deliver S1 ∷ Plain 1 15 13 12 
 
 -- it is a pass
 pub accepted-pass : IsPass usual accepted
-unfolding seen spelling checksum octets_in shift_all tc_field tc_verdict arrival
+unfolding packet_seen spelling checksum octets_in shift_all tc_field tc_verdict arrival
 accepted-pass = usual_pass accepted refl

@@ -4,7 +4,7 @@ use Rattle.std.proofs.Common.{◌≡◌, ◌∙◌, ap, sym, refl, List, [], ◌
 use Rattle.std.specs.List.{slice_get}
 use Rattle.lpt_packet.specs.declared.direction.Direction.TheVariants.{Up}
 use Rattle.lpt_packet.specs.Checksums.{checksum, octets_in, shift_all}
-use Rattle.lpt_packet.specs.Packets.{seen, spelling}
+use Rattle.lpt_packet.specs.Packets.{packet_seen, spelling}
 use Rattle.lpt_pus.specs.Commands.{tc_field, tc_verdict}
 use Rattle.lpt_part.specs.Parts.{body_of, part_verdict}
 use Rattle.lpt_events.specs.Arrivals.{arrival}
@@ -19,12 +19,12 @@ use Rattle.lpt_events.specs.declared.worker.Worker.TheVariants.{W1}
 use Rattle.lpt_journal.specs.Jobs.{memories}
 use Rattle.lpt_journal.specs.Link.{sent}
 use Rattle.lpt_journal.specs.Releases.{releases}
-use Rattle.lpt_journal.specs.Replies.{recorded}
+use Rattle.lpt_journal.specs.Replies.{history_after}
 use Rattle.lpt_journal_examples.proofs.LegalRows.{usual_pass}
 use Rattle.lpt_journal_examples.proofs.Listed.{recorded_is}
 use Rattle.lpt_journal_examples.proofs.ListedReleases.{releases_passed}
 use Rattle.lpt_journal_examples.proofs.Played.{Refuses, played, played_is, gives, puts_packet}
-use Rattle.lpt_journal_examples.specs.Passes.{IsPass, passed, answers, usual, usual_memories, m20, m9, load, load_packet, renewed, own}
+use Rattle.lpt_journal_examples.specs.Passes.{IsPass, pass_history, answers, usual, usual_memories, m20, m9, load, load_packet, names_renewed, own}
 
 -- the pass, with events between that are refused
 abbrev asked : List Act
@@ -62,52 +62,55 @@ pub asked-given : (played usual asked).given ≡
     ∷ gives (Opened 2) ∷ puts_packet 6 ∷ gives (Restarted 1) ∷ Refuses NotOpen
     ∷ Refuses NotClear ∷ gives Lost ∷ gives Retired ∷ Refuses NotOpen
     ∷ gives Lost ∷ gives Lost ∷ gives Retired ∷ gives (Opened 3) ∷ puts_packet 7 ∷ []
-unfolding seen spelling checksum octets_in shift_all tc_field tc_verdict body_of part_verdict
+unfolding packet_seen spelling checksum octets_in shift_all tc_field tc_verdict body_of part_verdict
     arrival
 asked-given = ap (λ p. p.given) (played_is usual asked)
 
 -- what isn't refused of it is the pass
-pub asked-after : (played usual asked).after ≡ recorded usual usual_memories (reverse renewed)
-unfolding seen spelling checksum octets_in shift_all tc_field tc_verdict body_of part_verdict
+pub asked-after : (played usual asked).after
+    ≡ history_after usual usual_memories (reverse names_renewed)
+unfolding packet_seen spelling checksum octets_in shift_all tc_field tc_verdict body_of part_verdict
     arrival
-asked-after = ap (λ p. p.after) (played_is usual asked) ∙ sym (recorded_is usual (reverse renewed))
+asked-after =
+    ap (λ p. p.after) (played_is usual asked) ∙ sym (recorded_is usual (reverse names_renewed))
 
 -- none of its events is refused
-pub renewed-pass : IsPass usual renewed
-unfolding seen spelling checksum octets_in shift_all tc_field tc_verdict body_of part_verdict
+pub renewed-pass : IsPass usual names_renewed
+unfolding packet_seen spelling checksum octets_in shift_all tc_field tc_verdict body_of part_verdict
     arrival
-renewed-pass = usual_pass renewed refl
+renewed-pass = usual_pass names_renewed refl
 
 -- the commit of what was claimed before the restart is stale
-pub renewed-stale : slice_get (answers usual renewed) 5 ≡ Some (Stale 0 0)
-unfolding seen spelling checksum octets_in shift_all tc_field tc_verdict body_of part_verdict
+pub renewed-stale : slice_get (answers usual names_renewed) 5 ≡ Some (Stale 0 0)
+unfolding packet_seen spelling checksum octets_in shift_all tc_field tc_verdict body_of part_verdict
     arrival
 renewed-stale =
-    ap (λ h. slice_get (reverse (map (λ x. x.reply.answer) h)) 5) (recorded_is usual (reverse renewed))
+    ap (λ h. slice_get (reverse (map (λ x. x.reply.answer) h)) 5)
+    (recorded_is usual (reverse names_renewed))
 
 -- the request was released, and both messages of the name, each as it was opened
-pub renewed-released : releases usual (passed usual renewed)
+pub renewed-released : releases usual (pass_history usual names_renewed)
     ≡ record { place = 2; of = None; message = load_packet }
     ∷ record { place = 16; of = Some (Up, own 7); message = m20 }
     ∷ record { place = 29; of = Some (Up, own 7); message = m9 } ∷ []
-unfolding seen spelling checksum octets_in shift_all tc_field tc_verdict body_of part_verdict
+unfolding packet_seen spelling checksum octets_in shift_all tc_field tc_verdict body_of part_verdict
     arrival
-renewed-released = releases_passed usual renewed
+renewed-released = releases_passed usual names_renewed
 
 -- nothing was executed
-pub renewed-left : memories usual usual_memories (passed usual renewed) ≡ usual_memories
-unfolding seen spelling checksum octets_in shift_all tc_field tc_verdict body_of part_verdict
+pub renewed-left : memories usual usual_memories (pass_history usual names_renewed) ≡ usual_memories
+unfolding packet_seen spelling checksum octets_in shift_all tc_field tc_verdict body_of part_verdict
     arrival
-renewed-left = ap (memories usual usual_memories) (recorded_is usual (reverse renewed))
+renewed-left = ap (memories usual usual_memories) (recorded_is usual (reverse names_renewed))
 
 -- ground counts its packets from 0 again
 pub renewed-packet :
-    slice_get (sent (recorded usual usual_memories (reverse renewed))) 7 ≡ Some (record {
+    slice_get (sent (history_after usual usual_memories (reverse names_renewed))) 7 ≡ Some (record {
       direction = Up;
       octets =
           24 ∷ 100 ∷ 192 ∷ 0 ∷ 0 ∷ 18 ∷ 32 ∷ 13 ∷ 9 ∷ 0 ∷ 1 ∷ 0 ∷ 7 ∷ 0 ∷ 1 ∷ 0 ∷ 1 ∷ 2 ∷ 3 ∷ 4 ∷ 5 ∷ 6
           ∷ 7 ∷ 244 ∷ 13 ∷ [];
     })
-unfolding seen spelling checksum octets_in shift_all tc_field tc_verdict body_of part_verdict
+unfolding packet_seen spelling checksum octets_in shift_all tc_field tc_verdict body_of part_verdict
     arrival
-renewed-packet = ap (λ h. slice_get (sent h) 7) (recorded_is usual (reverse renewed))
+renewed-packet = ap (λ h. slice_get (sent h) 7) (recorded_is usual (reverse names_renewed))

@@ -3,7 +3,7 @@ use Rattle.std.proofs.Common.{◌≡◌, ◌∙◌, ap, List, [], ◌∷◌, Som
 use Rattle.std.specs.List.{slice_get}
 use Rattle.lpt_packet.specs.declared.direction.Direction.TheVariants.{Up}
 use Rattle.lpt_packet.specs.Checksums.{checksum, octets_in, shift_all}
-use Rattle.lpt_packet.specs.Packets.{seen, spelling}
+use Rattle.lpt_packet.specs.Packets.{packet_seen, spelling}
 use Rattle.lpt_pus.specs.Commands.{tc_field, tc_verdict}
 use Rattle.lpt_part.specs.Parts.{body_of, part_verdict}
 use Rattle.lpt_events.specs.declared.lane.Lane.TheVariants.{S1, S2}
@@ -28,7 +28,7 @@ pub out_of_order-given : (played usual out_of_order).given ≡
     ∷ gives (Took 2) ∷ gives (Delivered (Kept (own 7) 3))
     ∷ gives (Took 0) ∷ gives (Delivered (Kept (own 7) 1))
     ∷ gives (Took 1) ∷ gives (Delivered (Released (own 7) 20)) ∷ []
-unfolding seen spelling checksum octets_in shift_all tc_field tc_verdict body_of part_verdict
+unfolding packet_seen spelling checksum octets_in shift_all tc_field tc_verdict body_of part_verdict
     arrival
 out_of_order-given = ap (λ p. p.given) (played_is usual out_of_order)
 
@@ -39,7 +39,7 @@ pub first_packet : slice_get (sent (played usual out_of_order).after) 0 ≡ Some
       24 ∷ 100 ∷ 192 ∷ 0 ∷ 0 ∷ 18 ∷ 32 ∷ 13 ∷ 9 ∷ 0 ∷ 1 ∷ 0 ∷ 7 ∷ 0 ∷ 1 ∷ 0 ∷ 1 ∷ 2 ∷ 3 ∷ 4 ∷ 5 ∷ 6
       ∷ 7 ∷ 244 ∷ 13 ∷ [];
 })
-unfolding seen spelling checksum octets_in shift_all tc_field tc_verdict body_of part_verdict
+unfolding packet_seen spelling checksum octets_in shift_all tc_field tc_verdict body_of part_verdict
     arrival
 first_packet = ap (λ p. slice_get (sent p.after) 0) (played_is usual out_of_order)
 
@@ -50,7 +50,7 @@ pub last_packet : slice_get (sent (played usual out_of_order).after) 2 ≡ Some 
       24 ∷ 100 ∷ 192 ∷ 2 ∷ 0 ∷ 14 ∷ 32 ∷ 13 ∷ 11 ∷ 0 ∷ 1 ∷ 0 ∷ 7 ∷ 0 ∷ 3 ∷ 16 ∷ 17 ∷ 18 ∷ 19 ∷ 19
       ∷ 155 ∷ [];
 })
-unfolding seen spelling checksum octets_in shift_all tc_field tc_verdict body_of part_verdict
+unfolding packet_seen spelling checksum octets_in shift_all tc_field tc_verdict body_of part_verdict
     arrival
 last_packet = ap (λ p. slice_get (sent p.after) 2) (played_is usual out_of_order)
 
@@ -79,14 +79,14 @@ pub repeated-given : (played usual repeated).given ≡
     ∷ gives (Took 0) ∷ gives (Delivered (Ignored Closed))
     ∷ gives (Took 1) ∷ gives (Delivered (Ignored Closed))
     ∷ gives (Took 2) ∷ gives (Delivered (Ignored Closed)) ∷ []
-unfolding seen spelling checksum octets_in shift_all tc_field tc_verdict body_of part_verdict
+unfolding packet_seen spelling checksum octets_in shift_all tc_field tc_verdict body_of part_verdict
     arrival
 repeated-given = ap (λ p. p.given) (played_is usual repeated)
 
 -- there is one release
 pub repeated-released : releases usual (played usual repeated).after
     ≡ record { place = 11; of = Some (Up, own 7); message = m20 } ∷ []
-unfolding seen spelling checksum octets_in shift_all tc_field tc_verdict body_of part_verdict
+unfolding packet_seen spelling checksum octets_in shift_all tc_field tc_verdict body_of part_verdict
     arrival
 repeated-released =
     ap (λ p. releases usual p.after) (played_is usual repeated)
@@ -107,7 +107,7 @@ pub two_parts-given : (played usual two_parts).given ≡
     ∷ puts_packet 0 ∷ puts_packet 1 ∷ Refuses NoSuchPart
     ∷ gives (Took 0) ∷ gives (Delivered (Kept (own 7) 1))
     ∷ gives (Took 1) ∷ gives (Delivered (Released (own 7) 9)) ∷ []
-unfolding seen spelling checksum octets_in shift_all tc_field tc_verdict body_of part_verdict
+unfolding packet_seen spelling checksum octets_in shift_all tc_field tc_verdict body_of part_verdict
     arrival
 two_parts-given = ap (λ p. p.given) (played_is usual two_parts)
 
@@ -116,14 +116,14 @@ pub short_last_packet : slice_get (sent (played usual two_parts).after) 1 ≡ So
   direction = Up;
   octets = 24 ∷ 100 ∷ 192 ∷ 1 ∷ 0 ∷ 11 ∷ 32 ∷ 13 ∷ 11 ∷ 0 ∷ 1 ∷ 0 ∷ 7 ∷ 0 ∷ 2 ∷ 8 ∷ 213 ∷ 138 ∷ [];
 })
-unfolding seen spelling checksum octets_in shift_all tc_field tc_verdict body_of part_verdict
+unfolding packet_seen spelling checksum octets_in shift_all tc_field tc_verdict body_of part_verdict
     arrival
 short_last_packet = ap (λ p. slice_get (sent p.after) 1) (played_is usual two_parts)
 
 -- the release is the message
 pub two_parts-released : releases usual (played usual two_parts).after
     ≡ record { place = 6; of = Some (Up, own 7); message = m9 } ∷ []
-unfolding seen spelling checksum octets_in shift_all tc_field tc_verdict body_of part_verdict
+unfolding packet_seen spelling checksum octets_in shift_all tc_field tc_verdict body_of part_verdict
     arrival
 two_parts-released =
     ap (λ p. releases usual p.after) (played_is usual two_parts)
@@ -144,14 +144,14 @@ pub full_parts-given : (played usual full_parts).given ≡
     ∷ puts_packet 0 ∷ puts_packet 1
     ∷ gives (Took 1) ∷ gives (Delivered (Kept (own 7) 2))
     ∷ gives (Took 0) ∷ gives (Delivered (Released (own 7) 16)) ∷ []
-unfolding seen spelling checksum octets_in shift_all tc_field tc_verdict body_of part_verdict
+unfolding packet_seen spelling checksum octets_in shift_all tc_field tc_verdict body_of part_verdict
     arrival
 full_parts-given = ap (λ p. p.given) (played_is usual full_parts)
 
 -- the release is the message
 pub full_parts-released : releases usual (played usual full_parts).after
     ≡ record { place = 6; of = Some (Up, own 7); message = m16 } ∷ []
-unfolding seen spelling checksum octets_in shift_all tc_field tc_verdict body_of part_verdict
+unfolding packet_seen spelling checksum octets_in shift_all tc_field tc_verdict body_of part_verdict
     arrival
 full_parts-released =
     ap (λ p. releases usual p.after) (played_is usual full_parts)
@@ -172,6 +172,6 @@ pub finished-given : (played usual finished).given ≡
     ∷ puts_packet 0
     ∷ gives (Took 0) ∷ gives (Delivered (Kept (own 7) 1))
     ∷ gives Finished ∷ Refuses NotOpen ∷ Refuses NotOpen ∷ Refuses InUse ∷ []
-unfolding seen spelling checksum octets_in shift_all tc_field tc_verdict body_of part_verdict
+unfolding packet_seen spelling checksum octets_in shift_all tc_field tc_verdict body_of part_verdict
     arrival
 finished-given = ap (λ p. p.given) (played_is usual finished)

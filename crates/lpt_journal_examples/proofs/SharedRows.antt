@@ -3,7 +3,7 @@ use Rattle.std.proofs.Common.{◌≡◌, ap, ℕ, nat_lt, nat_le, false, List, [
 use Rattle.std.specs.List.{slice_get}
 use Rattle.lpt_packet.specs.declared.direction.Direction.TheVariants.{Up, Down}
 use Rattle.lpt_packet.specs.Checksums.{checksum, octets_in, shift_all}
-use Rattle.lpt_packet.specs.Packets.{seen, spelling}
+use Rattle.lpt_packet.specs.Packets.{packet_seen, spelling}
 use Rattle.lpt_pus.specs.Commands.{tc_field, tc_verdict}
 use Rattle.lpt_pus.specs.Telemetry.{tm_field, tm_verdict}
 use Rattle.lpt_part.specs.Parts.{body_of, part_verdict}
@@ -39,7 +39,7 @@ pub no_room-given : (played (record usual { receptions = 1 }) no_room).given ≡
     ∷ gives (Took 1) ∷ gives (Delivered (Ignored NoRoom))
     ∷ gives (Took 2) ∷ gives (Delivered (Released (own 7) 9))
     ∷ gives (Took 1) ∷ gives (Delivered (Kept (own 8) 1)) ∷ []
-unfolding seen spelling checksum octets_in shift_all tc_field tc_verdict body_of part_verdict
+unfolding packet_seen spelling checksum octets_in shift_all tc_field tc_verdict body_of part_verdict
     arrival
 no_room-given = ap (λ p. p.given) (played_is (record usual { receptions = 1 }) no_room)
 
@@ -60,7 +60,7 @@ pub refused-given : (played (record usual { outgoing = 1 }) refused).given ≡
     ∷ gives (Opened 2) ∷ Refuses InUse ∷ Refuses TooMany
     ∷ Refuses NoSuchPart ∷ puts_packet 0 ∷ Refuses NoSuchPart ∷ Refuses NotOpen
     ∷ gives (Took 0) ∷ Refuses HandFull ∷ Refuses NotHeld ∷ Refuses NotHeld ∷ Refuses HandEmpty ∷ []
-unfolding seen spelling checksum octets_in shift_all tc_field tc_verdict body_of part_verdict
+unfolding packet_seen spelling checksum octets_in shift_all tc_field tc_verdict body_of part_verdict
     arrival
 refused-given = ap (λ p. p.given) (played_is (record usual { outgoing = 1 }) refused)
 
@@ -81,7 +81,7 @@ pub both_ways-given : (played usual (both_ways ++ Take S1 1 ∷ [])).given ≡
     ∷ gives (Took 3) ∷ gives (Delivered (Released (own 7) 9))
     ∷ gives (Took 4) ∷ gives (Delivered (Released (own 7) 20))
     ∷ Refuses NotHeld ∷ []
-unfolding seen spelling checksum octets_in shift_all tc_field tc_verdict tm_field tm_verdict body_of
+unfolding packet_seen spelling checksum octets_in shift_all tc_field tc_verdict tm_field tm_verdict body_of
     part_verdict abort_verdict arrival
 both_ways-given = ap (λ p. p.given) (played_is usual (both_ways ++ Take S1 1 ∷ []))
 
@@ -92,6 +92,6 @@ pub down_packet : slice_get (sent (played usual both_ways).after) 3 ≡ Some (re
       8 ∷ 100 ∷ 192 ∷ 1 ∷ 0 ∷ 17 ∷ 32 ∷ 13 ∷ 3 ∷ 0 ∷ 0 ∷ 0 ∷ 1 ∷ 0 ∷ 0 ∷ 0 ∷ 0 ∷ 0 ∷ 7 ∷ 0 ∷ 2 ∷ 8
       ∷ 183 ∷ 181 ∷ [];
 })
-unfolding seen spelling checksum octets_in shift_all tc_field tc_verdict tm_field tm_verdict body_of
+unfolding packet_seen spelling checksum octets_in shift_all tc_field tc_verdict tm_field tm_verdict body_of
     part_verdict abort_verdict arrival
 down_packet = ap (λ p. slice_get (sent p.after) 3) (played_is usual both_ways)

@@ -3,7 +3,7 @@ use Rattle.std.proofs.Common.{◌≡◌, ap, List, [], ◌∷◌, ◌++◌, Some
 use Rattle.std.specs.List.{slice_get}
 use Rattle.lpt_packet.specs.declared.direction.Direction.TheVariants.{Up, Down}
 use Rattle.lpt_packet.specs.Checksums.{checksum, octets_in, shift_all}
-use Rattle.lpt_packet.specs.Packets.{seen, spelling}
+use Rattle.lpt_packet.specs.Packets.{packet_seen, spelling}
 use Rattle.lpt_pus.specs.Commands.{tc_field, tc_verdict}
 use Rattle.lpt_pus.specs.Telemetry.{tm_field, tm_verdict}
 use Rattle.lpt_part.specs.declared.reason.Reason.TheVariants.{Expired as TimedOut}
@@ -78,7 +78,7 @@ pub expiring-given : (played usual expiring).given ≡
     ∷ gives (Took 2) ∷ gives (Delivered (Ignored Closed))
     ∷ gives (Took 3) ∷ gives (Delivered (AbortNoted (own 7) TimedOut))
     ∷ Refuses NotOpen ∷ []
-unfolding seen spelling checksum octets_in shift_all tc_field tc_verdict tm_field tm_verdict body_of
+unfolding packet_seen spelling checksum octets_in shift_all tc_field tc_verdict tm_field tm_verdict body_of
     part_verdict abort_body abort_verdict arrival
 expiring-given = ap (λ p. p.given) (played_is usual expiring)
 
@@ -89,7 +89,7 @@ pub expiry_packet : slice_get (sent (played usual expiring).after) 3 ≡ Some (r
       8 ∷ 100 ∷ 192 ∷ 0 ∷ 0 ∷ 15 ∷ 32 ∷ 13 ∷ 16 ∷ 0 ∷ 0 ∷ 0 ∷ 1 ∷ 0 ∷ 0 ∷ 0 ∷ 19 ∷ 0 ∷ 7 ∷ 1 ∷ 78
       ∷ 151 ∷ [];
 })
-unfolding seen spelling checksum octets_in shift_all tc_field tc_verdict tm_field tm_verdict body_of
+unfolding packet_seen spelling checksum octets_in shift_all tc_field tc_verdict tm_field tm_verdict body_of
     part_verdict abort_body abort_verdict arrival
 expiry_packet = ap (λ p. slice_get (sent p.after) 3) (played_is usual expiring)
 
@@ -113,7 +113,7 @@ pub on_ground-given : (played (record usual { timeout = 2 }) on_ground).given �
     ∷ gives (Expired Down (own 7))
     ∷ puts_packet 1
     ∷ gives (Took 1) ∷ gives (Delivered (Ignored Closed)) ∷ []
-unfolding seen spelling checksum octets_in shift_all tc_field tc_verdict tm_field tm_verdict body_of
+unfolding packet_seen spelling checksum octets_in shift_all tc_field tc_verdict tm_field tm_verdict body_of
     part_verdict abort_body abort_verdict arrival
 on_ground-given = ap (λ p. p.given) (played_is (record usual { timeout = 2 }) on_ground)
 
@@ -128,6 +128,6 @@ pub two_expire-given : (played impatient two_expire).given ≡
     ∷ gives (Clock 1)
     ∷ Gives (record { answer = Expired Up (own 9); puts = Some (record { first = 2; count = 1 }) })
     ∷ Gives (record { answer = Expired Up (other 3); puts = Some (record { first = 3; count = 1 }) }) ∷ []
-unfolding seen spelling checksum octets_in shift_all tc_field tc_verdict tm_field tm_verdict body_of
+unfolding packet_seen spelling checksum octets_in shift_all tc_field tc_verdict tm_field tm_verdict body_of
     part_verdict abort_body abort_verdict arrival
 two_expire-given = ap (λ p. p.given) (played_is impatient two_expire)

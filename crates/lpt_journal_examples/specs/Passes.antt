@@ -13,7 +13,7 @@ use Rattle.lpt_events.specs.declared.side.Side.TheVariants.{Ground, Craft}
 use Rattle.lpt_events.specs.declared.worker.Worker.TheVariants.{W1, W2}
 use Rattle.lpt_journal.specs.Journal.{History}
 use Rattle.lpt_journal.specs.Legal.{Legal}
-use Rattle.lpt_journal.specs.Replies.{recorded}
+use Rattle.lpt_journal.specs.Replies.{history_after}
 
 -- ---- what passes have in common
 
@@ -44,12 +44,12 @@ abbrev pub usual_memories : Contents
 usual_memories = (1, replicate 256 0) ∷ []
 
 -- the history of a pass over that memory; a pass has its oldest event first
-abbrev pub passed : Config → List Act → History
-passed c es = recorded c usual_memories (reverse es)
+abbrev pub pass_history : Config → List Act → History
+pass_history c es = history_after c usual_memories (reverse es)
 
 -- what its events answered
 abbrev pub answers : Config → List Act → List Answer
-answers c es = reverse (map (λ x. x.reply.answer) (passed c es))
+answers c es = reverse (map (λ x. x.reply.answer) (pass_history c es))
 
 -- what is said of all legal journals is said of the pass: its configuration is one, and it is legal
 pub record IsPass (c : Config) (es : List Act) : Type 0 where
@@ -234,8 +234,8 @@ large_report =
 
 -- The spacecraft is restarted while a worker reads a request. A message is released, and its name
 -- then used for a shorter one. Ground is restarted while transactions are open.
-abbrev pub renewed : List Act
-renewed =
+abbrev pub names_renewed : List Act
+names_renewed =
     Plain 1 0 6 2 load ∷ Take S1 0 ∷ Deliver S1
     ∷ Claim W1 ∷ Restart Craft ∷ Commit W1
     ∷ Open Up (own 7) m20 ∷ Send Up (own 7) 1 ∷ Send Up (own 7) 2 ∷ Send Up (own 7) 3

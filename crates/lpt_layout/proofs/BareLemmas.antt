@@ -3,13 +3,13 @@ use Rattle.std.proofs.Common.{◌≡◌, ◌≢◌, ◌∙◌, ap, sym, subst, r
 use Rattle.lpt_packet.specs.declared.fault.PacketFault.{PacketFault}
 use Rattle.lpt_packet.specs.declared.fault.PacketFault.TheVariants.{Short, Version, Length, Segmented, NoSecondary}
 use Rattle.lpt_packet.specs.Numbers.{be, word_at, IsOctets}
-use Rattle.lpt_packet.specs.Packets.{sealed as sealed_of, header_of, Fields, Sight, IdlePacket, APacket, IsIdle, IsPacket, packet_type, kind_of, spelling}
+use Rattle.lpt_packet.specs.Packets.{octets_sealed as sealed_of, header_of, Fields, Sight, IdlePacket, APacket, IsIdle, IsPacket, packet_type, kind_of, spelling}
 use Rattle.lpt_packet.proofs.Codec.{word_cells, packet_type_small, packet_type-kind_of, kind_of-packet_type, same_fields, length-spelling}
 use Rattle.lpt_packet.proofs.Found as sealed
 use Rattle.lpt_packet.proofs.Readings.{lt_false, not_lt, eq_true, eq_false, true_eq, false_eq}
 use Rattle.lpt_layout.specs.declared.packet.SeenAs.{SeenAs}
 use Rattle.lpt_layout.specs.Layouts.{trailer}
-use Rattle.lpt_layout.specs.Packets.{closed, bare_header, spelling_as, FieldsFit, IsPacketAs, bare_at, verdict_as, sight, IsSightAs, Gives}
+use Rattle.lpt_layout.specs.Packets.{packet_closed, bare_header, spelling_as, FieldsFit, IsPacketAs, bare_at, verdict_as, sight, IsSightAs, Gives}
 
 -- ---- the tests as bits
 
@@ -228,7 +228,7 @@ length-spelling_as false f = omega arith
 pub closed-spelled : (ends : Bool) (f : Fields) (n : ℕ)
     → 3 ≤ length f.octets
     → n ≡ length f.octets + trailer ends
-    → closed ends (header_of f.kind f.apid f.count (n - 2) ++ f.octets) ≡ spelling_as ends f
+    → packet_closed ends (header_of f.kind f.apid f.count (n - 2) ++ f.octets) ≡ spelling_as ends f
 unfolding spelling_as spelling
 closed-spelled true f n some e =
     let len : n - 2 ≡ length f.octets = omega arith in

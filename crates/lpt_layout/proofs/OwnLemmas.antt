@@ -11,7 +11,7 @@ use Rattle.lpt_part.specs.declared.kind.Kind.TheVariants.{First, Middle, Last}
 use Rattle.lpt_part.specs.Parts.{Piece, number_test, part_verdict, body_of}
 use Rattle.lpt_pus.specs.Commands as commands
 use Rattle.lpt_pus.specs.Commands.{Command, tc_field, tc_verdict, command_at, is_tc}
-use Rattle.lpt_pus.specs.Messages.{tested}
+use Rattle.lpt_pus.specs.Messages.{headers_tested}
 use Rattle.lpt_pus.specs.Telemetry.{Telemetry, tm_field, tm_packet_of, tm_verdict, telemetry_at, is_tm}
 use Rattle.lpt_layout.specs.declared.width.Width.TheVariants.{Long}
 use Rattle.lpt_layout.specs.Messages.{Said, field_of, said_at, message_verdict}
@@ -26,7 +26,7 @@ use Rattle.lpt_layout.proofs.NumberLemmas.{be-number_at}
 -- a verdict in other words, over its tests
 put_as-tested : {X : Type 0} (view : X → Said) (a b c : Bool) (x : X) (s : Said)
     → (b ≡ true → s ≡ view x)
-    → tested a b c s ≡ put_as view (tested a b c x)
+    → headers_tested a b c s ≡ put_as view (headers_tested a b c x)
 put_as-tested view true true true x s h = ap Ok (h refl)
 put_as-tested view true true false x s h = refl
 put_as-tested view true false c x s h = refl

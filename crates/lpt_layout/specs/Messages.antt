@@ -7,7 +7,7 @@ use Rattle.lpt_packet.specs.Packets.{Fields, fields_of}
 use Rattle.lpt_pus.specs.declared.fault.PusFault.{PusFault}
 use Rattle.lpt_pus.specs.Commands.{is_tc}
 use Rattle.lpt_pus.specs.Telemetry.{is_tm}
-use Rattle.lpt_pus.specs.Messages.{tested}
+use Rattle.lpt_pus.specs.Messages.{headers_tested}
 use Rattle.lpt_pus.specs.Ranges.{TcFits}
 use Rattle.lpt_layout.specs.declared.layout.Layout.{Layout}
 use Rattle.lpt_layout.specs.declared.message.Message.{Message}
@@ -28,8 +28,8 @@ pub record Said : Type 0 where
   pub body : List ℕ
 
 -- what a message says, without where it lies in memory
-abbrev pub said : Message → Said
-said m = record {
+abbrev pub message_said : Message → Said
+message_said m = record {
   apid = m.apid;
   count = m.count;
   flags = m.flags;
@@ -93,5 +93,5 @@ is_kind Tc kind = is_tc kind
 -- the message of this type that a packet is, or the first test that it fails
 unfoldable pub message_verdict : Layout → PacketKind → Fields → Result Said PusFault
 message_verdict l kind f =
-    tested (is_kind kind f.kind) (nat_le (body_at l) (length f.octets))
+    headers_tested (is_kind kind f.kind) (nat_le (body_at l) (length f.octets))
     (slice_index f.octets 0 / 16 == version_number l.version) (said_at l f)

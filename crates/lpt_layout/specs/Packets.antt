@@ -3,7 +3,7 @@ use Rattle.std.specs.Prelude.{◌≡◌, ℕ, ◌+◌, ◌-◌, ◌*◌, ◌/◌
 use Rattle.lpt_packet.specs.declared.fault.PacketFault.{PacketFault}
 use Rattle.lpt_packet.specs.declared.fault.PacketFault.TheVariants.{Short, Version, Length, Segmented, NoSecondary}
 use Rattle.lpt_packet.specs.Numbers.{be, word_at}
-use Rattle.lpt_packet.specs.Packets.{Fields, fields_of, Sight, IdlePacket, APacket, packet_type, kind_of, sealed, spelling, verdict, IsIdle}
+use Rattle.lpt_packet.specs.Packets.{Fields, fields_of, Sight, IdlePacket, APacket, packet_type, kind_of, octets_sealed, spelling, verdict, IsIdle}
 use Rattle.lpt_layout.specs.declared.packet.PacketAs.{PacketAs}
 use Rattle.lpt_layout.specs.declared.packet.SeenAs.{SeenAs}
 use Rattle.lpt_layout.specs.declared.packet.SeenAs.TheVariants as seen_as
@@ -21,9 +21,9 @@ bare_header f =
     ++ be (length f.octets - 1) 2
 
 -- octets, with their packet error control behind them where there is one
-abbrev pub closed : Bool → List ℕ → List ℕ
-closed true front = sealed front
-closed false front = front
+abbrev pub packet_closed : Bool → List ℕ → List ℕ
+packet_closed true front = octets_sealed front
+packet_closed false front = front
 
 -- the one encoding of a packet, with a packet error control or without
 unfoldable pub spelling_as : Bool → Fields → List ℕ

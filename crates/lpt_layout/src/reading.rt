@@ -5,7 +5,7 @@ ghost use Rattle.lpt_pus.specs.Messages.{Gives};
 ghost use Rattle.lpt_packet.specs.declared.packet.PacketKind.TheVariants.{Tm, Tc};
 ghost use Rattle.lpt_layout.specs.Layouts.{version_number, body_at};
 ghost use Rattle.lpt_layout.specs.Packets.{fields};
-ghost use Rattle.lpt_layout.specs.Messages.{said, said_at, IsMessage, message_verdict};
+ghost use Rattle.lpt_layout.specs.Messages.{message_said, said_at, IsMessage, message_verdict};
 
 use crate::numbers::number_at;
 use crate::{Layout, Message, PacketAs};
@@ -19,9 +19,9 @@ use lpt_pus::PusFault;
 /// status, any ID, any time and any spare octets are read.
 pub fn read_tm_as<'a>(layout: &Layout, packet: &PacketAs<'a>) -> Result<Message<'a>, PusFault>
     // What is read is what the packet is.
-    ensures found { IfOk result (λ m. IsMessage layout.now Tm (fields packet.now) (said m)) }
+    ensures found { IfOk result (λ m. IsMessage layout.now Tm (fields packet.now) (message_said m)) }
     // The fault is the first.
-    ensures exact { Gives said result (message_verdict layout.now Tm (fields packet.now)) }
+    ensures exact { Gives message_said result (message_verdict layout.now Tm (fields packet.now)) }
 {
     read_as(layout, PacketKind::Tm, packet)
 }
@@ -33,9 +33,9 @@ pub fn read_tm_as<'a>(layout: &Layout, packet: &PacketAs<'a>) -> Result<Message<
 /// flags, any ID and any spare octets are read.
 pub fn read_tc_as<'a>(layout: &Layout, packet: &PacketAs<'a>) -> Result<Message<'a>, PusFault>
     // What is read is what the packet is.
-    ensures found { IfOk result (λ m. IsMessage layout.now Tc (fields packet.now) (said m)) }
+    ensures found { IfOk result (λ m. IsMessage layout.now Tc (fields packet.now) (message_said m)) }
     // The fault is the first.
-    ensures exact { Gives said result (message_verdict layout.now Tc (fields packet.now)) }
+    ensures exact { Gives message_said result (message_verdict layout.now Tc (fields packet.now)) }
 {
     read_as(layout, PacketKind::Tc, packet)
 }
@@ -47,7 +47,7 @@ fn read_as<'a>(
     kind: PacketKind,
     packet: &PacketAs<'a>,
 ) -> Result<Message<'a>, PusFault>
-    ensures { Gives said result (message_verdict layout.now kind (fields packet.now)) }
+    ensures { Gives message_said result (message_verdict layout.now kind (fields packet.now)) }
 {
     if packet.kind != kind {
         return Err(PusFault::WrongType);
@@ -64,7 +64,7 @@ fn read_as<'a>(
 // What stands at the places of a message.
 fn message_in<'a>(layout: &Layout, packet: &PacketAs<'a>) -> Message<'a>
     requires { body_at layout.now ≤ length packet.now.field.now }
-    ensures { said result ≡ said_at layout.now (fields packet.now) }
+    ensures { message_said result ≡ said_at layout.now (fields packet.now) }
 {
     let field = packet.field;
     let user_at = 3 + layout.counter.octets();

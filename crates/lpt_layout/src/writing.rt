@@ -4,8 +4,8 @@ ghost use Rattle.std.specs.Prelude.{◌≡◌, ◌+◌, ◌≤◌, ◌↔◌, �
 ghost use Rattle.lpt_packet.specs.declared.packet.PacketKind.TheVariants.{Tm, Tc};
 ghost use Rattle.lpt_layout.specs.Layouts.{trailer, body_at};
 ghost use Rattle.lpt_pus.specs.Ranges.{TcFits};
-ghost use Rattle.lpt_layout.specs.Messages.{said, HeadFits, field_of};
-ghost use Rattle.lpt_layout.specs.Packets.{closed};
+ghost use Rattle.lpt_layout.specs.Messages.{message_said, HeadFits, field_of};
+ghost use Rattle.lpt_layout.specs.Packets.{packet_closed};
 ghost use Rattle.lpt_layout.specs.Writes.{octets_as, Writes};
 
 use crate::numbers::{fits, octets_of};
@@ -26,8 +26,8 @@ pub fn write_tm_as(
     layout: &Layout,
     message: &Message<'_>,
 ) -> Result<Octets, LayoutFault>
-    ensures { Writes (HeadFits layout.now (said message.now))
-        (octets_as layout.now Tm (said message.now)) result }
+    ensures { Writes (HeadFits layout.now (message_said message.now))
+        (octets_as layout.now Tm (message_said message.now)) result }
 {
     write_as(alloc, layout, PacketKind::Tm, message)
 }
@@ -42,8 +42,8 @@ pub fn write_tc_as(
     layout: &Layout,
     message: &Message<'_>,
 ) -> Result<Octets, LayoutFault>
-    ensures { Writes (HeadFits layout.now (said message.now))
-        (octets_as layout.now Tc (said message.now)) result }
+    ensures { Writes (HeadFits layout.now (message_said message.now))
+        (octets_as layout.now Tc (message_said message.now)) result }
 {
     write_as(alloc, layout, PacketKind::Tc, message)
 }
@@ -55,8 +55,8 @@ fn write_as(
     kind: PacketKind,
     message: &Message<'_>,
 ) -> Result<Octets, LayoutFault>
-    ensures { Writes (HeadFits layout.now (said message.now))
-        (octets_as layout.now kind (said message.now)) result }
+    ensures { Writes (HeadFits layout.now (message_said message.now))
+        (octets_as layout.now kind (message_said message.now)) result }
 {
     if !head_fits(layout, message) {
         return Err(LayoutFault::Unfit);
@@ -70,7 +70,7 @@ fn write_as(
 
 // Whether each field is in its range, and as wide as the layout has it.
 fn head_fits(layout: &Layout, message: &Message<'_>) -> bool
-    ensures { IsTrue result ↔ HeadFits layout.now (said message.now) }
+    ensures { IsTrue result ↔ HeadFits layout.now (message_said message.now) }
 {
     let _octets = (message.service, message.subtype);
     in_range(message.apid, message.count, message.flags)
@@ -95,22 +95,22 @@ fn message_octets(
     message: &Message<'_>,
     len: usize,
 ) -> Result<Octets, AllocError>
-    requires head { HeadFits layout.now (said message.now) }
+    requires head { HeadFits layout.now (message_said message.now) }
     requires len { len ≡ body_at layout.now + length message.now.body.now
         + trailer layout.now.has_checksum }
     requires long { len ≤ 65536 }
-    ensures { IfOk result (λ o. o ≡ octets_as layout.now kind (said message.now)) }
+    ensures { IfOk result (λ o. o ≡ octets_as layout.now kind (message_said message.now)) }
 {
     let mut octets = Vec::with_capacity(alloc, PRIMARY_HEADER + len)?;
     let primary = primary_header(kind, message.apid, message.count, len - 2);
     octets.extend_from_slice(&primary)?;
     push_field(&mut octets, layout, message)?;
-    closed(octets, layout.has_checksum)
+    packet_closed(octets, layout.has_checksum)
 }
 
 // Octets, with their packet error control behind them where there is one.
-fn closed(mut octets: Vec<u8>, has_checksum: bool) -> Result<Octets, AllocError>
-    ensures { IfOk result (λ o. o ≡ closed has_checksum octets.items) }
+fn packet_closed(mut octets: Vec<u8>, has_checksum: bool) -> Result<Octets, AllocError>
+    ensures { IfOk result (λ o. o ≡ packet_closed has_checksum octets.items) }
 {
     if has_checksum {
         let checksum = crc16(&octets);
@@ -125,9 +125,9 @@ fn push_field(
     layout: &Layout,
     message: &Message<'_>,
 ) -> Result<(), AllocError>
-    requires { HeadFits layout.now (said message.now) }
+    requires { HeadFits layout.now (message_said message.now) }
     ensures { OnOk result (octets.new.items
-        ≡ octets.old.items ++ field_of layout.now (said message.now)) }
+        ≡ octets.old.items ++ field_of layout.now (message_said message.now)) }
 {
     let first = 16 * layout.version.number() + message.flags;
     let counter = message.counter.to_be_bytes();

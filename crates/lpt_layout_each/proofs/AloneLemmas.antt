@@ -10,14 +10,14 @@ use Rattle.lpt_layout_join.specs.declared.ending.MisfitAs.{MisfitAs}
 use Rattle.lpt_layout_join.specs.declared.ending.MisfitAs.TheVariants.{Unsure}
 use Rattle.lpt_layout_join.specs.declared.order.Order.{Order}
 use Rattle.lpt_layout_join.specs.Came.{Came, last_of, message_of, nothing_came}
-use Rattle.lpt_layout_join.specs.Orders.{is_in_order, no_order, ordered, with_next}
+use Rattle.lpt_layout_join.specs.Orders.{is_in_order, no_order, order_after, with_next}
 use Rattle.lpt_layout_join.specs.Writes.{misfit, unfit}
 use Rattle.lpt_layout_each.specs.declared.course.CourseAs.{CourseAs}
 use Rattle.lpt_layout_each.specs.declared.news.NewsAs.{NewsAs}
 use Rattle.lpt_layout_each.specs.declared.run.RunAs.{RunAs}
-use Rattle.lpt_layout_each.specs.Eaches.{Course, GivesUp, Goes, Held, Run, RunTurn, Turn, after, alone, begun, course_by, end_by, fresh, gather, gave_before, go_on, is_empty, more, no_run, run_by, run_joined, run_turn, staleness, step, turn, turn_by, turn_fit, turn_joined}
+use Rattle.lpt_layout_each.specs.Eaches.{Course, GivesUp, Goes, Held, Run, RunTurn, Turn, after, alone, held_begun, course_by, end_by, fresh, gather, gave_before, go_on, is_empty, more, no_run, run_by, run_joined, run_turn, staleness, step, turn, turn_by, turn_fit, turn_joined}
 use Rattle.lpt_layout_each.specs.Helds.{IsRun, IsRunOf, ShowsSome, Steps, broken_course, first_course, goes_on}
-use Rattle.lpt_layout_each.specs.News.{News, Given, Unfit, dropped}
+use Rattle.lpt_layout_each.specs.News.{News, Given, Unfit, parts_dropped}
 use Rattle.lpt_layout_each.proofs.StepLemmas.{step-ends, step-goes_on, step-unfit}
 
 -- ---- what a part makes of the run
@@ -26,7 +26,7 @@ module _ (now : ℕ) (q : Piece) where
   abbrev turn_if : (first : Bool) → Run → RunTurn
   turn_if b r =
       if nat_le q.number ((if b then no_run else r).order.count + 1)
-      then run_by (ordered (if b then no_run else r).order q.number now)
+      then run_by (order_after (if b then no_run else r).order q.number now)
       (more (if b then no_run else r).came q)
       else Goes no_run
 
@@ -50,8 +50,9 @@ module _ (now : ℕ) (q : Piece) where
         ∙ sym (turn-if (record { order = o; came = d }) true is)
     go false is h =
         turn-if (record { order = o; came = c }) false is
-        ∙ ap (λ (t : Bool). if t then run_by (ordered o q.number now) (more c q) else Goes no_run) h
-        ∙ sym (ap (λ (t : Bool). if t then run_by (ordered o q.number now) (more d q)
+        ∙ ap (λ (t : Bool). if t then run_by (order_after o q.number now) (more c q)
+        else Goes no_run) h
+        ∙ sym (ap (λ (t : Bool). if t then run_by (order_after o q.number now) (more d q)
         else Goes no_run) h)
         ∙ sym (turn-if (record { order = o; came = d }) false is)
 
@@ -60,31 +61,33 @@ module _ (now : ℕ) (q : Piece) where
       → goes_on o q.number ≡ true
       → (o.count ≡ 0 → c ≡ nothing_came)
       → run_turn (record { order = o; came = c }) now q
-      ≡ run_by (ordered o q.number now) (more c q)
+      ≡ run_by (order_after o q.number now) (more c q)
   run-next o c h none = go (q.number == 1) refl h where
     go : (b : Bool)
         → (q.number == 1) ≡ b
         → (if b then o.count == 0 else nat_le q.number (o.count + 1)) ≡ true
         → run_turn (record { order = o; came = c }) now q
-        ≡ run_by (ordered o q.number now) (more c q)
+        ≡ run_by (order_after o q.number now) (more c q)
     go true is h =
         let one : q.number ≡ 1 = grind (arith, nat_tests, is) in
         let zero : o.count ≡ 0 = grind (arith, nat_tests, h) in
         turn-if (record { order = o; came = c }) true is
-        ∙ ap (λ (n : ℕ). if nat_le n 1 then run_by (ordered no_order n now) (more nothing_came q)
+        ∙ ap (λ (n : ℕ). if nat_le n 1
+        then run_by (order_after no_order n now) (more nothing_came q)
         else Goes no_run) one
         ∙ ap (λ (d : Came). run_by (record { count = 1; missing = now; few = true }) (more d q))
         (sym (none zero))
-        ∙ sym (ap (λ (n : ℕ). run_by (ordered o n now) (more c q)) one)
+        ∙ sym (ap (λ (n : ℕ). run_by (order_after o n now) (more c q)) one)
     go false is h =
         turn-if (record { order = o; came = c }) false is
-        ∙ ap (λ (t : Bool). if t then run_by (ordered o q.number now) (more c q) else Goes no_run) h
+        ∙ ap (λ (t : Bool). if t then run_by (order_after o q.number now) (more c q)
+        else Goes no_run) h
 
 -- one that goes on is among those that came
 pub ordered-some : (o : Order) (n now : ℕ)
     → 1 ≤ n
     → goes_on o n ≡ true
-    → 1 ≤ (ordered o n now).count
+    → 1 ≤ (order_after o n now).count
 ordered-some o n now least h =
     go (n == 1) (nat_lt o.count n) (n == o.count + 1) refl refl refl h where
       go : (a b d : Bool)
@@ -116,7 +119,7 @@ module _ (r : Reading) (any : Bool) (now : ℕ) (q : Piece) (o : Order) (c : Cam
   with_part = more c q
 
   abbrev order : Order
-  order = ordered o q.number now
+  order = order_after o q.number now
 
   -- by what it makes of these it is what it makes of what is kept
   pub alone-steps : (k : Course) (x : CourseAs × Option NewsAs) (s : Course × Option News)
@@ -146,7 +149,7 @@ module _ (r : Reading) (any : Bool) (now : ℕ) (q : Piece) (o : Order) (c : Cam
 
   -- of the new parts alone
   gathers : (again : Bool)
-      → gather r any again (begun None c) q ≡ after None (turn r any again c q) None
+      → gather r any again (held_begun None c) q ≡ after None (turn r any again c q) None
   unfolding gather
   gathers again = refl
 
@@ -156,7 +159,7 @@ module _ (r : Reading) (any : Bool) (now : ℕ) (q : Piece) (o : Order) (c : Cam
 
   -- with this run, and this made of the others
   goes : (again : Bool) (run : Run) (g : Held × Option News)
-      → gather r any again (begun None c) q ≡ g
+      → gather r any again (held_begun None c) q ≡ g
       → go_on r any again (record first { run = run }) q
       ≡ (course_by run false false g.0 g.1, g.1)
   goes again run g is =
@@ -184,22 +187,23 @@ module _ (r : Reading) (any : Bool) (now : ℕ) (q : Piece) (o : Order) (c : Cam
       → turn r any again c q ≡ turn_joined r any again q with_part m
   joined-turn again m agrees is =
       turns again
-      ∙ ap (λ (b : Bool). if b then GivesUp (dropped with_part) (alone q)
+      ∙ ap (λ (b : Bool). if b then GivesUp (parts_dropped with_part) (alone q)
       else turn_joined r any again q with_part (message_of with_part.parts)) agrees
       ∙ ap (turn_joined r any again q with_part) is
 
   -- it contradicts them
   pub alone-broken : is_some with_part.against ≡ true
-      → step r any now first q ≡ (broken_course (begun None (alone q)), Some (dropped with_part))
+      → step r any now first q
+      ≡ (broken_course (held_begun None (alone q)), Some (parts_dropped with_part))
   alone-broken against =
       sym (step-goes_on r any now first q no_run
       (run-next now q o c h none
       ∙ ap (λ (b : Bool). if b then Goes no_run
       else run_joined order with_part (message_of with_part.parts)) against))
-      ∙ goes true no_run (begun None (alone q), Some (dropped with_part))
+      ∙ goes true no_run (held_begun None (alone q), Some (parts_dropped with_part))
       (gathers true
       ∙ ap (λ (t : Turn). after None t None) (turns true
-      ∙ ap (λ (b : Bool). if b then GivesUp (dropped with_part) (alone q)
+      ∙ ap (λ (b : Bool). if b then GivesUp (parts_dropped with_part) (alone q)
       else turn_joined r any true q with_part (message_of with_part.parts)) against))
 
   -- parts are missing
@@ -209,7 +213,7 @@ module _ (r : Reading) (any : Bool) (now : ℕ) (q : Piece) (o : Order) (c : Cam
   alone-waits agrees missing =
       let run : Run = record { order = order; came = with_part } in
       sym (step-goes_on r any now first q run (joined-run agrees None missing))
-      ∙ goes true run (begun None with_part, None)
+      ∙ goes true run (held_begun None with_part, None)
       (gathers true
       ∙ ap (λ (t : Turn). after None t None) (joined-turn true None agrees missing))
 
@@ -250,7 +254,7 @@ module _ (r : Reading) (any : Bool) (now : ℕ) (q : Piece) (o : Order) (c : Cam
       let sure = is_in_order (last_of with_part.parts) order in
       sym (step-unfit r any now first q with_part m sure e
       (joined-run agrees (Some m) whole) misfits)
-      ∙ goes false no_run (begun None nothing_came, Some (Unfit e))
+      ∙ goes false no_run (held_begun None nothing_came, Some (Unfit e))
       (gathers false
       ∙ ap (λ (t : Turn). after None t None) (joined-turn false (Some m) agrees whole
       ∙ ap (turn_fit false q with_part m) (unfit-any sure m e misfits)))

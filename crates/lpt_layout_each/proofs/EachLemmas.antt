@@ -3,7 +3,7 @@ use Rattle.std.proofs.Common.{◌≡◌, ◌∙◌, ap, sym, subst, refl, inl, i
 use Rattle.std.specs.Prelude.{IfOk}
 use Rattle.lpt_skips.specs.declared.skips.Skips.{Skips}
 use Rattle.lpt_skips.specs.declared.wanted.Wanted.{Wanted}
-use Rattle.lpt_skips.specs.Tallies.{noted, nothing_noted, skips_of}
+use Rattle.lpt_skips.specs.Tallies.{piece_noted, nothing_noted, skips_of}
 use Rattle.lpt_skips.proofs.TallyLemmas.{noted-append}
 use Rattle.lpt_stream.specs.declared.piece_kind.PieceKind.{PieceKind}
 use Rattle.lpt_stream.specs.declared.piece_kind.PieceKind.TheVariants.{Whole, Damaged, Stray}
@@ -13,7 +13,7 @@ use Rattle.lpt_stream.specs.Takes.{ReadsBy}
 use Rattle.lpt_stream.proofs.CutLemmas.{packets-next}
 use Rattle.lpt_carried.specs.declared.name.Name.{Name}
 use Rattle.lpt_carried.specs.declared.reading.Reading.{Reading}
-use Rattle.lpt_carried.specs.Carried.{carried}
+use Rattle.lpt_carried.specs.Carried.{part_carried}
 use Rattle.lpt_layout_join.specs.Gatherings.{is_wanted}
 use Rattle.lpt_layout_join.specs.Writes.{ReadsCut}
 use Rattle.lpt_layout_each.specs.declared.each.Teller.{Teller}
@@ -92,22 +92,23 @@ module _ (first was : Teller) (heard hear : Option (List Event)) (ps : List Piec
   abbrev whole : List ℕ → Piece
   whole b = record { kind = Whole; octets = b }
 
-  skips-next : (p : Piece) (s : Skips) → s ≡ noted w was.skips p → s ≡ skips_of w (ps ++ p ∷ [])
+  skips-next : (p : Piece) (s : Skips) → s ≡ piece_noted w was.skips p → s
+      ≡ skips_of w (ps ++ p ∷ [])
   skips-next p s notes =
-      notes ∙ ap (λ (k : Skips). noted w k p) h.skips_are
+      notes ∙ ap (λ (k : Skips). piece_noted w k p) h.skips_are
       ∙ sym (noted-append w nothing_noted ps (p ∷ []))
 
   events-packet : (b : List ℕ)
       → events r was.any (packets_of (ps ++ whole b ∷ []))
-      ≡ events r was.any bs ++ told_by r was.any bs b (carried r b)
+      ≡ events r was.any bs ++ told_by r was.any bs b (part_carried r b)
   events-packet b =
       ap (events r was.any) (packets-next ps (whole b)) ∙ events-next r was.any [] bs b
 
   -- a packet
   pub told-packet : (b : List ℕ) (g : HeldsAs) (s : Skips) (hears : Option (List Event))
       → HoldsEach r was.any (bs ++ b ∷ []) g
-      → Hears hear hears (told_by r was.any bs b (carried r b))
-      → s ≡ noted w was.skips (whole b)
+      → Hears hear hears (told_by r was.any bs b (part_carried r b))
+      → s ≡ piece_noted w was.skips (whole b)
       → IsTold first (record { wanted = w; any = was.any; helds = g; skips = s }) heard hears
       (ps ++ whole b ∷ [])
   told-packet b g s hears held told notes = record {
@@ -123,7 +124,7 @@ module _ (first was : Teller) (heard hear : Option (List Event)) (ps : List Piec
 
   -- of which a front part was told
   pub part-packet : (b : List ℕ) (hears : Option (List Event))
-      → HearsPart hear hears (told_by r was.any bs b (carried r b))
+      → HearsPart hear hears (told_by r was.any bs b (part_carried r b))
       → HearsPart heard hears
       (events first.wanted.reading first.any (packets_of (ps ++ whole b ∷ [])))
   part-packet b hears told =
@@ -145,7 +146,7 @@ module _ (first was : Teller) (heard hear : Option (List Event)) (ps : List Piec
 
   pub told-other : (k : PieceKind) (b : List ℕ) (s : Skips)
       → (k ≡ Whole → ⊥)
-      → s ≡ noted w was.skips (record { kind = k; octets = b })
+      → s ≡ piece_noted w was.skips (record { kind = k; octets = b })
       → IsTold first (record { wanted = w; any = was.any; helds = was.helds; skips = s }) heard
       hear (ps ++ record { kind = k; octets = b } ∷ [])
   told-other k b s other notes =

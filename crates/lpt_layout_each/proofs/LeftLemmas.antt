@@ -9,10 +9,10 @@ use Rattle.lpt_layout_join.specs.Came.{highest}
 use Rattle.lpt_layout_join.specs.Names.{name_cmp}
 use Rattle.lpt_layout_each.specs.declared.course.CourseAs.{CourseAs}
 use Rattle.lpt_layout_each.specs.declared.helds.HeldsAs.{HeldsAs}
-use Rattle.lpt_layout_each.specs.Eaches.{Course, left}
+use Rattle.lpt_layout_each.specs.Eaches.{Course, news_left}
 use Rattle.lpt_layout_each.specs.Helds.{HoldsEach}
 use Rattle.lpt_layout_each.specs.Lefts.{HoldsYet, left_yet}
-use Rattle.lpt_layout_each.specs.News.{dropped}
+use Rattle.lpt_layout_each.specs.News.{parts_dropped}
 use Rattle.lpt_layout_each.specs.Streams.{Leaves, left_of, of}
 use Rattle.lpt_layout_each.proofs.TellLemmas.{leaves-kept, left-first}
 
@@ -50,8 +50,8 @@ left-split r any bs old new n g pops =
 -- nothing is left of a name of which no part is new
 pub left-none : (n : Name) (c : Course)
     → (highest c.held.new.parts == 0) ≡ true
-    → of n (left c) ≡ []
-left-none n c none = ap (λ (b : Bool). of n (cond b [] (dropped c.held.new ∷ []))) none
+    → of n (news_left c) ≡ []
+left-none n c none = ap (λ (b : Bool). of n (cond b [] (parts_dropped c.held.new ∷ []))) none
 
 -- nothing is left where no name is
 pub left-empty : (r : Reading) (any : Bool) (bs : List (List ℕ)) (g : HeldsAs)

@@ -9,15 +9,15 @@ use Rattle.lpt_part.specs.Parts.{Piece}
 use Rattle.lpt_carried.specs.declared.name.Name.{Name}
 use Rattle.lpt_carried.specs.declared.reading.Reading.{Reading}
 use Rattle.lpt_layout_join.specs.Came.{Came, message_of, nothing_came}
-use Rattle.lpt_carried.specs.Carried.{carried, part_of}
+use Rattle.lpt_carried.specs.Carried.{part_carried, part_of}
 use Rattle.lpt_layout_join.specs.declared.ending.MisfitAs.{MisfitAs}
 use Rattle.lpt_layout_join.specs.declared.order.Order.{Order}
-use Rattle.lpt_layout_join.specs.Counts.{Counted, all_counted, counted}
-use Rattle.lpt_layout_join.specs.Orders.{no_order, ordered, with_next}
+use Rattle.lpt_layout_join.specs.Counts.{Counted, all_counted, packet_counted}
+use Rattle.lpt_layout_join.specs.Orders.{no_order, order_after, with_next}
 use Rattle.lpt_layout_join.specs.Writes.{unfit}
-use Rattle.lpt_layout_each.specs.Eaches.{Course, Ends, Gives, GivesUp, Goes, Held, Run, Turn, Waits, after, after_all, all_turn, alone, are_own, end_by, end_run, gather, gave_before, go_on, held_from, is_given, is_old, is_same, listed, missing_at, more, new_turn, news_from, no_run, repeats, run_before, run_by, run_joined, run_turn, spells, step, step_by, step_of, told_in_order, turn, turn_fit, turn_joined}
+use Rattle.lpt_layout_each.specs.Eaches.{Course, Ends, Gives, GivesUp, Goes, Held, Run, Turn, Waits, after, after_all, all_turn, alone, are_own, end_by, end_run, gather, gave_before, go_on, held_from, is_given, is_old, is_same, news_listed, missing_at, more, new_turn, news_from, no_run, repeats, run_before, run_by, run_joined, run_turn, spells, step, step_by, step_of, told_in_order, turn, turn_fit, turn_joined}
 use Rattle.lpt_layout_each.specs.Laws.{Continues, InOrder, Runs, higher}
-use Rattle.lpt_layout_each.specs.News.{News, dropped, messages_in, messages_of}
+use Rattle.lpt_layout_each.specs.News.{News, parts_dropped, messages_in, messages_of}
 use Rattle.lpt_layout_each.proofs.FitLemmas.{fit-any}
 
 no_true : true ≡ false → ⊥
@@ -31,14 +31,14 @@ messages-append vs ws = flat_map-append messages_of vs ws
 -- no message is given out, or this one, and it is the last
 abbrev Told : Option Came → Held × Option News → Type 0
 Told l w =
-    ((is_given w.1 ≡ false) × (messages_in (listed w.1) ≡ []) × (w.0.last ≡ l))
-    ⊎ ((m : List ℕ) × (d : Came) × (messages_in (listed w.1) ≡ m ∷ []) × (w.0.last ≡ Some d)
+    ((is_given w.1 ≡ false) × (messages_in (news_listed w.1) ≡ []) × (w.0.last ≡ l))
+    ⊎ ((m : List ℕ) × (d : Came) × (messages_in (news_listed w.1) ≡ m ∷ []) × (w.0.last ≡ Some d)
     × (message_of d.parts ≡ Some m))
 
 -- what is given up tells of none; parts that are given out are joined to the message
 abbrev IsQuiet : Turn → Type 0
 IsQuiet (Waits c) = Unit {0}
-IsQuiet (GivesUp w c) = (is_given (Some w) ≡ false) × (messages_in (listed (Some w)) ≡ [])
+IsQuiet (GivesUp w c) = (is_given (Some w) ≡ false) × (messages_in (news_listed (Some w)) ≡ [])
 IsQuiet (Gives c m) = message_of c.parts ≡ Some m
 
 abbrev AreQuiet : Option Turn → Type 0
@@ -75,7 +75,7 @@ module _ (r : Reading) (any again : Bool) (q : Piece) where
   turn-quiet : (c : Came) → IsQuiet (turn r any again c q)
   unfolding turn
   turn-quiet c = by (is_some (more c q).against) where
-    by : (b : Bool) → IsQuiet (if b then GivesUp (dropped (more c q)) (alone q)
+    by : (b : Bool) → IsQuiet (if b then GivesUp (parts_dropped (more c q)) (alone q)
         else turn_joined r any again q (more c q) (message_of (more c q).parts))
     by true = (refl, refl)
     by false = joined-quiet (more c q) (message_of (more c q).parts) refl
@@ -102,7 +102,7 @@ GaveBy gave last ms =
 gave-next : (gave : Bool) (last : Option Came) (ms : List (List ℕ)) (w : Held × Option News)
     → GaveBy gave last ms
     → Told last w
-    → GaveBy (gave || is_given w.1) w.0.last (ms ++ messages_in (listed w.1))
+    → GaveBy (gave || is_given w.1) w.0.last (ms ++ messages_in (news_listed w.1))
 gave-next gave last ms w (inl e) (inl v) = inl (λ i. e i || v.0 i)
 gave-next gave last ms w (inr u) (inl v) =
     inr (u.0, u.1, u.2, ap (λ ns. ms ++ ns) v.1 ∙ append-nil ms ∙ u.3, v.2 ∙ u.4, u.5)
@@ -115,17 +115,17 @@ with_first now = record { count = 1; missing = now; few = true }
 module _ (r : Reading) (any : Bool) (n : Name) where
   -- what is told of a packet, behind so many counts
   abbrev told_at : Counted → Course → List ℕ → List News
-  told_at k c b = listed (step_of r any (missing_at r k b) c (part_of n (carried r b))).1
+  told_at k c b = news_listed (step_of r any (missing_at r k b) c (part_of n (part_carried r b))).1
 
   abbrev next_at : Counted → Course → List ℕ → Course
-  next_at k c b = (step_of r any (missing_at r k b) c (part_of n (carried r b))).0
+  next_at k c b = (step_of r any (missing_at r k b) c (part_of n (part_carried r b))).0
 
   news-more : (k : Counted) (c : Course) (bs : List (List ℕ)) (b : List ℕ)
       → news_from r any n k c (bs ++ b ∷ [])
       ≡ news_from r any n k c bs ++ told_at (all_counted r k bs) (held_from r any n k c bs) b
   news-more k c [] b = append-nil (told_at k c b)
   news-more k c (x ∷ bs) b =
-      let i = counted r k x in
+      let i = packet_counted r k x in
       let d = next_at k c x in
       ap (λ (ws : List News). told_at k c x ++ ws) (news-more i d bs b)
       ∙ sym (append_assoc (told_at k c x) (news_from r any n i d bs)
@@ -138,18 +138,18 @@ module _ (r : Reading) (any : Bool) (n : Name) where
       → q.number ≤ s.order.count + 1
       → is_some (more s.came q).against ≡ false
       → message_of (more s.came q).parts ≡ o
-      → run_turn run now q ≡ run_joined (ordered s.order q.number now) (more s.came q) o
+      → run_turn run now q ≡ run_joined (order_after s.order q.number now) (more s.came q) o
   unfolding run_turn
   turn-is run now q s o before next agrees is =
       ap (λ (t : Run). if nat_le q.number (t.order.count + 1)
-      then run_by (ordered t.order q.number now) (more t.came q) else Goes no_run) before
-      ∙ ap (λ (b : Bool). if b then run_by (ordered s.order q.number now) (more s.came q)
+      then run_by (order_after t.order q.number now) (more t.came q) else Goes no_run) before
+      ∙ ap (λ (b : Bool). if b then run_by (order_after s.order q.number now) (more s.came q)
       else Goes no_run) (le_true q.number (s.order.count + 1) next)
       ∙ ap (λ (b : Bool). if b then Goes no_run
-      else run_joined (ordered s.order q.number now) (more s.came q)
+      else run_joined (order_after s.order q.number now) (more s.came q)
       (message_of (more s.came q).parts))
       agrees
-      ∙ ap (run_joined (ordered s.order q.number now) (more s.came q)) is
+      ∙ ap (run_joined (order_after s.order q.number now) (more s.came q)) is
 
   before-one : (run : Run) (i : ℕ) → i ≡ 1 → run_before run i ≡ no_run
   before-one run i h = ap (λ (b : Bool). if b then no_run else run) (eq_true i 1 h)
@@ -161,7 +161,7 @@ module _ (r : Reading) (any : Bool) (n : Name) where
   -- ---- a step
 
   told-own : (own : Bool) (c : Came) (m : List ℕ)
-      → messages_in (listed (Some (told_in_order own c m))) ≡ m ∷ []
+      → messages_in (news_listed (Some (told_in_order own c m))) ≡ m ∷ []
   told-own true c m = refl
   told-own false c m = refl
 
@@ -197,20 +197,20 @@ module _ (r : Reading) (any : Bool) (n : Name) where
       → unfit r any false m ≡ None
       → run_turn c.run now q ≡ Ends d m sure
       → GaveBy (gave_before c q.number) c.held.last ms
-      → Among m (ms ++ messages_in (listed (step r any now c q).1))
+      → Among m (ms ++ messages_in (news_listed (step r any now c q).1))
   unfolding step
   step-ends now c q d m sure ms fit turns gave =
       let e : Course = record c { run = no_run } in
-      subst (λ (w : Course × Option News). Among m (ms ++ messages_in (listed w.1)))
+      subst (λ (w : Course × Option News). Among m (ms ++ messages_in (news_listed w.1)))
       (sym (ap (step_by r any c q) turns ∙ ap (end_run r any e q d m) (fit-any r any sure m fit)))
       (go (repeats e q.number m) refl) where
         go : (again : Bool)
             → repeats (record c { run = no_run }) q.number m ≡ again
             → Among m (ms ++ messages_in
-            (listed (end_by r any (record c { run = no_run }) q d m again).1))
+            (news_listed (end_by r any (record c { run = no_run }) q d m again).1))
         go true e =
             was_given (gave_before c q.number) c.held.last m ms
-            (messages_in (listed (go_on r any false (record c { run = no_run }) q).1)) gave
+            (messages_in (news_listed (go_on r any false (record c { run = no_run }) q).1)) gave
             (and_left (gave_before c q.number) (is_same c.held.last m) e)
             (and_right (gave_before c q.number) (is_same c.held.last m) e)
         go false e =
@@ -221,11 +221,11 @@ module _ (r : Reading) (any : Bool) (n : Name) where
       → GaveBy (gave_before c q.number) c.held.last ms
       → ((step r any now c q).0.run ≡ run)
       × GaveBy (step r any now c q).0.gave (step r any now c q).0.held.last
-      (ms ++ messages_in (listed (step r any now c q).1))
+      (ms ++ messages_in (news_listed (step r any now c q).1))
   unfolding step
   step-goes now c q run ms turns gave =
       subst (λ (w : Course × Option News). (w.0.run ≡ run)
-      × GaveBy w.0.gave w.0.held.last (ms ++ messages_in (listed w.1)))
+      × GaveBy w.0.gave w.0.held.last (ms ++ messages_in (news_listed w.1)))
       (sym (ap (step_by r any c q) turns)) (
         refl,
         gave-next (gave_before c q.number) c.held.last ms (gather r any true c.held q) gave
@@ -251,7 +251,7 @@ module _ (r : Reading) (any : Bool) (n : Name) where
   ordered-count : (o : Order) (i now : ℕ)
       → 2 ≤ i
       → i ≤ o.count + 1
-      → (ordered o i now).count ≡ higher o.count i
+      → (order_after o i now).count ≡ higher o.count i
   ordered-count o i now some next =
       ap (λ (b : Bool). (if b then with_first now
       else if nat_lt o.count i then (if i == o.count + 1 then with_next o i now else no_order)
@@ -272,27 +272,27 @@ module _ (r : Reading) (any : Bool) (n : Name) where
   IsOn c k d ms = IsUpTo c.run k d × GaveBy c.gave c.held.last ms
 
   step-on : (k : Counted) (c : Course) (q : Piece) (b : List ℕ) (s : Run) (ms : List (List ℕ))
-      → part_of n (carried r b) ≡ Some q
+      → part_of n (part_carried r b) ≡ Some q
       → run_before c.run q.number ≡ s
       → q.number ≤ s.order.count + 1
       → Continues s.came q
       → GaveBy (gave_before c q.number) c.held.last ms
       → ((next_at k c b).run
-      ≡ record { order = ordered s.order q.number (missing_at r k b); came = more s.came q })
+      ≡ record { order = order_after s.order q.number (missing_at r k b); came = more s.came q })
       × GaveBy (next_at k c b).gave (next_at k c b).held.last (ms ++ messages_in (told_at k c b))
   step-on k c q b s ms is before next goes gave =
       let now = missing_at r k b in
-      let on : Run = record { order = ordered s.order q.number now; came = more s.came q } in
+      let on : Run = record { order = order_after s.order q.number now; came = more s.came q } in
       subst (λ (o : Option Piece). ((step_of r any now c o).0.run ≡ on)
       × GaveBy (step_of r any now c o).0.gave (step_of r any now c o).0.held.last
-      (ms ++ messages_in (listed (step_of r any now c o).1)))
+      (ms ++ messages_in (news_listed (step_of r any now c o).1)))
       (sym is)
       (step-goes now c q on ms (turn-is c.run now q s None before next goes.agrees goes.waits) gave)
 
   up-next : (k : Counted) (c : Course) (b : List ℕ) (q : Piece) (i : ℕ) (d : Came)
       (ms : List (List ℕ))
       → IsOn c i d ms
-      → part_of n (carried r b) ≡ Some q
+      → part_of n (part_carried r b) ≡ Some q
       → 2 ≤ q.number
       → q.number ≤ i + 1
       → Continues d q
@@ -315,16 +315,16 @@ module _ (r : Reading) (any : Bool) (n : Name) where
   -- one packet, and those behind it
   on-more : (k : Counted) (c : Course) (b : List ℕ) (bs : List (List ℕ)) (i : ℕ) (d : Came)
       (ms : List (List ℕ))
-      → IsOn (held_from r any n (counted r k b) (next_at k c b) bs) i d
+      → IsOn (held_from r any n (packet_counted r k b) (next_at k c b) bs) i d
       ((ms ++ messages_in (told_at k c b))
-      ++ messages_in (news_from r any n (counted r k b) (next_at k c b) bs))
+      ++ messages_in (news_from r any n (packet_counted r k b) (next_at k c b) bs))
       → IsOn (held_from r any n k c (b ∷ bs)) i d
       (ms ++ messages_in (news_from r any n k c (b ∷ bs)))
   on-more k c b bs i d ms h =
       let told = told_at k c b in
-      let behind = news_from r any n (counted r k b) (next_at k c b) bs in
+      let behind = news_from r any n (packet_counted r k b) (next_at k c b) bs in
       subst (λ (ns : List (List ℕ)).
-      IsOn (held_from r any n (counted r k b) (next_at k c b) bs) i d ns)
+      IsOn (held_from r any n (packet_counted r k b) (next_at k c b) bs) i d ns)
       (append_assoc ms (messages_in told) (messages_in behind)
       ∙ ap (λ ns. ms ++ ns) (sym (messages-append told behind))) h
 
@@ -339,19 +339,19 @@ module _ (r : Reading) (any : Bool) (n : Name) where
   )
   runs-on (b ∷ bs) k c i d e to ms at (inl w) =
       let same : ◌≡◌ {A = Course × Option News}
-      (step_of r any (missing_at r k b) c (part_of n (carried r b))) (c, None) =
+      (step_of r any (missing_at r k b) c (part_of n (part_carried r b))) (c, None) =
       ap (step_of r any (missing_at r k b) c) w.0 in
       on-more k c b bs to e ms
       (subst (λ (u : Course × Option News).
-      IsOn (held_from r any n (counted r k b) u.0 bs) to e
-      ((ms ++ messages_in (listed u.1))
-      ++ messages_in (news_from r any n (counted r k b) u.0 bs)))
+      IsOn (held_from r any n (packet_counted r k b) u.0 bs) to e
+      ((ms ++ messages_in (news_listed u.1))
+      ++ messages_in (news_from r any n (packet_counted r k b) u.0 bs)))
       (sym same)
-      (runs-on bs (counted r k b) c i d e to (ms ++ [])
+      (runs-on bs (packet_counted r k b) c i d e to (ms ++ [])
       (subst (IsOn c i d) (sym (append-nil ms)) at) w.1))
   runs-on (b ∷ bs) k c i d e to ms at (inr w) =
       on-more k c b bs to e ms
-      (runs-on bs (counted r k b) (next_at k c b) (higher i w.0.number) (more d w.0) e to
+      (runs-on bs (packet_counted r k b) (next_at k c b) (higher i w.0.number) (more d w.0) e to
       (ms ++ messages_in (told_at k c b))
       (up-next k c b w.0 i d ms at w.1 w.2 w.3 w.4) w.5)
 
@@ -368,13 +368,13 @@ module _ (r : Reading) (any : Bool) (n : Name) where
       ([] ++ messages_in (told_at k c h.first)) = (
         record {
           count_is = ap (λ (t : Run). t.order.count) began.0
-              ∙ ap (λ (i : ℕ). (ordered no_order i (missing_at r k h.first)).count) h.one;
+              ∙ ap (λ (i : ℕ). (order_after no_order i (missing_at r k h.first)).count) h.one;
           came_is = ap (λ (t : Run). t.came) began.0;
         },
         began.1,
       ) in
       let on = on-more k c h.first h.middle h.number h.came []
-      (runs-on h.middle (counted r k h.first) (next_at k c h.first) 1
+      (runs-on h.middle (packet_counted r k h.first) (next_at k c h.first) 1
       (more nothing_came h.part) h.came h.number
       (messages_in (told_at k c h.first)) first_on h.runs) in
       let front_news = news_from r any n k c (h.first ∷ h.middle) in
@@ -396,5 +396,5 @@ module _ (r : Reading) (any : Bool) (n : Name) where
       ∙ ap messages_in (news-more k c (h.first ∷ h.middle) last)
       ∙ messages-append front_news (told_at at behind last)
       ∙ ap (λ (o : Option Piece). messages_in front_news ++ messages_in
-      (listed (step_of r any (missing_at r at last) behind o).1)) h.ends))
+      (news_listed (step_of r any (missing_at r at last) behind o).1)) h.ends))
       told

@@ -11,13 +11,13 @@ use Rattle.lpt_part.specs.Parts.{Piece}
 use Rattle.lpt_reception.specs.Received.{Kept, Parts, no_parts}
 use Rattle.lpt_carried.specs.declared.name.Name.{Name}
 use Rattle.lpt_carried.specs.declared.reading.Reading.{Reading}
-use Rattle.lpt_carried.specs.Carried.{carried, part_of}
+use Rattle.lpt_carried.specs.Carried.{part_carried, part_of}
 use Rattle.lpt_join.specs.declared.messages.Misfit.{Misfit}
 use Rattle.lpt_join.specs.declared.transaction.Transaction.{Transaction}
-use Rattle.lpt_join.specs.Offers.{offered, part_of_piece}
+use Rattle.lpt_join.specs.Offers.{part_offered, part_of_piece}
 use Rattle.lpt_join.specs.Wide.{wide}
 use Rattle.lpt_layout_join.specs.Came.{Came, nothing_came}
-use Rattle.lpt_layout_join.specs.Counts.{Counted, counted}
+use Rattle.lpt_layout_join.specs.Counts.{Counted, packet_counted}
 use Rattle.lpt_layout_join.specs.Own.{misfit_as, own_reading}
 use Rattle.lpt_layout_join.specs.Writes.{unfit}
 use Rattle.lpt_layout_join.proofs.BridgeLemmas.{kept}
@@ -25,8 +25,8 @@ use Rattle.lpt_layout_join.proofs.OwnLemmas.{OwnParts, carried-fits, offered-own
 use Rattle.lpt_layout_join.proofs.WholeLemmas.{Splits, message-own}
 use Rattle.lpt_each.specs.Eaches as profile
 use Rattle.lpt_each.specs.News as profile_news
-use Rattle.lpt_layout_each.specs.Eaches.{Course, Run, RunTurn, Goes, Ends, are_own, end_by, end_run, fresh, gave_before, gather, go_on, held_from, is_given, is_same, left, listed, missing_at, news_from, no_run, nothing, repeats, run_turn, spells, staleness, step, step_by, step_of, told_in_order}
-use Rattle.lpt_layout_each.specs.News.{News, Given, Dropped, Unfit, Overtaken, dropped}
+use Rattle.lpt_layout_each.specs.Eaches.{Course, Run, RunTurn, Goes, Ends, are_own, end_by, end_run, fresh, gave_before, gather, go_on, held_from, is_given, is_same, news_left, news_listed, missing_at, news_from, no_run, nothing, repeats, run_turn, spells, staleness, step, step_by, step_of, told_in_order}
+use Rattle.lpt_layout_each.specs.News.{News, Given, Dropped, Unfit, Overtaken, parts_dropped}
 use Rattle.lpt_layout_each.specs.Own.{AreOwnNews, IsOwnNews}
 use Rattle.lpt_layout_each.proofs.OwnHeldLemmas.{IsOwnHeld, IsOwnLast, IsOwnTold, begun-own, gather-own}
 use Rattle.lpt_layout_each.proofs.OwnRunLemmas.{IsOwnRun, IsOwnRunTurn, none-run, run-own}
@@ -254,7 +254,7 @@ module _ (t : Transaction) (splits : Splits)
     step-of-own : (now : ℕ) (c : Course) (g : profile.Course) (b : List ℕ) (o : Option Piece)
         → IsOctets b
         → IsOwnCourse p c g
-        → part_of m (carried r b) ≡ o
+        → part_of m (part_carried r b) ≡ o
         → IsOwnStep p (step_of r any now c o)
         (profile.step_of t any g (option_map part_of_piece o))
     step-of-own now c g b None octets h is = (h, tt)
@@ -265,12 +265,12 @@ module _ (t : Transaction) (splits : Splits)
     pub packet-own : (now : ℕ) (c : Course) (g : profile.Course) (b : List ℕ)
         → IsOctets b
         → IsOwnCourse p c g
-        → IsOwnStep p (step_of r any now c (part_of m (carried r b)))
-        (profile.step_of t any g (offered t b))
+        → IsOwnStep p (step_of r any now c (part_of m (part_carried r b)))
+        (profile.step_of t any g (part_offered t b))
     packet-own now c g b octets h =
-        subst (λ o. IsOwnStep p (step_of r any now c (part_of m (carried r b)))
+        subst (λ o. IsOwnStep p (step_of r any now c (part_of m (part_carried r b)))
         (profile.step_of t any g o)) (offered-own t law b octets)
-        (step-of-own now c g b (part_of m (carried r b)) octets h refl)
+        (step-of-own now c g b (part_of m (part_carried r b)) octets h refl)
 
     pub held-own : (k : Counted) (c : Course) (g : profile.Course) (bs : List (List ℕ))
         → AllByRecursion IsOctets bs
@@ -278,8 +278,9 @@ module _ (t : Transaction) (splits : Splits)
         → IsOwnCourse p (held_from r any m k c bs) (profile.held_from t any g bs)
     held-own k c g [] octets h = h
     held-own k c g (b ∷ bs) octets h =
-        held-own (counted r k b) (step_of r any (missing_at r k b) c (part_of m (carried r b))).0
-        (profile.step_of t any g (offered t b)).0 bs octets.1
+        held-own (packet_counted r k b)
+        (step_of r any (missing_at r k b) c (part_of m (part_carried r b))).0
+        (profile.step_of t any g (part_offered t b)).0 bs octets.1
         (packet-own (missing_at r k b) c g b octets.0 h).0
 
     pub nothing-own : IsOwnCourse p nothing profile.nothing
@@ -287,7 +288,7 @@ module _ (t : Transaction) (splits : Splits)
 
     pub listed-own : (o : Option News) (u : Option profile_news.News)
         → IsOwnTold o u
-        → AreOwnNews (listed o) (profile.listed u)
+        → AreOwnNews (news_listed o) (profile.news_listed u)
     listed-own None None h = tt
     listed-own (Some w) (Some v) h = (h, tt)
     listed-own None (Some v) h = absurd h
@@ -310,27 +311,27 @@ module _ (t : Transaction) (splits : Splits)
     news-own k c g (b ∷ bs) octets h =
         let w = packet-own (missing_at r k b) c g b octets.0 h in
         own-append
-        (listed (step_of r any (missing_at r k b) c (part_of m (carried r b))).1)
-        (news_from r any m (counted r k b)
-        (step_of r any (missing_at r k b) c (part_of m (carried r b))).0 bs)
-        (profile.listed (profile.step_of t any g (offered t b)).1)
-        (profile.news_from t any (profile.step_of t any g (offered t b)).0 bs)
-        (listed-own (step_of r any (missing_at r k b) c (part_of m (carried r b))).1
-        (profile.step_of t any g (offered t b)).1 w.1)
-        (news-own (counted r k b)
-        (step_of r any (missing_at r k b) c (part_of m (carried r b))).0
-        (profile.step_of t any g (offered t b)).0 bs octets.1 w.0)
+        (news_listed (step_of r any (missing_at r k b) c (part_of m (part_carried r b))).1)
+        (news_from r any m (packet_counted r k b)
+        (step_of r any (missing_at r k b) c (part_of m (part_carried r b))).0 bs)
+        (profile.news_listed (profile.step_of t any g (part_offered t b)).1)
+        (profile.news_from t any (profile.step_of t any g (part_offered t b)).0 bs)
+        (listed-own (step_of r any (missing_at r k b) c (part_of m (part_carried r b))).1
+        (profile.step_of t any g (part_offered t b)).1 w.1)
+        (news-own (packet_counted r k b)
+        (step_of r any (missing_at r k b) c (part_of m (part_carried r b))).0
+        (profile.step_of t any g (part_offered t b)).0 bs octets.1 w.0)
 
     -- what is left
     pub left-own : (c : Course) (g : profile.Course)
         → IsOwnCourse p c g
-        → AreOwnNews (left c) (profile.left g)
+        → AreOwnNews (news_left c) (profile.news_left g)
     left-own c g h =
-        subst (λ (b : Bool). AreOwnNews (if b then [] else dropped c.held.new ∷ [])
-        (profile.left g)) (sym (empty-own p c.held.new.parts g.held.new h.held.new.bridge))
+        subst (λ (b : Bool). AreOwnNews (if b then [] else parts_dropped c.held.new ∷ [])
+        (profile.news_left g)) (sym (empty-own p c.held.new.parts g.held.new h.held.new.bridge))
         (by (profile.is_empty g.held.new)) where
           by : (b : Bool)
-              → AreOwnNews (if b then [] else dropped c.held.new ∷ [])
-              (if b then [] else profile_news.dropped g.held.new ∷ [])
+              → AreOwnNews (if b then [] else parts_dropped c.held.new ∷ [])
+              (if b then [] else profile_news.parts_dropped g.held.new ∷ [])
           by true = tt
           by false = (dropped-own p c.held.new g.held.new h.held.new.bridge, tt)

@@ -13,10 +13,10 @@ use Rattle.lpt_events.specs.NamedParts.{NamedPart}
 use Rattle.lpt_events.specs.Sides.{receiver_side}
 use Rattle.lpt_carried.specs.declared.reading.Reading.{Reading}
 use Rattle.lpt_carried.specs.declared.skip.Skip.{Skip}
-use Rattle.lpt_carried.specs.Carried.{Named, carried, part_of}
+use Rattle.lpt_carried.specs.Carried.{Named, part_carried, part_of}
 use Rattle.lpt_carried.specs.Own.{in_own}
 use Rattle.lpt_join.specs.declared.transaction.Transaction.{Transaction}
-use Rattle.lpt_join.specs.Offers.{offered, piece_in}
+use Rattle.lpt_join.specs.Offers.{part_offered, piece_in}
 use Rattle.lpt_join.specs.Several.{of_name}
 use Rattle.lpt_join.specs.Wide.{wide}
 use Rattle.lpt_layout_join.specs.Counts.{nothing_counted}
@@ -26,10 +26,10 @@ use Rattle.lpt_layout_join.proofs.WholeLemmas.{Splits}
 use Rattle.lpt_each.specs.Eaches as profile
 use Rattle.lpt_each.specs.News as profile_news
 use Rattle.lpt_each.specs.Streams as profile_streams
-use Rattle.lpt_layout_each.specs.Eaches.{counts_of, held, left, listed, missing_at, news_from, nothing, step_of}
+use Rattle.lpt_layout_each.specs.Eaches.{counts_of, course_held, news_left, news_listed, missing_at, news_from, nothing, step_of}
 use Rattle.lpt_layout_each.specs.News.{Event, News, Given, Dropped, Unfit, Overtaken, messages_in, messages_of}
 use Rattle.lpt_layout_each.specs.Own.{AreOwnEvents, AreOwnNews, IsOwnNews}
-use Rattle.lpt_layout_each.specs.Streams.{events, events_from, left_of, of, told, told_by}
+use Rattle.lpt_layout_each.specs.Streams.{events, events_from, left_of, of, events_told, told_by}
 use Rattle.lpt_layout_each.proofs.OwnCourseLemmas.{held-own, left-own, listed-own, news-own, nothing-own, packet-own}
 
 -- ---- lists
@@ -104,25 +104,28 @@ module _ (t : Transaction) (splits : Splits)
   name-own : (n : names.Name) (before : List (List ℕ)) (b : List ℕ)
       → AllByRecursion IsOctets before
       → IsOctets b
-      → AreOwnEvents (told r any (wide n) before b) (profile_streams.told t any n before b)
+      → AreOwnEvents (events_told r any (wide n) before b)
+      (profile_streams.events_told t any n before b)
   name-own n before b all octets =
       let own = of_name t n in
       let now = missing_at r (counts_of r before) b in
       let h = held-own own splits packets any law nothing_counted nothing profile.nothing before
       all (nothing-own own splits packets any law) in
-      let w = packet-own own splits packets any law now (held r any (wide n) before)
-      (profile.held own any before) b octets h in
-      of-own n (listed (step_of r any now (held r any (wide n) before)
-      (part_of (wide n) (carried r b))).1)
-      (profile.listed (profile.step_of own any (profile.held own any before) (offered own b)).1)
+      let w = packet-own own splits packets any law now (course_held r any (wide n) before)
+      (profile.course_held own any before) b octets h in
+      of-own n (news_listed (step_of r any now (course_held r any (wide n) before)
+      (part_of (wide n) (part_carried r b))).1)
+      (profile.news_listed
+      (profile.step_of own any (profile.course_held own any before) (part_offered own b)).1)
       (listed-own own splits packets any law
-      (step_of r any now (held r any (wide n) before) (part_of (wide n) (carried r b))).1
-      (profile.step_of own any (profile.held own any before) (offered own b)).1 w.1)
+      (step_of r any now (course_held r any (wide n) before)
+      (part_of (wide n) (part_carried r b))).1
+      (profile.step_of own any (profile.course_held own any before) (part_offered own b)).1 w.1)
 
   -- the part that it carries
   arrives : (b : List ℕ)
       → IsOctets b
-      → option_map in_own (result_ok (carried r b)) ≡ piece_in t b
+      → option_map in_own (result_ok (part_carried r b)) ≡ piece_in t b
   arrives b octets =
       law r t.part_size b (is-own t) octets
       ∙ arrived-part (arrival (receiver_side t.direction) t.apid t.part_size b)
@@ -141,13 +144,13 @@ module _ (t : Transaction) (splits : Splits)
       → AreOwnEvents (events_from r any before bs) (profile_streams.events_from t any before bs)
   events-from-own before [] all octets = tt
   events-from-own before (b ∷ bs) all octets =
-      events-append (told_by r any before b (carried r b))
+      events-append (told_by r any before b (part_carried r b))
       (events_from r any (before ++ b ∷ []) bs)
       (profile_streams.told_by t any before b (piece_in t b))
       (profile_streams.events_from t any (before ++ b ∷ []) bs)
-      (subst (λ (o : Option NamedPart). AreOwnEvents (told_by r any before b (carried r b))
+      (subst (λ (o : Option NamedPart). AreOwnEvents (told_by r any before b (part_carried r b))
       (profile_streams.told_by t any before b o)) (arrives b octets.0)
-      (told-own before b (carried r b) all octets.0))
+      (told-own before b (part_carried r b) all octets.0))
       (events-from-own (before ++ b ∷ []) bs (all-more before b all octets.0) octets.1)
 
   pub events-own : (bs : List (List ℕ))
@@ -162,8 +165,10 @@ module _ (t : Transaction) (splits : Splits)
       let own = of_name t n in
       let h = held-own own splits packets any law nothing_counted nothing profile.nothing bs octets
       (nothing-own own splits packets any law) in
-      of-own n (left (held r any (wide n) bs)) (profile.left (profile.held own any bs))
-      (left-own own splits packets any law (held r any (wide n) bs) (profile.held own any bs) h)
+      of-own n (news_left (course_held r any (wide n) bs))
+      (profile.news_left (profile.course_held own any bs))
+      (left-own own splits packets any law (course_held r any (wide n) bs)
+      (profile.course_held own any bs) h)
 
   pub messages-own : (bs : List (List ℕ))
       → AllByRecursion IsOctets bs

@@ -16,7 +16,7 @@ use Rattle.lpt_layout_join.proofs.BridgeLemmas.{kept}
 use Rattle.lpt_layout_join.proofs.WholeLemmas.{Splits, has_part-own}
 use Rattle.lpt_each.specs.Eaches as profile
 use Rattle.lpt_each.specs.News as profile_news
-use Rattle.lpt_layout_each.specs.Eaches.{Held, Turn, Waits, GivesUp, Gives, after, after_all, all_turn, begun, gather, given, is_old, new_turn, turn}
+use Rattle.lpt_layout_each.specs.Eaches.{Held, Turn, Waits, GivesUp, Gives, after, after_all, all_turn, held_begun, gather, message_given, is_old, new_turn, turn}
 use Rattle.lpt_layout_each.specs.News.{News}
 use Rattle.lpt_layout_each.specs.Own.{IsOwnNews}
 use Rattle.lpt_layout_each.proofs.OwnTurnLemmas.{IsParts, IsWhole, IsOwnTurn, none-parts, own-turn-by, turn-own}
@@ -60,22 +60,23 @@ module _ (p : ℕ) where
   pub begun-own : (l : Option Came) (m : Option (List ℕ)) (c : Came) (s : Parts)
       → IsOwnLast p l m
       → IsParts p c s
-      → IsOwnHeld p (begun l c) (profile.begun m s)
+      → IsOwnHeld p (held_begun l c) (profile.held_begun m s)
   begun-own None None c s last h = record { last = tt; all = tt; new = h }
   begun-own (Some d) (Some m) c s last h = record { last = last; all = h; new = h }
   begun-own None (Some m) c s last h = absurd last
   begun-own (Some d) None c s last h = absurd last
 
   given-own : (c : Came) (m : List ℕ) → IsWhole p c m
-      → IsOwnGather p (given c m) (profile.given m)
+      → IsOwnGather p (message_given c m) (profile.message_given m)
   given-own c m h = (begun-own (Some c) (Some m) nothing_came no_parts h (none-parts p), refl)
 
   -- of a message in both words
   given-by : (c : Came) (m w : List ℕ)
       → (m ≡ w) × IsWhole p c m
-      → IsOwnGather p (given c m) (profile.given w)
+      → IsOwnGather p (message_given c m) (profile.message_given w)
   given-by c m w h =
-      subst (λ (w : List ℕ). IsOwnGather p (given c m) (profile.given w)) h.0 (given-own c m h.1)
+      subst (λ (w : List ℕ). IsOwnGather p (message_given c m) (profile.message_given w)) h.0
+      (given-own c m h.1)
 
   module _ (h : Held) (g : profile.Held) (own : IsOwnHeld p h g) where
     -- where no other parts are kept

@@ -13,7 +13,7 @@ use Rattle.lpt_layout_join.proofs.OwnLemmas.{OwnParts}
 use Rattle.lpt_layout_join.proofs.WholeLemmas.{Splits}
 use Rattle.lpt_each.specs.Eaches as profile
 use Rattle.lpt_each.specs.News as profile_news
-use Rattle.lpt_layout_each.specs.Eaches.{counts_of, held, left, news_from, nothing}
+use Rattle.lpt_layout_each.specs.Eaches.{counts_of, course_held, news_left, news_from, nothing}
 use Rattle.lpt_layout_each.specs.News.{News, Given, Dropped, Unfit, Overtaken, messages_in}
 use Rattle.lpt_layout_each.specs.Own.{AreOwnNews, IsOwnNews, own_news}
 use Rattle.lpt_layout_each.proofs.OwnCourseLemmas.{held-own, left-own, news-own, nothing-own, own-append}
@@ -72,11 +72,12 @@ module _ (t : Transaction) (splits : Splits)
       let begun = nothing-own t splits packets any law in
       own-append t splits packets any law
       (news_from r any (wide t.name) nothing_counted nothing bs)
-      (left (held r any (wide t.name) bs))
+      (news_left (course_held r any (wide t.name) bs))
       (profile.news_from t any profile.nothing bs)
-      (profile.left (profile.held t any bs))
+      (profile.news_left (profile.course_held t any bs))
       (news-own t splits packets any law nothing_counted nothing profile.nothing bs octets begun)
-      (left-own t splits packets any law (held r any (wide t.name) bs) (profile.held t any bs)
+      (left-own t splits packets any law (course_held r any (wide t.name) bs)
+      (profile.course_held t any bs)
       (held-own t splits packets any law nothing_counted nothing profile.nothing bs octets begun))
 
   pub own-messages : (bs : List (List ℕ))
@@ -90,12 +91,13 @@ module _ (t : Transaction) (splits : Splits)
       → AllByRecursion IsOctets before
       → AllByRecursion IsOctets bs
       → messages_in (news_from r any (wide t.name) (counts_of r before)
-      (held r any (wide t.name) before) bs)
-      ≡ profile_news.messages_in (profile.news_from t any (profile.held t any before) bs)
+      (course_held r any (wide t.name) before) bs)
+      ≡ profile_news.messages_in (profile.news_from t any (profile.course_held t any before) bs)
   own-behind before bs octets more =
       messages-alike _ _
-      (news-own t splits packets any law (counts_of r before) (held r any (wide t.name) before)
-      (profile.held t any before) bs more
+      (news-own t splits packets any law (counts_of r before)
+      (course_held r any (wide t.name) before)
+      (profile.course_held t any before) bs more
       (held-own t splits packets any law nothing_counted nothing profile.nothing before octets
       (nothing-own t splits packets any law)))
 
@@ -103,7 +105,7 @@ module _ (t : Transaction) (splits : Splits)
   pub own-in-order : (before front behind : List (List ℕ)) (last m : List ℕ)
       → AllByRecursion IsOctets (before ++ (front ++ last ∷ []) ++ behind)
       → (earlier : List (List ℕ)) × (later : List (List ℕ)) × (after : List (List ℕ))
-      × (profile_news.messages_in (profile.news_from t any (profile.held t any before)
+      × (profile_news.messages_in (profile.news_from t any (profile.course_held t any before)
       (front ++ last ∷ []))
       ≡ earlier ++ m ∷ later)
       × (profile_news.messages_in
@@ -112,7 +114,7 @@ module _ (t : Transaction) (splits : Splits)
       ++ (earlier ++ m ∷ later) ++ after)
       → (earlier : List (List ℕ)) × (later : List (List ℕ)) × (after : List (List ℕ))
       × (messages_in (news_from r any (wide t.name) (counts_of r before)
-      (held r any (wide t.name) before) (front ++ last ∷ []))
+      (course_held r any (wide t.name) before) (front ++ last ∷ []))
       ≡ earlier ++ m ∷ later)
       × (messages_in (own_news t any (before ++ (front ++ last ∷ []) ++ behind))
       ≡ messages_in (news_from r any (wide t.name) nothing_counted nothing before)

@@ -12,11 +12,11 @@ use Rattle.lpt_reception.specs.Received as received
 use Rattle.lpt_reception.specs.Received.{Kept, Parts, has_all_to, is_last, is_whole, no_parts, spelled, with_part}
 use Rattle.lpt_reception.proofs.SetLemmas.{get_added, get_other}
 use Rattle.lpt_join.specs.declared.transaction.Transaction.{Transaction}
-use Rattle.lpt_join.specs.Joins.{Missing, Broken, added, kept_by}
+use Rattle.lpt_join.specs.Joins.{Missing, Broken, part_added, kept_by}
 use Rattle.lpt_join.proofs.SetLemmas.{not_none}
 use Rattle.lpt_layout_join.specs.declared.order.Order.{Order}
 use Rattle.lpt_layout_join.specs.Came.{Came, last_of, message_of}
-use Rattle.lpt_layout_join.specs.Orders.{is_in_order, no_order, ordered, with_next}
+use Rattle.lpt_layout_join.specs.Orders.{is_in_order, no_order, order_after, with_next}
 use Rattle.lpt_layout_join.proofs.BridgeLemmas.{IsBridge, kept}
 use Rattle.lpt_layout_join.proofs.MoreLemmas.{bridge-more}
 use Rattle.lpt_layout_join.proofs.WholeLemmas.{Splits, message-none, message-own}
@@ -78,7 +78,7 @@ module _ (t : Transaction) (splits : Splits)
       → o.count ≡ k
       → n ≤ k + 1
       → (n ≡ 1 → k ≡ 0)
-      → (ordered o n now).count ≡ profile.higher k n
+      → (order_after o n now).count ≡ profile.higher k n
   count-own o k is within first = elim (eqb_tells n 1) [
     | inl v ↦
         let none = first v.1 in
@@ -117,7 +117,7 @@ module _ (t : Transaction) (splits : Splits)
     s2 = with_part g.parts n x
 
     abbrev o2 : Order
-    o2 = ordered r.order n now
+    o2 = order_after r.order n now
 
     -- another part up to this one is one of them
     before : (k : ℕ) → k ≢ n → k ≤ profile.higher g.count n → k ≤ g.count
@@ -173,10 +173,10 @@ module _ (t : Transaction) (splits : Splits)
     by-own : (b : Bool)
         → received.contradicts g.parts n x ≡ b
         → IsOwnRunTurn p (run_by o2 (more r.came q))
-        (profile.run_by g.count (n, x) (added g.parts n x))
+        (profile.run_by g.count (n, x) (part_added g.parts n x))
     by-own true is =
         own-run-by p (run_by o2 (more r.came q)) (Goes no_run)
-        (profile.run_by g.count (n, x) (added g.parts n x)) (profile.Goes profile.no_run)
+        (profile.run_by g.count (n, x) (part_added g.parts n x)) (profile.Goes profile.no_run)
         (ap (run_by o2) (more-is t splits packets q fits r.came g.parts true h.parts is))
         (ap (λ (b : Bool). profile.run_by g.count (n, x)
         (if b then Broken else if is_some (map.get g.parts n) then Missing g.parts
@@ -184,7 +184,7 @@ module _ (t : Transaction) (splits : Splits)
         (none-run p)
     by-own false is =
         own-run-by p (run_by o2 (more r.came q)) (run_joined o2 c2 (message_of c2.parts))
-        (profile.run_by g.count (n, x) (added g.parts n x))
+        (profile.run_by g.count (n, x) (part_added g.parts n x))
         (profile.run_by g.count (n, x) (kept_by (is_whole s2) s2))
         (ap (run_by o2) (more-is t splits packets q fits r.came g.parts false h.parts is)
         ∙ ap (λ (o : Option ℕ). if is_some o then Goes no_run
@@ -212,12 +212,12 @@ module _ (t : Transaction) (splits : Splits)
   unfolding run_turn profile.run_turn
   run-own r g h =
       own-run-by p
-      (if nat_le n (r2.order.count + 1) then run_by (ordered r2.order n now) (more r2.came q)
+      (if nat_le n (r2.order.count + 1) then run_by (order_after r2.order n now) (more r2.came q)
       else Goes no_run)
-      (if nat_le n (g2.count + 1) then run_by (ordered r2.order n now) (more r2.came q)
+      (if nat_le n (g2.count + 1) then run_by (order_after r2.order n now) (more r2.came q)
       else Goes no_run)
       (profile.run_turn g (n, x)) (profile.run_turn g (n, x))
-      (ap (λ (k : ℕ). if nat_le n (k + 1) then run_by (ordered r2.order n now) (more r2.came q)
+      (ap (λ (k : ℕ). if nat_le n (k + 1) then run_by (order_after r2.order n now) (more r2.came q)
       else Goes no_run) h2.count)
       refl
       (by (nat_le n (g2.count + 1)) refl) where
@@ -233,8 +233,8 @@ module _ (t : Transaction) (splits : Splits)
         by : (b : Bool)
             → nat_le n (g2.count + 1) ≡ b
             → IsOwnRunTurn p
-            (if b then run_by (ordered r2.order n now) (more r2.came q) else Goes no_run)
-            (if b then profile.run_by g2.count (n, x) (added g2.parts n x)
+            (if b then run_by (order_after r2.order n now) (more r2.came q) else Goes no_run)
+            (if b then profile.run_by g2.count (n, x) (part_added g2.parts n x)
             else profile.Goes profile.no_run)
         by true e =
             let within : n ≤ g2.count + 1 = grind (arith, nat_tests) in

@@ -16,7 +16,7 @@ use Rattle.lpt_reception.proofs.StartLemmas.{contradicts-none, not_whole_alone}
 use Rattle.lpt_carried.specs.declared.reading.Reading.{Reading}
 use Rattle.lpt_join.specs.declared.messages.Misfit.{Misfit}
 use Rattle.lpt_join.specs.declared.transaction.Transaction.{Transaction}
-use Rattle.lpt_join.specs.Joins.{Missing, Broken, added, kept_by}
+use Rattle.lpt_join.specs.Joins.{Missing, Broken, part_added, kept_by}
 use Rattle.lpt_join.proofs.SetLemmas.{not_none, nothing_whole, there}
 use Rattle.lpt_layout_join.specs.declared.last_part.LastPart.{LastPart}
 use Rattle.lpt_layout_join.specs.Came.{Came, highest, last_of, message_of, nothing_came, octets_of}
@@ -29,7 +29,7 @@ use Rattle.lpt_layout_join.proofs.WholeLemmas.{Splits, message-none, message-own
 use Rattle.lpt_each.specs.Eaches as profile
 use Rattle.lpt_each.specs.News as profile_news
 use Rattle.lpt_layout_each.specs.Eaches.{Turn, Waits, GivesUp, Gives, alone, more, seed, turn, turn_by, turn_fit, turn_joined}
-use Rattle.lpt_layout_each.specs.News.{dropped}
+use Rattle.lpt_layout_each.specs.News.{parts_dropped}
 use Rattle.lpt_layout_each.specs.Own.{AreNumbers, IsOwnNews}
 
 -- parts that came, and aren't whole, are this set
@@ -52,7 +52,7 @@ none-parts p = record { bridge = none-bridge p; waits = nothing_whole; none = re
 pub added-kept : (s : Parts) (n : ℕ) (x : Kept)
     → is_whole s ≡ false
     → received.contradicts s n x ≡ false
-    → added s n x ≡ kept_by (is_whole (with_part s n x)) (with_part s n x)
+    → part_added s n x ≡ kept_by (is_whole (with_part s n x)) (with_part s n x)
 added-kept s n x waits free =
     ap (λ (b : Bool). if b then Broken else if is_some (map.get s n) then Missing s
     else kept_by (is_whole (with_part s n x)) (with_part s n x)) free
@@ -98,7 +98,7 @@ module _ (p : ℕ) (c : Came) (s : Parts) (h : IsBridge p c.parts s) where
     each = λ n. sym (there-alike p c.parts s h (n + 1));
   }
 
-  pub dropped-own : IsOwnNews (dropped c) (profile_news.dropped s)
+  pub dropped-own : IsOwnNews (parts_dropped c) (profile_news.parts_dropped s)
   dropped-own = (numbers-own, ended-own)
 
 -- where none is left nothing came
@@ -239,12 +239,12 @@ module _ (t : Transaction) (splits : Splits)
     turn-by : (b : Bool)
         → received.contradicts s n x ≡ b
         → IsOwnTurn p (turn_by r any again q (more c q))
-        (profile.turn_by t any again s (n, x) (added s n x))
+        (profile.turn_by t any again s (n, x) (part_added s n x))
     turn-by true is =
         own-turn-by p (turn_by r any again q (more c q))
-        (GivesUp (dropped c) (alone q))
-        (profile.turn_by t any again s (n, x) (added s n x))
-        (profile.GivesUp (profile_news.dropped s) (profile.alone (n, x)))
+        (GivesUp (parts_dropped c) (alone q))
+        (profile.turn_by t any again s (n, x) (part_added s n x))
+        (profile.GivesUp (profile_news.parts_dropped s) (profile.alone (n, x)))
         (ap (turn_by r any again q) (more-is c s true h is))
         (ap (λ (b : Bool). profile.turn_by t any again s (n, x)
         (if b then Broken else if is_some (map.get s n) then Missing s
@@ -253,10 +253,10 @@ module _ (t : Transaction) (splits : Splits)
     turn-by false is =
         own-turn-by p (turn_by r any again q (more c q))
         (turn_joined r any again q c2 (message_of c2.parts))
-        (profile.turn_by t any again s (n, x) (added s n x))
+        (profile.turn_by t any again s (n, x) (part_added s n x))
         (profile.turn_by t any again s (n, x) (kept_by (is_whole s2) s2))
         (ap (turn_by r any again q) (more-is c s false h is)
-        ∙ ap (λ (o : Option ℕ). if is_some o then GivesUp (dropped c2) (alone q)
+        ∙ ap (λ (o : Option ℕ). if is_some o then GivesUp (parts_dropped c2) (alone q)
         else turn_joined r any again q c2 (message_of c2.parts)) h.none)
         (ap (profile.turn_by t any again s (n, x)) (added-kept s n x h.waits is))
         (agreed (is_whole s2) (bridge-more p c.parts s h.bridge q fits is) refl)

@@ -6,7 +6,7 @@ use Rattle.lpt_packet.proofs.Readings.{eq_true}
 use Rattle.lpt_part.specs.Parts.{Piece}
 use Rattle.lpt_layout_join.specs.declared.order.Order.{Order}
 use Rattle.lpt_layout_join.specs.Came.{Came, message_of}
-use Rattle.lpt_layout_join.specs.Orders.{ordered}
+use Rattle.lpt_layout_join.specs.Orders.{order_after}
 use Rattle.lpt_layout_each.specs.declared.run.RunAs.{RunAs}
 use Rattle.lpt_layout_each.specs.Eaches.{Goes, Run, more, no_run, run_before, run_by, run_joined, run_turn}
 use Rattle.lpt_layout_each.specs.Helds.{IsRun}
@@ -25,7 +25,7 @@ module _ (r : Run) (now : ℕ) (q : Piece) (g : RunAs) (h : IsRun (run_before r 
   with_part = more (run_before r q.number).came q
 
   abbrev after : Order → Order
-  after o = ordered o q.number now
+  after o = order_after o q.number now
 
   -- a part beyond the next
   pub run-past : g.order.count + 1 < q.number → run_turn r now q ≡ Goes no_run

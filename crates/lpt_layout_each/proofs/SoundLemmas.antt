@@ -8,14 +8,14 @@ use Rattle.lpt_carried.specs.declared.name.Name.{Name}
 use Rattle.lpt_carried.specs.declared.reading.Reading.{Reading}
 use Rattle.lpt_carried.specs.declared.skip.Skip.{Skip}
 use Rattle.lpt_layout_join.specs.Came.{Came, contradicts, message_of, nothing_came}
-use Rattle.lpt_carried.specs.Carried.{Named, carried, name_of, part_of}
+use Rattle.lpt_carried.specs.Carried.{Named, part_carried, name_of, part_of}
 use Rattle.lpt_layout_join.specs.declared.order.Order.{Order}
 use Rattle.lpt_layout_join.specs.Counts.{nothing_counted}
-use Rattle.lpt_layout_join.specs.Orders.{ordered}
+use Rattle.lpt_layout_join.specs.Orders.{order_after}
 use Rattle.lpt_layout_join.specs.Writes.{unfit}
-use Rattle.lpt_layout_each.specs.Eaches.{Held, Turn, Waits, GivesUp, Gives, after, after_all, all_turn, alone, begun, counts_of, held, is_old, missing_at, listed, more, new_turn, nothing, step, step_of, turn, turn_fit, turn_joined, Course, Ends, Goes, Run, RunTurn, are_own, end_by, end_run, gather, go_on, no_run, repeats, run_before, run_by, run_joined, run_turn, seed, step_by, told_in_order}
+use Rattle.lpt_layout_each.specs.Eaches.{Held, Turn, Waits, GivesUp, Gives, after, after_all, all_turn, alone, held_begun, counts_of, course_held, is_old, missing_at, news_listed, more, new_turn, nothing, step, step_of, turn, turn_fit, turn_joined, Course, Ends, Goes, Run, RunTurn, are_own, end_by, end_run, gather, go_on, no_run, repeats, run_before, run_by, run_joined, run_turn, seed, step_by, told_in_order}
 use Rattle.lpt_layout_each.specs.Laws.{IsGood, IsThere}
-use Rattle.lpt_layout_each.specs.News.{Event, News, Given, Dropped, Unfit, Overtaken, dropped, messages_of}
+use Rattle.lpt_layout_each.specs.News.{Event, News, Given, Dropped, Unfit, Overtaken, parts_dropped, messages_of}
 use Rattle.lpt_layout_each.specs.Streams.{events_from, of, told_by}
 use Rattle.lpt_layout_each.proofs.FitLemmas.{fit-sure}
 use Rattle.lpt_layout_each.proofs.HeldsLemmas.{held_from-next}
@@ -105,13 +105,13 @@ module _ (r : Reading) (any : Bool) (all : List (List ℕ)) where
     unfolding turn
     turn-from again c q h here = go (is_some (more c q).against) where
       go : (a : Bool)
-          → TurnFrom (if a then GivesUp (dropped (more c q)) (alone q)
+          → TurnFrom (if a then GivesUp (parts_dropped (more c q)) (alone q)
           else turn_joined r any again q (more c q) (message_of (more c q).parts))
       go true = (tt, more-from nothing_came q tt here)
       go false = joined-from again q (more c q) (message_of (more c q).parts) refl
           (more-from c q h here) here
 
-    begun-from : (last : Option Came) (c : Came) → IsFrom c → HeldFrom (begun last c)
+    begun-from : (last : Option Came) (c : Came) → IsFrom c → HeldFrom (held_begun last c)
     begun-from None c h = (tt, h)
     begun-from (Some l) c h = (h, h)
 
@@ -194,10 +194,11 @@ module _ (r : Reading) (any : Bool) (all : List (List ℕ)) where
 
           go : (run : Run) (next : Bool)
               → IsFrom run.came
-              → RunTurnFrom (if next then run_by (ordered run.order q.number now) (more run.came q)
+              → RunTurnFrom
+              (if next then run_by (order_after run.order q.number now) (more run.came q)
               else Goes no_run)
           go run true h =
-              run_by-from (ordered run.order q.number now) (more run.came q)
+              run_by-from (order_after run.order q.number now) (more run.came q)
               (more-from run.came q h here)
           go run false h = tt
 
@@ -260,7 +261,7 @@ module _ (r : Reading) (any : Bool) (all : List (List ℕ)) where
     -- each part that these packets carry is there
     abbrev AreIn : List (List ℕ) → Type 0
     AreIn bs = AllByRecursion
-        (λ b. (q : Piece) → part_of n (carried r b) ≡ Some q → IsThere r n all q) bs
+        (λ b. (q : Piece) → part_of n (part_carried r b) ≡ Some q → IsThere r n all q) bs
 
   -- ---- of all names
 
@@ -269,7 +270,7 @@ module _ (r : Reading) (any : Bool) (all : List (List ℕ)) where
 
   listed-sound : (n : Name) (o : Option News)
       → IsTold n o
-      → AllByRecursion IsSoundEvent (of n (listed o))
+      → AllByRecursion IsSoundEvent (of n (news_listed o))
   listed-sound n None h = tt
   listed-sound n (Some w) h = (h, tt)
 
@@ -281,29 +282,30 @@ module _ (r : Reading) (any : Bool) (all : List (List ℕ)) where
   append-sound (d ∷ ds) es h k = (h.0, append-sound ds es h.1 k)
 
   told-sound : (before : List (List ℕ)) (b : List ℕ) (v : Result Named Skip)
-      → ((n : Name) → CourseFrom n (held r any n before))
-      → ((n : Name) (q : Piece) → part_of n (carried r b) ≡ Some q → IsThere r n all q)
+      → ((n : Name) → CourseFrom n (course_held r any n before))
+      → ((n : Name) (q : Piece) → part_of n (part_carried r b) ≡ Some q → IsThere r n all q)
       → AllByRecursion IsSoundEvent (told_by r any before b v)
   told-sound before b (Ok c) from are =
       let n = name_of c in
-      let o = part_of n (carried r b) in
+      let o = part_of n (part_carried r b) in
       let now = missing_at r (counts_of r before) b in
-      listed-sound n (step_of r any now (held r any n before) o).1
-      (step_of-from n now (held r any n before) o (are n) (from n)).1
+      listed-sound n (step_of r any now (course_held r any n before) o).1
+      (step_of-from n now (course_held r any n before) o (are n) (from n)).1
   told-sound before b (Err e) from are = tt
 
   events-sound : (before bs : List (List ℕ))
-      → ((n : Name) → CourseFrom n (held r any n before))
+      → ((n : Name) → CourseFrom n (course_held r any n before))
       → ((n : Name) → AreIn n bs)
       → AllByRecursion IsSoundEvent (events_from r any before bs)
   events-sound before [] from are = tt
   events-sound before (b ∷ bs) from are =
-      append-sound (told_by r any before b (carried r b)) (events_from r any (before ++ b ∷ []) bs)
-      (told-sound before b (carried r b) from (λ n. (are n).0))
+      append-sound (told_by r any before b (part_carried r b))
+      (events_from r any (before ++ b ∷ []) bs)
+      (told-sound before b (part_carried r b) from (λ n. (are n).0))
       (events-sound (before ++ b ∷ []) bs
       (λ n. subst (CourseFrom n) (sym (held_from-next r any n nothing_counted nothing before b))
-      (step_of-from n (missing_at r (counts_of r before) b) (held r any n before)
-      (part_of n (carried r b)) (are n).0 (from n)).0)
+      (step_of-from n (missing_at r (counts_of r before) b) (course_held r any n before)
+      (part_of n (part_carried r b)) (are n).0 (from n)).0)
       (λ n. (are n).1))
 
   sound-there : (front back : List Event) (e : Event)
@@ -314,14 +316,16 @@ module _ (r : Reading) (any : Bool) (all : List (List ℕ)) where
 
 -- each part that packets carry is among them
 in-more : (r : Reading) (n : Name) (c : List ℕ) (all bs : List (List ℕ))
-    → AllByRecursion (λ b. (q : Piece) → part_of n (carried r b) ≡ Some q → IsThere r n all q) bs
+    → AllByRecursion (λ b. (q : Piece) → part_of n (part_carried r b) ≡ Some q → IsThere r n all q)
+    bs
     → AllByRecursion
-    (λ b. (q : Piece) → part_of n (carried r b) ≡ Some q → IsThere r n (c ∷ all) q) bs
+    (λ b. (q : Piece) → part_of n (part_carried r b) ≡ Some q → IsThere r n (c ∷ all) q) bs
 in-more r n c all [] h = tt
 in-more r n c all (b ∷ bs) h = (λ q is. inr (h.0 q is), in-more r n c all bs h.1)
 
 are_in : (r : Reading) (n : Name) (bs : List (List ℕ))
-    → AllByRecursion (λ b. (q : Piece) → part_of n (carried r b) ≡ Some q → IsThere r n bs q) bs
+    → AllByRecursion (λ b. (q : Piece) → part_of n (part_carried r b) ≡ Some q → IsThere r n bs q)
+    bs
 are_in r n [] = tt
 are_in r n (b ∷ bs) = (λ q is. inl is, in-more r n b bs bs (are_in r n bs))
 

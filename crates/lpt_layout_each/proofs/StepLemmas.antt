@@ -11,9 +11,9 @@ use Rattle.lpt_layout_join.specs.CameInside.{Shows, last_in, part_at}
 use Rattle.lpt_layout_each.specs.declared.held.HeldAs.{HeldAs}
 use Rattle.lpt_layout_each.specs.declared.news.NewsAs.TheVariants as said
 use Rattle.lpt_layout_each.specs.declared.turn.Turn.TheVariants as code
-use Rattle.lpt_layout_each.specs.Eaches.{Held, Turn, Waits, GivesUp, Gives, after, after_all, all_turn, alone, begun, given, is_old, more, step, turn, Course, Ends, Goes, Run, end_by, end_run, gather, go_on, no_run, repeats, run_turn, seed, step_by}
+use Rattle.lpt_layout_each.specs.Eaches.{Held, Turn, Waits, GivesUp, Gives, after, after_all, all_turn, alone, held_begun, message_given, is_old, more, step, turn, Course, Ends, Goes, Run, end_by, end_run, gather, go_on, no_run, repeats, run_turn, seed, step_by}
 use Rattle.lpt_layout_each.specs.Helds.{Holds, IsTurnOfAll, ShowsSome, Takes}
-use Rattle.lpt_layout_each.specs.News.{News, Dropped, Unfit, dropped}
+use Rattle.lpt_layout_each.specs.News.{News, Dropped, Unfit, parts_dropped}
 
 -- ---- a step
 
@@ -46,13 +46,13 @@ module _ (r : Reading) (any again : Bool) (h : Held) (q : Piece) where
   pub step-gives_up : (w : News) (c : Came)
       → is_old h.last q ≡ false
       → turn r any again h.new q ≡ GivesUp w c
-      → ◌≡◌ {A = Held × Option News} (begun h.last c, Some w) (gather r any again h q)
+      → ◌≡◌ {A = Held × Option News} (held_begun h.last c, Some w) (gather r any again h q)
   step-gives_up w c e is = new_step (GivesUp w c) e is
 
   pub step-gives : (c : Came) (m : List ℕ)
       → is_old h.last q ≡ false
       → turn r any again h.new q ≡ Gives c m
-      → given c m ≡ gather r any again h q
+      → message_given c m ≡ gather r any again h q
   step-gives c m e is = new_step (Gives c m) e is
 
 -- ---- all parts
@@ -82,7 +82,7 @@ begun-some (Some d) last t s c e h k = k
 -- parts that are given up, as they are held
 pub dropped-shown : (c : Came) (s : CameAs)
     → Shows c s
-    → ◌≡◌ {A = News} (Dropped (λ n. part_at s (n + 1)) (last_in s)) (dropped c)
+    → ◌≡◌ {A = News} (Dropped (λ n. part_at s (n + 1)) (last_in s)) (parts_dropped c)
 dropped-shown c s h =
     let least : (n : ℕ) → 1 ≤ n + 1 = λ n. omega arith in
     λ i. Dropped (λ n. h.parts_are (n + 1) (least n) i) (h.last_is i)
@@ -139,7 +139,7 @@ module _ (again : Bool) (l a : Option Came) (c : Came) (q : Piece) (last : Optio
         → IsTurnOfAll again b q (Some (code.Broken s)) (Some now)
         → Takes (record { last = last; all = None; new = new }, None) (after_all l c (Some now))
     go None u = absurd u
-    go (Some d) u = given_up (Some now) (dropped (more d q)) (alone q) (ap Some u.1) h k
+    go (Some d) u = given_up (Some now) (parts_dropped (more d q)) (alone q) (ap Some u.1) h k
 
   pub after_unfit : (e : MisfitAs) (o : Option Turn)
       → ShowsSome l last
@@ -158,7 +158,7 @@ module _ (again : Bool) (l a : Option Came) (c : Came) (q : Piece) (last : Optio
 pub after_gives : (again : Bool) (l a : Option Came) (c : Came) (q : Piece) (s : CameAs)
     (m : List ℕ) (g : HeldAs)
     (o : Option Turn)
-    → ((b : Option Came) → ShowsSome b (Some s) → Holds (begun b nothing_came) g)
+    → ((b : Option Came) → ShowsSome b (Some s) → Holds (held_begun b nothing_came) g)
     → IsTurnOfAll again a q (Some (code.Gives s m)) o
     → Takes (g, Some (said.Given m)) (after_all l c o)
 after_gives again l a c q s m g None holds t = absurd t

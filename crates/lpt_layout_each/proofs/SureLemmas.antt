@@ -12,14 +12,14 @@ use Rattle.lpt_layout_join.specs.declared.order.Order.{Order}
 use Rattle.lpt_carried.specs.declared.reading.Reading.{Reading}
 use Rattle.lpt_carried.specs.declared.skip.Skip.{Skip}
 use Rattle.lpt_layout_join.specs.Came.{Came, contradicts, last_of, message_of}
-use Rattle.lpt_carried.specs.Carried.{Named, carried, name_of, part_of}
+use Rattle.lpt_carried.specs.Carried.{Named, part_carried, name_of, part_of}
 use Rattle.lpt_layout_join.specs.Counts.{Counted, all_counted, nothing_counted}
 use Rattle.lpt_layout_join.specs.InOrder.{IsInOrder}
-use Rattle.lpt_layout_join.specs.Orders.{is_in_order, ordered}
+use Rattle.lpt_layout_join.specs.Orders.{is_in_order, order_after}
 use Rattle.lpt_layout_join.specs.Writes.{misfit, unfit}
 use Rattle.lpt_layout_join.proofs.InOrderLemmas.{CameSo, came-other, came-part, in_order, none-came, octets-own}
-use Rattle.lpt_layout_each.specs.Eaches.{Course, Gives, GivesUp, Goes, Held, Run, Turn, Waits, after, after_all, all_turn, alone, are_own, counts_of, end_by, end_run, gather, go_on, held, is_old, listed, missing_at, more, new_turn, no_run, nothing, repeats, run_before, run_by, run_joined, run_turn, step, step_by, step_of, told_in_order, turn, turn_fit, turn_joined}
-use Rattle.lpt_layout_each.specs.News.{Event, News, dropped, messages_in, messages_of}
+use Rattle.lpt_layout_each.specs.Eaches.{Course, Gives, GivesUp, Goes, Held, Run, Turn, Waits, after, after_all, all_turn, alone, are_own, counts_of, end_by, end_run, gather, go_on, course_held, is_old, news_listed, missing_at, more, new_turn, no_run, nothing, repeats, run_before, run_by, run_joined, run_turn, step, step_by, step_of, told_in_order, turn, turn_fit, turn_joined}
+use Rattle.lpt_layout_each.specs.News.{Event, News, parts_dropped, messages_in, messages_of}
 use Rattle.lpt_layout_each.specs.Streams.{events_from, of, told_by}
 use Rattle.lpt_layout_each.proofs.HeldsLemmas.{counted-next, held_from-next}
 
@@ -96,7 +96,7 @@ module _ (r : Reading) (bare : r.layout.has_checksum ≡ false) where
   unfolding turn
   turn-none again c q = go (is_some (more c q).against) where
     go : (a : Bool)
-        → NoMessage (if a then GivesUp (dropped (more c q)) (alone q)
+        → NoMessage (if a then GivesUp (parts_dropped (more c q)) (alone q)
         else turn_joined r false again q (more c q) (message_of (more c q).parts))
     go true = refl
     go false = joined-none again q (more c q) (message_of (more c q).parts)
@@ -113,7 +113,7 @@ module _ (r : Reading) (bare : r.layout.has_checksum ≡ false) where
 
   after_all-none : (last : Option Came) (c : Came) (o : Option Turn)
       → NoMessageOf o
-      → messages_in (listed (after_all last c o).1) ≡ []
+      → messages_in (news_listed (after_all last c o).1) ≡ []
   after_all-none last c None h = refl
   after_all-none last c (Some (Waits a)) h = refl
   after_all-none last c (Some (GivesUp w a)) h = refl
@@ -122,13 +122,13 @@ module _ (r : Reading) (bare : r.layout.has_checksum ≡ false) where
   after-none : (last : Option Came) (t : Turn) (o : Option Turn)
       → NoMessage t
       → NoMessageOf o
-      → messages_in (listed (after last t o).1) ≡ []
+      → messages_in (news_listed (after last t o).1) ≡ []
   after-none last (Waits c) o h k = after_all-none last c o k
   after-none last (GivesUp w c) o h k = append-nil (messages_of w) ∙ h
   after-none last (Gives c m) o h k = absurd h
 
   gather-none : (again : Bool) (h : Held) (q : Piece)
-      → messages_in (listed (gather r false again h q).1) ≡ []
+      → messages_in (news_listed (gather r false again h q).1) ≡ []
   unfolding gather
   gather-none again h q =
       after-none h.last (new_turn r false again h q) (all_turn r false again h.all q)
@@ -143,10 +143,10 @@ module _ (r : Reading) (bare : r.layout.has_checksum ≡ false) where
     -- these packets have given this
     abbrev StepSo : List (List ℕ) → Course × Option News → Type 0
     StepSo bs s = RunSo bs s.0.run
-        × ((m : List ℕ) → messages_in (listed s.1) ≡ m ∷ [] → IsInOrder r n bs m)
+        × ((m : List ℕ) → messages_in (news_listed s.1) ≡ m ∷ [] → IsInOrder r n bs m)
 
     module _ (bs : List (List ℕ)) (b : List ℕ) (c : Course) (q : Piece)
-        (is : part_of n (carried r b) ≡ Some q) (so : RunSo bs c.run) where
+        (is : part_of n (part_carried r b) ≡ Some q) (so : RunSo bs c.run) where
       abbrev bsb : List (List ℕ)
       bsb = bs ++ b ∷ []
 
@@ -172,7 +172,7 @@ module _ (r : Reading) (bare : r.layout.has_checksum ≡ false) where
         go false = so
 
       told-one : (own : Bool) (d : Came) (m x : List ℕ)
-          → messages_in (listed (Some (told_in_order own d m))) ≡ x ∷ []
+          → messages_in (news_listed (Some (told_in_order own d m))) ≡ x ∷ []
           → m ≡ x
       told-one true d m x e = cc
       told-one false d m x e = cc
@@ -234,17 +234,18 @@ module _ (r : Reading) (bare : r.layout.has_checksum ≡ false) where
         with : (a : Bool)
             → is_some (more s.came q).against ≡ a
             → StepSo bsb (step_by r false c q (if a then Goes no_run
-            else run_joined (ordered s.order q.number now) (more s.came q)
+            else run_joined (order_after s.order q.number now) (more s.came q)
             (message_of (more s.came q).parts)))
         with true e = goes-so true no_run (none-came r n bsb [])
         with false e =
             let agrees = more-agrees s.came q e in
-            joined-so (ordered s.order q.number now) (more s.came q)
+            joined-so (order_after s.order q.number now) (more s.came q)
             (message_of (more s.came q).parts) refl
-            (subst (λ (i : ℕ). CameSo r n bsb (ordered s.order q.number i) (more s.came q).parts)
+            (subst (λ (i : ℕ). CameSo r n bsb (order_after s.order q.number i)
+            (more s.came q).parts)
             (sym now-is)
             (subst (CameSo r n bsb
-            (ordered s.order q.number (all_counted r nothing_counted bsb).missing))
+            (order_after s.order q.number (all_counted r nothing_counted bsb).missing))
             (sym agrees.1)
             (came-part r n bs b s.came.parts q is
             (octets-own s.came.parts q agrees.0) s.order before-so)))
@@ -252,13 +253,13 @@ module _ (r : Reading) (bare : r.layout.has_checksum ≡ false) where
         near : (t : Bool)
             → StepSo bsb
             (step_by r false c q
-            (if t then run_by (ordered s.order q.number now) (more s.came q)
+            (if t then run_by (order_after s.order q.number now) (more s.came q)
             else Goes no_run))
         near true = with (is_some (more s.came q).against) refl
         near false = goes-so true no_run (none-came r n bsb [])
 
     step_of-so : (bs : List (List ℕ)) (b : List ℕ) (c : Course) (o : Option Piece)
-        → part_of n (carried r b) ≡ o
+        → part_of n (part_carried r b) ≡ o
         → RunSo bs c.run
         → StepSo (bs ++ b ∷ []) (step_of r false (missing_at r (counts_of r bs) b) c o)
     step_of-so bs b c None is so = (
@@ -274,8 +275,8 @@ module _ (r : Reading) (bare : r.layout.has_checksum ≡ false) where
     IsSoundEvent e = (m : List ℕ) → messages_of e.1 ≡ m ∷ [] → IsInOrder r e.0 all m
 
     listed-sound : (n : Name) (o : Option News)
-        → ((m : List ℕ) → messages_in (listed o) ≡ m ∷ [] → IsInOrder r n all m)
-        → AllByRecursion IsSoundEvent (of n (listed o))
+        → ((m : List ℕ) → messages_in (news_listed o) ≡ m ∷ [] → IsInOrder r n all m)
+        → AllByRecursion IsSoundEvent (of n (news_listed o))
     listed-sound n None h = tt
     listed-sound n (Some w) h = (λ m e. h m (append-nil (messages_of w) ∙ e), tt)
 
@@ -288,32 +289,33 @@ module _ (r : Reading) (bare : r.layout.has_checksum ≡ false) where
 
     told-sound : (before behind : List (List ℕ)) (b : List ℕ) (v : Result Named Skip)
         → all ≡ (before ++ b ∷ []) ++ behind
-        → ((n : Name) → RunSo n before (held r false n before).run)
+        → ((n : Name) → RunSo n before (course_held r false n before).run)
         → AllByRecursion IsSoundEvent (told_by r false before b v)
     told-sound before behind b (Ok c) are so =
         let n = name_of c in
-        let o = part_of n (carried r b) in
-        let s = step_of-so n before b (held r false n before) o refl (so n) in
+        let o = part_of n (part_carried r b) in
+        let s = step_of-so n before b (course_held r false n before) o refl (so n) in
         listed-sound n
-        (step_of r false (missing_at r (counts_of r before) b) (held r false n before) o).1
+        (step_of r false (missing_at r (counts_of r before) b) (course_held r false n before) o).1
         (λ m e. subst (λ (xs : List (List ℕ)). IsInOrder r n xs m) (sym are)
         (order-behind r n (before ++ b ∷ []) behind m (s.1 m e)))
     told-sound before behind b (Err e) are so = tt
 
     events-sound : (before bs : List (List ℕ))
         → all ≡ before ++ bs
-        → ((n : Name) → RunSo n before (held r false n before).run)
+        → ((n : Name) → RunSo n before (course_held r false n before).run)
         → AllByRecursion IsSoundEvent (events_from r false before bs)
     events-sound before [] are so = tt
     events-sound before (b ∷ bs) are so =
         let all_are = are ∙ sym (append_assoc before (b ∷ []) bs) in
-        append-sound (told_by r false before b (carried r b))
+        append-sound (told_by r false before b (part_carried r b))
         (events_from r false (before ++ b ∷ []) bs)
-        (told-sound before bs b (carried r b) all_are so)
+        (told-sound before bs b (part_carried r b) all_are so)
         (events-sound (before ++ b ∷ []) bs all_are
         (λ n. subst (λ (c : Course). RunSo n (before ++ b ∷ []) c.run)
         (sym (held_from-next r false n nothing_counted nothing before b))
-        (step_of-so n before b (held r false n before) (part_of n (carried r b)) refl (so n)).0))
+        (step_of-so n before b (course_held r false n before) (part_of n (part_carried r b)) refl
+        (so n)).0))
 
     sound-there : (front back : List Event) (e : Event)
         → AllByRecursion IsSoundEvent (front ++ e ∷ back)

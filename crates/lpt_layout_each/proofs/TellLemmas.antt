@@ -8,13 +8,13 @@ use Rattle.std.proofs.lemmas.List.Concat.{flat_map-append}
 use Rattle.lpt_carried.specs.declared.name.Name.{Name}
 use Rattle.lpt_carried.specs.declared.reading.Reading.{Reading}
 use Rattle.lpt_layout_join.specs.Came.{highest}
-use Rattle.lpt_carried.specs.Carried.{carried, same_name}
+use Rattle.lpt_carried.specs.Carried.{part_carried, same_name}
 use Rattle.lpt_layout_each.specs.declared.course.CourseAs.{CourseAs}
 use Rattle.lpt_layout_each.specs.declared.helds.HeldsAs.{HeldsAs}
-use Rattle.lpt_layout_each.specs.Eaches.{Course, held, left, nothing}
+use Rattle.lpt_layout_each.specs.Eaches.{Course, course_held, news_left, nothing}
 use Rattle.lpt_layout_each.specs.Helds.{Follows, HoldsEach, IsHeld}
 use Rattle.lpt_layout_join.specs.Names.{name_cmp}
-use Rattle.lpt_layout_each.specs.News.{Event, Hears, HearsPart, News, dropped}
+use Rattle.lpt_layout_each.specs.News.{Event, Hears, HearsPart, News, parts_dropped}
 use Rattle.lpt_layout_each.specs.Streams.{Leaves, events_from, left_of, of, told_by}
 use Rattle.lpt_layout_join.proofs.NameLemmas.{name_tied}
 
@@ -73,23 +73,23 @@ part-front (Some us) (Some vs) xs ys h =
 
 pub events-next : (r : Reading) (any : Bool) (before bs : List (List ℕ)) (b : List ℕ)
     → events_from r any before (bs ++ b ∷ [])
-    ≡ events_from r any before bs ++ told_by r any (before ++ bs) b (carried r b)
+    ≡ events_from r any before bs ++ told_by r any (before ++ bs) b (part_carried r b)
 events-next r any before [] b =
-    append-nil (told_by r any before b (carried r b))
-    ∙ ap (λ xs. told_by r any xs b (carried r b)) (sym (append-nil before))
+    append-nil (told_by r any before b (part_carried r b))
+    ∙ ap (λ xs. told_by r any xs b (part_carried r b)) (sym (append-nil before))
 events-next r any before (x ∷ bs) b =
-    ap (λ es. told_by r any before x (carried r x) ++ es)
+    ap (λ es. told_by r any before x (part_carried r x) ++ es)
     (events-next r any (before ++ x ∷ []) bs b
-    ∙ ap (λ xs. events_from r any (before ++ x ∷ []) bs ++ told_by r any xs b (carried r b))
+    ∙ ap (λ xs. events_from r any (before ++ x ∷ []) bs ++ told_by r any xs b (part_carried r b))
     (append_assoc before (x ∷ []) bs))
-    ∙ sym (append_assoc (told_by r any before x (carried r x))
+    ∙ sym (append_assoc (told_by r any before x (part_carried r x))
     (events_from r any (before ++ x ∷ []) bs)
-    (told_by r any (before ++ x ∷ bs) b (carried r b)))
+    (told_by r any (before ++ x ∷ bs) b (part_carried r b)))
 
 -- ---- the end
 
 -- nothing is left where nothing came
-left-nothing : left nothing ≡ []
+left-nothing : news_left nothing ≡ []
 left-nothing = refl
 
 no_some : {A : Type 0} (x : A) → ◌≡◌ {A = Option A} None (Some x) → ⊥
@@ -117,7 +117,7 @@ pub record IsLeft (r : Reading) (any : Bool) (bs : List (List ℕ))
   pub names : List Name
   pub keys_are : keys first ≡ names ++ keys now
   pub holds : (n : Name) (g : CourseAs) → get name_cmp now n ≡ Some g
-      → Follows (held r any n bs) g
+      → Follows (course_held r any n bs) g
   pub told : Hears heard hears (flat_map (left_of r any bs) names)
 
 pub left-first : (r : Reading) (any : Bool) (bs : List (List ℕ)) (g : HeldsAs)
@@ -127,7 +127,8 @@ pub left-first : (r : Reading) (any : Bool) (bs : List (List ℕ)) (g : HeldsAs)
 left-first r any bs g heard h = record {
   names = [];
   keys_are = refl;
-  holds = λ n k is. subst (λ (o : Option CourseAs). IsHeld (held r any n bs) o) is (h.each n);
+  holds =
+      λ n k is. subst (λ (o : Option CourseAs). IsHeld (course_held r any n bs) o) is (h.each n);
   told = hears-nothing heard;
 }
 
@@ -177,9 +178,9 @@ leaves-kept r any bs g each = record {
       → get name_cmp g.kept n ≡ o
       → list_any (same_name n) (keys g.kept) ≡ true
   among n some None is =
-      let nothing_came = subst (λ (o : Option CourseAs). IsHeld (held r any n bs) o) is
+      let nothing_came = subst (λ (o : Option CourseAs). IsHeld (course_held r any n bs) o) is
       (each.each n) in
-      absurd (some (ap (λ (k : Course). of n (left k)) nothing_came ∙ ap (of n) left-nothing))
+      absurd (some (ap (λ (k : Course). of n (news_left k)) nothing_came ∙ ap (of n) left-nothing))
   among n some (Some k) is = key-there n g.kept.entries k is
 
 pub left-all : (r : Reading) (any : Bool) (bs : List (List ℕ)) (g : HeldsAs)
@@ -221,9 +222,9 @@ left-part r any bs g old new n x heard hear hears each h pops told =
 
 -- what is left of a name is told
 pub left-told : (n : Name) (w : News) (h : Course)
-    → w ≡ dropped h.held.new
+    → w ≡ parts_dropped h.held.new
     → (highest h.held.new.parts == 0) ≡ false
-    → ◌≡◌ {A = List Event} ((n, w) ∷ []) (of n (left h))
+    → ◌≡◌ {A = List Event} ((n, w) ∷ []) (of n (news_left h))
 left-told n w h is some =
     ap (λ (x : News). (n, x) ∷ []) is
-    ∙ sym (ap (λ (b : Bool). of n (cond b [] (dropped h.held.new ∷ []))) some)
+    ∙ sym (ap (λ (b : Bool). of n (cond b [] (parts_dropped h.held.new ∷ []))) some)

@@ -7,15 +7,15 @@ use Rattle.lpt_carried.specs.declared.reading.Reading.{Reading}
 use Rattle.lpt_layout_join.specs.Came.{Came, message_of}
 use Rattle.lpt_layout_join.specs.Writes.{unfit}
 use Rattle.lpt_layout_each.specs.Eaches.{Waits, GivesUp, Gives, alone, more, seed, turn, turn_fit, turn_joined}
-use Rattle.lpt_layout_each.specs.News.{Unfit, dropped}
+use Rattle.lpt_layout_each.specs.News.{Unfit, parts_dropped}
 
 module _ (r : Reading) (any again : Bool) (c : Came) (q : Piece) where
   -- it contradicts them
   pub turn-broken : true ≡ is_some (more c q).against
-      → turn r any again c q ≡ GivesUp (dropped (more c q)) (alone q)
+      → turn r any again c q ≡ GivesUp (parts_dropped (more c q)) (alone q)
   unfolding turn
   turn-broken h =
-      ap (λ (b : Bool). if b then GivesUp (dropped (more c q)) (alone q)
+      ap (λ (b : Bool). if b then GivesUp (parts_dropped (more c q)) (alone q)
       else turn_joined r any again q (more c q) (message_of (more c q).parts)) (sym h)
 
   whole : (o : Option (List ℕ))
@@ -25,7 +25,7 @@ module _ (r : Reading) (any again : Bool) (c : Came) (q : Piece) where
   unfolding turn
   whole o h is =
       ap (turn_joined r any again q (more c q)) is
-      ∙ ap (λ (b : Bool). if b then GivesUp (dropped (more c q)) (alone q)
+      ∙ ap (λ (b : Bool). if b then GivesUp (parts_dropped (more c q)) (alone q)
       else turn_joined r any again q (more c q) (message_of (more c q).parts)) h
 
   -- parts are missing

@@ -8,11 +8,11 @@ use Rattle.lpt_carried.specs.declared.name.Name.{Name}
 use Rattle.lpt_layout_join.specs.declared.order.Order.{Order}
 use Rattle.lpt_carried.specs.declared.reading.Reading.{Reading}
 use Rattle.lpt_layout_join.specs.Came.{Came, nothing_came, are_of, has_part, highest, last_of, message_of, step as came_with}
-use Rattle.lpt_carried.specs.Carried.{carried, part_of}
-use Rattle.lpt_layout_join.specs.Counts.{Counted, all_counted, counted, nothing_counted}
-use Rattle.lpt_layout_join.specs.Orders.{is_in_order, no_order, ordered}
+use Rattle.lpt_carried.specs.Carried.{part_carried, part_of}
+use Rattle.lpt_layout_join.specs.Counts.{Counted, all_counted, packet_counted, nothing_counted}
+use Rattle.lpt_layout_join.specs.Orders.{is_in_order, no_order, order_after}
 use Rattle.lpt_layout_join.specs.Writes.{unfit}
-use Rattle.lpt_layout_each.specs.News.{News, Given, Dropped, Unfit, Overtaken, dropped, overtaken}
+use Rattle.lpt_layout_each.specs.News.{News, Given, Dropped, Unfit, Overtaken, parts_dropped, overtaken}
 
 -- ---- what is kept of a name
 
@@ -26,8 +26,8 @@ pub record Held : Type 0 where
 
 -- these parts came behind a message, and no others; where there is none, both would be the same,
 -- and one is enough
-abbrev pub begun : (last : Option Came) → Came → Held
-begun last c = record { last = last; all = option_map (λ _. c) last; new = c }
+abbrev pub held_begun : (last : Option Came) → Came → Held
+held_begun last c = record { last = last; all = option_map (λ _. c) last; new = c }
 
 -- ---- a further part
 
@@ -65,7 +65,7 @@ turn_joined r any again q c (Some m) = turn_fit again q c m (unfit r any false m
 -- what these make, with a part: one that contradicts the others begins anew
 abbrev pub turn_by : Reading → (any again : Bool) → Piece → Came → Turn
 turn_by r any again q c =
-    if is_some c.against then GivesUp (dropped c) (alone q)
+    if is_some c.against then GivesUp (parts_dropped c) (alone q)
     else turn_joined r any again q c (message_of c.parts)
 
 -- what a part makes of others
@@ -86,8 +86,8 @@ abbrev pub all_turn : Reading → (any again : Bool) → Option Came → Piece �
 all_turn r any again all q = option_map (λ c. turn r any again c q) all
 
 -- a message is given out, and its name is begun anew
-abbrev pub given : Came → List ℕ → Held × Option News
-given c m = (begun (Some c) nothing_came, Some (Given m))
+abbrev pub message_given : Came → List ℕ → Held × Option News
+message_given c m = (held_begun (Some c) nothing_came, Some (Given m))
 
 -- by all parts, where the new ones are these and not whole: where all would be given up, only the
 -- new ones are gone on with, in which nothing is lost
@@ -95,13 +95,13 @@ abbrev pub after_all : (last : Option Came) → Came → Option Turn → Held ×
 after_all last new None = (record { last = last; all = None; new = new }, None)
 after_all last new (Some (Waits c)) = (record { last = last; all = Some c; new = new }, None)
 after_all last new (Some (GivesUp w c)) = (record { last = last; all = None; new = new }, None)
-after_all last new (Some (Gives c m)) = given c m
+after_all last new (Some (Gives c m)) = message_given c m
 
 -- by the new parts first: where they are given up this is told, and all begin anew as they do
 abbrev pub after : (last : Option Came) → Turn → Option Turn → Held × Option News
 after last (Waits c) o = after_all last c o
-after last (GivesUp w c) o = (begun last c, Some w)
-after last (Gives c m) o = given c m
+after last (GivesUp w c) o = (held_begun last c, Some w)
+after last (Gives c m) o = message_given c m
 
 -- what is kept with a part more, and what is told
 unfoldable pub gather : Reading → (any again : Bool) → Held → Piece → Held × Option News
@@ -141,7 +141,7 @@ run_before r n = if n == 1 then no_run else r
 unfoldable pub run_turn : Run → (now : ℕ) → Piece → RunTurn
 run_turn r now q =
     if nat_le q.number ((run_before r q.number).order.count + 1)
-    then run_by (ordered (run_before r q.number).order q.number now)
+    then run_by (order_after (run_before r q.number).order q.number now)
     (more (run_before r q.number).came q)
     else Goes no_run
 
@@ -158,7 +158,7 @@ pub record Course : Type 0 where
 -- nothing came behind this message
 abbrev pub fresh : (last : Option Came) → Course
 fresh last = record {
-  held = begun last nothing_came;
+  held = held_begun last nothing_came;
   run = no_run;
   stale = false;
   gave = false;
@@ -259,38 +259,38 @@ step_of r any now c (Some q) = step r any now c q
 
 -- how many counts are missing up to a packet, behind so many
 abbrev pub missing_at : Reading → Counted → List ℕ → ℕ
-missing_at r k b = (counted r k b).missing
+missing_at r k b = (packet_counted r k b).missing
 
 -- what is kept of a name behind these packets, with the counts before them
 abbrev pub held_from :
     Reading → (any : Bool) → Name → Counted → Course → List (List ℕ) → Course
 held_from r any n k h [] = h
 held_from r any n k h (b ∷ bs) =
-    held_from r any n (counted r k b)
-    (step_of r any (missing_at r k b) h (part_of n (carried r b))).0 bs
+    held_from r any n (packet_counted r k b)
+    (step_of r any (missing_at r k b) h (part_of n (part_carried r b))).0 bs
 
 -- what is kept of it behind packets
-abbrev pub held : Reading → (any : Bool) → Name → List (List ℕ) → Course
-held r any n bs = held_from r any n nothing_counted nothing bs
+abbrev pub course_held : Reading → (any : Bool) → Name → List (List ℕ) → Course
+course_held r any n bs = held_from r any n nothing_counted nothing bs
 
 -- the counts behind packets
 abbrev pub counts_of : Reading → List (List ℕ) → Counted
 counts_of r bs = all_counted r nothing_counted bs
 
 -- the news, as a list
-abbrev pub listed : Option News → List News
-listed None = []
-listed (Some w) = w ∷ []
+abbrev pub news_listed : Option News → List News
+news_listed None = []
+news_listed (Some w) = w ∷ []
 
 -- what is told of a name as they come
 abbrev pub news_from :
     Reading → (any : Bool) → Name → Counted → Course → List (List ℕ) → List News
 news_from r any n k c [] = []
 news_from r any n k c (b ∷ bs) =
-    listed (step_of r any (missing_at r k b) c (part_of n (carried r b))).1
-    ++ news_from r any n (counted r k b)
-    (step_of r any (missing_at r k b) c (part_of n (carried r b))).0 bs
+    news_listed (step_of r any (missing_at r k b) c (part_of n (part_carried r b))).1
+    ++ news_from r any n (packet_counted r k b)
+    (step_of r any (missing_at r k b) c (part_of n (part_carried r b))).0 bs
 
 -- what is told at the end: of new parts that are left, which are numbered from 1
-abbrev pub left : Course → List News
-left c = if is_empty c.held.new then [] else dropped c.held.new ∷ []
+abbrev pub news_left : Course → List News
+news_left c = if is_empty c.held.new then [] else parts_dropped c.held.new ∷ []

@@ -9,7 +9,7 @@ use Rattle.lpt_carried.specs.declared.name.Name.{Name}
 use Rattle.lpt_carried.specs.declared.reading.Reading.{Reading}
 use Rattle.lpt_layout_join.specs.Came.{Came, nothing_came}
 use Rattle.lpt_layout_join.specs.CameInside.{Shows}
-use Rattle.lpt_layout_join.specs.CountsInside.{shown}
+use Rattle.lpt_layout_join.specs.CountsInside.{counts_shown}
 use Rattle.lpt_layout_each.specs.declared.course.CourseAs.{CourseAs}
 use Rattle.lpt_layout_each.specs.declared.held.HeldAs.{HeldAs}
 use Rattle.lpt_layout_each.specs.declared.helds.HeldsAs.{HeldsAs}
@@ -19,9 +19,9 @@ use Rattle.lpt_layout_each.specs.declared.run.RunTurnAs.{RunTurnAs}
 use Rattle.lpt_layout_each.specs.declared.run.RunTurnAs.TheVariants as ran
 use Rattle.lpt_layout_each.specs.declared.turn.Turn as code
 use Rattle.lpt_layout_each.specs.declared.turn.Turn.TheVariants as turned
-use Rattle.lpt_layout_each.specs.Eaches.{Course, Ends, Goes, Held, Run, RunTurn, Turn, Waits, GivesUp, Gives, alone, begun, counts_of, held, more, no_run, nothing, seed}
+use Rattle.lpt_layout_each.specs.Eaches.{Course, Ends, Goes, Held, Run, RunTurn, Turn, Waits, GivesUp, Gives, alone, held_begun, counts_of, course_held, more, no_run, nothing, seed}
 use Rattle.lpt_layout_join.specs.Names.{name_cmp}
-use Rattle.lpt_layout_each.specs.News.{News, Unfit, dropped}
+use Rattle.lpt_layout_each.specs.News.{News, Unfit, parts_dropped}
 use Rattle.lpt_layout_each.specs.Told.{news_of}
 
 -- what is held is what came, where something is
@@ -35,7 +35,7 @@ ShowsSome (Some c) (Some s) = Shows c s
 abbrev pub IsTurn : (again : Bool) → Came → Piece → code.Turn → Turn → Type 0
 IsTurn again c q (turned.Waits s) now = Shows (more c q) s × (now ≡ Waits (more c q))
 IsTurn again c q (turned.Broken s) now =
-    Shows (more c q) s × (now ≡ GivesUp (dropped (more c q)) (alone q))
+    Shows (more c q) s × (now ≡ GivesUp (parts_dropped (more c q)) (alone q))
 IsTurn again c q (turned.Unfit e) now = now ≡ GivesUp (Unfit e) (seed again q)
 IsTurn again c q (turned.Gives s m) now = Shows (more c q) s × (now ≡ Gives (more c q) m)
 
@@ -72,7 +72,7 @@ IsRunTurn (ran.Ends s m sure) now = (c : Came) × Shows c s × (now ≡ Ends c m
 -- what is held of a name, of which these parts came alone: in this order, and nothing else
 abbrev pub first_course : Order → Came → Course
 first_course o c = record {
-  held = begun None c;
+  held = held_begun None c;
   run = record { order = o; came = c };
   stale = false;
   gave = false;
@@ -115,6 +115,6 @@ IsHeld c (Some g) = Follows c g
 
 -- of each name this is kept behind the packets, and their counts
 pub record HoldsEach (r : Reading) (any : Bool) (bs : List (List ℕ)) (g : HeldsAs) : Type 0 where
-  pub each : (n : Name) → IsHeld (held r any n bs) (get name_cmp g.kept n)
+  pub each : (n : Name) → IsHeld (course_held r any n bs) (get name_cmp g.kept n)
   pub in_order : IsOrdered name_cmp g.kept
-  pub counts : shown g.counts ≡ counts_of r bs
+  pub counts : counts_shown g.counts ≡ counts_of r bs

@@ -5,7 +5,7 @@ use Rattle.lpt_part.specs.Parts.{Piece}
 use Rattle.lpt_carried.specs.declared.name.Name.{Name}
 use Rattle.lpt_carried.specs.declared.reading.Reading.{Reading}
 use Rattle.lpt_layout_join.specs.Came.{Came, message_of, nothing_came}
-use Rattle.lpt_carried.specs.Carried.{carried, part_of, same_name}
+use Rattle.lpt_carried.specs.Carried.{part_carried, part_of, same_name}
 use Rattle.lpt_layout_join.specs.Writes.{unfit}
 use Rattle.lpt_layout_each.specs.Eaches.{more}
 use Rattle.lpt_layout_each.specs.News.{Event, News}
@@ -13,7 +13,7 @@ use Rattle.lpt_layout_each.specs.News.{Event, News}
 -- one of these packets carries this part of a name
 abbrev pub IsThere : Reading → Name → List (List ℕ) → Piece → Type 0
 IsThere r n [] q = ⊥
-IsThere r n (b ∷ bs) q = (part_of n (carried r b) ≡ Some q) ⊎ IsThere r n bs q
+IsThere r n (b ∷ bs) q = (part_of n (part_carried r b) ≡ Some q) ⊎ IsThere r n bs q
 
 -- a message to which parts of a name are joined, each of which one of these packets carries; it may
 -- be given out
@@ -39,8 +39,9 @@ pub record Continues (c : Came) (q : Piece) : Type 0 where
 abbrev pub Runs : Reading → Name → Came → (from : ℕ) → List (List ℕ) → Came → (to : ℕ) → Type 0
 Runs r n c from [] d to = (c ≡ d) × (from ≡ to)
 Runs r n c from (b ∷ bs) d to =
-    ((part_of n (carried r b) ≡ None) × Runs r n c from bs d to)
-    ⊎ ((q : Piece) × (part_of n (carried r b) ≡ Some q) × (2 ≤ q.number) × (q.number ≤ from + 1)
+    ((part_of n (part_carried r b) ≡ None) × Runs r n c from bs d to)
+    ⊎ ((q : Piece) × (part_of n (part_carried r b) ≡ Some q) × (2 ≤ q.number)
+    × (q.number ≤ from + 1)
     × Continues c q × Runs r n (more c q) (higher from q.number) bs d to)
 
 -- the parts of the message stand in these packets in their order: from part 1, in the first packet,
@@ -53,14 +54,14 @@ pub record InOrder (r : Reading) (any : Bool) (n : Name) (m : List ℕ)
   pub middle : List (List ℕ)
   pub are : front ≡ first ∷ middle
   pub part : Piece
-  pub begins : part_of n (carried r first) ≡ Some part
+  pub begins : part_of n (part_carried r first) ≡ Some part
   pub one : part.number ≡ 1
   pub continues : Continues nothing_came part
   pub came : Came
   pub number : ℕ
   pub runs : Runs r n (more nothing_came part) 1 middle came number
   pub final : Piece
-  pub ends : part_of n (carried r last) ≡ Some final
+  pub ends : part_of n (part_carried r last) ≡ Some final
   pub behind_first : 2 ≤ final.number
   pub next : final.number ≤ number + 1
   pub agrees : is_some (more came final).against ≡ false

@@ -16,8 +16,8 @@ pub data News : Type 0 where
   Overtaken : (parts : ℕ → Option (List ℕ)) → (last : Option LastPart) → List ℕ → News
 
 -- what is told of parts that are given up
-abbrev pub dropped : Came → News
-dropped c = Dropped (λ n. octets_of c.parts (n + 1)) (last_of c.parts)
+abbrev pub parts_dropped : Came → News
+parts_dropped c = Dropped (λ n. octets_of c.parts (n + 1)) (last_of c.parts)
 
 -- what is told of parts that are given up for a message
 abbrev pub overtaken : Came → List ℕ → News

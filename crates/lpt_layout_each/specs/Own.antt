@@ -5,7 +5,7 @@ use Rattle.lpt_join.specs.Wide.{wide}
 use Rattle.lpt_layout_join.specs.Counts.{nothing_counted}
 use Rattle.lpt_layout_join.specs.Own.{misfit_as, own_reading}
 use Rattle.lpt_each.specs.News as profile
-use Rattle.lpt_layout_each.specs.Eaches.{held, left, news_from, nothing}
+use Rattle.lpt_layout_each.specs.Eaches.{course_held, news_left, news_from, nothing}
 use Rattle.lpt_layout_each.specs.News.{Event, News, Given, Dropped, Unfit, Overtaken}
 
 -- these are the numbers of the parts that came, of which part n + 1 has these octets
@@ -27,7 +27,7 @@ IsOwnNews _ _ = ⊥
 abbrev pub own_news : Transaction → (any : Bool) → List (List ℕ) → List News
 own_news t any bs =
     news_from (own_reading t) any (wide t.name) nothing_counted nothing bs
-    ++ left (held (own_reading t) any (wide t.name) bs)
+    ++ news_left (course_held (own_reading t) any (wide t.name) bs)
 
 -- and each of these
 abbrev pub AreOwnNews : List News → List profile.News → Type 0

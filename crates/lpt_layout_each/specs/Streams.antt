@@ -6,10 +6,10 @@ use Rattle.lpt_carried.specs.declared.name.Name.{Name}
 use Rattle.lpt_carried.specs.declared.reading.Reading.{Reading}
 use Rattle.lpt_carried.specs.declared.skip.Skip.{Skip}
 use Rattle.lpt_skips.specs.declared.wanted.Wanted.{Wanted}
-use Rattle.lpt_carried.specs.Carried.{Named, carried, name_of, part_of, same_name}
+use Rattle.lpt_carried.specs.Carried.{Named, part_carried, name_of, part_of, same_name}
 use Rattle.lpt_layout_join.specs.Came.{Came, count_in, highest}
 use Rattle.lpt_layout_each.specs.declared.waiting.WaitingAs.{WaitingAs}
-use Rattle.lpt_layout_each.specs.Eaches.{counts_of, held, left, listed, missing_at, step_of}
+use Rattle.lpt_layout_each.specs.Eaches.{counts_of, course_held, news_left, news_listed, missing_at, step_of}
 use Rattle.lpt_layout_join.specs.Names.{name_cmp}
 use Rattle.lpt_layout_each.specs.News.{Event, Hears, HearsPart, News}
 
@@ -18,22 +18,24 @@ abbrev pub of : Name → List News → List Event
 of n ws = map (λ w. (n, w)) ws
 
 -- what a packet tells of a name, behind others
-abbrev pub told : Reading → (any : Bool) → Name → (before : List (List ℕ)) → List ℕ → List Event
-told r any n before b =
-    of n (listed (step_of r any (missing_at r (counts_of r before) b) (held r any n before)
-    (part_of n (carried r b))).1)
+abbrev pub events_told : Reading → (any : Bool) → Name → (before : List (List ℕ)) → List ℕ
+    → List Event
+events_told r any n before b =
+    of n (news_listed
+    (step_of r any (missing_at r (counts_of r before) b) (course_held r any n before)
+    (part_of n (part_carried r b))).1)
 
 -- what it tells of the name of its part, where it carries this
 abbrev pub told_by :
     Reading → (any : Bool) → (before : List (List ℕ)) → List ℕ → Result Named Skip → List Event
-told_by r any before b (Ok c) = told r any (name_of c) before b
+told_by r any before b (Ok c) = events_told r any (name_of c) before b
 told_by r any before b (Err e) = []
 
 -- what packets tell behind others, in their order
 abbrev pub events_from : Reading → (any : Bool) → (before bs : List (List ℕ)) → List Event
 events_from r any before [] = []
 events_from r any before (b ∷ bs) =
-    told_by r any before b (carried r b) ++ events_from r any (before ++ b ∷ []) bs
+    told_by r any before b (part_carried r b) ++ events_from r any (before ++ b ∷ []) bs
 
 -- what packets tell
 abbrev pub events : Reading → (any : Bool) → List (List ℕ) → List Event
@@ -41,7 +43,7 @@ events r any bs = events_from r any [] bs
 
 -- what is left of a name behind packets
 abbrev pub left_of : Reading → (any : Bool) → List (List ℕ) → Name → List Event
-left_of r any bs n = of n (left (held r any n bs))
+left_of r any bs n = of n (news_left (course_held r any n bs))
 
 -- of how many numbers these are parts, and the greatest of these, 0 where there are none
 abbrev pub waiting : Came → WaitingAs
@@ -49,7 +51,7 @@ waiting c = record { count = count_in c.parts; highest = highest c.parts }
 
 -- the same of what is left of a name behind packets
 abbrev pub waiting_of : Reading → (any : Bool) → List (List ℕ) → Name → WaitingAs
-waiting_of r any bs n = waiting (held r any n bs).held.new
+waiting_of r any bs n = waiting (course_held r any n bs).held.new
 
 -- this is what is left of each name, in the order of names
 pub record Leaves (r : Reading) (any : Bool) (bs : List (List ℕ))

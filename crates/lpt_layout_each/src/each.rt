@@ -6,7 +6,7 @@ ghost use Rattle.lpt_packet.specs.Sizes.{longest_packet};
 ghost use Rattle.lpt_stream.specs.Pieces.{packets_of};
 ghost use Rattle.lpt_stream.specs.Reads.{IsEndlessBy};
 ghost use Rattle.lpt_stream.specs.Takes.{LeavesBy, TakenAll};
-ghost use Rattle.lpt_carried.specs.Carried.{carried, cut, named};
+ghost use Rattle.lpt_carried.specs.Carried.{part_carried, cut, part_named};
 ghost use Rattle.lpt_skips.specs.Tallies.{skips_of};
 ghost use Rattle.lpt_layout_join.specs.Writes.{ReadsCut};
 ghost use Rattle.lpt_layout_each.specs.Helds.{HoldsEach};
@@ -244,16 +244,16 @@ fn take_part<T: TakerAs>(
     requires number { 1 ≤ part.now.part.number }
     requires short { length part.now.part.octets.now ≤ longest_packet }
     ensures held { (bs : List (List ℕ)) → HoldsEach reading.now any bs helds
-        → carried reading.now octets.now ≡ Ok (named part.now)
+        → part_carried reading.now octets.now ≡ Ok (part_named part.now)
         → IfOk result (HoldsEach reading.now any (bs ++ octets.now ∷ [])) }
     ensures told { (bs : List (List ℕ)) → HoldsEach reading.now any bs helds
-        → carried reading.now octets.now ≡ Ok (named part.now)
+        → part_carried reading.now octets.now ≡ Ok (part_named part.now)
         → OnOk result (Hears (T.heard taker.old) (T.heard taker.new)
-        (told_by reading.now any bs octets.now (carried reading.now octets.now))) }
+        (told_by reading.now any bs octets.now (part_carried reading.now octets.now))) }
     ensures left { (bs : List (List ℕ)) → HoldsEach reading.now any bs helds
-        → carried reading.now octets.now ≡ Ok (named part.now)
+        → part_carried reading.now octets.now ≡ Ok (part_named part.now)
         → IfErr result (λ _. HearsPart (T.heard taker.old) (T.heard taker.new)
-        (told_by reading.now any bs octets.now (carried reading.now octets.now))) }
+        (told_by reading.now any bs octets.now (part_carried reading.now octets.now))) }
     ensures fault { IfErr result (λ e. (e ≡ StreamFault.Write) ⊎ (e ≡ StreamFault.Memory)) }
 {
     let (helds, event) = match helds.take(alloc, reading, any, place, octets, part) {

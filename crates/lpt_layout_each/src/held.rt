@@ -33,7 +33,7 @@ impl HeldAs {
     // Nothing came behind this message.
     pub(crate) fn behind(alloc: Global, last: Option<CameAs>) -> HeldAs
         ensures { (l : Option Came) → ShowsSome l last
-            → Holds (each.begun l nothing_came) result }
+            → Holds (each.held_begun l nothing_came) result }
     {
         let all = match &last {
             None => None,
@@ -48,7 +48,7 @@ impl HeldAs {
 
     // These came, and no message before them.
     pub(crate) fn first(new: CameAs) -> HeldAs
-        ensures { (c : Came) → Shows c new → Holds (each.begun None c) result }
+        ensures { (c : Came) → Shows c new → Holds (each.held_begun None c) result }
     {
         HeldAs {
             last: None,
@@ -186,7 +186,7 @@ pub(crate) fn begin(
     requires number { 1 ≤ part.now.number }
     requires short { length part.now.octets.now ≤ longest_packet }
     ensures { (l : Option Came) → ShowsSome l last → IfOk result
-        (Holds (each.begun l (each.alone (piece part.now)))) }
+        (Holds (each.held_begun l (each.alone (piece part.now)))) }
 {
     let all = match &last {
         None => None,
@@ -208,7 +208,7 @@ fn begin_after(
     requires number { 1 ≤ part.now.number }
     requires short { length part.now.octets.now ≤ longest_packet }
     ensures { (l : Option Came) → ShowsSome l last → IfOk result
-        (Holds (each.begun l (each.seed again (piece part.now)))) }
+        (Holds (each.held_begun l (each.seed again (piece part.now)))) }
 {
     if again {
         return begin(alloc, last, place, part);

@@ -6,8 +6,8 @@ ghost use Rattle.lpt_packet.specs.Sizes.{longest_packet};
 ghost use Rattle.lpt_carried.specs.declared.name.Name.{Name};
 ghost use Rattle.lpt_carried.specs.declared.reading.Reading.{Reading};
 ghost use Rattle.lpt_carried.specs.declared.skip.Skip.{Skip};
-ghost use Rattle.lpt_carried.specs.Carried.{carried, named, same_name};
-ghost use Rattle.lpt_layout_each.specs.Eaches.{held};
+ghost use Rattle.lpt_carried.specs.Carried.{part_carried, part_named, same_name};
+ghost use Rattle.lpt_layout_each.specs.Eaches.{course_held};
 ghost use Rattle.lpt_layout_each.specs.Helds.{Follows, HoldsEach};
 ghost use Rattle.lpt_layout_join.specs.Names.{name_cmp};
 ghost use Rattle.lpt_layout_each.specs.Streams.{told_by, waiting_of};
@@ -58,12 +58,12 @@ impl HeldsAs {
         requires number { 1 ≤ part.now.part.number }
         requires short { length part.now.part.octets.now ≤ longest_packet }
         ensures held { (bs : List (List ℕ)) → HoldsEach reading.now any bs self
-            → carried reading.now octets.now ≡ Ok (named part.now)
+            → part_carried reading.now octets.now ≡ Ok (part_named part.now)
             → IfOk result (λ r. HoldsEach reading.now any (bs ++ octets.now ∷ []) r.0) }
         ensures told { (bs : List (List ℕ)) → HoldsEach reading.now any bs self
-            → carried reading.now octets.now ≡ Ok (named part.now)
+            → part_carried reading.now octets.now ≡ Ok (part_named part.now)
             → IfOk result (λ r. events_of r.1
-            ≡ told_by reading.now any bs octets.now (carried reading.now octets.now)) }
+            ≡ told_by reading.now any bs octets.now (part_carried reading.now octets.now)) }
     {
         let name = part.name();
         let mut helds = self;
@@ -83,7 +83,7 @@ impl HeldsAs {
     /// Errors: `Memory`.
     pub fn pass_over(self, reading: &Reading, octets: &[u8]) -> Result<HeldsAs, StreamFault>
         ensures held { (any : Bool) (bs : List (List ℕ)) (e : Skip)
-            → HoldsEach reading.now any bs self → carried reading.now octets.now ≡ Err e
+            → HoldsEach reading.now any bs self → part_carried reading.now octets.now ≡ Err e
             → IfOk result (HoldsEach reading.now any (bs ++ octets.now ∷ [])) }
         ensures fault { IfErr result (λ e. e ≡ StreamFault.Memory) }
     {
@@ -111,7 +111,7 @@ impl HeldsAs {
     // What is kept of a name, taken out.
     fn take_out(&mut self, alloc: Global, name: Name) -> CourseAs
         ensures given { (r : Reading) (any : Bool) (bs : List (List ℕ))
-            → HoldsEach r any bs self.old → Follows (held r any name bs) result }
+            → HoldsEach r any bs self.old → Follows (course_held r any name bs) result }
         ensures others { (n : Name) → same_name name n ≡ false
             → get name_cmp self.new.kept n ≡ get name_cmp self.old.kept n }
         ensures counts { self.new.counts ≡ self.old.counts }

@@ -16,7 +16,7 @@ ghost use Rattle.lpt_each.specs.Eaches as profile;
 ghost use Rattle.lpt_each.specs.Laws as profile_laws;
 ghost use Rattle.lpt_each.specs.News as profile_news;
 ghost use Rattle.lpt_each.specs.Streams as profile_streams;
-ghost use Rattle.lpt_layout_each.specs.Eaches.{counts_of, held, news_from, nothing};
+ghost use Rattle.lpt_layout_each.specs.Eaches.{counts_of, course_held, news_from, nothing};
 ghost use Rattle.lpt_layout_each.specs.Laws.{InOrder, IsGood, news_of_name};
 ghost use Rattle.lpt_layout_each.specs.News.{Event, News, Given, messages_in, messages_of};
 ghost use Rattle.lpt_layout_each.specs.Own.{AreOwnEvents, own_news};
@@ -55,7 +55,7 @@ pub fn in_order_is_given()
         (last m : List ℕ)
         → InOrder r any n m front last
         → (earlier : List (List ℕ)) × (later : List (List ℕ))
-        × (messages_in (news_from r any n (counts_of r before) (held r any n before)
+        × (messages_in (news_from r any n (counts_of r before) (course_held r any n before)
         (front ++ last ∷ []))
         ≡ earlier ++ m ∷ later) }
 {}
@@ -147,7 +147,7 @@ pub fn own_in_order_is_given()
         → profile_laws.InOrder t any m front last
         → (earlier : List (List ℕ)) × (later : List (List ℕ)) × (after : List (List ℕ))
         × (messages_in (news_from (own_reading t) any (wide t.name)
-        (counts_of (own_reading t) before) (held (own_reading t) any (wide t.name) before)
+        (counts_of (own_reading t) before) (course_held (own_reading t) any (wide t.name) before)
         (front ++ last ∷ []))
         ≡ earlier ++ m ∷ later)
         × (messages_in (own_news t any (before ++ (front ++ last ∷ []) ++ behind))

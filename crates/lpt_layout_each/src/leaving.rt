@@ -35,9 +35,9 @@ pub fn leave_as<T: TakerAs>(helds: HeldsAs, taker: &mut T) -> Result<(), StreamF
 // Tells what is left of a name.
 fn tell_left<T: TakerAs>(name: Name, held: CourseAs, taker: &mut T) -> Result<(), StreamFault>
     ensures told { (c : each.Course) → Follows c held → OnOk result
-        (Hears (T.heard taker.old) (T.heard taker.new) (of name (each.left c))) }
+        (Hears (T.heard taker.old) (T.heard taker.new) (of name (each.news_left c))) }
     ensures left { (c : each.Course) → Follows c held → IfErr result
-        (λ _. HearsPart (T.heard taker.old) (T.heard taker.new) (of name (each.left c))) }
+        (λ _. HearsPart (T.heard taker.old) (T.heard taker.new) (of name (each.news_left c))) }
     ensures fault { IfErr result (λ e. (e ≡ StreamFault.Write) ⊎ (e ≡ StreamFault.Memory)) }
 {
     if held.is_empty() {

@@ -36,7 +36,7 @@ pub fn pop_left(helds: &mut HeldsAs) -> Option<(Name, NewsAs)>
 
 // What is left of a name; none if nothing is.
 fn left_in(name: Name, held: CourseAs) -> Option<(Name, NewsAs)>
-    ensures { (c : each.Course) → Follows c held → events_of result ≡ of name (each.left c) }
+    ensures { (c : each.Course) → Follows c held → events_of result ≡ of name (each.news_left c) }
 {
     if held.is_empty() {
         return None;

@@ -26,8 +26,8 @@ octets_alone n = record { octets = n; code = None }
 abbrev pub code_of : (preamble : Bool) → TimeFields → TimeCode
 code_of preamble fields = record { epoch = None; preamble = preamble; fields = fields }
 
-abbrev pub coded : (preamble : Bool) → TimeFields → TimeField
-coded preamble fields = record {
+abbrev pub time_coded : (preamble : Bool) → TimeFields → TimeField
+time_coded preamble fields = record {
   octets = code_octets (code_of preamble fields);
   code = Some (code_of preamble fields);
 }
@@ -40,27 +40,28 @@ preamble_in _ = None
 
 -- a time of so many octets of seconds, by a digit from 1 to 4, and of parts of one, by a digit from
 -- 0 to 3
-abbrev pub counted : (preamble : Bool) → (coarse fine : ℕ) → Option TimeField
-counted preamble coarse fine =
+abbrev pub time_counted : (preamble : Bool) → (coarse fine : ℕ) → Option TimeField
+time_counted preamble coarse fine =
     if (nat_le 49 coarse && nat_le coarse 52) && (nat_le 48 fine && nat_le fine 51)
-    then Some (coded preamble (Unsegmented (coarse - 48) (fine - 48)))
+    then Some (time_coded preamble (Unsegmented (coarse - 48) (fine - 48)))
     else None
 
 -- what is said behind the word `cuc`: two digits
 abbrev pub counts_in : List ℕ → Option TimeField
 counts_in (c ∷ s ∷ f ∷ rest) =
-    if s == 32 then (preamble_in rest >>= λ p. counted p c f) else None
+    if s == 32 then (preamble_in rest >>= λ p. time_counted p c f) else None
 counts_in _ = None
 
 -- behind the bits of days: ` us`, ` ps` or nothing for what stands behind the milliseconds
-abbrev pub segmented : (long : Bool) → Submillisecond → List ℕ → Option TimeField
-segmented long parts rest = preamble_in rest >>= λ p. Some (coded p (DaySegmented long parts))
+abbrev pub time_segmented : (long : Bool) → Submillisecond → List ℕ → Option TimeField
+time_segmented long parts rest =
+    preamble_in rest >>= λ p. Some (time_coded p (DaySegmented long parts))
 
 abbrev pub parts_in : (long : Bool) → List ℕ → Option TimeField
 parts_in long (s ∷ u ∷ t ∷ rest) =
-    if s == 32 && u == 117 && t == 115 then segmented long Microseconds rest
-    else if s == 32 && u == 112 && t == 115 then segmented long Picoseconds rest else None
-parts_in long rest = segmented long Absent rest
+    if s == 32 && u == 117 && t == 115 then time_segmented long Microseconds rest
+    else if s == 32 && u == 112 && t == 115 then time_segmented long Picoseconds rest else None
+parts_in long rest = time_segmented long Absent rest
 
 -- behind the word `cds`: 16 or 24, the bits of days
 abbrev pub days_in : List ℕ → Option TimeField

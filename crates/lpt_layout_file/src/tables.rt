@@ -11,7 +11,7 @@ use crate::times::time_field;
 use crate::values::{flag, header_bits, part_bits, part_size, version};
 use lpt_carried::Tailored;
 use lpt_layout::{Layout, PartLayout, Width};
-use lpt_settings::{Place, Reason, Wrong, has_only, number, unknown_key};
+use lpt_settings::{Reason, Wrong, WrongPlace, has_only, number, unknown_key};
 use toml::{Table, Value};
 
 // How telemetry is laid out, by the table of a file.
@@ -40,7 +40,7 @@ fn telemetry_of(value: &Value) -> Result<Tailored, Wrong<'_>>
     };
     match telemetry_in(table) {
         Ok(tailored) => Ok(tailored),
-        Err(wrong) => Err(wrong.within(Place::Table("telemetry"))),
+        Err(wrong) => Err(wrong.within(WrongPlace::Table("telemetry"))),
     }
 }
 
@@ -101,7 +101,7 @@ fn telecommands_of(value: &Value) -> Result<Tailored, Wrong<'_>>
     };
     match telecommands_in(table) {
         Ok(tailored) => Ok(tailored),
-        Err(wrong) => Err(wrong.within(Place::Table("telecommands"))),
+        Err(wrong) => Err(wrong.within(WrongPlace::Table("telecommands"))),
     }
 }
 

@@ -6,7 +6,7 @@ ghost use Rattle.toml.specs.Data.{get_member};
 ghost use Rattle.toml.specs.View.{view, table_view};
 ghost use Rattle.lpt_settings.specs.Numbers.{number_in};
 ghost use Rattle.lpt_layout_time.specs.Codes.{field_octets};
-ghost use Rattle.lpt_layout_file.specs.Times.{code_in, code_or, coded, counted, counts_in, date_or, day_in, day_of, days_in, parts_in, preamble_in, since, time_at, time_in, time_or};
+ghost use Rattle.lpt_layout_file.specs.Times.{code_in, code_or, time_coded, time_counted, counts_in, date_or, day_in, day_of, days_in, parts_in, preamble_in, since, time_at, time_in, time_or};
 
 use lpt_layout_time::{Submillisecond, TimeCode, TimeFields, day_number};
 use lpt_settings::{Reason, Wrong, number_of_value};
@@ -87,20 +87,20 @@ fn counts_in(text: &[u8]) -> Option<TimeField>
     ensures { result ≡ counts_in text.now }
 {
     match text {
-        [coarse, b' ', fine, rest @ ..] => counted(preamble_in(rest)?, *coarse, *fine),
+        [coarse, b' ', fine, rest @ ..] => time_counted(preamble_in(rest)?, *coarse, *fine),
         _ => None,
     }
 }
 
 // A time of as many octets of seconds, and of parts of one, as two digits say.
-fn counted(preamble: bool, coarse: u8, fine: u8) -> Option<TimeField>
-    ensures { result ≡ counted preamble coarse fine }
+fn time_counted(preamble: bool, coarse: u8, fine: u8) -> Option<TimeField>
+    ensures { result ≡ time_counted preamble coarse fine }
 {
     if !(b'1'..=b'4').contains(&coarse) || !(b'0'..=b'3').contains(&fine) {
         return None;
     }
     let (coarse, fine) = (coarse - b'0', fine - b'0');
-    Some(coded(preamble, TimeFields::Unsegmented { coarse, fine }))
+    Some(time_coded(preamble, TimeFields::Unsegmented { coarse, fine }))
 }
 
 // The time that counts days, by what is behind the code's word.
@@ -124,7 +124,7 @@ fn parts_in(long: bool, text: &[u8]) -> Option<TimeField>
         rest => (Submillisecond::Absent, rest),
     };
     let preamble = preamble_in(rest)?;
-    Some(coded(
+    Some(time_coded(
         preamble,
         TimeFields::DaySegmented {
             long,
@@ -145,9 +145,9 @@ fn preamble_in(text: &[u8]) -> Option<bool>
 }
 
 // A time by a code, since the epoch of the standard.
-fn coded(preamble: bool, fields: TimeFields) -> TimeField
+fn time_coded(preamble: bool, fields: TimeFields) -> TimeField
     requires { field_octets fields < 255 }
-    ensures { result ≡ coded preamble fields }
+    ensures { result ≡ time_coded preamble fields }
 {
     let code = TimeCode {
         epoch: None,

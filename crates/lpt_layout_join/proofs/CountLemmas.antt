@@ -4,13 +4,13 @@ use Rattle.std.specs.Prelude.{Option, Some, None}
 use Rattle.lpt_packet.proofs.BoolLemmas.{true_lt}
 use Rattle.lpt_stream.specs.Pieces.{up_to_limit}
 use Rattle.lpt_carried.specs.declared.reading.Reading.{Reading}
-use Rattle.lpt_layout_join.specs.Counts.{Counted, Latest, all_counted, count_of, counted, counted_by, gap_by, latest, latest_by, missing_from, missing_in, nothing_counted}
+use Rattle.lpt_layout_join.specs.Counts.{Counted, Latest, all_counted, count_of, packet_counted, counted_by, gap_by, latest, latest_by, missing_from, missing_in, nothing_counted}
 use Rattle.lpt_layout_join.specs.Orders.{are_few}
 
 pub counted-more : (r : Reading) (k : Counted) (bs : List (List ℕ)) (b : List ℕ)
-    → all_counted r k (bs ++ b ∷ []) ≡ counted r (all_counted r k bs) b
+    → all_counted r k (bs ++ b ∷ []) ≡ packet_counted r (all_counted r k bs) b
 counted-more r k [] b = refl
-counted-more r k (x ∷ bs) b = counted-more r (counted r k x) bs b
+counted-more r k (x ∷ bs) b = counted-more r (packet_counted r k x) bs b
 
 same-limit : (n : ℕ) → n ≤ 18446744073709551615 → n ≡ up_to_limit (n + 0)
 same-limit n h = omega (arith, h)
@@ -41,11 +41,11 @@ missing-from r k [] small = same-limit k.missing small
 missing-from r k (b ∷ bs) small =
     let o = count_of r b in
     let now = step-missing k o b small in
-    missing-from r (counted r k b) bs (small-limit _ _ now)
-    ∙ ap (λ (l : Latest). up_to_limit ((counted r k b).missing + missing_from r l bs))
+    missing-from r (packet_counted r k b) bs (small-limit _ _ now)
+    ∙ ap (λ (l : Latest). up_to_limit ((packet_counted r k b).missing + missing_from r l bs))
     (step-latest k o b)
     ∙ limits k.missing (gap_by k.latest o b) (missing_from r (latest r k.latest b) bs)
-    (counted r k b).missing now
+    (packet_counted r k b).missing now
 
 -- all that are missing are counted, up to the limit
 pub missing-is : (r : Reading) (bs : List (List ℕ))

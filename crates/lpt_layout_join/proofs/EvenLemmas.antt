@@ -11,8 +11,8 @@ use Rattle.lpt_layout_join.specs.declared.last_part.LastPart.{LastPart}
 use Rattle.lpt_carried.specs.declared.name.Name.{Name}
 use Rattle.lpt_carried.specs.declared.reading.Reading.{Reading}
 use Rattle.lpt_layout_join.specs.Came.{Came, size_by, size_told, last_by, last_told, octets_told, octets_of, size_of, last_of, highest, other_octets, other_size, other_last, other_end, contradicts, step}
-use Rattle.lpt_carried.specs.Carried.{carried, part_of}
-use Rattle.lpt_layout_join.specs.Gathered.{Gathered, all_gathered, gathered, next, nothing_gathered, with_counts, with_part}
+use Rattle.lpt_carried.specs.Carried.{part_carried, part_of}
+use Rattle.lpt_layout_join.specs.Gathered.{Gathered, all_gathered, parts_gathered, next, nothing_gathered, with_counts, with_part}
 use Rattle.lpt_layout_join.specs.Laws.{HasItsLength}
 use Rattle.lpt_layout_join.proofs.CameLemmas.{first_told-more}
 
@@ -145,11 +145,12 @@ even-all : (r : Reading) (n : Name) (g : Gathered) (bs : List (List ℕ))
     → AreEven (all_gathered r n g bs).came.parts
 even-all r n g [] even = even
 even-all r n g (b ∷ bs) even =
-    even-all r n (next r n g b) bs (even-part (with_counts r g b) (part_of n (carried r b)) even)
+    even-all r n (next r n g b) bs
+    (even-part (with_counts r g b) (part_of n (part_carried r b)) even)
 
 -- whatever packets came
 pub even-gathered : (r : Reading) (n : Name) (bs : List (List ℕ)) (k : ℕ) (x : List ℕ)
-    → octets_of (gathered r n bs).came.parts k ≡ Some x
-    → HasItsLength (gathered r n bs).came.parts k x
-unfolding gathered
+    → octets_of (parts_gathered r n bs).came.parts k ≡ Some x
+    → HasItsLength (parts_gathered r n bs).came.parts k x
+unfolding parts_gathered
 even-gathered r n bs = even-all r n nothing_gathered bs (λ k x e. absurd cc)

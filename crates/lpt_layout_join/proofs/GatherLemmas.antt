@@ -11,15 +11,15 @@ use Rattle.lpt_stream.specs.Pieces.{Piece, packet_before, packets_of, octets_in,
 use Rattle.lpt_stream.proofs.CutLemmas.{packets-next}
 use Rattle.lpt_carried.specs.declared.name.Name.{Name}
 use Rattle.lpt_carried.specs.declared.reading.Reading.{Reading}
-use Rattle.lpt_carried.specs.Carried.{carried, part_of}
+use Rattle.lpt_carried.specs.Carried.{part_carried, part_of}
 use Rattle.lpt_join.specs.PartNumbersInside.{has, is_ended}
 use Rattle.lpt_join.proofs.GatherLemmas.{any-next}
 use Rattle.lpt_layout_join.specs.declared.gathering.Gathering.{Gathering}
 use Rattle.lpt_layout_join.specs.declared.order.Order.{Order}
 use Rattle.lpt_layout_join.specs.Came.{Came, last_of, nothing_came, step}
 use Rattle.lpt_layout_join.specs.CameInside.{Shows}
-use Rattle.lpt_layout_join.specs.Counts.{Counted, all_counted, counted, nothing_counted}
-use Rattle.lpt_layout_join.specs.Gathered.{Gathered, against_from, all_gathered, breaks, came, came_by, ended, first_against, gathered, is_end, is_part, next, nothing_gathered, order_by, part_in, place_if, place_or, with_counts, with_part}
+use Rattle.lpt_layout_join.specs.Counts.{Counted, all_counted, packet_counted, nothing_counted}
+use Rattle.lpt_layout_join.specs.Gathered.{Gathered, against_from, all_gathered, breaks, came, came_by, has_ended, first_against, parts_gathered, is_end, is_part, next, nothing_gathered, order_by, part_in, place_if, place_or, with_counts, with_part}
 use Rattle.lpt_layout_join.specs.Gatherings.{Gives}
 use Rattle.lpt_layout_join.specs.Orders.{is_in_order}
 use Rattle.lpt_layout_join.proofs.CountLemmas.{counted-more}
@@ -33,8 +33,8 @@ module _ (r : Reading) (n : Name) where
   all-more g (x ∷ bs) b = all-more (next r n g x) bs b
 
   pub gathered-more : (bs : List (List ℕ)) (b : List ℕ)
-      → gathered r n (bs ++ b ∷ []) ≡ next r n (gathered r n bs) b
-  unfolding gathered
+      → parts_gathered r n (bs ++ b ∷ []) ≡ next r n (parts_gathered r n bs) b
+  unfolding parts_gathered
   gathered-more bs b = all-more nothing_gathered bs b
 
   counts-part : (g : Gathered) (o : Option part.Piece) → (with_part g o).counts ≡ g.counts
@@ -47,11 +47,11 @@ module _ (r : Reading) (n : Name) where
   counts-all g (b ∷ bs) =
       counts-all (next r n g b) bs
       ∙ ap (λ (k : Counted). all_counted r k bs)
-      (counts-part (with_counts r g b) (part_of n (carried r b)))
+      (counts-part (with_counts r g b) (part_of n (part_carried r b)))
 
   pub counts-are : (bs : List (List ℕ))
-      → (gathered r n bs).counts ≡ all_counted r nothing_counted bs
-  unfolding gathered
+      → (parts_gathered r n bs).counts ≡ all_counted r nothing_counted bs
+  unfolding parts_gathered
   counts-are bs = counts-all nothing_gathered bs
 
   -- ---- a piece more
@@ -60,8 +60,10 @@ module _ (r : Reading) (n : Name) where
   packet b = record { kind = Whole; octets = b }
 
   pub whole-next : (ps : List Piece) (b : List ℕ)
-      → gathered r n (packets_of (ps ++ packet b ∷ [])) ≡ next r n (gathered r n (packets_of ps)) b
-  whole-next ps b = ap (gathered r n) (packets-next ps (packet b)) ∙ gathered-more (packets_of ps) b
+      → parts_gathered r n (packets_of (ps ++ packet b ∷ []))
+      ≡ next r n (parts_gathered r n (packets_of ps)) b
+  whole-next ps b =
+      ap (parts_gathered r n) (packets-next ps (packet b)) ∙ gathered-more (packets_of ps) b
 
   -- the part of the name that a piece carries
   abbrev in_piece : Piece → Option part.Piece
@@ -69,22 +71,22 @@ module _ (r : Reading) (n : Name) where
 
   module _ (test : Option part.Piece → Bool) (none : test None ≡ false) where
     any-kind : (bs : List (List ℕ)) (k : PieceKind) (b : List ℕ)
-        → list_any (λ c. test (part_of n (carried r c))) (bs ++ packet_before k b [])
-        ≡ (test (part_in r n k b) || list_any (λ c. test (part_of n (carried r c))) bs)
-    any-kind bs Whole b = any-next (λ c. test (part_of n (carried r c))) bs b
+        → list_any (λ c. test (part_of n (part_carried r c))) (bs ++ packet_before k b [])
+        ≡ (test (part_in r n k b) || list_any (λ c. test (part_of n (part_carried r c))) bs)
+    any-kind bs Whole b = any-next (λ c. test (part_of n (part_carried r c))) bs b
     any-kind bs Damaged b =
-        ap (list_any (λ c. test (part_of n (carried r c)))) (append-nil bs)
-        ∙ sym (ap (λ e. e || list_any (λ c. test (part_of n (carried r c))) bs) none)
+        ap (list_any (λ c. test (part_of n (part_carried r c)))) (append-nil bs)
+        ∙ sym (ap (λ e. e || list_any (λ c. test (part_of n (part_carried r c))) bs) none)
     any-kind bs Stray b =
-        ap (list_any (λ c. test (part_of n (carried r c)))) (append-nil bs)
-        ∙ sym (ap (λ e. e || list_any (λ c. test (part_of n (carried r c))) bs) none)
+        ap (list_any (λ c. test (part_of n (part_carried r c)))) (append-nil bs)
+        ∙ sym (ap (λ e. e || list_any (λ c. test (part_of n (part_carried r c))) bs) none)
 
     -- whether a packet of the pieces passes
     pub any-piece : (ps : List Piece) (p : Piece)
-        → list_any (λ c. test (part_of n (carried r c))) (packets_of (ps ++ p ∷ []))
-        ≡ (test (in_piece p) || list_any (λ c. test (part_of n (carried r c))) (packets_of ps))
+        → list_any (λ c. test (part_of n (part_carried r c))) (packets_of (ps ++ p ∷ []))
+        ≡ (test (in_piece p) || list_any (λ c. test (part_of n (part_carried r c))) (packets_of ps))
     any-piece ps p =
-        ap (list_any (λ c. test (part_of n (carried r c)))) (packets-next ps p)
+        ap (list_any (λ c. test (part_of n (part_carried r c)))) (packets-next ps p)
         ∙ any-kind (packets_of ps) p.kind p.octets
 
   came-piece : (k : ℕ) (ps : List Piece) (p : Piece)
@@ -93,7 +95,8 @@ module _ (r : Reading) (n : Name) where
   came-piece k ps p = any-piece (is_part k) refl ps p
 
   ended-piece : (ps : List Piece) (p : Piece)
-      → ended r n (packets_of (ps ++ p ∷ [])) ≡ (is_end (in_piece p) || ended r n (packets_of ps))
+      → has_ended r n (packets_of (ps ++ p ∷ []))
+      ≡ (is_end (in_piece p) || has_ended r n (packets_of ps))
   ended-piece ps p = any-piece is_end refl ps p
 
   -- ---- where it contradicts those before it
@@ -128,7 +131,7 @@ module _ (r : Reading) (n : Name) where
       → came_from (came_by g.came (part_in r n k b)) ps
       ≡ (all_gathered r n g (packet_before k b (packets_of ps))).came
   came-front g Whole b ps rest =
-      ap (λ (c : Came). came_from c ps) (sym (came-part g b (part_of n (carried r b))))
+      ap (λ (c : Came). came_from c ps) (sym (came-part g b (part_of n (part_carried r b))))
       ∙ rest (next r n g b)
   came-front g Damaged b ps rest = rest g
   came-front g Stray b ps rest = rest g
@@ -139,8 +142,8 @@ module _ (r : Reading) (n : Name) where
   came-all g (p ∷ ps) = came-front g p.kind p.octets ps (λ h. came-all h ps)
 
   pub came-pieces : (ps : List Piece)
-      → came_from nothing_came ps ≡ (gathered r n (packets_of ps)).came
-  unfolding gathered
+      → came_from nothing_came ps ≡ (parts_gathered r n (packets_of ps)).came
+  unfolding parts_gathered
   came-pieces ps = came-all nothing_gathered ps
 
   against-next : (c : Came) (at : ℕ) (ps : List Piece) (p : Piece)
@@ -166,7 +169,7 @@ module _ (r : Reading) (n : Name) where
   pub told-against : (ps : List Piece) (p : Piece)
       → option_map up_to_limit (first_against r n (ps ++ p ∷ []))
       ≡ place_or (option_map up_to_limit (first_against r n ps))
-      (place_if (breaks (gathered r n (packets_of ps)).came (in_piece p))
+      (place_if (breaks (parts_gathered r n (packets_of ps)).came (in_piece p))
       (up_to_limit (octets_in ps)))
   told-against ps p =
       ap (option_map up_to_limit) (against-next nothing_came 0 ps p)
@@ -190,17 +193,17 @@ module _ (r : Reading) (n : Name) where
 
   silent : (k : PieceKind) (b : List ℕ) (ps : List Piece)
       → part_in r n k b ≡ None
-      → view (gathered r n (packets_of (ps ++ record { kind = k; octets = b } ∷ [])))
-      ≡ view (gathered r n (packets_of ps))
+      → view (parts_gathered r n (packets_of (ps ++ record { kind = k; octets = b } ∷ [])))
+      ≡ view (parts_gathered r n (packets_of ps))
   unfolding view
   silent Whole b ps none =
-      let g = gathered r n (packets_of ps) in
+      let g = parts_gathered r n (packets_of ps) in
       ap view (whole-next ps b ∙ ap (with_part (with_counts r g b)) none)
   silent Damaged b ps none =
-      ap (λ bs. view (gathered r n bs))
+      ap (λ bs. view (parts_gathered r n bs))
       (packets-next ps (record { kind = Damaged; octets = b }) ∙ append-nil (packets_of ps))
   silent Stray b ps none =
-      ap (λ bs. view (gathered r n bs))
+      ap (λ bs. view (parts_gathered r n bs))
       (packets-next ps (record { kind = Stray; octets = b }) ∙ append-nil (packets_of ps))
 
   -- a piece that carries no part of the transaction gives nothing
@@ -211,7 +214,7 @@ module _ (r : Reading) (n : Name) where
   unfolding view
   gives-other ps p g h none =
       let same = silent p.kind p.octets ps none in
-      let was = gathered r n (packets_of ps) in
+      let was = parts_gathered r n (packets_of ps) in
       record {
         came_is = subst (λ (c : Came). Shows c g.came) (sym (ap (λ (x : View). x.0) same))
             h.came_is;
@@ -220,7 +223,7 @@ module _ (r : Reading) (n : Name) where
         numbers_are = λ k. h.numbers_are k
             ∙ sym (ap (λ o. is_part k o || came r n k (packets_of ps)) none)
             ∙ sym (came-piece k ps p);
-        ended_is = h.ended_is ∙ sym (ap (λ o. is_end o || ended r n (packets_of ps)) none)
+        ended_is = h.ended_is ∙ sym (ap (λ o. is_end o || has_ended r n (packets_of ps)) none)
             ∙ sym (ended-piece ps p);
         against_is = h.against_is ∙ sym (place_none (option_map up_to_limit (first_against r n ps)))
             ∙ sym (ap (λ o. place_or (option_map up_to_limit (first_against r n ps))
@@ -232,7 +235,7 @@ module _ (r : Reading) (n : Name) where
   pub gives-part : (ps : List Piece) (b : List ℕ) (g h : Gathering) (q : part.Piece)
       (broken : Bool) (missing place : ℕ)
       → Gives r n ps g
-      → part_of n (carried r b) ≡ Some q
+      → part_of n (part_carried r b) ≡ Some q
       → missing ≡ (all_counted r nothing_counted (packets_of ps ++ b ∷ [])).missing
       → ((c : Came) → Shows c g.came → Shows (step c 0 q) h.came)
       → ((c : Came) → Shows c h.came → broken ≡ is_some c.against)
@@ -245,18 +248,19 @@ module _ (r : Reading) (n : Name) where
       → Gives r n (ps ++ packet b ∷ []) h
   gives-part ps b g h q broken missing place was some counts comes breaks_is order sure numbers ends
       at found =
-      let before = gathered r n (packets_of ps) in
-      let now : gathered r n (packets_of (ps ++ packet b ∷ []))
+      let before = parts_gathered r n (packets_of ps) in
+      let now : parts_gathered r n (packets_of (ps ++ packet b ∷ []))
       ≡ with_part (with_counts r before b) (Some q) =
       whole-next ps b ∙ ap (with_part (with_counts r before b)) some in
       let c : Came = step before.came 0 q in
       let shows : Shows c h.came = comes before.came was.came_is in
       let broke : broken ≡ is_some c.against = breaks_is c shows in
-      let missed : missing ≡ (counted r before.counts b).missing =
+      let missed : missing ≡ (packet_counted r before.counts b).missing =
       counts ∙ ap (λ (k : Counted). k.missing) (counted-more r nothing_counted (packets_of ps) b
-      ∙ ap (λ (k : Counted). counted r k b) (sym (counts-are (packets_of ps)))) in
+      ∙ ap (λ (k : Counted). packet_counted r k b) (sym (counts-are (packets_of ps)))) in
       let ordered : h.order
-      ≡ order_by before.order (is_some c.against) q.number (counted r before.counts b).missing =
+      ≡ order_by before.order (is_some c.against) q.number
+      (packet_counted r before.counts b).missing =
       order ∙ (λ i. order_by (was.order_is i) (broke i) q.number (missed i)) in
       record {
         came_is = subst (λ (x : Gathered). Shows x.came h.came) (sym now) shows;
@@ -268,7 +272,7 @@ module _ (r : Reading) (n : Name) where
             ∙ sym (ap (λ o. is_part k o || came r n k (packets_of ps)) some)
             ∙ sym (came-piece k ps (packet b));
         ended_is = ends ∙ ap (λ e. same_kind q.kind Last || e) was.ended_is
-            ∙ sym (ap (λ o. is_end o || ended r n (packets_of ps)) some)
+            ∙ sym (ap (λ o. is_end o || has_ended r n (packets_of ps)) some)
             ∙ sym (ended-piece ps (packet b));
         against_is = found
             ∙ (λ i. place_or (was.against_is i) (place_if (broke i) (at i)))

@@ -13,10 +13,10 @@ use Rattle.lpt_carried.specs.declared.name.Name.{Name}
 use Rattle.lpt_layout_join.specs.declared.order.Order.{Order}
 use Rattle.lpt_carried.specs.declared.reading.Reading.{Reading}
 use Rattle.lpt_layout_join.specs.Came.{contradicts, highest, last_of, octets_of, other_end, other_octets, other_size, size_of}
-use Rattle.lpt_carried.specs.Carried.{carried, part_of}
+use Rattle.lpt_carried.specs.Carried.{part_carried, part_of}
 use Rattle.lpt_layout_join.specs.Counts.{all_counted, missing_in, nothing_counted}
 use Rattle.lpt_layout_join.specs.InOrder.{Carries, IsBetween, Stands}
-use Rattle.lpt_layout_join.specs.Orders.{are_few, is_in_order, no_order, ordered, with_next}
+use Rattle.lpt_layout_join.specs.Orders.{are_few, is_in_order, no_order, order_after, with_next}
 use Rattle.lpt_layout_join.proofs.CameLemmas.{octets-more}
 use Rattle.lpt_layout_join.proofs.CountLemmas.{few-are, missing-is}
 use Rattle.lpt_layout_join.proofs.PartsLemmas.{octets-kept}
@@ -103,7 +103,7 @@ module _ (r : Reading) (n : Name) where
 
   -- a packet more that carries none of the name
   pub came-other : (bs : List (List ℕ)) (b : List ℕ) (o : Order) (ps : List Piece)
-      → part_of n (carried r b) ≡ None
+      → part_of n (part_carried r b) ≡ None
       → CameSo bs o ps
       → CameSo (bs ++ b ∷ []) o ps
   came-other bs b o ps none h few some =
@@ -119,7 +119,7 @@ module _ (r : Reading) (n : Name) where
       }
 
   module _ (bs : List (List ℕ)) (b : List ℕ) (ps : List Piece) (q : Piece)
-      (is : part_of n (carried r b) ≡ Some q)
+      (is : part_of n (part_carried r b) ≡ Some q)
       (own : octets_of (ps ++ q ∷ []) q.number ≡ Some q.octets) where
     abbrev qs : List Piece
     qs = ps ++ q ∷ []
@@ -207,7 +207,8 @@ module _ (r : Reading) (n : Name) where
         }
 
     -- a packet more that carries a part of the name which agrees
-    pub came-part : (o : Order) → CameSo bs o ps → CameSo (bs ++ b ∷ []) (ordered o q.number now) qs
+    pub came-part : (o : Order) → CameSo bs o ps
+        → CameSo (bs ++ b ∷ []) (order_after o q.number now) qs
     came-part o h = one (q.number == 1) refl where
       past : (q.number == 1) ≡ false
           → (t : Bool)

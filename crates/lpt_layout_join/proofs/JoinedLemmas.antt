@@ -9,7 +9,7 @@ use Rattle.std.proofs.lemmas.Bool.{or_parts}
 use Rattle.lpt_reception.specs.Received as received
 use Rattle.lpt_reception.specs.Received.{Kept, Parts, differs, is_overrun, is_whole, no_parts, spelled, with_part}
 use Rattle.lpt_reception.proofs.SetLemmas.{with_part_again}
-use Rattle.lpt_join.specs.Joins.{Joined, Missing, Complete, Broken, added, join_part, kept_by}
+use Rattle.lpt_join.specs.Joins.{Joined, Missing, Complete, Broken, part_added, join_part, kept_by}
 use Rattle.lpt_join.specs.Offers.{part_of_piece}
 use Rattle.lpt_join.proofs.SetLemmas.{nothing_whole, there}
 use Rattle.lpt_layout_join.specs.Came.{Came, contradicts, message_of, nothing_came, step}
@@ -101,9 +101,9 @@ module _ (p : ℕ) (size : IsPartSize p) (law : Splits) (c : Came) (place : ℕ)
       → IsBridge p c.parts s
       → is_whole s ≡ false
       → c.against ≡ None
-      → IsJoined p (step c place q) (added s n x)
+      → IsJoined p (step c place q) (part_added s n x)
   missing-step s h isnt none =
-      subst (λ (z : Came). IsJoined p z (added s n x))
+      subst (λ (z : Came). IsJoined p z (part_added s n x))
       (sym ((λ i. came_with c place q (is_some (none i)) (against s h i))))
       (missing-by s h isnt none (received.contradicts s n x) refl)
 

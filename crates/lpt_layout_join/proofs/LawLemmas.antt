@@ -9,8 +9,8 @@ use Rattle.lpt_carried.specs.declared.name.Name.{Name}
 use Rattle.lpt_carried.specs.declared.reading.Reading.{Reading}
 use Rattle.lpt_carried.specs.declared.skip.Skip.{Skip}
 use Rattle.lpt_layout_join.specs.Came.{Came, contradicts, message_of, octets_of, step}
-use Rattle.lpt_carried.specs.Carried.{Named, carried, name_of, part_of, same_name}
-use Rattle.lpt_layout_join.specs.Gathered.{Gathered, all_gathered, carry, gathered, next, nothing_gathered, with_counts, with_own, with_part}
+use Rattle.lpt_carried.specs.Carried.{Named, part_carried, name_of, part_of, same_name}
+use Rattle.lpt_layout_join.specs.Gathered.{Gathered, all_gathered, carry, parts_gathered, next, nothing_gathered, with_counts, with_own, with_part}
 use Rattle.lpt_layout_join.specs.Laws.{IsSplit, OneOrOther, AreOneOrOther, EachIsAmong, IsAmong, IsAsked, is_other, part_named}
 use Rattle.lpt_layout_join.specs.Writes.{end_by, end_of, end_whole, unfit}
 use Rattle.lpt_carried.proofs.NameLemmas.{same_name-refl, same_name-true}
@@ -42,7 +42,7 @@ all-kept : (r : Reading) (n : Name) (g : Gathered) (bs : List (List ℕ)) (k : �
 all-kept r n g [] k x e = e
 all-kept r n g (b ∷ bs) k x e =
     all-kept r n (next r n g b) bs k x
-    (part-kept (with_counts r g b) (part_of n (carried r b)) k x e)
+    (part-kept (with_counts r g b) (part_of n (part_carried r b)) k x e)
 
 -- a part of another name is none of this
 other_part : (n k : Name) (q : Piece) → same_name k n ≡ false
@@ -64,8 +64,8 @@ module _ (r : Reading) (asked : Option Name) (n : Name) (p : ℕ) (m : List ℕ)
       (record g.came { parts = g.came.parts ++ nth_part p n.id m k ∷ [] })
 
   its_part : (b : List ℕ) (k : ℕ)
-      → carried r b ≡ Ok (part_named n p m k)
-      → part_of n (carried r b) ≡ Some (nth_part p n.id m k)
+      → part_carried r b ≡ Ok (part_named n p m k)
+      → part_of n (part_carried r b) ≡ Some (nth_part p n.id m k)
   its_part b k e =
       ap (part_of n) e
       ∙ ap (λ (t : Bool). if t then Some (nth_part p n.id m k) else None) (same_name-refl n)
@@ -133,7 +133,7 @@ module _ (r : Reading) (asked : Option Name) (n : Name) (p : ℕ) (m : List ℕ)
       ∙ step-nth now one.number (goes-counts g b goes) one.some one.within))
       (goes-nth now one.number (goes-counts g b goes) one.some one.within)
   goes-next g b goes (inr other) =
-      subst Goes (sym (ap (with_part (with_counts r g b)) (none-other (carried r b) other)))
+      subst Goes (sym (ap (with_part (with_counts r g b)) (none-other (part_carried r b) other)))
       (goes-counts g b goes)
 
   goes-all : (g : Gathered) (bs : List (List ℕ))
@@ -168,8 +168,8 @@ module _ (r : Reading) (asked : Option Name) (n : Name) (p : ℕ) (m : List ℕ)
   pub message-is : (bs : List (List ℕ))
       → AreOneOrOther r asked n p m bs
       → EachIsAmong r n p m bs
-      → message_of (gathered r n bs).came.parts ≡ Some m
-  unfolding gathered
+      → message_of (parts_gathered r n bs).came.parts ≡ Some m
+  unfolding parts_gathered
   message-is bs all each =
       let g = goes-all nothing_gathered bs goes-none all in
       joined-all m p n.id split (all_gathered r n nothing_gathered bs).came.parts g.parts_are
@@ -180,9 +180,10 @@ module _ (r : Reading) (asked : Option Name) (n : Name) (p : ℕ) (m : List ℕ)
   pub end-is : (bs : List (List ℕ)) (any : Bool)
       → AreOneOrOther r asked n p m bs
       → EachIsAmong r n p m bs
-      → end_of r any (gathered r n bs) ≡ end_whole m (unfit r any (gathered r n bs).sure m)
+      → end_of r any (parts_gathered r n bs)
+      ≡ end_whole m (unfit r any (parts_gathered r n bs).sure m)
   end-is bs any all each =
-      let g = gathered r n bs in
+      let g = parts_gathered r n bs in
       ap (end_by r any g.sure (is_some g.came.against)) (message-is bs all each)
 
 -- where each packet carries a part of the message or none, none carries one of another name
@@ -191,11 +192,12 @@ module _ (r : Reading) (n k : Name) (p : ℕ) (m : List ℕ) (apart : same_name 
   none-apart (Err s) e = refl
   none-apart (Ok c) e = absurd cc
 
-  none-here : (b : List ℕ) → OneOrOther r None n p m b → is_some (part_of k (carried r b)) ≡ false
+  none-here : (b : List ℕ) → OneOrOther r None n p m b → is_some (part_of k (part_carried r b))
+      ≡ false
   none-here b (inl one) =
       ap (λ v. is_some (part_of k v)) one.carries
       ∙ ap is_some (other_part k n (nth_part p n.id m one.number) apart)
-  none-here b (inr other) = none-apart (carried r b) other
+  none-here b (inr other) = none-apart (part_carried r b) other
 
   pub alone-is : (bs : List (List ℕ)) → AreOneOrOther r None n p m bs → carry r k bs ≡ false
   alone-is [] all = refl

@@ -22,7 +22,7 @@ use Rattle.lpt_part.specs.Splitting.{kind_at, part_count, part_of}
 use Rattle.lpt_carried.specs.declared.name.Name.{Name}
 use Rattle.lpt_carried.specs.declared.reading.Reading.{Reading}
 use Rattle.lpt_carried.specs.declared.skip.Skip.TheVariants.{OtherApid}
-use Rattle.lpt_carried.specs.Carried.{carried, kind_to, of_kind, of_message, of_part, of_sight}
+use Rattle.lpt_carried.specs.Carried.{part_carried, kind_to, of_kind, of_message, of_part, of_sight}
 use Rattle.lpt_layout_join.specs.Laws.{IsSplit, part_named}
 use Rattle.lpt_carried.specs.Sizes.{size_for}
 
@@ -104,8 +104,8 @@ module _ (r : Reading) (n : Name) (p k : ℕ) (m : List ℕ) (s : Said)
       → s.subtype ≡ part_subtype r.direction kind
       → s.user ≡ n.user
       → s.body ≡ body_as r.parts q
-      → carried r (octets_as r.layout (kind_to r.direction) s) ≡ Ok (part_named n p m k)
-  unfolding carried
+      → part_carried r (octets_as r.layout (kind_to r.direction) s) ≡ Ok (part_named n p m k)
+  unfolding part_carried
   made-is known fits head seen apid service subtype user body =
       let here : (s.apid == r.apid) ≡ true = grind (arith, nat_tests) in
       let type : carried_kind r.direction s.service s.subtype ≡ Some kind =

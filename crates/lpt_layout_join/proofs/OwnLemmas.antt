@@ -25,23 +25,23 @@ use Rattle.lpt_stream.specs.Pieces as stream
 use Rattle.lpt_carried.specs.declared.name.Name.{Name}
 use Rattle.lpt_carried.specs.declared.reading.Reading.{Reading}
 use Rattle.lpt_carried.specs.declared.skip.Skip.{Skip}
-use Rattle.lpt_carried.specs.Carried.{Named, carried, name_of, part_of, same_name}
+use Rattle.lpt_carried.specs.Carried.{Named, part_carried, name_of, part_of, same_name}
 use Rattle.lpt_carried.specs.Own.{IsOwn, in_own, own_layout, part_arrived}
 use Rattle.lpt_join.specs.declared.transaction.Transaction.{Transaction}
 use Rattle.lpt_join.specs.Contradictions as profile_place
 use Rattle.lpt_join.specs.Contradictions.{is_against, offered_in}
-use Rattle.lpt_join.specs.Joins.{Joined, Missing, Complete, Broken, join_part, joined, joined_from}
+use Rattle.lpt_join.specs.Joins.{Joined, Missing, Complete, Broken, join_part, packets_joined, joined_from}
 use Rattle.lpt_join.specs.Laws as profile
 use Rattle.lpt_join.specs.Messages as profile_message
 use Rattle.lpt_join.specs.Messages.{is_part_of}
-use Rattle.lpt_join.specs.Offers.{offered, part_of_name, part_of_piece, piece_of}
+use Rattle.lpt_join.specs.Offers.{part_offered, part_of_name, part_of_piece, piece_of}
 use Rattle.lpt_join.specs.Several as profile_names
 use Rattle.lpt_join.specs.Wide.{wide}
 use Rattle.lpt_join.specs.Writes as profile_end
 use Rattle.lpt_join.proofs.FitLemmas.{offered-fits}
 use Rattle.lpt_join.proofs.GatherLemmas.{against_none, join_none}
 use Rattle.lpt_layout_join.specs.Came.{Came, contradicts, message_of, nothing_came, step}
-use Rattle.lpt_layout_join.specs.Gathered.{Gathered, against_from, all_gathered, breaks, came, came_by, carry, ended, first_against, gathered, is_end, is_part, next, nothing_gathered, part_in, place_if, place_or, with_counts, with_part}
+use Rattle.lpt_layout_join.specs.Gathered.{Gathered, against_from, all_gathered, breaks, came, came_by, carry, has_ended, first_against, parts_gathered, is_end, is_part, next, nothing_gathered, part_in, place_if, place_or, with_counts, with_part}
 use Rattle.lpt_layout_join.specs.Own.{message_in, misfit_as, own_end, own_reading}
 use Rattle.lpt_layout_join.specs.Writes.{end_by, end_missing, end_of, end_whole, kind_misfit, sight_misfit, unfit}
 use Rattle.lpt_layout_join.specs.declared.ending.MisfitAs.TheVariants.{Unsure}
@@ -55,7 +55,7 @@ use Rattle.lpt_layout_join.proofs.WholeLemmas.{Splits, contradicts-part}
 abbrev pub OwnParts : Type 0
 OwnParts =
     (r : Reading) (p : ℕ) (b : List ℕ) → IsOwn r p → IsOctets b
-    → option_map in_own (result_ok (carried r b))
+    → option_map in_own (result_ok (part_carried r b))
     ≡ part_arrived (arrival (receiver_side r.direction) r.apid p b)
 
 pub own-sealed : (d : Direction) → (own_layout d).has_checksum ≡ true
@@ -143,16 +143,16 @@ module _ (t : Transaction) where
   module _ (law : OwnParts) where
     pub offered-own : (b : List ℕ)
         → IsOctets b
-        → option_map part_of_piece (part_of n (carried r b)) ≡ offered t b
-    unfolding offered
+        → option_map part_of_piece (part_of n (part_carried r b)) ≡ part_offered t b
+    unfolding part_offered
     offered-own b octets =
-        named-own t.name (carried r b)
+        named-own t.name (part_carried r b)
         ∙ ap (part_of_name t.name) (law r p b is-own octets
         ∙ arrived-part (arrival (receiver_side t.direction) t.apid p b))
 
     pub carried-fits : (b : List ℕ) (q : Piece)
         → IsOctets b
-        → part_of n (carried r b) ≡ Some q
+        → part_of n (part_carried r b) ≡ Some q
         → PartFits q.kind q.number (length q.octets) p
     carried-fits b q octets e =
         offered-fits t b q.number (kept q)
@@ -177,23 +177,26 @@ module _ (t : Transaction) where
         → AllByRecursion IsOctets bs
         → came r n k bs ≡ profile.came t k bs
     came-same k bs =
-        any-own (λ b. is_part k (part_of n (carried r b))) (λ b. profile.is_part k (offered t b)) bs
-        (λ b octets. part-own k (part_of n (carried r b))
+        any-own (λ b. is_part k (part_of n (part_carried r b)))
+        (λ b. profile.is_part k (part_offered t b)) bs
+        (λ b octets. part-own k (part_of n (part_carried r b))
         ∙ ap (profile.is_part k) (offered-own b octets))
 
     pub ended-same : (bs : List (List ℕ))
         → AllByRecursion IsOctets bs
-        → ended r n bs ≡ profile.ended t bs
+        → has_ended r n bs ≡ profile.has_ended t bs
     ended-same bs =
-        any-own (λ b. is_end (part_of n (carried r b))) (λ b. profile.is_end (offered t b)) bs
-        (λ b octets. end-own (part_of n (carried r b)) ∙ ap profile.is_end (offered-own b octets))
+        any-own (λ b. is_end (part_of n (part_carried r b)))
+        (λ b. profile.is_end (part_offered t b)) bs
+        (λ b octets. end-own (part_of n (part_carried r b))
+        ∙ ap profile.is_end (offered-own b octets))
 
     pub carry-same : (bs : List (List ℕ))
         → AllByRecursion IsOctets bs
-        → carry r n bs ≡ profile_names.carried t bs
+        → carry r n bs ≡ profile_names.is_carried t bs
     carry-same bs =
-        any-own (λ b. is_some (part_of n (carried r b))) (λ b. is_some (offered t b)) bs
-        (λ b octets. some-own (part_of n (carried r b)) ∙ ap is_some (offered-own b octets))
+        any-own (λ b. is_some (part_of n (part_carried r b))) (λ b. is_some (part_offered t b)) bs
+        (λ b octets. some-own (part_of n (part_carried r b)) ∙ ap is_some (offered-own b octets))
 
     -- ---- what is joined
 
@@ -201,12 +204,12 @@ module _ (t : Transaction) where
       came-next : (g : Gathered) (b : List ℕ) (j : Joined)
           → IsOctets b
           → IsJoined p g.came j
-          → IsJoined p (next r n g b).came (join_part j (offered t b))
+          → IsJoined p (next r n g b).came (join_part j (part_offered t b))
       came-next g b j octets w =
           subst (λ o. IsJoined p (next r n g b).came (join_part j o)) (offered-own b octets)
-          (by (part_of n (carried r b)) refl) where
+          (by (part_of n (part_carried r b)) refl) where
             by : (o : Option Piece)
-                → part_of n (carried r b) ≡ o
+                → part_of n (part_carried r b) ≡ o
                 → IsJoined p (with_part (with_counts r g b) o).came
                 (join_part j (option_map part_of_piece o))
             by None is = subst (IsJoined p g.came) (sym (join_none j)) w
@@ -219,29 +222,30 @@ module _ (t : Transaction) where
           → IsJoined p (all_gathered r n g bs).came (joined_from t j bs)
       came-all g [] j octets w = w
       came-all g (b ∷ bs) j octets w =
-          came-all (next r n g b) bs (join_part j (offered t b)) octets.1
+          came-all (next r n g b) bs (join_part j (part_offered t b)) octets.1
           (came-next g b j octets.0 w)
 
       came-own : (bs : List (List ℕ))
           → AllByRecursion IsOctets bs
-          → IsJoined p (gathered r n bs).came (joined t bs)
-      unfolding gathered
+          → IsJoined p (parts_gathered r n bs).came (packets_joined t bs)
+      unfolding parts_gathered
       came-own bs octets =
           came-all nothing_gathered bs (Missing no_parts) octets (nothing-joined p)
 
       pub message-same : (bs : List (List ℕ))
           → AllByRecursion IsOctets bs
-          → message_of (gathered r n bs).came.parts ≡ message_in (joined t bs)
+          → message_of (parts_gathered r n bs).came.parts ≡ message_in (packets_joined t bs)
       message-same bs octets =
-          message-joined p t.size splits (gathered r n bs).came (joined t bs) (came-own bs octets)
+          message-joined p t.size splits (parts_gathered r n bs).came (packets_joined t bs)
+          (came-own bs octets)
 
       pub end-same : ((m : List ℕ) → verdict_as true m ≡ verdict m)
           → (any : Bool) (bs : List (List ℕ))
           → AllByRecursion IsOctets bs
-          → end_of r any (gathered r n bs) ≡ own_end t.direction any (joined t bs)
-      end-same packets any bs octets = by (joined t bs) (came-own bs octets) where
+          → end_of r any (parts_gathered r n bs) ≡ own_end t.direction any (packets_joined t bs)
+      end-same packets any bs octets = by (packets_joined t bs) (came-own bs octets) where
         g : Gathered
-        g = gathered r n bs
+        g = parts_gathered r n bs
 
         is : (j : Joined)
             → IsJoined p g.came j

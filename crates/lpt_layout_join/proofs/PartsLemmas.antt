@@ -13,7 +13,7 @@ use Rattle.lpt_part.specs.Splitting.{kind_at, part_count, part_of, parts_joined}
 use Rattle.lpt_part.proofs.SplitLemmas.{part_count-two}
 use Rattle.lpt_layout.proofs.SplitLemmas.{part_of-fits, parts_joined-all}
 use Rattle.lpt_layout_join.specs.declared.last_part.LastPart.{LastPart}
-use Rattle.lpt_layout_join.specs.Came.{first_told, octets_told, size_by, size_told, last_by, last_told, octets_of, size_of, last_of, highest, other_octets, other_size, behind_last, other_last, other_end, contradicts, and_more, joined, joined_by, message_of}
+use Rattle.lpt_layout_join.specs.Came.{first_told, octets_told, size_by, size_told, last_by, last_told, octets_of, size_of, last_of, highest, other_octets, other_size, behind_last, other_last, other_end, contradicts, and_more, octets_joined, joined_by, message_of}
 use Rattle.lpt_layout_join.specs.Laws.{IsSplit}
 use Rattle.lpt_layout_join.proofs.CameLemmas.{first_told-more}
 
@@ -316,7 +316,7 @@ module _ (m : List ℕ) (p id : ℕ) (split : IsSplit p m) where
   joined-to : (f : ℕ → Option (List ℕ)) (n : ℕ)
       → n ≤ total
       → ((k : ℕ) → 1 ≤ k → k ≤ total → f k ≡ Some (part_of m p k))
-      → joined f n ≡ Some (parts_joined m p n)
+      → octets_joined f n ≡ Some (parts_joined m p n)
   joined-to f zero most h = refl
   joined-to f (suc n) most h =
       let front = joined-to f n (omega arith) h in
@@ -337,6 +337,6 @@ module _ (m : List ℕ) (p id : ℕ) (split : IsSplit p m) where
         absurd (omega arith)
     by (Some l) is =
         ap (joined_by (octets_of qs)) is
-        ∙ ap (λ (x : LastPart). joined (octets_of qs) x.number) (last-is qs all l is)
+        ∙ ap (λ (x : LastPart). octets_joined (octets_of qs) x.number) (last-is qs all l is)
         ∙ joined-to (octets_of qs) total (omega arith) h
         ∙ ap Some (parts_joined-all m p split.size)

@@ -10,7 +10,7 @@ use Rattle.lpt_stream.specs.declared.piece_kind.PieceKind.TheVariants.{Whole, Da
 use Rattle.lpt_stream.specs.Pieces.{Piece, packet_before, packets_of}
 use Rattle.lpt_carried.specs.declared.name.Name.{Name}
 use Rattle.lpt_carried.specs.declared.reading.Reading.{Reading}
-use Rattle.lpt_carried.specs.Carried.{Named, carried, name_of, part_of, same_name}
+use Rattle.lpt_carried.specs.Carried.{Named, part_carried, name_of, part_of, same_name}
 use Rattle.lpt_carried.proofs.NameLemmas.{same_name-refl, same_name-true}
 use Rattle.lpt_layout_join.specs.declared.gathering.Gathering.{Gathering}
 use Rattle.lpt_layout_join.specs.declared.gatherings.Gatherings.{Gatherings}
@@ -39,8 +39,8 @@ module _ (r : Reading) (n : Name) where
       → carry r n (packet_before k b bs) ≡ false
       → (part_in r n k b ≡ None) × (carry r n bs ≡ false)
   carry-front Whole b bs h =
-      let parts = or_parts (is_some (part_of n (carried r b))) (carry r n bs) h in
-      (not_some (part_of n (carried r b)) parts.0, parts.1)
+      let parts = or_parts (is_some (part_of n (part_carried r b))) (carry r n bs) h in
+      (not_some (part_of n (part_carried r b)) parts.0, parts.1)
   carry-front Damaged b bs h = (refl, h)
   carry-front Stray b bs h = (refl, h)
 
@@ -80,7 +80,7 @@ module _ (r : Reading) (n : Name) where
 
   -- one that does
   pub kept-part : (ps : List Piece) (b : List ℕ) (more : Bool) (q : part.Piece) (g : Gathering)
-      → part_of n (carried r b) ≡ Some q
+      → part_of n (part_carried r b) ≡ Some q
       → Gives r n (ps ++ packet b ∷ []) g
       → IsKept r n (ps ++ packet b ∷ []) more (Some g)
   kept-part ps b more q g some h =
@@ -210,16 +210,16 @@ lone-room (Some m) old taken lone full = absurd (elim full.1 [
 -- ---- a packet that carries a part that is wanted
 
 module _ (r : Reading) (w : Option Name) (b : List ℕ) (c : Named)
-    (some : carried r b ≡ Ok c) (wanted : is_wanted w (name_of c) ≡ true) where
+    (some : part_carried r b ≡ Ok c) (wanted : is_wanted w (name_of c) ≡ true) where
   abbrev name : Name
   name = name_of c
 
-  pub part-its : part_of name (carried r b) ≡ Some c.piece
+  pub part-its : part_of name (part_carried r b) ≡ Some c.piece
   part-its =
       ap (part_of name) some
       ∙ ap (λ (t : Bool). if t then Some c.piece else None) (same_name-refl name)
 
-  part-other : (n : Name) → same_name name n ≡ false → part_of n (carried r b) ≡ None
+  part-other : (n : Name) → same_name name n ≡ false → part_of n (part_carried r b) ≡ None
   part-other n other =
       ap (part_of n) some ∙ ap (λ (t : Bool). if t then Some c.piece else None) other
 

@@ -3,7 +3,7 @@ use Rattle.std.proofs.Common.{◌≡◌, ◌∙◌, ap, refl, sym, inl, inr, ℕ
 use Rattle.std.specs.Prelude.{Option, Some, None}
 use Rattle.std.proofs.lemmas.Bool.Decides.{eqb_tells}
 use Rattle.lpt_layout_join.specs.declared.slots.Span.{Span}
-use Rattle.lpt_layout_join.specs.Came.{and_more, is_other, joined, none_other}
+use Rattle.lpt_layout_join.specs.Came.{and_more, is_other, octets_joined, none_other}
 use Rattle.lpt_layout_join.specs.Slots.{span_in}
 
 -- an empty place behind the others changes nothing
@@ -19,30 +19,31 @@ no_more (Some x) = refl
 no_more None = refl
 
 -- a part that hasn't come leaves nothing joined
-joined-more : (f : ℕ → Option (List ℕ)) (k n : ℕ) → joined f k ≡ None → joined f (n + k) ≡ None
+joined-more : (f : ℕ → Option (List ℕ)) (k n : ℕ) → octets_joined f k ≡ None
+    → octets_joined f (n + k) ≡ None
 joined-more f k zero h =
     let same : zero + k ≡ k = omega arith in
-    ap (joined f) same ∙ h
+    ap (octets_joined f) same ∙ h
 joined-more f k (suc n) h =
     let more : suc n + k ≡ suc (n + k) = omega arith in
-    ap (joined f) more ∙ ap (λ o. and_more o (f (suc (n + k)))) (joined-more f k n h)
+    ap (octets_joined f) more ∙ ap (λ o. and_more o (f (suc (n + k)))) (joined-more f k n h)
 
 -- the part behind place k hasn't come, so n parts aren't joined
 pub joined-none : (f : ℕ → Option (List ℕ)) (k n : ℕ)
     → f (suc k) ≡ None
     → k < n
-    → joined f n ≡ None
+    → octets_joined f n ≡ None
 joined-none f k n h less =
-    let here : joined f (suc k) ≡ None =
-    ap (and_more (joined f k)) h ∙ no_more (joined f k) in
+    let here : octets_joined f (suc k) ≡ None =
+    ap (and_more (octets_joined f k)) h ∙ no_more (octets_joined f k) in
     let more : n - suc k + suc k ≡ n = omega arith in
-    ap (joined f) (sym more) ∙ joined-more f (suc k) (n - suc k) here
+    ap (octets_joined f) (sym more) ∙ joined-more f (suc k) (n - suc k) here
 
 -- one part more
 pub joined-next : (f : ℕ → Option (List ℕ)) (k : ℕ) (a b : List ℕ)
-    → joined f k ≡ Some a
+    → octets_joined f k ≡ Some a
     → f (suc k) ≡ Some b
-    → joined f (suc k) ≡ Some (a ++ b)
+    → octets_joined f (suc k) ≡ Some (a ++ b)
 joined-next f k a b h e = λ i. and_more (h i) (e i)
 
 -- the part behind place k is another, so one up to n is

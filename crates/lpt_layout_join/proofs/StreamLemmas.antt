@@ -22,14 +22,14 @@ use Rattle.lpt_layout.specs.Parts.{is_numbered, octets_at, part_verdict_as, piec
 use Rattle.lpt_carried.specs.declared.name.Name.{Name}
 use Rattle.lpt_carried.specs.declared.reading.Reading.{Reading}
 use Rattle.lpt_carried.specs.declared.skip.Skip.TheVariants.{OtherApid}
-use Rattle.lpt_carried.specs.Carried.{Named, carried, kind_to, name_of, of_kind, of_message, of_part, of_sight, part_of, same_name}
+use Rattle.lpt_carried.specs.Carried.{Named, part_carried, kind_to, name_of, of_kind, of_message, of_part, of_sight, part_of, same_name}
 use Rattle.lpt_carried.specs.Sizes.{is_size, size_for}
 use Rattle.lpt_carried.proofs.NameLemmas.{same_name-true}
 use Rattle.lpt_skips.specs.declared.skips.Skips.{Skips}
 use Rattle.lpt_skips.specs.declared.wanted.Wanted.{Wanted}
 use Rattle.lpt_skips.specs.declared.why.Why.TheVariants.{Taken, OtherName}
 use Rattle.lpt_skips.specs.Skipping.{sizeless, why_carried, why_name}
-use Rattle.lpt_skips.specs.Tallies.{noted, nothing_noted, skips_of, with_octets}
+use Rattle.lpt_skips.specs.Tallies.{piece_noted, nothing_noted, skips_of, with_octets}
 use Rattle.lpt_skips.proofs.TallyLemmas.{noted-append, taken-noted}
 use Rattle.lpt_stream.specs.declared.piece_kind.PieceKind.{PieceKind}
 use Rattle.lpt_stream.specs.declared.piece_kind.PieceKind.TheVariants.{Whole, Damaged, Stray}
@@ -38,8 +38,8 @@ use Rattle.lpt_stream.proofs.CutLemmas.{packets-next}
 use Rattle.lpt_layout_join.specs.declared.counts.Counts as declared
 use Rattle.lpt_layout_join.specs.declared.gatherings.Gatherings.{Gatherings}
 use Rattle.lpt_layout_join.specs.declared.several.Gatherer.{Gatherer}
-use Rattle.lpt_layout_join.specs.Counts.{Counted, all_counted, counted, nothing_counted}
-use Rattle.lpt_layout_join.specs.CountsInside.{shown}
+use Rattle.lpt_layout_join.specs.Counts.{Counted, all_counted, packet_counted, nothing_counted}
+use Rattle.lpt_layout_join.specs.CountsInside.{counts_shown}
 use Rattle.lpt_layout_join.specs.Gatherings.{GivesEach, is_wanted}
 use Rattle.lpt_layout_join.specs.Readers.{Gathers}
 use Rattle.lpt_layout_join.proofs.CountLemmas.{counted-more}
@@ -124,8 +124,8 @@ module _ (r : Reading) (c : Named) where
     go true e = of-message (message_verdict r.layout (kind_to r.direction) f) e
     go false e = absurd cc
 
-  pub carried-within : (b : List ℕ) → carried r b ≡ Ok c → c.piece.number ≤ 65542
-  unfolding carried
+  pub carried-within : (b : List ℕ) → part_carried r b ≡ Ok c → c.piece.number ≤ 65542
+  unfolding part_carried
   carried-within b h = of-sight (verdict_as r.layout.has_checksum b) h
 
 -- ---- what is wanted
@@ -147,13 +147,13 @@ taken-name (Some m) n h = ap (λ (t : Bool). if t then Taken else OtherName n) h
 
 -- of one that is no more is noted than its octets
 pub noted-taken : (w : Wanted) (b : List ℕ) (c : Named) (was now : Skips)
-    → carried w.reading b ≡ Ok c
+    → part_carried w.reading b ≡ Ok c
     → is_wanted w.name (name_of c) ≡ true
     → now ≡ with_octets was (length b)
-    → now ≡ noted w was (record { kind = Whole; octets = b })
+    → now ≡ piece_noted w was (record { kind = Whole; octets = b })
 noted-taken w b c was now some its =
     taken-noted w was now (record { kind = Whole; octets = b })
-    (ap (λ v. why_carried w.name v (carried (sizeless w.reading) b)) some
+    (ap (λ v. why_carried w.name v (part_carried (sizeless w.reading) b)) some
     ∙ taken-name w.name (name_of c) its)
 
 -- ---- a piece further
@@ -162,22 +162,23 @@ module _ (first was : Gatherer) (ps : List Piece) (h : Gathers first was ps) whe
   abbrev w : Wanted
   w = was.wanted
 
-  skips-next : (p : Piece) (s : Skips) → s ≡ noted w was.skips p → s ≡ skips_of w (ps ++ p ∷ [])
+  skips-next : (p : Piece) (s : Skips) → s ≡ piece_noted w was.skips p → s
+      ≡ skips_of w (ps ++ p ∷ [])
   skips-next p s notes =
-      notes ∙ ap (λ (k : Skips). noted w k p) h.skips_are
+      notes ∙ ap (λ (k : Skips). piece_noted w k p) h.skips_are
       ∙ sym (noted-append w nothing_noted ps (p ∷ []))
 
   -- a packet
   pub gathers-packet : (b : List ℕ) (gs : Gatherings) (k : declared.Counts) (s : Skips)
-      → shown k ≡ counted w.reading (shown was.counts) b
+      → counts_shown k ≡ packet_counted w.reading (counts_shown was.counts) b
       → GivesEach w.reading w.name (ps ++ record { kind = Whole; octets = b } ∷ []) gs
-      → s ≡ noted w was.skips (record { kind = Whole; octets = b })
+      → s ≡ piece_noted w was.skips (record { kind = Whole; octets = b })
       → Gathers first (record { wanted = w; gatherings = gs; counts = k; skips = s })
       (ps ++ record { kind = Whole; octets = b } ∷ [])
   gathers-packet b gs k s counts gives notes = record {
     same = h.same;
     gives = gives;
-    counts_are = counts ∙ ap (λ (c : Counted). counted w.reading c b) h.counts_are
+    counts_are = counts ∙ ap (λ (c : Counted). packet_counted w.reading c b) h.counts_are
         ∙ sym (counted-more w.reading nothing_counted (packets_of ps) b)
         ∙ sym (ap (all_counted w.reading nothing_counted)
         (packets-next ps (record { kind = Whole; octets = b })));
@@ -186,18 +187,18 @@ module _ (first was : Gatherer) (ps : List Piece) (h : Gathers first was ps) whe
 
   -- how many counts are missing up to it
   pub missing-packet : (b : List ℕ) (k : declared.Counts)
-      → shown k ≡ counted w.reading (shown was.counts) b
-      → (shown k).missing
+      → counts_shown k ≡ packet_counted w.reading (counts_shown was.counts) b
+      → (counts_shown k).missing
       ≡ (all_counted w.reading nothing_counted (packets_of ps ++ b ∷ [])).missing
   missing-packet b k counts =
       ap (λ (c : Counted). c.missing)
-      (counts ∙ ap (λ (c : Counted). counted w.reading c b) h.counts_are
+      (counts ∙ ap (λ (c : Counted). packet_counted w.reading c b) h.counts_are
       ∙ sym (counted-more w.reading nothing_counted (packets_of ps) b))
 
   -- another piece
   pub gathers-other : (k : PieceKind) (b : List ℕ) (s : Skips)
       → (k ≡ Whole → ⊥)
-      → s ≡ noted w was.skips (record { kind = k; octets = b })
+      → s ≡ piece_noted w was.skips (record { kind = k; octets = b })
       → Gathers first
       (record { wanted = w; gatherings = was.gatherings; counts = was.counts; skips = s })
       (ps ++ record { kind = k; octets = b } ∷ [])

@@ -12,11 +12,11 @@ use Rattle.lpt_carried.specs.declared.name.Name.{Name}
 use Rattle.lpt_layout_join.specs.declared.order.Order.{Order}
 use Rattle.lpt_carried.specs.declared.reading.Reading.{Reading}
 use Rattle.lpt_layout_join.specs.Came.{Came, contradicts, last_of, last_told, message_of, step}
-use Rattle.lpt_carried.specs.Carried.{carried, part_of}
-use Rattle.lpt_layout_join.specs.Counts.{Counted, all_counted, counted, nothing_counted}
-use Rattle.lpt_layout_join.specs.Gathered.{Gathered, all_gathered, gathered, next, nothing_gathered, order_by, with_came, with_counts, with_own, with_part}
+use Rattle.lpt_carried.specs.Carried.{part_carried, part_of}
+use Rattle.lpt_layout_join.specs.Counts.{Counted, all_counted, packet_counted, nothing_counted}
+use Rattle.lpt_layout_join.specs.Gathered.{Gathered, all_gathered, parts_gathered, next, nothing_gathered, order_by, with_came, with_counts, with_own, with_part}
 use Rattle.lpt_layout_join.specs.InOrder.{IsInOrder, Stands}
-use Rattle.lpt_layout_join.specs.Orders.{is_in_order, no_order, ordered}
+use Rattle.lpt_layout_join.specs.Orders.{is_in_order, no_order, order_after}
 use Rattle.lpt_layout_join.specs.Writes.{end_by, end_of, end_whole, misfit}
 use Rattle.lpt_layout_join.proofs.CameLemmas.{first_told-more}
 use Rattle.lpt_layout_join.proofs.CountLemmas.{counted-more}
@@ -65,11 +65,11 @@ module _ (r : Reading) (n : Name) where
 
     counts-now : now.counts ≡ all_counted r nothing_counted bsb
     counts-now =
-        ap (λ (k : Counted). counted r k b) was.counts_are
+        ap (λ (k : Counted). packet_counted r k b) was.counts_are
         ∙ sym (counted-more r nothing_counted bs b)
 
     -- that carries no part of the name
-    other : part_of n (carried r b) ≡ None → IsGathered bsb now
+    other : part_of n (part_carried r b) ≡ None → IsGathered bsb now
     other none = record {
       counts_are = counts-now;
       order_is = came-other r n bs b g.order g.came.parts none was.order_is;
@@ -77,7 +77,7 @@ module _ (r : Reading) (n : Name) where
     }
 
     -- that carries this part of it
-    module _ (q : Piece) (its_part : part_of n (carried r b) ≡ Some q) where
+    module _ (q : Piece) (its_part : part_of n (part_carried r b) ≡ Some q) where
       -- these came with it, in this order
       own : (came : Came) (o : Order)
           → CameSo r n bsb o came.parts
@@ -141,8 +141,8 @@ module _ (r : Reading) (n : Name) where
             let qs = g.came.parts ++ q ∷ [] in
             subst (λ (a : Bool). IsGathered bsb (with_came now (record g.came { parts = qs })
             (order_by g.order a q.number now.counts.missing))) (sym e)
-            (own (record g.came { parts = qs }) (ordered g.order q.number now.counts.missing)
-            (subst (λ (i : ℕ). CameSo r n bsb (ordered g.order q.number i) qs)
+            (own (record g.came { parts = qs }) (order_after g.order q.number now.counts.missing)
+            (subst (λ (i : ℕ). CameSo r n bsb (order_after g.order q.number i) qs)
             (sym (ap (λ (k : Counted). k.missing) counts-now))
             (came-part r n bs b g.came.parts q its_part (octets-own g.came.parts q f) g.order
             was.order_is))
@@ -150,7 +150,7 @@ module _ (r : Reading) (n : Name) where
             ∙ ap (λ (o : Option LastPart). option_or o (last_told q)) is)
             (λ k front s. stands-kept r n g.came.parts q k front s))
 
-    packet-gathered : (o : Option Piece) → part_of n (carried r b) ≡ o
+    packet-gathered : (o : Option Piece) → part_of n (part_carried r b) ≡ o
         → IsGathered bsb (with_part now o)
     packet-gathered None is = other is
     packet-gathered (Some q) is = ending q is
@@ -164,7 +164,7 @@ module _ (r : Reading) (n : Name) where
       subst (λ (xs : List (List ℕ)). IsGathered xs (all_gathered r n (next r n g b) bs))
       (append_assoc before (b ∷ []) bs)
       (gathered-all bs (before ++ b ∷ []) (next r n g b)
-      (packet-gathered before b g was (part_of n (carried r b)) refl))
+      (packet-gathered before b g was (part_of n (part_carried r b)) refl))
 
 -- what isn't sure isn't written
 unsure_end : (m : List ℕ) (len : ℕ) (x : Option MisfitAs)
@@ -186,10 +186,10 @@ written-sure r false broken m len bare e =
 
 pub written-in-order : (r : Reading) (n : Name) (bs : List (List ℕ)) (len : ℕ) (m : List ℕ)
     → r.layout.has_checksum ≡ false
-    → end_of r false (gathered r n bs) ≡ Written len
-    → message_of (gathered r n bs).came.parts ≡ Some m
+    → end_of r false (parts_gathered r n bs) ≡ Written len
+    → message_of (parts_gathered r n bs).came.parts ≡ Some m
     → IsInOrder r n bs m
-unfolding gathered
+unfolding parts_gathered
 written-in-order r n bs len m bare ends is =
     let g : Gathered = all_gathered r n nothing_gathered bs in
     let sure =

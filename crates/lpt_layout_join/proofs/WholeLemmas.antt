@@ -19,7 +19,7 @@ use Rattle.lpt_reception.proofs.SetLemmas.{ends_at_last, get_added, get_other}
 use Rattle.lpt_join.specs.Messages.{is_part_of}
 use Rattle.lpt_join.proofs.SetLemmas.{all_there, not_none, there}
 use Rattle.lpt_layout_join.specs.declared.last_part.LastPart.{LastPart}
-use Rattle.lpt_layout_join.specs.Came.{and_more, contradicts, has_part, joined, joined_by, last_of, message_of, octets_of}
+use Rattle.lpt_layout_join.specs.Came.{and_more, contradicts, has_part, octets_joined, joined_by, last_of, message_of, octets_of}
 use Rattle.lpt_layout_join.proofs.BridgeLemmas.{IsBridge, contradicts-own, differs-same, kept, least, same-tests}
 
 -- a whole set is the parts of the message that it spells
@@ -51,15 +51,15 @@ last-three true true true true true h = (refl, refl, refl)
 joined-there : (f : ℕ → Option (List ℕ)) (s : Parts)
     → ((k : ℕ) → is_some (f k) ≡ is_some (map.get s k))
     → (n : ℕ) (m : List ℕ)
-    → joined f n ≡ Some m
+    → octets_joined f n ≡ Some m
     → has_all_to s n ≡ true
 joined-there f s each zero m e = refl
 joined-there f s each (suc n) m e =
-    by (joined f n) (f (suc n)) refl refl (joined-there f s each n) e where
+    by (octets_joined f n) (f (suc n)) refl refl (joined-there f s each n) e where
       by : (a b : Option (List ℕ))
-          → joined f n ≡ a
+          → octets_joined f n ≡ a
           → f (suc n) ≡ b
-          → ((x : List ℕ) → joined f n ≡ Some x → has_all_to s n ≡ true)
+          → ((x : List ℕ) → octets_joined f n ≡ Some x → has_all_to s n ≡ true)
           → and_more a b ≡ Some m
           → has_all_to s (suc n) ≡ true
       by None None front here rest e = absurd cc
@@ -87,8 +87,8 @@ module _ (p : ℕ) (size : IsPartSize p) (law : Splits) (qs : List Piece) (s : P
   message-none isnt = by (last_of qs) refl where
     none : (l : LastPart) (o : Option (List ℕ))
         → last_of qs ≡ Some l
-        → joined (octets_of qs) l.number ≡ o
-        → joined (octets_of qs) l.number ≡ None
+        → octets_joined (octets_of qs) l.number ≡ o
+        → octets_joined (octets_of qs) l.number ≡ None
     none l None is e = e
     none l (Some m) is e =
         let w = h.last_is l is in
@@ -99,7 +99,7 @@ module _ (p : ℕ) (size : IsPartSize p) (law : Splits) (qs : List Piece) (s : P
     by : (o : Option LastPart) → last_of qs ≡ o → message_of qs ≡ None
     by None is = ap (joined_by (octets_of qs)) is
     by (Some l) is =
-        ap (joined_by (octets_of qs)) is ∙ none l (joined (octets_of qs) l.number) is refl
+        ap (joined_by (octets_of qs)) is ∙ none l (octets_joined (octets_of qs) l.number) is refl
 
   -- ---- a whole one
 
@@ -122,7 +122,7 @@ module _ (p : ℕ) (size : IsPartSize p) (law : Splits) (qs : List Piece) (s : P
         h.octets_are k ∙ ap (option_map (λ (x : Kept). x.octets)) w.1
         ∙ ap (λ (x : Kept). Some x.octets) (split.parts k w.0 w.1).is
 
-    joined-own : (k : ℕ) → k ≤ count → joined (octets_of qs) k ≡ Some (parts_joined m p k)
+    joined-own : (k : ℕ) → k ≤ count → octets_joined (octets_of qs) k ≡ Some (parts_joined m p k)
     joined-own zero within = refl
     joined-own (suc k) within =
         let front = joined-own k (omega arith) in
@@ -134,7 +134,7 @@ module _ (p : ℕ) (size : IsPartSize p) (law : Splits) (qs : List Piece) (s : P
         let w = whole_has s whole in
         let number = last_number w.0 count (ap is_last (sym (split.parts w.0 w.1 w.2).is) ∙ w.3) in
         ap (joined_by (octets_of qs)) (h.last_there w.0 w.1 w.2 w.3)
-        ∙ ap (joined (octets_of qs)) number
+        ∙ ap (octets_joined (octets_of qs)) number
         ∙ joined-own count (omega arith)
         ∙ ap Some (parts_joined-all m p size)
 

@@ -157,13 +157,13 @@ and_more (Some a) None = None
 and_more None b = None
 
 -- the octets of parts 1 to n, one behind the other, where each is there
-abbrev pub joined : (ℕ → Option (List ℕ)) → ℕ → Option (List ℕ)
-joined part zero = Some []
-joined part (suc n) = and_more (joined part n) (part (suc n))
+abbrev pub octets_joined : (ℕ → Option (List ℕ)) → ℕ → Option (List ℕ)
+octets_joined part zero = Some []
+octets_joined part (suc n) = and_more (octets_joined part n) (part (suc n))
 
 abbrev pub joined_by : (ℕ → Option (List ℕ)) → Option LastPart → Option (List ℕ)
 joined_by part None = None
-joined_by part (Some l) = joined part l.number
+joined_by part (Some l) = octets_joined part l.number
 
 -- the octets of all parts up to the last one
 abbrev pub message_of : List Piece → Option (List ℕ)

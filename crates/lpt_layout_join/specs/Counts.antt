@@ -75,10 +75,10 @@ counted_by c (Some n) b = record {
   missing = up_to_limit (c.missing + gap_to c.latest n b);
 }
 
-abbrev pub counted : Reading → Counted → List ℕ → Counted
-counted r c b = counted_by c (count_of r b) b
+abbrev pub packet_counted : Reading → Counted → List ℕ → Counted
+packet_counted r c b = counted_by c (count_of r b) b
 
 -- packets came, one behind the other
 abbrev pub all_counted : Reading → Counted → List (List ℕ) → Counted
 all_counted r c [] = c
-all_counted r c (b ∷ bs) = all_counted r (counted r c b) bs
+all_counted r c (b ∷ bs) = all_counted r (packet_counted r c b) bs

@@ -2,6 +2,6 @@
 use Rattle.lpt_layout_join.specs.declared.counts.Counts.{Counts}
 use Rattle.lpt_layout_join.specs.Counts.{Counted}
 
-abbrev pub shown : Counts → Counted
-shown s =
+abbrev pub counts_shown : Counts → Counted
+counts_shown s =
     record { latest = record { count = s.count; octets = s.octets.items }; missing = s.missing }

@@ -8,11 +8,11 @@ use Rattle.lpt_stream.specs.declared.piece_kind.PieceKind.TheVariants.{Whole, Da
 use Rattle.lpt_stream.specs.Pieces as stream
 use Rattle.lpt_carried.specs.declared.name.Name.{Name}
 use Rattle.lpt_carried.specs.declared.reading.Reading.{Reading}
-use Rattle.lpt_carried.specs.Carried.{carried, part_of}
+use Rattle.lpt_carried.specs.Carried.{part_carried, part_of}
 use Rattle.lpt_layout_join.specs.declared.order.Order.{Order}
 use Rattle.lpt_layout_join.specs.Came.{Came, last_of, nothing_came, step}
-use Rattle.lpt_layout_join.specs.Counts.{Counted, counted, nothing_counted}
-use Rattle.lpt_layout_join.specs.Orders.{is_in_order, no_order, ordered}
+use Rattle.lpt_layout_join.specs.Counts.{Counted, packet_counted, nothing_counted}
+use Rattle.lpt_layout_join.specs.Orders.{is_in_order, no_order, order_after}
 
 -- what came of it; which parts of it came in their order, and whether all of them did so, with few
 -- counts missing between them; and the counts that are missing
@@ -33,7 +33,7 @@ nothing_gathered = record {
 -- with a part of this number, up to which so many counts are missing; one that contradicts those
 -- that came ends it
 abbrev pub order_by : Order → (against : Bool) → (number missing : ℕ) → Order
-order_by o against n missing = if against then no_order else ordered o n missing
+order_by o against n missing = if against then no_order else order_after o n missing
 
 -- these came, in this order
 abbrev pub with_came : Gathered → Came → Order → Gathered
@@ -55,11 +55,11 @@ with_part g (Some q) = with_own g q (step g.came 0 q)
 
 -- the counts that are missing before a packet are counted
 abbrev pub with_counts : Reading → Gathered → List ℕ → Gathered
-with_counts r g b = record g { counts = counted r g.counts b }
+with_counts r g b = record g { counts = packet_counted r g.counts b }
 
 -- a packet more came
 abbrev pub next : Reading → Name → Gathered → List ℕ → Gathered
-next r n g b = with_part (with_counts r g b) (part_of n (carried r b))
+next r n g b = with_part (with_counts r g b) (part_of n (part_carried r b))
 
 -- packets came, one behind the other
 abbrev pub all_gathered : Reading → Name → Gathered → List (List ℕ) → Gathered
@@ -67,8 +67,8 @@ all_gathered r n g [] = g
 all_gathered r n g (b ∷ bs) = all_gathered r n (next r n g b) bs
 
 -- what packets give
-unfoldable pub gathered : Reading → Name → List (List ℕ) → Gathered
-gathered r n bs = all_gathered r n nothing_gathered bs
+unfoldable pub parts_gathered : Reading → Name → List (List ℕ) → Gathered
+parts_gathered r n bs = all_gathered r n nothing_gathered bs
 
 -- ---- which parts came
 
@@ -84,21 +84,21 @@ is_end (Some q) = same_kind q.kind Last
 
 -- whether one of the packets carries a part k of the transaction
 abbrev pub came : Reading → Name → (k : ℕ) → List (List ℕ) → Bool
-came r n k bs = list_any (λ b. is_part k (part_of n (carried r b))) bs
+came r n k bs = list_any (λ b. is_part k (part_of n (part_carried r b))) bs
 
 -- whether one of them carries a last part of it
-abbrev pub ended : Reading → Name → List (List ℕ) → Bool
-ended r n bs = list_any (λ b. is_end (part_of n (carried r b))) bs
+abbrev pub has_ended : Reading → Name → List (List ℕ) → Bool
+has_ended r n bs = list_any (λ b. is_end (part_of n (part_carried r b))) bs
 
 -- whether one of them carries any part of it
 abbrev pub carry : Reading → Name → List (List ℕ) → Bool
-carry r n bs = list_any (λ b. is_some (part_of n (carried r b))) bs
+carry r n bs = list_any (λ b. is_some (part_of n (part_carried r b))) bs
 
 -- ---- where a part contradicts those before it
 
 -- the part of the name that a piece of a stream carries, where it is a packet that does
 abbrev pub part_in : Reading → Name → PieceKind → List ℕ → Option Piece
-part_in r n Whole b = part_of n (carried r b)
+part_in r n Whole b = part_of n (part_carried r b)
 part_in r n Damaged b = None
 part_in r n Stray b = None
 

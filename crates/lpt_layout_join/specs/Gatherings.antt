@@ -10,17 +10,17 @@ use Rattle.lpt_stream.specs.Pieces.{Piece, packets_of, up_to_limit}
 use Rattle.lpt_layout_join.specs.declared.gathering.Gathering.{Gathering}
 use Rattle.lpt_layout_join.specs.declared.gatherings.Gatherings.{Gatherings}
 use Rattle.lpt_layout_join.specs.CameInside.{Shows}
-use Rattle.lpt_layout_join.specs.Gathered.{Gathered, came, carry, ended, first_against, gathered}
+use Rattle.lpt_layout_join.specs.Gathered.{Gathered, came, carry, has_ended, first_against, parts_gathered}
 use Rattle.lpt_layout_join.specs.Names.{name_cmp}
 
 -- it keeps what the packets among these pieces give of the transaction of a name, which of its
 -- parts came, and where the first came that contradicts those before it
 pub record Gives (r : Reading) (n : Name) (pieces : List Piece) (g : Gathering) : Type 0 where
-  pub came_is : Shows (gathered r n (packets_of pieces)).came g.came
-  pub order_is : g.order ≡ (gathered r n (packets_of pieces)).order
-  pub sure_is : g.sure ≡ (gathered r n (packets_of pieces)).sure
+  pub came_is : Shows (parts_gathered r n (packets_of pieces)).came g.came
+  pub order_is : g.order ≡ (parts_gathered r n (packets_of pieces)).order
+  pub sure_is : g.sure ≡ (parts_gathered r n (packets_of pieces)).sure
   pub numbers_are : (k : ℕ) → has g.numbers k ≡ came r n k (packets_of pieces)
-  pub ended_is : is_ended g.numbers ≡ ended r n (packets_of pieces)
+  pub ended_is : is_ended g.numbers ≡ has_ended r n (packets_of pieces)
   pub against_is : g.against ≡ option_map up_to_limit (first_against r n pieces)
 
 -- what is kept of the transaction of a name

@@ -7,22 +7,22 @@ use Rattle.lpt_layout_join.specs.declared.last_part.LastPart.{LastPart}
 use Rattle.lpt_carried.specs.declared.name.Name.{Name}
 use Rattle.lpt_carried.specs.declared.reading.Reading.{Reading}
 use Rattle.lpt_layout_join.specs.Came.{last_of, message_of, octets_of}
-use Rattle.lpt_carried.specs.Carried.{carried, part_of}
+use Rattle.lpt_carried.specs.Carried.{part_carried, part_of}
 use Rattle.lpt_layout_join.specs.Counts.{missing_in}
 
 -- a packet carries the part of the name with this number, and its octets are joined
 pub record Carries (r : Reading) (n : Name) (parts : List Piece) (k : ℕ)
     (b : List ℕ) : Type 0 where
   pub part : Piece
-  pub carries : part_of n (carried r b) ≡ Some part
+  pub carries : part_of n (part_carried r b) ≡ Some part
   pub number_is : part.number ≡ k
   pub octets_are : octets_of parts k ≡ Some part.octets
 
 -- a packet carries no part of the name, or one of those up to k again but the first
 abbrev pub IsBetween : Reading → Name → (k : ℕ) → List ℕ → Type 0
 IsBetween r n k b =
-    (part_of n (carried r b) ≡ None)
-    ⊎ ((q : Piece) × (part_of n (carried r b) ≡ Some q) × (q.number ≢ 1) × (q.number ≤ k))
+    (part_of n (part_carried r b) ≡ None)
+    ⊎ ((q : Piece) × (part_of n (part_carried r b) ≡ Some q) × (q.number ≢ 1) × (q.number ≤ k))
 
 -- Parts 1 to k stand in these packets in their order, the last packet carries part k: between each
 -- of them and the next stands no part of the name but one of those before again; and up to part

@@ -10,7 +10,7 @@ use Rattle.lpt_carried.specs.declared.name.Name.{Name}
 use Rattle.lpt_carried.specs.declared.reading.Reading.{Reading}
 use Rattle.lpt_carried.specs.declared.skip.Skip.{Skip}
 use Rattle.lpt_layout_join.specs.Came.{last_of, size_of}
-use Rattle.lpt_carried.specs.Carried.{Named, carried, name_of, same_name}
+use Rattle.lpt_carried.specs.Carried.{Named, part_carried, name_of, same_name}
 
 -- a message is split into parts of p octets
 pub record IsSplit (p : ℕ) (m : List ℕ) : Type 0 where
@@ -27,7 +27,7 @@ pub record CarriesOne (r : Reading) (n : Name) (p : ℕ) (m b : List ℕ) : Type
   pub number : ℕ
   pub some : 1 ≤ number
   pub within : number ≤ part_count (length m) p
-  pub carries : carried r b ≡ Ok (part_named n p m number)
+  pub carries : part_carried r b ≡ Ok (part_named n p m number)
 
 -- a packet carries no part, or, where one transaction was asked for, one of another
 abbrev pub is_other : (asked : Option Name) → Result Named Skip → Bool
@@ -37,7 +37,7 @@ is_other (Some n) (Ok c) = not (same_name n (name_of c))
 
 -- each packet carries one of the message's parts, or none that matters
 abbrev pub OneOrOther : Reading → (asked : Option Name) → Name → ℕ → List ℕ → List ℕ → Type 0
-OneOrOther r asked n p m b = CarriesOne r n p m b ⊎ (is_other asked (carried r b) ≡ true)
+OneOrOther r asked n p m b = CarriesOne r n p m b ⊎ (is_other asked (part_carried r b) ≡ true)
 
 abbrev pub AreOneOrOther : Reading → (asked : Option Name) → Name → ℕ → List ℕ
     → List (List ℕ) → Type 0
@@ -46,7 +46,7 @@ AreOneOrOther r asked n p m bs = AllByRecursion (OneOrOther r asked n p m) bs
 -- part k is among packets
 abbrev pub IsAmong : Reading → Name → ℕ → List ℕ → ℕ → List (List ℕ) → Type 0
 IsAmong r n p m k [] = ⊥
-IsAmong r n p m k (b ∷ bs) = (carried r b ≡ Ok (part_named n p m k)) ⊎ IsAmong r n p m k bs
+IsAmong r n p m k (b ∷ bs) = (part_carried r b ≡ Ok (part_named n p m k)) ⊎ IsAmong r n p m k bs
 
 -- each part is
 abbrev pub EachIsAmong : Reading → Name → ℕ → List ℕ → List (List ℕ) → Type 0

@@ -22,8 +22,8 @@ with_next o n now = record {
 
 -- with a part of this number, up to which so many counts are missing: part 1 begins, the next one
 -- goes on, one of them again changes nothing, and another one ends it
-abbrev pub ordered : Order → (number now : ℕ) → Order
-ordered o n now =
+abbrev pub order_after : Order → (number now : ℕ) → Order
+order_after o n now =
     if n == 1 then record { count = 1; missing = now; few = true }
     else if nat_lt o.count n then (if n == o.count + 1 then with_next o n now else no_order)
     else o

@@ -26,7 +26,7 @@ use Rattle.lpt_layout_join.specs.declared.ending.JoinReport.{JoinReport}
 use Rattle.lpt_layout_join.specs.declared.ending.MisfitAs.{MisfitAs}
 use Rattle.lpt_layout_join.specs.declared.ending.MisfitAs.TheVariants.{NoPacket, OtherKind, Unsure}
 use Rattle.lpt_layout_join.specs.Came.{message_of}
-use Rattle.lpt_layout_join.specs.Gathered.{Gathered, gathered}
+use Rattle.lpt_layout_join.specs.Gathered.{Gathered, parts_gathered}
 use Rattle.lpt_layout_join.specs.Gatherings.{GivesEach, IsOnly}
 
 -- ---- what is fit
@@ -111,7 +111,7 @@ abbrev pub EndsOnly : Reading → (any : Bool) → List Piece → Gatherings →
     → (old new : Option (List ℕ)) → Type 0
 EndsOnly r any ps gs (Some end) old new =
     (n : Name) × (g : Gathering) × IsOnly gs n g
-    × Ends r any (gathered r n (packets_of ps)) end old new
+    × Ends r any (parts_gathered r n (packets_of ps)) end old new
 EndsOnly r any ps gs None old new =
     ((n : Name) (g : Gathering) → IsOnly gs n g → ⊥) × (new ≡ old)
 
@@ -119,7 +119,7 @@ EndsOnly r any ps gs None old new =
 abbrev pub EndsAs : Wanted → (any : Bool) → (name : Option Name) → List Piece → Gatherings
     → Option JoinEnd → (old new : Option (List ℕ)) → Type 0
 EndsAs w any (Some n) ps gs (Some end) old new =
-    Ends w.reading any (gathered w.reading n (packets_of ps)) end old new
+    Ends w.reading any (parts_gathered w.reading n (packets_of ps)) end old new
 EndsAs w any (Some n) ps gs None old new = ⊥
 EndsAs w any None ps gs end old new = EndsOnly w.reading any ps gs end old new
 
@@ -147,10 +147,10 @@ JoinsTo w any j before after old new =
 abbrev pub LeavesAs : Wanted → (any : Bool) → (name : Option Name) → List Piece
     → (old new : Option (List ℕ)) → Type 0
 LeavesAs w any (Some n) ps old new =
-    EndsPart w.reading any (gathered w.reading n (packets_of ps)) old new
+    EndsPart w.reading any (parts_gathered w.reading n (packets_of ps)) old new
 LeavesAs w any None ps old new =
     (gs : Gatherings) × GivesEach w.reading None ps gs × (n : Name) × (g : Gathering)
-    × IsOnly gs n g × EndsPart w.reading any (gathered w.reading n (packets_of ps)) old new
+    × IsOnly gs n g × EndsPart w.reading any (parts_gathered w.reading n (packets_of ps)) old new
 
 -- nothing was written; or a write failed so
 abbrev pub ChosenFails : Wanted → (any : Bool) → List Piece → StreamFault

@@ -21,12 +21,12 @@ pub struct Counts {
 
 impl Counts {
     ghost use Rattle.std.specs.Prelude.{◌≡◌, OnOk};
-    ghost use Rattle.lpt_layout_join.specs.Counts.{counted, nothing_counted};
-    ghost use Rattle.lpt_layout_join.specs.CountsInside.{shown};
+    ghost use Rattle.lpt_layout_join.specs.Counts.{packet_counted, nothing_counted};
+    ghost use Rattle.lpt_layout_join.specs.CountsInside.{counts_shown};
 
     /// Nothing came.
     pub fn new(alloc: Global) -> Counts
-        ensures { shown result ≡ nothing_counted }
+        ensures { counts_shown result ≡ nothing_counted }
     {
         Counts {
             count: 0,
@@ -37,7 +37,8 @@ impl Counts {
 
     /// Counts what is missing before the packet that comes next. The only error is out of memory.
     pub fn take(&mut self, reading: &Reading, octets: &[u8]) -> Result<(), AllocError>
-        ensures { OnOk result (shown self.new ≡ counted reading.now (shown self.old) octets.now) }
+        ensures { OnOk result
+            (counts_shown self.new ≡ packet_counted reading.now (counts_shown self.old) octets.now) }
     {
         match count_of(reading, octets) {
             None => Ok(()),
@@ -54,7 +55,7 @@ impl Counts {
 
     /// How many are missing up to the last packet that came.
     pub fn missing(&self) -> u64
-        ensures { result ≡ (shown self.now).missing }
+        ensures { result ≡ (counts_shown self.now).missing }
     {
         self.missing
     }

@@ -5,7 +5,7 @@ ghost use Rattle.lpt_packet.specs.Sizes.{longest_packet};
 ghost use Rattle.lpt_layout.specs.Parts.{piece};
 ghost use Rattle.lpt_carried.specs.declared.name.Name.{Name};
 ghost use Rattle.lpt_carried.specs.declared.reading.Reading.{Reading};
-ghost use Rattle.lpt_carried.specs.Carried.{carried, part_of};
+ghost use Rattle.lpt_carried.specs.Carried.{part_carried, part_of};
 ghost use Rattle.lpt_stream.specs.declared.piece_kind.PieceKind.TheVariants.{Whole};
 ghost use Rattle.lpt_stream.specs.Pieces.{Piece, octets_in, packets_of, up_to_limit};
 ghost use Rattle.lpt_layout_join.specs.Counts.{all_counted, nothing_counted};
@@ -62,7 +62,7 @@ impl Gathering {
         ensures { (r : Reading) (n : Name) (ps : List Piece) (b : List ℕ) → Gives r n ps self
             → missing ≡ (all_counted r nothing_counted (packets_of ps ++ b ∷ [])).missing
             → place ≡ up_to_limit (octets_in ps)
-            → part_of n (carried r b) ≡ Some (piece part.now)
+            → part_of n (part_carried r b) ≡ Some (piece part.now)
             → IfOk result (Gives r n (ps ++ record { kind = Whole; octets = b } ∷ [])) }
     {
         let Gathering {

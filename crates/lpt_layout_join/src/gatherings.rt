@@ -4,7 +4,7 @@ ghost use Rattle.std.specs.Prelude.{◌≡◌, ◌≤◌, ◌<◌, ◌+◌, ◌�
 ghost use Rattle.lpt_packet.specs.Sizes.{longest_packet};
 ghost use Rattle.lpt_carried.specs.declared.name.Name.{Name};
 ghost use Rattle.lpt_carried.specs.declared.reading.Reading.{Reading};
-ghost use Rattle.lpt_carried.specs.Carried.{carried, name_of, named, same_name};
+ghost use Rattle.lpt_carried.specs.Carried.{part_carried, name_of, part_named, same_name};
 ghost use Rattle.lpt_layout_join.specs.declared.gathering.Gathering.{Gathering};
 ghost use Rattle.lpt_layout_join.specs.Counts.{all_counted, nothing_counted};
 
@@ -56,10 +56,10 @@ impl Gatherings {
         requires within { part.now.part.number ≤ longest_packet }
         requires short { length part.now.part.octets.now ≤ longest_packet }
         ensures { (r : Reading) (w : Option Name) (ps : List Piece) (b : List ℕ)
-            → GivesEach r w ps self → is_wanted w (name_of (named part.now)) ≡ true
+            → GivesEach r w ps self → is_wanted w (name_of (part_named part.now)) ≡ true
             → missing ≡ (all_counted r nothing_counted (packets_of ps ++ b ∷ [])).missing
             → place ≡ up_to_limit (octets_in ps)
-            → carried r b ≡ Ok (named part.now)
+            → part_carried r b ≡ Ok (part_named part.now)
             → IfOk result (GivesEach r w (ps ++ record { kind = Whole; octets = b } ∷ [])) }
     {
         let name = part.name();

@@ -16,13 +16,13 @@ ghost use Rattle.lpt_stream.specs.declared.cut.Cut.TheVariants.{Sealed};
 ghost use Rattle.lpt_stream.specs.Pieces.{Piece};
 ghost use Rattle.lpt_join.specs.declared.transaction.Transaction.{Transaction};
 ghost use Rattle.lpt_join.specs.Contradictions as contradictions;
-ghost use Rattle.lpt_join.specs.Joins.{joined};
+ghost use Rattle.lpt_join.specs.Joins.{packets_joined};
 ghost use Rattle.lpt_join.specs.Laws as profile;
 ghost use Rattle.lpt_join.specs.Several as several;
 ghost use Rattle.lpt_join.specs.Wide.{wide};
 ghost use Rattle.lpt_layout_join.specs.Came.{message_of, octets_of};
-ghost use Rattle.lpt_carried.specs.Carried.{carried, cut, kind_to, same_name};
-ghost use Rattle.lpt_layout_join.specs.Gathered.{came, carry, ended, first_against, gathered};
+ghost use Rattle.lpt_carried.specs.Carried.{part_carried, cut, kind_to, same_name};
+ghost use Rattle.lpt_layout_join.specs.Gathered.{came, carry, has_ended, first_against, parts_gathered};
 ghost use Rattle.lpt_layout_join.specs.Own.{message_in, own_end, own_reading};
 ghost use Rattle.lpt_layout_join.specs.declared.ending.JoinEnd.TheVariants.{Written};
 ghost use Rattle.lpt_layout_join.specs.InOrder.{IsInOrder};
@@ -39,11 +39,12 @@ use lpt_reception::laws::whole_is_split;
 pub fn split_is_joined()
     ensures message { (r : Reading) (asked : Option Name) (n : Name) (p : ℕ) (m : List ℕ)
         (bs : List (List ℕ)) → IsSplit p m → IsAsked asked n → AreOneOrOther r asked n p m bs
-        → EachIsAmong r n p m bs → message_of (gathered r n bs).came.parts ≡ Some m }
+        → EachIsAmong r n p m bs → message_of (parts_gathered r n bs).came.parts ≡ Some m }
     ensures end { (r : Reading) (asked : Option Name) (n : Name) (p : ℕ) (m : List ℕ)
         (bs : List (List ℕ)) (any : Bool) → IsSplit p m → IsAsked asked n
         → AreOneOrOther r asked n p m bs → EachIsAmong r n p m bs
-        → end_of r any (gathered r n bs) ≡ end_whole m (unfit r any (gathered r n bs).sure m) }
+        → end_of r any (parts_gathered r n bs)
+        ≡ end_whole m (unfit r any (parts_gathered r n bs).sure m) }
     ensures alone { (r : Reading) (n k : Name) (p : ℕ) (m : List ℕ) (bs : List (List ℕ))
         → AreOneOrOther r None n p m bs → same_name n k ≡ false → carry r k bs ≡ false }
 {}
@@ -54,16 +55,16 @@ pub fn split_is_joined()
 pub fn written_is_in_order()
     ensures { (r : Reading) (n : Name) (bs : List (List ℕ)) (len : ℕ) (m : List ℕ)
         → r.layout.has_checksum ≡ false
-        → end_of r false (gathered r n bs) ≡ Written len
-        → message_of (gathered r n bs).came.parts ≡ Some m → IsInOrder r n bs m }
+        → end_of r false (parts_gathered r n bs) ≡ Written len
+        → message_of (parts_gathered r n bs).came.parts ≡ Some m → IsInOrder r n bs m }
 {}
 
 /// Of whatever packets: the octets that are joined of each part have the one length that is told,
 /// but for the last part's.
 pub fn parts_are_even()
     ensures { (r : Reading) (n : Name) (bs : List (List ℕ)) (k : ℕ) (x : List ℕ)
-        → octets_of (gathered r n bs).came.parts k ≡ Some x
-        → HasItsLength (gathered r n bs).came.parts k x }
+        → octets_of (parts_gathered r n bs).came.parts k ≡ Some x
+        → HasItsLength (parts_gathered r n bs).came.parts k x }
 {}
 
 /// The packet that is written of a part carries that part, whether the part size is known or not.
@@ -75,7 +76,7 @@ pub fn made_is_carried()
         → s.apid ≡ r.apid → s.service ≡ 13
         → s.subtype ≡ part_subtype r.direction (kind_at k (part_count (length m) p))
         → s.user ≡ n.user → s.body ≡ body_as r.parts (nth_part p n.id m k)
-        → carried r (octets_as r.layout (kind_to r.direction) s) ≡ Ok (part_named n p m k) }
+        → part_carried r (octets_as r.layout (kind_to r.direction) s) ≡ Ok (part_named n p m k) }
 {
     written_is_read();
 }
@@ -86,17 +87,17 @@ pub fn made_is_carried()
 pub fn the_own_joins()
     ensures cut { (t : Transaction) → cut (own_reading t) ≡ Sealed }
     ensures end { (t : Transaction) (any : Bool) (bs : List (List ℕ)) → AllByRecursion IsOctets bs
-        → end_of (own_reading t) any (gathered (own_reading t) (wide t.name) bs)
-        ≡ own_end t.direction any (joined t bs) }
+        → end_of (own_reading t) any (parts_gathered (own_reading t) (wide t.name) bs)
+        ≡ own_end t.direction any (packets_joined t bs) }
     ensures message { (t : Transaction) (bs : List (List ℕ)) → AllByRecursion IsOctets bs
-        → message_of (gathered (own_reading t) (wide t.name) bs).came.parts
-        ≡ message_in (joined t bs) }
+        → message_of (parts_gathered (own_reading t) (wide t.name) bs).came.parts
+        ≡ message_in (packets_joined t bs) }
     ensures numbers { (t : Transaction) (k : ℕ) (bs : List (List ℕ)) → AllByRecursion IsOctets bs
         → came (own_reading t) (wide t.name) k bs ≡ profile.came t k bs }
     ensures ended { (t : Transaction) (bs : List (List ℕ)) → AllByRecursion IsOctets bs
-        → ended (own_reading t) (wide t.name) bs ≡ profile.ended t bs }
+        → has_ended (own_reading t) (wide t.name) bs ≡ profile.has_ended t bs }
     ensures carry { (t : Transaction) (bs : List (List ℕ)) → AllByRecursion IsOctets bs
-        → carry (own_reading t) (wide t.name) bs ≡ several.carried t bs }
+        → carry (own_reading t) (wide t.name) bs ≡ several.is_carried t bs }
     ensures against { (t : Transaction) (pieces : List Piece)
         → AllByRecursion (λ (p : Piece). IsOctets p.octets) pieces
         → first_against (own_reading t) (wide t.name) pieces

@@ -1,7 +1,7 @@
 //! The order in which the parts of a name come.
 
 ghost use Rattle.std.specs.Prelude.{◌≡◌};
-ghost use Rattle.lpt_layout_join.specs.Orders.{are_few, is_in_order, no_order, ordered};
+ghost use Rattle.lpt_layout_join.specs.Orders.{are_few, is_in_order, no_order, order_after};
 
 use crate::LastPart;
 
@@ -31,7 +31,7 @@ impl Order {
 
     /// With a part of this number, up to which so many counts are missing.
     pub fn with(self, number: u32, missing: u64) -> Order
-        ensures { result ≡ ordered self number missing }
+        ensures { result ≡ order_after self number missing }
     {
         if number == 1 {
             return Order {

@@ -4,7 +4,7 @@ ghost use Rattle.std.specs.Prelude.{◌≡◌, ◌≤◌, ◌⊎◌, length, tru
 ghost use Rattle.lpt_packet.specs.Sizes.{longest_packet};
 ghost use Rattle.lpt_carried.specs.declared.name.Name.{Name};
 ghost use Rattle.lpt_text.specs.Streams.{ReadEnds};
-ghost use Rattle.lpt_carried.specs.Carried.{carried, cut, name_of, named, part_of};
+ghost use Rattle.lpt_carried.specs.Carried.{part_carried, cut, name_of, part_named, part_of};
 ghost use Rattle.lpt_stream.specs.declared.piece_kind.PieceKind.TheVariants.{Whole};
 ghost use Rattle.lpt_stream.specs.Pieces.{IsSealedBy};
 ghost use Rattle.lpt_skips.specs.Tallies.{skips_of};
@@ -149,13 +149,14 @@ impl Gatherer {
 // The part that a packet carries, where that is wanted.
 fn wanted_part<'a>(wanted: &Wanted, octets: &'a [u8]) -> Option<CarriedPart<'a>>
     requires { IsSealedBy (cut wanted.now.reading) Whole octets.now }
-    ensures carried { IfSome result (λ c. carried wanted.now.reading octets.now ≡ Ok (named c)) }
-    ensures wanted { IfSome result (λ c. is_wanted wanted.now.name (name_of (named c)) ≡ true) }
+    ensures carried { IfSome result
+        (λ c. part_carried wanted.now.reading octets.now ≡ Ok (part_named c)) }
+    ensures wanted { IfSome result (λ c. is_wanted wanted.now.name (name_of (part_named c)) ≡ true) }
     ensures number { IfSome result (λ c. 1 ≤ c.part.number) }
     ensures within { IfSome result (λ c. c.part.number ≤ longest_packet) }
     ensures short { IfSome result (λ c. length c.part.octets.now ≤ longest_packet) }
     ensures none { result ≡ None → (n : Name) → is_wanted wanted.now.name n ≡ true
-        → part_of n (carried wanted.now.reading octets.now) ≡ None }
+        → part_of n (part_carried wanted.now.reading octets.now) ≡ None }
 {
     let Ok(part) = carried_in(&wanted.reading, PieceKind::Whole, octets) else {
         return None;

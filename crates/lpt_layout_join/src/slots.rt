@@ -27,7 +27,7 @@ pub(crate) struct Slots {
 impl Slots {
     ghost use Rattle.std.specs.Prelude.{◌≡◌, ◌≢◌, ◌≤◌, ◌<◌, ◌-◌, ℕ, true, Some, None, length, max, IfOk, IfSome, OnOk, is_some};
     ghost use Rattle.std.specs.Option.{option_or};
-    ghost use Rattle.lpt_layout_join.specs.Came.{is_other, joined, none_other};
+    ghost use Rattle.lpt_layout_join.specs.Came.{is_other, octets_joined, none_other};
     ghost use Rattle.lpt_layout_join.specs.Slots.{IsSound, at};
 
     // None.
@@ -90,7 +90,7 @@ impl Slots {
 
     // The octets of parts 1 to `total`, where each came. The only error is out of memory.
     pub(crate) fn joined(&self, alloc: Global, total: usize) -> Result<Option<Octets>, AllocError>
-        ensures { IfOk result (λ m. m ≡ joined (λ n. at self.now (n - 1)) total) }
+        ensures { IfOk result (λ m. m ≡ octets_joined (λ n. at self.now (n - 1)) total) }
     {
         let mut octets = Vec::with_capacity(alloc, self.octets.len())?;
         for place in 0..total {

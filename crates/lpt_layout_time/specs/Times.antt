@@ -84,8 +84,8 @@ abbrev pub last_day : ℕ
 last_day = 2958463
 
 -- a moment up to that day
-abbrev pub known : (day second places fraction : ℕ) → Option Moment
-known day second places fraction =
+abbrev pub known_moment : (day second places fraction : ℕ) → Option Moment
+known_moment day second places fraction =
     if nat_lt last_day day then None
     else Some (record { day = day; second = second; places = places; fraction = fraction })
 
@@ -93,7 +93,7 @@ known day second places fraction =
 -- seconds. Its fraction has three digits for each octet of parts, and is rounded down.
 abbrev pub after_seconds : (epoch fine seconds parts : ℕ) → Option Moment
 after_seconds epoch fine seconds parts =
-    known (epoch + seconds / 86400) (seconds % 86400) (3 * fine)
+    known_moment (epoch + seconds / 86400) (seconds % 86400) (3 * fine)
     (parts * 1000 ^ fine / 256 ^ fine)
 
 -- The moment on a day so many days behind another, by the milliseconds of the day and the parts of
@@ -101,7 +101,7 @@ after_seconds epoch fine seconds parts =
 abbrev pub on_day : Submillisecond → (epoch days milliseconds parts : ℕ) → Option Moment
 on_day s epoch days milliseconds parts =
     if nat_lt milliseconds 86401000 && nat_lt parts (parts_in s)
-    then known (epoch + days) (milliseconds / 1000) (3 + places_of s)
+    then known_moment (epoch + days) (milliseconds / 1000) (3 + places_of s)
     (milliseconds % 1000 * parts_in s + parts) else None
 
 -- the moment that octets behind a preamble say, since a day

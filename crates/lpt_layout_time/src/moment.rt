@@ -2,7 +2,7 @@
 
 ghost use Rattle.std.specs.Prelude.{◌≡◌, ◌<◌, ◌≤◌, ◌*◌, ◌/◌, ◌^◌, true, length, IfSome};
 ghost use Rattle.lpt_layout_time.specs.Codes.{field_octets, lengths_fit, parts_in, places_of};
-ghost use Rattle.lpt_layout_time.specs.Times.{after_seconds, known, moment_by, moment_in, on_day, IsMoment};
+ghost use Rattle.lpt_layout_time.specs.Times.{after_seconds, known_moment, moment_by, moment_in, on_day, IsMoment};
 
 use crate::code::day_octets;
 use crate::number::number_of;
@@ -76,7 +76,7 @@ fn after_seconds(epoch: u32, fine: u8, seconds: u32, parts: u32) -> Option<Momen
     ensures value { result ≡ after_seconds epoch fine seconds parts }
     ensures fits { IfSome result IsMoment }
 {
-    known(
+    known_moment(
         u64::from(epoch) + u64::from(seconds / 86_400),
         seconds % 86_400,
         3 * fine,
@@ -115,7 +115,7 @@ fn on_day(
     if milliseconds >= LONGEST_DAY || parts >= whole {
         return None;
     }
-    known(
+    known_moment(
         u64::from(epoch) + u64::from(days),
         milliseconds / 1000,
         3 + places_of(submillisecond),
@@ -147,10 +147,10 @@ fn places_of(submillisecond: Submillisecond) -> u8
 }
 
 // A moment up to the year 9999.
-fn known(day: u64, second: u32, places: u8, fraction: u64) -> Option<Moment>
+fn known_moment(day: u64, second: u32, places: u8, fraction: u64) -> Option<Moment>
     requires second_fits { second ≤ 86_400 }
     requires places_fit { places ≤ 12 }
-    ensures value { result ≡ known day second places fraction }
+    ensures value { result ≡ known_moment day second places fraction }
     ensures fits { IfSome result IsMoment }
 {
     if day > LAST_DAY {

@@ -7,7 +7,7 @@ use Rattle.lpt_packet.proofs.BoolLemmas.{and_both, and_left, and_right, le_true,
 use Rattle.lpt_packet.proofs.NameLemmas.{same_name-refl, same_name-true}
 use Rattle.lpt_packet.proofs.Readings.{eq_true, not_lt, true_eq}
 use Rattle.lpt_packet.specs.Names.{Name, name_cmp, named_by}
-use Rattle.lpt_ledger.specs.declared.run.Run.{Run}
+use Rattle.lpt_ledger.specs.declared.run.NameRun.{NameRun}
 use Rattle.lpt_ledger.specs.Marks.{Shut, Marks}
 use Rattle.lpt_ledger.specs.Runs.{ascend, ascend_behind, closed_by, has_name, is_behind, is_next, lone, longer, names_in, names_of, runs_from, runs_of, runs_of_names, some_names, stands}
 use Rattle.lpt_ledger.proofs.RunsLemmas.{get-shut_names}
@@ -16,10 +16,10 @@ use Rattle.lpt_ledger.proofs.RisingLemmas.{IsBy, AllFrom, Rise, all_from, keys_a
 -- ---- the runs of names that rise ascend
 
 -- a run behind another in the words of numbers
-abbrev pub Behind : Run → Run → Type 0
+abbrev pub Behind : NameRun → NameRun → Type 0
 Behind r s = (r.source < s.source) ⊎ ((r.source ≡ s.source) × (r.last + 1 < s.first))
 
-behind_true : (r s : Run) → Behind r s → is_behind r s ≡ true
+behind_true : (r s : NameRun) → Behind r s → is_behind r s ≡ true
 behind_true r s h = elim h [
   | inl p ↦ or_left (nat_lt r.source s.source)
       ((r.source == s.source) && nat_lt (r.last + 1) s.first) (lt_true r.source s.source p)
@@ -33,7 +33,7 @@ one_of : (a b : Bool) → (a || b) ≡ true → (a ≡ true) ⊎ (b ≡ true)
 one_of true b h = inl refl
 one_of false b h = inr h
 
-pub behind_says : (r s : Run) → is_behind r s ≡ true → Behind r s
+pub behind_says : (r s : NameRun) → is_behind r s ≡ true → Behind r s
 behind_says r s h =
     elim (one_of (nat_lt r.source s.source)
     ((r.source == s.source) && nat_lt (r.last + 1) s.first) h) [
@@ -46,7 +46,7 @@ behind_says r s h =
     ]
 
 -- a name that stands behind a run and isn't the next one begins a run behind it
-begins_behind : (r : Run) (n : Name)
+begins_behind : (r : NameRun) (n : Name)
     → IsBy r.source (r.last + 1) n.source n.id
     → is_next r n ≡ false
     → Behind r (lone n)
@@ -66,7 +66,7 @@ begins_behind r n by not_next = elim by [
       absurd cc
 
 -- the names behind the next one of a run stand behind that run with it
-next_from : (r : Run) (n : Name) (ns : List Name)
+next_from : (r : NameRun) (n : Name) (ns : List Name)
     → is_next r n ≡ true
     → AllFrom n.source (n.id + 1) ns
     → AllFrom r.source (r.last + 1 + 1) ns
@@ -76,7 +76,7 @@ next_from r n ns e above =
     subst (λ (x : Name). AllFrom x.source (x.id + 1) ns) (sym is) above
 
 -- the runs that a run and these names make ascend, where it stands behind the one before it
-ascends : (ns : List Name) (p : Option Run) (r : Run)
+ascends : (ns : List Name) (p : Option NameRun) (r : NameRun)
     → ((k : ℕ) → stands p (record { source = r.source; first = r.first; last = k }) ≡ true)
     → r.first ≤ r.last
     → AllFrom r.source (r.last + 1) ns
@@ -116,7 +116,7 @@ runs_ascend m = rising_ascends (keys m) (keys_rise m)
 -- ---- runs that ascend are made again of their names
 
 -- names that follow a run make it longer
-taken : (n : ℕ) (r : Run) (rest : List Name)
+taken : (n : ℕ) (r : NameRun) (rest : List Name)
     → runs_from r (some_names n r.source (r.last + 1) ++ rest)
     ≡ runs_from (record r { last = r.last + n }) rest
 unfolding runs_from some_names
@@ -133,7 +133,7 @@ taken (suc n) r rest =
     ∙ ap (λ (k : ℕ). runs_from (record { source = r.source; first = r.first; last = k }) rest) same
 
 -- a run's names are its first one, and those that follow it
-names_split : (r : Run) → r.first ≤ r.last
+names_split : (r : NameRun) → r.first ≤ r.last
     → names_of r ≡ named_by r.source r.first ∷ some_names (r.last - r.first) r.source (r.first + 1)
 unfolding some_names
 names_split r some =
@@ -141,18 +141,18 @@ names_split r some =
     ap (λ (k : ℕ). some_names k r.source r.first) more
 
 -- so a run's names, and others behind them, make it and what those make of it
-again : (r : Run) (rest : List Name) → r.first ≤ r.last
+again : (r : NameRun) (rest : List Name) → r.first ≤ r.last
     → runs_of_names (names_of r ++ rest) ≡ runs_from r rest
 unfolding runs_of_names
 again r rest some =
-    let one : Run = lone (named_by r.source r.first) in
+    let one : NameRun = lone (named_by r.source r.first) in
     let last : r.first + (r.last - r.first) ≡ r.last = omega arith in
     ap (λ (ns : List Name). runs_of_names (ns ++ rest)) (names_split r some)
     ∙ taken (r.last - r.first) one rest
     ∙ ap (λ (k : ℕ). runs_from (record { source = r.source; first = r.first; last = k }) rest) last
 
 -- a run that stands behind another begins anew
-apart : (r s : Run) (rest : List Name)
+apart : (r s : NameRun) (rest : List Name)
     → Behind r s
     → s.first ≤ s.last
     → runs_from r (names_of s ++ rest) ≡ r ∷ runs_of_names (names_of s ++ rest)
@@ -179,36 +179,39 @@ apart r s rest behind some =
           ])
 
 -- the parts of what ascends
-named_first : (p : Option Run) (r : Run) (rs : List Run) → ascend_behind p (r ∷ rs) ≡ true
+named_first : (p : Option NameRun) (r : NameRun) (rs : List NameRun) → ascend_behind p (r ∷ rs)
+    ≡ true
     → r.first ≤ r.last
 unfolding ascend_behind
 named_first p r rs h =
     true_le r.first r.last (and_left (has_name r) (stands p r && ascend_behind (Some r) rs) h)
 
-behind_first : (r s : Run) (rs : List Run) → ascend_behind (Some r) (s ∷ rs) ≡ true → Behind r s
+behind_first : (r s : NameRun) (rs : List NameRun) → ascend_behind (Some r) (s ∷ rs) ≡ true
+    → Behind r s
 unfolding ascend_behind
 behind_first r s rs h =
     behind_says r s (and_left (is_behind r s) (ascend_behind (Some s) rs)
     (and_right (has_name s) (is_behind r s && ascend_behind (Some s) rs) h))
 
-ascend_rest : (p : Option Run) (r : Run) (rs : List Run) → ascend_behind p (r ∷ rs) ≡ true
+ascend_rest : (p : Option NameRun) (r : NameRun) (rs : List NameRun) → ascend_behind p (r ∷ rs)
+    ≡ true
     → ascend_behind (Some r) rs ≡ true
 unfolding ascend_behind
 ascend_rest p r rs h =
     and_right (stands p r) (ascend_behind (Some r) rs)
     (and_right (has_name r) (stands p r && ascend_behind (Some r) rs) h)
 
-made_again : (r : Run) (rs : List Run) → ascend_behind (Some r) rs ≡ true
+made_again : (r : NameRun) (rs : List NameRun) → ascend_behind (Some r) rs ≡ true
     → runs_from r (names_in rs) ≡ r ∷ rs
 unfolding runs_from names_in
 made_again r [] h = refl
 made_again r (s ∷ rs) h =
     let some : s.first ≤ s.last = named_first (Some r) s rs h in
     apart r s (names_in rs) (behind_first r s rs h) some
-    ∙ ap (λ (xs : List Run). r ∷ xs) (again s (names_in rs) some
+    ∙ ap (λ (xs : List NameRun). r ∷ xs) (again s (names_in rs) some
     ∙ made_again s rs (ascend_rest (Some r) s rs h))
 
-runs_again : (rs : List Run) → ascend rs ≡ true → runs_of_names (names_in rs) ≡ rs
+runs_again : (rs : List NameRun) → ascend rs ≡ true → runs_of_names (names_in rs) ≡ rs
 unfolding runs_of_names names_in
 runs_again [] h = refl
 runs_again (r ∷ rs) h = again r (names_in rs) (named_first None r rs h)
@@ -231,10 +234,10 @@ some_rise (suc n) s i rest above rise =
     (all_from s (i + 1 + n) s (i + suc n) rest (inr (refl, omega arith)) above) rise in
     ((inr (refl, omega arith), all_from s i s (i + 1) names (inr (refl, omega arith)) more.0), more)
 
-by_behind : (r s : Run) → Behind r s → IsBy r.source (r.last + 1) s.source s.first
+by_behind : (r s : NameRun) → Behind r s → IsBy r.source (r.last + 1) s.source s.first
 by_behind r s h = elim h [ inl p ↦ inl p | inr p ↦ inr (p.0, omega (arith, p.1)) ]
 
-run_rises : (r : Run) (rest : List Name)
+run_rises : (r : NameRun) (rest : List Name)
     → r.first ≤ r.last
     → AllFrom r.source (r.last + 1) rest
     → Rise rest
@@ -244,7 +247,7 @@ run_rises r rest some above rise =
     (all_from r.source (r.first + (r.last + 1 - r.first)) r.source (r.last + 1) rest
     (inr (refl, omega arith)) above) rise
 
-names_rise : (p : Option Run) (r : Run) (rs : List Run)
+names_rise : (p : Option NameRun) (r : NameRun) (rs : List NameRun)
     → ascend_behind p (r ∷ rs) ≡ true
     → AllFrom r.source r.first (names_in (r ∷ rs)) × Rise (names_in (r ∷ rs))
 unfolding names_in
@@ -257,7 +260,7 @@ names_rise p r (s ∷ rs) h =
     (all_from r.source (r.last + 1) s.source s.first (names_in (s ∷ rs))
     (by_behind r s (behind_first r s rs rest)) later.0) later.1
 
-all_rise : (rs : List Run) → ascend rs ≡ true → Rise (names_in rs)
+all_rise : (rs : List NameRun) → ascend rs ≡ true → Rise (names_in rs)
 unfolding names_in
 all_rise [] h = tt
 all_rise (r ∷ rs) h = (names_rise None r rs h).1
@@ -268,7 +271,7 @@ has_mark : (b : Bool) → is_some (cond b (Some Shut) None) ≡ b
 has_mark true = refl
 has_mark false = refl
 
-pub closed_keys : (rs : List Run) → ascend rs ≡ true → keys (closed_by rs) ≡ names_in rs
+pub closed_keys : (rs : List NameRun) → ascend rs ≡ true → keys (closed_by rs) ≡ names_in rs
 closed_keys rs h =
     keys_are (closed_by rs) (names_in rs) (all_rise rs h) (λ q.
     ap is_some (get-shut_names (names_in rs) empty q
@@ -276,5 +279,5 @@ closed_keys rs h =
     ∙ has_mark (list_any (eq_by_cmp name_cmp q) (names_in rs)))
 
 -- runs that ascend are those of the ledger that they close
-pub runs_of-closed_by : (rs : List Run) → ascend rs ≡ true → runs_of (closed_by rs) ≡ rs
+pub runs_of-closed_by : (rs : List NameRun) → ascend rs ≡ true → runs_of (closed_by rs) ≡ rs
 runs_of-closed_by rs h = ap runs_of_names (closed_keys rs h) ∙ runs_again rs h

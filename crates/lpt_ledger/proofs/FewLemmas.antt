@@ -2,22 +2,22 @@
 use Rattle.std.proofs.Common.{◌≡◌, refl, inl, inr, ℕ, suc, ◌+◌, ◌*◌, ◌<◌, ◌≤◌, ◌^◌, true, ◌&&◌, List, [], ◌∷◌, ◌++◌, length, Option, Some, None, arith}
 use Rattle.std.specs.List.{All}
 use Rattle.lpt_packet.proofs.BoolLemmas.{and_left, and_right, true_le}
-use Rattle.lpt_ledger.specs.declared.run.Run.{Run}
+use Rattle.lpt_ledger.specs.declared.run.NameRun.{NameRun}
 use Rattle.lpt_ledger.specs.Runs.{ascend, ascend_behind, has_name, stands, IsRun}
 use Rattle.lpt_ledger.proofs.AscendLemmas.{behind_says}
 
 -- how many names stand before the end of a run
-before : Option Run → ℕ
+before : Option NameRun → ℕ
 before None = 0
 before (Some r) = 65536 * r.source + r.last + 1
 
 -- the numbers of the run before have 16 bits
-Fits : Option Run → Type 0
+Fits : Option NameRun → Type 0
 Fits None = Unit {0}
 Fits (Some r) = IsRun r
 
 -- a run has a name more
-further : (p : Option Run) (r : Run)
+further : (p : Option NameRun) (r : NameRun)
     → Fits p
     → r.first ≤ r.last
     → stands p r ≡ true
@@ -29,13 +29,13 @@ further (Some p) r fits some behind = elim (behind_says p r behind) [
   | inr same ↦ omega (arith, same.0, same.1, some)
 ]
 
-all : (p : Option Run) → Fits p → before p ≤ 2 ^ 32
+all : (p : Option NameRun) → Fits p → before p ≤ 2 ^ 32
 unfolding before Fits
 all None fits = omega arith
 all (Some r) fits = omega (arith, fits.source_fits, fits.last_fits)
 
 -- so many stand behind it
-few_behind : (p : Option Run) (rs left : List Run)
+few_behind : (p : Option NameRun) (rs left : List NameRun)
     → Fits p
     → All IsRun rs
     → ascend_behind p (rs ++ left) ≡ true
@@ -56,7 +56,7 @@ few_behind p (r ∷ rs) left fits are rise =
     omega (arith, rest, further p r fits some behind)
 
 -- of runs that ascend the first are no more than there are names
-pub few_first : (rs left : List Run)
+pub few_first : (rs left : List NameRun)
     → All IsRun rs
     → ascend (rs ++ left) ≡ true
     → length rs ≤ 2 ^ 32

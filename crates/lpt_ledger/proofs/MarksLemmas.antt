@@ -13,7 +13,7 @@ use Rattle.lpt_ledger.specs.declared.state.State.{State}
 use Rattle.lpt_ledger.specs.declared.state.State.TheVariants.{Free, Open, Closed}
 use Rattle.lpt_ledger.specs.Marks.{Mark, Opened, Shut, Marks}
 use Rattle.lpt_ledger.specs.States.{state_of}
-use Rattle.lpt_ledger.specs.LedgerInside.{mark_of, marked, marks, marks_over, mark_at, mark_on, names_from, names_on, page_first, page_in, page_mark, with_state}
+use Rattle.lpt_ledger.specs.LedgerInside.{mark_of, name_marked, marks, marks_over, mark_at, mark_on, names_from, names_on, page_first, page_in, page_mark, with_state}
 
 -- ---- which names pages have
 
@@ -88,7 +88,7 @@ find-marks_over mark q (n ∷ ns) h =
         → q ≡ n
         → (o : Option Mark)
         → mark n ≡ o
-        → find name_cmp q (marked n o (marks_over ns mark)) ≡ mark q
+        → find name_cmp q (name_marked n o (marks_over ns mark)) ≡ mark q
     here later tied same None e = later (inr (ap mark same ∙ e))
     here later tied same (Some x) e =
         ap (λ b. cond b (Some x) (find name_cmp q (marks_over ns mark))) tied ∙ sym e
@@ -96,7 +96,8 @@ find-marks_over mark q (n ∷ ns) h =
 
     there : eq_by_cmp name_cmp q n ≡ false
         → (o : Option Mark)
-        → find name_cmp q (marked n o (marks_over ns mark)) ≡ find name_cmp q (marks_over ns mark)
+        → find name_cmp q (name_marked n o (marks_over ns mark))
+        ≡ find name_cmp q (marks_over ns mark)
     there tied None = refl
     there tied (Some x) = ap (λ b. cond b (Some x) (find name_cmp q (marks_over ns mark))) tied
 

@@ -7,7 +7,7 @@ use Rattle.std.specs.Ordering.{eq_by_cmp}
 use Rattle.std.proofs.lemmas.List.{length-map}
 use Rattle.lpt_packet.proofs.NameLemmas.{name_cmp_total, same_name-true}
 use Rattle.lpt_packet.specs.Names.{Name, name_cmp, named_by}
-use Rattle.lpt_ledger.specs.declared.run.Run.{Run}
+use Rattle.lpt_ledger.specs.declared.run.NameRun.{NameRun}
 use Rattle.lpt_ledger.specs.Marks.{Mark, Shut, Marks, shut_mark, all_closed}
 use Rattle.lpt_ledger.specs.Runs.{closed_by, is_next, lone, longer, names_in, names_of, runs_from, runs_of, runs_of_names, shut_names, some_names}
 use Rattle.lpt_ledger.specs.RunsInside.{runs_left}
@@ -26,7 +26,7 @@ ahead_is None all rest some none = ap (λ (ns : List Name). runs_of_names ns) (s
 ahead_is (Some n) all rest some none = ap (λ (ns : List Name). runs_of_names ns) (sym some)
 
 -- a name that isn't the next one begins another run
-pub run_ends : (r : Run) (n : Name) (ns all : List Name)
+pub run_ends : (r : NameRun) (n : Name) (ns all : List Name)
     → is_next r n ≡ false
     → all ≡ n ∷ ns
     → runs_from r all ≡ r ∷ runs_of_names (n ∷ ns)
@@ -36,7 +36,7 @@ run_ends r n ns all other is =
     ∙ ap (λ (b : Bool). if b then runs_from (longer r) ns else r ∷ runs_from (lone n) ns) other
 
 -- the next one lengthens it
-pub run_goes_on : (r : Run) (n : Name) (ns all : List Name)
+pub run_goes_on : (r : NameRun) (n : Name) (ns all : List Name)
     → is_next r n ≡ true
     → all ≡ n ∷ ns
     → runs_from r all ≡ runs_from (record r { last = n.id }) ns
@@ -49,7 +49,7 @@ run_goes_on r n ns all next is =
     ∙ ap (λ (k : ℕ). runs_from (record r { last = k }) ns) same
 
 -- it is the last one where no name is left
-pub run_is_last : (r : Run) (all : List Name) → all ≡ [] → runs_from r all ≡ r ∷ []
+pub run_is_last : (r : NameRun) (all : List Name) → all ≡ [] → runs_from r all ≡ r ∷ []
 unfolding runs_from
 run_is_last r all none = ap (λ (xs : List Name). runs_from r xs) none
 
@@ -77,7 +77,7 @@ names_of-lone n =
     let one : n.id + 1 - n.id ≡ 1 = omega arith in ap (λ (k : ℕ). some_names k n.source n.id) one
 
 -- a longer run has one name more
-names_of-longer : (r : Run) → r.first ≤ r.last + 1
+names_of-longer : (r : NameRun) → r.first ≤ r.last + 1
     → names_of (longer r) ≡ names_of r ++ named_by r.source (r.last + 1) ∷ []
 names_of-longer r h =
     let k : ℕ = r.last + 1 - r.first in
@@ -88,7 +88,7 @@ names_of-longer r h =
     ∙ ap (λ (j : ℕ). some_names k r.source r.first ++ named_by r.source j ∷ []) at
 
 -- runs have the names that they were made of
-names_in-runs_from : (ns : List Name) (r : Run) → r.first ≤ r.last + 1
+names_in-runs_from : (ns : List Name) (r : NameRun) → r.first ≤ r.last + 1
     → names_in (runs_from r ns) ≡ names_of r ++ ns
 unfolding names_in runs_from
 names_in-runs_from [] r h = refl
@@ -173,7 +173,7 @@ closed_by-runs_of m =
 
 -- ---- how many there are
 
-few_from : (ns : List Name) (r : Run) → length (runs_from r ns) ≤ suc (length ns)
+few_from : (ns : List Name) (r : NameRun) → length (runs_from r ns) ≤ suc (length ns)
 unfolding runs_from
 few_from [] r = omega arith
 few_from (n ∷ ns) r =

@@ -81,14 +81,14 @@ names_on [] = []
 names_on (e ∷ es) = names_from 64 0 e.0 (names_on es)
 
 -- marks with the one of a name, or none, before them
-abbrev pub marked : Name → Option Mark → List (Name × Mark) → List (Name × Mark)
-marked name None rest = rest
-marked name (Some mark) rest = (name, mark) ∷ rest
+abbrev pub name_marked : Name → Option Mark → List (Name × Mark) → List (Name × Mark)
+name_marked name None rest = rest
+name_marked name (Some mark) rest = (name, mark) ∷ rest
 
 -- the marks of these names
 abbrev pub marks_over : List Name → (Name → Option Mark) → List (Name × Mark)
 marks_over [] mark = []
-marks_over (n ∷ ns) mark = marked n (mark n) (marks_over ns mark)
+marks_over (n ∷ ns) mark = name_marked n (mark n) (marks_over ns mark)
 
 -- what pages are seen as
 unfoldable pub marks : List (Name × Page) → Marks

@@ -2,7 +2,7 @@
 use Rattle.std.specs.Prelude.{◌≡◌, ◌*◌, ◌/◌, ◌≤◌, ℕ, zero, suc, ◌+◌, ◌-◌, if◌then◌else◌, List, [], ◌∷◌, ◌++◌, Option, Some, None, is_some}
 use Rattle.lpt_packet.specs.Names.{Name, named_by}
 use Rattle.lpt_ledger.specs.declared.page.Page.{Page}
-use Rattle.lpt_ledger.specs.declared.run.Run.{Run}
+use Rattle.lpt_ledger.specs.declared.run.NameRun.{NameRun}
 use Rattle.lpt_ledger.specs.LedgerInside.{page_mark}
 use Rattle.lpt_ledger.specs.Runs.{runs_of_names}
 
@@ -39,6 +39,6 @@ pub record IsAtPlace (place : ℕ) (first : Name) (es : List (Name × Page)) : T
   pub behind : AllFirst es
 
 -- the name ahead, where one is, and those behind it, as runs
-abbrev pub runs_left : Option Name → List Name → List Run
+abbrev pub runs_left : Option Name → List Name → List NameRun
 runs_left None ns = []
 runs_left (Some n) ns = runs_of_names (n ∷ ns)

@@ -7,7 +7,7 @@ ghost use Rattle.lpt_ledger.specs.Marks.{Marks, all_closed, shut_mark};
 ghost use Rattle.lpt_ledger.specs.States.{state_at, closed_state};
 ghost use Rattle.lpt_ledger.specs.LeastFree.{least_free_in, IsLeastFree};
 ghost use Rattle.lpt_ledger.specs.Runs.{ascend, closed_by, runs_of};
-ghost use Rattle.lpt_ledger.specs.declared.run.Run.{Run};
+ghost use Rattle.lpt_ledger.specs.declared.run.NameRun.{NameRun};
 
 /// To close all is to close each open name and to change no other.
 pub fn closes_each()
@@ -31,6 +31,6 @@ pub fn has_one_least_free()
 pub fn runs_tell_names()
     ensures closed { (m : Marks) → closed_by (runs_of m) ≡ all_closed m }
     ensures ascend { (m : Marks) → IsTrue (ascend (runs_of m)) }
-    ensures only { (rs : List Run) → IsTrue (ascend rs) → runs_of (closed_by rs) ≡ rs }
+    ensures only { (rs : List NameRun) → IsTrue (ascend rs) → runs_of (closed_by rs) ≡ rs }
     ensures few { (m : Marks) → length (runs_of m) ≤ map.len m }
 {}

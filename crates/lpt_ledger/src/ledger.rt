@@ -156,7 +156,7 @@ impl Ledger {
         ensures { self.new ≡ all_closed self.old }
     {
         self.pages.retain(|_, page| {
-            *page = page.closed();
+            *page = page.all_closed();
             true
         });
     }

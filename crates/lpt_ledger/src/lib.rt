@@ -20,6 +20,6 @@ mod state;
 
 pub use fault::LedgerFault;
 pub use ledger::Ledger;
-pub use run::Run;
+pub use run::NameRun;
 pub use runs::Runs;
 pub use state::State;

@@ -71,7 +71,7 @@ impl Page {
     }
 
     /// The page with each open name closed.
-    pub(crate) fn closed(self) -> Page
+    pub(crate) fn all_closed(self) -> Page
         ensures { result ≡ closed_page self }
     {
         Page {

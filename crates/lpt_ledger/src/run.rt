@@ -2,7 +2,7 @@
 
 /// The names of one source from an identifier to another, both among them.
 #[derive(Clone, Copy, Debug, PartialEq, Eq)]
-pub struct Run {
+pub struct NameRun {
     /// The source of the names.
     pub source: u16,
     /// The least identifier.

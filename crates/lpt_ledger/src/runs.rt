@@ -6,7 +6,7 @@ ghost use Rattle.std.specs.List.{All};
 ghost use Rattle.lpt_ledger.specs.Runs.{IsRun, is_next, lone, names_of, runs_of, shut_names, some_names};
 
 use crate::names::Names;
-use crate::{Ledger, Run, State};
+use crate::{Ledger, NameRun, State};
 use lpt_packet::Name;
 use std::alloc::AllocError;
 use std::marker::Model;
@@ -22,7 +22,7 @@ pub struct Runs<'a> {
 
 impl<'a> Model for Runs<'a> {
     ghost use Rattle.std.specs.Prelude.{List};
-    ghost use Rattle.lpt_ledger.specs.declared.run.Run.{Run as Ran};
+    ghost use Rattle.lpt_ledger.specs.declared.run.NameRun.{NameRun as Ran};
     ghost use Rattle.lpt_ledger.specs.RunsInside.{runs_left};
 
     ghost Value = { List Ran };
@@ -31,20 +31,20 @@ impl<'a> Model for Runs<'a> {
 }
 
 impl<'a> Iterator for Runs<'a> {
-    type Item = Run;
+    type Item = NameRun;
 
     ghost next_gives = { YieldsFirst (λ s. s) };
 
     ghost remaining = { item_count (λ s. s) };
 
-    fn next(&mut self) -> Option<Run> {
+    fn next(&mut self) -> Option<NameRun> {
         self.next_run()
     }
 }
 
 impl<'a> Runs<'a> {
     // The next run, where one is left: the next name, and those that follow it.
-    fn next_run(&mut self) -> Option<Run>
+    fn next_run(&mut self) -> Option<NameRun>
         ensures some { IfSome result (λ r. self.old ≡ r ∷ self.new) }
         ensures none { IfNone result (self.old ≡ []) }
         ensures end { IfNone result (self.new ≡ []) }
@@ -87,7 +87,7 @@ impl Ledger {
 
     /// Closes each name of a run, whatever it was. The only error is out of memory, and then the
     /// first of its names are closed, maybe none.
-    pub fn shut_run(&mut self, run: Run) -> Result<(), AllocError>
+    pub fn shut_run(&mut self, run: NameRun) -> Result<(), AllocError>
         ensures ok { OnOk result (self.new ≡ shut_names self.old (names_of run)) }
         ensures err { OnErr result ((k : ℕ) × (self.new
             ≡ shut_names self.old (some_names k run.source run.first))) }
@@ -104,10 +104,10 @@ impl Ledger {
 }
 
 // The run of one name.
-fn lone(name: Name) -> Run
+fn lone(name: Name) -> NameRun
     ensures { result ≡ lone name }
 {
-    Run {
+    NameRun {
         source: name.source,
         first: name.id,
         last: name.id,
@@ -115,7 +115,7 @@ fn lone(name: Name) -> Run
 }
 
 // Whether a name is the next one behind a run.
-fn is_next(run: Run, name: Name) -> bool
+fn is_next(run: NameRun, name: Name) -> bool
     ensures { result ≡ is_next run name }
 {
     run.source == name.source && u32::from(run.last) + 1 == u32::from(name.id)

@@ -11,7 +11,7 @@ use Rattle.lpt_packet.specs.Names.{Name, same_name}
 use Rattle.lpt_packet.specs.declared.direction.Direction.{Direction}
 use Rattle.lpt_events.specs.Lanes.{same_direction}
 use Rattle.lpt_link.specs.Links.{LinkData, is_of, any_held}
-use Rattle.lpt_link.specs.Counts.{Counts, counts_in, found_in, one_of, count_of, HasPlace, IsOneMore}
+use Rattle.lpt_link.specs.Counts.{LinkCounts, counts_in, found_in, one_of, count_of, HasPlace, IsOneMore}
 use Rattle.lpt_link.specs.LinksInside.{held_of, IsIndex}
 use Rattle.lpt_link.proofs.CountLemmas.{IsMoved}
 
@@ -43,7 +43,7 @@ held_few d direction name = count_by-le-length (λ p. p.held && is_of direction 
 -- ---- the index
 
 -- numbers that are an index are one again, where both are moved
-pub index_more : (goes : Direction) (tag : Option Name) (old new : Counts) (d after : LinkData)
+pub index_more : (goes : Direction) (tag : Option Name) (old new : LinkCounts) (d after : LinkData)
     → IsIndex old d
     → IsOneMore goes tag old new
     → IsMoved goes tag d after
@@ -56,7 +56,7 @@ index_more goes tag old new d after index more moved direction name =
 equal_rest : (a b c d e : ℕ) → a ≡ b + e → a ≡ c → c ≡ d + e → b ≡ d
 equal_rest a b c d e p q r = omega arith
 
-pub index_less : (goes : Direction) (tag : Option Name) (old new : Counts) (d after : LinkData)
+pub index_less : (goes : Direction) (tag : Option Name) (old new : LinkCounts) (d after : LinkData)
     → IsIndex old d
     → IsOneMore goes tag new old
     → IsMoved goes tag after d
@@ -68,7 +68,7 @@ index_less goes tag old new d after index more moved direction name =
     (more direction name) (index direction name) (moved direction name)
 
 -- a number that there is, less what it is moved by
-pub index_room : (counts : Counts) (d after : LinkData)
+pub index_room : (counts : LinkCounts) (d after : LinkData)
     (goes : Direction) (tag : Option Name) (name : Name)
     → IsIndex counts d
     → IsMoved goes tag after d
@@ -87,7 +87,7 @@ placed None h = absurd (omega (arith, h))
 placed (Some n) h = refl
 
 -- a transaction of which there is one has a place
-pub index_place : (counts : Counts) (d after : LinkData) (goes : Direction) (tag : Option Name)
+pub index_place : (counts : LinkCounts) (d after : LinkData) (goes : Direction) (tag : Option Name)
     → IsIndex counts d
     → IsMoved goes tag after d
     → IfSome tag (HasPlace counts goes)

@@ -30,35 +30,35 @@ IsOneMoreAt name old new =
 -- ---- both
 
 -- the names that have a place in each direction, with their numbers
-pub record Counts : Type 0 where
+pub record LinkCounts : Type 0 where
   pub up : List (Name × ℕ)
   pub down : List (Name × ℕ)
 
 -- no name has a place
-abbrev pub no_counts : Counts
+abbrev pub no_counts : LinkCounts
 no_counts = record { up = []; down = [] }
 
 -- those of a direction
-abbrev pub counts_in : Counts → Direction → List (Name × ℕ)
+abbrev pub counts_in : LinkCounts → Direction → List (Name × ℕ)
 counts_in c Up = c.up
 counts_in c Down = c.down
 
 -- the number of a transaction
-abbrev pub count_of : Counts → Direction → Name → ℕ
+abbrev pub count_of : LinkCounts → Direction → Name → ℕ
 count_of c direction name = number_in (counts_in c direction) name
 
 -- the transaction has a place
-abbrev pub HasPlace : Counts → Direction → Name → Type 0
+abbrev pub HasPlace : LinkCounts → Direction → Name → Type 0
 HasPlace c direction name = IsPlaced (counts_in c direction) name
 
 -- each transaction that had a place has one
-abbrev pub KeepsPlaces : Counts → Counts → Type 0
+abbrev pub KeepsPlaces : LinkCounts → LinkCounts → Type 0
 KeepsPlaces old new =
     (direction : Direction) (name : Name) → HasPlace old direction name
     → HasPlace new direction name
 
 -- the numbers are the same
-abbrev pub SameCounts : Counts → Counts → Type 0
+abbrev pub SameCounts : LinkCounts → LinkCounts → Type 0
 SameCounts old new =
     (direction : Direction) (name : Name) → count_of new direction name
     ≡ count_of old direction name
@@ -69,7 +69,7 @@ one_of goes tag direction name =
     cond (same_direction goes direction && option_eq same_name tag (Some name)) 1 0
 
 -- the number of the transaction with this tag is one more, and the others are the same
-abbrev pub IsOneMore : Direction → Option Name → Counts → Counts → Type 0
+abbrev pub IsOneMore : Direction → Option Name → LinkCounts → LinkCounts → Type 0
 IsOneMore goes tag old new =
     (direction : Direction) (name : Name)
     → count_of new direction name ≡ count_of old direction name + one_of goes tag direction name

@@ -9,7 +9,7 @@ use Rattle.lpt_link.specs.declared.fault.LinkFault.TheVariants.{NotHeld, HandFul
 use Rattle.lpt_link.specs.declared.hands.Hands.{Hands}
 use Rattle.lpt_events.specs.declared.lane.Lane.{Lane}
 use Rattle.lpt_link.specs.declared.packet.LinkPacket.{LinkPacket}
-use Rattle.lpt_link.specs.Counts.{Counts}
+use Rattle.lpt_link.specs.Counts.{LinkCounts}
 use Rattle.lpt_link.specs.Hands.{no_hands, hand_in, with_hand}
 use Rattle.lpt_events.specs.Lanes.{lanes, lane_direction, same_direction}
 
@@ -24,7 +24,7 @@ pub record LinkData : Type 0 where
 pub record LinkView : Type 0 where
   pub at : LinkData
   pub spare : ℕ
-  pub places : Counts
+  pub places : LinkCounts
 
 -- nothing was put, and nothing is in a hand
 abbrev pub empty_link : LinkData

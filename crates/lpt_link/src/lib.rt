@@ -18,3 +18,4 @@ mod tags;
 pub use fault::LinkFault;
 pub use link::{Link, PutError};
 pub use lpt_events::Lane;
+pub use packet::LinkPacket;

@@ -2,9 +2,9 @@
 
 use lpt_packet::{Direction, Name, Octets};
 
-/// A packet that was put on the link.
+/// A packet that was put on the link, as the definitions see it.
 #[derive(Drop)]
-pub(crate) struct LinkPacket {
+pub struct LinkPacket {
     /// Which way it goes.
     pub(crate) direction: Direction,
     /// The name of the transaction that it is a part of; `None` if it is no part.

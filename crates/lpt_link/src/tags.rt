@@ -18,9 +18,9 @@ pub(crate) struct Tags {
 }
 
 impl Model for Tags {
-    ghost use Rattle.lpt_link.specs.Counts.{Counts};
+    ghost use Rattle.lpt_link.specs.Counts.{LinkCounts};
 
-    ghost Value = { Counts };
+    ghost Value = { LinkCounts };
 
     ghost view = { λ t. record { up = t.up.entries; down = t.down.entries } };
 }

@@ -1,7 +1,7 @@
 -- The text of items.
 use Rattle.std.proofs.Common.{◌≡◌, ◌∙◌, ap, sym, refl, ℕ, List, [], ◌∷◌, ◌++◌, append-nil, append_assoc}
 use Rattle.lpt_list.specs.declared.form.Form.{Form}
-use Rattle.lpt_list.specs.Items.{Item, item_text, items_text, named}
+use Rattle.lpt_list.specs.Items.{Item, item_text, items_text, json_name}
 use Rattle.lpt_list.specs.Lists.{closing, line_of, opening}
 
 -- items behind others are written behind them
@@ -31,5 +31,5 @@ line_parts form place xs ys =
 
 -- a name in JSON stands before what is named
 pub name_before : (name more : List ℕ)
-    → 44 ∷ 34 ∷ (name ++ (34 ∷ 58 ∷ more)) ≡ named name ++ more
+    → 44 ∷ 34 ∷ (name ++ (34 ∷ 58 ∷ more)) ≡ json_name name ++ more
 name_before name more = ap (λ l. 44 ∷ 34 ∷ l) (sym (append_assoc name (34 ∷ 58 ∷ []) more))

@@ -10,7 +10,7 @@ use Rattle.lpt_packet.specs.Packets.{Fields, Sight, IdlePacket, APacket, kind_of
 use Rattle.lpt_packet.proofs.OctetLists.{IsOctets-drop}
 use Rattle.lpt_packet.proofs.Readings.{tests_passed}
 use Rattle.lpt_pus.specs.Commands.{command_at, is_tc, tc_verdict}
-use Rattle.lpt_pus.specs.Messages.{tested}
+use Rattle.lpt_pus.specs.Messages.{headers_tested}
 use Rattle.lpt_pus.specs.Numbers.{long_at}
 use Rattle.lpt_pus.specs.Telemetry.{is_tm, telemetry_at, tm_verdict}
 use Rattle.lpt_part.specs.declared.kind.Kind.{Kind}
@@ -23,10 +23,10 @@ use Rattle.lpt_layout.specs.Packets.{verdict_as}
 use Rattle.lpt_layout.specs.Parts.{part_verdict_as}
 use Rattle.lpt_layout.proofs.NumberLemmas.{length-be, number_at-be, number_at-fits}
 use Rattle.lpt_carried.specs.declared.layouts.Tailored.{Tailored}
-use Rattle.lpt_carried.specs.Layouts.{own_layouts_of, tailored}
+use Rattle.lpt_carried.specs.Layouts.{own_layouts_of, tailored_in}
 use Rattle.lpt_carried.proofs.OwnLemmas.{field-octets}
 use Rattle.lpt_list.specs.Items.{Item, part_items, primary_items, unread_items}
-use Rattle.lpt_list.specs.Own.{field_said, part_said, tc_items, tc_said, tm_items, tm_said, verdict_said, said}
+use Rattle.lpt_list.specs.Own.{field_said, part_said, tc_items, tc_said, tm_items, tm_said, verdict_said, octets_said}
 use Rattle.lpt_list.specs.Said.{by_layout, carried_as, direction_of, field_as, head_items, number_items, part_as, plain_items, said_as, short_number, sight_as}
 
 -- four octets as a number
@@ -47,7 +47,7 @@ short-be n h =
 
 -- what packets of a type are laid out by
 abbrev own : ℕ → PacketKind → Tailored
-own p kind = tailored (direction_of kind) (own_layouts_of p)
+own p kind = tailored_in (direction_of kind) (own_layouts_of p)
 
 module _ (p : ℕ) (reads : (kind : Kind) (b : List ℕ) → IsOctets b
     → part_verdict_as own_parts kind b p ≡ part_verdict kind b p) where
@@ -68,8 +68,8 @@ module _ (p : ℕ) (reads : (kind : Kind) (b : List ℕ) → IsOctets b
       go (is_tm f.kind) (nat_le 11 (length f.octets)) (slice_index f.octets 0 / 16 == 2)
     where
       go : (a b c : Bool)
-          → field_as (own p Tm) Tm (put_as of_telemetry (tested a b c (telemetry_at f)))
-          ≡ tm_said p (tested a b c (telemetry_at f))
+          → field_as (own p Tm) Tm (put_as of_telemetry (headers_tested a b c (telemetry_at f)))
+          ≡ tm_said p (headers_tested a b c (telemetry_at f))
       go true true true =
           let s = of_telemetry (telemetry_at f) in
           let rest = carried_as (own p Tm) Tm s in
@@ -91,8 +91,8 @@ module _ (p : ℕ) (reads : (kind : Kind) (b : List ℕ) → IsOctets b
       go (is_tc f.kind) (nat_le 5 (length f.octets)) (slice_index f.octets 0 / 16 == 2)
     where
       go : (a b c : Bool)
-          → field_as (own p Tc) Tc (put_as of_command (tested a b c (command_at f)))
-          ≡ tc_said p (tested a b c (command_at f))
+          → field_as (own p Tc) Tc (put_as of_command (headers_tested a b c (command_at f)))
+          ≡ tc_said p (headers_tested a b c (command_at f))
       go true true true =
           let s = of_command (command_at f) in
           ap (λ l. tc_items (command_at f) ++ l)
@@ -129,7 +129,8 @@ module _ (p : ℕ) (reads : (kind : Kind) (b : List ℕ) → IsOctets b
         ap (λ l. primary_items f ++ l) (field-own k f is.0 is.1)
 
     module _ (octets : IsOctets b) (packets : verdict_as true b ≡ verdict b) where
-      by-own : (k : PacketKind) → kind_of (word_at b 0) ≡ k → by_layout (own p k) b ≡ said p b
+      by-own : (k : PacketKind) → kind_of (word_at b 0) ≡ k → by_layout (own p k) b
+          ≡ octets_said p b
       by-own Tm is =
           ap (sight_as (own p Tm) b) packets
           ∙ sight-own Tm (verdict b) (λ f e. (
@@ -143,5 +144,5 @@ module _ (p : ℕ) (reads : (kind : Kind) (b : List ℕ) → IsOctets b
             sym (ap (λ (g : Fields). g.kind) (tests_passed b f e).same) ∙ is,
           ))
 
-      pub said-own : said_as (own_layouts_of p) b ≡ said p b
+      pub said-own : said_as (own_layouts_of p) b ≡ octets_said p b
       said-own = by-own (kind_of (word_at b 0)) refl

@@ -33,21 +33,21 @@ pub data Item : Type 0 where
   Alone : (name value : List ℕ) → Item
 
 -- a name in JSON, behind a comma
-abbrev pub named : List ℕ → List ℕ
-named name = 44 ∷ 34 ∷ (name ++ (34 ∷ 58 ∷ []))
+abbrev pub json_name : List ℕ → List ℕ
+json_name name = 44 ∷ 34 ∷ (name ++ (34 ∷ 58 ∷ []))
 
 -- a word in quotation marks
-abbrev pub quoted : List ℕ → List ℕ
-quoted value = 34 ∷ (value ++ (34 ∷ []))
+abbrev pub in_quotes : List ℕ → List ℕ
+in_quotes value = 34 ∷ (value ++ (34 ∷ []))
 
 -- an item behind others
 abbrev pub item_text : Form → Item → List ℕ
 item_text Text (Number word name n) = 32 ∷ (word ++ (32 ∷ decimal n))
 item_text Text (Word word name value) = 32 ∷ (word ++ (32 ∷ value))
 item_text Text (Alone name value) = 32 ∷ value
-item_text Json (Number word name n) = named name ++ decimal n
-item_text Json (Word word name value) = named name ++ quoted value
-item_text Json (Alone name value) = named name ++ quoted value
+item_text Json (Number word name n) = json_name name ++ decimal n
+item_text Json (Word word name value) = json_name name ++ in_quotes value
+item_text Json (Alone name value) = json_name name ++ in_quotes value
 
 -- items one behind the other
 abbrev pub items_text : Form → List Item → List ℕ
@@ -128,8 +128,8 @@ abbrev pub report_said : ℕ → List ℕ → List Item
 report_said subtype body = option_map_or report_items (report_in subtype body) []
 
 -- what telemetry carries that is no part, where that is a report
-abbrev pub reported : (service subtype : ℕ) → List ℕ → List Item
-reported service subtype body =
+abbrev pub telemetry_items : (service subtype : ℕ) → List ℕ → List Item
+telemetry_items service subtype body =
     if service == 1 then report_said subtype body
     else if (service == 13) && (subtype == 16) then abort_said body
     else areas_said (areas_in Down service subtype body)

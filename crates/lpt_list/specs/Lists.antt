@@ -84,18 +84,18 @@ tally_with Stray t = record t { stray = up_to_limit (t.stray + 1) }
 
 -- what octets of this verdict are that are as many as a header says: a packet, but where a checksum
 -- is wrong
-abbrev pub judged : Result Sight PacketFault → PieceKind
-judged (Ok s) = APacket
-judged (Err Short) = APacket
-judged (Err Version) = APacket
-judged (Err Length) = APacket
-judged (Err Segmented) = APacket
-judged (Err NoSecondary) = APacket
-judged (Err Checksum) = Damaged
+abbrev pub verdict_kind : Result Sight PacketFault → PieceKind
+verdict_kind (Ok s) = APacket
+verdict_kind (Err Short) = APacket
+verdict_kind (Err Version) = APacket
+verdict_kind (Err Length) = APacket
+verdict_kind (Err Segmented) = APacket
+verdict_kind (Err NoSecondary) = APacket
+verdict_kind (Err Checksum) = Damaged
 
 -- what a piece of this kind is, where its octets are of this verdict
 abbrev pub kind_judged : PieceKind → Result Sight PacketFault → PieceKind
-kind_judged APacket v = judged v
+kind_judged APacket v = verdict_kind v
 kind_judged Damaged v = Damaged
 kind_judged Stray v = Stray
 

@@ -14,7 +14,7 @@ use Rattle.lpt_part.specs.declared.kind.Kind.{Kind}
 use Rattle.lpt_part.specs.Parts.{part_in}
 use Rattle.lpt_events.specs.Arrivals.{carried_kind}
 use Rattle.lpt_areas.specs.Areas.{areas_in}
-use Rattle.lpt_list.specs.Items.{Item, Number, areas_said, fault_items, idle_items, part_items, primary_items, refused_items, reported, unread_items}
+use Rattle.lpt_list.specs.Items.{Item, Number, areas_said, fault_items, idle_items, part_items, primary_items, refused_items, telemetry_items, unread_items}
 
 -- the secondary header of a telecommand
 abbrev pub tc_items : Command → List Item
@@ -50,7 +50,7 @@ tc_carried p c =
 abbrev pub tm_carried : ℕ → Telemetry → List Item
 tm_carried p t =
     option_map_or (part_said p t.body) (carried_kind Down t.service t.subtype)
-    (reported t.service t.subtype t.body)
+    (telemetry_items t.service t.subtype t.body)
 
 -- ---- octets
 
@@ -81,5 +81,5 @@ verdict_said p b (Ok (APacket f)) = packet_said p f
 verdict_said p b (Err e) = refused_items b e
 
 -- octets, for parts of p octets
-abbrev pub said : (p : ℕ) → List ℕ → List Item
-said p b = verdict_said p b (verdict b)
+abbrev pub octets_said : (p : ℕ) → List ℕ → List Item
+octets_said p b = verdict_said p b (verdict b)

@@ -26,8 +26,8 @@ use Rattle.lpt_layout_time.specs.declared.code.TimeCode.{TimeCode}
 use Rattle.lpt_layout_time.specs.Times.{time_text}
 use Rattle.lpt_carried.specs.declared.layouts.Layouts.{Layouts}
 use Rattle.lpt_carried.specs.declared.layouts.Tailored.{Tailored}
-use Rattle.lpt_carried.specs.Layouts.{tailored}
-use Rattle.lpt_list.specs.Items.{Item, Number, Word as AWord, areas_said, fault_items, idle_items, part_items, primary_items, refused_items, reported, unread_items}
+use Rattle.lpt_carried.specs.Layouts.{tailored_in}
+use Rattle.lpt_list.specs.Items.{Item, Number, Word as AWord, areas_said, fault_items, idle_items, part_items, primary_items, refused_items, telemetry_items, unread_items}
 
 -- the direction in which packets of a type go
 abbrev pub direction_of : PacketKind → Direction
@@ -36,7 +36,7 @@ direction_of Tm = Down
 
 -- what octets of a packet type are laid out by: the type is a bit of the primary header
 abbrev pub layout_in : Layouts → List ℕ → Tailored
-layout_in l b = tailored (direction_of (kind_of (word_at b 0))) l
+layout_in l b = tailored_in (direction_of (kind_of (word_at b 0))) l
 
 -- ---- the secondary header
 
@@ -137,7 +137,7 @@ part_as t b kind = option_map_or part_items (part_at t kind b) unread_items
 -- a request that names areas, or a report
 abbrev pub other_as : PacketKind → Said → List Item
 other_as Tc s = areas_said (areas_in Up s.service s.subtype s.body)
-other_as Tm s = reported s.service s.subtype s.body
+other_as Tm s = telemetry_items s.service s.subtype s.body
 
 -- what a message carries
 abbrev pub carried_as : Tailored → PacketKind → Said → List Item

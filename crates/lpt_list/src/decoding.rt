@@ -44,7 +44,7 @@ fn print_decoding(alloc: Global, layouts: &Layouts, octets: &[u8]) -> Result<Str
     requires { SizesFit layouts.now }
     ensures { IfOk result (λ t. string_bytes t ≡ decoding_as layouts.now octets.now) }
 {
-    let tailored = layouts.tailored(direction_of(kind_in(octets)));
+    let tailored = layouts.tailored_in(direction_of(kind_in(octets)));
     let seen = read_packet_as(&tailored.packets, octets);
     let mut text = String::from_str(alloc, "packet")?;
     add_said(alloc, &mut text, Form::Text, layouts, octets, &seen)?;

@@ -3,7 +3,7 @@
 ghost use Rattle.std.specs.Prelude.{◌≡◌, ◌++◌, [], IfOk, OnOk, Some};
 ghost use Rattle.std.specs.String.{string_bytes};
 ghost use Rattle.lpt_packet.specs.Packets.{fields_of};
-ghost use Rattle.lpt_layout.specs.Messages.{said};
+ghost use Rattle.lpt_layout.specs.Messages.{message_said};
 ghost use Rattle.lpt_layout_time.specs.Times.{time_text};
 ghost use Rattle.lpt_list.specs.Items.{Number, Word, item_text, items_text, primary_items, type_text};
 ghost use Rattle.lpt_list.specs.Said.{date_items, head_items, message_items, number_items, octet_items, octets_items, plain_items, short_number, time_items, user_items, width_items};
@@ -65,7 +65,7 @@ pub(crate) fn add_message(
     message: &Message<'_>,
 ) -> Result<(), AllocError>
     ensures { OnOk result (string_bytes text.new ≡ string_bytes text.old
-        ++ items_text form (message_items tailored.now kind (said message.now))) }
+        ++ items_text form (message_items tailored.now kind (message_said message.now))) }
 {
     add_front(text, form, kind, message)?;
     add_numbers(text, form, &tailored.packets, kind, message)?;
@@ -82,7 +82,7 @@ fn add_numbers(
     message: &Message<'_>,
 ) -> Result<(), AllocError>
     ensures { OnOk result (string_bytes text.new ≡ string_bytes text.old
-        ++ items_text form (number_items layout.now kind (said message.now))) }
+        ++ items_text form (number_items layout.now kind (message_said message.now))) }
 {
     let (word, name) = ("counter", "message_type_counter");
     add_width(text, form, layout.counter, word, name, message.counter)?;
@@ -99,7 +99,7 @@ fn add_octet_fields(
     message: &Message<'_>,
 ) -> Result<(), AllocError>
     ensures { OnOk result (string_bytes text.new ≡ string_bytes text.old
-        ++ items_text form (octet_items code (said message.now))) }
+        ++ items_text form (octet_items code (message_said message.now))) }
 {
     add_time(alloc, text, form, code, message.time)?;
     add_octets(alloc, text, form, "spare", message.spare)
@@ -113,7 +113,7 @@ fn add_front(
     message: &Message<'_>,
 ) -> Result<(), AllocError>
     ensures { OnOk result (string_bytes text.new ≡ string_bytes text.old
-        ++ items_text form (head_items kind (said message.now))) }
+        ++ items_text form (head_items kind (message_said message.now))) }
 {
     match kind {
         PacketKind::Tc => add_flags(text, form, message),
@@ -124,7 +124,7 @@ fn add_front(
 // Adds those of a telecommand.
 fn add_flags(text: &mut String, form: Form, message: &Message<'_>) -> Result<(), AllocError>
     ensures { OnOk result (string_bytes text.new ≡ string_bytes text.old
-        ++ items_text form (head_items PacketKind.Tc (said message.now))) }
+        ++ items_text form (head_items PacketKind.Tc (message_said message.now))) }
 {
     let (flags, service, subtype) = (message.flags, message.service, message.subtype);
     match form {
@@ -140,7 +140,7 @@ fn add_flags(text: &mut String, form: Form, message: &Message<'_>) -> Result<(),
 // Adds those of telemetry.
 fn add_status(text: &mut String, form: Form, message: &Message<'_>) -> Result<(), AllocError>
     ensures { OnOk result (string_bytes text.new ≡ string_bytes text.old
-        ++ items_text form (head_items PacketKind.Tm (said message.now))) }
+        ++ items_text form (head_items PacketKind.Tm (message_said message.now))) }
 {
     let (status, service, subtype) = (message.flags, message.service, message.subtype);
     match form {
@@ -310,7 +310,7 @@ fn add_word(text: &mut String, form: Form, word: &str, value: &str) -> Result<()
 }
 
 /// A text with another behind it. The only error is out of memory.
-pub fn joined(front: String, more: String) -> Result<String, AllocError>
+pub fn texts_joined(front: String, more: String) -> Result<String, AllocError>
     ensures { IfOk result (λ t. string_bytes t ≡ string_bytes front ++ string_bytes more) }
 {
     let mut text = front;

@@ -2,7 +2,7 @@
 
 ghost use Rattle.std.specs.Prelude.{◌≡◌, ◌++◌, Err, IfOk, OnOk};
 ghost use Rattle.std.specs.String.{string_bytes};
-ghost use Rattle.lpt_layout.specs.Messages.{message_verdict, said};
+ghost use Rattle.lpt_layout.specs.Messages.{message_verdict, message_said};
 ghost use Rattle.lpt_layout.specs.Packets.{Gives, fields, verdict_as};
 ghost use Rattle.lpt_carried.specs.Layouts.{SizeFits, SizesFit};
 ghost use Rattle.lpt_list.specs.Items.{fault_items, idle_items, items_text, part_fields, unread_items};
@@ -41,7 +41,7 @@ pub(crate) fn add_said(
     match seen {
         Ok(SeenAs::Idle) => add_idle(text, form),
         Ok(SeenAs::Packet(packet)) => {
-            let tailored = layouts.tailored(direction_of(kind_in(octets)));
+            let tailored = layouts.tailored_in(direction_of(kind_in(octets)));
             add_packet(alloc, text, form, tailored, packet)
         }
         Err(fault) => text.push_str(print_refused(alloc, form, octets, *fault)?.as_str()),
@@ -112,7 +112,7 @@ fn add_read(
 ) -> Result<(), AllocError>
     requires { SizeFits tailored.now }
     ensures { OnOk result (string_bytes text.new ≡ string_bytes text.old
-        ++ items_text form (message_as tailored.now kind (said message.now))) }
+        ++ items_text form (message_as tailored.now kind (message_said message.now))) }
 {
     add_message(alloc, text, form, tailored, kind, message)?;
     add_carried(alloc, text, form, tailored, kind, message)
@@ -129,7 +129,7 @@ fn add_carried(
 ) -> Result<(), AllocError>
     requires { SizeFits tailored.now }
     ensures { OnOk result (string_bytes text.new ≡ string_bytes text.old
-        ++ items_text form (carried_as tailored.now kind (said message.now))) }
+        ++ items_text form (carried_as tailored.now kind (message_said message.now))) }
 {
     match part_kind(direction_of(kind), message.service, message.subtype) {
         Some(part) => add_part(text, form, tailored, part, message.body),
@@ -167,7 +167,7 @@ fn add_other(
     message: &Message<'_>,
 ) -> Result<(), AllocError>
     ensures { OnOk result (string_bytes text.new ≡ string_bytes text.old
-        ++ items_text form (other_as kind (said message.now))) }
+        ++ items_text form (other_as kind (message_said message.now))) }
 {
     let (service, subtype) = (message.service, message.subtype);
     match kind {

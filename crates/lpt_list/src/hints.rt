@@ -1,7 +1,7 @@
 //! By which other layout a part would be read.
 
 ghost use Rattle.std.specs.Prelude.{◌≡◌, Result};
-ghost use Rattle.lpt_layout.specs.Messages.{message_verdict, said};
+ghost use Rattle.lpt_layout.specs.Messages.{message_verdict, message_said};
 ghost use Rattle.lpt_layout.specs.Packets.{fields, Gives};
 ghost use Rattle.lpt_packet.specs.Packets.{Sight};
 ghost use Rattle.lpt_packet.specs.declared.fault.PacketFault.{PacketFault};
@@ -36,7 +36,7 @@ pub fn hint_of(layouts: &Layouts, octets: &[u8]) -> Option<Hint>
     ensures { result ≡ hint_of layouts.now octets.now }
 {
     let kind = kind_in(octets);
-    let tailored = layouts.tailored(direction_of(kind));
+    let tailored = layouts.tailored_in(direction_of(kind));
     if !has_first_type(kind, octets) || shows_part(tailored, octets) {
         return None;
     }
@@ -161,7 +161,7 @@ fn is_part_in(tailored: &Tailored, packet: &PacketAs<'_>) -> bool
 // Whether a message carries a part.
 fn is_part(tailored: &Tailored, kind: PacketKind, message: &Message<'_>) -> bool
     requires { SizeFits tailored.now }
-    ensures { result ≡ is_part tailored.now kind (said message.now) }
+    ensures { result ≡ is_part tailored.now kind (message_said message.now) }
 {
     match part_kind(direction_of(kind), message.service, message.subtype) {
         Some(part) => part_at(tailored, part, message.body).is_some(),

@@ -33,7 +33,7 @@ pub struct Listed {
 }
 
 // With a piece more.
-pub(crate) fn counted(tally: Tally, kind: PieceKind) -> Tally
+pub(crate) fn tally_with(tally: Tally, kind: PieceKind) -> Tally
     ensures { result ≡ tally_with kind tally }
 {
     let Tally { damaged, stray } = tally;

@@ -9,7 +9,7 @@ ghost use Rattle.lpt_list.specs.Lists.{cut_for, kind_judged, stopped_with};
 
 use crate::choice::{direction_of, kind_in};
 use crate::lines::{print_none, print_piece};
-use crate::list_end::counted;
+use crate::list_end::tally_with;
 use crate::{Form, ListEnd, Listed, Tally};
 use lpt_carried::Layouts;
 use lpt_layout::{Layout, SeenAs, read_packet_as, read_sealed_as};
@@ -64,7 +64,7 @@ impl<'a> Lister<'a> {
     }
 
     // What was listed.
-    pub(crate) fn listed(&self) -> Listed
+    pub(crate) fn listed_so_far(&self) -> Listed
         ensures end { result.end ≡ end_of self.now.stopped }
         ensures tally { result.tally ≡ self.now.tally }
     {
@@ -113,7 +113,7 @@ impl<'a> Lister<'a> {
         ensures kind { IfOk result (λ r. r.1 ≡ kind_as self.now.layouts.now kind octets.now) }
     {
         let layouts = self.layouts;
-        let tailored = layouts.tailored(direction_of(kind_in(octets)));
+        let tailored = layouts.tailored_in(direction_of(kind_in(octets)));
         let seen = read_seen(self.cut, &tailored.packets, kind, octets);
         let line = print_piece(alloc, self.form, layouts, place, octets, &seen)?;
         Ok((line, kind_seen(kind, &seen)))
@@ -175,7 +175,7 @@ impl<'a, K: Sink> Taker<K, ()> for Lister<'a> {
             cut: self.cut,
             strict: self.strict,
             in_step: goes_on(kind),
-            tally: counted(self.tally, found),
+            tally: tally_with(self.tally, found),
             stopped: stopped_with(self.strict, place, found, self.stopped),
         })
     }

@@ -56,5 +56,5 @@ pub fn list_stream<P: Peer, K: Sink>(
     let first = Lister::new(form, layouts, strict);
     let last = take_pieces(alloc, from, source, first, out, &mut ())?;
     flush_out(out)?;
-    Ok(last.listed())
+    Ok(last.listed_so_far())
 }

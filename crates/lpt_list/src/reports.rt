@@ -2,7 +2,7 @@
 
 ghost use Rattle.std.specs.Prelude.{◌≡◌, ◌++◌, OnOk};
 ghost use Rattle.std.specs.String.{string_bytes};
-ghost use Rattle.lpt_list.specs.Items.{abort_items, abort_said, code_items, items_text, report_items, report_said, reported, request_items};
+ghost use Rattle.lpt_list.specs.Items.{abort_items, abort_said, code_items, items_text, report_items, report_said, telemetry_items, request_items};
 
 use crate::Form;
 use crate::areas::add_areas;
@@ -25,7 +25,7 @@ pub(crate) fn add_reported(
     body: &[u8],
 ) -> Result<(), AllocError>
     ensures { OnOk result (string_bytes text.new
-        ≡ string_bytes text.old ++ items_text form (reported service subtype body.now)) }
+        ≡ string_bytes text.old ++ items_text form (telemetry_items service subtype body.now)) }
 {
     match (service, subtype) {
         (VERIFICATION, _) => add_report(alloc, text, form, subtype, body),

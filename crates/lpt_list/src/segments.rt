@@ -7,7 +7,7 @@ ghost use Rattle.lpt_packet.specs.Packets.{kind_of};
 ghost use Rattle.lpt_list.specs.Items.{items_text, flags_items, header_items, refused_front, refused_items, segment_items, segment_text};
 
 use crate::Form;
-use crate::headers::{joined, print_primary};
+use crate::headers::{print_primary, texts_joined};
 use crate::heads::print_fault;
 use lpt_packet::{PacketFault, PacketKind};
 use lpt_stream::ends_in_checksum;
@@ -27,7 +27,7 @@ pub fn print_refused(
     ensures { IfOk result (λ t. string_bytes t ≡ items_text form (refused_items octets.now fault)) }
 {
     let front = refused_front(alloc, form, octets, fault)?;
-    joined(front, print_fault(alloc, form, fault.code(), fault.name())?)
+    texts_joined(front, print_fault(alloc, form, fault.code(), fault.name())?)
 }
 
 // What a segment says, or a packet without a secondary header; nothing if another test fails.
@@ -58,7 +58,7 @@ fn print_segment(alloc: Global, form: Form, octets: &[u8]) -> Result<String, All
     ensures { IfOk result (λ t. string_bytes t ≡ items_text form (segment_items octets.now)) }
 {
     let front = print_header(alloc, form, octets)?;
-    joined(
+    texts_joined(
         front,
         print_flags(alloc, form, segment_word(word(octets, 2) >> 14))?,
     )

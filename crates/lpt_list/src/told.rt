@@ -42,7 +42,7 @@ pub(crate) fn told_with(told: Told, layouts: &Layouts, octets: &[u8]) -> Told
     requires { SizesFit layouts.now }
     ensures { result ≡ told_with layouts.now octets.now told }
 {
-    let tailored = layouts.tailored(direction_of(kind_in(octets)));
+    let tailored = layouts.tailored_in(direction_of(kind_in(octets)));
     let seen = read_packet_as(&tailored.packets, octets);
     let (refused, parts) = (is_refused(&seen), is_part_seen(tailored, &seen));
     Told {
@@ -79,7 +79,7 @@ pub fn is_read(layouts: &Layouts, octets: &[u8]) -> bool
     ensures { result ≡ is_read_as layouts.now octets.now }
 {
     let kind = kind_in(octets);
-    let layout = &layouts.tailored(direction_of(kind)).packets;
+    let layout = &layouts.tailored_in(direction_of(kind)).packets;
     match read_packet_as(layout, octets) {
         Ok(SeenAs::Idle) => true,
         Ok(SeenAs::Packet(packet)) => is_message(layout, &packet),

@@ -12,12 +12,12 @@ use Rattle.lpt_packet.specs.declared.packet.Seen.TheVariants as seen_as
 use Rattle.lpt_packet.specs.Bursts.{all_bits, DifferInBurst}
 use Rattle.lpt_packet.specs.Checksums.{bits}
 use Rattle.lpt_packet.specs.Numbers.{word_at, IsOctets}
-use Rattle.lpt_packet.specs.Packets.{Fields, Gives, Sight, IdlePacket, APacket, seen, verdict}
+use Rattle.lpt_packet.specs.Packets.{Fields, Gives, Sight, IdlePacket, APacket, packet_seen, verdict}
 use Rattle.lpt_packet.proofs.BoolLemmas.{and_left, and_right}
 use Rattle.lpt_packet.proofs.Bursts.{burst_shows_in_packet}
 use Rattle.lpt_packet.proofs.SightLemmas.{seen_sight, seen_verdict}
 use Rattle.lpt_lossy.specs.declared.fate.Burst.{Burst}
-use Rattle.lpt_lossy.specs.Bursts.{can_change, changed, has_bits, is_packet, is_read, is_within, IsDamage}
+use Rattle.lpt_lossy.specs.Bursts.{can_change, bits_changed, has_bits, is_packet, is_read, is_within, IsDamage}
 
 -- ---- two octets in place of two
 
@@ -59,7 +59,7 @@ length-two at x y b h =
     )
 
 changed-is : (u : Burst) (b : List ℕ)
-    → changed u b
+    → bits_changed u b
     ≡ (take u.at b ++ (bit_xor (get_or b u.at 0) u.first ∷ bit_xor (get_or b (suc u.at) 0) u.second
     ∷ []))
     ++ drop (suc (suc u.at)) b
@@ -149,7 +149,7 @@ was-packet (Some (APacket f)) h = (f, refl)
 differ-there : (u : Burst) (b : List ℕ)
     → (has_bits u.first || has_bits u.second) ≡ true
     → suc u.at < length b
-    → DifferInBurst b (changed u b)
+    → DifferInBurst b (bits_changed u b)
 differ-there u b some within =
     let at = u.at in
     let x = get_or b at 0 in
@@ -170,7 +170,7 @@ differ-there u b some within =
 word-kept : (u : Burst) (b : List ℕ)
     → ((nat_lt 0 u.at && nat_lt u.at 3) || nat_lt 5 u.at) ≡ true
     → suc u.at < length b
-    → word_at (changed u b) 4 ≡ word_at b 4
+    → word_at (bits_changed u b) 4 ≡ word_at b 4
 word-kept u b apart within =
     let x = bit_xor (get_or b u.at 0) u.first in
     let y = bit_xor (get_or b (suc u.at) 0) u.second in
@@ -183,21 +183,22 @@ word-kept u b apart within =
     ∙ ap (λ (n : ℕ). 256 * get_or b 4 0 + n) (get-other 5 u.at x y b within five.0 five.1)
 
 -- so what is changed is damage
-pub damage : (u : Burst) (b : List ℕ) → can_change u b ≡ true → IsDamage b (changed u b)
+pub damage : (u : Burst) (b : List ℕ) → can_change u b ≡ true → IsDamage b (bits_changed u b)
 damage u b h =
     let bits = has_bits u.first || has_bits u.second in
     let apart = (nat_lt 0 u.at && nat_lt u.at 3) || nat_lt 5 u.at in
-    let there = and_left (is_within u (length b)) (is_packet (seen b)) h in
+    let there = and_left (is_within u (length b)) (is_packet (packet_seen b)) h in
     let front = and_left (bits && apart) (nat_lt (u.at + 1) (length b)) there in
     let inside : nat_lt (u.at + 1) (length b) ≡ true
     = and_right (bits && apart) (nat_lt (u.at + 1) (length b)) there in
     let within : suc u.at < length b = grind (arith, nat_tests) in
-    let was = was-packet (seen b) (and_right (is_within u (length b)) (is_packet (seen b)) h) in
+    let was =
+    was-packet (packet_seen b) (and_right (is_within u (length b)) (is_packet (packet_seen b)) h) in
     let packet = seen_sight b (APacket was.0) was.1 in
     let differ = differ-there u b (and_left bits apart front) within in
     record {
       was = (was.0, packet);
-      none = λ g. burst_shows_in_packet b (changed u b) was.0 g differ packet;
+      none = λ g. burst_shows_in_packet b (bits_changed u b) was.0 g differ packet;
       differ = differ;
       as_many = ap (λ (o : List ℕ). length o) (changed-is u b) ∙ length-two u.at _ _ b within;
       same_length = word-kept u b (and_right bits apart front) within;
@@ -207,7 +208,7 @@ damage u b h =
 pub is_read-packet : (b : List ℕ) (r : Result Seen PacketFault)
     → IsOctets b
     → Gives r (verdict b)
-    → is_read r ≡ is_packet (seen b)
+    → is_read r ≡ is_packet (packet_seen b)
 is_read-packet b (Ok seen_as.Idle) o g = sym (ap is_packet (seen_verdict b o ∙ ap result_ok g))
 is_read-packet b (Ok (seen_as.Packet p)) o g = sym (ap is_packet
     (seen_verdict b o ∙ ap result_ok g))

@@ -7,10 +7,10 @@ use Rattle.std.proofs.lemmas.List.Concat.{flat_map-append}
 use Rattle.std.proofs.lemmas.List.Sums.{sum_by-append}
 use Rattle.lpt_lossy.specs.declared.fate.Burst.{Burst}
 use Rattle.lpt_lossy.specs.declared.fate.Fate.{Fate}
-use Rattle.lpt_lossy.specs.Bursts.{can_change, changed, IsDamage}
-use Rattle.lpt_lossy.specs.Carrying.{Turns, empty_turns, first_turn, next_turns, held_later, at_once, with_later, so_far, left, carried}
+use Rattle.lpt_lossy.specs.Bursts.{can_change, bits_changed, IsDamage}
+use Rattle.lpt_lossy.specs.Carrying.{Turns, empty_turns, first_turn, next_turns, held_later, at_once, with_later, so_far, turns_left, packets_carried}
 use Rattle.lpt_lossy.specs.Laws.{ComesFrom, due}
-use Rattle.lpt_lossy.specs.Ways.{Crossing, copies, if_it_can, made, settled, way, with_burst, written_of}
+use Rattle.lpt_lossy.specs.Ways.{Crossing, copies, if_it_can, copies_made, fate_settled, way, with_burst, written_of}
 use Rattle.lpt_lossy.proofs.DamageLemmas.{damage}
 use Rattle.lpt_lossy.proofs.TurnLemmas.{length-empty, length-step}
 
@@ -30,31 +30,31 @@ left-can (Some u) b v e =
 
 burst-if_lost : (l : Bool) (n : ℕ) (f : Fate) (b : List ℕ) (v : Burst)
     → f.is_lost ≡ l
-    → (settled n f b).burst ≡ Some v
+    → (fate_settled n f b).burst ≡ Some v
     → if_it_can f.burst b ≡ Some v
 burst-if_lost true n f b v l e =
-    absurd (let none : (settled n f b).burst ≡ None = rw l refl in cc)
+    absurd (let none : (fate_settled n f b).burst ≡ None = rw l refl in cc)
 burst-if_lost false n f b v l e =
-    let some : (settled n f b).burst ≡ if_it_can f.burst b = rw l refl in
+    let some : (fate_settled n f b).burst ≡ if_it_can f.burst b = rw l refl in
     sym some ∙ e
 
 pub way-damage : (n : ℕ) (x : Crossing) (u : Burst) → (way n x).burst ≡ Some u
-    → IsDamage x.octets (changed u x.octets)
+    → IsDamage x.octets (bits_changed u x.octets)
 way-damage n x u e =
     damage u x.octets (left-can x.fate.burst x.octets u
     (burst-if_lost x.fate.is_lost n x.fate x.octets u refl e))
 
-pub made-lost : (w : Fate) (b : List ℕ) → w.is_lost ≡ true → made w b ≡ []
+pub made-lost : (w : Fate) (b : List ℕ) → w.is_lost ≡ true → copies_made w b ≡ []
 made-lost w b l = rw l refl
 
 pub made-copies : (w : Fate) (b : List ℕ) (u : Option Burst)
     → w.is_lost ≡ false
     → w.burst ≡ u
-    → made w b ≡ copies w.is_twice (with_burst u b)
+    → copies_made w b ≡ copies w.is_twice (with_burst u b)
 made-copies w b u l e = rw (l, e) refl
 
 later-settled : (l : Bool) (n : ℕ) (f : Fate) (b : List ℕ) → f.is_lost ≡ l
-    → (settled n f b).later ≤ n
+    → (fate_settled n f b).later ≤ n
 later-settled true n f b l = rw l (omega arith)
 later-settled false n f b l = rw l (omega arith)
 
@@ -123,7 +123,7 @@ AllWritten P n xs = AllByRecursion (λ x. AllByRecursion P (written_of n x)) xs
 all-carried : (P : List ℕ → Type 0) (n : ℕ) (ts : Turns) (xs : List Crossing)
     → AllHeld P ts
     → AllWritten P n xs
-    → AllByRecursion P (so_far n ts xs ++ flat_map (λ t. t) (left n ts xs))
+    → AllByRecursion P (so_far n ts xs ++ flat_map (λ t. t) (turns_left n ts xs))
 all-carried P n ts [] h w = all-turns P ts h
 all-carried P n ts (x ∷ xs) h w =
     let now = (way n x).later == 0 in
@@ -135,7 +135,7 @@ all-carried P n ts (x ∷ xs) h w =
     (all-first P ts h) in
     subst (AllByRecursion P)
     (sym (append_assoc (at_once n x ++ first_turn ts) (so_far n next xs)
-    (flat_map (λ (t : List (List ℕ)). t) (left n next xs))))
+    (flat_map (λ (t : List (List ℕ)). t) (turns_left n next xs))))
     (all-append P (at_once n x ++ first_turn ts) _ first rest)
 
 all-copies : (P : List ℕ → Type 0) (twice : Bool) (b : List ℕ) → P b
@@ -155,7 +155,7 @@ comes-one all n x false None among l e =
     (all-copies (ComesFrom all) (way n x).is_twice x.octets (x, among, inl refl))
 comes-one all n x false (Some u) among l e =
     subst (AllByRecursion (ComesFrom all)) (sym (made-copies (way n x) x.octets (Some u) l e))
-    (all-copies (ComesFrom all) (way n x).is_twice (changed u x.octets)
+    (all-copies (ComesFrom all) (way n x).is_twice (bits_changed u x.octets)
     (x, among, inr (way-damage n x u e)))
 
 comes-all : (all : List Crossing) (n : ℕ) (xs : List Crossing)
@@ -167,7 +167,8 @@ comes-all all n (x ∷ xs) among = (
   comes-all all n xs (λ y c. among y (suc c.0, omega (arith, c.1), c.2)),
 )
 
-pub carried-comes : (n : ℕ) (xs : List Crossing) → AllByRecursion (ComesFrom xs) (carried n xs)
+pub carried-comes : (n : ℕ) (xs : List Crossing)
+    → AllByRecursion (ComesFrom xs) (packets_carried n xs)
 carried-comes n xs =
     all-carried (ComesFrom xs) n (empty_turns n) xs (all-empty (ComesFrom xs) n)
     (comes-all xs n xs (λ x c. c))
@@ -326,7 +327,7 @@ count-step p (suc k) ps t ts false h e =
 
 so-all : (p : List ℕ → Bool) (n : ℕ) (ts : Turns) (xs : List Crossing)
     → length ts ≡ n + 1
-    → count_by p (so_far n ts xs) + count_by p (all_held (left n ts xs))
+    → count_by p (so_far n ts xs) + count_by p (all_held (turns_left n ts xs))
     ≡ count_by p (all_held ts) + count_by p (flat_map (written_of n) xs)
 so-all p n ts [] l = omega arith
 so-all p n [] (x ∷ xs) l = absurd (omega arith)
@@ -351,11 +352,11 @@ count-empty p zero = refl
 count-empty p (suc n) = count-empty p n
 
 pub written-all : (n : ℕ) (xs : List Crossing) (p : List ℕ → Bool)
-    → count_by p (carried n xs) ≡ count_by p (flat_map (written_of n) xs)
+    → count_by p (packets_carried n xs) ≡ count_by p (flat_map (written_of n) xs)
 written-all n xs p =
     omega (
       arith,
-      count-append p (so_far n (empty_turns n) xs) (all_held (left n (empty_turns n) xs)),
+      count-append p (so_far n (empty_turns n) xs) (all_held (turns_left n (empty_turns n) xs)),
       so-all p n (empty_turns n) xs (length-empty n),
       count-empty p n,
     )

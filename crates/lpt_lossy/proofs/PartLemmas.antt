@@ -7,7 +7,7 @@ use Rattle.std.proofs.KnownBytes.{Appends-trans}
 use Rattle.lpt_text.specs.Streams.{AppendsPart}
 use Rattle.lpt_text.proofs.StreamLemmas.{part_after, part_of_front}
 use Rattle.lpt_lossy.specs.declared.fate.Fate.{Fate}
-use Rattle.lpt_lossy.specs.TurnsInside.{behind_turn, handed_turns, passed_octets, repeated}
+use Rattle.lpt_lossy.specs.TurnsInside.{behind_turn, handed_turns, passed_octets, octets_repeated}
 
 -- ---- faults
 
@@ -19,7 +19,7 @@ any-err P (Err e) p = p
 -- a front part of octets is one of them once or twice
 pub part-repeated : (twice : Bool) (a b : Option (List ℕ)) (o : List ℕ)
     → AppendsPart a b o
-    → AppendsPart a b (repeated twice o)
+    → AppendsPart a b (octets_repeated twice o)
 part-repeated true a b o part = part_of_front a b o o part
 part-repeated false a b o part = part
 

@@ -7,9 +7,9 @@ use Rattle.std.proofs.lemmas.List.Concat.{flat_map-append}
 use Rattle.lpt_stream.specs.Streams.{all_octets}
 use Rattle.lpt_lossy.specs.declared.fate.Fate.{Fate}
 use Rattle.lpt_lossy.specs.declared.turns.Turns.{Turns as TurnBuffers}
-use Rattle.lpt_lossy.specs.Carrying.{Turns, empty_turns, first_turn, next_turns, held_later, at_once, with_later, so_far, left}
-use Rattle.lpt_lossy.specs.TurnsInside.{IsHeld, behind_turn, carried_now, carried_turns, first_octets, handed_now, handed_turns, next_octets, passed_octets, repeated, turn_octets}
-use Rattle.lpt_lossy.specs.Ways.{Crossing, copies, made, way, with_burst, written_of}
+use Rattle.lpt_lossy.specs.Carrying.{Turns, empty_turns, first_turn, next_turns, held_later, at_once, with_later, so_far, turns_left}
+use Rattle.lpt_lossy.specs.TurnsInside.{IsHeld, behind_turn, carried_now, carried_turns, first_octets, handed_now, handed_turns, next_octets, passed_octets, octets_repeated, turn_octets}
+use Rattle.lpt_lossy.specs.Ways.{Crossing, copies, copies_made, way, with_burst, written_of}
 
 -- ---- octets of packets
 
@@ -23,16 +23,17 @@ octets-turns (t ∷ ts) =
     ap (λ (b : List ℕ). all_octets t ++ b) (octets-turns ts)
     ∙ sym (octets-append t (flat_map (λ (t : List (List ℕ)). t) ts))
 
-octets-copies : (twice : Bool) (b : List ℕ) → all_octets (copies twice b) ≡ repeated twice b
+octets-copies : (twice : Bool) (b : List ℕ) → all_octets (copies twice b) ≡ octets_repeated twice b
 octets-copies true b = ap (λ (r : List ℕ). b ++ r) (append-nil b)
 octets-copies false b = append-nil b
 
 octets-if_lost : (lost twice : Bool) (b : List ℕ)
-    → all_octets (if lost then [] else copies twice b) ≡ (if lost then [] else repeated twice b)
+    → all_octets (if lost then [] else copies twice b)
+    ≡ (if lost then [] else octets_repeated twice b)
 octets-if_lost true twice b = refl
 octets-if_lost false twice b = octets-copies twice b
 
-octets-made : (w : Fate) (b : List ℕ) → all_octets (made w b)
+octets-made : (w : Fate) (b : List ℕ) → all_octets (copies_made w b)
     ≡ passed_octets w (with_burst w.burst b)
 octets-made w b = octets-if_lost w.is_lost w.is_twice (with_burst w.burst b)
 
@@ -142,16 +143,16 @@ held-next n x ts t new h e =
 -- ---- packet after packet
 
 pub so_far-append : (n : ℕ) (ts : Turns) (xs ys : List Crossing)
-    → so_far n ts (xs ++ ys) ≡ so_far n ts xs ++ so_far n (left n ts xs) ys
+    → so_far n ts (xs ++ ys) ≡ so_far n ts xs ++ so_far n (turns_left n ts xs) ys
 so_far-append n ts [] ys = refl
 so_far-append n ts (x ∷ xs) ys =
     let next = next_turns (with_later n x ts) in
     let now = at_once n x ++ first_turn ts in
     ap (λ (ps : List (List ℕ)). now ++ ps) (so_far-append n next xs ys)
-    ∙ sym (append_assoc now (so_far n next xs) (so_far n (left n next xs) ys))
+    ∙ sym (append_assoc now (so_far n next xs) (so_far n (turns_left n next xs) ys))
 
 pub left-append : (n : ℕ) (ts : Turns) (xs ys : List Crossing)
-    → left n ts (xs ++ ys) ≡ left n (left n ts xs) ys
+    → turns_left n ts (xs ++ ys) ≡ turns_left n (turns_left n ts xs) ys
 left-append n ts [] ys = refl
 left-append n ts (x ∷ xs) ys = left-append n (next_turns (with_later n x ts)) xs ys
 
@@ -182,16 +183,16 @@ length-step n x ts =
     length-next (with_later n x ts)
     ∙ length-if_later ((way n x).later == 0) (way n x).later (written_of n x) ts
 
-length-left : (n : ℕ) (ts : Turns) (xs : List Crossing) → length (left n ts xs) ≡ length ts
+length-left : (n : ℕ) (ts : Turns) (xs : List Crossing) → length (turns_left n ts xs) ≡ length ts
 length-left n ts [] = refl
 length-left n ts (x ∷ xs) = length-left n (next_turns (with_later n x ts)) xs ∙ length-step n x ts
 
 -- one more than a packet may be later
 pub turns_are : (n : ℕ) (xs : List Crossing) (t : TurnBuffers)
-    → IsHeld (left n (empty_turns n) xs) t
+    → IsHeld (turns_left n (empty_turns n) xs) t
     → length (turn_octets t) ≡ n + 1
 turns_are n xs t h =
     ap (λ (os : List (List ℕ)). length os) h.octets_are
-    ∙ length-map (left n (empty_turns n) xs) all_octets
+    ∙ length-map (turns_left n (empty_turns n) xs) all_octets
     ∙ length-left n (empty_turns n) xs
     ∙ length-empty n

@@ -5,7 +5,7 @@ use Rattle.lpt_packet.specs.declared.packet.Seen.{Seen}
 use Rattle.lpt_packet.specs.declared.packet.Seen.TheVariants as seen_as
 use Rattle.lpt_packet.specs.Bursts.{DifferInBurst}
 use Rattle.lpt_packet.specs.Numbers.{word_at}
-use Rattle.lpt_packet.specs.Packets.{Fields, Sight, IdlePacket, APacket, IsPacket, seen}
+use Rattle.lpt_packet.specs.Packets.{Fields, Sight, IdlePacket, APacket, IsPacket, packet_seen}
 use Rattle.lpt_lossy.specs.declared.fate.Burst.{Burst}
 
 -- whether these are bits of an octet, and some of them
@@ -34,11 +34,11 @@ is_read (Err e) = false
 
 -- whether octets are changed by a burst: it is within them, and they are a packet that isn't idle
 abbrev pub can_change : Burst → List ℕ → Bool
-can_change u b = is_within u (length b) && is_packet (seen b)
+can_change u b = is_within u (length b) && is_packet (packet_seen b)
 
 -- octets with those bits changed
-abbrev pub changed : Burst → List ℕ → List ℕ
-changed u b =
+abbrev pub bits_changed : Burst → List ℕ → List ℕ
+bits_changed u b =
     take u.at b
     ++ (bit_xor (slice_index b u.at) u.first ∷ bit_xor (slice_index b (u.at + 1)) u.second ∷ [])
     ++ drop (u.at + 2) b

@@ -44,11 +44,11 @@ so_far n ts [] = []
 so_far n ts (x ∷ xs) = at_once n x ++ first_turn ts ++ so_far n (next_turns (with_later n x ts)) xs
 
 -- what is held then
-abbrev pub left : (most_later : ℕ) → Turns → List Crossing → Turns
-left n ts [] = ts
-left n ts (x ∷ xs) = left n (next_turns (with_later n x ts)) xs
+abbrev pub turns_left : (most_later : ℕ) → Turns → List Crossing → Turns
+turns_left n ts [] = ts
+turns_left n ts (x ∷ xs) = turns_left n (next_turns (with_later n x ts)) xs
 
 -- what is written of packets: as they come, and at the end all that is held
-abbrev pub carried : (most_later : ℕ) → List Crossing → List (List ℕ)
-carried n xs =
-    so_far n (empty_turns n) xs ++ flat_map (λ t. t) (left n (empty_turns n) xs)
+abbrev pub packets_carried : (most_later : ℕ) → List Crossing → List (List ℕ)
+packets_carried n xs =
+    so_far n (empty_turns n) xs ++ flat_map (λ t. t) (turns_left n (empty_turns n) xs)

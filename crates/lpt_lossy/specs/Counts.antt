@@ -1,7 +1,7 @@
 -- How many packets were lost, repeated, delayed, damaged and passed on as they were.
 use Rattle.std.specs.Prelude.{◌≡◌, ℕ, ◌||◌, not, nat_lt, is_some, Bool, List, count_by}
 use Rattle.lpt_stream.specs.Pieces.{up_to_limit}
-use Rattle.lpt_lossy.specs.declared.counts.Counts.{Counts}
+use Rattle.lpt_lossy.specs.declared.counts.CrossingCounts.{CrossingCounts}
 use Rattle.lpt_lossy.specs.declared.fate.Fate.{Fate}
 use Rattle.lpt_lossy.specs.Ways.{Crossing, way}
 
@@ -22,7 +22,7 @@ abbrev pub number_of : (most_later : ℕ) → (Fate → Bool) → List Crossing 
 number_of n p xs = up_to_limit (count_by (λ x. p (way n x)) xs)
 
 -- how many of these packets each became
-pub record IsCounted (n : ℕ) (xs : List Crossing) (c : Counts) : Type 0 where
+pub record IsCounted (n : ℕ) (xs : List Crossing) (c : CrossingCounts) : Type 0 where
   pub lost_is : c.lost ≡ number_of n (λ w. w.is_lost) xs
   pub repeated_is : c.repeated ≡ number_of n (λ w. w.is_twice) xs
   pub delayed_is : c.delayed ≡ number_of n is_delayed xs

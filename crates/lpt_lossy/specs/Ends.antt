@@ -7,7 +7,7 @@ use Rattle.lpt_frames.specs.Frames.{IsFrame}
 use Rattle.lpt_stream.specs.Streams.{all_octets}
 use Rattle.lpt_lossy.specs.declared.counts.LossyEnd.{LossyEnd}
 use Rattle.lpt_lossy.specs.declared.fate.Fate.{Fate}
-use Rattle.lpt_lossy.specs.Carrying.{carried}
+use Rattle.lpt_lossy.specs.Carrying.{packets_carried}
 use Rattle.lpt_lossy.specs.Counts.{IsCounted}
 use Rattle.lpt_lossy.specs.Frames.{EndsAt}
 use Rattle.lpt_lossy.specs.Ways.{crossings}
@@ -22,7 +22,8 @@ CarriesAll decides n d end before after written_before written_after =
     × Consumes before after (all_octets frames ++ rest)
     × AllByRecursion IsFrame frames
     × EndsAt end.stray (length (all_octets frames)) rest after
-    × Appends written_before written_after (all_octets (carried n (crossings decides d frames)))
+    × Appends written_before written_after
+    (all_octets (packets_carried n (crossings decides d frames)))
     × IsCounted n (crossings decides d frames) end.counts
 
 -- packets were read, and a front part of what they become was written
@@ -33,7 +34,8 @@ CarriesPart decides n d before after written_before written_after =
     (frames : List (List ℕ)) × (rest : List ℕ)
     × Consumes before after (all_octets frames ++ rest)
     × AllByRecursion IsFrame frames
-    × AppendsPart written_before written_after (all_octets (carried n (crossings decides d frames)))
+    × AppendsPart written_before written_after
+    (all_octets (packets_carried n (crossings decides d frames)))
 
 -- 2^64 - 1 packets were read
 abbrev pub IsEndless : (before after : Option (List ℕ)) → Type 0

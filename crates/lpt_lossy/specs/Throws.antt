@@ -8,8 +8,8 @@ use Rattle.lpt_lossy.specs.declared.fate.Burst.{Burst}
 use Rattle.lpt_lossy.specs.declared.fate.Fate.{Fate}
 
 -- dice of these odds with this seed
-abbrev pub seeded : Odds → (seed : ℕ) → Dice
-seeded odds seed = record { odds = odds; generator = of_seed (splitmix_seed 32 seed) }
+abbrev pub dice_seeded : Odds → (seed : ℕ) → Dice
+dice_seeded odds seed = record { odds = odds; generator = of_seed (splitmix_seed 32 seed) }
 
 -- whether a word says that what happens so many times in a million happens
 abbrev pub befalls : (odds word : ℕ) → Bool
@@ -28,8 +28,8 @@ burst_of len word =
     }
 
 -- what five words say
-abbrev pub said : Odds → (len lose repeat later damage bits : ℕ) → Fate
-said odds len lose repeat later damage bits = record {
+abbrev pub fate_said : Odds → (len lose repeat later damage bits : ℕ) → Fate
+fate_said odds len lose repeat later damage bits = record {
   is_lost = befalls odds.lose lose;
   is_twice = befalls odds.repeat repeat;
   later = later % (odds.delay + 1);
@@ -44,6 +44,6 @@ throw d len =
     let later = plus_plus repeat.1 in
     let damage = plus_plus later.1 in
     let bits = plus_plus damage.1 in (
-      said d.odds len lose.0 repeat.0 later.0 damage.0 bits.0,
+      fate_said d.odds len lose.0 repeat.0 later.0 damage.0 bits.0,
       record d { generator = bits.1 },
     )

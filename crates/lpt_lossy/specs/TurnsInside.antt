@@ -15,9 +15,9 @@ pub record IsHeld (ts : Turns) (t : TurnBuffers) : Type 0 where
   pub octets_are : turn_octets t ≡ map all_octets ts
 
 -- octets once or twice
-abbrev pub repeated : (twice : Bool) → List ℕ → List ℕ
-repeated true b = b ++ b
-repeated false b = b
+abbrev pub octets_repeated : (twice : Bool) → List ℕ → List ℕ
+octets_repeated true b = b ++ b
+octets_repeated false b = b
 
 -- the octets of turns with these behind those of one of them
 abbrev pub behind_turn : ℕ → List ℕ → List (List ℕ) → List (List ℕ)
@@ -37,7 +37,7 @@ next_octets (t ∷ ts) = ts ++ [] ∷ []
 
 -- the octets that are written, or held, unless they are lost
 abbrev pub passed_octets : Fate → List ℕ → List ℕ
-passed_octets w b = if w.is_lost then [] else repeated w.is_twice b
+passed_octets w b = if w.is_lost then [] else octets_repeated w.is_twice b
 
 -- what is written of octets as they come
 abbrev pub handed_now : Fate → List ℕ → List ℕ

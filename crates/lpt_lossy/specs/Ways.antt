@@ -2,7 +2,7 @@
 use Rattle.std.specs.Prelude.{ℕ, min, Bool, true, false, if◌then◌else◌, List, [], ◌∷◌, length, Option, Some, None}
 use Rattle.lpt_lossy.specs.declared.fate.Burst.{Burst}
 use Rattle.lpt_lossy.specs.declared.fate.Fate.{Fate}
-use Rattle.lpt_lossy.specs.Bursts.{can_change, changed}
+use Rattle.lpt_lossy.specs.Bursts.{can_change, bits_changed}
 
 -- ---- one packet
 
@@ -12,13 +12,13 @@ if_it_can None b = None
 if_it_can (Some u) b = if can_change u b then Some u else None
 
 -- nothing becomes of it
-abbrev pub lost : Fate
-lost = record { is_lost = true; is_twice = false; later = 0; burst = None }
+abbrev pub fate_lost : Fate
+fate_lost = record { is_lost = true; is_twice = false; later = 0; burst = None }
 
 -- what becomes of these octets in the end, where none are written later than so many packets
-abbrev pub settled : (most_later : ℕ) → Fate → List ℕ → Fate
-settled n f b =
-    if f.is_lost then lost
+abbrev pub fate_settled : (most_later : ℕ) → Fate → List ℕ → Fate
+fate_settled n f b =
+    if f.is_lost then fate_lost
     else record {
       is_lost = false;
       is_twice = f.is_twice;
@@ -29,7 +29,7 @@ settled n f b =
 -- the octets, with changed bits or without
 abbrev pub with_burst : Option Burst → List ℕ → List ℕ
 with_burst None b = b
-with_burst (Some u) b = changed u b
+with_burst (Some u) b = bits_changed u b
 
 -- once or twice
 abbrev pub copies : (twice : Bool) → List ℕ → List (List ℕ)
@@ -37,8 +37,8 @@ copies true b = b ∷ b ∷ []
 copies false b = b ∷ []
 
 -- what is written of octets of which this becomes: nothing, or once or twice the octets
-abbrev pub made : Fate → List ℕ → List (List ℕ)
-made w b = if w.is_lost then [] else copies w.is_twice (with_burst w.burst b)
+abbrev pub copies_made : Fate → List ℕ → List (List ℕ)
+copies_made w b = if w.is_lost then [] else copies w.is_twice (with_burst w.burst b)
 
 -- ---- packet after packet
 
@@ -49,11 +49,11 @@ pub record Crossing : Type 0 where
 
 -- what becomes of it in the end
 abbrev pub way : (most_later : ℕ) → Crossing → Fate
-way n x = settled n x.fate x.octets
+way n x = fate_settled n x.fate x.octets
 
 -- what is written of it
 abbrev pub written_of : (most_later : ℕ) → Crossing → List (List ℕ)
-written_of n x = made (way n x) x.octets
+written_of n x = copies_made (way n x) x.octets
 
 -- packets, and what becomes of each, as somebody decides
 abbrev pub crossings : {D : Type 0} → (D → ℕ → Fate × D) → D → List (List ℕ) → List Crossing

@@ -1,8 +1,8 @@
 //! Changed bits.
 
 ghost use Rattle.std.specs.Prelude.{◌≡◌, length, true, IfOk};
-ghost use Rattle.lpt_packet.specs.Packets.{seen};
-ghost use Rattle.lpt_lossy.specs.Bursts.{can_change, changed, is_packet, is_read, is_within};
+ghost use Rattle.lpt_packet.specs.Packets.{packet_seen};
+ghost use Rattle.lpt_lossy.specs.Bursts.{can_change, bits_changed, is_packet, is_read, is_within};
 
 use crate::Burst;
 use lpt_packet::{Octets, PacketFault, Seen, read_packet};
@@ -29,7 +29,7 @@ pub(crate) fn can_change(burst: &Burst, octets: &[u8]) -> bool
 
 // Whether octets read as a packet that isn't idle.
 fn is_packet(octets: &[u8]) -> bool
-    ensures { result ≡ is_packet (seen octets.now) }
+    ensures { result ≡ is_packet (packet_seen octets.now) }
 {
     is_read(&read_packet(octets))
 }
@@ -42,9 +42,13 @@ fn is_read(read: &Result<Seen<'_>, PacketFault>) -> bool
 }
 
 // A copy of octets with those bits changed. The only error is out of memory.
-pub(crate) fn changed(alloc: Global, burst: &Burst, octets: &[u8]) -> Result<Octets, AllocError>
+pub(crate) fn bits_changed(
+    alloc: Global,
+    burst: &Burst,
+    octets: &[u8],
+) -> Result<Octets, AllocError>
     requires { is_within burst.now (length octets.now) ≡ true }
-    ensures { IfOk result (λ o. o ≡ changed burst.now octets.now) }
+    ensures { IfOk result (λ o. o ≡ bits_changed burst.now octets.now) }
 {
     let at = burst.at;
     let two = [octets[at] ^ burst.first, octets[at + 1] ^ burst.second];

@@ -4,11 +4,11 @@ ghost use Rattle.std.specs.Prelude.{◌≡◌, ◌≤◌, ◌<◌, ◌⊎◌, �
 ghost use Rattle.std.specs.Io.KnownBytes.{Appends};
 ghost use Rattle.lpt_text.specs.Streams.{AppendsPart, WriteEnds};
 ghost use Rattle.lpt_lossy.specs.Bursts.{is_within};
-ghost use Rattle.lpt_lossy.specs.TurnsInside.{carried_now, carried_turns, handed_now, handed_turns, repeated, turn_octets};
+ghost use Rattle.lpt_lossy.specs.TurnsInside.{carried_now, carried_turns, handed_now, handed_turns, octets_repeated, turn_octets};
 ghost use Rattle.lpt_lossy.specs.Ways.{with_burst};
 
 use crate::Fate;
-use crate::burst::changed;
+use crate::burst::bits_changed;
 use crate::turns::Turns;
 use lpt_text::{Sink, StreamFault, write_out};
 use std::alloc::Global;
@@ -62,7 +62,7 @@ fn hand_on_changed<K: Sink>(
 {
     match way.burst {
         Some(burst) => {
-            let changed = changed(alloc, &burst, octets)?;
+            let changed = bits_changed(alloc, &burst, octets)?;
             hand_on(way, changed.as_slice(), turns, out)
         }
         None => hand_on(way, octets, turns, out),
@@ -100,10 +100,10 @@ fn hand_on<K: Sink>(
 // Writes octets once or twice.
 fn write_again<K: Sink>(octets: &[u8], is_twice: bool, out: &mut K) -> Result<(), StreamFault>
     ensures ok { OnOk result (Appends (K.contents out.old) (K.contents out.new)
-        (repeated is_twice octets.now)) }
+        (octets_repeated is_twice octets.now)) }
     ensures fault { IfErr result (λ e. e ≡ StreamFault.Write) }
     ensures part { IfErr result (λ _. AppendsPart (K.contents out.old) (K.contents out.new)
-        (repeated is_twice octets.now)) }
+        (octets_repeated is_twice octets.now)) }
     ensures writer { WriteEnds result (K.failed out.old) (K.failed out.new) }
 {
     write_out(out, octets)?;

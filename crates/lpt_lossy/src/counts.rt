@@ -9,7 +9,7 @@ use crate::Fate;
 /// How many packets of a stream were lost, repeated and so on. One can be several of these. Each
 /// number stays at 2^64 - 1 if it would be more.
 #[derive(Clone, Copy)]
-pub struct Counts {
+pub struct CrossingCounts {
     /// Packets that weren't written.
     pub lost: u64,
     /// Packets that were written twice.
@@ -26,22 +26,22 @@ pub struct Counts {
 #[derive(Clone, Copy)]
 pub struct LossyEnd {
     /// How many packets were lost, repeated and so on.
-    pub counts: Counts,
+    pub counts: CrossingCounts,
     /// The place of the octets that ended it, with which no packet begins; none at the stream's
     /// end.
     pub stray: Option<u64>,
 }
 
-impl Counts {
+impl CrossingCounts {
     ghost use Rattle.std.specs.Prelude.{◌≡◌, ◌++◌, ◌∷◌, ℕ, List, []};
     ghost use Rattle.lpt_lossy.specs.Counts.{IsCounted};
     ghost use Rattle.lpt_lossy.specs.Ways.{way, Crossing};
 
     // Of no packets.
-    pub(crate) fn new() -> Counts
+    pub(crate) fn new() -> CrossingCounts
         ensures { (n : ℕ) → IsCounted n [] result }
     {
-        Counts {
+        CrossingCounts {
             lost: 0,
             repeated: 0,
             delayed: 0,

@@ -29,11 +29,11 @@ pub struct Dice {
 
 impl Dice {
     ghost use Rattle.std.specs.Prelude.{◌≡◌};
-    ghost use Rattle.lpt_lossy.specs.Throws.{seeded};
+    ghost use Rattle.lpt_lossy.specs.Throws.{dice_seeded};
 
     /// Dice of these odds that were seeded by this number.
     pub fn new(odds: Odds, seed: u64) -> Dice
-        ensures { result ≡ seeded odds seed }
+        ensures { result ≡ dice_seeded odds seed }
     {
         Dice {
             odds,

@@ -17,7 +17,7 @@ mod settling;
 mod turns;
 mod words;
 
-pub use counts::{Counts, LossyEnd};
+pub use counts::{CrossingCounts, LossyEnd};
 pub use dice::{Dice, Odds};
 pub use fate::{Burst, Decider, Fate};
 pub use lossy::lossy_stream;

@@ -9,9 +9,9 @@ ghost use Rattle.lpt_lossy.specs.Frames.{length_in};
 ghost use Rattle.lpt_lossy.specs.TurnsInside.{turn_octets};
 
 use crate::carrying::carry;
-use crate::counts::{Counts, LossyEnd};
+use crate::counts::{CrossingCounts, LossyEnd};
 use crate::fate::Decider;
-use crate::settling::settled;
+use crate::settling::fate_settled;
 use crate::turns::Turns;
 use lpt_frames::{FrameBuffer, Front};
 use lpt_text::{Sink, Source, StreamFault, flush_out};
@@ -51,7 +51,7 @@ pub fn lossy_stream<S: Source, K: Sink, D: Decider>(
 {
     let mut frames = FrameBuffer::new(alloc);
     let mut turns = Turns::new(alloc, most_later)?;
-    let mut counts = Counts::new();
+    let mut counts = CrossingCounts::new();
     let mut place: u64 = 0;
     for _ in 0..u64::MAX {
         let front = frames.find_frame(source, out)?;
@@ -59,12 +59,12 @@ pub fn lossy_stream<S: Source, K: Sink, D: Decider>(
             Some(len) => len,
             None => {
                 end_run(&turns, out)?;
-                let stray = stray_at(place, frames.held());
+                let stray = stray_at(place, frames.octets_held());
                 return Ok(LossyEnd { counts, stray });
             }
         };
-        let octets = &frames.held()[..len];
-        let way = settled(decider.decide(len), most_later, octets);
+        let octets = &frames.octets_held()[..len];
+        let way = fate_settled(decider.decide(len), most_later, octets);
         carry(alloc, &way, octets, &mut turns, out)?;
         counts.add(&way);
         place = place.saturating_add(len as u64);

@@ -2,15 +2,15 @@
 
 ghost use Rattle.std.specs.Prelude.{◌≡◌, ◌≤◌, true, length, IfSome};
 ghost use Rattle.lpt_lossy.specs.Bursts.{is_within};
-ghost use Rattle.lpt_lossy.specs.Ways.{if_it_can, settled};
+ghost use Rattle.lpt_lossy.specs.Ways.{if_it_can, fate_settled};
 
 use crate::burst::can_change;
 use crate::{Burst, Fate};
 
 // What becomes of these octets, where none are written later than so many packets: nothing else
 // becomes of what is lost, and bits are changed only where that shows.
-pub(crate) fn settled(fate: Fate, most_later: u16, octets: &[u8]) -> Fate
-    ensures way { result ≡ settled most_later fate octets.now }
+pub(crate) fn fate_settled(fate: Fate, most_later: u16, octets: &[u8]) -> Fate
+    ensures way { result ≡ fate_settled most_later fate octets.now }
     ensures most { result.later ≤ most_later }
     ensures lost { result.is_lost ≡ true → result.later ≡ 0 }
     ensures burst { IfSome result.burst (λ u. is_within u (length octets.now) ≡ true) }

@@ -1,7 +1,7 @@
 //! What is held until it is written.
 
 ghost use Rattle.std.specs.Prelude.{◌≡◌, ◌++◌, OnOk};
-ghost use Rattle.lpt_lossy.specs.TurnsInside.{repeated};
+ghost use Rattle.lpt_lossy.specs.TurnsInside.{octets_repeated};
 
 use lpt_text::{Sink, StreamFault, write_out};
 use std::alloc::{AllocError, Global};
@@ -19,7 +19,7 @@ impl Turns {
     ghost use Rattle.std.specs.Io.KnownBytes.{Appends};
     ghost use Rattle.lpt_text.specs.Streams.{AppendsPart, WriteEnds};
     ghost use Rattle.lpt_lossy.specs.Carrying.{empty_turns};
-    ghost use Rattle.lpt_lossy.specs.TurnsInside.{behind_turn, first_octets, next_octets, repeated, turn_octets, IsHeld};
+    ghost use Rattle.lpt_lossy.specs.TurnsInside.{behind_turn, first_octets, next_octets, octets_repeated, turn_octets, IsHeld};
 
     // Turns of which none holds anything, one more than a packet may be later. The only error is
     // out of memory.
@@ -43,7 +43,7 @@ impl Turns {
     ) -> Result<(), AllocError>
         requires { turn < length (turn_octets self.old) }
         ensures { OnOk result (turn_octets self.new
-            ≡ behind_turn turn (repeated is_twice octets.now) (turn_octets self.old)) }
+            ≡ behind_turn turn (octets_repeated is_twice octets.now) (turn_octets self.old)) }
     {
         add(&mut self.turns[usize::from(turn)], octets, is_twice)
     }
@@ -87,7 +87,7 @@ impl Turns {
 
 // Adds octets once or twice. The only error is out of memory.
 fn add(held: &mut Vec<u8>, octets: &[u8], is_twice: bool) -> Result<(), AllocError>
-    ensures { OnOk result (held.new.items ≡ held.old.items ++ repeated is_twice octets.now) }
+    ensures { OnOk result (held.new.items ≡ held.old.items ++ octets_repeated is_twice octets.now) }
 {
     held.extend_from_slice(octets)?;
     if is_twice {

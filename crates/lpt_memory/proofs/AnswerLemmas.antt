@@ -13,7 +13,7 @@ use Rattle.lpt_memory.specs.Effects.{octets_in, dump_area, check_area, octets_of
 use Rattle.lpt_memory.specs.Meanings.{Meaning, Silent, Fault, Load, Dump, Check, Sizes, dump_length}
 use Rattle.lpt_memory.specs.Memories.{Contents, sizes_of}
 use Rattle.lpt_memory.specs.Ranges.{RangesFit, ReadFits, MeaningFits}
-use Rattle.lpt_memory.specs.Seen.{seen, IsCounted}
+use Rattle.lpt_memory.specs.Seen.{plan_meaning, IsCounted}
 use Rattle.lpt_memory.proofs.MemoriesLemmas.{RangesFit-octets_of}
 
 length-dump_area : (content : List ℕ) (r : AreaRange)
@@ -77,8 +77,8 @@ replied-answer (Check id ranges) ms fits =
 -- a reply fits a packet
 pub reply-short : (content : Plan) (body : List ℕ) (sizes : Sizes)
     → IsCounted content
-    → MeaningFits sizes (seen body content)
-    → IfSome (reply_length (seen body content)) (λ n. n ≤ 65523)
+    → MeaningFits sizes (plan_meaning body content)
+    → IfSome (reply_length (plan_meaning body content)) (λ n. n ≤ 65523)
 reply-short contents.Silent body sizes counted fits = tt
 reply-short (contents.Code code) body sizes counted fits = tt
 reply-short (contents.Load id areas) body sizes counted fits = tt

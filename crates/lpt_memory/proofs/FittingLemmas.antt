@@ -6,8 +6,8 @@ use Rattle.lpt_memory.specs.Effects.{dump_body}
 use Rattle.lpt_memory.specs.Meanings.{Sizes, Dump, dump_length}
 use Rattle.lpt_memory.specs.Memories.{Contents, sizes_of}
 use Rattle.lpt_memory.specs.Ranges.{ReadFits, MeaningFits}
-use Rattle.lpt_memory.specs.Readings.{Source, meant}
-use Rattle.lpt_memory.specs.Seen.{body_of, seen}
+use Rattle.lpt_memory.specs.Readings.{Source, source_meaning}
+use Rattle.lpt_memory.specs.Seen.{body_of, plan_meaning}
 use Rattle.lpt_memory.proofs.AnswerLemmas.{length-dump_body}
 use Rattle.lpt_memory.proofs.MeaningLemmas.{meaning-fits}
 
@@ -25,10 +25,10 @@ fits_memories {A} Fits sizes ms items xs same is fits =
 -- what the content stands for fits the sizes that it was read for
 pub seen_fits : (r : Source) {x y : Plan}
     → x ≡ y
-    → seen (body_of r.message) x ≡ meant r
-    → MeaningFits r.sizes (seen (body_of r.message) y)
+    → plan_meaning (body_of r.message) x ≡ source_meaning r
+    → MeaningFits r.sizes (plan_meaning (body_of r.message) y)
 seen_fits r is same =
-    subst (MeaningFits r.sizes) (sym same ∙ ap (seen (body_of r.message)) is)
+    subst (MeaningFits r.sizes) (sym same ∙ ap (plan_meaning (body_of r.message)) is)
     (meaning-fits r.apid r.sizes r.message)
 
 -- the answer to a dump within the sizes fits a packet

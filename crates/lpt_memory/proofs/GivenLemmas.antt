@@ -20,12 +20,12 @@ use Rattle.lpt_memory.specs.declared.request.Plan.{Plan}
 use Rattle.lpt_memory.specs.declared.request.Plan.TheVariants as plans
 use Rattle.lpt_memory.specs.declared.request.StoredArea.{StoredArea}
 use Rattle.lpt_memory.specs.Effects.{octets_in, octets_of, answer, AnswerFits, reply_length, length_replied}
-use Rattle.lpt_memory.specs.Given.{accesses, all_length, answer_of, area_of, areas_of, octets_read, put_each, read_by, read_length, read_of, reply_of, write_of, written}
+use Rattle.lpt_memory.specs.Given.{accesses, all_length, answer_of, area_of, areas_of, octets_read, put_each, read_by, read_length, read_of, reply_of, write_of, octets_written}
 use Rattle.lpt_memory.specs.Meanings.{Meaning, Silent, Fault, Load, Dump, Check, Sizes}
-use Rattle.lpt_memory.specs.Memories.{Contents, sizes_of, put_all, loaded, effect}
+use Rattle.lpt_memory.specs.Memories.{Contents, sizes_of, put_all, memories_loaded, effect}
 use Rattle.lpt_memory.specs.Ranges.{RangesFit, MeaningFits}
-use Rattle.lpt_memory.specs.Readings.{Source, meant}
-use Rattle.lpt_memory.specs.Seen.{seen, octets_at, areas_in, AreWithin}
+use Rattle.lpt_memory.specs.Readings.{Source, source_meaning}
+use Rattle.lpt_memory.specs.Seen.{plan_meaning, octets_at, areas_in, AreWithin}
 use Rattle.lpt_memory.proofs.MeaningLemmas.{meaning-fits}
 use Rattle.lpt_memory.proofs.MemoriesLemmas.{RangesFit-octets_of}
 
@@ -147,7 +147,8 @@ given-fits m octets sizes fits short whole =
 
 -- ---- what is read, whatever the body is
 
-pub read_length-any : (p : Plan) (a b : List ℕ) → read_length (seen a p) ≡ read_length (seen b p)
+pub read_length-any : (p : Plan) (a b : List ℕ) → read_length (plan_meaning a p)
+    ≡ read_length (plan_meaning b p)
 read_length-any plans.Silent a b = refl
 read_length-any (plans.Code code) a b = refl
 read_length-any (plans.Load id areas) a b = refl
@@ -216,39 +217,44 @@ within-at len (x ∷ rest) (suc number) d there within =
 
 -- a load of several areas is one of the first, and then of the others
 loaded-cons : (id : ℕ) (a : Area) (areas : List Area) (ms : Contents)
-    → loaded id areas (loaded id (a ∷ []) ms) ≡ loaded id (a ∷ areas) ms
+    → memories_loaded id areas (memories_loaded id (a ∷ []) ms) ≡ memories_loaded id (a ∷ areas) ms
 loaded-cons id a areas [] = refl
 loaded-cons id a areas (m ∷ ms) = go (loaded-cons id a areas ms) (m.0 == id) refl where
-  go : loaded id areas (loaded id (a ∷ []) ms) ≡ loaded id (a ∷ areas) ms
+  go : memories_loaded id areas (memories_loaded id (a ∷ []) ms) ≡ memories_loaded id (a ∷ areas) ms
       → (b : Bool)
       → (m.0 == id) ≡ b
-      → loaded id areas (if b then (m.0, put_all m.1 (a ∷ [])) ∷ ms else m ∷ loaded id (a ∷ []) ms)
-      ≡ (if b then (m.0, put_all m.1 (a ∷ areas)) ∷ ms else m ∷ loaded id (a ∷ areas) ms)
+      → memories_loaded id areas
+      (if b then (m.0, put_all m.1 (a ∷ [])) ∷ ms else m ∷ memories_loaded id (a ∷ []) ms)
+      ≡ (if b then (m.0, put_all m.1 (a ∷ areas)) ∷ ms else m ∷ memories_loaded id (a ∷ areas) ms)
   go others true is = ap (λ b. if b then (m.0, put_all (put_all m.1 (a ∷ [])) areas) ∷ ms
-      else (m.0, put_all m.1 (a ∷ [])) ∷ loaded id areas ms) is
-  go others false is = ap (λ b. if b then (m.0, put_all m.1 areas) ∷ loaded id (a ∷ []) ms
-      else m ∷ loaded id areas (loaded id (a ∷ []) ms)) is
+      else (m.0, put_all m.1 (a ∷ [])) ∷ memories_loaded id areas ms) is
+  go others false is = ap (λ b. if b then (m.0, put_all m.1 areas) ∷ memories_loaded id (a ∷ []) ms
+      else m ∷ memories_loaded id areas (memories_loaded id (a ∷ []) ms)) is
       ∙ ap (λ (rest : Contents). m ∷ rest) others
 
 -- a load of no areas changes nothing
-loaded-none : (id : ℕ) (ms : Contents) → loaded id [] ms ≡ ms
+loaded-none : (id : ℕ) (ms : Contents) → memories_loaded id [] ms ≡ ms
 loaded-none id [] = refl
 loaded-none id (m ∷ ms) = go (loaded-none id ms) (m.0 == id) where
-  go : loaded id [] ms ≡ ms → (b : Bool) → (if b then (m.0, m.1) ∷ ms else m ∷ loaded id [] ms) ≡ m ∷ ms
+  go : memories_loaded id [] ms ≡ ms → (b : Bool)
+      → (if b then (m.0, m.1) ∷ ms else m ∷ memories_loaded id [] ms) ≡ m ∷ ms
   go others true = refl
   go others false = ap (λ (rest : Contents). m ∷ rest) others
 
 put_areas : (id : ℕ) (areas : List Area) (ms : Contents)
-    → put_each (map (write_of id) areas) (map (λ a. a.octets) areas) ms ≡ loaded id areas ms
+    → put_each (map (write_of id) areas) (map (λ a. a.octets) areas) ms
+    ≡ memories_loaded id areas ms
 put_areas id [] ms = sym (loaded-none id ms)
-put_areas id (a ∷ rest) ms = put_areas id rest (loaded id (a ∷ []) ms) ∙ loaded-cons id a rest ms
+put_areas id (a ∷ rest) ms =
+    put_areas id rest (memories_loaded id (a ∷ []) ms) ∙ loaded-cons id a rest ms
 
 put_none : (all : List Access) (ms : Contents) → put_each all [] ms ≡ ms
 put_none [] ms = refl
 put_none (a ∷ rest) ms = refl
 
 -- the octets that are written, access by access, are what a message makes of the memories
-pub written-effect : (m : Meaning) (ms : Contents) → put_each (accesses m) (written m) ms ≡ effect m ms
+pub written-effect : (m : Meaning) (ms : Contents) → put_each (accesses m) (octets_written m) ms
+    ≡ effect m ms
 written-effect Silent ms = refl
 written-effect (Fault code) ms = refl
 written-effect (Load id areas) ms = put_areas id areas ms

@@ -8,7 +8,7 @@ use Rattle.lpt_memory.specs.declared.request.Area.{Area}
 use Rattle.lpt_memory.specs.declared.request.AreaRange.{AreaRange}
 use Rattle.lpt_memory.specs.Effects.{octets_of}
 use Rattle.lpt_memory.specs.Meanings.{Sizes, size_of}
-use Rattle.lpt_memory.specs.Memories.{Contents, size, sizes_of, put_all, loaded}
+use Rattle.lpt_memory.specs.Memories.{Contents, size, sizes_of, put_all, memories_loaded}
 use Rattle.lpt_memory.specs.MemoriesInside.{same_sizes}
 use Rattle.lpt_memory.specs.Ranges.{RangesFit, ReadFits}
 
@@ -65,16 +65,16 @@ pub loaded-found : (id : ℕ) (areas : List Area) (ms : Contents) (i : ℕ) (e :
     → i < length ms
     → (get_or ms i e).0 ≡ id
     → put ≡ put_all (get_or ms i e).1 areas
-    → take i ms ++ loaded id areas (drop i ms) ≡ loaded id areas ms
-    → set ms i ((get_or ms i e).0, put) ≡ loaded id areas ms
+    → take i ms ++ memories_loaded id areas (drop i ms) ≡ memories_loaded id areas ms
+    → set ms i ((get_or ms i e).0, put) ≡ memories_loaded id areas ms
 loaded-found id areas ms i e put within found is_put left =
     let m = get_or ms i e in
     let test : (m.0 == id) ≡ true = eq-eqb m.0 id found in
-    let step = at_drop_more (loaded id areas) ms i e within in
-    let chosen : loaded id areas (m ∷ drop (i + 1) ms)
+    let step = at_drop_more (memories_loaded id areas) ms i e within in
+    let chosen : memories_loaded id areas (m ∷ drop (i + 1) ms)
     ≡ (m.0, put_all m.1 areas) ∷ drop (i + 1) ms =
     ap (λ b. cond b ((m.0, put_all m.1 areas) ∷ drop (i + 1) ms)
-    (m ∷ loaded id areas (drop (i + 1) ms))) test in
+    (m ∷ memories_loaded id areas (drop (i + 1) ms))) test in
     let next : suc i ≡ i + 1 = omega arith in
     set_split ms i (m.0, put) within
     ∙ ap (λ (p : List ℕ). take i ms ++ (m.0, p) ∷ drop (suc i) ms) is_put

@@ -6,7 +6,7 @@ use Rattle.std.proofs.lemmas.Grind.{common_steps}
 use Rattle.std.proofs.lemmas.List.{get_or_append_left, get_or-append_right, get_or-drop, get_or-take, length-append, length-take, length-drop}
 use Rattle.lpt_memory.specs.declared.request.Area.{Area}
 use Rattle.lpt_memory.specs.Meanings.{Sizes, Meaning, Silent, Fault, Load, Dump, Check, size_of}
-use Rattle.lpt_memory.specs.Memories.{Contents, content_of, size, sizes_of, put_at, put_all, loaded, effect}
+use Rattle.lpt_memory.specs.Memories.{Contents, content_of, size, sizes_of, put_at, put_all, memories_loaded, effect}
 use Rattle.lpt_memory.specs.Overlaps.{Covers, NoneCovers}
 use Rattle.lpt_memory.specs.Ranges.{AreasFit, MeaningFits}
 
@@ -133,8 +133,8 @@ put_all-last content (b ∷ earlier) a later i fit covers none =
 sizes_of-step : (b : Bool) (m : ℕ × List ℕ) (ms : Contents) (id n : ℕ) (areas : List Area)
     → (if b then Some (length m.1) else size_of id (sizes_of ms)) ≡ Some n
     → AreasFit n areas
-    → (size_of id (sizes_of ms) ≡ Some n → sizes_of (loaded id areas ms) ≡ sizes_of ms)
-    → sizes_of (if b then (m.0, put_all m.1 areas) ∷ ms else m ∷ loaded id areas ms)
+    → (size_of id (sizes_of ms) ≡ Some n → sizes_of (memories_loaded id areas ms) ≡ sizes_of ms)
+    → sizes_of (if b then (m.0, put_all m.1 areas) ∷ ms else m ∷ memories_loaded id areas ms)
     ≡ sizes_of (m ∷ ms)
 sizes_of-step true m ms id n areas known fit rest =
     let same : n ≡ length m.1 = cc in
@@ -146,7 +146,7 @@ sizes_of-step false m ms id n areas known fit rest = ap (λ (ss : Sizes). size m
 sizes_of-loaded : (id n : ℕ) (areas : List Area) (ms : Contents)
     → size_of id (sizes_of ms) ≡ Some n
     → AreasFit n areas
-    → sizes_of (loaded id areas ms) ≡ sizes_of ms
+    → sizes_of (memories_loaded id areas ms) ≡ sizes_of ms
 sizes_of-loaded id n areas [] known fit = refl
 sizes_of-loaded id n areas (m ∷ ms) known fit =
     sizes_of-step (m.0 == id) m ms id n areas known fit (λ e. sizes_of-loaded id n areas ms e fit)
@@ -164,18 +164,19 @@ sizes_of-effect (Check id ranges) ms fits = refl
 -- a load changes the memory that it names
 pub content_of-loaded : (id : ℕ) (areas : List Area) (content : List ℕ) (ms : Contents)
     → content_of id ms ≡ Some content
-    → content_of id (loaded id areas ms) ≡ Some (put_all content areas)
+    → content_of id (memories_loaded id areas ms) ≡ Some (put_all content areas)
 content_of-loaded id areas content [] known = absurd cc
 content_of-loaded id areas content (m ∷ ms) known =
-    let rest : content_of id ms ≡ Some content → content_of id (loaded id areas ms)
+    let rest : content_of id ms ≡ Some content → content_of id (memories_loaded id areas ms)
     ≡ Some (put_all content areas) = content_of-loaded id areas content ms in
     go (m.0 == id) refl known rest where
       go : (b : Bool)
           → (m.0 == id) ≡ b
           → (if b then Some m.1 else content_of id ms) ≡ Some content
-          → (content_of id ms ≡ Some content → content_of id (loaded id areas ms)
+          → (content_of id ms ≡ Some content → content_of id (memories_loaded id areas ms)
           ≡ Some (put_all content areas))
-          → content_of id (if b then (m.0, put_all m.1 areas) ∷ ms else m ∷ loaded id areas ms)
+          → content_of id
+          (if b then (m.0, put_all m.1 areas) ∷ ms else m ∷ memories_loaded id areas ms)
           ≡ Some (put_all content areas)
       go true test is rest =
           let same : m.1 ≡ content = cc in
@@ -185,9 +186,9 @@ content_of-loaded id areas content (m ∷ ms) known =
 -- a load changes no other memory
 pub content_of-other : (id other : ℕ) (areas : List Area) (ms : Contents)
     → id ≢ other
-    → content_of other (loaded id areas ms) ≡ content_of other ms
+    → content_of other (memories_loaded id areas ms) ≡ content_of other ms
 content_of-other id other areas [] differ = refl
 content_of-other id other areas (m ∷ ms) differ =
-    let rest : content_of other (loaded id areas ms)
+    let rest : content_of other (memories_loaded id areas ms)
     ≡ content_of other ms = content_of-other id other areas ms differ in
     grind (arith, common_steps, nat_tests)

@@ -16,25 +16,27 @@ use Rattle.lpt_memory.specs.declared.request.Area.{Area}
 use Rattle.lpt_memory.specs.Requests.{LoadArea, Request, front_load_area, request_in}
 use Rattle.lpt_memory.specs.Meanings.{Load, Sizes, size_of, load_fault, area, unless, load_meaning, body_meaning, command_meaning, meaning}
 use Rattle.lpt_memory.specs.Ranges.{AreasFit}
-use Rattle.lpt_memory.specs.Spellings.{load_area_text, LoadAreaFits, AreAreas, stored, load_text, load_length, any_empty, write_fault}
+use Rattle.lpt_memory.specs.Spellings.{load_area_text, LoadAreaFits, AreAreas, area_stored, load_text, load_length, any_empty, write_fault}
 use Rattle.lpt_memory.proofs.BodyLemmas.{load_area_again, body_again}
 use Rattle.lpt_memory.proofs.BodyMeanings.{if_formed-known}
 
 -- ---- the length
 
-length-load_area_text : (a : Area) → length (load_area_text (stored a)) ≡ 8 + length a.octets
+length-load_area_text : (a : Area) → length (load_area_text (area_stored a)) ≡ 8 + length a.octets
 length-load_area_text a =
     omega (arith, length-append a.octets (be (checksum a.octets) 2))
 
 length-areas : (areas : List Area)
-    → length (flat_map load_area_text (map stored areas)) ≡ sum_by (λ a. 8 + length a.octets) areas
+    → length (flat_map load_area_text (map area_stored areas))
+    ≡ sum_by (λ a. 8 + length a.octets) areas
 length-areas [] = refl
 length-areas (a ∷ rest) =
-    let texts = flat_map load_area_text (map stored rest) in
-    ap (λ (t : List ℕ). length t) (flat_map-cons load_area_text (stored a) (map stored rest))
+    let texts = flat_map load_area_text (map area_stored rest) in
+    ap (λ (t : List ℕ). length t)
+    (flat_map-cons load_area_text (area_stored a) (map area_stored rest))
     ∙ omega (
       arith,
-      length-append (load_area_text (stored a)) texts,
+      length-append (load_area_text (area_stored a)) texts,
       length-load_area_text a,
       length-areas rest,
       sum_by-cons (λ (b : Area). 8 + length b.octets) a rest,
@@ -51,7 +53,7 @@ areas_spelled : (areas : List Area)
     → sum_by (λ a. 8 + length a.octets) areas ≤ 65527
     → any_empty areas ≡ false
     → AllByRecursion (λ a. a.address < 2 ^ 32) areas
-    → AllByRecursion LoadAreaFits (map stored areas)
+    → AllByRecursion LoadAreaFits (map area_stored areas)
 areas_spelled [] short some addresses = tt
 areas_spelled (a ∷ rest) short some addresses =
     let sum = sum_by-cons (λ (b : Area). 8 + length b.octets) a rest in
@@ -101,10 +103,10 @@ is_writable areas e =
 pub load_spelled : (areas : List Area)
     → write_fault areas ≡ None
     → AllByRecursion (λ a. a.address < 2 ^ 32) areas
-    → AreAreas LoadAreaFits (map stored areas)
+    → AreAreas LoadAreaFits (map area_stored areas)
 load_spelled areas e addresses =
     let w = is_writable areas e in
-    let count = length-map areas stored in (
+    let count = length-map areas area_stored in (
       omega (arith, count, w.some),
       omega (arith, count, w.few),
       areas_spelled areas (omega (arith, w.fits)) w.full addresses,
@@ -114,14 +116,14 @@ load_spelled areas e addresses =
 
 load_fault-stored : (size : ℕ) (areas : List Area)
     → AreasFit size areas
-    → load_fault size (map stored areas) ≡ None
+    → load_fault size (map area_stored areas) ≡ None
 load_fault-stored size [] fit = refl
 load_fault-stored size (a ∷ rest) fit =
     let within : nat_lt size (a.address + length a.octets) ≡ false = le-ltb _ _ fit.0 in
     let same : (checksum a.octets == checksum a.octets) ≡ true = eq-eqb _ _ refl in
     rw (within, same) (load_fault-stored size rest fit.1)
 
-area-stored : (areas : List Area) → map area (map stored areas) ≡ areas
+area-stored : (areas : List Area) → map area (map area_stored areas) ≡ areas
 area-stored [] = refl
 area-stored (a ∷ rest) = ap (λ (xs : List Area). a ∷ xs) (area-stored rest)
 
@@ -132,22 +134,22 @@ pub load-meant : (c : Command) (o : List ℕ) (memory : ℕ) (areas : List Area)
     → c.subtype ≡ 2
     → c.body ≡ load_text memory areas
     → command_in c.apid o ≡ Some c
-    → AreAreas LoadAreaFits (map stored areas)
+    → AreAreas LoadAreaFits (map area_stored areas)
     → size_of memory sizes ≡ Some size
     → AreasFit size areas
     → meaning c.apid sizes o ≡ Load memory areas
 unfolding meaning body_meaning
 load-meant c o memory areas sizes size service subtype body read fits known fit =
-    let r : Request LoadArea = record { memory = memory; areas = map stored areas } in
+    let r : Request LoadArea = record { memory = memory; areas = map area_stored areas } in
     let formed = if_formed-known load_meaning sizes
     (request_in front_load_area (load_text memory areas)) r size
     (body_again front_load_area load_area_text LoadAreaFits load_area_again memory
-    (map stored areas) fits) known in
+    (map area_stored areas) fits) known in
     ap (command_meaning sizes) read
     ∙ ap (λ (s : ℕ). body_meaning sizes s c.subtype c.body) service
     ∙ ap (λ (s : ℕ). body_meaning sizes 6 s c.body) subtype
     ∙ ap (λ (b : List ℕ). body_meaning sizes 6 2 b) body
     ∙ formed
-    ∙ ap (λ (f : Option FailureCode). unless f (Load memory (map area (map stored areas))))
+    ∙ ap (λ (f : Option FailureCode). unless f (Load memory (map area (map area_stored areas))))
     (load_fault-stored size areas fit)
     ∙ ap (λ (xs : List Area). Load memory xs) (area-stored areas)

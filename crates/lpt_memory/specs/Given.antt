@@ -10,7 +10,7 @@ use Rattle.lpt_memory.specs.declared.request.Area.{Area}
 use Rattle.lpt_memory.specs.declared.request.AreaRange.{AreaRange}
 use Rattle.lpt_memory.specs.Effects.{octets_of, dumped_area, checked_area}
 use Rattle.lpt_memory.specs.Meanings.{Meaning, Silent, Fault, Load, Dump, Check}
-use Rattle.lpt_memory.specs.Memories.{Contents, loaded}
+use Rattle.lpt_memory.specs.Memories.{Contents, memories_loaded}
 
 -- ---- accesses
 
@@ -31,19 +31,20 @@ accesses (Dump id ranges) = map (read_of id) ranges
 accesses (Check id ranges) = map (read_of id) ranges
 
 -- what is written, access by access
-abbrev pub written : Meaning → List (List ℕ)
-written Silent = []
-written (Fault code) = []
-written (Load id areas) = map (λ a. a.octets) areas
-written (Dump id ranges) = []
-written (Check id ranges) = []
+abbrev pub octets_written : Meaning → List (List ℕ)
+octets_written Silent = []
+octets_written (Fault code) = []
+octets_written (Load id areas) = map (λ a. a.octets) areas
+octets_written (Dump id ranges) = []
+octets_written (Check id ranges) = []
 
 -- octets that are written by one access after the other
 abbrev pub put_each : List Access → List (List ℕ) → Contents → Contents
 put_each [] octets ms = ms
 put_each (a ∷ rest) [] ms = ms
 put_each (a ∷ rest) (o ∷ others) ms =
-    put_each rest others (loaded a.memory (record { address = a.address; octets = o } ∷ []) ms)
+    put_each rest others
+    (memories_loaded a.memory (record { address = a.address; octets = o } ∷ []) ms)
 
 -- ---- octets that are read
 

@@ -41,15 +41,15 @@ put_all content [] = content
 put_all content (a ∷ rest) = put_all (put_at content a.address a.octets) rest
 
 -- the memories after a load into one of them
-abbrev pub loaded : ℕ → List Area → Contents → Contents
-loaded id areas [] = []
-loaded id areas (m ∷ ms) =
-    if m.0 == id then (m.0, put_all m.1 areas) ∷ ms else m ∷ loaded id areas ms
+abbrev pub memories_loaded : ℕ → List Area → Contents → Contents
+memories_loaded id areas [] = []
+memories_loaded id areas (m ∷ ms) =
+    if m.0 == id then (m.0, put_all m.1 areas) ∷ ms else m ∷ memories_loaded id areas ms
 
 -- what a message leaves of the memories
 abbrev pub effect : Meaning → Contents → Contents
 effect Silent ms = ms
 effect (Fault code) ms = ms
-effect (Load id areas) ms = loaded id areas ms
+effect (Load id areas) ms = memories_loaded id areas ms
 effect (Dump id ranges) ms = ms
 effect (Check id ranges) ms = ms

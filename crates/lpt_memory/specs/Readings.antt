@@ -11,8 +11,8 @@ pub record Source : Type 0 where
   pub message : List ℕ
 
 -- what the message means there
-abbrev pub meant : Source → Meaning
-meant s = meaning s.apid s.sizes s.message
+abbrev pub source_meaning : Source → Meaning
+source_meaning s = meaning s.apid s.sizes s.message
 
 -- this is the head of the telecommand that octets are, or nothing where they are none of this APID
 abbrev pub IsHeadIn : Option TcHead → ℕ → List ℕ → Type 0

@@ -36,12 +36,12 @@ AreWithin len [] = Unit {0}
 AreWithin len (a ∷ rest) = (a.from + a.len ≤ len) × AreWithin len rest
 
 -- what a plan stands for, at a message with this body
-abbrev pub seen : List ℕ → Plan → Meaning
-seen body plans.Silent = Silent
-seen body (plans.Code c) = Fault c
-seen body (plans.Load m areas) = Load m (areas_in body areas.items)
-seen body (plans.Dump m ranges) = Dump m ranges.items
-seen body (plans.Check m ranges) = Check m ranges.items
+abbrev pub plan_meaning : List ℕ → Plan → Meaning
+plan_meaning body plans.Silent = Silent
+plan_meaning body (plans.Code c) = Fault c
+plan_meaning body (plans.Load m areas) = Load m (areas_in body areas.items)
+plan_meaning body (plans.Dump m ranges) = Dump m ranges.items
+plan_meaning body (plans.Check m ranges) = Check m ranges.items
 
 -- the areas of a load lie within the body
 abbrev pub IsWithin : List ℕ → Plan → Type 0

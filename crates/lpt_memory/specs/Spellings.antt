@@ -41,12 +41,12 @@ abbrev pub AreAreas : {A : Type 0} → (A → Type 0) → List A → Type 0
 AreAreas Fits areas = (0 < length areas) × (length areas < 256) × AllByRecursion Fits areas
 
 -- an area with the checksum of its octets
-abbrev pub stored : Area → LoadArea
-stored a = record { address = a.address; octets = a.octets; checksum = checksum a.octets }
+abbrev pub area_stored : Area → LoadArea
+area_stored a = record { address = a.address; octets = a.octets; checksum = checksum a.octets }
 
 -- the body of a load of these areas
 abbrev pub load_text : ℕ → List Area → List ℕ
-load_text memory areas = body_text load_area_text memory (map stored areas)
+load_text memory areas = body_text load_area_text memory (map area_stored areas)
 
 -- the octets of a load's packet: 15, and in each area 8 and its octets
 abbrev pub load_length : List Area → ℕ

@@ -2,7 +2,7 @@
 
 ghost use Rattle.std.specs.Prelude.{◌≡◌, ◌<◌, length, option_map, is_some, IfOk, IsTrue};
 ghost use Rattle.lpt_memory.specs.Meanings.{size_of};
-ghost use Rattle.lpt_memory.specs.Memories.{content_of, sizes_of, are_distinct, are_memories, put_all, loaded};
+ghost use Rattle.lpt_memory.specs.Memories.{content_of, sizes_of, are_distinct, are_memories, put_all, memories_loaded};
 ghost use Rattle.lpt_memory.specs.Effects.{octets_of, dump_body, check_body};
 ghost use Rattle.lpt_memory.specs.Ranges.{AreasFit, LoadFits, ReadFits};
 ghost use Rattle.lpt_memory.specs.MemoriesInside.{same_sizes};
@@ -118,7 +118,7 @@ fn put_all(content: &mut Octets, body: &[u8], areas: &[StoredArea])
 pub(crate) fn load(memories: &mut [(u8, Octets)], id: u8, body: &[u8], areas: &[StoredArea])
     requires within { AreWithin (length body.now) areas.now }
     requires fit { LoadFits (sizes_of memories.old) id (areas_in body.now areas.now) }
-    ensures loaded { memories.new ≡ loaded id (areas_in body.now areas.now) memories.old }
+    ensures loaded { memories.new ≡ memories_loaded id (areas_in body.now areas.now) memories.old }
     ensures sizes { sizes_of memories.new ≡ sizes_of memories.old }
 {
     for (known, octets) in memories {

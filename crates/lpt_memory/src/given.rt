@@ -2,9 +2,9 @@
 
 ghost use Rattle.std.specs.Prelude.{◌≡◌, ℕ, List, IfOk, IsOk, length, map, option_map, slice_get};
 ghost use Rattle.lpt_memory.specs.Effects.{answer, HasNoReply, AnswerFits};
-ghost use Rattle.lpt_memory.specs.Given.{accesses, answer_of, octets_read, read_length, read_of, write_of, written};
+ghost use Rattle.lpt_memory.specs.Given.{accesses, answer_of, octets_read, read_length, read_of, write_of, octets_written};
 ghost use Rattle.lpt_memory.specs.Memories.{Contents, sizes_of};
-ghost use Rattle.lpt_memory.specs.Readings.{meant};
+ghost use Rattle.lpt_memory.specs.Readings.{source_meaning};
 ghost use Rattle.lpt_memory.specs.Seen.{areas_in, AreWithin};
 
 use crate::request::{AreaRange, Plan, StoredArea};
@@ -28,7 +28,7 @@ impl Reading {
     /// What the message does to a memory, by a number from 0, in the order in which it is done: a
     /// load writes its areas, a dump and a check read theirs. `None` if it does no more.
     pub fn access(&self, number: usize) -> Option<Access>
-        ensures { result ≡ slice_get (accesses (meant self.now)) number }
+        ensures { result ≡ slice_get (accesses (source_meaning self.now)) number }
     {
         match self.plan() {
             Plan::Silent => None,
@@ -41,8 +41,9 @@ impl Reading {
 
     /// The octets that a load writes by an access of it. `None` if there is no such access, as
     /// always of another message.
-    pub fn written(&self, number: usize) -> Option<&[u8]>
-        ensures { option_map (λ x. x.now) result ≡ slice_get (written (meant self.now)) number }
+    pub fn octets_written(&self, number: usize) -> Option<&[u8]>
+        ensures { option_map (λ x. x.now) result
+            ≡ slice_get (octets_written (source_meaning self.now)) number }
     {
         match self.plan() {
             Plan::Silent => None,
@@ -55,7 +56,7 @@ impl Reading {
 
     /// How many octets the message reads of a memory: those of all areas of a dump or a check.
     pub fn read_len(&self) -> usize
-        ensures { result ≡ read_length (meant self.now) }
+        ensures { result ≡ read_length (source_meaning self.now) }
     {
         octets::read_len(self.plan())
     }
@@ -64,17 +65,17 @@ impl Reading {
     ///
     /// The only error is out of memory, for the answer to a dump or a check.
     pub fn answer_of(&self, alloc: Global, octets: &[u8]) -> Result<Effect, AllocError>
-        requires { length octets.now ≡ read_length (meant self.now) }
-        ensures answer { IfOk result (λ e. e ≡ answer_of (meant self.now) octets.now) }
+        requires { length octets.now ≡ read_length (source_meaning self.now) }
+        ensures answer { IfOk result (λ e. e ≡ answer_of (source_meaning self.now) octets.now) }
         ensures fits { IfOk result (λ e. AnswerFits e) }
 
         // It is the answer of any memories of that shape that have these octets there.
         ensures over { (ms : Contents) → self.now.sizes ≡ sizes_of ms
-            → octets_read (meant self.now) ms ≡ octets.now
-            → IfOk result (λ e. e ≡ answer (meant self.now) ms) }
+            → octets_read (source_meaning self.now) ms ≡ octets.now
+            → IfOk result (λ e. e ≡ answer (source_meaning self.now) ms) }
 
         // It fails only where there is a reply to be made.
-        ensures no_reply { HasNoReply (meant self.now) → IsOk result }
+        ensures no_reply { HasNoReply (source_meaning self.now) → IsOk result }
     {
         octets::answer_of(alloc, self.plan(), octets)
     }

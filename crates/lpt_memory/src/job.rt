@@ -43,11 +43,12 @@ impl Model for Reading {
 
     ghost use Rattle.lpt_memory.specs.Readings.{IsHeadIn};
     ghost use Rattle.lpt_memory.specs.Meanings.{meaning};
-    ghost use Rattle.lpt_memory.specs.Seen.{body_of, seen, IsWithin, IsCounted};
+    ghost use Rattle.lpt_memory.specs.Seen.{body_of, plan_meaning, IsWithin, IsCounted};
 
     ghost view = { λ a. record { apid = a.apid; sizes = a.shape; message = a.message } };
 
-    ghost invariant = { λ a. (seen (body_of a.message) a.plan ≡ meaning a.apid a.shape a.message)
+    ghost invariant = { λ a. (plan_meaning (body_of a.message) a.plan
+        ≡ meaning a.apid a.shape a.message)
         × IsWithin (body_of a.message) a.plan
         × IsCounted a.plan
         × IsHeadIn a.head a.apid a.message };
@@ -221,8 +222,8 @@ impl Reading {
     ghost use Rattle.std.specs.Prelude.{◌≡◌, ◌≤◌, IfSome};
     ghost use Rattle.lpt_memory.specs.Effects.{answer, reply_length, length_replied};
     ghost use Rattle.lpt_memory.specs.Memories.{Contents, sizes_of};
-    ghost use Rattle.lpt_memory.specs.Readings.{meant, IsHeadIn};
-    ghost use Rattle.lpt_memory.specs.Seen.{body_of, seen, IsWithin, IsCounted};
+    ghost use Rattle.lpt_memory.specs.Readings.{source_meaning, IsHeadIn};
+    ghost use Rattle.lpt_memory.specs.Seen.{body_of, plan_meaning, IsWithin, IsCounted};
 
     /// The head of the telecommand that the message is, or `None` if it is none for the APID:
     /// its acknowledgement flags, its source, and what its request ID is made of. `prepare` has
@@ -236,12 +237,12 @@ impl Reading {
     /// How many octets the body of the reply to the message has, at most 65,523. `None` if it has
     /// no reply: it is no telecommand, has a fault or is a load. It takes no memory.
     pub fn reply_len(&self) -> Option<usize>
-        ensures meant { result ≡ reply_length (meant self.now) }
+        ensures meant { result ≡ reply_length (source_meaning self.now) }
         ensures fits { IfSome result (λ n. n ≤ 65523) }
 
         // The reply of any memories of that shape has so many.
         ensures answer { (ms : Contents) → self.now.sizes ≡ sizes_of ms
-            → length_replied (answer (meant self.now) ms) ≡ result }
+            → length_replied (answer (source_meaning self.now) ms) ≡ result }
     {
         reply::reply_len(self.plan())
     }
@@ -255,7 +256,8 @@ impl Reading {
 
     // What the message means.
     pub(crate) fn plan(&self) -> &Plan
-        ensures seen { seen (body_of self.now.message) result.now ≡ meant self.now }
+        ensures seen { plan_meaning (body_of self.now.message) result.now
+            ≡ source_meaning self.now }
         ensures within { IsWithin (body_of self.now.message) result.now }
         ensures counted { IsCounted result.now }
     {

@@ -9,8 +9,8 @@ ghost use Rattle.lpt_memory.specs.declared.request.AreaRange.{AreaRange};
 ghost use Rattle.lpt_memory.specs.Requests.{LoadArea, Request, front_load_area, front_range, request_in};
 ghost use Rattle.lpt_memory.specs.Spellings.{load_area_text, range_text, body_text, LoadAreaFits, RangeFits, AreAreas};
 ghost use Rattle.lpt_memory.specs.declared.request.Area.{Area};
-ghost use Rattle.lpt_memory.specs.Memories.{Contents, sizes_of, content_of, put_all, loaded, effect};
-ghost use Rattle.lpt_memory.specs.Given.{accesses, put_each, written};
+ghost use Rattle.lpt_memory.specs.Memories.{Contents, sizes_of, content_of, put_all, memories_loaded, effect};
+ghost use Rattle.lpt_memory.specs.Given.{accesses, put_each, octets_written};
 ghost use Rattle.lpt_memory.specs.Overlaps.{Covers, NoneCovers};
 ghost use Rattle.lpt_memory.specs.Ranges.{AreasFit};
 ghost use Rattle.lpt_memory.specs.Meanings.{Meaning, Sizes, Silent, Fault, Load, Dump, Check, size_of, load_fault, range_fault, dump_length, area, unless, body_meaning, meaning};
@@ -120,12 +120,13 @@ pub fn later_wins()
 pub fn loads_one_memory()
     ensures named { (id : ℕ) (areas : List Area) (content : List ℕ) (ms : Contents)
         → content_of id ms ≡ Some content
-        → content_of id (loaded id areas ms) ≡ Some (put_all content areas) }
+        → content_of id (memories_loaded id areas ms) ≡ Some (put_all content areas) }
     ensures others { (id other : ℕ) (areas : List Area) (ms : Contents) → id ≢ other
-        → content_of other (loaded id areas ms) ≡ content_of other ms }
+        → content_of other (memories_loaded id areas ms) ≡ content_of other ms }
 {}
 
 /// What is written of a message, access by access, is what it makes of the memories.
 pub fn writes_are_the_effect()
-    ensures { (m : Meaning) (ms : Contents) → put_each (accesses m) (written m) ms ≡ effect m ms }
+    ensures { (m : Meaning) (ms : Contents) → put_each (accesses m) (octets_written m) ms
+        ≡ effect m ms }
 {}

@@ -4,7 +4,7 @@ ghost use Rattle.std.specs.Prelude.{◌≡◌, length, map, option_map, IfOk};
 ghost use Rattle.lpt_packet.specs.Numbers.{IsOctets};
 ghost use Rattle.lpt_pus.specs.Commands.{command, command_in};
 ghost use Rattle.lpt_memory.specs.Requests.{front_load_area, front_range, request_in};
-ghost use Rattle.lpt_memory.specs.Seen.{body_of, load_area, AreWithin, seen, IsWithin, IsCounted};
+ghost use Rattle.lpt_memory.specs.Seen.{body_of, load_area, AreWithin, plan_meaning, IsWithin, IsCounted};
 ghost use Rattle.lpt_memory.specs.Meanings.{size_of, load_fault, range_fault, load_meaning, dump_meaning, check_meaning, if_formed, body_meaning, command_meaning};
 
 use crate::reading::{load_request, range_request};
@@ -74,7 +74,8 @@ fn range_fault_in(size: u32, ranges: &[AreaRange]) -> Option<FailureCode>
 // What the body of a load means. The only error is out of memory.
 fn load(alloc: Global, sizes: &[(u8, u32)], body: &[u8]) -> Result<Plan, AllocError>
     ensures seen { IfOk result (λ x.
-        seen body.now x ≡ if_formed sizes.now load_meaning (request_in front_load_area body.now)) }
+        plan_meaning body.now x ≡ if_formed sizes.now load_meaning
+        (request_in front_load_area body.now)) }
     ensures within { IfOk result (λ x. IsWithin body.now x) }
     ensures counted { IfOk result (λ x. IsCounted x) }
 {
@@ -93,7 +94,8 @@ fn load(alloc: Global, sizes: &[(u8, u32)], body: &[u8]) -> Result<Plan, AllocEr
 // What the body of a dump means. The only error is out of memory.
 fn dump(alloc: Global, sizes: &[(u8, u32)], body: &[u8]) -> Result<Plan, AllocError>
     ensures seen { IfOk result (λ x.
-        seen body.now x ≡ if_formed sizes.now dump_meaning (request_in front_range body.now)) }
+        plan_meaning body.now x ≡ if_formed sizes.now dump_meaning
+        (request_in front_range body.now)) }
     ensures within { IfOk result (λ x. IsWithin body.now x) }
     ensures counted { IfOk result (λ x. IsCounted x) }
 {
@@ -115,7 +117,8 @@ fn dump(alloc: Global, sizes: &[(u8, u32)], body: &[u8]) -> Result<Plan, AllocEr
 // What the body of a check means. The only error is out of memory.
 fn check(alloc: Global, sizes: &[(u8, u32)], body: &[u8]) -> Result<Plan, AllocError>
     ensures seen { IfOk result (λ x.
-        seen body.now x ≡ if_formed sizes.now check_meaning (request_in front_range body.now)) }
+        plan_meaning body.now x ≡ if_formed sizes.now check_meaning
+        (request_in front_range body.now)) }
     ensures within { IfOk result (λ x. IsWithin body.now x) }
     ensures counted { IfOk result (λ x. IsCounted x) }
 {
@@ -142,7 +145,7 @@ fn body_plan(
     body: &[u8],
 ) -> Result<Plan, AllocError>
     ensures seen { IfOk result (λ x.
-        seen body.now x ≡ body_meaning sizes.now service subtype body.now) }
+        plan_meaning body.now x ≡ body_meaning sizes.now service subtype body.now) }
     ensures within { IfOk result (λ x. IsWithin body.now x) }
     ensures counted { IfOk result (λ x. IsCounted x) }
 {
@@ -192,7 +195,7 @@ pub(crate) fn plan(
     head: Option<TcHead>,
     body: &[u8],
 ) -> Result<Plan, AllocError>
-    ensures seen { IfOk result (λ x. seen body.now x
+    ensures seen { IfOk result (λ x. plan_meaning body.now x
         ≡ command_meaning sizes.now (option_map (λ h. command h body.now) head)) }
     ensures within { IfOk result (λ x. IsWithin body.now x) }
     ensures counted { IfOk result (λ x. IsCounted x) }

@@ -32,7 +32,7 @@ impl Memories {
     ghost use Rattle.lpt_memory.specs.declared.fault.MemoryFault.TheVariants.{BadMemories};
     ghost use Rattle.lpt_memory.specs.Memories.{are_memories, sizes_of, content_of, effect};
     ghost use Rattle.lpt_memory.specs.Effects.{answer, HasNoReply, AnswerFits};
-    ghost use Rattle.lpt_memory.specs.Readings.{meant};
+    ghost use Rattle.lpt_memory.specs.Readings.{source_meaning};
 
     /// Memories of these identifiers and octets, which are not copied. It takes no memory.
     ///
@@ -89,11 +89,11 @@ impl Memories {
     /// The only error is out of memory, for the answer to a dump or a check.
     pub fn answer(&self, reading: &Reading) -> Result<Effect, AllocError>
         requires { reading.now.sizes ≡ sizes_of self.now }
-        ensures answer { IfOk result (λ e. e ≡ answer (meant reading.now) self.now) }
+        ensures answer { IfOk result (λ e. e ≡ answer (source_meaning reading.now) self.now) }
         ensures fits { IfOk result (λ e. AnswerFits e) }
 
         // It fails only where there is a reply to be made.
-        ensures no_reply { HasNoReply (meant reading.now) → IsOk result }
+        ensures no_reply { HasNoReply (source_meaning reading.now) → IsOk result }
     {
         match reading.plan() {
             Plan::Silent => Ok(Effect::Silent),
@@ -114,7 +114,7 @@ impl Memories {
     /// message changes nothing. It takes no memory.
     pub fn load(&mut self, reading: &Reading)
         requires { reading.now.sizes ≡ sizes_of self.old }
-        ensures ok { self.new ≡ effect (meant reading.now) self.old }
+        ensures ok { self.new ≡ effect (source_meaning reading.now) self.old }
         ensures shape { sizes_of self.new ≡ sizes_of self.old }
     {
         match reading.plan() {
@@ -135,15 +135,15 @@ impl Memories {
     pub fn apply(&mut self, reading: &Reading) -> Result<Effect, AllocError>
         requires { reading.now.sizes ≡ sizes_of self.old }
         // What it answers, and what it makes of the memories.
-        ensures answer { IfOk result (λ e. e ≡ answer (meant reading.now) self.old) }
-        ensures ok { OnOk result (self.new ≡ effect (meant reading.now) self.old) }
+        ensures answer { IfOk result (λ e. e ≡ answer (source_meaning reading.now) self.old) }
+        ensures ok { OnOk result (self.new ≡ effect (source_meaning reading.now) self.old) }
 
         // What holds of the memories' sizes, and of each answer.
         ensures shape { sizes_of self.new ≡ sizes_of self.old }
         ensures fits { IfOk result (λ e. AnswerFits e) }
 
         // It fails only where there is a reply to be made, and then changes nothing.
-        ensures no_reply { HasNoReply (meant reading.now) → IsOk result }
+        ensures no_reply { HasNoReply (source_meaning reading.now) → IsOk result }
         ensures err { OnErr result (self.new ≡ self.old) }
     {
         let effect = self.answer(reading)?;

@@ -3,7 +3,7 @@
 ghost use Rattle.std.specs.Prelude.{◌≡◌, ℕ, List, ◌<◌, ◌++◌, length, IfOk, IsOk, OnOk};
 ghost use Rattle.lpt_memory.specs.Effects.{HasNoReply};
 ghost use Rattle.lpt_memory.specs.Given.{all_length, area_of, answer_of, read_length, reply_of};
-ghost use Rattle.lpt_memory.specs.Seen.{seen, IsCounted};
+ghost use Rattle.lpt_memory.specs.Seen.{plan_meaning, IsCounted};
 
 use crate::reply::{check_len, dump_len, push_check_area, push_dump_area};
 use crate::request::{AreaRange, Plan};
@@ -40,7 +40,7 @@ fn push_area(
 
 // The body of a reply of a kind, by the octets of its areas, one behind the other. The only error
 // is out of memory.
-fn given(
+fn body_given(
     alloc: Global,
     kind: ReplyKind,
     id: u8,
@@ -70,7 +70,7 @@ fn given(
 // How many octets are read, whatever the message's body is.
 pub(crate) fn read_len(plan: &Plan) -> usize
     requires { IsCounted plan.now }
-    ensures { (body : List ℕ) → result ≡ read_length (seen body plan.now) }
+    ensures { (body : List ℕ) → result ≡ read_length (plan_meaning body plan.now) }
 {
     match plan {
         Plan::Silent => 0,
@@ -85,21 +85,22 @@ pub(crate) fn read_len(plan: &Plan) -> usize
 // memory, for a reply.
 pub(crate) fn answer_of(alloc: Global, plan: &Plan, octets: &[u8]) -> Result<Effect, AllocError>
     requires counted { IsCounted plan.now }
-    requires whole { (body : List ℕ) → length octets.now ≡ read_length (seen body plan.now) }
+    requires whole { (body : List ℕ) → length octets.now
+        ≡ read_length (plan_meaning body plan.now) }
     ensures answer { (body : List ℕ)
-        → IfOk result (λ e. e ≡ answer_of (seen body plan.now) octets.now) }
-    ensures no_reply { (body : List ℕ) → HasNoReply (seen body plan.now) → IsOk result }
+        → IfOk result (λ e. e ≡ answer_of (plan_meaning body plan.now) octets.now) }
+    ensures no_reply { (body : List ℕ) → HasNoReply (plan_meaning body plan.now) → IsOk result }
 {
     match plan {
         Plan::Silent => Ok(Effect::Silent),
         Plan::Code(code) => Ok(Effect::Code(*code)),
         Plan::Load(_, _) => Ok(Effect::Done),
         Plan::Dump(id, ranges) => {
-            let body = given(alloc, ReplyKind::Dump, *id, ranges, octets)?;
+            let body = body_given(alloc, ReplyKind::Dump, *id, ranges, octets)?;
             Ok(Effect::Reply(ReplyKind::Dump, body))
         }
         Plan::Check(id, ranges) => {
-            let body = given(alloc, ReplyKind::Check, *id, ranges, octets)?;
+            let body = body_given(alloc, ReplyKind::Check, *id, ranges, octets)?;
             Ok(Effect::Reply(ReplyKind::Check, body))
         }
     }

@@ -5,7 +5,7 @@ ghost use Rattle.std.specs.List.{flat_map};
 ghost use Rattle.lpt_memory.specs.Effects.{octets_in, dump_area, check_area, dumped_area, checked_area, reply_length};
 ghost use Rattle.lpt_memory.specs.Meanings.{dump_length};
 ghost use Rattle.lpt_memory.specs.Ranges.{RangesFit};
-ghost use Rattle.lpt_memory.specs.Seen.{seen, IsCounted};
+ghost use Rattle.lpt_memory.specs.Seen.{plan_meaning, IsCounted};
 
 use crate::limits::AREA_HEADER;
 use crate::request::{AreaRange, Plan};
@@ -38,7 +38,7 @@ pub(crate) fn check_len(ranges: &[AreaRange]) -> usize
 // How many octets the body of the reply has, where there is one, whatever the message's body is.
 pub(crate) fn reply_len(plan: &Plan) -> Option<usize>
     requires { IsCounted plan.now }
-    ensures { (body : List ℕ) → result ≡ reply_length (seen body plan.now) }
+    ensures { (body : List ℕ) → result ≡ reply_length (plan_meaning body plan.now) }
 {
     match plan {
         Plan::Silent => None,

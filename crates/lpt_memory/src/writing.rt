@@ -7,7 +7,7 @@ ghost use Rattle.lpt_packet.specs.Sizes.{longest_packet};
 ghost use Rattle.lpt_pus.specs.Commands.{command, packet_of};
 ghost use Rattle.lpt_memory.specs.declared.fault.MemoryFault.TheVariants.{Memory};
 ghost use Rattle.lpt_memory.specs.Ranges.{MeansLoad};
-ghost use Rattle.lpt_memory.specs.Spellings.{load_area_text, stored, load_text, load_length, any_empty, write_fault};
+ghost use Rattle.lpt_memory.specs.Spellings.{load_area_text, area_stored, load_text, load_length, any_empty, write_fault};
 
 use crate::limits::{AREA_HEADER, AREA_LIMIT, LOAD_HEAD};
 use crate::{Area, MemoryFault};
@@ -49,7 +49,7 @@ fn any_empty(areas: &[Area]) -> bool
 fn push_area(body: &mut Vec<u8>, area: &Area) -> Result<(), AllocError>
     requires { length area.now.octets < 65536 }
     ensures pushed { OnOk result
-        (body.new.items ≡ body.old.items ++ load_area_text (stored area.now)) }
+        (body.new.items ≡ body.old.items ++ load_area_text (area_stored area.now)) }
     ensures address { OnOk result (area.now.address < 2 ^ 32) }
 {
     let octets = area.octets.as_slice();

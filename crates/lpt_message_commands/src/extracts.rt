@@ -7,7 +7,7 @@ use crate::extract_notices::Telling;
 use lpt_carried::{Layouts, Reading};
 use lpt_command_line::ExtractWords;
 use lpt_events::Config;
-use lpt_extract::{ExtractEnd, Extracted, Others, Place, Tally, Wanted, extract_stream};
+use lpt_extract::{ExtractEnd, Extracted, ImagePlace, Others, Tally, Wanted, extract_stream};
 use lpt_io::{
     Failure, Fault, Machine, Packets, Status, Voice, finish, first_failure, layouts_at,
     opened_packets, output, packets_end, tell_no_packets, tell_place, tell_text,
@@ -46,7 +46,7 @@ pub fn extract<R: Machine>(
     };
     let wanted = Wanted {
         apid: config.apid,
-        layout: layouts.tailored(Direction::Down).packets,
+        layout: layouts.tailored_in(Direction::Down).packets,
         at,
     };
     let mut source = opened_packets(rt, voice, &words.files, None, None)?;
@@ -110,9 +110,9 @@ fn status_of(
 // The image that is asked for, where one is.
 //
 // Errors: what is said of an image, where none is asked for.
-fn place(words: &ExtractWords<'_>) -> Result<Option<Place>, ()> {
+fn place(words: &ExtractWords<'_>) -> Result<Option<ImagePlace>, ()> {
     match words.at {
-        Some(memory) => Ok(Some(Place {
+        Some(memory) => Ok(Some(ImagePlace {
             memory,
             from: words.from.unwrap_or(0),
             fill: words.fill.unwrap_or(0),
@@ -160,7 +160,7 @@ fn extract_status(
 
 // Tells of which addresses of the image no octets came.
 fn tell_gaps(rt: &(impl Eprint + AllocGlobal), wanted: &Wanted, gaps: &BTreeMap<u64, u64>) {
-    let Some(Place { memory, .. }) = wanted.at else {
+    let Some(ImagePlace { memory, .. }) = wanted.at else {
         return;
     };
     for (first, last) in gaps {

@@ -19,7 +19,7 @@ use std::alloc::{AllocError, Global};
 
 /// What became of the packets of a file.
 #[derive(Drop)]
-enum Joined {
+enum JoinedMessages {
     /// Of the transaction that was asked for.
     One(Name, JoinReport),
     /// Of all, if none was.
@@ -71,7 +71,7 @@ fn status_of(
     config: &Config,
     words: &JoinWords<'_>,
     finished: Result<(), Failure>,
-    joined: &Result<Joined, StreamFault>,
+    joined: &Result<JoinedMessages, StreamFault>,
 ) -> Result<Status, Failure>
     requires { IsConfig config.now }
 {
@@ -92,7 +92,7 @@ fn join_packets<R: Machine>(
     words: &JoinWords<'_>,
     source: &mut Packets<R>,
     out: &mut Output<'_, R>,
-) -> Result<Joined, StreamFault>
+) -> Result<JoinedMessages, StreamFault>
     requires { IsConfig config.now }
 {
     let given = words.name.map(|name| name.under(config.source));
@@ -100,10 +100,10 @@ fn join_packets<R: Machine>(
     let transaction = transaction_of(config, words, name);
     if given.is_some() {
         let report = join_message(alloc, &transaction, words.any, source, out)?;
-        return Ok(Joined::One(name, report));
+        return Ok(JoinedMessages::One(name, report));
     }
     let (end, gatherings, skips) = join_only(alloc, &transaction, words.any, source, out)?;
-    Ok(Joined::Each(end, gatherings, skips))
+    Ok(JoinedMessages::Each(end, gatherings, skips))
 }
 
 // The transaction of a name, in the direction that is asked for.
@@ -125,17 +125,17 @@ fn tell_outcome(
     rt: &(impl Eprint + AllocGlobal),
     config: &Config,
     words: &JoinWords<'_>,
-    joined: &Joined,
+    joined: &JoinedMessages,
 ) -> Result<Status, AllocError>
     requires { IsConfig config.now }
 {
     let (status, end, name, skips) = match joined {
-        Joined::One(name, report) => {
+        JoinedMessages::One(name, report) => {
             let (came, against) = (&report.came, report.against);
             let status = tell_end(rt, config, words, *name, report.end, came, against)?;
             (status, Some(report.end), Some(*name), &report.skips)
         }
-        Joined::Each(end, gatherings, skips) => {
+        JoinedMessages::Each(end, gatherings, skips) => {
             let status = tell_only(rt, config, words, *end, gatherings)?;
             (status, *end, None, skips)
         }

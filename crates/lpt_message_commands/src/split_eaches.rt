@@ -7,8 +7,8 @@ use lpt_carried::Tailored;
 use lpt_command_line::{SplitEachWords, WideName, WordFault};
 use lpt_events::Config;
 use lpt_io::{
-    Failure, Fault, Incoming, Machine, Status, finish, first_failure, opened, output, own_or_read,
-    read_failure, tell_place, word_refused,
+    Failure, Fault, Incoming, Machine, Status, finish, first_failure, open_input, output,
+    own_or_read, read_failure, tell_place, word_refused,
 };
 use lpt_packet::Direction;
 use lpt_split::{SplitEnd, greatest};
@@ -31,7 +31,7 @@ pub fn split_all<R: Machine>(
     let Some(layouts) = own_or_read(rt, config.part_size, words.split.layout)? else {
         return Ok(Status::Unreadable);
     };
-    let tailored = layouts.tailored(words.split.direction);
+    let tailored = layouts.tailored_in(words.split.direction);
     let name = match names_in(words, tailored) {
         Ok(name) => name,
         Err(fault) => return Ok(word_refused(rt, rt.alloc(), &fault)),
@@ -40,7 +40,7 @@ pub fn split_all<R: Machine>(
         Ok(picks) => picks,
         Err(_) => return Err(Failure::from(Fault::Memory)),
     };
-    let mut source = opened(rt, words.split.file)?;
+    let mut source = open_input(rt, words.split.file)?;
     let status = split_from(rt, config, tailored, words, name, &picks, &mut source);
     drop(source);
     status

@@ -9,7 +9,7 @@ use lpt_carried::{Layouts, Tailored};
 use lpt_command_line::{SplitOneWords, SplitWords, WideName, WordFault, name_within};
 use lpt_events::Config;
 use lpt_io::{
-    Failure, Incoming, Machine, Status, finish, first_failure, octets_word, opened, output,
+    Failure, Incoming, Machine, Status, finish, first_failure, octets_word, open_input, output,
     own_or_read, read_failure, reading_of, tell_place, word_refused,
 };
 use lpt_layout::Width;
@@ -69,14 +69,14 @@ pub fn split<R: Machine>(
     let Some(layouts) = own_or_read(rt, config.part_size, words.split.layout)? else {
         return Ok(Status::Unreadable);
     };
-    let tailored = layouts.tailored(words.split.direction);
+    let tailored = layouts.tailored_in(words.split.direction);
     let name = match name_in(&words.split, tailored) {
         Ok(name) => name,
         Err(fault) => return Ok(word_refused(rt, rt.alloc(), &fault)),
     };
     let fill = Fill::new(config);
     let wanted = wanted_of(config, tailored, &*words, name, &fill);
-    let message = opened(rt, words.split.file)?;
+    let message = open_input(rt, words.split.file)?;
     let Ok(mut source) = Keeping::new(rt.alloc(), message, LONGEST_PACKET) else {
         return Err(Failure::from(StreamFault::Memory));
     };
@@ -171,7 +171,7 @@ fn split_from<R: Machine>(
     first_failure(finish(rt, out), failure)?;
     match split {
         Ok(SplitEnd::Written(_)) => {
-            tell_misfit(rt, config, layouts, &words.split, source.kept());
+            tell_misfit(rt, config, layouts, &words.split, source.octets_kept());
             Ok(Status::Done)
         }
         Ok(end) => Ok(unsplit(rt, wanted, words, end)),

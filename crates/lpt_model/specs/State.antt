@@ -23,19 +23,19 @@ use Rattle.lpt_events.specs.declared.side.Side.TheVariants.{Ground, Craft}
 use Rattle.lpt_ledger.specs.declared.state.State.{State as Known}
 use Rattle.lpt_ledger.specs.declared.state.State.TheVariants as known
 use Rattle.lpt_ledger.specs.States.{state_at}
-use Rattle.lpt_node.specs.Accepting.{accepted}
-use Rattle.lpt_node.specs.Restarts.{retired, restarted}
+use Rattle.lpt_node.specs.Accepting.{packet_accepted}
+use Rattle.lpt_node.specs.Restarts.{name_retired, node_restarted}
 use Rattle.lpt_node.specs.Faults.{node_fault}
 use Rattle.lpt_events.specs.Arrivals.{Arrival, NotRead, arrival_in}
 use Rattle.lpt_events.specs.declared.worker.Worker.{Worker}
 use Rattle.lpt_memory.specs.Memories.{Contents, sizes_of}
 use Rattle.lpt_memory.specs.Readings.{Job, Source}
 use Rattle.lpt_jobs.specs.Jobs.{head_of, is_claimed}
-use Rattle.lpt_node.specs.Jobs.{Execution, FrontIsFor, refusal_claim, claimed, committed, refusal_apply, executed}
+use Rattle.lpt_node.specs.Jobs.{Execution, FrontIsFor, refusal_claim, job_claimed, job_committed, refusal_apply, job_executed}
 use Rattle.lpt_node.specs.Nodes.{NodeData, no_data}
 use Rattle.lpt_node.specs.declared.fault.NodeFault.{NodeFault}
 use Rattle.lpt_node.specs.Requests.{refusal_plain, plain_made}
-use Rattle.lpt_node.specs.Sending.{refusal_open, refusal_send, refusal_finish, opened as node_opened, sent as node_sent, closed as node_closed}
+use Rattle.lpt_node.specs.Sending.{refusal_open, refusal_send, refusal_finish, message_opened as node_opened, part_sent as node_sent, sender_closed as node_closed}
 use Rattle.lpt_node.specs.Times.{refusal_tick, turned_so, refusal_end, which_ends, expired_of}
 use Rattle.lpt_events.specs.declared.entry.Opening.{Opening}
 use Rattle.lpt_events.specs.declared.entry.Release.{Release}
@@ -267,7 +267,8 @@ arrival_held c d p = option_map_or (λ x. arrival_in c d x.octets) p NotRead
 abbrev pub after_deliver : Config → ℕ → State → Lane → State × Reply
 after_deliver c place s l =
     delivered_on place s l
-    (accepted (receiver_side (lane_direction l)) c (end_of s (receiver_side (lane_direction l)))
+    (packet_accepted (receiver_side (lane_direction l)) c
+    (end_of s (receiver_side (lane_direction l)))
     (arrival_held c (lane_direction l) (packet_in_hand s.link l)))
 
 -- ---- time
@@ -320,7 +321,7 @@ handed_in s w t x = (
 abbrev pub committed_on : Config → State → Worker → Option Job → State × Reply
 committed_on c s w None = (s, quiet (Committed 0 0))
 committed_on c s w (Some t) =
-    handed_in s w t (committed s.on_craft t.boot t.job (read_for c s t))
+    handed_in s w t (job_committed s.on_craft t.boot t.job (read_for c s t))
 
 -- the openings with that of a report of data, where one was opened
 abbrev pub add_opening : List Opening → ℕ → Option (Name × List ℕ) → List Opening
@@ -346,16 +347,18 @@ executed_on place s x = (
 abbrev pub after_retire : State → Direction → Name → State × Reply
 after_retire s d name = (
   record s {
-    on_ground = retired Ground s.on_ground d name;
-    on_craft = retired Craft s.on_craft d name;
+    on_ground = name_retired Ground s.on_ground d name;
+    on_craft = name_retired Craft s.on_craft d name;
   },
   quiet Retired,
 )
 
 -- a node was restarted
 abbrev pub after_restart : State → Side → State × Reply
-after_restart s side =
-    (with_end s side (restarted (end_of s side)), quiet (Restarted (restarted (end_of s side)).boot))
+after_restart s side = (
+  with_end s side (node_restarted (end_of s side)),
+  quiet (Restarted (node_restarted (end_of s side)).boot),
+)
 
 -- ---- all events
 
@@ -381,8 +384,8 @@ after c place s (Take l n) = after_take s l n
 after c place s (Deliver l) = after_deliver c place s l
 after c place s (Tick side turn) = after_tick s side turn
 after c place s (Expire side which) = after_expire c s side which
-after c place s (Claim w) = claimed_on s w (claimed s.on_craft)
+after c place s (Claim w) = claimed_on s w (job_claimed s.on_craft)
 after c place s (Commit w) = committed_on c s w (ticket_of s.tickets w)
-after c place s Apply = executed_on place s (executed c s.on_craft s.memories)
+after c place s Apply = executed_on place s (job_executed c s.on_craft s.memories)
 after c place s (Retire d name) = after_retire s d name
 after c place s (Restart side) = after_restart s side

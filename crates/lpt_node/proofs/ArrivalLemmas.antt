@@ -6,7 +6,7 @@ use Rattle.std.proofs.lemmas.Bool.Decides.{nat_tests}
 use Rattle.std.proofs.lemmas.List.{length-take}
 use Rattle.lpt_packet.specs.declared.direction.Direction.TheVariants.{Up, Down}
 use Rattle.lpt_packet.specs.Numbers.{word_at, same_octets}
-use Rattle.lpt_packet.specs.Packets.{Fields, Sight, IdlePacket, APacket, fields_at, is_idle, is_packet, seen, spelling, verdict}
+use Rattle.lpt_packet.specs.Packets.{Fields, Sight, IdlePacket, APacket, fields_at, is_idle, is_packet, packet_seen, spelling, verdict}
 use Rattle.lpt_pus.specs.declared.fault.PusFault.{PusFault}
 use Rattle.lpt_pus.specs.Commands.{Command, IsCommand, tc_field, tc_verdict}
 use Rattle.lpt_pus.specs.Telemetry.{Telemetry, IsTelemetry, tm_field, tm_verdict}
@@ -39,8 +39,8 @@ by_tests b f false true short e = record { short = short refl; fields = cc }
 by_tests b f false false short e = cc
 
 -- what octets are that are seen as a packet
-pub seen_packet : (b : List ℕ) (f : Fields) → seen b ≡ Some (APacket f) → IsSeen b f
-unfolding seen
+pub seen_packet : (b : List ℕ) (f : Fields) → packet_seen b ≡ Some (APacket f) → IsSeen b f
+unfolding packet_seen
 seen_packet b f e =
     by_tests b f (is_idle b) (is_packet b)
     (λ h. let le : nat_le (length b) 65542 ≡ true
@@ -50,7 +50,7 @@ seen_packet b f e =
 
 -- what arrives is what is seen
 pub arrival-seen : (side : Side) (apid p : ℕ) (b : List ℕ) (s : Option Sight)
-    → seen b ≡ s
+    → packet_seen b ≡ s
     → sight_arrival side apid p b s ≡ arrival side apid p b
 unfolding arrival
 arrival-seen side apid p b s e = ap (sight_arrival side apid p b) (sym e)
@@ -89,7 +89,7 @@ pub uplink_part : (b : List ℕ) (f : Fields) (c : Command) (kind : Kind)
     → tc_verdict f ≡ Ok c
     → c.body ≡ drop 5 f.octets
     → Some kind ≡ carried_kind Up c.service c.subtype
-    → seen b ≡ Some (APacket f)
+    → packet_seen b ≡ Some (APacket f)
     → IsLayoutIn Craft f b (layout.Part kind c.source 5)
 uplink_part b f c kind is verdict body carried e =
     let s = seen_packet b f e in
@@ -104,7 +104,7 @@ uplink_part b f c kind is verdict body carried e =
 pub uplink_request : (b : List ℕ) (f : Fields) (c : Command)
     → tc_verdict f ≡ Ok c
     → None ≡ carried_kind Up c.service c.subtype
-    → seen b ≡ Some (APacket f)
+    → packet_seen b ≡ Some (APacket f)
     → IsLayoutIn Craft f b layout.Request
 uplink_request b f c verdict carried e =
     record {
@@ -121,7 +121,7 @@ pub downlink_part : (b : List ℕ) (f : Fields) (t : Telemetry) (kind : Kind)
     → tm_verdict f ≡ Ok t
     → t.body ≡ drop 11 f.octets
     → Some kind ≡ carried_kind Down t.service t.subtype
-    → seen b ≡ Some (APacket f)
+    → packet_seen b ≡ Some (APacket f)
     → IsLayoutIn Ground f b (layout.Part kind t.destination 11)
 downlink_part b f t kind is verdict body carried e =
     let s = seen_packet b f e in
@@ -140,7 +140,7 @@ pub downlink_abort : (b : List ℕ) (f : Fields) (t : Telemetry)
     → None ≡ carried_kind Down t.service t.subtype
     → t.service ≡ 13
     → t.subtype ≡ 16
-    → seen b ≡ Some (APacket f)
+    → packet_seen b ≡ Some (APacket f)
     → IsLayoutIn Ground f b (layout.Abort t.destination 11)
 downlink_abort b f t is verdict body carried service subtype e =
     let s = seen_packet b f e in
@@ -157,21 +157,21 @@ downlink_abort b f t is verdict body carried service subtype e =
 
 -- octets that are no packet
 pub layout_unreadable : (side : Side) (apid p : ℕ) (b : List ℕ)
-    → seen b ≡ None
+    → packet_seen b ≡ None
     → IsPartSize p
     → IsLayout side apid p b layout.Unreadable
 layout_unreadable side apid p b e size = record { part_size = size; within = tt; is = arrival-seen side apid p b None e }
 
 -- an idle packet
 pub layout_idle : (side : Side) (apid p : ℕ) (b : List ℕ)
-    → seen b ≡ Some IdlePacket
+    → packet_seen b ≡ Some IdlePacket
     → IsPartSize p
     → IsLayout side apid p b layout.Idle
 layout_idle side apid p b e size = record { part_size = size; within = tt; is = arrival-seen side apid p b (Some IdlePacket) e }
 
 -- a packet of another APID
 pub layout_foreign : (side : Side) (apid p : ℕ) (b : List ℕ) (f : Fields)
-    → seen b ≡ Some (APacket f)
+    → packet_seen b ≡ Some (APacket f)
     → (f.apid ≡ apid → ⊥)
     → IsPartSize p
     → IsLayout side apid p b layout.Foreign
@@ -186,7 +186,7 @@ layout_foreign side apid p b f e other size =
 
 -- a packet of the configured APID
 pub layout_packet : (side : Side) (apid p : ℕ) (b : List ℕ) (f : Fields) (x : Layout)
-    → seen b ≡ Some (APacket f)
+    → packet_seen b ≡ Some (APacket f)
     → f.apid ≡ apid
     → IsLayoutIn side f b x
     → IsPartSize p

@@ -5,7 +5,7 @@ use Rattle.std.specs.Option.{option_map, option_map_or, option_and_then}
 use Rattle.std.proofs.lemmas.Bool.Decides.{nat_tests}
 use Rattle.lpt_jobs.specs.declared.job.Job.{Job}
 use Rattle.lpt_jobs.specs.declared.job.Job.TheVariants.{Claimed}
-use Rattle.lpt_jobs.specs.Jobs.{Jobs, after_claim, claimed_in, is_claimed, is_out, message_in, oldest, unclaimed}
+use Rattle.lpt_jobs.specs.Jobs.{Jobs, after_claim, claimed_in, is_claimed, is_out, message_in, oldest, oldest_unclaimed}
 use Rattle.lpt_node.specs.Jobs.{refusal_claim_of}
 
 -- a worker has the job that was claimed
@@ -40,7 +40,7 @@ one_waits (Some x) free = refl
 
 -- the job that waited longest is a worker's once it is claimed
 pub is_claimed-claimed : (q : Jobs) (x : ℕ × List ℕ)
-    → unclaimed q ≡ Some x
+    → oldest_unclaimed q ≡ Some x
     → is_claimed (after_claim q) x.0 ≡ true
 is_claimed-claimed q x is =
     let k = claimed_in q.jobs in

@@ -7,7 +7,7 @@ use Rattle.lpt_memory.specs.Given.{answer_of, read_length}
 use Rattle.lpt_memory.specs.Meanings.{Sizes}
 use Rattle.lpt_memory.specs.Memories.{Contents}
 use Rattle.lpt_memory.specs.Ranges.{MeaningFits}
-use Rattle.lpt_memory.specs.Readings.{Source, meant}
+use Rattle.lpt_memory.specs.Readings.{Source, source_meaning}
 use Rattle.lpt_memory.proofs.GivenLemmas.{answer_of-held}
 use Rattle.lpt_memory.proofs.MeaningLemmas.{meaning-fits}
 use Rattle.lpt_node.specs.Jobs.{FrontHolds, FrontIsFor, FrontReads, ending_given, ending_with, executed_ending, executed_of, executed_so, front_reading, refusal_apply_of}
@@ -22,12 +22,13 @@ front_was_read (Ready r) enabled none = cc
 -- octets that are as many as the reading reads are as many as what stands first reads
 pub front_reads : (h : Head) (r : Source) (octets : List ℕ)
     → front_reading h ≡ Some r
-    → length octets ≡ read_length (meant r)
+    → length octets ≡ read_length (source_meaning r)
     → FrontReads h octets
 front_reads NoJob r octets is whole = tt
 front_reads NotReady r octets is whole = tt
 front_reads (Ready x) r octets is whole =
-    let same : r ≡ x = cc in subst (λ (y : Source). length octets ≡ read_length (meant y)) same whole
+    let same : r ≡ x = cc in
+    subst (λ (y : Source). length octets ≡ read_length (source_meaning y)) same whole
 
 module _ (c : Config) (d : NodeData) where
   -- by the octets that memories have there it is the one over them
@@ -38,7 +39,7 @@ module _ (c : Config) (d : NodeData) where
   given_over ms octets NoJob apid front held = refl
   given_over ms octets NotReady apid front held = refl
   given_over ms octets (Ready r) apid front held =
-      let fits = subst (λ (s : Sizes). MeaningFits s (meant r)) front.1
+      let fits = subst (λ (s : Sizes). MeaningFits s (source_meaning r)) front.1
       (meaning-fits r.apid r.sizes r.message) in
       ap (λ (e : Effect). executed_ending c d r (ending_with c d r e))
-      (ap (answer_of (meant r)) (sym held) ∙ answer_of-held (meant r) ms fits)
+      (ap (answer_of (source_meaning r)) (sym held) ∙ answer_of-held (source_meaning r) ms fits)

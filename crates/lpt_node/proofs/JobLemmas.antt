@@ -9,9 +9,9 @@ use Rattle.lpt_jobs.specs.declared.job.Job.{Job}
 use Rattle.lpt_jobs.specs.declared.job.Job.TheVariants.{Waiting}
 use Rattle.lpt_node.specs.declared.receipt.Receipt.{Receipt}
 use Rattle.lpt_node.specs.declared.receipt.Receipt.TheVariants as receipt
-use Rattle.lpt_node.specs.Accepting.{accepted}
+use Rattle.lpt_node.specs.Accepting.{packet_accepted}
 use Rattle.lpt_node.specs.Nodes.{NodeData}
-use Rattle.lpt_node.specs.Receivers.{received}
+use Rattle.lpt_node.specs.Receivers.{part_received}
 use Rattle.lpt_node.specs.Receiving.{abort_head, after_receipt, receiver_of, with_job, with_receiver, with_report}
 
 module _ (P : List Job → Type 0) (waits : (js : List Job) (m : List ℕ) → P js → P (js ++ Waiting m ∷ [])) where
@@ -38,7 +38,7 @@ module _ (P : List Job → Type 0) (waits : (js : List Job) (m : List ℕ) → P
   -- what holds of the jobs, and still does with one that waits behind them, holds after a delivery
   pub jobs_accepted : (side : Side) (c : Config) (d : NodeData) (a : Arrival)
       → P d.jobs.jobs
-      → P (accepted side c d a).0.jobs.jobs
+      → P (packet_accepted side c d a).0.jobs.jobs
   jobs_accepted side c d NotRead all = all
   jobs_accepted side c d AnIdle all = all
   jobs_accepted side c d Foreign all = all
@@ -47,5 +47,6 @@ module _ (P : List Job → Type 0) (waits : (js : List Job) (m : List ℕ) → P
   jobs_accepted side c d NoPart all = all
   jobs_accepted side c d (AnAbort name reason) all = all
   jobs_accepted side c d (APart q) all =
-      let x = received (abort_head side c d q.name.source) (receiver_of c d.receiving) q d.clock in
+      let x =
+      part_received (abort_head side c d q.name.source) (receiver_of c d.receiving) q d.clock in
       jobs_after_receipt side (with_receiver d x.0) q.name q.number x.1 all

@@ -12,13 +12,13 @@ use Rattle.lpt_ledger.specs.States.{state_at, is_free}
 use Rattle.lpt_part.specs.declared.reason.Reason.TheVariants as reason
 use Rattle.lpt_reception.specs.Received.{Ended, BrokenOff, all_of, is_whole, spelled}
 use Rattle.lpt_table.specs.Offering as offering
-use Rattle.lpt_table.specs.Offering.{OfferKind, TakesOut, at_gap, is_open, offered, parts_at, received_at, taken_out, with_entry}
+use Rattle.lpt_table.specs.Offering.{OfferKind, TakesOut, at_gap, is_open, part_offered, parts_at, received_at, taken_out, with_entry}
 use Rattle.lpt_table.specs.declared.offer.Offer.TheVariants.{Memory}
 use Rattle.lpt_table.specs.Offers.{Offers}
 use Rattle.lpt_table.specs.Tables.{Entries, TableState}
 use Rattle.lpt_node.specs.declared.receipt.Receipt.{Receipt}
 use Rattle.lpt_node.specs.declared.receipt.Receipt.TheVariants as receipt
-use Rattle.lpt_node.specs.Receivers.{ReceiverState, IsReceiver, abort_report, after_offer, ended, grows, if_free, kept_of, parts_with, received, received_from}
+use Rattle.lpt_node.specs.Receivers.{ReceiverState, IsReceiver, abort_report, after_offer, reception_ended, grows, if_free, kept_of, parts_with, part_received, received_from}
 use Rattle.lpt_node.proofs.MapLemmas.{remove-none}
 
 -- ---- an offer
@@ -36,8 +36,8 @@ not_free Closed other = refl
 -- a part whose name isn't free is left alone
 pub received-closed : (head : Option Telemetry) (r : ReceiverState) (q : NamedPart) (now : ℕ)
     → (state_at r.ledger q.name ≡ Free → ⊥)
-    → (r, receipt.Closed) ≡ received head r q now
-unfolding received
+    → (r, receipt.Closed) ≡ part_received head r q now
+unfolding part_received
 received-closed head r q now other =
     ap (λ (free : Bool). cond free
     (received_from head r q.name (parts_with (record {
@@ -47,7 +47,7 @@ received-closed head r q now other =
       mode = r.mode;
       entries = r.entries;
       out = None;
-    }) q) (offered (record {
+    }) q) (part_offered (record {
       limit = r.limit;
       timeout = r.timeout;
       p = r.p;
@@ -62,17 +62,17 @@ module _ (head : Option Telemetry) (m : Marks) (old mid : TableState) (q : Named
     (free : state_at m q.name ≡ Free) where
   -- what is made of the part is what is made of the offer
   received-offered : (kind : OfferKind)
-      → offered old q.name q.number (kept_of q) now ≡ (kind, mid)
+      → part_offered old q.name q.number (kept_of q) now ≡ (kind, mid)
       → after_offer head (view m old) q.name (parts_with old q) kind mid.entries
-      ≡ received head seen q now
-  unfolding received
+      ≡ part_received head seen q now
+  unfolding part_received
   received-offered kind e =
       let table : record old { out = None } ≡ old = λ i. record old { out = sym sound.settled i } in
       sym ((λ i. if_free (free i) (view m old)
       (received_from head (view m old) q.name (parts_with (table i) q)
-      (offered (table i) q.name q.number (kept_of q) now)))
+      (part_offered (table i) q.name q.number (kept_of q) now)))
       ∙ ap (λ (o : OfferKind × TableState). received_from head (view m old) q.name (parts_with old q) o) e)
-      ∙ ap (λ (r : ReceiverState). received head r q now) is
+      ∙ ap (λ (r : ReceiverState). part_received head r q now) is
 
   -- the receptions alone have changed
   within : (es : Entries)
@@ -84,24 +84,24 @@ module _ (head : Option Telemetry) (m : Marks) (old mid : TableState) (q : Named
 
   -- the part was kept
   pub received-kept : (es : Entries)
-      → offered old q.name q.number (kept_of q) now ≡ (offering.Kept, mid)
+      → part_offered old q.name q.number (kept_of q) now ≡ (offering.Kept, mid)
       → mid ≡ record old { entries = es }
-      → (view m mid, receipt.Kept) ≡ received head seen q now
+      → (view m mid, receipt.Kept) ≡ part_received head seen q now
   received-kept es e new =
       (λ i. (within es new i, receipt.Kept)) ∙ received-offered offering.Kept e
 
   -- the part had been kept
   pub received-again : (es : Entries)
-      → offered old q.name q.number (kept_of q) now ≡ (offering.Again, mid)
+      → part_offered old q.name q.number (kept_of q) now ≡ (offering.Again, mid)
       → mid ≡ record old { entries = es }
-      → (view m mid, receipt.Again) ≡ received head seen q now
+      → (view m mid, receipt.Again) ≡ part_received head seen q now
   received-again es e new =
       (λ i. (within es new i, receipt.Again)) ∙ received-offered offering.Again e
 
   -- there was no room
-  pub received-no_room : offered old q.name q.number (kept_of q) now ≡ (offering.NoRoom, mid)
+  pub received-no_room : part_offered old q.name q.number (kept_of q) now ≡ (offering.NoRoom, mid)
       → mid ≡ old
-      → (view m mid, receipt.NoRoom) ≡ received head seen q now
+      → (view m mid, receipt.NoRoom) ≡ part_received head seen q now
   received-no_room e new =
       ap (λ (t : TableState). (view m t, receipt.NoRoom)) new ∙ received-offered offering.NoRoom e
 
@@ -109,10 +109,11 @@ module _ (head : Option Telemetry) (m : Marks) (old mid : TableState) (q : Named
   pub received-gap : {E : Type 0} (r : Result Receipt E) (after : Marks)
       → OnOk r (after ≡ map.insert m q.name Shut)
       → IfOk r (λ t. t ≡ receipt.Conflict reason.Discontinuity (abort_report head q.name reason.Discontinuity))
-      → offered old q.name q.number (kept_of q) now ≡ (offering.Gap, mid)
+      → part_offered old q.name q.number (kept_of q) now ≡ (offering.Gap, mid)
       → is_open old q.name ≡ false
       → mid ≡ old
-      → IfOk r (λ t. ◌≡◌ {A = ReceiverState × Receipt} (view after mid, t) (received head seen q now))
+      → IfOk r
+      (λ t. ◌≡◌ {A = ReceiverState × Receipt} (view after mid, t) (part_received head seen q now))
   received-gap (Ok t) after a is e none new =
       (λ i. (
         record (view m (new i)) {
@@ -131,32 +132,39 @@ module _ (head : Option Telemetry) (m : Marks) (old mid : TableState) (q : Named
     -- a whole message came out
     pub received-whole : (w : Ended)
         → IfOk r (λ t. t ≡ receipt.Whole (spelled (all_of w)))
-        → offered old q.name q.number (kept_of q) now ≡ (offering.Whole, mid)
+        → part_offered old q.name q.number (kept_of q) now ≡ (offering.Whole, mid)
         → w ≡ record { before = received_at old q.name; number = q.number; kept = kept_of q }
-        → IfOk r (λ t. ◌≡◌ {A = ReceiverState × Receipt} (view after new, t) (received head seen q now))
+        → IfOk r
+        (λ t. ◌≡◌ {A = ReceiverState × Receipt} (view after new, t) (part_received head seen q now))
     received-whole w answer e all = by_answer r shut settled answer where
       by_answer : (r : Result Receipt E)
           → OnOk r (after ≡ map.insert m q.name Shut)
           → OnOk r (new ≡ record mid { out = None })
           → IfOk r (λ t. t ≡ receipt.Whole (spelled (all_of w)))
-          → IfOk r (λ t. ◌≡◌ {A = ReceiverState × Receipt} (view after new, t) (received head seen q now))
+          → IfOk r
+          (λ t. ◌≡◌ {A = ReceiverState × Receipt} (view after new, t)
+          (part_received head seen q now))
       by_answer (Ok t) a b is =
           (λ i. (view (a i) ((b ∙ ap (λ (t : TableState). record t { out = None }) out.now) i), is i))
-          ∙ ap (λ (w : Ended). (ended (view m old) q.name, receipt.Whole (spelled (all_of w)))) all
+          ∙ ap (λ (w : Ended).
+          (reception_ended (view m old) q.name, receipt.Whole (spelled (all_of w)))) all
           ∙ received-offered offering.Whole e
       by_answer (Err x) a b is = tt
 
     -- a reception that was broken off came out
     pub received-broken : (b : BrokenOff)
         → IfOk r (λ t. t ≡ receipt.Conflict b.reason (abort_report head q.name b.reason))
-        → offered old q.name q.number (kept_of q) now ≡ (offering.Conflict b.reason, mid)
-        → IfOk r (λ t. ◌≡◌ {A = ReceiverState × Receipt} (view after new, t) (received head seen q now))
+        → part_offered old q.name q.number (kept_of q) now ≡ (offering.Conflict b.reason, mid)
+        → IfOk r
+        (λ t. ◌≡◌ {A = ReceiverState × Receipt} (view after new, t) (part_received head seen q now))
     received-broken b answer e = by_answer r shut settled answer where
       by_answer : (r : Result Receipt E)
           → OnOk r (after ≡ map.insert m q.name Shut)
           → OnOk r (new ≡ record mid { out = None })
           → IfOk r (λ t. t ≡ receipt.Conflict b.reason (abort_report head q.name b.reason))
-          → IfOk r (λ t. ◌≡◌ {A = ReceiverState × Receipt} (view after new, t) (received head seen q now))
+          → IfOk r
+          (λ t. ◌≡◌ {A = ReceiverState × Receipt} (view after new, t)
+          (part_received head seen q now))
       by_answer (Ok t) a s is =
           (λ i. (view (a i) ((s ∙ ap (λ (t : TableState). record t { out = None }) out.now) i), is i))
           ∙ received-offered (offering.Conflict b.reason) e
@@ -173,29 +181,29 @@ module _ (head : Option Telemetry) (m : Marks) (old mid : TableState) (q : Named
     (seen : ReceiverState) (is : view m old ≡ seen) (sound : IsReceiver m old)
     (free : state_at m q.name ≡ Free) where
   as_offered : (kind : OfferKind)
-      → offered old q.name q.number (kept_of q) now ≡ (kind, mid)
+      → part_offered old q.name q.number (kept_of q) now ≡ (kind, mid)
       → grows (after_offer head (view m old) q.name (parts_with old q) kind mid.entries).1
-      ≡ grows (received head seen q now).1
+      ≡ grows (part_received head seen q now).1
   as_offered kind e =
       ap (λ (x : ReceiverState × Receipt). grows x.1)
       (received-offered head m old mid q now seen is sound free kind e)
 
   -- a message is let out
   pub grows-whole : {X E : Type 0} (r : Result X E)
-      → offered old q.name q.number (kept_of q) now ≡ (offering.Whole, mid)
-      → OnErr r (grows (received head seen q now).1 ≡ true)
+      → part_offered old q.name q.number (kept_of q) now ≡ (offering.Whole, mid)
+      → OnErr r (grows (part_received head seen q now).1 ≡ true)
   grows-whole r e = on_err r _ (sym (as_offered offering.Whole e))
 
   -- a reception is broken off
   pub grows-broken : {X E : Type 0} (r : Result X E) (reason : Reason)
-      → offered old q.name q.number (kept_of q) now ≡ (offering.Conflict reason, mid)
-      → OnErr r (grows (received head seen q now).1 ≡ true)
+      → part_offered old q.name q.number (kept_of q) now ≡ (offering.Conflict reason, mid)
+      → OnErr r (grows (part_received head seen q now).1 ≡ true)
   grows-broken r reason e = on_err r _ (sym (as_offered (offering.Conflict reason) e))
 
   -- a gap was found
   pub grows-gap : {X E : Type 0} (r : Result X E)
-      → offered old q.name q.number (kept_of q) now ≡ (offering.Gap, mid)
-      → OnErr r (grows (received head seen q now).1 ≡ true)
+      → part_offered old q.name q.number (kept_of q) now ≡ (offering.Gap, mid)
+      → OnErr r (grows (part_received head seen q now).1 ≡ true)
   grows-gap r e = on_err r _ (sym (as_offered offering.Gap e))
 
   -- what an offer comes to, by the table's tests
@@ -217,10 +225,10 @@ module _ (head : Option Telemetry) (m : Marks) (old mid : TableState) (q : Named
 
   -- a part is kept, or ends its message
   pub grows-kept : Offers old q.name q.number (kept_of q) now Memory mid
-      → grows (received head seen q now).1 ≡ true
-  unfolding offered
+      → grows (part_received head seen q now).1 ≡ true
+  unfolding part_offered
   grows-kept h =
-      let o = offered old q.name q.number (kept_of q) now in
+      let o = part_offered old q.name q.number (kept_of q) now in
       sym (ap (λ (x : ReceiverState × Receipt). grows x.1)
       (received-offered head m old o.1 q now seen is sound free o.0 refl))
       ∙ (λ i. grows_as (made (h.0 i) (h.1.0.new.agrees i) (is_some (h.1.0.new.absent i)) (h.1.0.in_order i) (is_whole (parts_with old q))))

@@ -6,8 +6,8 @@ use Rattle.lpt_memory.specs.declared.effect.Effect.{Effect}
 use Rattle.lpt_memory.specs.Effects.{answer}
 use Rattle.lpt_memory.specs.Given.{answer_of, octets_read, read_length}
 use Rattle.lpt_memory.specs.Memories.{Contents, sizes_of, effect}
-use Rattle.lpt_memory.specs.Readings.{Source, Job as Ticket, meant}
-use Rattle.lpt_jobs.specs.Jobs.{Head, NoJob as NoHead, NotReady as HeadNotReady, Ready, head_of, unclaimed, after_claim, after_commit, without_front}
+use Rattle.lpt_memory.specs.Readings.{Source, Job as Ticket, source_meaning}
+use Rattle.lpt_jobs.specs.Jobs.{Head, NoJob as NoHead, NotReady as HeadNotReady, Ready, head_of, oldest_unclaimed, after_claim, after_commit, without_front}
 use Rattle.lpt_ledger.specs.LeastFree.{least_free_in}
 use Rattle.lpt_events.specs.declared.applied.Applied.{Applied}
 use Rattle.lpt_events.specs.declared.applied.Applied.TheVariants.{Silent}
@@ -25,7 +25,7 @@ use Rattle.lpt_node.specs.declared.fault.NodeFault.{NodeFault}
 use Rattle.lpt_node.specs.declared.fault.NodeFault.TheVariants.{NoJob, NotReady}
 use Rattle.lpt_node.specs.Counting.{counter_of}
 use Rattle.lpt_node.specs.Nodes.{Sending, NodeData, NodeView}
-use Rattle.lpt_node.specs.Sending.{counted_kind, opened}
+use Rattle.lpt_node.specs.Sending.{counted_kind, message_opened}
 
 -- ---- claims
 
@@ -36,7 +36,7 @@ refusal_claim_of (Some x) = None
 
 -- why no job is claimed
 abbrev pub refusal_claim : NodeData → Option NodeFault
-refusal_claim d = refusal_claim_of (unclaimed d.jobs)
+refusal_claim d = refusal_claim_of (oldest_unclaimed d.jobs)
 
 -- the job that waits longest is claimed; where none waits none is, and the call is refused
 abbrev pub claimed_of : NodeData → Option (ℕ × List ℕ) → NodeData × Ticket
@@ -47,15 +47,15 @@ claimed_of d (Some x) = (
 )
 
 -- a job is claimed: the end after it, and the ticket
-abbrev pub claimed : NodeData → NodeData × Ticket
-claimed d = claimed_of d (unclaimed d.jobs)
+abbrev pub job_claimed : NodeData → NodeData × Ticket
+job_claimed d = claimed_of d (oldest_unclaimed d.jobs)
 
 -- ---- commits
 
 -- a reading of the job of this boot and number is handed in, and whether it still counts: it does
 -- in the job's own boot alone
-abbrev pub committed : NodeData → (boot job : ℕ) → Source → NodeData × Bool
-committed d boot job r =
+abbrev pub job_committed : NodeData → (boot job : ℕ) → Source → NodeData × Bool
+job_committed d boot job r =
     if boot == d.boot then (record d { jobs = after_commit d.jobs job r }, true) else (d, false)
 
 -- ---- executions
@@ -90,11 +90,11 @@ ending_with c d r effect =
 
 -- the same over these memories
 abbrev pub ending_at : Config → NodeData → Contents → Source → Ending
-ending_at c d ms r = ending_with c d r (answer (meant r) ms)
+ending_at c d ms r = ending_with c d r (answer (source_meaning r) ms)
 
 -- the same by the octets that it reads of memories
 abbrev pub ending_given : Config → NodeData → List ℕ → Source → Ending
-ending_given c d octets r = ending_with c d r (answer_of (meant r) octets)
+ending_given c d octets r = ending_with c d r (answer_of (source_meaning r) octets)
 
 -- the octets of a report to this destination, by the counts of its sender and the clock
 abbrev pub report_packet : Config → (peer : ℕ) → Sending → (clock : ℕ) → Report → List ℕ
@@ -114,14 +114,14 @@ report_packets c peer s clock (r ∷ rs) =
     (r, report_packet c peer s clock r) ∷ report_packets c peer (counted_kind s r.kind) clock rs
 
 -- reports were made
-abbrev pub reported : Sending → List Report → Sending
-reported s [] = s
-reported s (r ∷ rs) = reported (counted_kind s r.kind) rs
+abbrev pub reports_made : Sending → List Report → Sending
+reports_made s [] = s
+reports_made s (r ∷ rs) = reports_made (counted_kind s r.kind) rs
 
 -- the end where a report of data was opened as a message, or none
 abbrev pub with_opened : NodeData → Option (Name × List ℕ) → NodeData
 with_opened d None = d
-with_opened d (Some x) = opened d x.0 x.1
+with_opened d (Some x) = message_opened d x.0 x.1
 
 -- what the execution of a job answers: what became of it, the packets to be put on the link, and the
 -- message that was opened
@@ -144,7 +144,8 @@ abbrev pub executed_with : Config
     → Option (Name × List ℕ)
     → NodeData × Execution
 executed_with c d peer end reports message = (
-  with_opened (record d { sending = reported d.sending reports; jobs = without_front d.jobs }) message,
+  with_opened (record d { sending = reports_made d.sending reports; jobs = without_front d.jobs })
+      message,
   record {
     applied = applied_of end message;
     packets = link_packets c.part_size (report_packets c peer d.sending d.clock reports);
@@ -171,11 +172,11 @@ abbrev pub executed_of : Config → NodeData → Contents → Head → (NodeData
 executed_of c d ms NoHead = ((d, not_executed), ms)
 executed_of c d ms HeadNotReady = ((d, not_executed), ms)
 executed_of c d ms (Ready r) =
-    (executed_ending c d r (ending_at c d ms r), effect (meant r) ms)
+    (executed_ending c d r (ending_at c d ms r), effect (source_meaning r) ms)
 
 -- the oldest job is executed: the end after it with the answer, and the memories after it
-abbrev pub executed : Config → NodeData → Contents → (NodeData × Execution) × Contents
-executed c d ms = executed_of c d ms (head_of d.jobs.jobs)
+abbrev pub job_executed : Config → NodeData → Contents → (NodeData × Execution) × Contents
+job_executed c d ms = executed_of c d ms (head_of d.jobs.jobs)
 
 -- ---- executions where the memories are elsewhere
 
@@ -189,13 +190,13 @@ front_reading (Ready r) = Some r
 abbrev pub FrontReads : Head → List ℕ → Type 0
 FrontReads NoHead octets = Unit {0}
 FrontReads HeadNotReady octets = Unit {0}
-FrontReads (Ready r) octets = length octets ≡ read_length (meant r)
+FrontReads (Ready r) octets = length octets ≡ read_length (source_meaning r)
 
 -- these memories have these octets where it reads
 abbrev pub FrontHolds : Head → Contents → List ℕ → Type 0
 FrontHolds NoHead ms octets = Unit {0}
 FrontHolds HeadNotReady ms octets = Unit {0}
-FrontHolds (Ready r) ms octets = octets_read (meant r) ms ≡ octets
+FrontHolds (Ready r) ms octets = octets_read (source_meaning r) ms ≡ octets
 
 -- what stands at the front is executed, and ends so
 abbrev pub executed_so : Config → NodeData → (Source → Ending) → Head → NodeData × Execution

@@ -3,7 +3,7 @@ use Rattle.std.specs.Prelude.{◌≡◌, ℕ, ◌+◌, ◌≤◌, true, false, L
 use Rattle.lpt_packet.specs.Packets.{Fields, fields_at}
 use Rattle.lpt_part.specs.Splitting.{IsPartSize}
 use Rattle.lpt_part.specs.Parts.{piece}
-use Rattle.lpt_events.specs.NamedParts.{named}
+use Rattle.lpt_events.specs.NamedParts.{part_named}
 use Rattle.lpt_events.specs.declared.side.Side.{Side}
 use Rattle.lpt_node.specs.declared.arrival.Layout.{Layout}
 use Rattle.lpt_node.specs.declared.arrival.Layout.TheVariants as layout
@@ -55,7 +55,7 @@ Shows p b shown.Foreign a = a ≡ Foreign
 Shows p b shown.Request a = (a ≡ ARequest b) × (length b ≤ longest_packet)
 Shows p b (shown.Report service subtype) a = a ≡ AReport service subtype
 Shows p b shown.BadPart a = a ≡ NoPart
-Shows p b (shown.Part source part) a = (a ≡ APart (named source (piece part))) × (part.p ≡ p)
+Shows p b (shown.Part source part) a = (a ≡ APart (part_named source (piece part))) × (part.p ≡ p)
 Shows p b (shown.Abort name reason) a = a ≡ AnAbort name reason
 
 -- what is shown is no plain request, and a part is of this size
@@ -77,5 +77,5 @@ arrival_shown shown.Foreign = Foreign
 arrival_shown shown.Request = NotRead
 arrival_shown (shown.Report service subtype) = AReport service subtype
 arrival_shown shown.BadPart = NoPart
-arrival_shown (shown.Part source part) = APart (named source (piece part))
+arrival_shown (shown.Part source part) = APart (part_named source (piece part))
 arrival_shown (shown.Abort name reason) = AnAbort name reason

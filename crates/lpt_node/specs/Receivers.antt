@@ -17,7 +17,7 @@ use Rattle.lpt_reception.specs.Codes.{coded_mode}
 use Rattle.lpt_part.specs.declared.reason.Reason.TheVariants as reason
 use Rattle.lpt_reception.specs.Received.{Kept, Parts, with_part, spelled}
 use Rattle.lpt_table.specs.Tables.{Entries, TableEntry, TableState, coded_entries}
-use Rattle.lpt_table.specs.Offering.{OfferKind, parts_at, offered}
+use Rattle.lpt_table.specs.Offering.{OfferKind, parts_at, part_offered}
 use Rattle.lpt_table.specs.Offering as offering
 use Rattle.lpt_node.specs.declared.receipt.Receipt.{Receipt}
 use Rattle.lpt_packet.specs.Sizes.{longest_packet}
@@ -84,8 +84,8 @@ abbrev pub parts_with : TableState → NamedPart → Parts
 parts_with t q = with_part (parts_at t q.name) q.number (kept_of q)
 
 -- a reception has ended: its name is closed, and nothing is kept under it
-abbrev pub ended : ReceiverState → Name → ReceiverState
-ended r name =
+abbrev pub reception_ended : ReceiverState → Name → ReceiverState
+reception_ended r name =
     record r { ledger = map.insert r.ledger name Shut; entries = map.remove r.entries name }
 
 -- what an offer came to, and these receptions with it; the part's reception has these parts with
@@ -100,14 +100,15 @@ abbrev pub after_offer : Option Telemetry
 after_offer head r name parts offering.Kept es = (record r { entries = es }, receipt.Kept)
 after_offer head r name parts offering.Again es = (record r { entries = es }, receipt.Again)
 after_offer head r name parts offering.Gap es = (
-  ended r name,
+  reception_ended r name,
   receipt.Conflict reason.Discontinuity
       (abort_report head name reason.Discontinuity),
 )
 after_offer head r name parts offering.NoRoom es = (r, receipt.NoRoom)
-after_offer head r name parts offering.Whole es = (ended r name, receipt.Whole (spelled parts))
+after_offer head r name parts offering.Whole es =
+    (reception_ended r name, receipt.Whole (spelled parts))
 after_offer head r name parts (offering.Conflict reason) es =
-    (ended r name, receipt.Conflict reason (abort_report head name reason))
+    (reception_ended r name, receipt.Conflict reason (abort_report head name reason))
 
 -- the same, of both together
 abbrev pub received_from : Option Telemetry
@@ -123,11 +124,12 @@ abbrev pub if_free : State → ReceiverState → ReceiverState × Receipt → Re
 if_free s r x = if is_free s then x else (r, receipt.Closed)
 
 -- what a receiver makes of a part at this tick
-unfoldable pub received : Option Telemetry → ReceiverState → NamedPart → ℕ → ReceiverState × Receipt
-received head r q now =
+unfoldable pub part_received : Option Telemetry → ReceiverState → NamedPart → ℕ → ReceiverState
+    × Receipt
+part_received head r q now =
     if_free (state_at r.ledger q.name) r
     (received_from head r q.name (parts_with (table_in r) q)
-    (offered (table_in r) q.name q.number (kept_of q) now))
+    (part_offered (table_in r) q.name q.number (kept_of q) now))
 
 -- what is fixed of a receiver stays
 pub record IsSameReceiver (old new : ReceiverState) : Type 0 where

@@ -18,7 +18,7 @@ use Rattle.lpt_node.specs.Counting.{counter_of}
 use Rattle.lpt_events.specs.MadePackets.{telemetry_made}
 use Rattle.lpt_jobs.specs.Jobs.{Jobs, after_push}
 use Rattle.lpt_node.specs.Nodes.{Receiving, NodeData}
-use Rattle.lpt_node.specs.Receivers.{ReceiverState, received}
+use Rattle.lpt_node.specs.Receivers.{ReceiverState, part_received}
 use Rattle.lpt_node.specs.Sending.{counted_kind}
 
 -- what receives at an end, within its own limits
@@ -38,8 +38,8 @@ with_receiver d r =
     record d { receiving = record d.receiving { ledger = r.ledger; entries = r.entries } }
 
 -- an outcome alone
-abbrev pub noted : Outcome → Accepted
-noted o = record { outcome = o; packet = None; released = None }
+abbrev pub outcome_noted : Outcome → Accepted
+outcome_noted o = record { outcome = o; packet = None; released = None }
 
 -- a plain request is released
 abbrev pub plain_released : List ℕ → Accepted
@@ -47,8 +47,8 @@ plain_released b =
     record { outcome = outcome.PlainReleased (length b); packet = None; released = Some b }
 
 -- nothing was made of a packet
-abbrev pub ignored : Why → Accepted
-ignored w = noted (outcome.Ignored w)
+abbrev pub packet_ignored : Why → Accepted
+packet_ignored w = outcome_noted (outcome.Ignored w)
 
 -- the end where the report of an abortion was made, or none
 abbrev pub with_report : NodeData → Option (List ℕ) → NodeData
@@ -75,10 +75,10 @@ jobs_after side q (receipt.Conflict reason packet) = q
 
 -- the end and its answer, by what its receiver made of a part
 abbrev pub after_receipt : Side → NodeData → Name → ℕ → Receipt → NodeData × Accepted
-after_receipt side d name number receipt.Closed = (d, ignored why.Closed)
-after_receipt side d name number receipt.Kept = (d, noted (outcome.Kept name number))
-after_receipt side d name number receipt.Again = (d, noted (outcome.Again name number))
-after_receipt side d name number receipt.NoRoom = (d, ignored why.NoRoom)
+after_receipt side d name number receipt.Closed = (d, packet_ignored why.Closed)
+after_receipt side d name number receipt.Kept = (d, outcome_noted (outcome.Kept name number))
+after_receipt side d name number receipt.Again = (d, outcome_noted (outcome.Again name number))
+after_receipt side d name number receipt.NoRoom = (d, packet_ignored why.NoRoom)
 after_receipt side d name number (receipt.Whole m) = (
   with_job side d m,
   record { outcome = outcome.Released name (length m); packet = None; released = Some m },
@@ -107,7 +107,7 @@ abbrev pub abort_head : Side → Config → NodeData → (peer : ℕ) → Option
 abort_head side c d peer = abort_head_at side c peer d.sending.count d.sending.types d.clock
 
 -- a part is delivered: the end after it, and the answer
-abbrev pub parted : Side → Config → NodeData → NamedPart → NodeData × Accepted
-parted side c d q =
+abbrev pub part_accepted : Side → Config → NodeData → NamedPart → NodeData × Accepted
+part_accepted side c d q =
     after_received side d q
-    (received (abort_head side c d q.name.source) (receiver_of c d.receiving) q d.clock)
+    (part_received (abort_head side c d q.name.source) (receiver_of c d.receiving) q d.clock)

@@ -6,7 +6,7 @@ use Rattle.lpt_node.specs.declared.fault.NodeFault.TheVariants.{PartRequest, Lon
 use Rattle.lpt_events.specs.MadePackets.{tc_made}
 use Rattle.lpt_events.specs.Requests.{is_part_request, is_too_long}
 use Rattle.lpt_node.specs.Nodes.{NodeData}
-use Rattle.lpt_node.specs.Sending.{counted}
+use Rattle.lpt_node.specs.Sending.{packet_counted}
 
 -- why a plain request with a body of this length isn't made
 abbrev pub refusal_plain : Config → (service subtype len : ℕ) → Option NodeFault
@@ -22,6 +22,6 @@ abbrev pub plain_made : Config
     → List ℕ
     → NodeData × List ℕ
 plain_made c d source flags service subtype body = (
-  record d { sending = counted d.sending },
+  record d { sending = packet_counted d.sending },
   tc_made c source d.sending.count flags service subtype body,
 )

@@ -39,8 +39,8 @@ may_retire side d way name =
 
 -- an end has freed a name: in the direction in which it sends its sender's, in the other its
 -- receiver's
-abbrev pub retired : Side → NodeData → Direction → Name → NodeData
-retired side d way name =
+abbrev pub name_retired : Side → NodeData → Direction → Name → NodeData
+name_retired side d way name =
     if same_direction way (direction_from side) then
     record d { sending = record d.sending { ledger = map.remove d.sending.ledger name } }
     else record d { receiving = record d.receiving { ledger = map.remove d.receiving.ledger name } }
@@ -49,8 +49,8 @@ retired side d way name =
 
 -- an end was restarted: it has closed its open senders and dropped its open receptions and its
 -- jobs, and counts from 0 again; it knows the names and the clock as before
-abbrev pub restarted : NodeData → NodeData
-restarted d = record {
+abbrev pub node_restarted : NodeData → NodeData
+node_restarted d = record {
   sending = record {
     ledger = all_closed d.sending.ledger;
     messages = map.empty;
@@ -85,8 +85,8 @@ node_within l d = record d {
 
 -- an end within these limits, with this boot and clock, at which nothing is open, and that knows
 -- these names
-abbrev pub resumed : Limits → (boot clock : ℕ) → (sent received : Marks) → NodeData
-resumed l boot clock sent received = record {
+abbrev pub node_resumed : Limits → (boot clock : ℕ) → (sent received : Marks) → NodeData
+node_resumed l boot clock sent received = record {
   sending = record { ledger = sent; messages = map.empty; count = 0; types = no_types };
   receiving = record {
     ledger = received;

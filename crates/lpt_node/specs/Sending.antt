@@ -44,8 +44,8 @@ abbrev pub opened_in : Sending → Name → List ℕ → Sending
 opened_in s name m = record s { ledger = map.insert s.ledger name Opened; messages = map.insert s.messages name m }
 
 -- the end with a message taken
-abbrev pub opened : NodeData → Name → List ℕ → NodeData
-opened d name m = record d { sending = opened_in d.sending name m }
+abbrev pub message_opened : NodeData → Name → List ℕ → NodeData
+message_opened d name m = record d { sending = opened_in d.sending name m }
 
 -- why part k of a message, or of none, isn't sent
 abbrev pub refusal_send_of : Config → ℕ → Option (List ℕ) → Option NodeFault
@@ -64,8 +64,8 @@ part_telemetry Middle = MiddlePart
 part_telemetry Last = LastPart
 
 -- a packet was made
-abbrev pub counted : Sending → Sending
-counted s = record s { count = next_count s.count }
+abbrev pub packet_counted : Sending → Sending
+packet_counted s = record s { count = next_count s.count }
 
 -- telemetry of a kind was made
 abbrev pub counted_kind : Sending → TelemetryKind → Sending
@@ -109,8 +109,8 @@ sent_of side c d name k (Some m) =
     sent_piece side c d name.source (nth_part c.part_size name.id m k)
 
 -- part k of this name's message is sent
-abbrev pub sent : Side → Config → NodeData → Name → ℕ → NodeData × List ℕ
-sent side c d name k = sent_of side c d name k (message_at d name)
+abbrev pub part_sent : Side → Config → NodeData → Name → ℕ → NodeData × List ℕ
+part_sent side c d name k = sent_of side c d name k (message_at d name)
 
 -- why a transaction of this state isn't finished
 abbrev pub refusal_finish_in : State → Option NodeFault
@@ -133,8 +133,8 @@ abbrev pub closed_in : Sending → Name → Sending
 closed_in s name = closed_by (state_at s.ledger name) s name
 
 -- the end with an outgoing transaction closed
-abbrev pub closed : NodeData → Name → NodeData
-closed d name = record d { sending = closed_in d.sending name }
+abbrev pub sender_closed : NodeData → Name → NodeData
+sender_closed d name = record d { sending = closed_in d.sending name }
 
 -- the fault of a call is why it was refused, or out of memory where nothing refuses it
 abbrev pub RefusedBy : Option NodeFault → NodeFault → Type 0

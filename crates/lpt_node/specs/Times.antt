@@ -13,7 +13,7 @@ use Rattle.lpt_node.specs.declared.fault.NodeFault.{NodeFault}
 use Rattle.lpt_node.specs.declared.fault.NodeFault.TheVariants.{ClockEnd, NotOpen, NothingDue}
 use Rattle.lpt_node.specs.Nodes.{NodeData}
 use Rattle.lpt_node.specs.Restarts.{node_within}
-use Rattle.lpt_node.specs.Receivers.{table_in, ended, abort_report}
+use Rattle.lpt_node.specs.Receivers.{table_in, reception_ended, abort_report}
 use Rattle.lpt_node.specs.Receiving.{receiver_of, with_receiver, with_report, abort_head}
 use Rattle.lpt_events.specs.Counts.{greatest_clock}
 
@@ -22,8 +22,8 @@ abbrev pub refusal_tick : NodeData → Option NodeFault
 refusal_tick d = if d.clock == greatest_clock then Some ClockEnd else None
 
 -- the end one tick later
-abbrev pub ticked : NodeData → NodeData
-ticked d = record d { clock = d.clock + 1 }
+abbrev pub clock_ticked : NodeData → NodeData
+clock_ticked d = record d { clock = d.clock + 1 }
 
 -- whether the clock can be set back by so many ticks: no time that the end knows falls below 0
 abbrev pub can_set_back : (ticks : ℕ) → NodeData → Bool
@@ -38,7 +38,7 @@ clock_back n d = record d {
 
 -- the end once it has set this
 abbrev pub turned_so : Setting → NodeData → NodeData
-turned_so On d = ticked d
+turned_so On d = clock_ticked d
 turned_so (Back n) d = clock_back n d
 turned_so (Within l) d = node_within l d
 
@@ -58,7 +58,7 @@ refusal_expire c d = refusal_expire_of (due c d)
 -- the reception of a name is given up with this report, or none
 abbrev pub expired_with : Config → NodeData → Name → Option (List ℕ) → NodeData × Expired
 expired_with c d name packet = (
-  with_report (with_receiver d (ended (receiver_of c d.receiving) name)) packet,
+  with_report (with_receiver d (reception_ended (receiver_of c d.receiving) name)) packet,
   record { name = name; packet = packet },
 )
 
@@ -77,8 +77,8 @@ abbrev pub given_up : Side → Config → NodeData → Name → NodeData × Expi
 given_up side c d name = expired_of side c d (Some name)
 
 -- a reception is given up for its age: the end after it, and the answer
-abbrev pub expired : Side → Config → NodeData → NodeData × Expired
-expired side c d = expired_of side c d (due c d)
+abbrev pub reception_expired : Side → Config → NodeData → NodeData × Expired
+reception_expired side c d = expired_of side c d (due c d)
 
 -- the name of the reception that is given up: the one that is due, or the open one of a given name
 abbrev pub which_ends : Config → NodeData → Option Name → Option Name

@@ -2,13 +2,13 @@
 
 ghost use Rattle.std.specs.Prelude.{◌≡◌, ◌+◌, ◌<◌, ◌^◌, length, true, IfOk, IfErr, OnOk, OnErr};
 ghost use Rattle.std.specs.Option.{option_map};
-ghost use Rattle.lpt_jobs.specs.Jobs.{numbered};
+ghost use Rattle.lpt_jobs.specs.Jobs.{jobs_numbered};
 ghost use Rattle.lpt_part.specs.Parts.{piece};
-ghost use Rattle.lpt_events.specs.NamedParts.{named};
-ghost use Rattle.lpt_node.specs.Accepting.{accepted, grows, IsFor};
+ghost use Rattle.lpt_events.specs.NamedParts.{part_named};
+ghost use Rattle.lpt_node.specs.Accepting.{packet_accepted, grows, IsFor};
 ghost use Rattle.lpt_node.specs.Layouts.{arrival_shown, IsShown};
 ghost use Rattle.lpt_node.specs.ParsedViews.{arrival_at, arrival_from};
-ghost use Rattle.lpt_node.specs.Receiving.{ignored, noted, parted, plain_released, with_job, with_report};
+ghost use Rattle.lpt_node.specs.Receiving.{packet_ignored, outcome_noted, part_accepted, plain_released, with_job, with_report};
 
 use crate::arrival::Arrival;
 use crate::parsed::arrival_in;
@@ -30,14 +30,15 @@ impl Node {
     pub fn accept(&mut self, parsed: Parsed) -> Result<Accepted, Parsed>
         requires { IsFor self.old parsed }
         ensures ok { IfOk result (λ r. (self.new.at, r)
-            ≡ accepted self.old.side self.old.config self.old.at (arrival_from parsed)) }
+            ≡ packet_accepted self.old.side self.old.config self.old.at (arrival_from parsed)) }
 
         ensures side { self.new.side ≡ self.old.side }
         ensures config { self.new.config ≡ self.old.config }
 
         // Memory runs out only where a part is kept, a message released or a reception broken off.
         ensures memory { OnErr result
-            (grows (accepted self.old.side self.old.config self.old.at (arrival_from parsed)).1 ≡ true) }
+            (grows (packet_accepted self.old.side self.old.config self.old.at
+            (arrival_from parsed)).1 ≡ true) }
         ensures back { IfErr result (λ p. p ≡ parsed) }
         ensures err { OnErr result (self.new.at ≡ self.old.at) }
     {
@@ -60,16 +61,18 @@ impl Node {
     /// changed.
     #[inline(always)]
     pub fn accept_octets(&mut self, octets: &[u8]) -> Result<Accepted, AllocError>
-        requires { numbered self.old.at.jobs + 1 < 2 ^ 64 }
+        requires { jobs_numbered self.old.at.jobs + 1 < 2 ^ 64 }
         ensures ok { IfOk result (λ r. (self.new.at, r)
-            ≡ accepted self.old.side self.old.config self.old.at (arrival_at self.old octets.now)) }
+            ≡ packet_accepted self.old.side self.old.config self.old.at
+            (arrival_at self.old octets.now)) }
 
         ensures side { self.new.side ≡ self.old.side }
         ensures config { self.new.config ≡ self.old.config }
 
         // Memory runs out only where a part is kept, a message released or a reception broken off.
         ensures memory { OnErr result
-            (grows (accepted self.old.side self.old.config self.old.at (arrival_at self.old octets.now)).1 ≡ true) }
+            (grows (packet_accepted self.old.side self.old.config self.old.at
+            (arrival_at self.old octets.now)).1 ≡ true) }
         ensures err { OnErr result (self.new.at ≡ self.old.at) }
     {
         match arrival_in(octets, self.side, self.config.apid, self.config.part_size) {
@@ -86,37 +89,38 @@ impl Node {
     #[inline(always)]
     fn accept_shown(&mut self, arrival: &Arrival<'_>) -> Result<Accepted, AllocError>
         requires shown { IsShown self.old.config.part_size arrival.now }
-        requires numbers { numbered self.old.at.jobs + 1 < 2 ^ 64 }
+        requires numbers { jobs_numbered self.old.at.jobs + 1 < 2 ^ 64 }
         ensures ok { IfOk result (λ r. (self.new.at, r)
-            ≡ accepted self.old.side self.old.config self.old.at (arrival_shown arrival.now)) }
+            ≡ packet_accepted self.old.side self.old.config self.old.at (arrival_shown arrival.now)) }
 
         ensures side { self.new.side ≡ self.old.side }
         ensures config { self.new.config ≡ self.old.config }
 
         ensures memory { OnErr result
-            (grows (accepted self.old.side self.old.config self.old.at (arrival_shown arrival.now)).1 ≡ true) }
+            (grows (packet_accepted self.old.side self.old.config self.old.at
+            (arrival_shown arrival.now)).1 ≡ true) }
         ensures err { OnErr result (self.new.at ≡ self.old.at) }
     {
         match arrival {
-            Arrival::Unreadable => Ok(ignored(Why::Unreadable)),
-            Arrival::Idle => Ok(ignored(Why::Idle)),
-            Arrival::Foreign => Ok(ignored(Why::ForeignApid)),
+            Arrival::Unreadable => Ok(packet_ignored(Why::Unreadable)),
+            Arrival::Idle => Ok(packet_ignored(Why::Idle)),
+            Arrival::Foreign => Ok(packet_ignored(Why::ForeignApid)),
             Arrival::Request => unreachable!(),
-            Arrival::Report(service, subtype) => Ok(noted(Outcome::ReportNoted(
+            Arrival::Report(service, subtype) => Ok(outcome_noted(Outcome::ReportNoted(
                 *service, *subtype,
             ))),
-            Arrival::BadPart => Ok(ignored(Why::BadPart)),
+            Arrival::BadPart => Ok(packet_ignored(Why::BadPart)),
             Arrival::Part(source, part) => self.accept_part(*source, part),
             Arrival::Abort(name, reason) => {
                 self.close(*name);
-                Ok(noted(Outcome::AbortNoted(*name, *reason)))
+                Ok(outcome_noted(Outcome::AbortNoted(*name, *reason)))
             }
         }
     }
 
     // Makes a job of a plain request, at the spacecraft alone.
     fn add_plain(&mut self, octets: &Octets) -> Result<(), AllocError>
-        requires { numbered self.old.at.jobs + 1 < 2 ^ 64 }
+        requires { jobs_numbered self.old.at.jobs + 1 < 2 ^ 64 }
         ensures ok { OnOk result (self.new.at ≡ with_job self.old.side self.old.at octets.now) }
 
         ensures side { self.new.side ≡ self.old.side }
@@ -137,14 +141,17 @@ impl Node {
     #[inline(always)]
     fn accept_part(&mut self, source: u16, part: &Part<'_>) -> Result<Accepted, AllocError>
         requires p { part.now.p ≡ self.old.config.part_size }
-        requires numbers { numbered self.old.at.jobs + 1 < 2 ^ 64 }
-        ensures ok { IfOk result (λ r. (self.new.at, r) ≡ parted self.old.side self.old.config self.old.at (named source (piece part.now))) }
+        requires numbers { jobs_numbered self.old.at.jobs + 1 < 2 ^ 64 }
+        ensures ok { IfOk result
+            (λ r. (self.new.at, r) ≡ part_accepted self.old.side self.old.config self.old.at
+            (part_named source (piece part.now))) }
 
         ensures side { self.new.side ≡ self.old.side }
         ensures config { self.new.config ≡ self.old.config }
 
         ensures memory { OnErr result
-            (grows (parted self.old.side self.old.config self.old.at (named source (piece part.now))).1 ≡ true) }
+            (grows (part_accepted self.old.side self.old.config self.old.at
+            (part_named source (piece part.now))).1 ≡ true) }
         ensures err { OnErr result (self.new.at ≡ self.old.at) }
     {
         let name = Name {
@@ -157,10 +164,10 @@ impl Node {
             .receiver
             .accept(side, &mut self.jobs, head, source, part, clock)?
         {
-            Receipt::Closed => Ok(ignored(Why::Closed)),
-            Receipt::Kept => Ok(noted(Outcome::Kept(name, part.number))),
-            Receipt::Again => Ok(noted(Outcome::Again(name, part.number))),
-            Receipt::NoRoom => Ok(ignored(Why::NoRoom)),
+            Receipt::Closed => Ok(packet_ignored(Why::Closed)),
+            Receipt::Kept => Ok(outcome_noted(Outcome::Kept(name, part.number))),
+            Receipt::Again => Ok(outcome_noted(Outcome::Again(name, part.number))),
+            Receipt::NoRoom => Ok(packet_ignored(Why::NoRoom)),
             Receipt::Whole(message) => Ok(Accepted {
                 outcome: Outcome::Released(name, message.as_slice().len() as u32),
                 packet: None,
@@ -204,8 +211,8 @@ fn plain_released(octets: Octets) -> Accepted
 }
 
 // An outcome alone.
-fn noted(outcome: Outcome) -> Accepted
-    ensures { result ≡ noted outcome }
+fn outcome_noted(outcome: Outcome) -> Accepted
+    ensures { result ≡ outcome_noted outcome }
 {
     Accepted {
         outcome,
@@ -215,8 +222,8 @@ fn noted(outcome: Outcome) -> Accepted
 }
 
 // Nothing was made of a packet.
-fn ignored(why: Why) -> Accepted
-    ensures { result ≡ ignored why }
+fn packet_ignored(why: Why) -> Accepted
+    ensures { result ≡ packet_ignored why }
 {
-    noted(Outcome::Ignored(why))
+    outcome_noted(Outcome::Ignored(why))
 }

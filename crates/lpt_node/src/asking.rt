@@ -108,7 +108,7 @@ impl Node {
     pub(crate) fn refusal_claim(&self) -> Option<NodeFault>
         ensures { result ≡ refusal_claim self.now.at }
     {
-        match self.jobs.unclaimed() {
+        match self.jobs.oldest_unclaimed() {
             None => Some(NodeFault::NoJob),
             Some(_) => None,
         }

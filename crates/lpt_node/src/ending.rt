@@ -10,7 +10,7 @@ ghost use Rattle.lpt_ledger.specs.Marks.{Shut};
 ghost use Rattle.lpt_ledger.specs.States.{state_at};
 ghost use Rattle.lpt_reception.specs.Received.{spelled, all_of};
 ghost use Rattle.lpt_table.specs.Offering.{put_back};
-ghost use Rattle.lpt_jobs.specs.Jobs.{after_push, numbered};
+ghost use Rattle.lpt_jobs.specs.Jobs.{after_push, jobs_numbered};
 ghost use Rattle.lpt_node.specs.declared.receipt.Receipt.TheVariants as receipt;
 ghost use Rattle.lpt_node.specs.Receivers.{abort_report, IsShort};
 ghost use Rattle.lpt_node.specs.Receiving.{jobs_with};
@@ -41,7 +41,7 @@ pub(crate) fn release(
     requires out { IsSomeAnd table.old.out (λ o. o.0 ≡ name) }
     requires id { whole.before.id ≡ name.id }
     requires p { whole.before.p ≡ table.old.p }
-    requires numbers { numbered jobs.old + 1 < 2 ^ 64 }
+    requires numbers { jobs_numbered jobs.old + 1 < 2 ^ 64 }
     ensures ok { IfOk result (λ t. t ≡ receipt.Whole (spelled (all_of whole))) }
     ensures jobs { OnOk result (jobs.new ≡ jobs_with side jobs.old (spelled (all_of whole))) }
     ensures shut { OnOk result (ledger.new ≡ map.insert ledger.old name Shut) }
@@ -75,7 +75,7 @@ fn close_whole(
     whole: &Whole,
 ) -> Result<(), AllocError>
     requires free { state_at ledger.old name ≡ State.Free }
-    requires numbers { numbered jobs.old + 1 < 2 ^ 64 }
+    requires numbers { jobs_numbered jobs.old + 1 < 2 ^ 64 }
     ensures jobs { OnOk result (jobs.new ≡ jobs_with side jobs.old (spelled (all_of whole.now))) }
     ensures shut { OnOk result (ledger.new ≡ map.insert ledger.old name Shut) }
 
@@ -99,7 +99,7 @@ fn close_whole(
 
 // Makes a job of a whole message. The only error is out of memory.
 fn add_whole(jobs: &mut JobQueue, whole: &Whole) -> Result<(), AllocError>
-    requires { numbered jobs.old + 1 < 2 ^ 64 }
+    requires { jobs_numbered jobs.old + 1 < 2 ^ 64 }
     ensures ok { OnOk result (jobs.new ≡ after_push jobs.old (spelled (all_of whole.now))) }
     ensures err { OnErr result (jobs.new ≡ jobs.old) }
 {

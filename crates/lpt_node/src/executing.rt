@@ -5,11 +5,11 @@ ghost use Rattle.std.specs.FinMap as map;
 ghost use Rattle.lpt_ledger.specs.LeastFree.{least_free_in};
 ghost use Rattle.lpt_memory.specs.Given.{read_length};
 ghost use Rattle.lpt_memory.specs.Memories.{sizes_of};
-ghost use Rattle.lpt_memory.specs.Readings.{meant};
+ghost use Rattle.lpt_memory.specs.Readings.{source_meaning};
 ghost use Rattle.lpt_execution.specs.Ranges.{EndingFits, ReportFits};
 ghost use Rattle.lpt_execution.specs.Reporting.{applied_of, large_packets, link_packets, opened_of};
 ghost use Rattle.lpt_node.specs.Executions.{made_of, reports_of, with_counts};
-ghost use Rattle.lpt_node.specs.Jobs.{ending_at, ending_given, report_packets, reported, with_opened};
+ghost use Rattle.lpt_node.specs.Jobs.{ending_at, ending_given, report_packets, reports_made, with_opened};
 ghost use Rattle.lpt_node.specs.Nodes.{MessageFits};
 ghost use Rattle.lpt_node.specs.Sending.{counted_kind};
 
@@ -70,7 +70,7 @@ impl Node {
         octets: &[u8],
         reading: &Reading,
     ) -> Result<Ending, AllocError>
-        requires { length octets.now ≡ read_length (meant reading.now) }
+        requires { length octets.now ≡ read_length (source_meaning reading.now) }
         ensures ending { IfOk result (λ e.
             e ≡ ending_given self.now.config self.now.at octets.now reading.now) }
         ensures fits { IfOk result EndingFits }
@@ -99,7 +99,7 @@ impl Node {
             ≡ large_packets self.now.config.part_size
             (made_of self.now.config self.now.at reading.now ending)) }
         ensures counts { IfOk result (λ x. with_counts self.now.at.sending x.1.counts
-            ≡ reported self.now.at.sending (reports_of reading.now ending)) }
+            ≡ reports_made self.now.at.sending (reports_of reading.now ending)) }
         ensures fits { IfOk result (λ x.
             All (λ m. MessageFits self.now.config.part_size (length m)) x.1.large.items) }
 
@@ -107,7 +107,7 @@ impl Node {
         ensures memory { OnErr result (reports_of reading.now ending ≢ []) }
     {
         let peer = request_source(reading);
-        let applied = ending.applied();
+        let applied = ending.answer_alone();
         let reports = reports(self.alloc, reading, ending)?;
         Ok((applied, self.report_packets(peer, reports)?))
     }
@@ -122,7 +122,7 @@ impl Node {
             ≡ large_packets self.now.config.part_size
             (report_packets self.now.config peer self.now.at.sending self.now.at.clock reports.items)) }
         ensures counts { IfOk result (λ m. with_counts self.now.at.sending m.counts
-            ≡ reported self.now.at.sending reports.items) }
+            ≡ reports_made self.now.at.sending reports.items) }
         ensures fits { IfOk result (λ m.
             All (λ b. MessageFits self.now.config.part_size (length b)) m.large.items) }
         ensures memory { OnErr result (reports.items ≢ []) }

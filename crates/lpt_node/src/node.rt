@@ -6,7 +6,7 @@ ghost use Rattle.lpt_ledger.specs.States.{state_at};
 ghost use Rattle.lpt_acts.specs.Acts.{limits_of};
 ghost use Rattle.lpt_events.specs.Configs.{IsConfig};
 ghost use Rattle.lpt_node.specs.Nodes.{new_node, is_open, message_at};
-ghost use Rattle.lpt_node.specs.Restarts.{limits_at, resumed, NoneOpen};
+ghost use Rattle.lpt_node.specs.Restarts.{limits_at, node_resumed, NoneOpen};
 
 use crate::counts::Counts;
 use crate::outgoing::Outgoing;
@@ -104,7 +104,7 @@ impl Node {
         ensures { IfOk result (λ n. n ≡ record {
           side = side;
           config = config.now;
-          at = resumed (limits_of config.now) boot clock senders receivers;
+          at = node_resumed (limits_of config.now) boot clock senders receivers;
         }) }
     {
         let Config {

@@ -2,7 +2,7 @@
 
 ghost use Rattle.std.specs.Prelude.{◌≡◌, ◌↔◌, ◌+◌, ◌≤◌, ℕ, List, length, Some, IsTrue};
 ghost use Rattle.lpt_packet.specs.Numbers.{IsOctets};
-ghost use Rattle.lpt_packet.specs.Packets.{APacket, fields, seen};
+ghost use Rattle.lpt_packet.specs.Packets.{APacket, fields, packet_seen};
 ghost use Rattle.lpt_part.specs.Splitting.{IsPartSize};
 ghost use Rattle.lpt_events.specs.declared.side.Side.TheVariants.{Ground, Craft};
 ghost use Rattle.lpt_node.specs.ParsedViews.{arrival_from};
@@ -92,7 +92,7 @@ impl Parsed {
     pub(crate) fn arrival(&self) -> Arrival<'_>
         ensures { Shows self.now.p self.now.octets result (arrival_from self.now) }
     {
-        shown(self.layout, self.octets.as_slice(), self.p)
+        arrival_by(self.layout, self.octets.as_slice(), self.p)
     }
 }
 
@@ -102,12 +102,12 @@ pub(crate) fn arrival_in(octets: &[u8], side: Side, apid: u16, p: u32) -> Arriva
     requires { IsPartSize p }
     ensures { Shows p octets.now result (arrival side apid p octets.now) }
 {
-    shown(layout_in(octets, side, apid), octets, p)
+    arrival_by(layout_in(octets, side, apid), octets, p)
 }
 
 // What octets show in which this was found.
 #[inline(always)]
-fn shown(layout: Layout, octets: &[u8], p: u32) -> Arrival<'_>
+fn arrival_by(layout: Layout, octets: &[u8], p: u32) -> Arrival<'_>
     requires within { IsWithin octets.now layout }
     requires part_size { IsPartSize p }
     ensures { Shows p octets.now result (arrival_by p octets.now layout) }
@@ -161,7 +161,7 @@ fn layout_in(octets: &[u8], side: Side, apid: u16) -> Layout
 
 // What a packet of the configured APID is to the spacecraft.
 fn layout_in_uplink(packet: &Packet<'_>) -> Layout
-    ensures { (b : List ℕ) → seen b ≡ Some (APacket (fields packet.now))
+    ensures { (b : List ℕ) → packet_seen b ≡ Some (APacket (fields packet.now))
         → IsLayoutIn Craft (fields packet.now) b result }
 {
     bodies_stand_last();
@@ -176,7 +176,7 @@ fn layout_in_uplink(packet: &Packet<'_>) -> Layout
 
 // What a packet of the configured APID is on ground.
 fn layout_in_downlink(packet: &Packet<'_>) -> Layout
-    ensures { (b : List ℕ) → seen b ≡ Some (APacket (fields packet.now))
+    ensures { (b : List ℕ) → packet_seen b ≡ Some (APacket (fields packet.now))
         → IsLayoutIn Ground (fields packet.now) b result }
 {
     bodies_stand_last();

@@ -5,14 +5,14 @@ ghost use Rattle.std.specs.FinMap as map;
 ghost use Rattle.std.specs.Option.{option_map};
 ghost use Rattle.lpt_part.specs.declared.reason.Reason.TheVariants as why;
 ghost use Rattle.lpt_part.specs.Parts.{piece};
-ghost use Rattle.lpt_events.specs.NamedParts.{named};
+ghost use Rattle.lpt_events.specs.NamedParts.{part_named};
 ghost use Rattle.lpt_pus.specs.Telemetry.{telemetry, as_written};
 ghost use Rattle.lpt_ledger.specs.States.{state_at};
 ghost use Rattle.lpt_table.specs.Deadlines.{due_of};
 ghost use Rattle.lpt_table.specs.SettingBack.{reaches_back, set_back};
 ghost use Rattle.lpt_table.specs.Tables.{IsTableSize};
-ghost use Rattle.lpt_jobs.specs.Jobs.{numbered};
-ghost use Rattle.lpt_node.specs.Receivers.{abort_report, ended, grows, received, table_in, IsSameReceiver, IsShort};
+ghost use Rattle.lpt_jobs.specs.Jobs.{jobs_numbered};
+ghost use Rattle.lpt_node.specs.Receivers.{abort_report, reception_ended, grows, part_received, table_in, IsSameReceiver, IsShort};
 ghost use Rattle.lpt_node.specs.Receiving.{jobs_after};
 ghost use Rattle.lpt_node.specs.Restarts.{NoneOpen};
 
@@ -151,10 +151,10 @@ impl Receiver {
         now: u32,
     ) -> Result<Receipt, AllocError>
         requires p { part.now.p ≡ self.old.p }
-        requires numbers { numbered jobs.old + 1 < 2 ^ 64 }
+        requires numbers { jobs_numbered jobs.old + 1 < 2 ^ 64 }
         ensures ok { IfOk result (λ t. (self.new, t)
-            ≡ received (option_map (λ h. as_written (telemetry h [])) head) self.old
-            (named source (piece part.now)) now) }
+            ≡ part_received (option_map (λ h. as_written (telemetry h [])) head) self.old
+            (part_named source (piece part.now)) now) }
         ensures jobs { IfOk result (λ t. jobs.new ≡ jobs_after side jobs.old t) }
         ensures short { IfOk result IsShort }
 
@@ -162,8 +162,8 @@ impl Receiver {
 
         // Memory runs out only where some is taken.
         ensures memory { OnErr result
-            (grows (received (option_map (λ h. as_written (telemetry h [])) head) self.old
-            (named source (piece part.now)) now).1 ≡ true) }
+            (grows (part_received (option_map (λ h. as_written (telemetry h [])) head) self.old
+            (part_named source (piece part.now)) now).1 ≡ true) }
         ensures err { OnErr result (self.new ≡ self.old) }
         ensures no_job { OnErr result (jobs.new ≡ jobs.old) }
     {
@@ -208,7 +208,7 @@ impl Receiver {
         requires { is_some (map.get self.old.entries name) ≡ true }
         ensures report { IfOk result (λ o. o
             ≡ abort_report (option_map (λ h. as_written (telemetry h [])) head) name why.Expired) }
-        ensures ended { OnOk result (self.new ≡ ended self.old name) }
+        ensures ended { OnOk result (self.new ≡ reception_ended self.old name) }
 
         ensures same { IsSameReceiver self.old self.new }
 

@@ -5,7 +5,7 @@ ghost use Rattle.std.specs.FinMap as map;
 ghost use Rattle.lpt_ledger.specs.Marks.{all_closed};
 ghost use Rattle.lpt_ledger.specs.States.{state_at};
 ghost use Rattle.lpt_events.specs.Lanes.{same_direction};
-ghost use Rattle.lpt_node.specs.Restarts.{may_retire, name_state, retired, restarted};
+ghost use Rattle.lpt_node.specs.Restarts.{may_retire, name_state, name_retired, node_restarted};
 ghost use Rattle.lpt_node.specs.NodeInside.{AreKept};
 ghost use Rattle.lpt_node.specs.Nodes.{direction_from};
 
@@ -35,7 +35,7 @@ impl Node {
     /// receiver's, of which no reception may be open. A name that is free stays so.
     pub fn retire(&mut self, direction: Direction, name: Name)
         requires { IsTrue (may_retire self.old.side self.old.at direction name) }
-        ensures at { self.new.at ≡ retired self.old.side self.old.at direction name }
+        ensures at { self.new.at ≡ name_retired self.old.side self.old.at direction name }
         ensures side { self.new.side ≡ self.old.side }
         ensures config { self.new.config ≡ self.old.config }
     {
@@ -52,7 +52,7 @@ impl Node {
     /// so does the clock. It takes no memory.
     pub fn restart(&mut self)
         requires { self.old.at.boot + 1 < 2 ^ 64 }
-        ensures at { self.new.at ≡ restarted self.old.at }
+        ensures at { self.new.at ≡ node_restarted self.old.at }
         ensures side { self.new.side ≡ self.old.side }
         ensures config { self.new.config ≡ self.old.config }
     {

@@ -5,7 +5,7 @@ ghost use Rattle.std.specs.FinMap as map;
 ghost use Rattle.lpt_ledger.specs.Marks.{Opened};
 ghost use Rattle.lpt_ledger.specs.States.{state_at};
 ghost use Rattle.lpt_node.specs.Nodes.{MessageFits};
-ghost use Rattle.lpt_node.specs.Sending.{refusal_open, opened, refusal_send, sent, refusal_finish, closed, RefusedBy};
+ghost use Rattle.lpt_node.specs.Sending.{refusal_open, message_opened, refusal_send, part_sent, refusal_finish, sender_closed, RefusedBy};
 
 use crate::outgoing::Outgoing;
 use crate::{Node, NodeFault};
@@ -21,7 +21,7 @@ impl Node {
     /// 65,542 octets; `TooMany`, as many messages are open as the limit; `Memory`.
     pub fn open(&mut self, name: Name, message: Octets) -> Result<(), (NodeFault, Octets)>
         ensures enabled { OnOk result (refusal_open self.old.config self.old.at name (length message) ≡ None) }
-        ensures ok { OnOk result (self.new.at ≡ opened self.old.at name message) }
+        ensures ok { OnOk result (self.new.at ≡ message_opened self.old.at name message) }
         ensures fits { OnOk result (MessageFits self.old.config.part_size (length message)) }
 
         ensures side { self.new.side ≡ self.old.side }
@@ -46,7 +46,8 @@ impl Node {
     /// open; `NoSuchPart`, `k` is 0 or greater than the number of parts; `Memory`.
     pub fn send_part(&mut self, name: Name, k: u16) -> Result<Octets, NodeFault>
         ensures enabled { OnOk result (refusal_send self.old.config self.old.at name k ≡ None) }
-        ensures ok { IfOk result (λ o. (self.new.at, o) ≡ sent self.old.side self.old.config self.old.at name k) }
+        ensures ok { IfOk result
+            (λ o. (self.new.at, o) ≡ part_sent self.old.side self.old.config self.old.at name k) }
 
         ensures side { self.new.side ≡ self.old.side }
         ensures config { self.new.config ≡ self.old.config }
@@ -74,7 +75,7 @@ impl Node {
     /// Errors: `NotOpen` if none of this name is open. Nothing has changed then.
     pub fn finish(&mut self, name: Name) -> Result<(), NodeFault>
         ensures enabled { OnOk result (refusal_finish self.old.at name ≡ None) }
-        ensures ok { OnOk result (self.new.at ≡ closed self.old.at name) }
+        ensures ok { OnOk result (self.new.at ≡ sender_closed self.old.at name) }
 
         ensures side { self.new.side ≡ self.old.side }
         ensures config { self.new.config ≡ self.old.config }
@@ -91,7 +92,7 @@ impl Node {
 
     // Closes an outgoing transaction where it is open.
     pub(crate) fn close(&mut self, name: Name)
-        ensures at { self.new.at ≡ closed self.old.at name }
+        ensures at { self.new.at ≡ sender_closed self.old.at name }
         ensures side { self.new.side ≡ self.old.side }
         ensures config { self.new.config ≡ self.old.config }
     {

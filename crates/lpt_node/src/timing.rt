@@ -4,7 +4,7 @@
 ghost use Rattle.std.specs.FinMap as map;
 ghost use Rattle.std.specs.Prelude.{◌≡◌, None, Some, IfOk, IfErr, IsTrue, OnOk, OnErr, is_some, true};
 ghost use Rattle.lpt_node.specs.Sending.{RefusedBy};
-ghost use Rattle.lpt_node.specs.Times.{can_set_back, clock_back, due, expired, given_up, refusal_expire, refusal_give_up, refusal_tick, ticked};
+ghost use Rattle.lpt_node.specs.Times.{can_set_back, clock_back, due, reception_expired, given_up, refusal_expire, refusal_give_up, refusal_tick, clock_ticked};
 
 use crate::{Expired, Node, NodeFault};
 use lpt_events::TelemetryKind;
@@ -17,7 +17,7 @@ impl Node {
     /// Errors: `ClockEnd` if it is at its greatest value. Nothing has changed then.
     pub fn tick(&mut self) -> Result<(), NodeFault>
         ensures enabled { OnOk result (refusal_tick self.old.at ≡ None) }
-        ensures ok { OnOk result (self.new.at ≡ ticked self.old.at) }
+        ensures ok { OnOk result (self.new.at ≡ clock_ticked self.old.at) }
 
         ensures side { self.new.side ≡ self.old.side }
         ensures config { self.new.config ≡ self.old.config }
@@ -62,7 +62,8 @@ impl Node {
     /// `Memory`.
     pub fn expire(&mut self) -> Result<Expired, NodeFault>
         ensures enabled { OnOk result (refusal_expire self.old.config self.old.at ≡ None) }
-        ensures ok { IfOk result (λ r. (self.new.at, r) ≡ expired self.old.side self.old.config self.old.at) }
+        ensures ok { IfOk result
+            (λ r. (self.new.at, r) ≡ reception_expired self.old.side self.old.config self.old.at) }
 
         ensures side { self.new.side ≡ self.old.side }
         ensures config { self.new.config ≡ self.old.config }

@@ -2,12 +2,12 @@
 
 ghost use Rattle.std.specs.Prelude.{◌≡◌, ◌≢◌, ◌-◌, [], length, IsTrue, None, Some, IfOk, IfErr, OnOk, OnErr};
 ghost use Rattle.std.specs.Option.{option_map};
-ghost use Rattle.lpt_jobs.specs.Jobs.{Ready, claimed_in, head_of, is_claimed, is_ready, numbered, unclaimed, without_front};
+ghost use Rattle.lpt_jobs.specs.Jobs.{Ready, claimed_in, head_of, is_claimed, is_ready, jobs_numbered, oldest_unclaimed, without_front};
 ghost use Rattle.lpt_memory.specs.Memories.{Contents};
 ghost use Rattle.lpt_memory.specs.Readings.{Source};
 ghost use Rattle.lpt_execution.specs.Ranges.{EndingFits};
 ghost use Rattle.lpt_node.specs.Executions.{front_reports, reports_given, reports_of, reports_refused};
-ghost use Rattle.lpt_node.specs.Jobs.{refusal_claim, claimed, committed, refusal_apply, executed, executed_given, executed_so, execution, front_reading, refused_front, FrontHolds, FrontReads, IsReadFor};
+ghost use Rattle.lpt_node.specs.Jobs.{refusal_claim, job_claimed, job_committed, refusal_apply, job_executed, executed_given, executed_so, execution, front_reading, refused_front, FrontHolds, FrontReads, IsReadFor};
 ghost use Rattle.lpt_node.specs.Sending.{RefusedBy};
 
 use crate::executing::Made;
@@ -29,13 +29,13 @@ impl Node {
 
     /// How many jobs have got a number in this boot, executed ones among them.
     pub fn jobs(&self) -> u64
-        ensures { result ≡ numbered self.now.at.jobs }
+        ensures { result ≡ jobs_numbered self.now.at.jobs }
     {
-        self.jobs.numbered()
+        self.jobs.jobs_numbered()
     }
 
     /// How many jobs aren't executed yet.
-    pub fn queued(&self) -> u64
+    pub fn jobs_queued(&self) -> u64
         ensures { result ≡ length self.now.at.jobs.jobs }
     {
         self.jobs.len() as u64
@@ -49,10 +49,10 @@ impl Node {
     }
 
     /// The number and the message of the oldest job that waits. `None` if none does.
-    pub fn unclaimed(&self) -> Option<(u64, &Octets)>
-        ensures { option_map (λ x. (x.0, x.1.now)) result ≡ unclaimed self.now.at.jobs }
+    pub fn oldest_unclaimed(&self) -> Option<(u64, &Octets)>
+        ensures { option_map (λ x. (x.0, x.1.now)) result ≡ oldest_unclaimed self.now.at.jobs }
     {
-        self.jobs.unclaimed()
+        self.jobs.oldest_unclaimed()
     }
 
     /// Gives the oldest job that waits to a worker, with its message. It takes no memory.
@@ -60,7 +60,7 @@ impl Node {
     /// Errors: `NoJob` if none waits. Nothing has changed then.
     pub fn claim(&mut self) -> Result<Ticket, NodeFault>
         ensures enabled { OnOk result (refusal_claim self.old.at ≡ None) }
-        ensures ok { IfOk result (λ t. (self.new.at, t) ≡ claimed self.old.at) }
+        ensures ok { IfOk result (λ t. (self.new.at, t) ≡ job_claimed self.old.at) }
 
         // A reading of it may be handed in.
         ensures out { IfOk result (λ t. IsTrue (is_claimed self.new.at.jobs t.job)) }
@@ -82,7 +82,7 @@ impl Node {
     /// the job's own boot alone. A job of this boot must be claimed, and no reading of it handed in.
     pub fn commit(&mut self, boot: u64, job: u64, reading: Reading) -> bool
         requires { boot ≡ self.old.at.boot → IsTrue (is_claimed self.old.at.jobs job) }
-        ensures committed { (self.new.at, result) ≡ committed self.old.at boot job reading }
+        ensures committed { (self.new.at, result) ≡ job_committed self.old.at boot job reading }
 
         ensures side { self.new.side ≡ self.old.side }
         ensures config { self.new.config ≡ self.old.config }
@@ -117,7 +117,7 @@ impl Node {
         requires { IsReadFor self.old memories.old }
         ensures enabled { OnOk result (refusal_apply self.old.at ≡ None) }
         ensures ok { IfOk result (λ r. ((self.new.at, execution r), memories.new)
-            ≡ executed self.old.config self.old.at memories.old) }
+            ≡ job_executed self.old.config self.old.at memories.old) }
 
         ensures side { self.new.side ≡ self.old.side }
         ensures config { self.new.config ≡ self.old.config }
@@ -162,7 +162,7 @@ impl Node {
         ensures over { (ms : Contents) → IsReadFor self.old ms
             → FrontHolds (head_of self.old.at.jobs.jobs) ms octets.now
             → IfOk result (λ r. (self.new.at, execution r)
-            ≡ (executed self.old.config self.old.at ms).0) }
+            ≡ (job_executed self.old.config self.old.at ms).0) }
 
         ensures side { self.new.side ≡ self.old.side }
         ensures config { self.new.config ≡ self.old.config }

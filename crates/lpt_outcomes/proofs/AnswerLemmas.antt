@@ -5,12 +5,12 @@ use Rattle.std.specs.List.{flat_map, list_any}
 use Rattle.std.specs.Option.{option_or}
 use Rattle.lpt_list.specs.declared.form.Form.{Form}
 use Rattle.lpt_outcomes.specs.declared.asked.Asked.{Asked}
-use Rattle.lpt_outcomes.specs.declared.news.News.{News}
+use Rattle.lpt_outcomes.specs.declared.news.ReportNews.{ReportNews}
 use Rattle.lpt_outcomes.specs.declared.outcome.Outcome.{Outcome}
-use Rattle.lpt_outcomes.specs.Answers.{heard_at, joined, told_at, with_told}
+use Rattle.lpt_outcomes.specs.Answers.{heard_at, outcomes_joined, told_at, with_told}
 use Rattle.lpt_outcomes.specs.Keys.{Key, key_of, reported_key, same_key}
 use Rattle.lpt_outcomes.specs.Lines.{has_key, line_of}
-use Rattle.lpt_outcomes.specs.Reports.{all_heard, heard, told, told_by}
+use Rattle.lpt_outcomes.specs.Reports.{all_heard, news_heard, outcome_told, told_by}
 use Rattle.lpt_outcomes.specs.Requests.{nothing_told}
 use Rattle.lpt_outcomes.proofs.KeyLemmas.{same-self}
 
@@ -34,44 +34,47 @@ or-assoc (Some code) p q = refl
 
 -- one more success
 joined-success : (o s : Outcome) (one three : Bool)
-    → joined o (if one then (record s { accepted = true })
+    → outcomes_joined o (if one then (record s { accepted = true })
     else if three then (record s { started = true }) else (record s { completed = true }))
-    ≡ (if one then (record (joined o s) { accepted = true })
-    else if three then (record (joined o s) { started = true })
-    else (record (joined o s) { completed = true }))
-joined-success o s true three = ap (λ b. record (joined o s) { accepted = b }) (or-true o.accepted)
-joined-success o s false true = ap (λ b. record (joined o s) { started = b }) (or-true o.started)
+    ≡ (if one then (record (outcomes_joined o s) { accepted = true })
+    else if three then (record (outcomes_joined o s) { started = true })
+    else (record (outcomes_joined o s) { completed = true }))
+joined-success o s true three =
+    ap (λ b. record (outcomes_joined o s) { accepted = b }) (or-true o.accepted)
+joined-success o s false true =
+    ap (λ b. record (outcomes_joined o s) { started = b }) (or-true o.started)
 joined-success o s false false =
-    ap (λ b. record (joined o s) { completed = b }) (or-true o.completed)
+    ap (λ b. record (outcomes_joined o s) { completed = b }) (or-true o.completed)
 
 -- one more report
 joined-told : (o s : Outcome) (subtype : ℕ) (code : Option ℕ)
-    → joined o (told_by s subtype code) ≡ told_by (joined o s) subtype code
+    → outcomes_joined o (told_by s subtype code) ≡ told_by (outcomes_joined o s) subtype code
 joined-told o s subtype None = joined-success o s (subtype == 1) (subtype == 3)
 joined-told o s subtype (Some code) =
-    ap (λ f. record (joined o s) { failure = f }) (or-assoc o.failure s.failure (Some code))
+    ap (λ f. record (outcomes_joined o s) { failure = f })
+    (or-assoc o.failure s.failure (Some code))
 
-joined-nothing : (o : Outcome) → joined o nothing_told ≡ o
+joined-nothing : (o : Outcome) → outcomes_joined o nothing_told ≡ o
 joined-nothing o =
     simp (or-false o.accepted, or-false o.started, or-false o.completed, or-none o.failure) refl
 
 -- ---- a request
 
 -- what one becomes by reports
-abbrev one : Asked → List News → Asked
+abbrev one : Asked → List ReportNews → Asked
 one a [] = a
-one a (n ∷ ns) = one (heard n a) ns
+one a (n ∷ ns) = one (news_heard n a) ns
 
-one-told : (a : Asked) (s : Outcome) (ns : List News)
+one-told : (a : Asked) (s : Outcome) (ns : List ReportNews)
     → with_told a (told_at (key_of a) ns (Some s)) ≡ one (with_told a (Some s)) ns
 one-told a s [] = refl
 one-told a s (n ∷ ns) =
-    by_id (same_key (reported_key n) (key_of a)) refl (one-told a (told s n) ns)
+    by_id (same_key (reported_key n) (key_of a)) refl (one-told a (outcome_told s n) ns)
     (one-told a s ns)
   where
     by_id : (b : Bool) → same_key (reported_key n) (key_of a) ≡ b
-        → with_told a (told_at (key_of a) ns (Some (told s n)))
-        ≡ one (with_told a (Some (told s n))) ns
+        → with_told a (told_at (key_of a) ns (Some (outcome_told s n)))
+        ≡ one (with_told a (Some (outcome_told s n))) ns
         → with_told a (told_at (key_of a) ns (Some s)) ≡ one (with_told a (Some s)) ns
         → with_told a (told_at (key_of a) (n ∷ ns) (Some s))
         ≡ one (with_told a (Some s)) (n ∷ ns)
@@ -81,7 +84,7 @@ one-told a s (n ∷ ns) =
     by_id false e own other = rw e other
 
 -- from nothing on
-one-answered : (a : Asked) (ns : List News)
+one-answered : (a : Asked) (ns : List ReportNews)
     → with_told a (told_at (key_of a) ns (Some nothing_told)) ≡ one a ns
 one-answered a ns =
     one-told a nothing_told ns
@@ -89,17 +92,17 @@ one-answered a ns =
 
 -- ---- requests
 
-heard-none : (ns : List News) → all_heard [] ns ≡ []
+heard-none : (ns : List ReportNews) → all_heard [] ns ≡ []
 heard-none [] = refl
 heard-none (n ∷ ns) = heard-none ns
 
-heard-one : (a : Asked) (rest : List Asked) (ns : List News)
+heard-one : (a : Asked) (rest : List Asked) (ns : List ReportNews)
     → all_heard (a ∷ rest) ns ≡ one a ns ∷ all_heard rest ns
 heard-one a rest [] = refl
-heard-one a rest (n ∷ ns) = heard-one (heard n a) (map (heard n) rest) ns
+heard-one a rest (n ∷ ns) = heard-one (news_heard n a) (map (news_heard n) rest) ns
 
 -- requests with what was told on them
-pub answered-heard : (m : Key → Option Outcome) (requests : List Asked) (ns : List News)
+pub answered-heard : (m : Key → Option Outcome) (requests : List Asked) (ns : List ReportNews)
     → ((k : Key) → list_any (has_key k) requests ≡ true → m k ≡ told_at k ns (Some nothing_told))
     → map (λ a. with_told a (m (key_of a))) requests ≡ all_heard requests ns
 answered-heard m [] ns h = sym (heard-none ns)
@@ -115,7 +118,7 @@ answered-heard m (a ∷ rest) ns h =
 
 -- ---- one more report
 
-pub told_at-next : (k : Key) (ns : List News) (n : News) (o : Option Outcome)
+pub told_at-next : (k : Key) (ns : List ReportNews) (n : ReportNews) (o : Option Outcome)
     → told_at k (ns ++ n ∷ []) o ≡ heard_at k n (told_at k ns o)
 told_at-next k [] n o = refl
 told_at-next k (m ∷ ns) n o = told_at-next k ns n (heard_at k m o)

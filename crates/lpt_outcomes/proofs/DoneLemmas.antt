@@ -11,12 +11,12 @@ use Rattle.lpt_verify.specs.Reading.{is_failure, is_success}
 use Rattle.lpt_verify.specs.Reports.{asks, failure, success, success_if}
 use Rattle.lpt_verify.proofs.ReadingLemmas.{IsReport-read}
 use Rattle.lpt_outcomes.specs.declared.asked.Asked.{Asked}
-use Rattle.lpt_outcomes.specs.declared.news.News.{News}
+use Rattle.lpt_outcomes.specs.declared.news.ReportNews.{ReportNews}
 use Rattle.lpt_outcomes.specs.declared.outcome.Outcome.{Outcome}
 use Rattle.lpt_outcomes.specs.Keys.{key_of}
 use Rattle.lpt_outcomes.specs.Requests.{nothing_told}
-use Rattle.lpt_outcomes.specs.Reports.{all_heard, heard, news, told_by}
-use Rattle.lpt_outcomes.specs.Done.{answered, has_last, is_acknowledged, is_done, news_sent}
+use Rattle.lpt_outcomes.specs.Reports.{all_heard, news_heard, news, told_by}
+use Rattle.lpt_outcomes.specs.Done.{requests_answered, has_last, is_acknowledged, is_done, news_sent}
 use Rattle.lpt_outcomes.proofs.KeyLemmas.{same-self}
 
 -- ---- one report
@@ -48,16 +48,16 @@ failure-told to id k code fits code_fits coded =
 
 -- what a request becomes by it
 own : (a : Asked) (k : ℕ) (code : Option ℕ)
-    → heard (news a.source k (on a.request.value code)) a
+    → news_heard (news a.source k (on a.request.value code)) a
     ≡ record a { outcome = told_by a.outcome k code }
 own a k code = rw (same-self (key_of a)) refl
 
 -- ---- reports one after the other
 
-heard-append : (requests : List Asked) (ns ms : List News)
+heard-append : (requests : List Asked) (ns ms : List ReportNews)
     → all_heard requests (ns ++ ms) ≡ all_heard (all_heard requests ns) ms
 heard-append requests [] ms = refl
-heard-append requests (n ∷ ns) ms = heard-append (map (heard n) requests) ns ms
+heard-append requests (n ∷ ns) ms = heard-append (map (news_heard n) requests) ns ms
 
 -- what requests become by reports that are sent to a destination
 abbrev sent : (to : ℕ) → List Asked → List EncodedReport → List Asked
@@ -124,7 +124,7 @@ told_is false false false = refl
 
 -- of a request that was carried out
 carried_out : (a : Asked) → a.request.value < 2 ^ 32 → a.outcome ≡ nothing_told
-    → map is_done (answered a.source a.request.value a.flags None (a ∷ []))
+    → map is_done (requests_answered a.source a.request.value a.flags None (a ∷ []))
     ≡ is_acknowledged a.flags ∷ []
 carried_out a fits before =
     let s = a.source in
@@ -139,7 +139,7 @@ carried_out a fits before =
     let first : sent s (a ∷ []) (success_if x v 1) ≡ one ∷ [] = by_success a x 1 fits refl in
     let second : sent s (one ∷ []) (success_if y v 3) ≡ two ∷ [] = by_success one y 3 fits refl in
     let third : sent s (two ∷ []) (success_if z v 7) ≡ three ∷ [] = by_success two z 7 fits refl in
-    let all : answered s v a.flags None (a ∷ []) ≡ three ∷ [] =
+    let all : requests_answered s v a.flags None (a ∷ []) ≡ three ∷ [] =
     sent-append s (a ∷ []) (success_if x v 1 ++ success_if y v 3) (success_if z v 7)
     ∙ ap (λ rs. sent s rs (success_if z v 7))
     (sent-append s (a ∷ []) (success_if x v 1) (success_if y v 3))
@@ -165,7 +165,8 @@ none_yet o false h = h
 -- of a request that failed
 failed : (a : Asked) (code : ℕ) → a.request.value < 2 ^ 32 → code < 2 ^ 16
     → a.outcome ≡ nothing_told
-    → map is_done (answered a.source a.request.value a.flags (Some code) (a ∷ [])) ≡ false ∷ []
+    → map is_done (requests_answered a.source a.request.value a.flags (Some code) (a ∷ [])) ≡ false
+    ∷ []
 failed a code fits code_fits before = go (nat_le code 2) where
   none : a.outcome.failure ≡ None
   none = ap (λ (o : Outcome). o.failure) before
@@ -199,7 +200,7 @@ pub answered-done : (a : Asked) (code : Option ℕ)
     → a.request.value < 2 ^ 32
     → IfSome code (λ c. c < 2 ^ 16)
     → a.outcome ≡ nothing_told
-    → map is_done (answered a.source a.request.value a.flags code (a ∷ []))
+    → map is_done (requests_answered a.source a.request.value a.flags code (a ∷ []))
     ≡ (not (is_some code) && is_acknowledged a.flags) ∷ []
 answered-done a None fits code_fits before = carried_out a fits before
 answered-done a (Some code) fits code_fits before = failed a code fits code_fits before

@@ -12,12 +12,12 @@ use Rattle.std.specs.Map.{count_at}
 use Rattle.std.specs.Ordering.{is_eq, nat_cmp, ordering_then}
 use Rattle.lpt_packet.proofs.Readings.{eq_true, true_eq}
 use Rattle.lpt_outcomes.specs.declared.asked.Asked.{Asked}
-use Rattle.lpt_outcomes.specs.declared.news.News.{News}
+use Rattle.lpt_outcomes.specs.declared.news.ReportNews.{ReportNews}
 use Rattle.lpt_outcomes.specs.declared.outcome.Outcome.{Outcome}
 use Rattle.lpt_outcomes.specs.Answers.{heard_at, untold}
 use Rattle.lpt_outcomes.specs.Keys.{Key, key_cmp, key_of, reported_key, same_key}
 use Rattle.lpt_outcomes.specs.Lines.{has_key, with_key}
-use Rattle.lpt_outcomes.specs.Reports.{told}
+use Rattle.lpt_outcomes.specs.Reports.{outcome_told}
 use Rattle.lpt_outcomes.specs.Requests.{nothing_told}
 
 pub same-self : (k : Key) → same_key k k ≡ true
@@ -44,21 +44,21 @@ tied j k =
     ∙ (λ i. unsigned_tied j.source k.source i && unsigned_tied j.id k.id i)
 
 -- a report that is told where it is on a request
-pub heard-put : (n : News) (j k : Key) (at : Key → Option Outcome) (o x : Outcome)
+pub heard-put : (n : ReportNews) (j k : Key) (at : Key → Option Outcome) (o x : Outcome)
     → (new : Option Outcome)
     → j ≡ reported_key n
-    → x ≡ told o n
+    → x ≡ outcome_told o n
     → at j ≡ Some o
     → new ≡ cond (is_at (key_cmp j) k) (Some x) (at k)
     → new ≡ heard_at k n (at k)
 heard-put n j k at o x new named is there put =
     put ∙ ap (λ b. cond b (Some x) (at k)) (tied j k) ∙ go (same_key j k) refl
-    ∙ ap (λ q. if same_key q k then option_map (λ y. told y n) (at k) else at k) named
+    ∙ ap (λ q. if same_key q k then option_map (λ y. outcome_told y n) (at k) else at k) named
   where
     go : (b : Bool) → same_key j k ≡ b
-        → cond b (Some x) (at k) ≡ (if b then option_map (λ y. told y n) (at k) else at k)
+        → cond b (Some x) (at k) ≡ (if b then option_map (λ y. outcome_told y n) (at k) else at k)
     go true e =
-        ap Some is ∙ ap (option_map (λ y. told y n)) (sym there ∙ ap at (same-equal j k e))
+        ap Some is ∙ ap (option_map (λ y. outcome_told y n)) (sym there ∙ ap at (same-equal j k e))
     go false e = refl
 
 -- ---- one request more

@@ -6,7 +6,7 @@ use Rattle.lpt_verify.specs.declared.report.EncodedReport.{EncodedReport}
 use Rattle.lpt_verify.specs.Reading.{report_in}
 use Rattle.lpt_verify.specs.Reports.{all_reports, asks}
 use Rattle.lpt_outcomes.specs.declared.asked.Asked.{Asked}
-use Rattle.lpt_outcomes.specs.declared.news.News.{News}
+use Rattle.lpt_outcomes.specs.declared.news.ReportNews.{ReportNews}
 use Rattle.lpt_outcomes.specs.declared.outcome.Outcome.{Outcome}
 use Rattle.lpt_outcomes.specs.declared.passed.Passed.{Passed}
 use Rattle.lpt_outcomes.specs.Passing.{is_nothing}
@@ -37,11 +37,11 @@ pub record AreDone (requests : List Asked) (of_requests of_reports : Passed) : T
   pub all_heard : IsTrue (is_nothing of_reports)
 
 -- what a report that is sent to this destination tells
-abbrev pub news_sent : (destination : ℕ) → EncodedReport → Option News
+abbrev pub news_sent : (destination : ℕ) → EncodedReport → Option ReportNews
 news_sent destination e = option_map (news destination e.subtype) (report_in e.subtype e.body)
 
 -- requests once all reports have come that are sent on one of this source, this request ID and
 -- these flags, which failed with this code or was carried out
-abbrev pub answered : (source id flags : ℕ) → (code : Option ℕ) → List Asked → List Asked
-answered source id flags code requests =
+abbrev pub requests_answered : (source id flags : ℕ) → (code : Option ℕ) → List Asked → List Asked
+requests_answered source id flags code requests =
     all_heard requests (filter_map (news_sent source) (all_reports id flags code))

@@ -4,7 +4,7 @@ use Rattle.std.specs.declared.cmp.Ordering.{Ordering}
 use Rattle.std.specs.Ordering.{nat_cmp, on, then_cmp}
 use Rattle.lpt_outcomes.specs.declared.asked.Asked.{Asked}
 use Rattle.lpt_outcomes.specs.declared.key.Key as declared
-use Rattle.lpt_outcomes.specs.declared.news.News.{News}
+use Rattle.lpt_outcomes.specs.declared.news.ReportNews.{ReportNews}
 
 -- a source and a request ID
 abbrev pub Key : Type 0
@@ -15,7 +15,7 @@ abbrev pub key_of : Asked → Key
 key_of a = record { source = a.source; id = a.request.value }
 
 -- those of the request that a report is on: its destination is that request's source
-abbrev pub reported_key : News → Key
+abbrev pub reported_key : ReportNews → Key
 reported_key n = record { source = n.destination; id = n.report.request.value }
 
 -- same source and same request ID

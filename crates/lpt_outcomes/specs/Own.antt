@@ -11,7 +11,7 @@ use Rattle.lpt_memory.specs.Fields.{front_long}
 use Rattle.lpt_events.specs.Arrivals.{carried_kind}
 use Rattle.lpt_areas.specs.Areas.{areas_in}
 use Rattle.lpt_outcomes.specs.declared.asked.Asked.{Asked}
-use Rattle.lpt_outcomes.specs.declared.news.News.{News}
+use Rattle.lpt_outcomes.specs.declared.news.ReportNews.{ReportNews}
 use Rattle.lpt_outcomes.specs.declared.passed.Beside.{Beside}
 use Rattle.lpt_outcomes.specs.declared.passed.Beside.TheVariants.{Part, Foreign, Quiet}
 use Rattle.lpt_outcomes.specs.Reports.{news_of_body}
@@ -52,17 +52,17 @@ own_request b = option_map_or (λ id. commanded_as id.0 (verdict b)) (front_long
 -- ---- reports
 
 -- a packet that is read as telemetry, or isn't
-abbrev pub reported_by : Result Telemetry PusFault → Result News Beside
+abbrev pub reported_by : Result Telemetry PusFault → Result ReportNews Beside
 reported_by (Ok t) =
     if t.service == 1 then news_of_body t.destination t.subtype t.body else Err Quiet
 reported_by (Err e) = Err Foreign
 
 -- octets of this verdict
-abbrev pub reported_as : Result Sight PacketFault → Result News Beside
+abbrev pub reported_as : Result Sight PacketFault → Result ReportNews Beside
 reported_as (Ok IdlePacket) = Err Quiet
 reported_as (Ok (APacket f)) = reported_by (tm_verdict f)
 reported_as (Err e) = Err Quiet
 
 -- what octets tell of a request, or what they are beside
-abbrev pub own_news : List ℕ → Result News Beside
+abbrev pub own_news : List ℕ → Result ReportNews Beside
 own_news b = reported_as (verdict b)

@@ -19,16 +19,17 @@ in_piece read piece.Damaged b = Err Damaged
 in_piece read piece.Stray b = Err Stray
 
 -- what the pieces of a stream are by it
-abbrev pub met : {A : Type 0} → (List ℕ → Result A Beside) → List Piece → List (Result A Beside)
-met read pieces = map (λ (p : Piece). in_piece read p.kind p.octets) pieces
+abbrev pub pieces_met : {A : Type 0} → (List ℕ → Result A Beside) → List Piece
+    → List (Result A Beside)
+pieces_met read pieces = map (λ (p : Piece). in_piece read p.kind p.octets) pieces
 
 -- those among them that are looked for
-abbrev pub found : {A : Type 0} → (List ℕ → Result A Beside) → List Piece → List A
-found read pieces = filter_map result_ok (met read pieces)
+abbrev pub all_found : {A : Type 0} → (List ℕ → Result A Beside) → List Piece → List A
+all_found read pieces = filter_map result_ok (pieces_met read pieces)
 
 -- and what the others are
 abbrev pub passed_over : {A : Type 0} → (List ℕ → Result A Beside) → List Piece → List Beside
-passed_over read pieces = filter_map result_err (met read pieces)
+passed_over read pieces = filter_map result_err (pieces_met read pieces)
 
 -- ---- counts
 

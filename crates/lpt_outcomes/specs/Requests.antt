@@ -17,15 +17,15 @@ use Rattle.lpt_outcomes.specs.declared.asked.Asked.{Asked}
 use Rattle.lpt_outcomes.specs.declared.outcome.Outcome.{Outcome}
 use Rattle.lpt_outcomes.specs.declared.passed.Beside.{Beside}
 use Rattle.lpt_outcomes.specs.declared.passed.Beside.TheVariants.{Part, Foreign, Quiet}
-use Rattle.lpt_outcomes.specs.Passing.{found}
+use Rattle.lpt_outcomes.specs.Passing.{all_found}
 
 -- before any report
 abbrev pub nothing_told : Outcome
 nothing_told = record { accepted = false; started = false; completed = false; failure = None }
 
 -- a telecommand of this request ID
-abbrev pub asked : (id : ℕ) → Said → Asked
-asked id s = record {
+abbrev pub request_asked : (id : ℕ) → Said → Asked
+request_asked id s = record {
   source = s.user;
   request = record { value = id };
   apid = s.apid;
@@ -41,7 +41,7 @@ asked id s = record {
 -- may be one
 abbrev pub asked_by : (id : ℕ) → Result Said PusFault → Result Asked Beside
 asked_by id (Ok s) =
-    if is_some (carried_kind Up s.service s.subtype) then Err Part else Ok (asked id s)
+    if is_some (carried_kind Up s.service s.subtype) then Err Part else Ok (request_asked id s)
 asked_by id (Err e) = Err Foreign
 
 -- octets of this verdict
@@ -59,4 +59,4 @@ request_in l b =
 
 -- the requests of a stream of these pieces
 abbrev pub requests_in : Layout → List Piece → List Asked
-requests_in l pieces = found (request_in l) pieces
+requests_in l pieces = all_found (request_in l) pieces

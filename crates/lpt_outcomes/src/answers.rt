@@ -9,7 +9,7 @@ ghost use Rattle.lpt_outcomes.specs.Lines.{with_key};
 ghost use Rattle.lpt_outcomes.specs.Shared.{shared_in};
 
 use crate::key::Key;
-use crate::news::News;
+use crate::news::ReportNews;
 use crate::{Asked, Outcome};
 use std::alloc::{AllocError, Global};
 use std::collections::BTreeMap;
@@ -29,12 +29,12 @@ pub(crate) fn untold(
 }
 
 // Takes what a report tells, where the request that it is on is there.
-pub(crate) fn hear(outcomes: &mut BTreeMap<Key, Outcome>, news: &News)
+pub(crate) fn hear(outcomes: &mut BTreeMap<Key, Outcome>, news: &ReportNews)
     ensures { (k : Key) → get key_cmp outcomes.new k
         ≡ heard_at k news.now (get key_cmp outcomes.old k) }
 {
     if let Some(outcome) = outcomes.get_mut(&news.key()) {
-        *outcome = outcome.told(news);
+        *outcome = outcome.with_news(news);
     }
 }
 

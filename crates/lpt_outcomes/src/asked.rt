@@ -55,7 +55,7 @@ impl Asked {
         ensures { self.new ≡ answered_by outcomes.now self.old }
     {
         if let Some(outcome) = outcomes.get(&self.key()) {
-            self.outcome = self.outcome.joined(outcome);
+            self.outcome = self.outcome.with_later(outcome);
         }
     }
 

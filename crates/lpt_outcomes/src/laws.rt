@@ -7,7 +7,7 @@ ghost use Rattle.lpt_outcomes.specs.declared.asked.Asked.{Asked};
 ghost use Rattle.lpt_outcomes.specs.Own.{own_news, own_request};
 ghost use Rattle.lpt_outcomes.specs.Reports.{news_in};
 ghost use Rattle.lpt_outcomes.specs.Requests.{nothing_told, request_in};
-ghost use Rattle.lpt_outcomes.specs.Done.{answered, is_acknowledged, is_done};
+ghost use Rattle.lpt_outcomes.specs.Done.{requests_answered, is_acknowledged, is_done};
 
 use lpt_layout::laws::the_own_layouts;
 
@@ -16,7 +16,7 @@ use lpt_layout::laws::the_own_layouts;
 pub fn answered_is_done()
     ensures { (a : Asked) (code : Option ℕ) → a.request.value < 2 ^ 32
         → IfSome code (λ c. c < 2 ^ 16) → a.outcome ≡ nothing_told
-        → map is_done (answered a.source a.request.value a.flags code (a ∷ []))
+        → map is_done (requests_answered a.source a.request.value a.flags code (a ∷ []))
         ≡ (not (is_some code) && is_acknowledged a.flags) ∷ [] }
 {}
 

@@ -28,7 +28,7 @@ pub(crate) fn print_line(
     text.push_str(success(alloc, form, &asked.outcome)?.as_str())?;
     text.push_str(failure(alloc, form, asked.outcome.failure)?.as_str())?;
     text.push_str(pending(form, asked))?;
-    text.push_str(shared(alloc, form, sharers)?.as_str())?;
+    text.push_str(shared_text(alloc, form, sharers)?.as_str())?;
     text.push_str(line_end(form))?;
     Ok(text)
 }
@@ -124,7 +124,7 @@ fn pending(form: Form, asked: &Asked) -> &'static str
     if asked.outcome.failure.is_some() {
         ""
     } else if !asked.is_acknowledged() {
-        unasked(form)
+        none_asked(form)
     } else if asked.outcome.is_told() {
         ""
     } else {
@@ -133,7 +133,7 @@ fn pending(form: Form, asked: &Asked) -> &'static str
 }
 
 // That it asks for no report of success.
-fn unasked(form: Form) -> &'static str
+fn none_asked(form: Form) -> &'static str
     ensures { result.now ≡ items_text form unasked_said }
 {
     match form {
@@ -153,7 +153,7 @@ fn nothing_yet(form: Form) -> &'static str
 }
 
 // How many requests have this request ID, where it isn't one alone.
-fn shared(alloc: Global, form: Form, sharers: u64) -> Result<String, AllocError>
+fn shared_text(alloc: Global, form: Form, sharers: u64) -> Result<String, AllocError>
     ensures { IfOk result (λ t. string_bytes t ≡ items_text form (shared_said sharers)) }
 {
     if sharers <= 1 {

@@ -5,13 +5,13 @@ use lpt_verify::Report;
 
 /// A verification report: its destination, its message subtype, and what its body says.
 #[derive(Clone, Copy)]
-pub(crate) struct News {
+pub(crate) struct ReportNews {
     pub(crate) destination: u32,
     pub(crate) subtype: u8,
     pub(crate) report: Report,
 }
 
-impl News {
+impl ReportNews {
     ghost use Rattle.std.specs.Prelude.{◌≡◌};
     ghost use Rattle.lpt_outcomes.specs.Keys.{reported_key};
 

@@ -1,6 +1,6 @@
 //! What verification reports have told of a request.
 
-use crate::news::News;
+use crate::news::ReportNews;
 
 /// What verification reports have told of a request.
 #[derive(Clone, Copy)]
@@ -19,8 +19,8 @@ pub struct Outcome {
 impl Outcome {
     ghost use Rattle.std.specs.Prelude.{◌≡◌};
     ghost use Rattle.lpt_outcomes.specs.Requests.{nothing_told};
-    ghost use Rattle.lpt_outcomes.specs.Reports.{told};
-    ghost use Rattle.lpt_outcomes.specs.Answers.{joined};
+    ghost use Rattle.lpt_outcomes.specs.Reports.{outcome_told};
+    ghost use Rattle.lpt_outcomes.specs.Answers.{outcomes_joined};
     ghost use Rattle.lpt_outcomes.specs.Lines.{is_told};
     ghost use Rattle.lpt_outcomes.specs.Done.{has_last};
 
@@ -37,8 +37,8 @@ impl Outcome {
     }
 
     // With what one more report tells.
-    pub(crate) fn told(self, news: &News) -> Outcome
-        ensures { result ≡ told self news.now }
+    pub(crate) fn with_news(self, news: &ReportNews) -> Outcome
+        ensures { result ≡ outcome_told self news.now }
     {
         let mut outcome = self;
         match (news.report.code, news.subtype) {
@@ -51,8 +51,8 @@ impl Outcome {
     }
 
     // With what was told after.
-    pub(crate) fn joined(self, after: &Outcome) -> Outcome
-        ensures { result ≡ joined self after.now }
+    pub(crate) fn with_later(self, after: &Outcome) -> Outcome
+        ensures { result ≡ outcomes_joined self after.now }
     {
         Outcome {
             accepted: self.accepted || after.accepted,

@@ -5,14 +5,14 @@ ghost use Rattle.lpt_packet.specs.declared.fault.PacketFault.TheVariants.{Checks
 ghost use Rattle.lpt_packet.specs.declared.packet.PacketKind.TheVariants.{Tc, Tm};
 ghost use Rattle.lpt_packet.specs.Packets.{verdict};
 ghost use Rattle.lpt_carried.specs.Carried.{cut_for};
-ghost use Rattle.lpt_layout.specs.Messages.{message_verdict, said};
+ghost use Rattle.lpt_layout.specs.Messages.{message_verdict, message_said};
 ghost use Rattle.lpt_layout.specs.Packets.{fields};
 ghost use Rattle.lpt_stream.specs.Pieces.{IsSealedBy};
 ghost use Rattle.lpt_outcomes.specs.Passing.{in_piece};
 ghost use Rattle.lpt_outcomes.specs.Requests.{asked_by, request_in};
 ghost use Rattle.lpt_outcomes.specs.Reports.{news_by, news_in, news_of_body};
 
-use crate::news::News;
+use crate::news::ReportNews;
 use crate::passed::Beside;
 use crate::{Asked, Layout, Outcome};
 use lpt_areas::read_areas;
@@ -85,7 +85,7 @@ fn request_of(layout: &Layout, id: u32, packet: &PacketAs<'_>) -> Result<Asked, 
 
 // The request of this request ID that a telecommand is.
 fn message_asked(id: u32, message: &Message<'_>) -> Result<Asked, Beside>
-    ensures { result ≡ asked_by id (Ok (said message.now)) }
+    ensures { result ≡ asked_by id (Ok (message_said message.now)) }
 {
     let (service, subtype) = (message.service, message.subtype);
     if part_kind(Direction::Up, service, subtype).is_some() {
@@ -105,7 +105,11 @@ fn message_asked(id: u32, message: &Message<'_>) -> Result<Asked, Beside>
 }
 
 // What a piece of this kind tells of a request by this layout, or what it is beside.
-pub(crate) fn news_in_piece(layout: &Layout, kind: PieceKind, octets: &[u8]) -> Result<News, Beside>
+pub(crate) fn news_in_piece(
+    layout: &Layout,
+    kind: PieceKind,
+    octets: &[u8],
+) -> Result<ReportNews, Beside>
     requires { IsSealedBy (cut_for layout.now.has_checksum) kind octets.now }
     ensures { result ≡ in_piece (news_in layout.now) kind octets.now }
 {
@@ -118,7 +122,7 @@ pub(crate) fn news_in_piece(layout: &Layout, kind: PieceKind, octets: &[u8]) -> 
 
 // What the octets of a whole piece tell of a request.
 #[tactic(auto, unfolding(crate::specs::Reports::news_in))]
-fn news_in(layout: &Layout, octets: &[u8]) -> Result<News, Beside>
+fn news_in(layout: &Layout, octets: &[u8]) -> Result<ReportNews, Beside>
     requires { layout.now.has_checksum ≡ true → verdict octets.now ≢ Err Checksum }
     ensures { result ≡ news_in layout.now octets.now }
 {
@@ -129,7 +133,7 @@ fn news_in(layout: &Layout, octets: &[u8]) -> Result<News, Beside>
 }
 
 // What a packet tells of a request.
-fn news_of(layout: &Layout, packet: &PacketAs<'_>) -> Result<News, Beside>
+fn news_of(layout: &Layout, packet: &PacketAs<'_>) -> Result<ReportNews, Beside>
     ensures { result ≡ news_by (message_verdict layout.now Tm (fields packet.now)) }
 {
     match read_tm_as(layout, packet) {
@@ -139,8 +143,8 @@ fn news_of(layout: &Layout, packet: &PacketAs<'_>) -> Result<News, Beside>
 }
 
 // What telemetry tells of a request.
-fn news_in_message(message: &Message<'_>) -> Result<News, Beside>
-    ensures { result ≡ news_by (Ok (said message.now)) }
+fn news_in_message(message: &Message<'_>) -> Result<ReportNews, Beside>
+    ensures { result ≡ news_by (Ok (message_said message.now)) }
 {
     if message.service == VERIFICATION {
         news_in_body(message.user, message.subtype, message.body)
@@ -150,11 +154,11 @@ fn news_in_message(message: &Message<'_>) -> Result<News, Beside>
 }
 
 // What the body of a verification report to this destination, of this subtype, tells.
-fn news_in_body(destination: u32, subtype: u8, body: &[u8]) -> Result<News, Beside>
+fn news_in_body(destination: u32, subtype: u8, body: &[u8]) -> Result<ReportNews, Beside>
     ensures { result ≡ news_of_body destination subtype body.now }
 {
     match read_report(subtype, body) {
-        Some(report) => Ok(News {
+        Some(report) => Ok(ReportNews {
             destination,
             subtype,
             report,

@@ -4,7 +4,7 @@ use Rattle.std.specs.Int.Bits.{xor_self}
 use Rattle.lpt_packet.specs.Checksums.{shift, bits, shift_all, octets_in, checksum}
 use Rattle.lpt_packet.specs.Bursts.{all_bits, DifferInBurst}
 use Rattle.lpt_packet.specs.Numbers.{be}
-use Rattle.lpt_packet.specs.Packets.{Fields, IsPacket, sealed, spelling, header}
+use Rattle.lpt_packet.specs.Packets.{Fields, IsPacket, octets_sealed, spelling, header}
 use Rattle.lpt_packet.proofs.Registers.{octets_in-append, shift_all-fits, checksum-fits}
 use Rattle.lpt_packet.proofs.Shifts.{AreBits, shift_all-append, injective, apart}
 
@@ -88,7 +88,7 @@ both_out r h =
     ∙ omega arith
 
 -- the checksum over octets with their checksum behind them is 0
-pub sealed_is_zero : (front : List ℕ) → checksum (sealed front) ≡ 0
+pub sealed_is_zero : (front : List ℕ) → checksum (octets_sealed front) ≡ 0
 unfolding checksum
 sealed_is_zero front =
     octets_in-append 65535 front (be (checksum front) 2)

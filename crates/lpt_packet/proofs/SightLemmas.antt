@@ -3,7 +3,7 @@ use Rattle.std.proofs.Common.{◌≡◌, ◌≢◌, ◌∙◌, ap, sym, subst, �
 use Rattle.std.proofs.lemmas.List.{length-take}
 use Rattle.std.proofs.lemmas.Bool.Decides.{nat_tests}
 use Rattle.std.specs.Result.{result_ok}
-use Rattle.lpt_packet.specs.Packets.{Fields, spelling, IsPacket, IsIdle, Sight, IdlePacket, APacket, fields_at, verdict, seen, sight, IsSight, is_idle, is_packet, packet_type}
+use Rattle.lpt_packet.specs.Packets.{Fields, spelling, IsPacket, IsIdle, Sight, IdlePacket, APacket, fields_at, verdict, packet_seen, sight, IsSight, is_idle, is_packet, packet_type}
 use Rattle.lpt_packet.specs.Numbers.{word_at, IsOctets, same_octets}
 use Rattle.lpt_packet.specs.Ranges.{InRange}
 use Rattle.lpt_packet.specs.declared.fault.PacketFault.{PacketFault}
@@ -84,12 +84,13 @@ true_packet b h =
 abbrev seen_by : Bool → Bool → Fields → Option Sight
 seen_by idle packet f = if idle then Some IdlePacket else if packet then Some (APacket f) else None
 
-seen_is : (b : List ℕ) → seen b ≡ seen_by (is_idle b) (is_packet b) (fields_at b)
-unfolding seen
+seen_is : (b : List ℕ) → packet_seen b ≡ seen_by (is_idle b) (is_packet b) (fields_at b)
+unfolding packet_seen
 seen_is b = refl
 
 -- what is written is seen again
-pub seen_again : (f : Fields) → InRange f.apid f.count f.octets → seen (spelling f) ≡ Some (APacket f)
+pub seen_again : (f : Fields) → InRange f.apid f.count f.octets → packet_seen (spelling f)
+    ≡ Some (APacket f)
 seen_again f r =
     let first : word_at (spelling f) 0 ≡ packet_type f.kind * 4096 + 2048 + f.apid = word_at-0 f r in
     let small : packet_type f.kind < 2 = packet_type_small f.kind in
@@ -100,12 +101,12 @@ seen_again f r =
     seen_is (spelling f) ∙ (λ i. seen_by (busy i) (packet i) (fields_at-spelling f r i))
 
 -- what octets are is seen
-pub sight_seen : (b : List ℕ) (s : Sight) → IsSight b s → seen b ≡ Some s
+pub sight_seen : (b : List ℕ) (s : Sight) → IsSight b s → packet_seen b ≡ Some s
 sight_seen b IdlePacket h = seen_is b ∙ ap (λ t. seen_by t (is_packet b) (fields_at b)) (idle_true b h)
-sight_seen b (APacket f) h = ap seen h.spelled ∙ seen_again f h.ranges
+sight_seen b (APacket f) h = ap packet_seen h.spelled ∙ seen_again f h.ranges
 
 -- what is seen is what the octets are
-pub seen_sight : (b : List ℕ) (s : Sight) → seen b ≡ Some s → IsSight b s
+pub seen_sight : (b : List ℕ) (s : Sight) → packet_seen b ≡ Some s → IsSight b s
 seen_sight b s h = go (is_idle b) (is_packet b) (true_idle b) (true_packet b) (sym (seen_is b) ∙ h) where
   go : (i p : Bool) → (i ≡ true → IsIdle b) → (p ≡ true → IsPacket b (fields_at b)) → seen_by i p (fields_at b) ≡ Some s → IsSight b s
   go true p idle packet k = let e : IdlePacket ≡ s = cc in subst (λ (x : Sight). IsSight b x) e (idle refl)
@@ -113,21 +114,21 @@ seen_sight b s h = go (is_idle b) (is_packet b) (true_idle b) (true_packet b) (s
   go false false idle packet k = absurd cc
 
 -- what is seen is what the reader's tests let through
-pub seen_verdict : (b : List ℕ) → IsOctets b → seen b ≡ result_ok (verdict b)
+pub seen_verdict : (b : List ℕ) → IsOctets b → packet_seen b ≡ result_ok (verdict b)
 seen_verdict b o = go (verdict b) refl where
-  none : (e : PacketFault) → verdict b ≡ Err e → (v : Option Sight) → seen b ≡ v → v ≡ None
+  none : (e : PacketFault) → verdict b ≡ Err e → (v : Option Sight) → packet_seen b ≡ v → v ≡ None
   none e h None k = refl
   none e h (Some s) k = absurd (let a : verdict b ≡ Ok s = again b s (seen_sight b s k) in cc)
 
-  go : (v : Result Sight PacketFault) → verdict b ≡ v → seen b ≡ result_ok v
+  go : (v : Result Sight PacketFault) → verdict b ≡ v → packet_seen b ≡ result_ok v
   go (Ok s) h = sight_seen b s (found b s o h)
-  go (Err e) h = none e h (seen b) refl
+  go (Err e) h = none e h (packet_seen b) refl
 
 -- what a reader saw is seen
 pub seen-read : (b : List ℕ) (s t : Seen)
-    → seen b ≡ result_ok (verdict b)
+    → packet_seen b ≡ result_ok (verdict b)
     → verdict b ≡ Ok (sight s)
     → s ≡ t
-    → seen b ≡ Some (sight t)
+    → packet_seen b ≡ Some (sight t)
 seen-read b s t law reads same =
     law ∙ ap (λ (r : Result Sight PacketFault). result_ok r) reads ∙ ap (λ (s : Seen). Some (sight s)) same

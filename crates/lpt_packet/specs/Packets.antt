@@ -49,12 +49,12 @@ abbrev pub header : Fields → List ℕ
 header f = header_of f.kind f.apid f.count (length f.octets)
 
 -- octets with their packet error control behind them
-abbrev pub sealed : List ℕ → List ℕ
-sealed front = front ++ be (checksum front) 2
+abbrev pub octets_sealed : List ℕ → List ℕ
+octets_sealed front = front ++ be (checksum front) 2
 
 -- the one encoding of a packet
 unfoldable pub spelling : Fields → List ℕ
-spelling f = sealed (header f ++ f.octets)
+spelling f = octets_sealed (header f ++ f.octets)
 
 -- the octets are this packet
 pub record IsPacket (b : List ℕ) (f : Fields) : Type 0 where
@@ -105,8 +105,9 @@ abbrev pub is_packet : List ℕ → Bool
 is_packet b = nat_le (length b) longest_packet && nat_le (word_at b 0 % 2048) 2046 && same_octets b (spelling (fields_at b))
 
 -- what octets are, where they are a packet or idle
-unfoldable pub seen : List ℕ → Option Sight
-seen b = if is_idle b then Some IdlePacket else if is_packet b then Some (APacket (fields_at b)) else None
+unfoldable pub packet_seen : List ℕ → Option Sight
+packet_seen b = if is_idle b then Some IdlePacket else if is_packet b
+    then Some (APacket (fields_at b)) else None
 
 -- what octets are, or the first test that they fail, in this order
 unfoldable pub verdict : List ℕ → Result Sight PacketFault

@@ -6,7 +6,7 @@ ghost use Rattle.std.specs.Result.{result_ok};
 ghost use Rattle.lpt_packet.specs.Bursts.{DifferInBurst};
 ghost use Rattle.lpt_packet.specs.Checksums.{checksum};
 ghost use Rattle.lpt_packet.specs.Numbers.{IsOctets};
-ghost use Rattle.lpt_packet.specs.Packets.{Fields, Sight, APacket, IsPacket, IsSight, seen, spelling, verdict};
+ghost use Rattle.lpt_packet.specs.Packets.{Fields, Sight, APacket, IsPacket, IsSight, packet_seen, spelling, verdict};
 ghost use Rattle.lpt_packet.specs.Ranges.{InRange};
 
 /// No packet's octets are a proper beginning of another's: if they begin another packet, the two
@@ -24,8 +24,8 @@ pub fn written_is_read()
 /// The three ways to say what octets are agree: the relation, what is computed from the fields at
 /// their places, and what the reader's tests let through.
 pub fn seen_is_read()
-    ensures relation { (b : List ℕ) (s : Sight) → (seen b ≡ Some s) ↔ IsSight b s }
-    ensures tests { (b : List ℕ) → IsOctets b → seen b ≡ result_ok (verdict b) }
+    ensures relation { (b : List ℕ) (s : Sight) → (packet_seen b ≡ Some s) ↔ IsSight b s }
+    ensures tests { (b : List ℕ) → IsOctets b → packet_seen b ≡ result_ok (verdict b) }
 {}
 
 /// A checksum has 16 bits.

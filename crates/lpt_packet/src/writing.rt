@@ -1,7 +1,7 @@
 //! Writing a packet as octets.
 
 ghost use Rattle.std.specs.Prelude.{◌≡◌, ◌+◌, ◌≤◌, ◌++◌, length, IfOk};
-ghost use Rattle.lpt_packet.specs.Packets.{fields, fields_of, header_of, sealed, spelling};
+ghost use Rattle.lpt_packet.specs.Packets.{fields, fields_of, header_of, octets_sealed, spelling};
 ghost use Rattle.lpt_packet.specs.Sizes.{longest_field};
 
 use crate::sizes::{ERROR_CONTROL, PRIMARY_HEADER};
@@ -70,7 +70,8 @@ fn sealed_octets(
     rest: &[u8],
 ) -> Result<Octets, AllocError>
     requires { length header.now + length front.now + length rest.now ≤ longest_field }
-    ensures { IfOk result (λ o. o ≡ sealed (primary.now ++ header.now ++ front.now ++ rest.now)) }
+    ensures { IfOk result
+        (λ o. o ≡ octets_sealed (primary.now ++ header.now ++ front.now ++ rest.now)) }
 {
     let mut octets = Vec::with_capacity(
         alloc,

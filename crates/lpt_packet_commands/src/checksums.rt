@@ -10,13 +10,13 @@ use lpt_text::write_out;
 /// Errors: `Read` if the file can't be opened or read; `Write`, `Memory`.
 pub fn checksum<R: Machine>(rt: &R, words: &ChecksumWords<'_>) -> Result<Status, Failure> {
     let octets = file_at(rt, words.file)?;
-    let status = written(rt, words, octets.as_slice());
+    let status = write_checksum(rt, words, octets.as_slice());
     drop(octets);
     status
 }
 
 // Writes that of the octets that the words name.
-fn written(
+fn write_checksum(
     rt: &(impl Print + Eprint + AllocGlobal),
     words: &ChecksumWords<'_>,
     octets: &[u8],

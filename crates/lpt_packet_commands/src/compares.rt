@@ -34,7 +34,7 @@ pub fn compare<R: Machine>(
     };
     let octets = file_at(rt, words.file)?;
     let checks = checks_at(rt, voice, &layouts.telemetry.packets, config.apid, words)?;
-    let status = told(rt, words, octets.as_slice(), checks);
+    let status = tell_checks(rt, words, octets.as_slice(), checks);
     drop(octets);
     status
 }
@@ -64,7 +64,7 @@ fn checks_at<R: Machine>(
 }
 
 // Writes the lines, and gives whether all is as it should be.
-fn told(
+fn tell_checks(
     rt: &(impl Print + Eprint + AllocGlobal),
     words: &CompareWords<'_>,
     octets: &[u8],

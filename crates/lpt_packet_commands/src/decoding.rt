@@ -7,7 +7,7 @@ use crate::layouts::tell_hint;
 use lpt_command_line::DecodeWords;
 use lpt_events::{Config, part_kind};
 use lpt_io::{
-    Failure, Fault, Incoming, Machine, STANDARD, Status, finish, layouts_at, opened, output,
+    Failure, Fault, Incoming, Machine, STANDARD, Status, finish, layouts_at, open_input, output,
     read_failure, status_of, tell_place,
 };
 use lpt_list::{Form, decode_layouts, hint_of, is_read, print_refused};
@@ -182,7 +182,7 @@ fn decode_segment(rt: &(impl Print + AllocGlobal), octets: &[u8]) -> Result<Stat
 //
 // Errors: `Read` where it can't be read, or has more than 16,777,216 octets; `Memory`.
 fn standard_text<R: Machine>(rt: &R) -> Result<Vec<u8>, Failure> {
-    let mut source = opened(rt, STANDARD)?;
+    let mut source = open_input(rt, STANDARD)?;
     let text = text_of(rt, &mut source);
     drop(source);
     text

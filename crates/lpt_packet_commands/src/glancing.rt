@@ -42,7 +42,7 @@ pub fn glance<R: Machine>(
     drop(source);
     match (seen, failure) {
         (Ok(glance), None) => {
-            let status = drawn(rt, u32::from(config.source), glance)?;
+            let status = draw_glance(rt, u32::from(config.source), glance)?;
             Ok(if is_short { Status::Refused } else { status })
         }
         (Ok(glance), Some(failure)) => {
@@ -55,7 +55,11 @@ pub fn glance<R: Machine>(
 }
 
 // Writes the picture of what was seen, where names of this source are written without it.
-fn drawn(rt: &(impl Print + AllocGlobal), source: u32, glance: Glance) -> Result<Status, Failure> {
+fn draw_glance(
+    rt: &(impl Print + AllocGlobal),
+    source: u32,
+    glance: Glance,
+) -> Result<Status, Failure> {
     let picture = draw(rt.alloc(), source, &glance);
     drop(glance);
     match picture {

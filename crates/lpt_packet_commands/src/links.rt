@@ -5,7 +5,7 @@ use lpt_io::{
     Failure, Machine, Packets, Status, Voice, finish, first_failure, opened_packets, output,
     packets_end, tell_place,
 };
-use lpt_lossy::{Counts, Dice, LossyEnd, Odds, lossy_stream};
+use lpt_lossy::{CrossingCounts, Dice, LossyEnd, Odds, lossy_stream};
 use lpt_text::StreamFault;
 
 /// Carries packets over a link that loses, and tells how many were lost, repeated and so on.
@@ -66,8 +66,8 @@ fn link_status(rt: &(impl Eprint + AllocGlobal), voice: Voice, end: LossyEnd) ->
 }
 
 // Tells how many packets were lost, repeated and so on.
-fn tell_counts(rt: &(impl Eprint + AllocGlobal), counts: &Counts) {
-    let Counts {
+fn tell_counts(rt: &(impl Eprint + AllocGlobal), counts: &CrossingCounts) {
+    let CrossingCounts {
         lost,
         repeated,
         delayed,

@@ -74,7 +74,7 @@ fn list_packets<R: Machine>(
     match listed {
         Ok(listed) => {
             if voice.tells() {
-                tell_others(rt, config.part_size, words, layouts, source.kept());
+                tell_others(rt, config.part_size, words, layouts, source.octets_kept());
             }
             let is_short = source.source().before() > 0;
             match list_status(rt, voice, listed) {

@@ -8,7 +8,7 @@ use lpt_io::{Failure, Fault, Machine, Status, file_at, finish, output, tell_plac
 use lpt_memory::{AREA_HEADER, AREA_LIMIT, Area, MemoryFault, load_fault};
 use lpt_packet::Octets;
 use lpt_requests::{
-    CHECK_LIMIT, CutFault, DUMP_LIMIT, Place, Range, Read, Request, areas_fault, load_requests,
+    AreaPlace, CHECK_LIMIT, CutFault, DUMP_LIMIT, Range, Read, Request, areas_fault, load_requests,
     places_fault, read_requests, write_requests,
 };
 use lpt_text::write_out;
@@ -24,12 +24,15 @@ pub fn request<R: Machine>(
 ) -> Result<Status, Failure>
     requires { IsConfig config.now }
 {
-    let requests = match asked(rt, words)? {
+    let requests = match requests_asked(rt, words)? {
         Ok(requests) => requests,
         Err(CutFault::Memory) => return Err(Failure::from(Fault::Memory)),
-        Err(CutFault::Empty) => return Ok(refused(rt, "an area has no octets: its file is empty")),
+        Err(CutFault::Empty) => return Ok(refuse_request(
+            rt,
+            "an area has no octets: its file is empty",
+        )),
         Err(CutFault::PastEnd) => {
-            return Ok(refused(rt, "an area ends after the last address, 4294967295"));
+            return Ok(refuse_request(rt, "an area ends after the last address, 4294967295"));
         }
     };
     let (apid, source) = (config.apid, config.source);
@@ -38,14 +41,17 @@ pub fn request<R: Machine>(
     drop(requests);
     match written {
         Ok(packets) => put(rt, &packets),
-        Err(MemoryFault::TooLong) => Ok(refused(rt, "a packet has no more than 65542 octets")),
+        Err(MemoryFault::TooLong) => Ok(refuse_request(
+            rt,
+            "a packet has no more than 65542 octets",
+        )),
         Err(MemoryFault::Memory) => Err(Failure::from(Fault::Memory)),
-        Err(_) => Ok(refused(rt, "a request has 1 to 255 areas, none of them empty")),
+        Err(_) => Ok(refuse_request(rt, "a request has 1 to 255 areas, none of them empty")),
     }
 }
 
 // Says on standard error why a request isn't written.
-fn refused(rt: &impl Eprint, why: &str) -> Status {
+fn refuse_request(rt: &impl Eprint, why: &str) -> Status {
     tell_place(rt, why);
     Status::Refused
 }
@@ -68,7 +74,7 @@ fn put(rt: &(impl Print + AllocGlobal), packets: &[Octets]) -> Result<Status, Fa
 }
 
 // The requests for what the words ask of the memory, with the octets of the files that they name.
-fn asked<R: Machine>(
+fn requests_asked<R: Machine>(
     rt: &R,
     words: &RequestWords<'_>,
 ) -> Result<Result<Vec<Request>, CutFault>, Failure> {
@@ -138,7 +144,7 @@ fn one(alloc: Global, request: Request) -> Result<Vec<Request>, AllocError> {
 }
 
 // Whether one request holds these places, and one packet the answer.
-fn is_one_request(what: Read, places: &[Place]) -> bool {
+fn is_one_request(what: Read, places: &[AreaPlace]) -> bool {
     let mut room = u64::from(DUMP_LIMIT) + AREA_HEADER as u64;
     for place in places {
         if place.len > u32::from(CHECK_LIMIT) {
@@ -157,7 +163,7 @@ fn is_one_request(what: Read, places: &[Place]) -> bool {
 }
 
 // These places, of as many octets as a range has at most. The only error is out of memory.
-fn ranges_of(alloc: Global, places: &[Place]) -> Result<Vec<Range>, AllocError> {
+fn ranges_of(alloc: Global, places: &[AreaPlace]) -> Result<Vec<Range>, AllocError> {
     let mut ranges = Vec::new(alloc);
     for place in places {
         let len = place.len.min(u32::from(CHECK_LIMIT)) as u16;
@@ -184,11 +190,11 @@ fn read_areas<R: Machine>(
 }
 
 // The places of a dump or a check. The only error is out of memory.
-fn places_of(alloc: Global, places: &[(u32, u32)]) -> Result<Vec<Place>, AllocError> {
+fn places_of(alloc: Global, places: &[(u32, u32)]) -> Result<Vec<AreaPlace>, AllocError> {
     let mut all = Vec::new(alloc);
     for (address, len) in places {
         let (address, len) = (*address, *len);
-        all.push(Place { address, len })?;
+        all.push(AreaPlace { address, len })?;
     }
     Ok(all)
 }

@@ -41,12 +41,12 @@ fn verify_by<R: Machine>(
 ) -> Result<Status, Failure> {
     let (up, down) = (&layouts.telecommands.packets, &layouts.telemetry.packets);
     let mut requests = requests_at(rt, voice, up, words.requests)?;
-    let of_reports = reported(rt, voice, down, &mut requests.asked, &words.reports)?;
+    let of_reports = hear_reports(rt, voice, down, &mut requests.asked, &words.reports)?;
     if words.open {
         put_open(rt, voice, up, words.requests, &requests.asked)?;
         return told_beside(rt, words, &requests, &of_reports);
     }
-    told(rt, words, &requests, &of_reports)
+    tell_requests(rt, words, &requests, &of_reports)
 }
 
 // The requests of this layout among the packets at this path.
@@ -75,7 +75,7 @@ fn requests_at<R: Machine>(
 
 // Tells these requests of the reports of this layout among the packets at these paths. What was
 // passed over of those.
-fn reported<R: Machine>(
+fn hear_reports<R: Machine>(
     rt: &R,
     voice: Voice,
     layout: &Layout,
@@ -94,7 +94,7 @@ fn reported<R: Machine>(
 }
 
 // Tells the requests, and what was passed over, and gives whether nothing is open of them.
-fn told(
+fn tell_requests(
     rt: &(impl Print + Eprint + AllocGlobal),
     words: &VerifyWords<'_>,
     requests: &Requests,

@@ -10,7 +10,7 @@ use Rattle.lpt_events.specs.declared.side.Side.TheVariants.{Ground, Craft}
 use Rattle.lpt_events.proofs.LaneLemmas.{same_direction-true}
 use Rattle.lpt_journal.specs.Jobs.{went_up}
 use Rattle.lpt_journal.proofs.TestLemmas.{place_in, no_place}
-use Rattle.lpt_apart.specs.Facts.{Fact, Opened, Asked, Released, Aborted, Executed, Retired, Restarted, Log, is_same, awaited, waiting, executed, IsDue, AllDue}
+use Rattle.lpt_apart.specs.Facts.{Fact, Opened, Asked, Released, Aborted, Executed, Retired, Restarted, Log, is_same, message_awaited, waiting, requests_executed, IsDue, AllDue}
 use Rattle.lpt_passes.specs.Asked.{IsOfGroundIn, ExecutedWasAsked}
 
 -- what was ground's is so after a fact
@@ -20,7 +20,7 @@ grounds_later x log m (inr o) = inr (suc o.0, o.1, o.2)
 
 -- an awaited message was opened
 pub awaited_opened : (to : Direction) (log : Log) (name : Name) (m : List ℕ)
-    → awaited log to name ≡ Some m
+    → message_awaited log to name ≡ Some m
     → (k : ℕ) × (name : Name) × (slice_get log k ≡ Some (Opened to name m))
 awaited_opened to [] name m e = absurd cc
 awaited_opened to (x ∷ log) name m e = go x refl e (awaited_opened to log name m) where
@@ -29,21 +29,21 @@ awaited_opened to (x ∷ log) name m e = go x refl e (awaited_opened to log name
   later it = (suc it.0, it.1, it.2)
 
   kept : (b : Bool)
-      → ◌≡◌ {A = Option (List ℕ)} (if b then None else awaited log to name) (Some m)
-      → awaited log to name ≡ Some m
+      → ◌≡◌ {A = Option (List ℕ)} (if b then None else message_awaited log to name) (Some m)
+      → message_awaited log to name ≡ Some m
   kept true k = absurd cc
   kept false k = k
 
   go : (y : Fact)
       → x ≡ y
-      → ◌≡◌ {A = Option (List ℕ)} (awaited (y ∷ log) to name) (Some m)
-      → (awaited log to name ≡ Some m
+      → ◌≡◌ {A = Option (List ℕ)} (message_awaited (y ∷ log) to name) (Some m)
+      → (message_awaited log to name ≡ Some m
       → (k : ℕ) × (name : Name) × (slice_get log k ≡ Some (Opened to name m)))
       → (k : ℕ) × (name : Name) × (slice_get (x ∷ log) k ≡ Some (Opened to name m))
   go (Opened d i n) is k rest = at (is_same d i to name) refl k where
     at : (b : Bool)
         → is_same d i to name ≡ b
-        → ◌≡◌ {A = Option (List ℕ)} (if b then Some n else awaited log to name) (Some m)
+        → ◌≡◌ {A = Option (List ℕ)} (if b then Some n else message_awaited log to name) (Some m)
         → (k : ℕ) × (name : Name) × (slice_get (x ∷ log) k ≡ Some (Opened to name m))
     at true t k =
         let same : n ≡ m = cc in
@@ -66,7 +66,7 @@ released_grounds : (of : Option (Direction × Name)) (m : List ℕ) (log : Log)
 released_grounds None m log up due = inl (place_in log (Asked m) due)
 released_grounds (Some t) m log up due =
     let way : t.0 ≡ Up = same_direction-true t.0 Up up in
-    inr (awaited_opened Up log t.1 m (ap (λ d. awaited log d t.1) (sym way) ∙ due))
+    inr (awaited_opened Up log t.1 m (ap (λ d. message_awaited log d t.1) (sym way) ∙ due))
 
 -- ---- lists
 
@@ -145,22 +145,22 @@ waiting_grounds (x ∷ log) all k m e =
 
 done_after : (x : Fact) (log : Log) (k : ℕ) (m : List ℕ)
     → AreGrounds log (waiting log)
-    → AreGrounds log (executed log)
-    → slice_get (executed (x ∷ log)) k ≡ Some m
+    → AreGrounds log (requests_executed log)
+    → slice_get (requests_executed (x ∷ log)) k ≡ Some m
     → IsOfGroundIn log m
 done_after (Opened d i n) log k m waits had f = had k m f
 done_after (Asked b) log k m waits had f = had k m f
 done_after (Released of n) log k m waits had f = had k m f
 done_after (Aborted d i) log k m waits had f = had k m f
 done_after Executed log k m waits had f =
-    elim (in_front (executed log) (take 1 (waiting log)) k m f) [
+    elim (in_front (requests_executed log) (take 1 (waiting log)) k m f) [
       | inl a ↦ had a.0 m a.1
       | inr b ↦ waits b.0 m (first (waiting log) b.0 m b.1)
     ]
 done_after (Retired d i) log k m waits had f = had k m f
 done_after (Restarted side) log k m waits had f = had k m f
 
-executed_grounds : (log : Log) → AllDue log → AreGrounds log (executed log)
+executed_grounds : (log : Log) → AllDue log → AreGrounds log (requests_executed log)
 executed_grounds [] all k m e = absurd (no_place k m e)
 executed_grounds (x ∷ log) all k m e =
     grounds_later x log m

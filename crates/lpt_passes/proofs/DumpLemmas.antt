@@ -21,7 +21,7 @@ use Rattle.lpt_events.specs.declared.outcome.Outcome.TheVariants.{Broken}
 use Rattle.lpt_events.specs.declared.side.Side.TheVariants.{Ground, Craft}
 use Rattle.lpt_events.specs.declared.worker.Worker.{Worker}
 use Rattle.lpt_node.specs.declared.accepted.Accepted.{Accepted}
-use Rattle.lpt_node.specs.Accepting.{accepted}
+use Rattle.lpt_node.specs.Accepting.{packet_accepted}
 use Rattle.lpt_node.specs.Faults.{node_fault}
 use Rattle.lpt_jobs.specs.Jobs.{head_of}
 use Rattle.lpt_node.specs.Jobs.{Execution, refusal_apply}
@@ -33,12 +33,12 @@ use Rattle.lpt_model.specs.Tickets.{ticket_of}
 use Rattle.lpt_journal.specs.Executions.{front_opens}
 use Rattle.lpt_journal.specs.Jobs.{left_by}
 use Rattle.lpt_journal.specs.Journal.{History}
-use Rattle.lpt_journal.specs.Replies.{entry, recorded}
+use Rattle.lpt_journal.specs.Replies.{entry, history_after}
 use Rattle.lpt_journal.specs.Senders.{opened}
 use Rattle.lpt_journal.proofs.TestLemmas.{no_place}
 use Rattle.lpt_apart.specs.Ends.{Ends, node_at}
-use Rattle.lpt_apart.specs.Facts.{Fact, Opened, Asked, Released, Aborted, Executed, Retired, Restarted, Log, with_abortion, executed, AllDue, IsDue}
-use Rattle.lpt_apart.specs.Moves.{Pair, Move, Do, Free, moved, came_to, CanMove, CanMoveAll}
+use Rattle.lpt_apart.specs.Facts.{Fact, Opened, Asked, Released, Aborted, Executed, Retired, Restarted, Log, with_abortion, requests_executed, AllDue, IsDue}
+use Rattle.lpt_apart.specs.Moves.{Pair, Move, Do, Free, pair_after, came_to, CanMove, CanMoveAll}
 use Rattle.lpt_apart.specs.Steps.{Open, Send, Plain, Finish, Accept, Tick, Expire, Claim, Commit, Apply, Retire, Restart, with_release, with_report, committed_on}
 use Rattle.lpt_apart.specs.Told.{with_openings}
 use Rattle.lpt_apart.proofs.Lessening.{executed_less}
@@ -77,10 +77,10 @@ opened_dump : (c : Config) (first : Contents) (xs : List Move) (name : Name) (m 
     (body : List ℕ)
     → IsConfig c
     → CanMoveAll c first (Do Apply ∷ xs)
-    → (node_jobs.executed c (came_to c first xs).ends.on_craft
+    → (node_jobs.job_executed c (came_to c first xs).ends.on_craft
     (came_to c first xs).ends.memories).0.1.opened ≡ Some (name, m)
     → IsTelemetryDown c (record { direction = Down; octets = m }) to 6 6 body
-    → IsDumpedIn c first (moved c (came_to c first xs) (Do Apply)).ends.log to body
+    → IsDumpedIn c first (pair_after c (came_to c first xs) (Do Apply)).ends.log to body
 opened_dump c first xs name m to body good can opens is =
     let p : Pair = came_to c first xs in
     let but = (apart c first xs good can.0).but in
@@ -89,16 +89,16 @@ opened_dump c first xs name m to body good can opens is =
     let f = but.less.leads.follows in
     let s : State = f.state in
     let es : List Act = f.events in
-    let h : History = recorded c first es in
+    let h : History = history_after c first es in
     let opened_by : Ends → Option (Name × List ℕ) =
-    λ e. (node_jobs.executed c e.on_craft e.memories).0.1.opened in
+    λ e. (node_jobs.job_executed c e.on_craft e.memories).0.1.opened in
     let can_whole : refusal_apply w.on_craft ≡ None =
     subst (λ (e : Ends). refusal_apply e.on_craft ≡ None) (sym but.is) can.1 in
     let free : refusal_of c s act.Apply ≡ None =
     ap (option_map node_fault) (ap (λ (e : Ends). refusal_apply e.on_craft) f.is ∙ can_whole) in
     let more : IsLonger c first s es act.Apply =
     longer c first s es act.Apply good f.tied.legal f.tied.shown tt free in
-    let o = (node_jobs.executed c s.on_craft s.memories).0.1.opened in
+    let o = (node_jobs.job_executed c s.on_craft s.memories).0.1.opened in
     let same : o ≡ Some (name, m) =
     ap opened_by f.is
     ∙ sym (ap (λ (x : (NodeData × Execution) × Contents). x.0.1.opened)
@@ -122,10 +122,10 @@ opened_dump c first xs name m to body good can opens is =
       opens = it.1;
       is = it.2;
     } in
-    of_journal c first (recorded c first (act.Apply ∷ es)) _ to body
-    ((λ i. executed (Executed ∷ with_report ((sym (ap (λ (e : Ends). e.log) but.is)) i)
+    of_journal c first (history_after c first (act.Apply ∷ es)) _ to body
+    ((λ i. requests_executed (Executed ∷ with_report ((sym (ap (λ (e : Ends). e.log) but.is)) i)
     ((opens ∙ sym same) i)))
-    ∙ sym (ap executed (execution_told c first s w.log es f.tied.shown f.tied.tells more))
+    ∙ sym (ap requests_executed (execution_told c first s w.log es f.tied.shown f.tied.tells more))
     ∙ executed_told c first (act.Apply ∷ es) more.legal)
     (opened_dump_is_memory c first (act.Apply ∷ es) m to body good more.legal was is)
 
@@ -158,7 +158,8 @@ dumped_grows c first old new to body grows it = record {
   is_body =
       it.is_body
       ∙ ap (λ ms. dump_body it.memory it.ranges (left_by c.apid ms first))
-      (take_same (executed old) (executed new) it.place it.message it.is_executed grows);
+      (take_same (requests_executed old) (requests_executed new) it.place it.message it.is_executed
+      grows);
 }
 
 -- ---- where an opening comes from
@@ -172,7 +173,7 @@ abbrev IsMade : Config → Pair → Move → Name → List ℕ → Type 0
 IsMade c p x name m =
     (x ≡ Do (Open Down name m))
     ⊎ ((x ≡ Do Apply)
-    × ((node_jobs.executed c p.ends.on_craft p.ends.memories).0.1.opened ≡ Some (name, m)))
+    × ((node_jobs.job_executed c p.ends.on_craft p.ends.memories).0.1.opened ≡ Some (name, m)))
 
 -- what isn't the newest fact stood there
 stood : (y z : Fact) (log : Log) (k : ℕ)
@@ -226,7 +227,7 @@ opened_is d i b name m e =
     λ j. Do (Open (x j) (y j) (z j))
 
 new_opening : (c : Config) (p : Pair) (x : Move) (name : Name) (m : List ℕ) (k : ℕ)
-    → slice_get (moved c p x).ends.log k ≡ Some (Opened Down name m)
+    → slice_get (pair_after c p x).ends.log k ≡ Some (Opened Down name m)
     → Stood p.ends.log name m ⊎ IsMade c p x name m
 new_opening c p (Do (Open d i b)) name m zero e =
     let fact : Opened d i b ≡ Opened Down name m = cc in
@@ -241,7 +242,7 @@ new_opening c p (Do (Finish Up i)) name m k e = inl (k, e)
 new_opening c p (Do (Finish Down i)) name m k e = inl (k, e)
 new_opening c p (Do (Accept d b)) name m k e =
     let x : NodeData × Accepted =
-    accepted (receiver_side d) c (node_at p.ends (receiver_side d)) (arrival_in c d b) in
+    packet_accepted (receiver_side d) c (node_at p.ends (receiver_side d)) (arrival_in c d b) in
     let before =
     aborted_stood (with_release p.ends.log (released_of d x.1.outcome) x.1.released) d x.1.outcome
     name m k e in
@@ -255,7 +256,7 @@ new_opening c p (Do (Claim w)) name m k e = inl (k, e)
 new_opening c p (Do (Commit w)) name m k e =
     inl (committed_stood c p.ends w (ticket_of p.ends.tickets w) name m k e)
 new_opening c p (Do Apply) name m k e =
-    let o = (node_jobs.executed c p.ends.on_craft p.ends.memories).0.1.opened in
+    let o = (node_jobs.job_executed c p.ends.on_craft p.ends.memories).0.1.opened in
     let before = stood Executed (Opened Down name m) (with_report p.ends.log o) k (λ same. cc) e in
     elim (reported_is p.ends.log o name m before.0 before.1) [
       | inl old ↦ inl old
@@ -284,13 +285,14 @@ all_opened_dump c first (x ∷ xs) to name m body k good can none f is =
     let p : Pair = came_to c first xs in
     elim (new_opening c p x name m k f) [
       | inl old ↦
-          dumped_grows c first p.ends.log (moved c p x).ends.log to body (move_grows c p x)
+          dumped_grows c first p.ends.log (pair_after c p x).ends.log to body (move_grows c p x)
           (all_opened_dump c first xs to name m body old.0 good can.0
           (λ j i b s. none (suc j) i b s) old.1 is)
       | inr made ↦ elim made [
         | inl opens ↦ absurd (none 0 name m body (ap Some opens) is)
         | inr runs ↦
-            subst (λ (y : Move). IsDumpedIn c first (moved c p y).ends.log to body) (sym runs.0)
+            subst (λ (y : Move). IsDumpedIn c first (pair_after c p y).ends.log to body)
+            (sym runs.0)
             (opened_dump c first xs name m to body good
             (can.0, subst (λ (y : Move). CanMove c p y) runs.0 can.1) runs.1 is)
       ]

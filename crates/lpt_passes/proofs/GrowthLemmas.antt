@@ -16,7 +16,7 @@ use Rattle.lpt_events.specs.Arrivals.{arrival_in}
 use Rattle.lpt_events.specs.Sides.{receiver_side, direction_to}
 use Rattle.lpt_node.specs.declared.accepted.Accepted.{Accepted}
 use Rattle.lpt_node.specs.declared.expired.Expired.{Expired}
-use Rattle.lpt_node.specs.Accepting.{accepted}
+use Rattle.lpt_node.specs.Accepting.{packet_accepted}
 use Rattle.lpt_node.specs.Jobs.{Execution}
 use Rattle.lpt_node.specs.Jobs as node_jobs
 use Rattle.lpt_node.specs.Nodes.{NodeData}
@@ -25,15 +25,16 @@ use Rattle.lpt_node.specs.Times.{expired_of, which_ends}
 use Rattle.lpt_model.specs.State.{released_of}
 use Rattle.lpt_model.specs.Tickets.{ticket_of}
 use Rattle.lpt_apart.specs.Ends.{Ends, node_at}
-use Rattle.lpt_apart.specs.Facts.{Fact, Opened, Asked, Released, Aborted, Executed, Retired, Restarted, Log, with_abortion, waiting, executed}
-use Rattle.lpt_apart.specs.Moves.{Pair, Move, Do, Free, moved, came_to, CanMoveAll}
+use Rattle.lpt_apart.specs.Facts.{Fact, Opened, Asked, Released, Aborted, Executed, Retired, Restarted, Log, with_abortion, waiting, requests_executed}
+use Rattle.lpt_apart.specs.Moves.{Pair, Move, Do, Free, pair_after, came_to, CanMoveAll}
 use Rattle.lpt_apart.specs.Steps.{Open, Send, Plain, Finish, Accept, Tick, Expire, Claim, Commit, Apply, Retire, Restart, with_release, with_report, requested_on, accepted_on, expired_on, committed_on, executed_on}
 use Rattle.lpt_journal.proofs.TestLemmas.{no_place}
 
 -- what a log has as executed another has too, at the same place
 abbrev pub Grows : Log → Log → Type 0
 Grows old new =
-    (k : ℕ) (m : List ℕ) → slice_get (executed old) k ≡ Some m → slice_get (executed new) k ≡ Some m
+    (k : ℕ) (m : List ℕ) → slice_get (requests_executed old) k ≡ Some m
+    → slice_get (requests_executed new) k ≡ Some m
 
 same : (log : Log) → Grows log log
 same log k m e = e
@@ -49,7 +50,7 @@ in_front (x ∷ xs) ys zero y e = e
 in_front (x ∷ xs) ys (suc k) y e = in_front xs ys k y e
 
 one_more : (x : Fact) (log : Log) → Grows log (x ∷ log)
-one_more Executed log k m e = in_front (executed log) (take 1 (waiting log)) k m e
+one_more Executed log k m e = in_front (requests_executed log) (take 1 (waiting log)) k m e
 one_more (Opened d i n) log k m e = e
 one_more (Asked b) log k m e = e
 one_more (Released of n) log k m e = e
@@ -95,7 +96,7 @@ apply_grows e x =
     (report_grows e.log x.0.1.opened k m f)
 
 -- whatever move comes
-pub move_grows : (c : Config) (p : Pair) (x : Move) → Grows p.ends.log (moved c p x).ends.log
+pub move_grows : (c : Config) (p : Pair) (x : Move) → Grows p.ends.log (pair_after c p x).ends.log
 move_grows c p (Do (Open d name m)) = one_more (Opened d name m) p.ends.log
 move_grows c p (Do (Send Up name k)) = same p.ends.log
 move_grows c p (Do (Send Down name k)) = same p.ends.log
@@ -105,7 +106,7 @@ move_grows c p (Do (Finish Up name)) = same p.ends.log
 move_grows c p (Do (Finish Down name)) = same p.ends.log
 move_grows c p (Do (Accept d b)) =
     accept_grows p.ends d
-    (accepted (receiver_side d) c (node_at p.ends (receiver_side d)) (arrival_in c d b))
+    (packet_accepted (receiver_side d) c (node_at p.ends (receiver_side d)) (arrival_in c d b))
 move_grows c p (Do (Tick Ground turn)) = same p.ends.log
 move_grows c p (Do (Tick Craft turn)) = same p.ends.log
 move_grows c p (Do (Expire side which)) =
@@ -114,7 +115,7 @@ move_grows c p (Do (Expire side which)) =
 move_grows c p (Do (Claim w)) = same p.ends.log
 move_grows c p (Do (Commit w)) = commit_grows c p.ends w (ticket_of p.ends.tickets w)
 move_grows c p (Do Apply) =
-    apply_grows p.ends (node_jobs.executed c p.ends.on_craft p.ends.memories)
+    apply_grows p.ends (node_jobs.job_executed c p.ends.on_craft p.ends.memories)
 move_grows c p (Do (Retire d name)) = one_more (Retired d name) p.ends.log
 move_grows c p (Do (Restart side)) = one_more (Restarted side) p.ends.log
 move_grows c p (Free Up name) = same p.ends.log

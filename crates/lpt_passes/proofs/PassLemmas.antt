@@ -16,9 +16,9 @@ use Rattle.lpt_journal.specs.Jobs.{executed as was_executed, left_by}
 use Rattle.lpt_journal.specs.Journal.{History}
 use Rattle.lpt_journal.specs.Legal.{Legal}
 use Rattle.lpt_journal.specs.Link.{sent}
-use Rattle.lpt_journal.specs.Replies.{recorded}
+use Rattle.lpt_journal.specs.Replies.{history_after}
 use Rattle.lpt_apart.specs.Ends.{Ends}
-use Rattle.lpt_apart.specs.Facts.{Log, executed}
+use Rattle.lpt_apart.specs.Facts.{Log, requests_executed}
 use Rattle.lpt_apart.specs.Moves.{Pair, Move, came_to, CanMoveAll}
 use Rattle.lpt_apart.specs.Steps.{IsOnTheWay}
 use Rattle.lpt_apart.proofs.Links.{held_at}
@@ -47,9 +47,10 @@ record WasPut (c : Config) (first : Contents) (p : Pair) (b : List ℕ) : Type 0
   events : List Act
   legal : Legal c first events
   number : ℕ
-  put : slice_get (sent (recorded c first events)) number
+  put : slice_get (sent (history_after c first events)) number
       ≡ Some (record { direction = Down; octets = b })
-  told : executed p.ends.log ≡ map (λ r. r.message) (was_executed c (recorded c first events))
+  told : requests_executed p.ends.log
+      ≡ map (λ r. r.message) (was_executed c (history_after c first events))
 
 was_put : (c : Config) (first : Contents) (xs : List Move) (b : List ℕ)
     → IsConfig c
@@ -78,14 +79,15 @@ was_put c first xs b good can way =
           ∙ mapped sent_packet f.state.link.packets held.number held.packet held.there
           ∙ ap Some same;
       told =
-          ap (λ (e : Ends). executed e.log) (sym but.is) ∙ ap executed (sym f.tied.tells)
+          ap (λ (e : Ends). requests_executed e.log) (sym but.is)
+          ∙ ap requests_executed (sym f.tied.tells)
           ∙ executed_told c first es f.tied.legal;
     }
 
 pub heard_was_executed : HeardWasExecuted
 heard_was_executed c first xs to subtype said good can hears success =
     let w = was_put c first xs hears.octets good can hears.on_the_way in
-    let h : History = recorded c first w.events in
+    let h : History = history_after c first w.events in
     let done =
     completed_was_executed c first w.events w.number _ to subtype said good w.legal w.put hears.is
     success in
@@ -110,14 +112,14 @@ mapped_front f (suc n) (x ∷ xs) = ap (λ ys. f x ∷ ys) (mapped_front f n xs)
 
 -- what a world's journal has of a dump, a log that has the same executed has
 pub of_journal : (c : Config) (first : Contents) (h : History) (log : Log) (to : ℕ) (body : List ℕ)
-    → executed log ≡ map (λ r. r.message) (was_executed c h)
+    → requests_executed log ≡ map (λ r. r.message) (was_executed c h)
     → WasDumped c first h to body
     → IsDumpedIn c first log to body
 of_journal c first h log to body told done =
     let run = done.execution in
     let messages : List Release → List (List ℕ) = map (λ r. r.message) in
     let before : List Release = was_executed c (drop (suc run.number) h) in
-    let same : messages before ≡ take run.place (executed log) =
+    let same : messages before ≡ take run.place (requests_executed log) =
     ap messages run.so_far
     ∙ mapped_front (λ (r : Release). r.message) run.place (was_executed c h)
     ∙ ap (λ ms. take run.place ms) (sym told) in
@@ -143,7 +145,7 @@ of_journal c first h log to body told done =
 pub heard_dump_is_memory : HeardDumpIsMemory
 heard_dump_is_memory c first xs to body good can hears =
     let w = was_put c first xs hears.octets good can hears.on_the_way in
-    of_journal c first (recorded c first w.events) (came_to c first xs).ends.log to body w.told
+    of_journal c first (history_after c first w.events) (came_to c first xs).ends.log to body w.told
     (dumped_is_memory c first w.events w.number _ to body good w.legal w.put hears.is)
 
 -- what stands behind a place stands there in the rest
@@ -197,7 +199,7 @@ passes_leave_the_image c first xs x content from place requests good can known f
     let promised = ends_apart_keep_the_promise c first xs good can in
     subst (λ ms. Stands x ms) (sym promised.memories)
     (pass_leaves_the_image x c.apid first content
-    (executed log) requests place known fits pass.others
+    (requests_executed log) requests place known fits pass.others
     pass.loaded
     (λ k m there.
     let h = heard k m there in
@@ -208,6 +210,6 @@ passes_leave_the_image c first xs x content from place requests good can known f
     one c log from (long_at m 0) m it.message (pass.alone k m there) named
     (executed_was_asked log it.place it.message promised.due it.is_executed) in (
       it.place - place,
-      behind place (executed log) it.place m (it.is_executed ∙ ap Some same)
+      behind place (requests_executed log) it.place m (it.is_executed ∙ ap Some same)
           (pass.is_new it.place it.message it.is_executed it.is_named.of_source),
     )))

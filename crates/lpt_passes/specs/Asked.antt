@@ -2,7 +2,7 @@
 use Rattle.std.specs.Prelude.{◌≡◌, ◌⊎◌, ℕ, List, slice_get, Some}
 use Rattle.lpt_packet.specs.declared.direction.Direction.TheVariants.{Up}
 use Rattle.lpt_packet.specs.Names.{Name}
-use Rattle.lpt_apart.specs.Facts.{Log, Opened, Asked, executed, AllDue}
+use Rattle.lpt_apart.specs.Facts.{Log, Opened, Asked, requests_executed, AllDue}
 
 -- ground asked for the message by a plain request, or opened it as a large one
 abbrev pub IsOfGroundIn : Log → List ℕ → Type 0
@@ -15,5 +15,5 @@ abbrev pub ExecutedWasAsked : Type 0
 ExecutedWasAsked =
     (log : Log) (k : ℕ) (m : List ℕ)
     → AllDue log
-    → slice_get (executed log) k ≡ Some m
+    → slice_get (requests_executed log) k ≡ Some m
     → IsOfGroundIn log m

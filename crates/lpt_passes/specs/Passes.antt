@@ -12,7 +12,7 @@ use Rattle.lpt_events.specs.Configs.{IsConfig}
 use Rattle.lpt_events.specs.declared.config.Config.{Config}
 use Rattle.lpt_execution.specs.Reporting.{request_source}
 use Rattle.lpt_journal.specs.Jobs.{left_by}
-use Rattle.lpt_apart.specs.Facts.{Log, Opened, Asked, Released, executed}
+use Rattle.lpt_apart.specs.Facts.{Log, Opened, Asked, Released, requests_executed}
 use Rattle.lpt_apart.specs.Moves.{Pair, Move, Do, came_to, CanMoveAll}
 use Rattle.lpt_apart.specs.Steps.{Open, IsOnTheWay}
 use Rattle.lpt_reported.specs.Alone.{IsNamed}
@@ -31,7 +31,7 @@ pub record MayHear (c : Config) (p : Pair) (to subtype : ℕ) (said : Verificati
 pub record IsExecutedIn (c : Config) (log : Log) (from request : ℕ) : Type 0 where
   pub place : ℕ
   pub message : List ℕ
-  pub is_executed : slice_get (executed log) place ≡ Some message
+  pub is_executed : slice_get (requests_executed log) place ≡ Some message
   pub is_named : IsNamed c from request message
 
 -- the body of a dump report that the spacecraft put out to this source and that may be handed over
@@ -47,12 +47,13 @@ pub record IsDumpedIn (c : Config) (first : Contents) (log : Log) (from : ℕ)
     (body : List ℕ) : Type 0 where
   pub place : ℕ
   pub message : List ℕ
-  pub is_executed : slice_get (executed log) place ≡ Some message
+  pub is_executed : slice_get (requests_executed log) place ≡ Some message
   pub of_source : request_source c.apid message ≡ from
   pub memory : ℕ
   pub ranges : List AreaRange
   pub is_dump : meaning c.apid (sizes_of first) message ≡ Dump memory ranges
-  pub is_body : body ≡ dump_body memory ranges (left_by c.apid (take place (executed log)) first)
+  pub is_body : body ≡ dump_body memory ranges
+      (left_by c.apid (take place (requests_executed log)) first)
 
 -- whatever two ends did
 abbrev pub HeardDumpIsMemory : Type 0
@@ -130,10 +131,10 @@ pub record IsPass (c : Config) (first : Contents) (log : Log) (x : Image) (from 
       → slice_get requests k ≡ Some m
       → IsAloneIn c log from (long_at m 0) m
   pub is_new : (k : ℕ) (b : List ℕ)
-      → slice_get (executed log) k ≡ Some b
+      → slice_get (requests_executed log) k ≡ Some b
       → request_source c.apid b ≡ from
       → place ≤ k
-  pub others : AreTrueTo x c.apid (sizes_of first) (drop place (executed log))
+  pub others : AreTrueTo x c.apid (sizes_of first) (drop place (requests_executed log))
 
 -- a verification report could be heard after the first of some moves, which stand last
 pub record WasHeard (c : Config) (first : Contents) (xs : List Move) (to subtype : ℕ)

@@ -6,7 +6,7 @@ use Rattle.std.proofs.lemmas.Grind.{common_steps}
 use Rattle.lpt_packet.specs.declared.packet.PacketKind.{PacketKind}
 use Rattle.lpt_packet.specs.declared.packet.PacketKind.TheVariants.{Tm, Tc}
 use Rattle.lpt_packet.specs.Numbers.{be, IsOctets}
-use Rattle.lpt_packet.specs.Packets.{Fields, fields_of, spelling, APacket, seen}
+use Rattle.lpt_packet.specs.Packets.{Fields, fields_of, spelling, APacket, packet_seen}
 use Rattle.lpt_packet.specs.Ranges.{InRange}
 use Rattle.lpt_pus.specs.declared.fault.PusFault.{PusFault}
 use Rattle.lpt_pus.specs.declared.fault.PusFault.TheVariants.{PusVersion}
@@ -167,7 +167,7 @@ pub command_in-found : (apid : ℕ) (b : List ℕ) (c : Command)
 unfolding command_in
 command_in-found apid b c e =
     let apid_of : Command → ℕ = λ read. read.apid in
-    let packet = in_packet-some (λ f. for_apid apid_of apid (tc_verdict f)) (seen b) c e in
+    let packet = in_packet-some (λ f. for_apid apid_of apid (tc_verdict f)) (packet_seen b) c e in
     let read = for_apid-some apid_of apid (tc_verdict (packet.0)) c (packet.2) in
     record { packet = packet.0; is_packet = packet.1; is_command = read.0; is_for = read.1 }
 
@@ -185,7 +185,7 @@ command_in-again apid b c h =
 -- what is written is read again, where its octets are seen as its packet
 pub command_in-spelling : (c : Command)
     → CommandFits c
-    → seen (spelling (packet_of c)) ≡ Some (APacket (packet_of c))
+    → packet_seen (spelling (packet_of c)) ≡ Some (APacket (packet_of c))
     → command_in c.apid (spelling (packet_of c)) ≡ Some c
 command_in-spelling c h e =
     command_in-again c.apid (spelling (packet_of c)) c (record {

@@ -5,13 +5,13 @@ use Rattle.std.proofs.lemmas.Bool.Decides.{nat_tests}
 use Rattle.lpt_packet.specs.Packets.{Fields, Sight, IdlePacket, APacket}
 use Rattle.lpt_pus.specs.declared.fault.PusFault.{PusFault}
 use Rattle.lpt_pus.specs.declared.fault.PusFault.TheVariants.{PusVersion}
-use Rattle.lpt_pus.specs.Messages.{tested, for_apid, in_packet}
+use Rattle.lpt_pus.specs.Messages.{headers_tested, for_apid, in_packet}
 
 -- ---- the tests
 
 -- a message that is read has passed each test
 pub tested-ok : {X : Type 0} (of_type long of_version : Bool) (x y : X)
-    → tested of_type long of_version x ≡ Ok y
+    → headers_tested of_type long of_version x ≡ Ok y
     → (of_type ≡ true) × (long ≡ true) × (of_version ≡ true) × (x ≡ y)
 tested-ok true true true x y e = (refl, refl, refl, cc)
 tested-ok true true false x y e = absurd cc
@@ -23,16 +23,16 @@ pub tested-passed : {X : Type 0} (of_type long of_version : Bool) (x : X)
     → of_type ≡ true
     → long ≡ true
     → of_version ≡ true
-    → tested of_type long of_version x ≡ Ok x
-tested-passed of_type long of_version x p q r = λ i. tested (p i) (q i) (r i) x
+    → headers_tested of_type long of_version x ≡ Ok x
+tested-passed of_type long of_version x p q r = λ i. headers_tested (p i) (q i) (r i) x
 
 -- a message that fails the last test alone is told by it
 pub tested-version : {X : Type 0} (of_type long of_version : Bool) (x : X)
     → of_type ≡ true
     → long ≡ true
     → of_version ≡ false
-    → tested of_type long of_version x ≡ Err PusVersion
-tested-version of_type long of_version x p q r = λ i. tested (p i) (q i) (r i) x
+    → headers_tested of_type long of_version x ≡ Err PusVersion
+tested-version of_type long of_version x p q r = λ i. headers_tested (p i) (q i) (r i) x
 
 -- ---- the APID
 

@@ -6,7 +6,7 @@ use Rattle.std.proofs.lemmas.Grind.{common_steps}
 use Rattle.lpt_packet.specs.declared.packet.PacketKind.{PacketKind}
 use Rattle.lpt_packet.specs.declared.packet.PacketKind.TheVariants.{Tm, Tc}
 use Rattle.lpt_packet.specs.Numbers.{be, IsOctets}
-use Rattle.lpt_packet.specs.Packets.{Fields, fields_of, spelling, APacket, seen}
+use Rattle.lpt_packet.specs.Packets.{Fields, fields_of, spelling, APacket, packet_seen}
 use Rattle.lpt_packet.specs.Ranges.{InRange}
 use Rattle.lpt_pus.specs.declared.fault.PusFault.{PusFault}
 use Rattle.lpt_pus.specs.declared.fault.PusFault.TheVariants.{PusVersion}
@@ -195,7 +195,7 @@ pub telemetry_in-found : (apid : ℕ) (b : List ℕ) (t : Telemetry)
 unfolding telemetry_in
 telemetry_in-found apid b t e =
     let apid_of : Telemetry → ℕ = λ read. read.apid in
-    let packet = in_packet-some (λ f. for_apid apid_of apid (tm_verdict f)) (seen b) t e in
+    let packet = in_packet-some (λ f. for_apid apid_of apid (tm_verdict f)) (packet_seen b) t e in
     let read = for_apid-some apid_of apid (tm_verdict (packet.0)) t (packet.2) in
     record { packet = packet.0; is_packet = packet.1; is_telemetry = read.0; is_for = read.1 }
 
@@ -213,7 +213,7 @@ telemetry_in-again apid b t h =
 -- what is written is read again, where its octets are seen as its packet
 pub telemetry_in-spelling : (t : Telemetry)
     → TelemetryFits t
-    → seen (spelling (tm_packet_of t)) ≡ Some (APacket (tm_packet_of t))
+    → packet_seen (spelling (tm_packet_of t)) ≡ Some (APacket (tm_packet_of t))
     → telemetry_in t.apid (spelling (tm_packet_of t)) ≡ Some t
 telemetry_in-spelling t h e =
     telemetry_in-again t.apid (spelling (tm_packet_of t)) t (record {

@@ -3,10 +3,10 @@ use Rattle.std.specs.Prelude.{◌≡◌, ℕ, ◌+◌, ◌/◌, ◌%◌, ◌<◌
 use Rattle.lpt_packet.specs.declared.packet.PacketKind.{PacketKind}
 use Rattle.lpt_packet.specs.declared.packet.PacketKind.TheVariants.{Tm, Tc}
 use Rattle.lpt_packet.specs.Numbers.{be, word_at}
-use Rattle.lpt_packet.specs.Packets.{Fields, fields_of, APacket, seen}
+use Rattle.lpt_packet.specs.Packets.{Fields, fields_of, APacket, packet_seen}
 use Rattle.lpt_pus.specs.declared.fault.PusFault.{PusFault}
 use Rattle.lpt_pus.specs.declared.tc_head.TcHead.{TcHead}
-use Rattle.lpt_pus.specs.Messages.{tested, for_apid, in_packet}
+use Rattle.lpt_pus.specs.Messages.{headers_tested, for_apid, in_packet}
 use Rattle.lpt_pus.specs.Ranges.{TcFits}
 use Rattle.lpt_pus.specs.Sizes.{tc_header, longest_tc_body}
 
@@ -74,16 +74,17 @@ is_tc Tm = false
 -- the telecommand that a packet is, or the first test that it fails
 unfoldable pub tc_verdict : Fields → Result Command PusFault
 tc_verdict f =
-    tested (is_tc f.kind) (nat_le tc_header (length f.octets)) (slice_index f.octets 0 / 16 == 2)
+    headers_tested (is_tc f.kind) (nat_le tc_header (length f.octets))
+    (slice_index f.octets 0 / 16 == 2)
     (command_at f)
 
 -- the telecommand that octets are, where they are the packet of one with this APID
 unfoldable pub command_in : ℕ → List ℕ → Option Command
-command_in apid b = in_packet (λ f. for_apid (λ c. c.apid) apid (tc_verdict f)) (seen b)
+command_in apid b = in_packet (λ f. for_apid (λ c. c.apid) apid (tc_verdict f)) (packet_seen b)
 
 -- the octets are a packet, and it is this telecommand with this APID
 pub record IsCommandIn (apid : ℕ) (b : List ℕ) (c : Command) : Type 0 where
   pub packet : Fields
-  pub is_packet : seen b ≡ Some (APacket packet)
+  pub is_packet : packet_seen b ≡ Some (APacket packet)
   pub is_command : tc_verdict packet ≡ Ok c
   pub is_for : c.apid ≡ apid

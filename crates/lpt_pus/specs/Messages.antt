@@ -8,8 +8,8 @@ use Rattle.lpt_pus.specs.declared.fault.PusFault.TheVariants.{PusVersion, WrongT
 
 -- the message, or the first test that its packet fails: the packet type, then the header's
 -- length, then the PUS version
-abbrev pub tested : {X : Type 0} → Bool → Bool → Bool → X → Result X PusFault
-tested of_type long of_version message =
+abbrev pub headers_tested : {X : Type 0} → Bool → Bool → Bool → X → Result X PusFault
+headers_tested of_type long of_version message =
     if of_type then
     (if long then
     (if of_version then Ok message

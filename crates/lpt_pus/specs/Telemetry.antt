@@ -3,11 +3,11 @@ use Rattle.std.specs.Prelude.{◌≡◌, ℕ, ◌+◌, ◌/◌, ◌%◌, ◌^◌
 use Rattle.lpt_packet.specs.declared.packet.PacketKind.{PacketKind}
 use Rattle.lpt_packet.specs.declared.packet.PacketKind.TheVariants.{Tm, Tc}
 use Rattle.lpt_packet.specs.Numbers.{be, word_at}
-use Rattle.lpt_packet.specs.Packets.{Fields, fields_of, APacket, seen}
+use Rattle.lpt_packet.specs.Packets.{Fields, fields_of, APacket, packet_seen}
 use Rattle.lpt_pus.specs.declared.fault.PusFault.{PusFault}
 use Rattle.lpt_pus.specs.declared.tm_head.TmHead.{TmHead}
 use Rattle.lpt_pus.specs.Numbers.{long_at}
-use Rattle.lpt_pus.specs.Messages.{tested, for_apid, in_packet}
+use Rattle.lpt_pus.specs.Messages.{headers_tested, for_apid, in_packet}
 use Rattle.lpt_pus.specs.Ranges.{TmFits}
 use Rattle.lpt_pus.specs.Sizes.{tm_header, longest_tm_body}
 
@@ -89,16 +89,17 @@ is_tm Tc = false
 -- the telemetry that a packet is, or the first test that it fails
 unfoldable pub tm_verdict : Fields → Result Telemetry PusFault
 tm_verdict f =
-    tested (is_tm f.kind) (nat_le tm_header (length f.octets)) (slice_index f.octets 0 / 16 == 2)
+    headers_tested (is_tm f.kind) (nat_le tm_header (length f.octets))
+    (slice_index f.octets 0 / 16 == 2)
     (telemetry_at f)
 
 -- the telemetry that octets are, where they are the packet of it with this APID
 unfoldable pub telemetry_in : ℕ → List ℕ → Option Telemetry
-telemetry_in apid b = in_packet (λ f. for_apid (λ t. t.apid) apid (tm_verdict f)) (seen b)
+telemetry_in apid b = in_packet (λ f. for_apid (λ t. t.apid) apid (tm_verdict f)) (packet_seen b)
 
 -- the octets are a packet, and it is this telemetry with this APID
 pub record IsTelemetryIn (apid : ℕ) (b : List ℕ) (t : Telemetry) : Type 0 where
   pub packet : Fields
-  pub is_packet : seen b ≡ Some (APacket packet)
+  pub is_packet : packet_seen b ≡ Some (APacket packet)
   pub is_telemetry : tm_verdict packet ≡ Ok t
   pub is_for : t.apid ≡ apid

@@ -3,7 +3,7 @@ use Rattle.std.proofs.Common.{◌≡◌, ◌⊎◌, inl, inr, ◌∙◌, ap, sym
 use Rattle.std.specs.Prelude.{IfOk}
 use Rattle.lpt_carried.specs.declared.name.Name.{Name}
 use Rattle.lpt_carried.specs.declared.reading.Reading.{Reading}
-use Rattle.lpt_carried.specs.Carried.{carried, cut}
+use Rattle.lpt_carried.specs.Carried.{part_carried, cut}
 use Rattle.lpt_layout_each.specs.declared.news.NewsAs.{NewsAs}
 use Rattle.lpt_layout_each.specs.Helds.{HoldsEach}
 use Rattle.lpt_layout_each.specs.Lefts.{HoldsYet, left_yet}
@@ -77,7 +77,7 @@ pub joined-next : (j now : Joins) (entries : List Entry) (e : Entry) (es more : 
     → e.kind ≡ Whole
     → e.octets ≡ b
     → HoldsEach j.reading j.any (packets_in entries ++ b ∷ []) now.helds
-    → more ≡ told_by j.reading j.any (packets_in entries) b (carried j.reading b)
+    → more ≡ told_by j.reading j.any (packets_in entries) b (part_carried j.reading b)
     → HasJoined entries es j
     → HasJoined (entries ++ e ∷ []) (es ++ more) now
 joined-next j now entries e es more b reading any kind octets held told h = record {

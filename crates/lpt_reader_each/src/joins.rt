@@ -2,7 +2,7 @@
 
 ghost use Rattle.std.specs.Prelude.{◌≡◌, ◌≤◌, ◌∷◌, ◌++◌, [], List, length, None, Some, Ok, Err, IfOk};
 ghost use Rattle.lpt_packet.specs.Sizes.{longest_packet};
-ghost use Rattle.lpt_carried.specs.Carried.{carried, named};
+ghost use Rattle.lpt_carried.specs.Carried.{part_carried, part_named};
 ghost use Rattle.lpt_carried.specs.declared.skip.Skip.{Skip};
 ghost use Rattle.lpt_layout_each.specs.News.{Event};
 ghost use Rattle.lpt_layout_each.specs.Streams.{Tells};
@@ -11,7 +11,7 @@ ghost use Rattle.lpt_reader.specs.Items.{Entry};
 ghost use Rattle.lpt_reader_each.specs.Joins.{HasJoined, IsLeaving, Takes};
 ghost use Rattle.lpt_reader_each.specs.Told.{packets_in};
 
-use lpt_carried::{CarriedPart, Name, Reading, carried};
+use lpt_carried::{CarriedPart, Name, Reading, part_carried};
 use lpt_layout_each::{HeldsAs, NewsAs, pop_left};
 use lpt_reader::Shown;
 use lpt_stream::PieceKind;
@@ -97,7 +97,7 @@ impl Joins {
             → e.kind ≡ PieceKind.Whole → e.octets ≡ octets.now → HasJoined entries es self
             → IfOk result (λ r. HasJoined (entries ++ e ∷ []) (es ++ events_of r.1) r.0) }
     {
-        match carried(&self.reading, octets) {
+        match part_carried(&self.reading, octets) {
             Ok(part) => self.take_part(alloc, place, octets, &part),
             Err(_) => self.pass_over(octets),
         }
@@ -116,7 +116,8 @@ impl Joins {
         ensures same { IfOk result (λ r. (r.0.reading ≡ self.reading) × (r.0.any ≡ self.any)) }
         ensures joined { (entries : List Entry) (es : List Event) (e : Entry)
             → e.kind ≡ PieceKind.Whole → e.octets ≡ octets.now
-            → carried self.reading octets.now ≡ Ok (named part.now) → HasJoined entries es self
+            → part_carried self.reading octets.now ≡ Ok (part_named part.now)
+            → HasJoined entries es self
             → IfOk result (λ r. HasJoined (entries ++ e ∷ []) (es ++ events_of r.1) r.0) }
     {
         let Joins {
@@ -140,7 +141,7 @@ impl Joins {
         ensures same { IfOk result (λ r. (r.0.reading ≡ self.reading) × (r.0.any ≡ self.any)) }
         ensures joined { (entries : List Entry) (es : List Event) (e : Entry) (s : Skip)
             → e.kind ≡ PieceKind.Whole → e.octets ≡ octets.now
-            → carried self.reading octets.now ≡ Err s → HasJoined entries es self
+            → part_carried self.reading octets.now ≡ Err s → HasJoined entries es self
             → IfOk result (λ r. HasJoined (entries ++ e ∷ []) (es ++ events_of r.1) r.0) }
     {
         let Joins {

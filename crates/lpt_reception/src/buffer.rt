@@ -2,7 +2,7 @@
 
 ghost use Rattle.std.specs.Prelude.{◌≡◌, ◌+◌, ◌≤◌, [], length, take, vec_capacity, IfOk, OnOk, OnErr};
 ghost use Rattle.lpt_packet.specs.Sizes.{longest_packet};
-ghost use Rattle.lpt_reception.specs.Buffers.{padded, written, zeroed};
+ghost use Rattle.lpt_reception.specs.Buffers.{octets_padded, octets_written, octets_zeroed};
 
 use lpt_packet::LONGEST_PACKET;
 use std::alloc::{AllocError, Global};
@@ -63,7 +63,7 @@ impl Buffer {
     /// failure leaves the buffer as it was.
     pub(crate) fn write(&mut self, start: usize, octets: &[u8]) -> Result<(), AllocError>
         requires { start + length octets.now ≤ longest_packet }
-        ensures ok { OnOk result (self.new ≡ written self.old start octets.now) }
+        ensures ok { OnOk result (self.new ≡ octets_written self.old start octets.now) }
         ensures err { OnErr result (self.new ≡ self.old) }
     {
         let end = start + octets.len();
@@ -77,7 +77,7 @@ impl Buffer {
     /// Writes so many zeros from a place on.
     pub(crate) fn write_zeros(&mut self, start: usize, so_many: usize)
         requires { start + so_many ≤ length self.old }
-        ensures { self.new ≡ zeroed self.old start so_many }
+        ensures { self.new ≡ octets_zeroed self.old start so_many }
     {
         self.octets[start..start + so_many].fill(0);
     }
@@ -111,7 +111,7 @@ fn make_room(buffer: &mut Vec<u8>, so_many: usize) -> Result<(), AllocError>
 // the buffer, so that a compiler sees that no octet changes its length, and fills it at once.
 fn pad(mut buffer: Vec<u8>, so_many: usize) -> Vec<u8>
     requires { so_many ≤ vec_capacity buffer }
-    ensures octets { result.items ≡ padded buffer.items so_many }
+    ensures octets { result.items ≡ octets_padded buffer.items so_many }
     ensures same_room { vec_capacity result ≡ vec_capacity buffer }
 {
     while buffer.len() < so_many {

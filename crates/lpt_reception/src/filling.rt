@@ -30,15 +30,15 @@ impl Model for Filling {
 
     ghost coded = { coded_received };
 
-    ghost use Rattle.lpt_reception.specs.Stored.{stored, IsSound};
+    ghost use Rattle.lpt_reception.specs.Stored.{parts_stored, IsSound};
 
-    ghost view = { λ a. record { id = a.id; p = a.p; parts = stored a.p a.store } };
+    ghost view = { λ a. record { id = a.id; p = a.p; parts = parts_stored a.p a.store } };
 
     ghost invariant = { λ a. IsSound a.p a.store };
 }
 
 impl Filling {
-    ghost use Rattle.lpt_reception.specs.Steps.{kept, IsNew, Answers, Takes};
+    ghost use Rattle.lpt_reception.specs.Steps.{part_kept, IsNew, Answers, Takes};
     ghost use Rattle.lpt_reception.specs.Endings.{ended_by};
     ghost use Rattle.lpt_reception.specs.Missing.{IsLastNumber, IsNextMissing};
 
@@ -49,12 +49,13 @@ impl Filling {
         ensures started { IfOk result (λ f. f ≡ record {
           id = part.now.id;
           p = p;
-          parts = with_part no_parts part.now.number (kept part.now);
+          parts = with_part no_parts part.now.number (part_kept part.now);
         }) }
 
         // A part contradicts no other where there is none, and alone it is no whole message.
-        ensures alone { IsNew no_parts part.now.number (kept part.now) }
-        ensures not_whole { is_whole (with_part no_parts part.now.number (kept part.now)) ≡ false }
+        ensures alone { IsNew no_parts part.now.number (part_kept part.now) }
+        ensures not_whole { is_whole (with_part no_parts part.now.number (part_kept part.now))
+            ≡ false }
     {
         let mut store = Store::new(alloc);
         store.add(part)?;
@@ -101,7 +102,7 @@ impl Filling {
     pub fn accept(self, part: &Part<'_>) -> Step
         requires id { part.now.id ≡ self.id }
         requires p { part.now.p ≡ self.p }
-        ensures { Answers Mode.Any self part.now.number (kept part.now) result }
+        ensures { Answers Mode.Any self part.now.number (part_kept part.now) result }
     {
         self.accept_in(Mode::Any, part)
     }
@@ -111,7 +112,7 @@ impl Filling {
     pub fn accept_strict(self, part: &Part<'_>) -> Step
         requires id { part.now.id ≡ self.id }
         requires p { part.now.p ≡ self.p }
-        ensures { Answers Mode.Strict self part.now.number (kept part.now) result }
+        ensures { Answers Mode.Strict self part.now.number (part_kept part.now) result }
     {
         self.accept_in(Mode::Strict, part)
     }
@@ -120,7 +121,7 @@ impl Filling {
     fn accept_in(mut self, mode: Mode, part: &Part<'_>) -> Step
         requires id { part.now.id ≡ self.id }
         requires p { part.now.p ≡ self.p }
-        ensures { Answers mode self part.now.number (kept part.now) result }
+        ensures { Answers mode self part.now.number (part_kept part.now) result }
     {
         match self.take(mode, part) {
             Took::Kept => Step::Filling(self),
@@ -137,7 +138,7 @@ impl Filling {
     pub fn take(&mut self, mode: Mode, part: &Part<'_>) -> Took
         requires id { part.now.id ≡ self.old.id }
         requires p { part.now.p ≡ self.old.p }
-        ensures { Takes mode self.old part.now.number (kept part.now) result self.new }
+        ensures { Takes mode self.old part.now.number (part_kept part.now) result self.new }
     {
         match self.store.standing_of(mode, part) {
             Standing::Conflict(reason) => return Took::Conflict(reason),
@@ -173,7 +174,7 @@ impl Filling {
     }
 
     /// A copy of the message, if all parts are there. The only error is out of memory.
-    pub(crate) fn joined(&self) -> Result<Octets, AllocError>
+    pub(crate) fn message_joined(&self) -> Result<Octets, AllocError>
         requires { is_whole self.now.parts ≡ true }
         ensures message { IfOk result (λ m. m ≡ spelled self.now.parts) }
         ensures short { IfOk result (λ m. length m ≤ longest_packet) }

@@ -4,11 +4,11 @@ ghost use Rattle.std.specs.Prelude.{◌≡◌, ℕ, ◌+◌, ◌<◌, ◌≤◌,
 ghost use Rattle.std.specs.FinMap as map;
 ghost use Rattle.lpt_part.specs.Parts.{same_kind};
 ghost use Rattle.lpt_part.specs.Splitting.{IsPartSize, kind_at};
-ghost use Rattle.lpt_reception.specs.Steps.{kept, IsNew};
+ghost use Rattle.lpt_reception.specs.Steps.{part_kept, IsNew};
 ghost use Rattle.lpt_reception.specs.Marks.{is_marked};
 ghost use Rattle.lpt_reception.specs.Missing.{IsInner, IsLastNumber, IsNextMissing};
 ghost use Rattle.lpt_reception.specs.Received.{no_parts, with_part, same_kept, is_gap, is_last, is_whole};
-ghost use Rattle.lpt_reception.specs.Stored.{top, last_number, kept_at, stored, overruns, IsSound, IsStanding};
+ghost use Rattle.lpt_reception.specs.Stored.{top, last_number, kept_at, parts_stored, overruns, IsSound, IsStanding};
 
 use crate::buffer::Buffer;
 use crate::marks::Marks;
@@ -42,7 +42,7 @@ pub(crate) enum Standing {
 impl Store {
     /// Nothing is kept.
     pub(crate) fn new(alloc: Global) -> Store
-        ensures empty { (p : ℕ) → IsPartSize p → stored p result ≡ no_parts }
+        ensures empty { (p : ℕ) → IsPartSize p → parts_stored p result ≡ no_parts }
         ensures sound { (p : ℕ) → IsPartSize p → IsSound p result }
     {
         Store {
@@ -56,7 +56,8 @@ impl Store {
     /// What a part is to those that were kept, in this mode.
     pub(crate) fn standing_of(&self, mode: Mode, part: &Part<'_>) -> Standing
         requires { IsSound part.now.p self.now }
-        ensures { IsStanding mode (stored part.now.p self.now) part.now.number (kept part.now) result }
+        ensures { IsStanding mode (parts_stored part.now.p self.now) part.now.number
+            (part_kept part.now) result }
     {
         if self.marks.has(part.number) {
             if self.holds(part) {
@@ -77,7 +78,7 @@ impl Store {
     #[tactic(auto, using(crate::proofs::GreatestLemmas::greatest_is))]
     fn is_gap(&self, mode: Mode, part: &Part<'_>) -> bool
         requires { IsSound part.now.p self.now }
-        ensures { result ≡ is_gap mode (stored part.now.p self.now) part.now.number }
+        ensures { result ≡ is_gap mode (parts_stored part.now.p self.now) part.now.number }
     {
         match mode {
             Mode::Any => false,
@@ -112,7 +113,8 @@ impl Store {
     fn holds(&self, part: &Part<'_>) -> bool
         requires sound { IsSound part.now.p self.now }
         requires marked { is_marked self.now.marks.words.items part.now.number ≡ true }
-        ensures { result ≡ same_kept (kept_at part.now.p self.now part.now.number) (kept part.now) }
+        ensures { result ≡ same_kept (kept_at part.now.p self.now part.now.number)
+            (part_kept part.now) }
     {
         let Some(octets) = slice(self.octets.as_slice(), part.p, part.number as u32) else {
             unreachable!()
@@ -124,7 +126,7 @@ impl Store {
     // another.
     fn is_overrun_by(&self, part: &Part<'_>) -> bool
         requires { IsSound part.now.p self.now }
-        ensures { result ≡ overruns part.now.p self.now part.now.number (kept part.now) }
+        ensures { result ≡ overruns part.now.p self.now part.now.number (part_kept part.now) }
     {
         let number = part.number as u32;
         let top = self.top(part.p);
@@ -134,11 +136,12 @@ impl Store {
     /// Adds a new part. An allocation failure leaves the parts as they were.
     pub(crate) fn add(&mut self, part: &Part<'_>) -> Result<(), AllocError>
         requires sound { IsSound part.now.p self.old }
-        requires new { IsNew (stored part.now.p self.old) part.now.number (kept part.now) }
+        requires new { IsNew (parts_stored part.now.p self.old) part.now.number (part_kept part.now) }
         ensures sound { IsSound part.now.p self.new }
-        ensures ok { OnOk result (stored part.now.p self.new
-            ≡ with_part (stored part.now.p self.old) part.now.number (kept part.now)) }
-        ensures err { OnErr result (stored part.now.p self.new ≡ stored part.now.p self.old) }
+        ensures ok { OnOk result (parts_stored part.now.p self.new
+            ≡ with_part (parts_stored part.now.p self.old) part.now.number (part_kept part.now)) }
+        ensures err { OnErr result
+            (parts_stored part.now.p self.new ≡ parts_stored part.now.p self.old) }
     {
         let start = (part.number - 1) as usize * part.p as usize;
         self.marks.reserve(part.number)?;
@@ -152,14 +155,14 @@ impl Store {
     /// Whether all parts are there.
     pub(crate) fn is_whole(&self, p: u32) -> bool
         requires { IsSound p self.now }
-        ensures { result ≡ is_whole (stored p self.now) }
+        ensures { result ≡ is_whole (parts_stored p self.now) }
     {
         self.ended && self.so_many == self.top(p)
     }
 
     /// How many parts there are.
     pub(crate) fn len(&self) -> u32
-        ensures { (p : ℕ) → IsSound p self.now → result ≡ map.len (stored p self.now) }
+        ensures { (p : ℕ) → IsSound p self.now → result ≡ map.len (parts_stored p self.now) }
     {
         self.so_many
     }
@@ -167,7 +170,7 @@ impl Store {
     /// The number of the last part, if that is there.
     pub(crate) fn last_number(&self, p: u32) -> Option<u16>
         requires { IsSound p self.now }
-        ensures is { IsLastNumber (stored p self.now) result }
+        ensures is { IsLastNumber (parts_stored p self.now) result }
         ensures above { IfSome result (λ n. 2 ≤ n) }
     {
         if self.ended {
@@ -180,8 +183,8 @@ impl Store {
     // The numbers below this one are those of which a part may be missing.
     fn inner_end(&self, p: u32) -> u32
         requires { IsSound p self.now }
-        ensures inner { (n : ℕ) → n < result → IsInner (stored p self.now) n }
-        ensures below { (n : ℕ) → IsInner (stored p self.now) n → n < result }
+        ensures inner { (n : ℕ) → n < result → IsInner (parts_stored p self.now) n }
+        ensures below { (n : ℕ) → IsInner (parts_stored p self.now) n → n < result }
     {
         match self.last_number(p) {
             None => 65_536,
@@ -192,7 +195,7 @@ impl Store {
     /// The least number from `from` on whose part is missing.
     pub(crate) fn next_missing(&self, from: u16, p: u32) -> Option<u16>
         requires { IsSound p self.now }
-        ensures { IsNextMissing (stored p self.now) from result }
+        ensures { IsNextMissing (parts_stored p self.now) from result }
     {
         for number in u32::from(from.max(1))..self.inner_end(p) {
             let number = number as u16;
@@ -219,10 +222,10 @@ impl Store {
     /// Takes a part out of a whole message, and leaves what was there before it came.
     pub(crate) fn take_out(&mut self, number: u16, p: u32)
         requires sound { IsSound p self.old }
-        requires whole { is_whole (stored p self.old) ≡ true }
-        requires there { IsSome (map.get (stored p self.old) number) }
+        requires whole { is_whole (parts_stored p self.old) ≡ true }
+        requires there { IsSome (map.get (parts_stored p self.old) number) }
         ensures sound { IsSound p self.new }
-        ensures without { stored p self.new ≡ map.remove (stored p self.old) number }
+        ensures without { parts_stored p self.new ≡ map.remove (parts_stored p self.old) number }
     {
         let start = (number - 1) as usize * p as usize;
         let top = self.top(p);
@@ -239,7 +242,7 @@ impl Store {
 
 // Whether a part is the last one.
 fn is_last(part: &Part<'_>) -> bool
-    ensures { result ≡ is_last (kept part.now) }
+    ensures { result ≡ is_last (part_kept part.now) }
 {
     same_kind(part.kind, Kind::Last)
 }

@@ -19,15 +19,15 @@ use Rattle.lpt_events.specs.declared.config.Config.{Config}
 use Rattle.lpt_events.specs.declared.side.Side.{Side}
 use Rattle.lpt_events.specs.Arrivals.{NotRead, arrival_in}
 use Rattle.lpt_node.specs.Nodes.{NodeData}
-use Rattle.lpt_node.specs.Receivers.{ReceiverState, table_in, received, received_from, if_free}
-use Rattle.lpt_node.specs.Receiving.{after_received, receiver_of, abort_head, parted}
+use Rattle.lpt_node.specs.Receivers.{ReceiverState, table_in, part_received, received_from, if_free}
+use Rattle.lpt_node.specs.Receiving.{after_received, receiver_of, abort_head, part_accepted}
 use Rattle.lpt_reception.specs.Received.{Parts, contradicts, is_gap, is_whole}
 use Rattle.lpt_part.specs.declared.reason.Reason.TheVariants as reason
-use Rattle.lpt_table.specs.Offering.{OfferKind, Kept, Again, Whole, Conflict, Gap, NoRoom, offered, is_full, is_open, parts_at, taken_out, with_entry}
+use Rattle.lpt_table.specs.Offering.{OfferKind, Kept, Again, Whole, Conflict, Gap, NoRoom, part_offered, is_full, is_open, parts_at, taken_out, with_entry}
 use Rattle.lpt_table.specs.Tables.{TableState}
 use Rattle.lpt_journal.specs.Journal.{History}
 use Rattle.lpt_journal.specs.Hands.{hand, arrival_at, in_hand}
-use Rattle.lpt_journal.specs.Receivers.{kept, with_piece, heard, has_parts, is_closed, reception_count, limits}
+use Rattle.lpt_journal.specs.Receivers.{as_kept, with_piece, heard, has_parts, is_closed, reception_count, limits}
 use Rattle.lpt_refinement.specs.Shows.{Shows, ShowsReceiving, closed_mark, sent_packet}
 use Rattle.lpt_model.specs.State.{State, arrival_held}
 use Rattle.lpt_refinement.specs.Views.{views, receiving_view}
@@ -72,19 +72,19 @@ part_delivered : (side : Side) (c : Config) (d : NodeData) (q : NamedPart) (clos
     → maps.get d.receiving.ledger q.name ≡ closed_mark closed
     → is_full (table_in (receiver_of c d.receiving)) q.name ≡ full
     → parts_at (table_in (receiver_of c d.receiving)) q.name ≡ before
-    → parted side c d q
-    ≡ delivery side closed full (contradicts before q.number (kept q))
+    → part_accepted side c d q
+    ≡ delivery side closed full (contradicts before q.number (as_kept q))
     (is_some (maps.get before q.number)) (is_gap c.mode before q.number)
     (is_open (table_in (receiver_of c d.receiving)) q.name) (is_whole (with_piece before q))
     (abort_head side c d q.name.source) d
     (receiver_of c d.receiving) q before (with_piece before q)
-unfolding received offered
+unfolding part_received part_offered
 part_delivered side c d q closed full before e1 e2 e3 =
     let r = receiver_of c d.receiving in
     λ i. after_received side d q
     (if_free (state_of (e1 i)) r
     (received_from (abort_head side c d q.name.source) r q.name (with_piece (e3 i) q)
-    (made_of (e2 i) (contradicts (e3 i) q.number (kept q)) (is_some (maps.get (e3 i) q.number))
+    (made_of (e2 i) (contradicts (e3 i) q.number (as_kept q)) (is_some (maps.get (e3 i) q.number))
     (is_gap c.mode (e3 i) q.number) (is_open (table_in r) q.name) (is_whole (with_piece (e3 i) q)) (table_in r) q.name (e3 i) (with_piece (e3 i) q) d.clock)))
 
 -- the same, by what the journal says of the part's transaction
@@ -93,13 +93,13 @@ delivery_told c h w d q =
     let s = heard c h w q.name in
     delivery (receiver_side w) (is_closed h w q.name)
     (not (has_parts s) && nat_le (limits c h (receiver_side w)).receptions (reception_count c h w))
-    (contradicts s q.number (kept q)) (is_some (maps.get s q.number))
+    (contradicts s q.number (as_kept q)) (is_some (maps.get s q.number))
     (is_gap c.mode s q.number) (is_open (table_in (receiver_of c d.receiving)) q.name)
     (is_whole (with_piece s q)) (abort_head (receiver_side w) c d q.name.source) d (receiver_of c d.receiving) q s (with_piece s q)
 
 pub part_agrees : (c : Config) (h : History) (w : Direction) (d : NodeData) (q : NamedPart)
     → ShowsReceiving d.receiving (receiving_view c h w)
-    → parted (receiver_side w) c d q ≡ delivery_told c h w d q
+    → part_accepted (receiver_side w) c d q ≡ delivery_told c h w d q
 part_agrees c h w d q own =
     part_delivered (receiver_side w) c d q _ _ _ (own.ledger q.name) (full_shown c h w q.name own)
     (parts_shown c q.name own)

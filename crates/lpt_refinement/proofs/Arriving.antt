@@ -6,14 +6,14 @@ use Rattle.std.specs.Result.{result_ok}
 use Rattle.lpt_packet.specs.declared.direction.Direction.{Direction}
 use Rattle.lpt_packet.specs.declared.direction.Direction.TheVariants.{Up, Down}
 use Rattle.lpt_packet.specs.Names.{Name, named_by}
-use Rattle.lpt_packet.specs.Packets.{Fields, Sight, IdlePacket, APacket, seen}
+use Rattle.lpt_packet.specs.Packets.{Fields, Sight, IdlePacket, APacket, packet_seen}
 use Rattle.lpt_pus.specs.Commands.{Command, tc_verdict}
 use Rattle.lpt_pus.specs.Telemetry.{Telemetry, tm_verdict}
 use Rattle.lpt_part.specs.declared.kind.Kind.{Kind}
 use Rattle.lpt_part.specs.declared.reason.Reason.{Reason}
 use Rattle.lpt_part.specs.Aborts.{abort_in}
 use Rattle.lpt_part.specs.Parts.{Piece, part_in}
-use Rattle.lpt_events.specs.NamedParts.{named}
+use Rattle.lpt_events.specs.NamedParts.{part_named}
 use Rattle.lpt_events.specs.declared.lane.Lane.{Lane}
 use Rattle.lpt_events.specs.Lanes.{lane_direction}
 use Rattle.lpt_events.specs.Sides.{receiver_side}
@@ -30,7 +30,7 @@ MayCome Down (ARequest b) = ⊥
 MayCome d a = Unit {0}
 
 part_comes : (d : Direction) (source : ℕ) (o : Option Piece)
-    → MayCome d (option_map_or (λ q. APart (named source q)) o NoPart)
+    → MayCome d (option_map_or (λ q. APart (part_named source q)) o NoPart)
 part_comes Up source None = tt
 part_comes Up source (Some q) = tt
 part_comes Down source None = tt
@@ -95,7 +95,7 @@ sight_comes d apid p b (Some (APacket f)) = go (f.apid == apid) where
 octets_come : (d : Direction) (apid p : ℕ) (b : List ℕ)
     → MayCome d (arrival (receiver_side d) apid p b)
 unfolding arrival
-octets_come d apid p b = sight_comes d apid p b (seen b)
+octets_come d apid p b = sight_comes d apid p b (packet_seen b)
 
 -- what is in a lane's hand may come in its direction
 pub in_hand_comes : (c : Config) (h : History) (l : Lane)

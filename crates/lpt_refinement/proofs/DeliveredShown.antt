@@ -15,17 +15,17 @@ use Rattle.lpt_link.specs.Links.{after_drop}
 use Rattle.lpt_node.specs.declared.accepted.Accepted.{Accepted}
 use Rattle.lpt_events.specs.declared.config.Config.{Config}
 use Rattle.lpt_events.specs.declared.side.Side.TheVariants.{Ground}
-use Rattle.lpt_node.specs.Accepting.{accepted}
+use Rattle.lpt_node.specs.Accepting.{packet_accepted}
 use Rattle.lpt_events.specs.Arrivals.{Arrival, NotRead, AnIdle, Foreign, ARequest, AReport, NoPart, APart, AnAbort}
 use Rattle.lpt_node.specs.Nodes.{NodeData}
 use Rattle.lpt_node.specs.Receiving.{abort_head, receiver_of}
 use Rattle.lpt_reception.specs.Received.{contradicts, is_gap, is_whole, spelled}
 use Rattle.lpt_acts.specs.Acts.{Deliver}
-use Rattle.lpt_journal.specs.Delivery.{judged}
+use Rattle.lpt_journal.specs.Delivery.{arrival_judged}
 use Rattle.lpt_journal.specs.Jobs.{jobs, ticket}
 use Rattle.lpt_journal.specs.Journal.{History}
 use Rattle.lpt_journal.specs.Hands.{hand, hand_after, in_hand}
-use Rattle.lpt_journal.specs.Receivers.{kept, with_piece, heard, has_parts, is_closed, clock, reception_count, limits}
+use Rattle.lpt_journal.specs.Receivers.{as_kept, with_piece, heard, has_parts, is_closed, clock, reception_count, limits}
 use Rattle.lpt_journal.specs.Replies.{entry}
 use Rattle.lpt_journal.proofs.OutcomeLemmas.{chosen}
 use Rattle.lpt_model.specs.State.{State, end_of, delivered_on, after_deliver}
@@ -111,8 +111,9 @@ module _ (c : Config) (first : Contents) (h : History) (s : State) (hands : Hand
   any : (a : Arrival)
       → MayCome w a
       → Shows
-      (received_as (length h) w s (accepted (receiver_side w) c (end_of s (receiver_side w)) a))
-      (outcome_view c first h w hands a (judged c h w a))
+      (received_as (length h) w s
+      (packet_accepted (receiver_side w) c (end_of s (receiver_side w)) a))
+      (outcome_view c first h w hands a (arrival_judged c h w a))
   any NotRead none = receives w k own k.released
   any AnIdle none = receives w k own k.released
   any Foreign none = receives w k own k.released
@@ -124,8 +125,8 @@ module _ (c : Config) (first : Contents) (h : History) (s : State) (hands : Hand
         → MayCome w (ARequest b)
         → Shows
         (received_as (length h) w s
-        (accepted (receiver_side w) c (end_of s (receiver_side w)) (ARequest b)))
-        (outcome_view c first h w hands (ARequest b) (judged c h w (ARequest b)))
+        (packet_accepted (receiver_side w) c (end_of s (receiver_side w)) (ARequest b)))
+        (outcome_view c first h w hands (ARequest b) (arrival_judged c h w (ARequest b)))
     requests Down f may = absurd may
     requests Up f may =
         let out = release (length h) None b in
@@ -136,19 +137,20 @@ module _ (c : Config) (first : Contents) (h : History) (s : State) (hands : Hand
         → MayCome w (AnAbort name reason)
         → Shows
         (received_as (length h) w s
-        (accepted (receiver_side w) c (end_of s (receiver_side w)) (AnAbort name reason)))
-        (outcome_view c first h w hands (AnAbort name reason) (judged c h w (AnAbort name reason)))
+        (packet_accepted (receiver_side w) c (end_of s (receiver_side w)) (AnAbort name reason)))
+        (outcome_view c first h w hands (AnAbort name reason)
+        (arrival_judged c h w (AnAbort name reason)))
     closes Up may = absurd may
     closes Down may = with_sending Ground k (closed_shown h Up name k.ground.sending)
   any (APart q) none =
       let parts = heard c h w q.name in
       subst (λ (x : NodeData × Accepted). Shows (received_as (length h) w s x)
-      (outcome_view c first h w hands (APart q) (judged c h w (APart q))))
+      (outcome_view c first h w hands (APart q) (arrival_judged c h w (APart q))))
       (sym (part_agrees c h w (end_of s (receiver_side w)) q own))
       (part q (is_closed h w q.name)
       (not (has_parts parts)
       && nat_le (limits c h (receiver_side w)).receptions (reception_count c h w))
-      (contradicts parts q.number (kept q)) (is_some (maps.get parts q.number))
+      (contradicts parts q.number (as_kept q)) (is_some (maps.get parts q.number))
       (is_gap c.mode parts q.number)
       (is_open (table_in (receiver_of c (end_of s (receiver_side w)).receiving)) q.name)
       (is_whole (with_piece parts q)) (some_parts parts q.number))
@@ -168,7 +170,8 @@ in_lane : (c : Config) (first : Contents) (s : State) (h : History) (l : Lane)
     → JobsFit (jobs_view c first h) (ticket c h)
     → Shows
     (delivered_on (length h) s l
-    (accepted (receiver_side (lane_direction l)) c (end_of s (receiver_side (lane_direction l)))
+    (packet_accepted (receiver_side (lane_direction l)) c
+    (end_of s (receiver_side (lane_direction l)))
     (in_hand c h l))).0
     (views c first (entry c first h (Deliver l) ∷ h))
 in_lane c first s h S1 k fits =
@@ -192,6 +195,6 @@ pub delivered_shown : (c : Config) (first : Contents) (s : State) (h : History) 
 delivered_shown c first s h l k fits =
     let side = receiver_side (lane_direction l) in
     subst (λ (a : Arrival).
-    Shows (delivered_on (length h) s l (accepted side c (end_of s side) a)).0
+    Shows (delivered_on (length h) s l (packet_accepted side c (end_of s side) a)).0
     (views c first (entry c first h (Deliver l) ∷ h))) (sym (arrival_agrees c first s h l k))
     (in_lane c first s h l k fits)

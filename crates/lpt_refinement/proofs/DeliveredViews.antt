@@ -20,7 +20,7 @@ use Rattle.lpt_journal.specs.Link.{sent, tags, is_lost}
 use Rattle.lpt_journal.specs.Receivers.{heard, heard_now, ends, takes, is_closed, last_tick, clock, limits}
 use Rattle.lpt_journal.specs.Releases.{releases, released_now}
 use Rattle.lpt_journal.specs.Replies.{outcome_puts}
-use Rattle.lpt_journal.specs.Senders.{current, is_over, sender_of, notes_abort, made, octets_put}
+use Rattle.lpt_journal.specs.Senders.{current, is_over, sender_of, notes_abort, packets_made, octets_put}
 use Rattle.lpt_model.specs.State.{State, end_of, with_end, put_report, add_release}
 use Rattle.lpt_refinement.specs.Shows.{Shows, ShowsReceiving}
 use Rattle.lpt_refinement.specs.Views.{Views, ReceivingView, views, jobs_view, view_of, with_view}
@@ -60,12 +60,12 @@ noted c first h hands o ps =
         sending = record {
           senders = λ name.
               sender_of (current h Up name) (notes_abort (Delivered o) name || is_over h Up name);
-          made = with_all (made h Up) (octets_put ps Up);
+          made = with_all (packets_made h Up) (octets_put ps Up);
         };
       };
       craft = record v.craft {
         sending =
-            record v.craft.sending { made = with_all (made h Down) (octets_put ps Down) };
+            record v.craft.sending { made = with_all (packets_made h Down) (octets_put ps Down) };
       };
     }
 

@@ -17,7 +17,7 @@ use Rattle.lpt_journal.specs.Journal.{History}
 use Rattle.lpt_journal.specs.Link.{sent, is_held, is_lost}
 use Rattle.lpt_journal.specs.Replies.{entry, reply}
 use Rattle.lpt_journal.specs.Refusals.{refusal, expiry_fault}
-use Rattle.lpt_journal.specs.Senders.{sender, is_open, made}
+use Rattle.lpt_journal.specs.Senders.{sender, is_open, packets_made}
 use Rattle.lpt_journal.proofs.TestLemmas.{one_passes, two_pass}
 use Rattle.lpt_refinement.specs.Shows.{Shows, JobsFit}
 use Rattle.lpt_model.specs.State.{State, after, end_of, expired_on}
@@ -50,11 +50,13 @@ pub event_shown : (c : Config) (first : Contents) (s : State) (h : History) (e :
     → Shows (after c (length h) s e).0 (views c first (entry c first h e ∷ h))
 event_shown c first s h (Open Up name m) in_range k fits e =
     let o = opening h Up name m in
-    with_opened (with_sending Ground k (opened_shown h Up (made h Up) name o k.ground.sending))
+    with_opened
+    (with_sending Ground k (opened_shown h Up (packets_made h Up) name o k.ground.sending))
     (ap (λ os. os ++ o ∷ []) k.opened)
 event_shown c first s h (Open Down name m) in_range k fits e =
     let o = opening h Down name m in
-    with_opened (with_sending Craft k (opened_shown h Down (made h Down) name o k.craft.sending))
+    with_opened
+    (with_sending Craft k (opened_shown h Down (packets_made h Down) name o k.craft.sending))
     (ap (λ os. os ++ o ∷ []) k.opened)
 event_shown c first s h (Send d name n) in_range k fits e =
     sent_shown c first s h d name n (length (sent h)) (reply c first h (Send d name n)).puts

@@ -16,7 +16,7 @@ use Rattle.lpt_events.specs.Configs.{IsConfig}
 use Rattle.lpt_execution.specs.Reporting.{request_source}
 use Rattle.lpt_memory.specs.Memories.{Contents}
 use Rattle.lpt_jobs.specs.Jobs.{without_front}
-use Rattle.lpt_node.specs.Jobs.{Execution, reported, executed, executed_of, with_opened as node_opened}
+use Rattle.lpt_node.specs.Jobs.{Execution, reports_made, job_executed, executed_of, with_opened as node_opened}
 use Rattle.lpt_node.specs.Nodes.{NodeData, Sending}
 use Rattle.lpt_node.specs.Sending.{opened_in}
 use Rattle.lpt_journal.specs.Journal.{SentPacket, History, with_all}
@@ -24,8 +24,8 @@ use Rattle.lpt_journal.specs.Jobs.{ticket, memories}
 use Rattle.lpt_journal.specs.Executions.{effect_of, opened_down}
 use Rattle.lpt_journal.specs.Receivers.{clock, limits}
 use Rattle.lpt_journal.specs.Refusals.{refusal}
-use Rattle.lpt_journal.specs.Replies.{told, entry, reply}
-use Rattle.lpt_journal.specs.Senders.{sender, sender_of, least_free, open_count, made, current, is_over, is_opening_of, octets_put, messages_opened, opened}
+use Rattle.lpt_journal.specs.Replies.{puts_told, entry, reply}
+use Rattle.lpt_journal.specs.Senders.{sender, sender_of, least_free, open_count, packets_made, current, is_over, is_opening_of, octets_put, messages_opened, opened}
 use Rattle.lpt_refinement.specs.Shows.{Shows, ShowsSending, JobsFit}
 use Rattle.lpt_model.specs.State.{State, after, put_some, put_all, executed_on, as_list, add_opening}
 use Rattle.lpt_refinement.specs.Views.{SendingView, views, jobs_view, sending_view}
@@ -40,7 +40,7 @@ use Rattle.lpt_refinement.proofs.OpenedShown.{opened_shown}
 -- ---- the answer
 
 put_told : (n : ℕ) (a : Answer) (bs : List (List ℕ))
-    → put_some n a bs ≡ record { answer = a; puts = told n (sent_down bs) }
+    → put_some n a bs ≡ record { answer = a; puts = puts_told n (sent_down bs) }
 put_told n a [] = refl
 put_told n a (b ∷ bs) =
     let count : length (sent_down (b ∷ bs)) ≡ length (b ∷ bs) =
@@ -51,7 +51,7 @@ put_told n a (b ∷ bs) =
 executed_at : (c : Config) (first : Contents) (s : State) (h : History)
     → (k : Shows s (views c first h))
     → (f : Front c first s h)
-    → executed c s.on_craft s.memories
+    → job_executed c s.on_craft s.memories
     ≡ (ended_told c first s h f.job.message, told_memories c first h (Some f.job))
 executed_at c first s h k f =
     ap (executed_of c s.on_craft s.memories) f.head
@@ -70,7 +70,7 @@ executed_answer c first s h k fits e =
     ∙ put_told (length s.link.packets) (told_answer c first h m) (on_link c first h m)
     ∙ ap (λ (n : ℕ). record {
       answer = told_answer c first h m;
-      puts = told n (sent_down (on_link c first h m));
+      puts = puts_told n (sent_down (on_link c first h m));
     }) (as_many_packets k.link)
     ∙ sym (ap (λ (o : Option Release). (entry_by c first h o).reply) f.is_front)
 
@@ -109,14 +109,14 @@ ground_shown : {x : Sending} (h : History) (place : ℕ) (o : Option (Name × Li
     → ShowsSending Ground x (sending_view h Up)
     → ShowsSending Ground x
     (sent_view h Up (opened_down place o)
-    (with_all (made h Up)
+    (with_all (packets_made h Up)
     (with_all (octets_put (sent_down bs) Up) (messages_opened (opened_down place o) Up))))
 ground_shown {x = x} h place o bs k =
     subst (λ (ds : List (List ℕ)).
-    ShowsSending Ground x (sent_view h Up (opened_down place o) (with_all (made h Up) ds)))
+    ShowsSending Ground x (sent_view h Up (opened_down place o) (with_all (packets_made h Up) ds)))
     (sym (λ i. with_all (octets_up bs i) (none_up place o i))) (go o) where
       go : (o : Option (Name × List ℕ))
-          → ShowsSending Ground x (sent_view h Up (opened_down place o) (made h Up))
+          → ShowsSending Ground x (sent_view h Up (opened_down place o) (packets_made h Up))
       go None = k
       go (Some m) = k
 
@@ -145,14 +145,15 @@ craft_shown : (c : Config) (first : Contents) (s : State) (h : History) (m : Lis
     → IsConfig c
     → Shows s (views c first h)
     → ShowsSending Craft
-    (opened_by (reported s.on_craft.sending (reports c first h m)) (message c first h m))
+    (opened_by (reports_made s.on_craft.sending (reports c first h m)) (message c first h m))
     (sending_view (told_entry c first h m ∷ h) Down)
 craft_shown c first s h m in_range k =
     craft_opens h (length h) _ (message c first h m)
     (reports_shown c (request_source c.apid m) (reports c first h m) (clock c h Craft) _ _
     (octets_down (on_link c first h m))
     (opened_message (length h) (message c first h m)
-    ∙ large_opened c.part_size in_range.part_size_fits.0 c (request_source c.apid m) (made h Down)
+    ∙ large_opened c.part_size in_range.part_size_fits.0 c (request_source c.apid m)
+    (packets_made h Down)
     (clock c h Craft) c.apid m
     (least_free h Down (request_source c.apid m))
     (nat_lt (open_count h Down) (limits c h Craft).outgoing)
@@ -188,7 +189,7 @@ done_shown c first s h r in_range k =
     let m = r.message in
     let rs = reports c first h m in
     let d : NodeData = record s.on_craft {
-      sending = reported s.on_craft.sending rs;
+      sending = reports_made s.on_craft.sending rs;
       jobs = without_front s.on_craft.jobs;
     } in
     subst (λ (x : NodeData). Shows (done c first s h r x) (told_view c first h r))

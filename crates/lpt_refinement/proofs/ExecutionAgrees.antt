@@ -16,7 +16,7 @@ use Rattle.lpt_events.specs.declared.side.Side.TheVariants.{Craft}
 use Rattle.lpt_memory.specs.Effects.{answer}
 use Rattle.lpt_memory.specs.Meanings.{meaning}
 use Rattle.lpt_memory.specs.Memories.{Contents, sizes_of, effect}
-use Rattle.lpt_memory.specs.Readings.{meant}
+use Rattle.lpt_memory.specs.Readings.{source_meaning}
 use Rattle.lpt_memory.proofs.MeaningLemmas.{meaning-fits}
 use Rattle.lpt_memory.proofs.PutLemmas.{sizes_of-effect}
 use Rattle.lpt_jobs.specs.Jobs.{without_front}
@@ -25,15 +25,15 @@ use Rattle.lpt_execution.specs.declared.ending.Ending.TheVariants.{Silent}
 use Rattle.lpt_execution.specs.declared.ending.Report.{Report}
 use Rattle.lpt_execution.specs.Endings.{ending}
 use Rattle.lpt_execution.specs.Reporting.{message_reports, request_source, link_packets, large_packets, opened_of, applied_of}
-use Rattle.lpt_node.specs.Jobs.{Execution, ending_at, report_packets, reported, executed_ending, with_opened as node_opened}
+use Rattle.lpt_node.specs.Jobs.{Execution, ending_at, report_packets, reports_made, executed_ending, with_opened as node_opened}
 use Rattle.lpt_node.specs.Nodes.{NodeData, Sending}
 use Rattle.lpt_journal.specs.Journal.{SentPacket, Recorded, History, with_all}
 use Rattle.lpt_journal.specs.Link.{sent}
 use Rattle.lpt_journal.specs.Jobs.{executed, executed_now, left_by, memories}
 use Rattle.lpt_journal.specs.Executions.{ending_of, reports_after, opened_down}
 use Rattle.lpt_journal.specs.Receivers.{clock, limits}
-use Rattle.lpt_journal.specs.Replies.{told}
-use Rattle.lpt_journal.specs.Senders.{Sender, FreeSender, OpenSender, ClosedSender, sender, is_free, least_free, made}
+use Rattle.lpt_journal.specs.Replies.{puts_told}
+use Rattle.lpt_journal.specs.Senders.{Sender, FreeSender, OpenSender, ClosedSender, sender, is_free, least_free, packets_made}
 use Rattle.lpt_refinement.specs.Shows.{Shows, ShowsSending, mark_of}
 use Rattle.lpt_model.specs.State.{State}
 use Rattle.lpt_refinement.specs.Views.{Views, views, sending_view}
@@ -79,7 +79,8 @@ reports c first h m = message_reports c.apid m (ending_of c first h m)
 -- with their packets
 abbrev pub packets : Config → Contents → History → List ℕ → List (Report × List ℕ)
 packets c first h m =
-    reports_after c (request_source c.apid m) (made h Down) (clock c h Craft) (reports c first h m)
+    reports_after c (request_source c.apid m) (packets_made h Down) (clock c h Craft)
+    (reports c first h m)
 
 -- what it opens
 abbrev pub message : Config → Contents → History → List ℕ → Option (Name × List ℕ)
@@ -104,7 +105,7 @@ told_entry c first h m =
     let ps = sent_down (on_link c first h m) in
     record {
       event = Apply;
-      reply = record { answer = told_answer c first h m; puts = told (length (sent h)) ps };
+      reply = record { answer = told_answer c first h m; puts = puts_told (length (sent h)) ps };
       puts = ps;
       opens = opened_down (length h) (message c first h m);
     }
@@ -128,14 +129,14 @@ entry_by c first h o =
     let rs =
     option_map_or (λ r. message_reports c.apid r.message (ending_of c first h r.message)) o [] in
     let peer = option_map_or (λ r. request_source c.apid r.message) o 0 in
-    let bs = reports_after c peer (made h Down) (clock c h Craft) rs in
+    let bs = reports_after c peer (packets_made h Down) (clock c h Craft) rs in
     let opens = opened_of (least_free h Down peer) (large_packets c.part_size bs) in
     let ps = sent_down (link_packets c.part_size bs) in
     record {
       event = Apply;
       reply = record {
         answer = Applied (applied_of end opens);
-        puts = told (length (sent h)) ps;
+        puts = puts_told (length (sent h)) ps;
       };
       puts = ps;
       opens = opened_down (length h) opens;
@@ -156,7 +157,7 @@ abbrev pub ended : Config
     → Option (Name × List ℕ)
     → NodeData × Execution
 ended c d end rs bs opens = (
-  node_opened (record d { sending = reported d.sending rs; jobs = without_front d.jobs }) opens,
+  node_opened (record d { sending = reports_made d.sending rs; jobs = without_front d.jobs }) opens,
   record {
     applied = applied_of end opens;
     packets = link_packets c.part_size bs;
@@ -205,7 +206,8 @@ told_more c first h r =
 -- the memories after it
 pub memories_agree : (c : Config) (first : Contents) (s : State) (h : History) (r : Release)
     → Shows s (views c first h)
-    → effect (meant (source c first r.message)) s.memories ≡ told_memories c first h (Some r)
+    → effect (source_meaning (source c first r.message)) s.memories
+    ≡ told_memories c first h (Some r)
 memories_agree c first s h r k =
     (λ i. effect (meaning c.apid (sym k.sizes i) r.message) (k.memories i))
     ∙ sym (told_more c first h r)

@@ -12,7 +12,7 @@ use Rattle.lpt_jobs.specs.Jobs.{Head, NoJob as NoHead, NotReady as HeadNotReady,
 use Rattle.lpt_node.specs.Faults.{node_fault}
 use Rattle.lpt_node.specs.Jobs.{FrontIsFor, refusal_apply_of}
 use Rattle.lpt_journal.specs.Journal.{History}
-use Rattle.lpt_journal.specs.Jobs.{jobs, applied, ticket, is_committed, front_job}
+use Rattle.lpt_journal.specs.Jobs.{jobs, jobs_applied, ticket, is_committed, front_job}
 use Rattle.lpt_journal.specs.Refusals.{refusal, first_fault}
 use Rattle.lpt_refinement.specs.Shows.{Shows, JobsFit, job_shown}
 use Rattle.lpt_model.specs.State.{State, IsReady, refusal_of}
@@ -37,32 +37,33 @@ head_shown : (c : Config) (first : Contents) (s : State) (h : History)
     → Shows s (views c first h)
     → JobsFit (jobs_view c first h) (ticket c h)
     → head_of s.on_craft.jobs.jobs
-    ≡ head_told c first (front_job c h) (is_committed h (applied h))
+    ≡ head_told c first (front_job c h) (is_committed h (jobs_applied h))
 head_shown c first s h k fits =
     front_shown k.jobs
-    ∙ ap (head_from (job_shown (jobs_view c first h) (applied h)))
-    (slice_get-map (λ r. r.message) (jobs c h) (applied h))
-    ∙ go (front_job c h) (is_committed h (applied h)) refl where
+    ∙ ap (head_from (job_shown (jobs_view c first h) (jobs_applied h)))
+    (slice_get-map (λ r. r.message) (jobs c h) (jobs_applied h))
+    ∙ go (front_job c h) (is_committed h (jobs_applied h)) refl where
       waiting : (m : List ℕ) (t : Bool)
-          → is_committed h (applied h) ≡ false
-          → nat_lt (applied h) (jobs_view c first h).claimed ≡ t
-          → head_from (job_shown (jobs_view c first h) (applied h)) (Some m) ≡ HeadNotReady
+          → is_committed h (jobs_applied h) ≡ false
+          → nat_lt (jobs_applied h) (jobs_view c first h).claimed ≡ t
+          → head_from (job_shown (jobs_view c first h) (jobs_applied h)) (Some m) ≡ HeadNotReady
       waiting m true e f =
           ap (λ a. head_from (λ q. a) (Some m))
-          (job_is (jobs_view c first h) (applied h) m true false f e)
+          (job_is (jobs_view c first h) (jobs_applied h) m true false f e)
       waiting m false e f =
           ap (λ a. head_from (λ q. a) (Some m))
-          (job_is (jobs_view c first h) (applied h) m false false f e)
+          (job_is (jobs_view c first h) (jobs_applied h) m false false f e)
 
       go : (o : Option Release) (t : Bool)
-          → is_committed h (applied h) ≡ t
-          → head_from (job_shown (jobs_view c first h) (applied h)) (option_map (λ r. r.message) o)
+          → is_committed h (jobs_applied h) ≡ t
+          → head_from (job_shown (jobs_view c first h) (jobs_applied h))
+          (option_map (λ r. r.message) o)
           ≡ head_told c first o t
       go None t e = refl
       go (Some r) true e =
           ap (λ a. head_from (λ q. a) (Some r.message))
-          (job_is (jobs_view c first h) (applied h) r.message true true
-          (lt_true (applied h) _ (fits.committed (applied h) e)) e)
+          (job_is (jobs_view c first h) (jobs_applied h) r.message true true
+          (lt_true (jobs_applied h) _ (fits.committed (jobs_applied h) e)) e)
       go (Some r) false e = waiting r.message _ e refl
 
 refused_by : (c : Config) (first : Contents) (o : Option Release) (t : Bool)
@@ -78,7 +79,7 @@ pub apply_refused : (c : Config) (first : Contents) (s : State) (h : History)
     → refusal_of c s Apply ≡ refusal c h Apply
 apply_refused c first s h k fits =
     ap (λ x. option_map node_fault (refusal_apply_of x)) (head_shown c first s h k fits)
-    ∙ refused_by c first (front_job c h) (is_committed h (applied h))
+    ∙ refused_by c first (front_job c h) (is_committed h (jobs_applied h))
 
 pub apply_ready : (c : Config) (first : Contents) (s : State) (h : History)
     → Shows s (views c first h)
@@ -86,7 +87,7 @@ pub apply_ready : (c : Config) (first : Contents) (s : State) (h : History)
     → IsReady c s Apply
 apply_ready c first s h k fits =
     subst (λ (x : Head). FrontIsFor x c.apid s.memories) (sym (head_shown c first s h k fits))
-    (go (front_job c h) (is_committed h (applied h))) where
+    (go (front_job c h) (is_committed h (jobs_applied h))) where
       go : (o : Option Release) (t : Bool) → FrontIsFor (head_told c first o t) c.apid s.memories
       go None t = tt
       go (Some r) true = (refl, sym (ap sizes_of k.memories ∙ k.sizes))
@@ -104,7 +105,8 @@ pub front_is : (c : Config) (first : Contents) (s : State) (h : History)
     → refusal c h Apply ≡ None
     → Front c first s h
 front_is c first s h k fits e =
-    go (front_job c h) (is_committed h (applied h)) refl (head_shown c first s h k fits) e where
+    go (front_job c h) (is_committed h (jobs_applied h)) refl (head_shown c first s h k fits)
+    e where
       go : (o : Option Release) (t : Bool)
           → front_job c h ≡ o
           → head_of s.on_craft.jobs.jobs ≡ head_told c first o t

@@ -12,7 +12,7 @@ use Rattle.lpt_events.specs.declared.telemetry.TelemetryKind.TheVariants.{Accept
 use Rattle.lpt_events.specs.TelemetryKinds.{service_of, subtype_of, place_of}
 use Rattle.lpt_node.specs.Counting.{next_count, next_types, counter_of}
 use Rattle.lpt_node.specs.Nodes.{Sending}
-use Rattle.lpt_node.specs.Sending.{counted, counted_kind}
+use Rattle.lpt_node.specs.Sending.{packet_counted, counted_kind}
 use Rattle.lpt_events.specs.MadePackets.{tm_made}
 use Rattle.lpt_journal.specs.Senders.{is_report}
 use Rattle.lpt_refinement.specs.Shows.{ShowsReports, ShowsSending}
@@ -31,7 +31,7 @@ count_more n made b e =
 -- a telecommand was made
 pub command_made : {x : Sending} {y : SendingView} (b : List ℕ)
     → ShowsSending Ground x y
-    → ShowsSending Ground (counted x) (record y { made = y.made ++ b ∷ [] })
+    → ShowsSending Ground (packet_counted x) (record y { made = y.made ++ b ∷ [] })
 command_made {x = x} {y = y} b k = record {
   ledger = k.ledger;
   messages = k.messages;

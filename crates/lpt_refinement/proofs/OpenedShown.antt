@@ -12,7 +12,7 @@ use Rattle.lpt_events.specs.declared.side.Side.{Side}
 use Rattle.lpt_node.specs.Nodes.{Sending}
 use Rattle.lpt_node.specs.Sending.{opened_in, closed_in, closed_by}
 use Rattle.lpt_journal.specs.Journal.{History}
-use Rattle.lpt_journal.specs.Senders.{sender, sender_of, current, is_over, made}
+use Rattle.lpt_journal.specs.Senders.{sender, sender_of, current, is_over, packets_made}
 use Rattle.lpt_journal.proofs.CountLemmas.{same_name-comm}
 use Rattle.lpt_journal.proofs.MapLemmas.{get_insert, get_remove}
 use Rattle.lpt_refinement.specs.Shows.{ShowsSending, mark_of, message_of}
@@ -66,7 +66,7 @@ opened_shown {x = x} h w packets name o k = record {
 abbrev pub closed_view : History → Direction → Name → SendingView
 closed_view h w name = record {
   senders = λ q. sender_of (current h w q) (same_name name q || is_over h w q);
-  made = made h w;
+  made = packets_made h w;
 }
 
 -- where a sender isn't open, closing it changes nothing

@@ -17,7 +17,7 @@ use Rattle.lpt_reception.specs.Received.{Parts, no_parts}
 use Rattle.lpt_table.specs.Offering.{is_full, parts_at, parts_of}
 use Rattle.lpt_table.specs.Tables.{TableEntry}
 use Rattle.lpt_journal.specs.Journal.{History}
-use Rattle.lpt_journal.specs.Receivers.{heard, has_parts, heard_names, reception_count, with_piece, kept, limits}
+use Rattle.lpt_journal.specs.Receivers.{heard, has_parts, heard_names, reception_count, with_piece, as_kept, limits}
 use Rattle.lpt_journal.proofs.CountLemmas.{same_name-comm, none_open, reception_named}
 use Rattle.lpt_journal.proofs.MapLemmas.{get_insert, get_remove, len_once, some_len}
 use Rattle.lpt_packet.proofs.BoolLemmas.{not_false}
@@ -83,8 +83,8 @@ some_parts s n e =
 more_parts : (s : Parts) (q : NamedPart) → has_parts (with_piece s q) ≡ true
 more_parts s q =
     some_parts (with_piece s q) q.number
-    (ap is_some (maps.get-insert nat_cmp_total s q.number (kept q) q.number)
-    ∙ ap (λ t. is_some (if t then Some (kept q) else maps.get s q.number))
+    (ap is_some (maps.get-insert nat_cmp_total s q.number (as_kept q) q.number)
+    ∙ ap (λ t. is_some (if t then Some (as_kept q) else maps.get s q.number))
     (unsigned_tied q.number q.number ∙ eq_true q.number q.number refl))
 
 -- a name's reception has these parts, and took one at this tick

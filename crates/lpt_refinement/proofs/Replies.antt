@@ -20,21 +20,21 @@ use Rattle.lpt_events.specs.declared.reply.Reply.{Reply}
 use Rattle.lpt_events.specs.Arrivals.{Arrival, NotRead, AnIdle, Foreign, ARequest, AReport, NoPart, APart, AnAbort}
 use Rattle.lpt_events.specs.Lanes.{lane_direction}
 use Rattle.lpt_events.specs.Sides.{receiver_side, direction_to}
-use Rattle.lpt_node.specs.Accepting.{accepted}
+use Rattle.lpt_node.specs.Accepting.{packet_accepted}
 use Rattle.lpt_node.specs.Nodes.{NodeData}
 use Rattle.lpt_node.specs.Receivers.{ReceiverState, abort_report, table_in}
 use Rattle.lpt_node.specs.Receiving.{abort_head, receiver_of}
 use Rattle.lpt_node.specs.Times.{expired_of}
 use Rattle.lpt_reception.specs.Received.{Parts, contradicts, is_gap, is_whole, spelled}
 use Rattle.lpt_table.specs.Offering.{is_open as is_there}
-use Rattle.lpt_journal.specs.Delivery.{judged, outcome}
+use Rattle.lpt_journal.specs.Delivery.{arrival_judged, outcome}
 use Rattle.lpt_journal.specs.Due.{given_up}
 use Rattle.lpt_journal.specs.Jobs.{ticket}
 use Rattle.lpt_journal.specs.Journal.{History, SentPacket}
 use Rattle.lpt_journal.specs.Link.{sent}
 use Rattle.lpt_journal.specs.Hands.{in_hand}
-use Rattle.lpt_journal.specs.Receivers.{kept, with_piece, heard, has_parts, is_closed, reception_count, limits}
-use Rattle.lpt_journal.specs.Replies.{expired_now, abort_puts, expiry_puts, outcome_puts, send_puts, told, reply}
+use Rattle.lpt_journal.specs.Receivers.{as_kept, with_piece, heard, has_parts, is_closed, reception_count, limits}
+use Rattle.lpt_journal.specs.Replies.{expired_now, abort_puts, expiry_puts, outcome_puts, send_puts, puts_told, reply}
 use Rattle.lpt_journal.specs.Refusals.{refusal}
 use Rattle.lpt_journal.specs.Senders.{Sender, FreeSender, OpenSender, ClosedSender, sender, is_open}
 use Rattle.lpt_journal.proofs.OutcomeLemmas.{chosen}
@@ -54,7 +54,7 @@ use Rattle.lpt_refinement.proofs.LinkShown.{as_many_packets}
 
 -- a reply with this answer and these packets, the first of which got this number
 abbrev reply_with : ℕ → Answer → List SentPacket → Reply
-reply_with n a ps = record { answer = a; puts = told n ps }
+reply_with n a ps = record { answer = a; puts = puts_told n ps }
 
 -- the reply tells of the report that an end made, where it made one
 told_report : (c : Config) (h : History) (side : Side) (d : NodeData) (n : ℕ) (a : Answer)
@@ -103,8 +103,8 @@ told_part c h side n d t q before with_it false false false false false there fa
 reply_delivered : (c : Config) (h : History) (w : Direction) (d : NodeData) (n : ℕ)
     → ShowsReceiving d.receiving (receiving_view c h w)
     → (a : Arrival)
-    → reply_to n (accepted (receiver_side w) c d a)
-    ≡ reply_told c h (receiver_side w) n (judged c h w a)
+    → reply_to n (packet_accepted (receiver_side w) c d a)
+    ≡ reply_told c h (receiver_side w) n (arrival_judged c h w a)
 reply_delivered c h w d n own NotRead = refl
 reply_delivered c h w d n own AnIdle = refl
 reply_delivered c h w d n own Foreign = refl
@@ -118,7 +118,7 @@ reply_delivered c h w d n own (APart q) =
     ∙ told_part c h (receiver_side w) n d (receiver_of c d.receiving) q s (with_piece s q)
     (is_closed h w q.name)
     (not (has_parts s) && nat_le (limits c h (receiver_side w)).receptions (reception_count c h w))
-    (contradicts s q.number (kept q)) (is_some (maps.get s q.number))
+    (contradicts s q.number (as_kept q)) (is_some (maps.get s q.number))
     (is_gap c.mode s q.number) (is_there (table_in (receiver_of c d.receiving)) q.name)
     (is_whole (with_piece s q))
 
@@ -169,7 +169,8 @@ reply_shown c first s h (Expire side which) k fits e =
 reply_shown c first s h (Deliver l) k fits e =
     let w = lane_direction l in
     let side = receiver_side w in
-    ap (λ (a : Arrival). reply_to (length s.link.packets) (accepted side c (end_of s side) a))
+    ap (λ (a : Arrival). reply_to (length s.link.packets)
+    (packet_accepted side c (end_of s side) a))
     (arrival_agrees c first s h l k)
     ∙ reply_delivered c h w (end_of s side) (length s.link.packets) (receiving_at c first h w k)
     (in_hand c h l)

@@ -11,14 +11,14 @@ use Rattle.lpt_pus.specs.Codes.{number_of}
 use Rattle.lpt_pus.specs.Commands.{Command, command_in}
 use Rattle.lpt_pus.specs.Numbers.{long_at}
 use Rattle.lpt_verify.specs.declared.report.EncodedReport.{EncodedReport}
-use Rattle.lpt_verify.specs.Reports.{asks, success, failure, success_if, reports_before, accepted, started, completed}
+use Rattle.lpt_verify.specs.Reports.{asks, success, failure, success_if, reports_before, acceptance_reports, start_reports, completion_reports}
 use Rattle.lpt_memory.specs.declared.effect.Effect.{Effect}
 use Rattle.lpt_memory.specs.declared.effect.Effect.TheVariants as effect
 use Rattle.lpt_events.specs.declared.config.Config.{Config}
 use Rattle.lpt_execution.specs.declared.ending.Ending.{Ending}
 use Rattle.lpt_execution.specs.declared.ending.Ending.TheVariants.{Silent, Refused, Carried}
 use Rattle.lpt_execution.specs.declared.ending.Report.{Report}
-use Rattle.lpt_execution.specs.Endings.{is_small, replied, reply_report, ending}
+use Rattle.lpt_execution.specs.Endings.{is_small, reply_ending, reply_report, ending}
 use Rattle.lpt_execution.specs.Reporting.{verification, data_report, reports_of, message_reports, large_packets, opened_of}
 use Rattle.lpt_journal.specs.Executions.{report_after, reports_after}
 use Rattle.lpt_model.specs.State.{as_list}
@@ -63,18 +63,18 @@ module _ (p : ℕ) (fits : 4 ≤ p) where
   before_short : (request flags : ℕ) (code : Option ℕ)
       → too_long (map verification (reports_before request flags code)) ≡ []
   before_short request flags None =
-      both_short (accepted request flags) (started request flags)
+      both_short (acceptance_reports request flags) (start_reports request flags)
       (success_short (asks flags 1) request 1) (success_short (asks flags 2) request 3)
   before_short request flags (Some code) = go (nat_le code 2) where
     go : (t : Bool)
         → too_long
         (map verification
         (if t then failure request 2 code ∷ []
-        else accepted request flags ++ failure request 4 code ∷ []))
+        else acceptance_reports request flags ++ failure request 4 code ∷ []))
         ≡ []
     go true = failure_short request 2 code
     go false =
-        both_short (accepted request flags) (failure request 4 code ∷ [])
+        both_short (acceptance_reports request flags) (failure request 4 code ∷ [])
         (success_short (asks flags 1) request 1) (failure_short request 4 code)
 
   -- ---- the report of data
@@ -91,7 +91,8 @@ module _ (p : ℕ) (fits : 4 ≤ p) where
   reports_long request flags (Refused code) = before_short request flags (Some (number_of code))
   reports_long request flags (Carried r) =
       let before = map verification (reports_before request flags None) in
-      filter-append is_large (before ++ data_report r) (map verification (completed request flags))
+      filter-append is_large (before ++ data_report r)
+      (map verification (completion_reports request flags))
       ∙ ap (λ ns. too_long (before ++ data_report r) ++ ns)
       (success_short (asks flags 8) request 7)
       ∙ append-nil (too_long (before ++ data_report r))
@@ -118,7 +119,7 @@ module _ (p : ℕ) (fits : 4 ≤ p) where
         (length
         (too_long
         (data_of
-        (replied
+        (reply_ending
         (if t then None
         else if not free then Some NoFreeIdentifier
         else if not room then Some TooManyOpen

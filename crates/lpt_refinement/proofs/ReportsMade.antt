@@ -10,7 +10,7 @@ use Rattle.lpt_events.specs.TelemetryKinds.{service_of, subtype_of}
 use Rattle.lpt_execution.specs.declared.ending.Report.{Report}
 use Rattle.lpt_execution.specs.Endings.{is_small}
 use Rattle.lpt_execution.specs.Reporting.{link_packets, large_packets}
-use Rattle.lpt_node.specs.Jobs.{report_packet, report_packets, reported}
+use Rattle.lpt_node.specs.Jobs.{report_packet, report_packets, reports_made}
 use Rattle.lpt_node.specs.Nodes.{Sending}
 use Rattle.lpt_node.specs.Sending.{counted_kind}
 use Rattle.lpt_journal.specs.Journal.{with_all}
@@ -48,13 +48,13 @@ packets_agree c peer (r ∷ rs) {x = x} {y = y} time time' e k =
 -- after them their sender shows their packets in this order
 reported_shown : (c : Config) (peer : ℕ) (rs : List Report) {x : Sending} {y : SendingView} (time : ℕ)
     → ShowsSending Craft x y
-    → ShowsSending Craft (reported x rs)
+    → ShowsSending Craft (reports_made x rs)
     (record y { made = with_all y.made (map (λ p. p.1) (reports_after c peer y.made time rs)) })
 reported_shown c peer [] time k = k
 reported_shown c peer (r ∷ rs) {x = x} {y = y} time k =
     let b = report_after c peer y.made time r in
     subst (λ (bs : List (List ℕ)).
-    ShowsSending Craft (reported x (r ∷ rs)) (record y { made = bs }))
+    ShowsSending Craft (reports_made x (r ∷ rs)) (record y { made = bs }))
     (with_all-more y.made b (map (λ p. p.1) (reports_after c peer (y.made ++ b ∷ []) time rs)))
     (reported_shown c peer rs time (one_made c peer time r k))
 
@@ -143,7 +143,8 @@ pub reports_shown : (c : Config) (peer : ℕ) (rs : List Report) {x : Sending} {
     → link ≡ link_packets c.part_size (reports_after c peer y.made time rs)
     → large ≡ large_packets c.part_size (reports_after c peer y.made time rs)
     → ShowsSending Craft x y
-    → ShowsSending Craft (reported x rs) (record y { made = with_all y.made (with_all link large) })
+    → ShowsSending Craft (reports_made x rs)
+    (record y { made = with_all y.made (with_all link large) })
 reports_shown c peer rs {y = y} time link large e f k =
     let all = reports_after c peer y.made time rs in
     alike_shown (with_all y.made (map (λ p. p.1) all)) (with_all y.made (with_all link large))

@@ -12,7 +12,7 @@ use Rattle.lpt_events.specs.declared.entry.Opening.{Opening}
 use Rattle.lpt_acts.specs.Acts.{Restart, Limits}
 use Rattle.lpt_events.specs.declared.side.Side.{Side}
 use Rattle.lpt_events.specs.declared.side.Side.TheVariants.{Ground, Craft}
-use Rattle.lpt_node.specs.Restarts.{restarted, node_within}
+use Rattle.lpt_node.specs.Restarts.{node_restarted, node_within}
 use Rattle.lpt_node.specs.Counting.{no_types}
 use Rattle.lpt_node.specs.Nodes.{NodeData, Sending, Receiving}
 use Rattle.lpt_journal.specs.Jobs.{boot}
@@ -83,7 +83,7 @@ anew_shown : {side : Side} {x : NodeData} (c : Config) (h : History) (out back :
       clock = clock;
       boot = boot;
     })
-    → ShowsEnd side (restarted x) (record {
+    → ShowsEnd side (node_restarted x) (record {
       sending = shut_view h out;
       receiving = dropped_view c h back;
       outgoing = outgoing;

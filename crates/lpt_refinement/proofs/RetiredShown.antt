@@ -19,7 +19,7 @@ use Rattle.lpt_journal.specs.Journal.{History}
 use Rattle.lpt_journal.specs.Receivers.{heard, has_parts, is_closed, last_tick, limits}
 use Rattle.lpt_journal.specs.Refusals.{refusal, first_fault}
 use Rattle.lpt_journal.specs.Replies.{entry}
-use Rattle.lpt_journal.specs.Senders.{Sender, FreeSender, OpenSender, ClosedSender, sender, sender_of, is_free, is_open, current, is_over, made}
+use Rattle.lpt_journal.specs.Senders.{Sender, FreeSender, OpenSender, ClosedSender, sender, sender_of, is_free, is_open, current, is_over, packets_made}
 use Rattle.lpt_journal.proofs.CountLemmas.{same_name-comm}
 use Rattle.lpt_journal.proofs.MapLemmas.{get_remove}
 use Rattle.lpt_journal.proofs.TestLemmas.{three_pass}
@@ -64,7 +64,7 @@ abbrev freed_view : History → Direction → Name → SendingView
 freed_view h d name = record {
   senders = λ q.
       sender_of (if same_name name q then None else current h d q) (is_over h d q);
-  made = made h d;
+  made = packets_made h d;
 }
 
 -- what is received in a direction once a name is free

@@ -20,7 +20,7 @@ use Rattle.lpt_node.specs.Counting.{counter_of}
 use Rattle.lpt_node.specs.Sending.{sent_of, part_packet, part_telemetry}
 use Rattle.lpt_journal.specs.Journal.{History}
 use Rattle.lpt_journal.specs.Replies.{send_puts, plain_packet, part_packet as journal_packet}
-use Rattle.lpt_journal.specs.Senders.{Sender, FreeSender, OpenSender, ClosedSender, is_open, made, type_counter}
+use Rattle.lpt_journal.specs.Senders.{Sender, FreeSender, OpenSender, ClosedSender, is_open, packets_made, type_counter}
 use Rattle.lpt_model.specs.State.{State, end_of, sent_on, after_plain}
 use Rattle.lpt_refinement.specs.Shows.{Shows, message_of}
 use Rattle.lpt_refinement.specs.Views.{Views, views}
@@ -115,7 +115,10 @@ plain_view c first h source flags service subtype body =
     let b = plain_packet c h source flags service subtype body in
     let v = views c first h in
     record v {
-      ground = record v.ground { sending = record v.ground.sending { made = made h Up ++ b ∷ [] } };
+      ground =
+          record v.ground {
+            sending = record v.ground.sending { made = packets_made h Up ++ b ∷ [] };
+          };
       link = record v.link {
         sent = v.link.sent ++ record { direction = Up; octets = b } ∷ [];
         tags = v.link.tags ++ None ∷ [];

@@ -5,7 +5,7 @@ use Rattle.std.specs.Option.{option_map, option_map_or, option_and_then}
 use Rattle.std.proofs.lemmas.Bool.Decides.{nat_tests}
 use Rattle.lpt_jobs.specs.declared.job.Job.{Job}
 use Rattle.lpt_jobs.specs.declared.job.Job.TheVariants.{Claimed, Committed}
-use Rattle.lpt_jobs.specs.Jobs.{Jobs, claimed_in, is_out, is_claimed, message_in, unclaimed, after_claim, after_commit}
+use Rattle.lpt_jobs.specs.Jobs.{Jobs, claimed_in, is_out, is_claimed, message_in, oldest_unclaimed, after_claim, after_commit}
 use Rattle.lpt_refinement.specs.Shows.{ShowsJobs, IsOut, job_shown, jobs_from}
 use Rattle.lpt_refinement.specs.Views.{JobsView}
 use Rattle.lpt_refinement.proofs.QueueLemmas.{slice_get-drop, slice_get-jobs_from, set-jobs_from, claimed_in-jobs_from}
@@ -40,7 +40,7 @@ pub unclaimed_shown : {x : Jobs} {v : JobsView}
     → v.applied ≤ v.claimed
     → v.claimed ≤ length v.messages
     → ShowsJobs x v
-    → unclaimed x ≡ option_map (λ m. (v.claimed, m)) (slice_get v.messages v.claimed)
+    → oldest_unclaimed x ≡ option_map (λ m. (v.claimed, m)) (slice_get v.messages v.claimed)
 unclaimed_shown {x = x} {v = v} least most k =
     (λ i. option_map {U = ℕ × List ℕ} (λ m. (k.first i + claimed_in (k.jobs i), m))
     (option_and_then message_in (slice_get (k.jobs i) (claimed_in (k.jobs i)))))

@@ -14,14 +14,14 @@ use Rattle.lpt_events.specs.declared.lane.Lane.{Lane}
 use Rattle.lpt_events.specs.declared.side.Side.{Side}
 use Rattle.lpt_events.specs.declared.side.Side.TheVariants.{Ground, Craft}
 use Rattle.lpt_events.specs.declared.worker.Worker.{Worker}
-use Rattle.lpt_journal.specs.Jobs.{boot, jobs, claimed, applied, ticket, is_committed, memories}
+use Rattle.lpt_journal.specs.Jobs.{boot, jobs, jobs_claimed, jobs_applied, ticket, is_committed, memories}
 use Rattle.lpt_journal.specs.Journal.{SentPacket, History}
 use Rattle.lpt_journal.specs.Link.{sent, tags, is_lost}
 use Rattle.lpt_journal.specs.Hands.{hand}
 use Rattle.lpt_events.specs.Sides.{receiver_side}
 use Rattle.lpt_journal.specs.Receivers.{heard, is_closed, last_tick, clock, limits}
 use Rattle.lpt_journal.specs.Releases.{releases}
-use Rattle.lpt_journal.specs.Senders.{Sender, sender, made, opened}
+use Rattle.lpt_journal.specs.Senders.{Sender, sender, packets_made, opened}
 
 -- ---- views
 
@@ -81,7 +81,7 @@ pub record Views : Type 0 where
 
 -- what is sent in a direction
 abbrev pub sending_view : History → Direction → SendingView
-sending_view h d = record { senders = sender h d; made = made h d }
+sending_view h d = record { senders = sender h d; made = packets_made h d }
 
 -- what is received in a direction
 abbrev pub receiving_view : Config → History → Direction → ReceivingView
@@ -98,8 +98,8 @@ abbrev pub jobs_view : Config → Contents → History → JobsView
 jobs_view c first h = record {
   boot = boot h Craft;
   messages = map (λ r. r.message) (jobs c h);
-  applied = applied h;
-  claimed = claimed h;
+  applied = jobs_applied h;
+  claimed = jobs_claimed h;
   committed = is_committed h;
   apid = c.apid;
   sizes = sizes_of first;

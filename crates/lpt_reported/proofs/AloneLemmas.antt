@@ -14,7 +14,7 @@ use Rattle.lpt_execution.specs.Reporting.{request_source}
 use Rattle.lpt_journal.specs.Headline.{before, WasAsked, IsOfGround}
 use Rattle.lpt_journal.specs.Jobs.{went_up}
 use Rattle.lpt_journal.specs.Journal.{History}
-use Rattle.lpt_journal.specs.Replies.{recorded}
+use Rattle.lpt_journal.specs.Replies.{history_after}
 use Rattle.lpt_journal.specs.Senders.{is_opening_of, retires, opened, current}
 use Rattle.lpt_journal.proofs.HeadlineLemmas.{headline}
 use Rattle.lpt_journal.proofs.Steps.{opening_found}
@@ -100,7 +100,7 @@ carried_out_is_alone c first es from request m good legal alone done =
     ((headline c first es good legal).of_ground run.place done.release run.is_executed)
   where
     h : History
-    h = recorded c first es
+    h = history_after c first es
 
     r : Release
     r = done.release

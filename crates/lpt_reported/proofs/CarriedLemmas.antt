@@ -20,13 +20,13 @@ use Rattle.lpt_events.specs.declared.telemetry.TelemetryKind.TheVariants as kind
 use Rattle.lpt_events.specs.TelemetryKinds.{subtype_of}
 use Rattle.lpt_execution.specs.declared.ending.Ending.TheVariants.{Refused, Carried}
 use Rattle.lpt_execution.specs.declared.ending.Report.{Report}
-use Rattle.lpt_execution.specs.Endings.{reply_fault, replied, ending}
+use Rattle.lpt_execution.specs.Endings.{reply_fault, reply_ending, ending}
 use Rattle.lpt_journal.specs.Executions.{effect_of}
-use Rattle.lpt_journal.specs.Jobs.{front_job, applied, executed, executed_by, memories}
+use Rattle.lpt_journal.specs.Jobs.{front_job, jobs_applied, executed, executed_by, memories}
 use Rattle.lpt_journal.specs.Journal.{SentPacket, History}
 use Rattle.lpt_journal.specs.Legal.{Legal}
 use Rattle.lpt_journal.specs.Link.{sent}
-use Rattle.lpt_journal.specs.Replies.{entry, recorded}
+use Rattle.lpt_journal.specs.Replies.{entry, history_after}
 use Rattle.lpt_journal.proofs.HeadlineLemmas.{every}
 use Rattle.lpt_journal.proofs.NewJobs.{new_executed}
 use Rattle.lpt_journal.proofs.TestLemmas.{IsOldOrNew, with_all_cases, no_place}
@@ -47,23 +47,24 @@ message_octets : (c : Config) (first : Contents) (es : List Act)
     → IsConfig c
     → Legal c first es
     → (r : Release) (k : ℕ)
-    → slice_get (executed c (recorded c first es)) k ≡ Some r
+    → slice_get (executed c (history_after c first es)) k ≡ Some r
     → IsOctets r.message
 message_octets c first [] good legal r k f = absurd (no_place k r f)
 message_octets c first (e ∷ es) good legal r k f =
-    let h = recorded c first es in
+    let h = history_after c first es in
     go (message_octets c first es good legal.0 r)
     (with_all_cases (executed c h) (executed_by c (entry c first h e) h) k r f)
   where
-    go : ((k : ℕ) → slice_get (executed c (recorded c first es)) k ≡ Some r → IsOctets r.message)
-        → IsOldOrNew (executed c (recorded c first es))
-        (executed_by c (entry c first (recorded c first es) e) (recorded c first es)) k r
+    go : ((k : ℕ) → slice_get (executed c (history_after c first es)) k ≡ Some r
+        → IsOctets r.message)
+        → IsOldOrNew (executed c (history_after c first es))
+        (executed_by c (entry c first (history_after c first es) e) (history_after c first es)) k r
         → IsOctets r.message
     go before (inl old) = before k old
     go before (inr fresh) =
-        let h = recorded c first es in
+        let h = history_after c first es in
         let now = new_executed e (front_job c h) fresh.0 r fresh.2 in
-        (every c first es good legal.0).2.requests (applied h) r now.2
+        (every c first es good legal.0).2.requests (jobs_applied h) r now.2
 
 -- the first four octets are a number of 32 bits
 long_small : (m : List ℕ) → IsOctets m → long_at m 0 < 2 ^ 32
@@ -74,12 +75,12 @@ told : (c : Config) (first : Contents) (es : List Act) (n : ℕ) (p : SentPacket
     (said : Verification)
     → IsConfig c
     → Legal c first es
-    → slice_get (sent (recorded c first es)) n ≡ Some p
+    → slice_get (sent (history_after c first es)) n ≡ Some p
     → (is : IsVerification c p to subtype said)
-    → (it : IsReportOf c first (recorded c first es) to 1 subtype is.body)
+    → (it : IsReportOf c first (history_after c first es) to 1 subtype is.body)
     × Tells (long_at it.release.message 0) it.end subtype said
 told c first es n p to subtype said good legal f is =
-    let h = recorded c first es in
+    let h = history_after c first es in
     let it = all_reported c first es n p to 1 subtype is.body good legal f refl is.is_down in
     let m = it.release.message in
     let run = it.execution in
@@ -97,7 +98,7 @@ told c first es n p to subtype said good legal f is =
 
 pub completed_was_executed : CompletedWasExecuted
 completed_was_executed c first es n p to subtype said good legal f is success =
-    let h = recorded c first es in
+    let h = history_after c first es in
     let t = told c first es n p to subtype said good legal f is in
     let it = t.0 in
     let done = t.1.done success in
@@ -111,7 +112,7 @@ completed_was_executed c first es n p to subtype said good legal f is success =
 
 pub failed_changed_nothing : FailedChangedNothing
 failed_changed_nothing c first es n p to subtype code said good legal f is failure =
-    let h = recorded c first es in
+    let h = history_after c first es in
     let t = told c first es n p to subtype said good legal f is in
     let it = t.0 in
     let why = t.1.failed code failure in
@@ -145,7 +146,7 @@ dump_answered (Dump id ranges) ms p free room r at e =
     go (reply_fault p (length (dump_body id ranges ms)) free room) e
   where
     go : (f : Option FailureCode)
-        → replied f reply.Dump (dump_body id ranges ms) ≡ Carried (Some r)
+        → reply_ending f reply.Dump (dump_body id ranges ms) ≡ Carried (Some r)
         → (memory : ℕ) × (ranges2 : List AreaRange) × (Dump id ranges ≡ Dump memory ranges2)
         × (r.body ≡ dump_body memory ranges2 ms)
     go (Some code) k = absurd cc
@@ -156,7 +157,7 @@ dump_answered (Check id ranges) ms p free room r at e =
     absurd (go (reply_fault p (length (check_body id ranges ms)) free room) e)
   where
     go : (f : Option FailureCode)
-        → replied f reply.Check (check_body id ranges ms) ≡ Carried (Some r)
+        → reply_ending f reply.Check (check_body id ranges ms) ≡ Carried (Some r)
         → ⊥
     go (Some code) k = cc
     go None k =
@@ -191,7 +192,7 @@ of_dump c first h to body it =
 
 pub dumped_is_memory : DumpedIsMemory
 dumped_is_memory c first es n p to body good legal f is =
-    of_dump c first (recorded c first es) to body
+    of_dump c first (history_after c first es) to body
     (all_reported c first es n p to 6 6 body good legal f refl is)
 
 -- ---- reports in parts
@@ -202,5 +203,5 @@ opened_reports_are_of_executions c first es m to service subtype body good legal
 
 pub opened_dump_is_memory : OpenedDumpIsMemory
 opened_dump_is_memory c first es m to body good legal was is =
-    of_dump c first (recorded c first es) to body
+    of_dump c first (history_after c first es) to body
     (all_opened c first es m to 6 6 body good legal was is)

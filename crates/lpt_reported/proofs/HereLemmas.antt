@@ -35,13 +35,13 @@ use Rattle.lpt_journal.specs.Due.{given_up}
 use Rattle.lpt_journal.specs.Executions.{effect_of, ending_of}
 use Rattle.lpt_journal.specs.Executions as executions
 use Rattle.lpt_journal.specs.Hands.{arrival_of}
-use Rattle.lpt_journal.specs.Jobs.{front_job, applied, executed_now, executed, executed_by, left_by, memories}
+use Rattle.lpt_journal.specs.Jobs.{front_job, jobs_applied, executed_now, executed, executed_by, left_by, memories}
 use Rattle.lpt_journal.specs.Journal.{SentPacket, Recorded, History, with_all}
 use Rattle.lpt_journal.specs.Legal.{IsEnabled, Legal}
 use Rattle.lpt_journal.specs.Link.{sent}
 use Rattle.lpt_journal.specs.Receivers.{clock, limits}
-use Rattle.lpt_journal.specs.Replies.{abort_puts, outcome_puts, expiry_puts, puts, entry, recorded}
-use Rattle.lpt_journal.specs.Senders.{least_free, open_count, made, count, type_counter}
+use Rattle.lpt_journal.specs.Replies.{abort_puts, outcome_puts, expiry_puts, puts, entry, history_after}
+use Rattle.lpt_journal.specs.Senders.{least_free, open_count, packets_made, count, type_counter}
 use Rattle.lpt_journal.proofs.AnswerLengths.{answer_fits, source_fits}
 use Rattle.lpt_journal.proofs.Deliveries.{broken_named}
 use Rattle.lpt_journal.proofs.Events.{only_element}
@@ -207,16 +207,17 @@ pub packets_here : (c : Config) (first : Contents) (h : History) (r : Release)
     → front_job c h ≡ Some r
     → AllByRecursion (IsReadWith c (request_source c.apid r.message)
     (IsOneOf (message_reports c.apid r.message (ending_of c first h r.message))))
-    (executions.reports_after c (request_source c.apid r.message) (made h Down) (clock c h Craft)
+    (executions.reports_after c (request_source c.apid r.message) (packets_made h Down)
+    (clock c h Craft)
     (message_reports c.apid r.message (ending_of c first h r.message)))
 packets_here c first h r good sound up e =
     let m = r.message in
-    let octets : IsOctets m = up.requests (applied h) r e in
+    let octets : IsOctets m = up.requests (jobs_applied h) r e in
     let reports = message_reports c.apid m (ending_of c first h m) in
     let free = is_some (least_free h Down (request_source c.apid m)) in
     let room = nat_lt (open_count h Down) (limits c h Craft).outgoing in
     all_read c (IsOneOf reports) (request_source c.apid m)
-    (made h Down) (clock c h Craft) reports
+    (packets_made h Down) (clock c h Craft) reports
     good (source_fits c.apid m octets) (sound.clocks Craft)
     (message_sendable c.apid m (ending_of c first h m)
     (ending_fits c.part_size free room (effect_of c (memories c first h) m)
@@ -237,7 +238,8 @@ reports_here c first h k p to service subtype body good sound up f is =
           → front_job c h ≡ o
           → slice_get (map (λ b. record { direction = Down; octets = b })
           (link_packets c.part_size (executions.reports_after c
-          (option_map_or (λ (r : Release). request_source c.apid r.message) o 0) (made h Down)
+          (option_map_or (λ (r : Release). request_source c.apid r.message) o 0)
+          (packets_made h Down)
           (clock c h Craft)
           (option_map_or (λ (r : Release). message_reports c.apid r.message
           (ending_of c first h r.message)) o [])))) k ≡ Some p
@@ -247,7 +249,7 @@ reports_here c first h k p to service subtype body good sound up f is =
           let m = r.message in
           let reports = message_reports c.apid m (ending_of c first h m) in
           let xs =
-          executions.reports_after c (request_source c.apid m) (made h Down)
+          executions.reports_after c (request_source c.apid m) (packets_made h Down)
           (clock c h Craft) reports in
           let it = on_link
           (IsReadWith c (request_source c.apid m) (IsOneOf reports)) c.part_size xs
@@ -352,27 +354,28 @@ pub all_reported : (c : Config) (first : Contents) (es : List Act) (n : ℕ) (p 
     (to service subtype : ℕ) (body : List ℕ)
     → IsConfig c
     → Legal c first es
-    → slice_get (sent (recorded c first es)) n ≡ Some p
+    → slice_get (sent (history_after c first es)) n ≡ Some p
     → (service == 13) ≡ false
     → IsTelemetryDown c p to service subtype body
-    → IsReportOf c first (recorded c first es) to service subtype body
+    → IsReportOf c first (history_after c first es) to service subtype body
 all_reported c first [] n p to service subtype body good legal f other is = absurd (no_place n p f)
 all_reported c first (e ∷ es) n p to service subtype body good legal f other is =
-    let h = recorded c first es in
+    let h = history_after c first es in
     go (all_reported c first es n p to service subtype body good legal.0)
     (with_all_cases (sent h) (puts c first h e) n p f)
   where
-    go : (slice_get (sent (recorded c first es)) n ≡ Some p
+    go : (slice_get (sent (history_after c first es)) n ≡ Some p
         → (service == 13) ≡ false
         → IsTelemetryDown c p to service subtype body
-        → IsReportOf c first (recorded c first es) to service subtype body)
-        → IsOldOrNew (sent (recorded c first es)) (puts c first (recorded c first es) e) n p
-        → IsReportOf c first (recorded c first (e ∷ es)) to service subtype body
+        → IsReportOf c first (history_after c first es) to service subtype body)
+        → IsOldOrNew (sent (history_after c first es)) (puts c first (history_after c first es) e) n
+        p
+        → IsReportOf c first (history_after c first (e ∷ es)) to service subtype body
     go before (inl old) =
-        let h = recorded c first es in
+        let h = history_after c first es in
         report_later c first h (entry c first h e) to service subtype body (before old other is)
     go before (inr fresh) =
-        let h = recorded c first es in
+        let h = history_after c first es in
         let had = every c first es good legal.0 in
         put_here c first h e good had.0 had.2 legal.1 fresh.0 p to service subtype body other
         fresh.2 is

@@ -5,7 +5,7 @@ use Rattle.std.proofs.lemmas.List.{get_or-drop, get_or-take, length-take, length
 use Rattle.std.specs.List.{slice_get, AllByRecursion}
 use Rattle.lpt_memory.specs.declared.request.Area.{Area}
 use Rattle.lpt_memory.specs.Meanings.{Meaning, Silent, Fault, Load, Dump, Check, Sizes, size_of, meaning}
-use Rattle.lpt_memory.specs.Memories.{Contents, content_of, sizes_of, put_at, put_all, loaded, effect}
+use Rattle.lpt_memory.specs.Memories.{Contents, content_of, sizes_of, put_at, put_all, memories_loaded, effect}
 use Rattle.lpt_memory.specs.Overlaps.{Covers}
 use Rattle.lpt_memory.specs.Ranges.{AreasFit, MeaningFits}
 use Rattle.lpt_memory.proofs.MeaningLemmas.{meaning-fits}
@@ -145,7 +145,7 @@ one_request x (Load id areas) ms content known fits true_to = go (id == x.memory
       record {
         after = put_all content areas;
         is_after =
-            ap (λ n. content_of n (loaded id areas ms)) (sym same)
+            ap (λ n. content_of n (memories_loaded id areas ms)) (sym same)
             ∙ content_of-loaded id areas content ms known_here;
         same_length = length-put_all content areas fit;
         keeps = λ i within e.

@@ -18,8 +18,8 @@ use Rattle.lpt_journal.specs.Jobs.{front_job}
 use Rattle.lpt_journal.specs.Journal.{Recorded, History}
 use Rattle.lpt_journal.specs.Legal.{Legal}
 use Rattle.lpt_journal.specs.Receivers.{clock}
-use Rattle.lpt_journal.specs.Replies.{opens, entry, recorded}
-use Rattle.lpt_journal.specs.Senders.{least_free, made}
+use Rattle.lpt_journal.specs.Replies.{opens, entry, history_after}
+use Rattle.lpt_journal.specs.Senders.{least_free, packets_made}
 use Rattle.lpt_journal.proofs.Events.{only_element}
 use Rattle.lpt_journal.proofs.HeadlineLemmas.{every}
 use Rattle.lpt_journal.proofs.Steps.{IsSound}
@@ -47,7 +47,8 @@ opened_here c first h k o to service subtype body good sound up f is =
           → opened_of (least_free h Down
           (option_map_or (λ (r : Release). request_source c.apid r.message) front 0))
           (large_packets c.part_size (executions.reports_after c
-          (option_map_or (λ (r : Release). request_source c.apid r.message) front 0) (made h Down)
+          (option_map_or (λ (r : Release). request_source c.apid r.message) front 0)
+          (packets_made h Down)
           (clock c h Craft)
           (option_map_or (λ (r : Release). message_reports c.apid r.message
           (ending_of c first h r.message)) front []))) ≡ Some y
@@ -60,7 +61,7 @@ opened_here c first h k o to service subtype body good sound up f is =
           let m = r.message in
           let reports = message_reports c.apid m (ending_of c first h m) in
           let xs =
-          executions.reports_after c (request_source c.apid m) (made h Down)
+          executions.reports_after c (request_source c.apid m) (packets_made h Down)
           (clock c h Craft) reports in
           let it = too_long
           (IsReadWith c (request_source c.apid m) (IsOneOf reports)) c.part_size xs
@@ -85,7 +86,7 @@ pub all_opened : (c : Config) (first : Contents) (es : List Act) (m : List ℕ)
     → Legal c first es
     → WasOpened c first es m
     → IsTelemetryDown c (record { direction = Down; octets = m }) to service subtype body
-    → IsReportOf c first (recorded c first es) to service subtype body
+    → IsReportOf c first (history_after c first es) to service subtype body
 all_opened c first [] m to service subtype body good legal was is =
     absurd (no_place was.number was.entry was.is_there)
 all_opened c first (e ∷ es) m to service subtype body good legal was is =
@@ -93,29 +94,32 @@ all_opened c first (e ∷ es) m to service subtype body good legal was is =
   where
     here : (e : Act)
         → e ≡ Apply
-        → slice_get (opens c first (recorded c first es) e) was.place ≡ Some was.opening
-        → IsReportOf c first (entry c first (recorded c first es) e ∷ recorded c first es) to
+        → slice_get (opens c first (history_after c first es) e) was.place ≡ Some was.opening
+        → IsReportOf c first (entry c first (history_after c first es) e ∷ history_after c first es)
+        to
         service subtype body
     here Apply same f =
         let had = every c first es good legal.0 in
-        opened_here c first (recorded c first es) was.place was.opening to service subtype body good
+        opened_here c first (history_after c first es) was.place was.opening to service subtype body
+        good
         had.0 had.2 f
         (subst (λ b. IsTelemetryDown c (record { direction = Down; octets = b }) to service subtype
         body) (sym was.is) is)
     here e same f = absurd cc
 
     go : (n : ℕ)
-        → slice_get (recorded c first (e ∷ es)) n ≡ Some was.entry
+        → slice_get (history_after c first (e ∷ es)) n ≡ Some was.entry
         → (WasOpened c first es m
         → IsTelemetryDown c (record { direction = Down; octets = m }) to service subtype body
-        → IsReportOf c first (recorded c first es) to service subtype body)
-        → IsReportOf c first (recorded c first (e ∷ es)) to service subtype body
+        → IsReportOf c first (history_after c first es) to service subtype body)
+        → IsReportOf c first (history_after c first (e ∷ es)) to service subtype body
     go zero f before =
-        let same : entry c first (recorded c first es) e ≡ was.entry = cc in
+        let same : entry c first (history_after c first es) e ≡ was.entry = cc in
         here e (ap (λ (x : Recorded). x.event) same ∙ was.applies)
         (ap (λ (x : Recorded). slice_get x.opens was.place) same ∙ was.opens)
     go (suc n) f before =
-        report_later c first (recorded c first es) (entry c first (recorded c first es) e) to
+        report_later c first (history_after c first es) (entry c first (history_after c first es) e)
+        to
         service subtype body
         (before (record {
           number = n;

@@ -11,7 +11,7 @@ use Rattle.lpt_pus.specs.Numbers.{long_at}
 use Rattle.lpt_verify.specs.declared.report.EncodedReport.{EncodedReport}
 use Rattle.lpt_verify.specs.declared.report.Report.{Report as Verification}
 use Rattle.lpt_verify.specs.Reading.{is_success, is_failure, report_in}
-use Rattle.lpt_verify.specs.Reports.{asks, success, success_if, failure, accepted, started, completed, reports_before, reports_after}
+use Rattle.lpt_verify.specs.Reports.{asks, success, success_if, failure, acceptance_reports, start_reports, completion_reports, reports_before, reports_after}
 use Rattle.lpt_verify.proofs.ReadingLemmas.{IsReport-read}
 use Rattle.lpt_memory.specs.declared.reply_kind.ReplyKind.{ReplyKind}
 use Rattle.lpt_memory.specs.declared.reply_kind.ReplyKind.TheVariants as reply
@@ -23,7 +23,7 @@ use Rattle.lpt_events.specs.TelemetryKinds.{service_of, subtype_of}
 use Rattle.lpt_execution.specs.declared.ending.Ending.{Ending}
 use Rattle.lpt_execution.specs.declared.ending.Ending.TheVariants.{Silent, Refused, Carried}
 use Rattle.lpt_execution.specs.declared.ending.Report.{Report}
-use Rattle.lpt_execution.specs.Endings.{reply_fault, replied, ending}
+use Rattle.lpt_execution.specs.Endings.{reply_fault, reply_ending, ending}
 use Rattle.lpt_execution.specs.Reporting.{verification_kind, verification, data_report, reports_of, message_reports}
 
 -- ---- what a report tells
@@ -134,7 +134,7 @@ module _ (request : ℕ) (fits : request < 2 ^ 32) where
   Of end e = IsTold request end (verification e)
 
   of_acceptance : (end : Ending) (flags : ℕ)
-      → AllByRecursion (Of end) (accepted request flags)
+      → AllByRecursion (Of end) (acceptance_reports request flags)
   of_acceptance end flags =
       if_asked (Of end) (asks flags 1) request 1
       (λ said s e. tells_success request 1 end fits refl
@@ -142,14 +142,14 @@ module _ (request : ℕ) (fits : request < 2 ^ 32) where
 
   of_start : (end : Ending) (flags : ℕ)
       → WasDone end
-      → AllByRecursion (Of end) (started request flags)
+      → AllByRecursion (Of end) (start_reports request flags)
   of_start end flags done =
       if_asked (Of end) (asks flags 2) request 3
       (λ said s e. tells_success request 3 end fits refl (λ k. done) said e)
 
   of_completion : (end : Ending) (flags : ℕ)
       → WasDone end
-      → AllByRecursion (Of end) (completed request flags)
+      → AllByRecursion (Of end) (completion_reports request flags)
   of_completion end flags done =
       if_asked (Of end) (asks flags 8) request 7
       (λ said s e. tells_success request 7 end fits refl (λ k. done) said e)
@@ -160,14 +160,14 @@ module _ (request : ℕ) (fits : request < 2 ^ 32) where
     go : (b : Bool)
         → AllByRecursion (Of (Refused fault))
         (if b then failure request 2 (number_of fault) ∷ []
-        else accepted request flags ++ failure request 4 (number_of fault) ∷ [])
+        else acceptance_reports request flags ++ failure request 4 (number_of fault) ∷ [])
     go true = (
       λ said s e. tells_failure request 2 fault fits (code_small fault) refl
           (λ k. elim k [ inl l ↦ omega arith | inr r ↦ omega arith ]) said e,
       tt,
     )
     go false =
-        both (Of (Refused fault)) (accepted request flags)
+        both (Of (Refused fault)) (acceptance_reports request flags)
         (failure request 4 (number_of fault) ∷ []) (of_acceptance (Refused fault) flags) (
           λ said s e. tells_failure request 4 fault fits (code_small fault) refl
               (λ k. elim k [ inl l ↦ omega arith | inr r ↦ omega arith ]) said e,
@@ -195,7 +195,7 @@ module _ (request : ℕ) (fits : request < 2 ^ 32) where
       both P (front ++ data_report given) behind
       (both P front (data_report given)
       (each_told P (reports_before request flags None)
-      (both (Of (Carried given)) (accepted request flags) (started request flags)
+      (both (Of (Carried given)) (acceptance_reports request flags) (start_reports request flags)
       (of_acceptance (Carried given) flags) (of_start (Carried given) flags done)))
       (of_data given is))
       (each_told P (reports_after request flags None) (of_completion (Carried given) flags done))
@@ -218,7 +218,7 @@ of_data_only p free room effect.Silent = tt
 of_data_only p free room (effect.Code code) = tt
 of_data_only p free room effect.Done = tt
 of_data_only p free room (effect.Reply k body) = go (reply_fault p _ free room) k where
-  go : (f : Option FailureCode) (k : ReplyKind) → IsOfData (replied f k body)
+  go : (f : Option FailureCode) (k : ReplyKind) → IsOfData (reply_ending f k body)
   go (Some code) k = tt
   go None reply.Dump = refl
   go None reply.Check = refl

@@ -11,7 +11,7 @@ use Rattle.lpt_execution.specs.Reporting.{request_source}
 use Rattle.lpt_journal.specs.Headline.{WasAsked}
 use Rattle.lpt_journal.specs.Journal.{History}
 use Rattle.lpt_journal.specs.Legal.{Legal}
-use Rattle.lpt_journal.specs.Replies.{recorded}
+use Rattle.lpt_journal.specs.Replies.{history_after}
 use Rattle.lpt_journal.specs.Senders.{opened}
 use Rattle.lpt_reported.specs.Reported.{WasCarriedOut}
 
@@ -36,6 +36,6 @@ CarriedOutIsAlone =
     (c : Config) (first : Contents) (es : List Act) (from request : ℕ) (m : List ℕ)
     → IsConfig c
     → Legal c first es
-    → IsAlone c (recorded c first es) from request m
-    → (done : WasCarriedOut c first (recorded c first es) from request)
+    → IsAlone c (history_after c first es) from request m
+    → (done : WasCarriedOut c first (history_after c first es) from request)
     → done.release.message ≡ m

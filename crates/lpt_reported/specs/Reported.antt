@@ -26,7 +26,7 @@ use Rattle.lpt_journal.specs.Jobs.{front_job, executed, memories}
 use Rattle.lpt_journal.specs.Journal.{SentPacket, Recorded, History}
 use Rattle.lpt_journal.specs.Legal.{Legal}
 use Rattle.lpt_journal.specs.Link.{sent}
-use Rattle.lpt_journal.specs.Replies.{recorded}
+use Rattle.lpt_journal.specs.Replies.{history_after}
 
 -- ---- executions
 
@@ -113,7 +113,7 @@ pub record IsReportOf (c : Config) (first : Contents) (h : History) (to service 
 pub record WasOpened (c : Config) (first : Contents) (es : List Act) (m : List ℕ) : Type 0 where
   pub number : ℕ
   pub entry : Recorded
-  pub is_there : slice_get (recorded c first es) number ≡ Some entry
+  pub is_there : slice_get (history_after c first es) number ≡ Some entry
   pub applies : entry.event ≡ Apply
   pub place : ℕ
   pub opening : Opening
@@ -144,10 +144,10 @@ ReportsAreOfExecutions =
     (to service subtype : ℕ) (body : List ℕ)
     → IsConfig c
     → Legal c first es
-    → slice_get (sent (recorded c first es)) n ≡ Some p
+    → slice_get (sent (history_after c first es)) n ≡ Some p
     → IsTelemetryDown c p to service subtype body
     → service ≢ 13
-    → IsReportOf c first (recorded c first es) to service subtype body
+    → IsReportOf c first (history_after c first es) to service subtype body
 
 -- what goes down in parts, as it was opened by an execution
 abbrev pub OpenedReportsAreOfExecutions : Type 0
@@ -158,7 +158,7 @@ OpenedReportsAreOfExecutions =
     → Legal c first es
     → WasOpened c first es m
     → IsTelemetryDown c (record { direction = Down; octets = m }) to service subtype body
-    → IsReportOf c first (recorded c first es) to service subtype body
+    → IsReportOf c first (history_after c first es) to service subtype body
 
 -- what a report of a dump says
 abbrev pub DumpedIsMemory : Type 0
@@ -167,9 +167,9 @@ DumpedIsMemory =
     (body : List ℕ)
     → IsConfig c
     → Legal c first es
-    → slice_get (sent (recorded c first es)) n ≡ Some p
+    → slice_get (sent (history_after c first es)) n ≡ Some p
     → IsTelemetryDown c p to 6 6 body
-    → WasDumped c first (recorded c first es) to body
+    → WasDumped c first (history_after c first es) to body
 
 -- the same of one that goes down in parts
 abbrev pub OpenedDumpIsMemory : Type 0
@@ -179,7 +179,7 @@ OpenedDumpIsMemory =
     → Legal c first es
     → WasOpened c first es m
     → IsTelemetryDown c (record { direction = Down; octets = m }) to 6 6 body
-    → WasDumped c first (recorded c first es) to body
+    → WasDumped c first (history_after c first es) to body
 
 -- what a report of start or of completion says was carried out
 abbrev pub CompletedWasExecuted : Type 0
@@ -188,10 +188,10 @@ CompletedWasExecuted =
     (said : Verification)
     → IsConfig c
     → Legal c first es
-    → slice_get (sent (recorded c first es)) n ≡ Some p
+    → slice_get (sent (history_after c first es)) n ≡ Some p
     → IsVerification c p to subtype said
     → (subtype ≡ 3) ⊎ (subtype ≡ 7)
-    → WasCarriedOut c first (recorded c first es) to said.request.value
+    → WasCarriedOut c first (history_after c first es) to said.request.value
 
 -- what a report of a failure says has failed, and changed nothing
 abbrev pub FailedChangedNothing : Type 0
@@ -200,7 +200,7 @@ FailedChangedNothing =
     (to subtype code : ℕ) (said : Verification)
     → IsConfig c
     → Legal c first es
-    → slice_get (sent (recorded c first es)) n ≡ Some p
+    → slice_get (sent (history_after c first es)) n ≡ Some p
     → IsVerification c p to subtype said
     → said.code ≡ Some code
-    → HasFailed c first (recorded c first es) to said.request.value code
+    → HasFailed c first (history_after c first es) to said.request.value code

@@ -3,7 +3,7 @@ use Rattle.std.proofs.Common.{◌≡◌, ap, sym, subst, refl, ℕ, zero, suc, �
 use Rattle.std.specs.List.{slice_get}
 use Rattle.lpt_packet.specs.declared.direction.Direction.TheVariants.{Down}
 use Rattle.lpt_packet.specs.Checksums.{checksum, octets_in, shift_all}
-use Rattle.lpt_packet.specs.Packets.{seen, spelling}
+use Rattle.lpt_packet.specs.Packets.{packet_seen, spelling}
 use Rattle.lpt_pus.specs.Commands.{tc_field, tc_verdict, command_in}
 use Rattle.lpt_pus.specs.Telemetry.{tm_field, tm_verdict, telemetry_in}
 use Rattle.lpt_ledger.specs.LeastFree.{first_of_numbers}
@@ -18,20 +18,20 @@ use Rattle.lpt_journal.specs.Journal.{SentPacket}
 use Rattle.lpt_journal.specs.Link.{sent}
 use Rattle.lpt_journal_examples.proofs.LegalRows.{usual_pass}
 use Rattle.lpt_journal_examples.proofs.Listed.{recorded_is}
-use Rattle.lpt_journal_examples.specs.Passes.{IsPass, passed, usual, usual_memories}
+use Rattle.lpt_journal_examples.specs.Passes.{IsPass, pass_history, usual, usual_memories}
 use Rattle.lpt_reported.specs.Images.{Agrees, IsLoaded, IsTrueTo, LoadsOctet, Stands}
 use Rattle.lpt_reported_examples.specs.Worked.{first_load, image, next_load, load_twice, AreItsLoads, IsReported}
 
 -- none of its events is refused
 pub passes : IsPass usual load_twice
-unfolding seen spelling checksum octets_in shift_all tc_field tc_verdict command_in tm_field
+unfolding packet_seen spelling checksum octets_in shift_all tc_field tc_verdict command_in tm_field
     tm_verdict first_of_numbers front_load_area front_head request_in body_meaning meaning arrival
 passes = usual_pass load_twice refl
 
 -- the first load is executed twice
-pub were_executed : map (λ r. r.message) (executed usual (passed usual load_twice))
+pub were_executed : map (λ r. r.message) (executed usual (pass_history usual load_twice))
     ≡ first_load ∷ first_load ∷ next_load ∷ []
-unfolding seen spelling checksum octets_in shift_all tc_field tc_verdict command_in tm_field
+unfolding packet_seen spelling checksum octets_in shift_all tc_field tc_verdict command_in tm_field
     tm_verdict first_of_numbers front_load_area front_head request_in body_meaning meaning arrival
 were_executed =
     ap (λ h. map (λ r. r.message) (executed usual h)) (recorded_is usual (reverse load_twice))
@@ -52,18 +52,18 @@ next_report =
 abbrev down : List ℕ → SentPacket
 down b = record { direction = Down; octets = b }
 
-first_there : slice_get (sent (passed usual load_twice)) 3 ≡ Some (down first_report)
-unfolding seen spelling checksum octets_in shift_all tc_field tc_verdict command_in tm_field
+first_there : slice_get (sent (pass_history usual load_twice)) 3 ≡ Some (down first_report)
+unfolding packet_seen spelling checksum octets_in shift_all tc_field tc_verdict command_in tm_field
     tm_verdict first_of_numbers front_load_area front_head request_in body_meaning meaning arrival
 first_there = ap (λ h. slice_get (sent h) 3) (recorded_is usual (reverse load_twice))
 
-next_there : slice_get (sent (passed usual load_twice)) 4 ≡ Some (down next_report)
-unfolding seen spelling checksum octets_in shift_all tc_field tc_verdict command_in tm_field
+next_there : slice_get (sent (pass_history usual load_twice)) 4 ≡ Some (down next_report)
+unfolding packet_seen spelling checksum octets_in shift_all tc_field tc_verdict command_in tm_field
     tm_verdict first_of_numbers front_load_area front_head request_in body_meaning meaning arrival
 next_there = ap (λ h. slice_get (sent h) 4) (recorded_is usual (reverse load_twice))
 
 pub first_reported : IsReported first_load
-unfolding seen spelling checksum octets_in shift_all tm_field tm_verdict telemetry_in report_in
+unfolding packet_seen spelling checksum octets_in shift_all tm_field tm_verdict telemetry_in report_in
 first_reported = record {
   number = 3;
   packet = down first_report;
@@ -96,7 +96,7 @@ first_reported = record {
 }
 
 pub next_reported : IsReported next_load
-unfolding seen spelling checksum octets_in shift_all tm_field tm_verdict telemetry_in report_in
+unfolding packet_seen spelling checksum octets_in shift_all tm_field tm_verdict telemetry_in report_in
 next_reported = record {
   number = 4;
   packet = down next_report;
@@ -138,12 +138,12 @@ abbrev next_area : Area
 next_area = record { address = 20; octets = 1 ∷ 2 ∷ 3 ∷ 4 ∷ [] }
 
 first_means : meaning 100 (sizes_of usual_memories) first_load ≡ Load 1 (first_area ∷ [])
-unfolding seen spelling checksum octets_in shift_all tc_field tc_verdict command_in
+unfolding packet_seen spelling checksum octets_in shift_all tc_field tc_verdict command_in
     front_load_area front_head request_in body_meaning meaning
 first_means = refl
 
 next_means : meaning 100 (sizes_of usual_memories) next_load ≡ Load 1 (next_area ∷ [])
-unfolding seen spelling checksum octets_in shift_all tc_field tc_verdict command_in
+unfolding packet_seen spelling checksum octets_in shift_all tc_field tc_verdict command_in
     front_load_area front_head request_in body_meaning meaning
 next_means = refl
 
@@ -228,8 +228,8 @@ are_its_loads = record {
 }
 
 -- the image is there
-pub stands : Stands image (memories usual usual_memories (passed usual load_twice))
-unfolding seen spelling checksum octets_in shift_all tc_field tc_verdict command_in tm_field
+pub stands : Stands image (memories usual usual_memories (pass_history usual load_twice))
+unfolding packet_seen spelling checksum octets_in shift_all tc_field tc_verdict command_in tm_field
     tm_verdict first_of_numbers front_load_area front_head request_in body_meaning meaning arrival
 stands = record {
   content =

@@ -10,7 +10,7 @@ use Rattle.lpt_events.specs.declared.side.Side.TheVariants.{Craft}
 use Rattle.lpt_events.specs.declared.worker.Worker.TheVariants.{W1}
 use Rattle.lpt_journal.specs.Journal.{SentPacket}
 use Rattle.lpt_journal.specs.Link.{sent}
-use Rattle.lpt_journal_examples.specs.Passes.{passed, usual, usual_memories, load}
+use Rattle.lpt_journal_examples.specs.Passes.{pass_history, usual, usual_memories, load}
 use Rattle.lpt_reported.specs.Images.{Image, AreTrueTo, IsLoaded}
 use Rattle.lpt_reported.specs.Reported.{IsVerification}
 
@@ -51,7 +51,7 @@ load_twice =
 pub record IsReported (m : List ℕ) : Type 0 where
   pub number : ℕ
   pub packet : SentPacket
-  pub is_there : slice_get (sent (passed usual load_twice)) number ≡ Some packet
+  pub is_there : slice_get (sent (pass_history usual load_twice)) number ≡ Some packet
   pub said : Verification
   pub is : IsVerification usual packet 7 7 said
   pub of_request : said.request.value ≡ long_at m 0

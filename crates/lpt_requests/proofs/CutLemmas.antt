@@ -7,7 +7,7 @@ use Rattle.std.proofs.lemmas.List.{length-drop, map-append, take_min}
 use Rattle.lpt_memory.specs.declared.request.Area.{Area}
 use Rattle.lpt_memory.specs.declared.request.AreaRange.{AreaRange}
 use Rattle.lpt_requests.specs.declared.cut_fault.CutFault.TheVariants.{Empty, PastEnd}
-use Rattle.lpt_requests.specs.declared.reading.Place.{Place}
+use Rattle.lpt_requests.specs.declared.reading.AreaPlace.{AreaPlace}
 use Rattle.lpt_requests.specs.declared.request.Request.{Request}
 use Rattle.lpt_requests.specs.Cuts.{AreCut, AreasCut, ArePlacesCut, Asked, IsRangeCut, area_faults, or_first, place_fault, place_faults, view}
 
@@ -141,7 +141,7 @@ still-within each at step rest back stepped behind fit more =
 
 -- ---- places
 
-pub place-fault : (places : List Place) (i : ℕ) (p d : Place)
+pub place-fault : (places : List AreaPlace) (i : ℕ) (p d : AreaPlace)
     → i < length places
     → p ≡ get_or places i d
     → place_faults (drop i places) ≡ None
@@ -151,7 +151,7 @@ place-fault places i p d h e none =
     let both = none-first (place_fault p.address p.len) (place_faults (drop (i + 1) places)) step in
     (place-fits p.address p.len both.0, both.1)
 
-pub places-next : (each : ℕ) (places : List Place) (i : ℕ) (p d : Place)
+pub places-next : (each : ℕ) (places : List AreaPlace) (i : ℕ) (p d : AreaPlace)
     (ranges front : List AreaRange)
     → i < length places
     → p ≡ get_or places i d
@@ -162,7 +162,7 @@ pub places-next : (each : ℕ) (places : List Place) (i : ℕ) (p d : Place)
     → ArePlacesCut each places ((ranges ++ front) ++ more)
 places-next each places i p d ranges front h e cut was more rest =
     subst (ArePlacesCut each places) (sym (append_assoc ranges front more))
-    (was (front ++ more) (subst (λ (ps : List Place). ArePlacesCut each ps (front ++ more))
+    (was (front ++ more) (subst (λ (ps : List AreaPlace). ArePlacesCut each ps (front ++ more))
     (sym (split-at places i p d h e))
     (front, more, refl, cut, rest)))
 
@@ -205,12 +205,12 @@ areas-done each areas i pieces h was =
     (was [] (subst (λ (xs : List Area). AreasCut each xs [])
     (sym (drop_of_length-le areas h)) refl))
 
-pub places-done : (each : ℕ) (places : List Place) (i : ℕ) (ranges : List AreaRange)
+pub places-done : (each : ℕ) (places : List AreaPlace) (i : ℕ) (ranges : List AreaRange)
     → length places ≤ i
     → ((more : List AreaRange) → ArePlacesCut each (drop i places) more
     → ArePlacesCut each places (ranges ++ more))
     → ArePlacesCut each places ranges
 places-done each places i ranges h was =
     subst (ArePlacesCut each places) (append-nil ranges)
-    (was [] (subst (λ (ps : List Place). ArePlacesCut each ps [])
+    (was [] (subst (λ (ps : List AreaPlace). ArePlacesCut each ps [])
     (sym (drop_of_length-le places h)) refl))

@@ -4,32 +4,33 @@ use Rattle.std.proofs.Math.Seq.{drop-append-add, take-append_seam}
 use Rattle.std.proofs.lemmas.List.{drop-drop, length-append, length-take, length-take-le, take-append-drop}
 use Rattle.lpt_memory.specs.declared.request.Area.{Area}
 use Rattle.lpt_memory.specs.Meanings.{Load, meaning, size_of}
-use Rattle.lpt_memory.specs.Memories.{Contents, content_of, effect, loaded, put_all, put_at, sizes_of}
+use Rattle.lpt_memory.specs.Memories.{Contents, content_of, effect, memories_loaded, put_all, put_at, sizes_of}
 use Rattle.lpt_memory.specs.Ranges.{AreasFit}
 use Rattle.lpt_memory.proofs.PutLemmas.{AreasFit-put_at, content_of-loaded, length-put_at, sizes_of-effect}
 use Rattle.lpt_requests.specs.Cuts.{AreCut, AreasCut, as_load}
-use Rattle.lpt_requests.specs.Packets.{AllMean, executed}
+use Rattle.lpt_requests.specs.Packets.{AllMean, messages_executed}
 
 -- ---- loads one after the other
 
-loaded-none : (id : ℕ) (ms : Contents) → loaded id [] ms ≡ ms
+loaded-none : (id : ℕ) (ms : Contents) → memories_loaded id [] ms ≡ ms
 loaded-none id [] = refl
 loaded-none id (m ∷ ms) = go (m.0 == id) (loaded-none id ms) where
   go : (b : Bool)
-      → loaded id [] ms ≡ ms
-      → (if b then (m.0, put_all m.1 []) ∷ ms else m ∷ loaded id [] ms) ≡ m ∷ ms
+      → memories_loaded id [] ms ≡ ms
+      → (if b then (m.0, put_all m.1 []) ∷ ms else m ∷ memories_loaded id [] ms) ≡ m ∷ ms
   go true rest = refl
   go false rest = ap (λ (r : Contents). m ∷ r) rest
 
 loaded-more : (id : ℕ) (a : Area) (rest : List Area) (ms : Contents)
-    → loaded id rest (loaded id (a ∷ []) ms) ≡ loaded id (a ∷ rest) ms
+    → memories_loaded id rest (memories_loaded id (a ∷ []) ms) ≡ memories_loaded id (a ∷ rest) ms
 loaded-more id a rest [] = refl
 loaded-more id a rest (m ∷ ms) = go (m.0 == id) refl (loaded-more id a rest ms) where
   go : (b : Bool)
       → (m.0 == id) ≡ b
-      → loaded id rest (loaded id (a ∷ []) ms) ≡ loaded id (a ∷ rest) ms
-      → loaded id rest (if b then (m.0, put_all m.1 (a ∷ [])) ∷ ms else m ∷ loaded id (a ∷ []) ms)
-      ≡ (if b then (m.0, put_all m.1 (a ∷ rest)) ∷ ms else m ∷ loaded id (a ∷ rest) ms)
+      → memories_loaded id rest (memories_loaded id (a ∷ []) ms) ≡ memories_loaded id (a ∷ rest) ms
+      → memories_loaded id rest
+      (if b then (m.0, put_all m.1 (a ∷ [])) ∷ ms else m ∷ memories_loaded id (a ∷ []) ms)
+      ≡ (if b then (m.0, put_all m.1 (a ∷ rest)) ∷ ms else m ∷ memories_loaded id (a ∷ rest) ms)
   go true test more = rw test refl
   go false test more = rw test (ap (λ (r : Contents). m ∷ r) more)
 
@@ -37,15 +38,15 @@ loaded-more id a rest (m ∷ ms) = go (m.0 == id) refl (loaded-more id a rest ms
 loaded-same : (id : ℕ) (xs bs : List Area) (content : List ℕ) (ms : Contents)
     → content_of id ms ≡ Some content
     → put_all content xs ≡ put_all content bs
-    → loaded id xs ms ≡ loaded id bs ms
+    → memories_loaded id xs ms ≡ memories_loaded id bs ms
 loaded-same id xs bs content [] known same = refl
 loaded-same id xs bs content (m ∷ ms) known same =
     go (m.0 == id) known (λ k. loaded-same id xs bs content ms k same) where
       go : (b : Bool)
           → (if b then Some m.1 else content_of id ms) ≡ Some content
-          → (content_of id ms ≡ Some content → loaded id xs ms ≡ loaded id bs ms)
-          → (if b then (m.0, put_all m.1 xs) ∷ ms else m ∷ loaded id xs ms)
-          ≡ (if b then (m.0, put_all m.1 bs) ∷ ms else m ∷ loaded id bs ms)
+          → (content_of id ms ≡ Some content → memories_loaded id xs ms ≡ memories_loaded id bs ms)
+          → (if b then (m.0, put_all m.1 xs) ∷ ms else m ∷ memories_loaded id xs ms)
+          ≡ (if b then (m.0, put_all m.1 bs) ∷ ms else m ∷ memories_loaded id bs ms)
       go true k rest =
           let e : m.1 ≡ content = cc in
           ap (λ (c : List ℕ). (m.0, c) ∷ ms)
@@ -70,17 +71,17 @@ executed-loads : (apid memory size : ℕ) (packets : List (List ℕ)) (pieces : 
     → AllMean apid packets (map (as_load memory) pieces)
     → size_of memory (sizes_of ms) ≡ Some size
     → AreasFit size pieces
-    → executed apid packets ms ≡ loaded memory pieces ms
+    → messages_executed apid packets ms ≡ memories_loaded memory pieces ms
 executed-loads apid memory size [] [] ms means known fit = sym (loaded-none memory ms)
 executed-loads apid memory size [] (a ∷ pieces) ms means known fit = absurd means
 executed-loads apid memory size (p ∷ packets) [] ms means known fit = absurd means
 executed-loads apid memory size (p ∷ packets) (a ∷ pieces) ms means known fit =
     let meant : meaning apid (sizes_of ms) p ≡ Load memory (a ∷ [])
     = means.0 (sizes_of ms) size known (fit.0, tt) in
-    let next = loaded memory (a ∷ []) ms in
+    let next = memories_loaded memory (a ∷ []) ms in
     let stays : sizes_of next ≡ sizes_of ms = sizes_of-effect (Load memory (a ∷ [])) ms
     (record { size = size; known = known; fit = (fit.0, tt) }) in
-    ap (λ m. executed apid packets (effect m ms)) meant
+    ap (λ m. messages_executed apid packets (effect m ms)) meant
     ∙ executed-loads apid memory size packets pieces next means.1
     (ap (size_of memory) stays ∙ known) fit.1
     ∙ loaded-more memory a pieces ms
@@ -229,7 +230,7 @@ pub executed-cut : (apid each memory : ℕ) (areas pieces : List Area) (packets 
     → AllMean apid packets (map (as_load memory) pieces)
     → content_of memory ms ≡ Some content
     → AreasFit (length content) areas
-    → executed apid packets ms ≡ loaded memory areas ms
+    → messages_executed apid packets ms ≡ memories_loaded memory areas ms
 executed-cut apid each memory areas pieces packets ms content some cut means known fit =
     executed-loads apid memory (length content) packets pieces ms means
     (size-known memory content ms known)
@@ -244,7 +245,7 @@ pub executed-image : (apid each memory address : ℕ) (image : List ℕ) (pieces
     → AllMean apid packets (map (as_load memory) pieces)
     → content_of memory ms ≡ Some content
     → address + length image ≤ length content
-    → content_of memory (executed apid packets ms) ≡ Some (put_at content address image)
+    → content_of memory (messages_executed apid packets ms) ≡ Some (put_at content address image)
 executed-image apid each memory address image pieces packets ms content some cut means known fit =
     let area : Area = record { address = address; octets = image } in
     let cuts : AreasCut each (area ∷ []) pieces = (pieces, [], sym (append-nil pieces), cut, refl)

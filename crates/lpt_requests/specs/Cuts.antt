@@ -4,7 +4,7 @@ use Rattle.lpt_memory.specs.declared.request.Area.{Area}
 use Rattle.lpt_memory.specs.declared.request.AreaRange.{AreaRange}
 use Rattle.lpt_requests.specs.declared.cut_fault.CutFault.{CutFault}
 use Rattle.lpt_requests.specs.declared.cut_fault.CutFault.TheVariants.{Empty, PastEnd}
-use Rattle.lpt_requests.specs.declared.reading.Place.{Place}
+use Rattle.lpt_requests.specs.declared.reading.AreaPlace.{AreaPlace}
 use Rattle.lpt_requests.specs.declared.reading.Read.{Read}
 use Rattle.lpt_requests.specs.declared.reading.Read.TheVariants as reads
 use Rattle.lpt_requests.specs.declared.request.Request.{Request}
@@ -60,7 +60,7 @@ IsRangeCut each address len (r ∷ rest) =
     × IsRangeCut each (address + each) (len - each) rest
 
 -- places are cut into these, place by place
-abbrev pub ArePlacesCut : (each : ℕ) → List Place → List AreaRange → Type 0
+abbrev pub ArePlacesCut : (each : ℕ) → List AreaPlace → List AreaRange → Type 0
 ArePlacesCut each [] ranges = ranges ≡ []
 ArePlacesCut each (p ∷ places) ranges =
     (front : List AreaRange) × (rest : List AreaRange) × (ranges ≡ front ++ rest)
@@ -91,10 +91,10 @@ abbrev pub areas_fault : List Area → Option CutFault
 areas_fault areas = if length areas == 0 then Some Empty else area_faults areas
 
 -- the first fault of places, in their order
-abbrev pub place_faults : List Place → Option CutFault
+abbrev pub place_faults : List AreaPlace → Option CutFault
 place_faults [] = None
 place_faults (p ∷ rest) = or_first (place_fault p.address p.len) (place_faults rest)
 
 -- the fault of places that are to be read
-abbrev pub places_fault : List Place → Option CutFault
+abbrev pub places_fault : List AreaPlace → Option CutFault
 places_fault places = if length places == 0 then Some Empty else place_faults places

@@ -40,6 +40,7 @@ AllMean apid (p ∷ packets) (a ∷ asked) = MeansAsked apid p a × AllMean apid
 
 -- the memories of a node with this APID once it executed each of these messages, one after the
 -- other
-abbrev pub executed : (apid : ℕ) → List (List ℕ) → Contents → Contents
-executed apid [] ms = ms
-executed apid (m ∷ messages) ms = executed apid messages (effect (meaning apid (sizes_of ms) m) ms)
+abbrev pub messages_executed : (apid : ℕ) → List (List ℕ) → Contents → Contents
+messages_executed apid [] ms = ms
+messages_executed apid (m ∷ messages) ms =
+    messages_executed apid messages (effect (meaning apid (sizes_of ms) m) ms)

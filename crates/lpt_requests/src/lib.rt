@@ -22,6 +22,6 @@ pub use lpt_memory::{Area, MemoryFault};
 pub use lpt_packet::Octets;
 pub use lpt_pus::AckFlags;
 pub use packets::write_requests;
-pub use reading::{CHECK_LIMIT, DUMP_LIMIT, Place, Read, places_fault, read_requests};
+pub use reading::{AreaPlace, CHECK_LIMIT, DUMP_LIMIT, Read, places_fault, read_requests};
 pub use request::{Range, Request};
 pub use writing::write_request;

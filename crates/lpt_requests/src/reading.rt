@@ -17,7 +17,7 @@ pub const CHECK_LIMIT: u16 = 65_535;
 
 /// Octets of a memory, by their place, however many.
 #[derive(Clone, Copy, Debug, PartialEq, Eq)]
-pub struct Place {
+pub struct AreaPlace {
     /// The address of the first octet, from 0.
     pub address: u32,
     /// How many octets, at least one.
@@ -42,7 +42,7 @@ pub fn read_requests(
     alloc: Global,
     what: Read,
     memory: u8,
-    places: &[Place],
+    places: &[AreaPlace],
     each: u16,
 ) -> Result<Vec<Request>, CutFault>
     requires { 0 < each }
@@ -61,7 +61,7 @@ pub fn read_requests(
 
 /// The first fault of places that are to be read, if there is one: `Empty` for none, or one
 /// without octets; `PastEnd` for one that ends behind the last address.
-pub fn places_fault(places: &[Place]) -> Option<CutFault>
+pub fn places_fault(places: &[AreaPlace]) -> Option<CutFault>
     ensures { result ≡ places_fault places.now }
 {
     if places.is_empty() {
@@ -81,7 +81,7 @@ fn cut_places(
     alloc: Global,
     what: Read,
     memory: u8,
-    places: &[Place],
+    places: &[AreaPlace],
     each: u16,
 ) -> Result<Vec<Request>, AllocError>
     requires each { 0 < each }
@@ -101,7 +101,7 @@ fn cut_place(
     alloc: Global,
     what: Read,
     memory: u8,
-    place: Place,
+    place: AreaPlace,
     each: u16,
     requests: &mut Vec<Request>,
 ) -> Result<(), AllocError>

@@ -15,8 +15,8 @@ use Rattle.lpt_script_text.specs.Printing.{accepted_text, refused_text, line_of,
 use Rattle.lpt_text.specs.Streams.{AppendsPart}
 use Rattle.lpt_text.specs.declared.fault.StreamFault.{StreamFault}
 use Rattle.lpt_text.specs.declared.fault.StreamFault.TheVariants as faults
-use Rattle.lpt_script.specs.Ends.{TextEnds, LineEnds, unrefused}
-use Rattle.lpt_script.specs.Scripts.{Ran, printed, answered, stepped, stepped_as, joined, unless_refused, and_then}
+use Rattle.lpt_script.specs.Ends.{TextEnds, LineEnds, none_refused}
+use Rattle.lpt_script.specs.Scripts.{Ran, text_printed, event_answered, event_stepped, stepped_as, lines_joined, unless_refused, and_then}
 use Rattle.lpt_events.specs.declared.entry.Entry.{Entry}
 use Rattle.lpt_events.specs.declared.event.Event.{Event}
 use Rattle.lpt_events.specs.declared.fault.StepFault.{StepFault}
@@ -29,7 +29,7 @@ use Rattle.lpt_world.specs.Worlds.{Shown, refusal_at, RefusedBy, with_entry}
 -- what is printed without an event leaves the world as it is
 pub quiet_ends : (w : Shown) (text : List ℕ) (r : Result Unit StreamFault) (a b : Option (List ℕ))
     → TextEnds text r a b
-    → LineEnds (printed w text) (unrefused r) w a b
+    → LineEnds (text_printed w text) (none_refused r) w a b
 quiet_ends w text (Ok u) a b p = (refl, refl, refl, p)
 quiet_ends w text (Err faults.Write) a b p = p
 quiet_ends w text (Err faults.Memory) a b p = p
@@ -57,12 +57,12 @@ last_is xs y =
 pub accepted_ends : (w v : Shown) (e : Event) (reply : Reply)
     (r : Result (Option StepFault) StreamFault) (a b : Option (List ℕ))
     → refusal_at w 0 e ≡ None
-    → reply ≡ answered w e
+    → reply ≡ event_answered w e
     → v ≡ with_entry w 0 e reply
     → IfSome (slice_get v.journal (length v.journal - 1))
     (λ x. TextEnds (accepted_text v.config.source x.event x.reply) r a b)
     → IfOk r (λ refused. refused ≡ None)
-    → LineEnds (stepped w e) r v a b
+    → LineEnds (event_stepped w e) r v a b
 accepted_ends w v e reply r a b free is same p was_accepted =
     subst (λ x. LineEnds (stepped_as w e x) r v a b) (sym free) (told r text was_accepted)
   where
@@ -78,14 +78,14 @@ accepted_ends w v e reply r a b free is same p was_accepted =
         subst (λ (u : Shown). IfSome (slice_get u.journal (length u.journal - 1))
         (λ x. TextEnds (accepted_text u.config.source x.event x.reply) r a b)) same p
 
-    text : TextEnds (accepted_text w.config.source e (answered w e)) r a b
+    text : TextEnds (accepted_text w.config.source e (event_answered w e)) r a b
     text =
         subst (λ x. TextEnds (accepted_text w.config.source e x) r a b) is
         (subst (λ x. IfSome x (λ x. TextEnds (accepted_text w.config.source x.event x.reply) r a b))
         (last_is w.journal entry) of_last)
 
     told : (r : Result (Option StepFault) StreamFault)
-        → TextEnds (accepted_text w.config.source e (answered w e)) r a b
+        → TextEnds (accepted_text w.config.source e (event_answered w e)) r a b
         → IfOk r (λ refused. refused ≡ None)
         → LineEnds (stepped_as w e None) r v a b
     told (Ok f) p q = (refl, q, same ∙ ap (with_entry w 0 e) is, p)
@@ -100,7 +100,7 @@ pub refused_ends : (w v : Shown) (e : Event) (fault : StepFault) (r : Result (Op
     → TextEnds (refused_text fault) r a b
     → IfOk r (λ refused. refused ≡ Some fault)
     → (fault ≡ Memory → (r ≡ Err faults.Memory) × (a ≡ b))
-    → LineEnds (stepped w e) r v a b
+    → LineEnds (event_stepped w e) r v a b
 refused_ends w v e fault r a b by same p was_refused memory = by_reason (refusal_at w 0 e) by
   where
     told : (first : StepFault) → fault ≡ first → (r : Result (Option StepFault) StreamFault) → TextEnds (refused_text fault) r a b
@@ -114,7 +114,8 @@ refused_ends w v e fault r a b by same p was_refused memory = by_reason (refusal
     by_reason None is =
         let ends = memory is in
         subst (λ x. LineEnds (stepped_as w e None) x v a b) (sym ends.0)
-        (subst (λ x. AppendsPart a x (accepted_text w.config.source e (answered w e))) ends.1 (part_unchanged a (accepted_text w.config.source e (answered w e))))
+        (subst (λ x. AppendsPart a x (accepted_text w.config.source e (event_answered w e))) ends.1
+        (part_unchanged a (accepted_text w.config.source e (event_answered w e))))
     by_reason (Some first) is = told first is r p was_refused
 
 -- ---- one event after another
@@ -129,7 +130,7 @@ then_ends first second r w v a b c p q =
     (joined_ends r (subst (λ x. LineEnds (second x) r v b c) p.2 q))
   where
     joined_ends : (r : Result (Option StepFault) StreamFault) → LineEnds (second first.world) r v b c
-        → LineEnds (joined first (second first.world)) r v a c
+        → LineEnds (lines_joined first (second first.world)) r v a c
     joined_ends (Ok f) q = (q.0, q.1, q.2, Appends-trans a b c first.text _ p.3 q.3)
     joined_ends (Err faults.Write) q = part_after a b c first.text _ p.3 q
     joined_ends (Err faults.Memory) q = part_after a b c first.text _ p.3 q
@@ -156,18 +157,20 @@ first_ends first v second r a b good p q = by_refused first.refused refl r p q
     by_refused None is (Err faults.Read) p q = p
 
 -- an event is no unreadable line
-pub good_event : (w : Shown) (e : Event) → (stepped w e).bad ≡ None
+pub good_event : (w : Shown) (e : Event) → (event_stepped w e).bad ≡ None
 good_event w e = go (refusal_at w 0 e) where
   go : (o : Option StepFault) → (stepped_as w e o).bad ≡ None
   go None = refl
   go (Some f) = refl
 
 -- nor are two
-pub good_events : (w : Shown) (e f : Event) → (and_then (stepped w e) (λ v. stepped v f)).bad ≡ None
-good_events w e f = go (stepped w e).refused where
-  go : (t : Option StepFault) → (unless_refused t (stepped w e) (λ v. stepped v f)).bad ≡ None
+pub good_events : (w : Shown) (e f : Event)
+    → (and_then (event_stepped w e) (λ v. event_stepped v f)).bad ≡ None
+good_events w e f = go (event_stepped w e).refused where
+  go : (t : Option StepFault) → (unless_refused t (event_stepped w e) (λ v. event_stepped v f)).bad
+      ≡ None
   go (Some fault) = good_event w e
-  go None = good_event (stepped w e).world f
+  go None = good_event (event_stepped w e).world f
 
 -- ---- a list of texts, one after another
 

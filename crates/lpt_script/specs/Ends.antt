@@ -10,7 +10,7 @@ use Rattle.lpt_text.specs.declared.fault.StreamFault.TheVariants as faults
 use Rattle.lpt_script.specs.declared.fault.ScriptFault.{ScriptFault}
 use Rattle.lpt_script.specs.declared.fault.ScriptFault.TheVariants as scripts
 use Rattle.lpt_script.specs.declared.end.ScriptEnd.{ScriptEnd}
-use Rattle.lpt_script.specs.Scripts.{Left, Ran, Script, lines_left, script_ran, stepped, ticked}
+use Rattle.lpt_script.specs.Scripts.{Left, Ran, Script, lines_left, script_ran, event_stepped, clock_ticked}
 use Rattle.lpt_text.specs.Texts.{lines}
 use Rattle.lpt_script_words.specs.declared.showing.Show.{Show}
 use Rattle.lpt_events.specs.declared.event.Event.TheVariants.{Tick}
@@ -95,9 +95,9 @@ abbrev pub Grows : Option (List ℕ) → Option (List ℕ) → Type 0
 Grows old new = (more : List ℕ) × Appends old new more
 
 -- the same where nothing was refused
-abbrev pub unrefused : Result Unit StreamFault → Result (Option StepFault) StreamFault
-unrefused (Ok done) = Ok None
-unrefused (Err fault) = Err fault
+abbrev pub none_refused : Result Unit StreamFault → Result (Option StepFault) StreamFault
+none_refused (Ok done) = Ok None
+none_refused (Err fault) = Err fault
 
 -- how a decoding ends: the whole text was written, and the answer says whether it is a fault; or a write failed,
 -- and the writer gained a front part of it; or memory ran out, and the writer is as it was
@@ -113,4 +113,5 @@ DecodeEnds p octets (Err faults.Read) old new = ⊥
 abbrev pub IsTickRefused : ℕ → Side → Shown → Shown → StepFault → Type 0
 IsTickRefused count side old new fault =
     (fault ≡ Memory)
-    ⊎ ((refusal_at new 0 (Tick side) ≡ Some fault) × (ticked count side old ≡ stepped new (Tick side)))
+    ⊎ ((refusal_at new 0 (Tick side) ≡ Some fault)
+    × (clock_ticked count side old ≡ event_stepped new (Tick side)))

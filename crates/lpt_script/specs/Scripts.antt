@@ -47,49 +47,50 @@ kept_of shows.Now = []
 kept_of (shows.Later kept) = kept.items
 
 -- a line that prints this, and leaves this world
-abbrev pub printed : Shown → List ℕ → Ran
-printed w text = record { world = w; text = text; refused = None; bad = None }
+abbrev pub text_printed : Shown → List ℕ → Ran
+text_printed w text = record { world = w; text = text; refused = None; bad = None }
 
 -- what an event that isn't refused answers
-abbrev pub answered : Shown → Event → Reply
-answered w e = reply w.config w.first (history w) e
+abbrev pub event_answered : Shown → Event → Reply
+event_answered w e = reply w.config w.first (history w) e
 
 -- one event, by the reason for which it is refused: a refused one changes nothing
 abbrev pub stepped_as : Shown → Event → Option StepFault → Ran
-stepped_as w e None = printed (with_entry w 0 e (answered w e)) (accepted_text w.config.source e (answered w e))
+stepped_as w e None = text_printed (with_entry w 0 e (event_answered w e))
+    (accepted_text w.config.source e (event_answered w e))
 stepped_as w e (Some fault) = record { world = w; text = refused_text fault; refused = Some fault; bad = None }
 
 -- one event, which the session asks for, seat 0
-abbrev pub stepped : Shown → Event → Ran
-stepped w e = stepped_as w e (refusal_at w 0 e)
+abbrev pub event_stepped : Shown → Event → Ran
+event_stepped w e = stepped_as w e (refusal_at w 0 e)
 
 -- the second line's doing behind the first's
-abbrev pub joined : Ran → Ran → Ran
-joined first second = record second { text = first.text ++ second.text }
+abbrev pub lines_joined : Ran → Ran → Ran
+lines_joined first second = record second { text = first.text ++ second.text }
 
 -- the second, where the first was not refused
 abbrev pub unless_refused : Option StepFault → Ran → (Shown → Ran) → Ran
 unless_refused (Some fault) first second = first
-unless_refused None first second = joined first (second first.world)
+unless_refused None first second = lines_joined first (second first.world)
 
 -- two events, of which the second happens where the first was not refused
 abbrev pub and_then : Ran → (Shown → Ran) → Ran
 and_then first second = unless_refused first.refused first second
 
 -- so many ticks of a node's clock, up to the first that is refused; only the last of them prints
-abbrev pub ticked : ℕ → Side → Shown → Ran
-ticked zero side w = printed w []
-ticked (suc zero) side w = stepped w (Tick side)
-ticked (suc (suc k)) side w =
-    if is_some (refusal_at w 0 (Tick side)) then stepped w (Tick side)
-    else ticked (suc k) side (with_entry w 0 (Tick side) (answered w (Tick side)))
+abbrev pub clock_ticked : ℕ → Side → Shown → Ran
+clock_ticked zero side w = text_printed w []
+clock_ticked (suc zero) side w = event_stepped w (Tick side)
+clock_ticked (suc (suc k)) side w =
+    if is_some (refusal_at w 0 (Tick side)) then event_stepped w (Tick side)
+    else clock_ticked (suc k) side (with_entry w 0 (Tick side) (event_answered w (Tick side)))
 
 -- the first worker claims and commits, and the oldest request is executed, up to the first of these
 -- that is refused
-abbrev pub worked : Shown → Ran
-worked w =
-    and_then (and_then (stepped w (Claim W1)) (λ after. stepped after (Commit W1)))
-    (λ after. stepped after Apply)
+abbrev pub job_worked : Shown → Ran
+job_worked w =
+    and_then (and_then (event_stepped w (Claim W1)) (λ after. event_stepped after (Commit W1)))
+    (λ after. event_stepped after Apply)
 
 -- so many octets from an address on, where they lie within the content
 abbrev pub octets_from : (address len : ℕ) → List ℕ → Option (List ℕ)
@@ -111,12 +112,13 @@ show_text show.Journal w = journal_text (length w.journal)
 
 -- what a command does
 abbrev pub command_ran : Command → Shown → Ran
-command_ran (command.Event e) w = stepped w e
-command_ran (command.Load l) w = stepped w (Open Up l.name (load_packet w.config.apid l))
-command_ran (command.Pass l n) w = and_then (stepped w (Take l n)) (λ after. stepped after (Deliver l))
-command_ran (command.Tick side count) w = ticked count side w
-command_ran command.Work w = worked w
-command_ran (command.Show s) w = printed w (show_text s w)
+command_ran (command.Event e) w = event_stepped w e
+command_ran (command.Load l) w = event_stepped w (Open Up l.name (load_packet w.config.apid l))
+command_ran (command.Pass l n) w =
+    and_then (event_stepped w (Take l n)) (λ after. event_stepped after (Deliver l))
+command_ran (command.Tick side count) w = clock_ticked count side w
+command_ran command.Work w = job_worked w
+command_ran (command.Show s) w = text_printed w (show_text s w)
 
 -- whether a command only shows what is there
 abbrev pub only_shows : Command → Bool
@@ -148,7 +150,7 @@ says later source line = says_now later (reading_of source line)
 
 -- what a line does, by what it says and by its number
 abbrev pub line_ran : Reading → ℕ → Shown → Ran
-line_ran Skipped n w = printed w []
+line_ran Skipped n w = text_printed w []
 line_ran (Asks c) n w = command_ran c w
 line_ran Unreadable n w = record { world = w; text = unreadable_text n; refused = None; bad = Some n }
 

@@ -3,9 +3,9 @@
 ghost use Rattle.std.specs.Prelude.{◌≡◌, ◌≢◌, ◌<◌, ◌-◌, length, slice_get, IsErrOf, None, IfErr, IfOk, IfSome, OnOk, Err, true};
 ghost use Rattle.lpt_text.specs.Streams.{WriteEnds};
 ghost use Rattle.lpt_script_text.specs.Printing.{accepted_text};
-ghost use Rattle.lpt_script.specs.Ends.{IsTickRefused, LineEnds, TextEnds, unrefused};
+ghost use Rattle.lpt_script.specs.Ends.{IsTickRefused, LineEnds, TextEnds, none_refused};
 ghost use Rattle.lpt_world.specs.Worlds.{RefusedBy, refusal_at, with_entry};
-ghost use Rattle.lpt_script.specs.Scripts.{and_then, answered, command_ran, stepped, ticked, worked};
+ghost use Rattle.lpt_script.specs.Scripts.{and_then, event_answered, command_ran, event_stepped, clock_ticked, job_worked};
 
 use crate::loading::run_load;
 use crate::printed::put_refused;
@@ -63,7 +63,7 @@ pub(crate) fn run_command_in<K: Sink>(
 
 // What printed nothing of an event has not been refused.
 fn quietly(written: Result<(), StreamFault>) -> Result<Option<StepFault>, StreamFault>
-    ensures { result ≡ unrefused written }
+    ensures { result ≡ none_refused written }
 {
     match written {
         Ok(()) => Ok(None),
@@ -79,7 +79,8 @@ pub(crate) fn run_event<K: Sink>(
     event: Event,
     out: &mut K,
 ) -> Result<Option<StepFault>, StreamFault>
-    ensures ends { LineEnds (stepped world.old event) result world.new (K.contents out.old) (K.contents out.new) }
+    ensures ends { LineEnds (event_stepped world.old event) result world.new (K.contents out.old)
+        (K.contents out.new) }
     ensures writer { WriteEnds result (K.failed out.old) (K.failed out.new) }
 {
     match world.step(SESSION, event) {
@@ -135,7 +136,7 @@ fn run_both<K: Sink>(
     second: Event,
     out: &mut K,
 ) -> Result<Option<StepFault>, StreamFault>
-    ensures ends { LineEnds (and_then (stepped world.old first) (λ w. stepped w second))
+    ensures ends { LineEnds (and_then (event_stepped world.old first) (λ w. event_stepped w second))
         result world.new (K.contents out.old) (K.contents out.new) }
     ensures writer { WriteEnds result (K.failed out.old) (K.failed out.new) }
 {
@@ -153,7 +154,8 @@ fn run_work<K: Sink>(
     world: &mut World,
     out: &mut K,
 ) -> Result<Option<StepFault>, StreamFault>
-    ensures ends { LineEnds (worked world.old) result world.new (K.contents out.old) (K.contents out.new) }
+    ensures ends { LineEnds (job_worked world.old) result world.new (K.contents out.old)
+        (K.contents out.new) }
     ensures writer { WriteEnds result (K.failed out.old) (K.failed out.new) }
 {
     let (claim, commit) = (Event::Claim(Worker::W1), Event::Commit(Worker::W1));
@@ -172,7 +174,8 @@ fn run_ticks<K: Sink>(
     count: u32,
     out: &mut K,
 ) -> Result<Option<StepFault>, StreamFault>
-    ensures ends { LineEnds (ticked count side world.old) result world.new (K.contents out.old) (K.contents out.new) }
+    ensures ends { LineEnds (clock_ticked count side world.old) result world.new
+        (K.contents out.old) (K.contents out.new) }
     ensures writer { WriteEnds result (K.failed out.old) (K.failed out.new) }
 {
     if count == 0 {
@@ -187,7 +190,8 @@ fn run_ticks<K: Sink>(
 // All ticks but the last.
 fn tick_before_last(world: &mut World, side: Side, count: u32) -> Result<(), StepFault>
     requires { 0 < count }
-    ensures ok { OnOk result (ticked count side world.old ≡ stepped world.new (Event.Tick side)) }
+    ensures ok { OnOk result
+        (clock_ticked count side world.old ≡ event_stepped world.new (Event.Tick side)) }
     ensures err { IfErr result (λ f. IsTickRefused count side world.old world.new f) }
 {
     for _ in 1..count {
@@ -202,7 +206,8 @@ fn tick_before_last(world: &mut World, side: Side, count: u32) -> Result<(), Ste
 // One tick, which prints nothing.
 fn tick(world: &mut World, side: Side) -> Result<(), StepFault>
     ensures ok { OnOk result ((refusal_at world.old 0 (Event.Tick side) ≡ None)
-        × (world.new ≡ with_entry world.old 0 (Event.Tick side) (answered world.old (Event.Tick side)))) }
+        × (world.new ≡ with_entry world.old 0 (Event.Tick side)
+        (event_answered world.old (Event.Tick side)))) }
     ensures err { IfErr result (λ f. (world.new ≡ world.old) × RefusedBy (refusal_at world.old 0 (Event.Tick side)) f) }
 {
     match world.step(SESSION, Event::Tick(side)) {

@@ -3,7 +3,7 @@
 ghost use Rattle.std.specs.Prelude.{◌≡◌, ◌≢◌, IsErrOf, Err, true};
 ghost use Rattle.lpt_text.specs.Streams.{WriteEnds};
 ghost use Rattle.lpt_script.specs.Ends.{LineEnds};
-ghost use Rattle.lpt_script.specs.Scripts.{stepped};
+ghost use Rattle.lpt_script.specs.Scripts.{event_stepped};
 ghost use Rattle.lpt_script_words.specs.Loads.{load_packet};
 
 use crate::command::run_event;
@@ -23,7 +23,7 @@ pub(crate) fn run_load<K: Sink>(
     load: &Load,
     out: &mut K,
 ) -> Result<Option<StepFault>, StreamFault>
-    ensures ends { LineEnds (stepped world.old (Event.Open Direction.Up load.now.name
+    ensures ends { LineEnds (event_stepped world.old (Event.Open Direction.Up load.now.name
         (load_packet world.old.config.apid load.now)))
         result world.new (K.contents out.old) (K.contents out.new) }
     ensures writer { WriteEnds result (K.failed out.old) (K.failed out.new) }

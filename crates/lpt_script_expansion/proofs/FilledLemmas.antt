@@ -13,8 +13,8 @@ use Rattle.lpt_script_text.specs.Printing.{octets_text}
 use Rattle.lpt_script_words.specs.Words.{words}
 use Rattle.lpt_text.specs.Texts.{longest_line}
 use Rattle.lpt_world.specs.Worlds.{Shown}
-use Rattle.lpt_script_expansion.specs.Cuts.{filled, filled_at, given_at, named_at, opens, spelled_at, spelled_out}
-use Rattle.lpt_script_expansion.specs.Expansions.{expanded, expansion}
+use Rattle.lpt_script_expansion.specs.Cuts.{line_filled, filled_at, given_at, named_at, opens, spelled_at, spelled_out}
+use Rattle.lpt_script_expansion.specs.Expansions.{line_expanded, expansion}
 use Rattle.lpt_script_expansion.specs.Laws.{FilledIsTheLine}
 
 abbrev is_at : ℕ → Bool
@@ -140,7 +140,7 @@ front_free front name (Some k) e h = by (position is_quote (take k line)) refl h
 -- a line with octets filled in
 filled_is : (front name octets : List ℕ)
     → list_any is_at front ≡ false
-    → filled (front ++ 64 ∷ name) octets ≡ front ++ 64 ∷ octets_text octets
+    → line_filled (front ++ 64 ∷ name) octets ≡ front ++ 64 ∷ octets_text octets
 filled_is front name octets none =
     let text = octets_text octets in
     let cut : take (length front + 1) (front ++ 64 ∷ name) ≡ front ++ 64 ∷ [] =
@@ -180,15 +180,15 @@ by_opening front name false h = absurd cc
 by_line : (w : Shown) (line : List ℕ) (o : Option (List ℕ)) (long : Bool)
     → spelled_out line ≡ o
     → long ≡ false
-    → (if long then None else expanded w line (spelled_out line)) ≡ expanded w line o
+    → (if long then None else line_expanded w line (spelled_out line)) ≡ line_expanded w line o
 by_line w line o true is short = absurd cc
-by_line w line o false is short = ap (expanded w line) is
+by_line w line o false is short = ap (line_expanded w line) is
 
 pub filled_exact : FilledIsTheLine
 filled_exact w front name octets named short =
     let text = octets_text octets in
     let free = by_opening front name (opens (words (front ++ 64 ∷ name))) named in
-    let is : filled (front ++ 64 ∷ name) octets ≡ front ++ 64 ∷ text =
+    let is : line_filled (front ++ 64 ∷ name) octets ≡ front ++ 64 ∷ text =
     filled_is front name octets free.0 in
     let size : nat_lt longest_line (length (front ++ 64 ∷ text)) ≡ false =
     grind (arith, nat_tests, short, ap length is) in

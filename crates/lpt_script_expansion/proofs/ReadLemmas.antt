@@ -9,7 +9,7 @@ use Rattle.lpt_script_words.specs.declared.grammar.Reading.{Reading}
 use Rattle.lpt_script_words.specs.declared.grammar.Reading.TheVariants.{Skipped, Asks, Unreadable}
 use Rattle.lpt_world.specs.Worlds.{Shown}
 use Rattle.lpt_script_expansion.specs.Cuts.{cut_of, spelled_out}
-use Rattle.lpt_script_expansion.specs.Expansions.{asked_by, command_of, counted, expanded, is_command, is_opening, meant_by, numbered, numbered_by}
+use Rattle.lpt_script_expansion.specs.Expansions.{asked_by, command_of, lines_counted, line_expanded, is_command, is_opening, meant_by, lines_numbered, numbered_by}
 use Rattle.lpt_script_expansion.specs.Laws.{EachIsRead}
 
 -- all of these lines are read
@@ -39,10 +39,11 @@ by_numbers : (source : ℕ) (front : List ℕ) (o : Option (List ℕ))
     → IfSome (numbered_by source front o) (AllAsked source)
 by_numbers source front None = tt
 by_numbers source front (Some ns) =
-    by_test source (numbered front ns) (list_all (is_command source) (numbered front ns)) refl
+    by_test source (lines_numbered front ns)
+    (list_all (is_command source) (lines_numbered front ns)) refl
 
 by_cut : (w : Shown) (o : Option (List ℕ × List ℕ))
-    → IfSome (counted w o) (AllAsked w.config.source)
+    → IfSome (lines_counted w o) (AllAsked w.config.source)
 by_cut w None = tt
 by_cut w (Some cut) =
     by_numbers w.config.source cut.0
@@ -61,13 +62,14 @@ by_opening source line true e =
 by_opening source line false e = tt
 
 by_quote : (w : Shown) (line : List ℕ) (o : Option (List ℕ))
-    → IfSome (expanded w line o) (AllAsked w.config.source)
+    → IfSome (line_expanded w line o) (AllAsked w.config.source)
 by_quote w line None = by_cut w (cut_of (words line))
 by_quote w line (Some opened) =
     by_opening w.config.source opened (is_opening (command_of w.config.source opened)) refl
 
 by_length : (w : Shown) (line : List ℕ) (long : Bool)
-    → IfSome (if long then None else expanded w line (spelled_out line)) (AllAsked w.config.source)
+    → IfSome (if long then None else line_expanded w line (spelled_out line))
+    (AllAsked w.config.source)
 by_length w line true = tt
 by_length w line false = by_quote w line (spelled_out line)
 

@@ -25,15 +25,15 @@ cut_of (word ∷ ws) = Some (front_of word ws, last_of word ws)
 -- ---- a text in quotes
 
 -- what stands before a quote that ends a line
-abbrev pub unquoted : List ℕ → Option (List ℕ)
-unquoted rest =
+abbrev pub before_quote : List ℕ → Option (List ℕ)
+before_quote rest =
     if slice_index rest (length rest - 1) == 34 then Some (take (length rest - 1) rest) else None
 
 -- a line with the octets of the text behind its first quote in place of that, by the quote's place
 abbrev pub spelled_at : List ℕ → Option ℕ → Option (List ℕ)
 spelled_at line None = None
 spelled_at line (Some k) =
-    option_map (λ text. take k line ++ octets_text text) (unquoted (drop (k + 1) line))
+    option_map (λ text. take k line ++ octets_text text) (before_quote (drop (k + 1) line))
 
 -- ---- octets that are given
 
@@ -72,5 +72,5 @@ abbrev pub filled_at : List ℕ → (octets : List ℕ) → Option ℕ → List 
 filled_at line octets None = line
 filled_at line octets (Some k) = take (k + 1) line ++ octets_text octets
 
-abbrev pub filled : List ℕ → (octets : List ℕ) → List ℕ
-filled line octets = filled_at line octets (position (λ b. b == 64) line)
+abbrev pub line_filled : List ℕ → (octets : List ℕ) → List ℕ
+line_filled line octets = filled_at line octets (position (λ b. b == 64) line)

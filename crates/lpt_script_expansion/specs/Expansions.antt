@@ -70,8 +70,8 @@ is_listing (command.Pass l n) = true
 is_listing _ = false
 
 -- the numbers that a word in place of this command's stands for
-abbrev pub meant : Shown → Command → List ℕ → Option (List ℕ)
-meant w c word =
+abbrev pub word_meant : Shown → Command → List ℕ → Option (List ℕ)
+word_meant w c word =
     if is_word (codes "all") word then all_of w c
     else if is_listing c then numbers_of word
     else None
@@ -79,22 +79,22 @@ meant w c word =
 -- the same, where there is a command
 abbrev pub meant_by : Shown → Option Command → List ℕ → Option (List ℕ)
 meant_by w None word = None
-meant_by w (Some c) word = meant w c word
+meant_by w (Some c) word = word_meant w c word
 
 -- a line for each of these numbers, behind this front
-abbrev pub numbered : (front : List ℕ) → List ℕ → List (List ℕ)
-numbered front ns = map (λ n. front ++ decimal n) ns
+abbrev pub lines_numbered : (front : List ℕ) → List ℕ → List (List ℕ)
+lines_numbered front ns = map (λ n. front ++ decimal n) ns
 
 -- the same, where there are numbers, and a script reads all of the lines
 abbrev pub numbered_by : (source : ℕ) → (front : List ℕ) → Option (List ℕ) → Option (List (List ℕ))
 numbered_by source front None = None
-numbered_by source front (Some ns) = all_read source (numbered front ns)
+numbered_by source front (Some ns) = all_read source (lines_numbered front ns)
 
 -- The lines of a line with this front and this word behind it. What the word stands in place of is
 -- told by the line with 1 there.
-abbrev pub counted : Shown → Option (List ℕ × List ℕ) → Option (List (List ℕ))
-counted w None = None
-counted w (Some cut) =
+abbrev pub lines_counted : Shown → Option (List ℕ × List ℕ) → Option (List (List ℕ))
+lines_counted w None = None
+lines_counted w (Some cut) =
     let source = w.config.source in
     numbered_by source cut.0 (meant_by w (command_of source (cut.0 ++ decimal 1)) cut.1)
 
@@ -117,12 +117,12 @@ opened_by source line = if is_opening (command_of source line) then Some (line �
 -- ---- a line
 
 -- the lines of a line with octets in place of a text in quotes, where it has one, or of one without
-abbrev pub expanded : Shown → List ℕ → Option (List ℕ) → Option (List (List ℕ))
-expanded w line (Some opened) = opened_by w.config.source opened
-expanded w line None = counted w (cut_of (words line))
+abbrev pub line_expanded : Shown → List ℕ → Option (List ℕ) → Option (List (List ℕ))
+line_expanded w line (Some opened) = opened_by w.config.source opened
+line_expanded w line None = lines_counted w (cut_of (words line))
 
 -- The lines that a line stands for: none where it stands for itself alone. One that is too long
 -- isn't looked at.
 abbrev pub expansion : Shown → List ℕ → Option (List (List ℕ))
 expansion w line =
-    if nat_lt longest_line (length line) then None else expanded w line (spelled_out line)
+    if nat_lt longest_line (length line) then None else line_expanded w line (spelled_out line)

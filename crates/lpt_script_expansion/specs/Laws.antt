@@ -5,7 +5,7 @@ use Rattle.lpt_script_text.specs.Printing.{octets_text}
 use Rattle.lpt_script_words.specs.Grammar.{IsAsked, reading_of}
 use Rattle.lpt_text.specs.Texts.{longest_line}
 use Rattle.lpt_world.specs.Worlds.{Shown}
-use Rattle.lpt_script_expansion.specs.Cuts.{file_named, filled}
+use Rattle.lpt_script_expansion.specs.Cuts.{file_named, line_filled}
 use Rattle.lpt_script_expansion.specs.Expansions.{expansion, opened_by}
 
 -- a script reads each of them, and as a command
@@ -20,6 +20,6 @@ abbrev pub FilledIsTheLine : Type 0
 FilledIsTheLine =
     (w : Shown) (front name octets : List ℕ)
     → file_named (front ++ 64 ∷ name) ≡ Some name
-    → length (filled (front ++ 64 ∷ name) octets) ≤ longest_line
-    → expansion w (filled (front ++ 64 ∷ name) octets)
+    → length (line_filled (front ++ 64 ∷ name) octets) ≤ longest_line
+    → expansion w (line_filled (front ++ 64 ∷ name) octets)
     ≡ opened_by w.config.source (front ++ octets_text octets)

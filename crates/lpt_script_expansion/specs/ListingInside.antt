@@ -2,6 +2,6 @@
 use Rattle.std.specs.Prelude.{ℕ, Bool, true, false, List, Option, Some, None}
 
 -- the numbers, where others were added
-abbrev pub added : Bool → List ℕ → Option (List ℕ)
-added true ns = Some ns
-added false ns = None
+abbrev pub numbers_added : Bool → List ℕ → Option (List ℕ)
+numbers_added true ns = Some ns
+numbers_added false ns = None

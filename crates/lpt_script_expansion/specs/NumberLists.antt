@@ -24,11 +24,11 @@ with_range ns (Some r) =
     else Some (ns ++ range_with_len r.0 (r.1 + 1 - r.0))
 
 -- numbers, where there are any, and those of these items behind them
-abbrev pub listed : Option (List ℕ) → List (List ℕ) → Option (List ℕ)
-listed None items = None
-listed (Some ns) [] = Some ns
-listed (Some ns) (item ∷ items) = listed (with_range ns (range_of item)) items
+abbrev pub numbers_listed : Option (List ℕ) → List (List ℕ) → Option (List ℕ)
+numbers_listed None items = None
+numbers_listed (Some ns) [] = Some ns
+numbers_listed (Some ns) (item ∷ items) = numbers_listed (with_range ns (range_of item)) items
 
 -- the numbers that a word lists
 abbrev pub numbers_of : List ℕ → Option (List ℕ)
-numbers_of word = listed (Some []) (items_of word)
+numbers_of word = numbers_listed (Some []) (items_of word)

@@ -1,12 +1,12 @@
 //! The lines that a line stands for.
 
 ghost use Rattle.std.specs.Prelude.{◌≡◌, ◌++◌, decimal, IfOk, option_map};
-ghost use Rattle.lpt_script_expansion.specs.Expansions.{all_read, counted, expansion, is_opening, numbered, opened_by};
+ghost use Rattle.lpt_script_expansion.specs.Expansions.{all_read, lines_counted, expansion, is_opening, lines_numbered, opened_by};
 ghost use Rattle.lpt_script_expansion.specs.Cuts.{cut_of};
 ghost use Rattle.lpt_script_words.specs.Words.{words};
 
 use crate::cutting::cut_last;
-use crate::meaning::meant;
+use crate::meaning::word_meant;
 use crate::quoting::spelled_out;
 use crate::reading::command_of;
 use lpt_events::Event;
@@ -35,7 +35,7 @@ pub fn expand(alloc: Global, world: &World, line: &[u8]) -> Result<Option<Vec<Oc
     }
     match spelled_out(alloc, line)? {
         Some(opened) => opened_by(alloc, world.config().source, opened),
-        None => counted(alloc, world, line),
+        None => lines_counted(alloc, world, line),
     }
 }
 
@@ -59,9 +59,13 @@ fn is_opening(command: Option<Command>) -> bool
 }
 
 // The lines of one whose last word stands for numbers.
-fn counted(alloc: Global, world: &World, line: &[u8]) -> Result<Option<Vec<Octets>>, AllocError>
+fn lines_counted(
+    alloc: Global,
+    world: &World,
+    line: &[u8],
+) -> Result<Option<Vec<Octets>>, AllocError>
     ensures { IfOk result (λ r. option_map (λ v. v.items) r
-        ≡ counted world.now (cut_of (words line.now))) }
+        ≡ lines_counted world.now (cut_of (words line.now))) }
 {
     let Some((front, word)) = cut_last(alloc, line)? else {
         return Ok(None);
@@ -77,23 +81,23 @@ fn counted_behind(
     word: &[u8],
 ) -> Result<Option<Vec<Octets>>, AllocError>
     ensures { IfOk result (λ r. option_map (λ v. v.items) r
-        ≡ counted world.now (Some (front.now, word.now))) }
+        ≡ lines_counted world.now (Some (front.now, word.now))) }
 {
     let source = world.config().source;
     let first = numbered_line(alloc, front, 1)?;
     let Some(command) = command_of(alloc, source, first.as_slice())? else {
         return Ok(None);
     };
-    let Some(numbers) = meant(alloc, world, &command, word)? else {
+    let Some(numbers) = word_meant(alloc, world, &command, word)? else {
         return Ok(None);
     };
-    let lines = numbered(alloc, front, &numbers)?;
+    let lines = lines_numbered(alloc, front, &numbers)?;
     all_read(alloc, source, lines)
 }
 
 // A line for each of these numbers, behind this front.
-fn numbered(alloc: Global, front: &[u8], numbers: &[u64]) -> Result<Vec<Octets>, AllocError>
-    ensures { IfOk result (λ v. v.items ≡ numbered front.now numbers.now) }
+fn lines_numbered(alloc: Global, front: &[u8], numbers: &[u64]) -> Result<Vec<Octets>, AllocError>
+    ensures { IfOk result (λ v. v.items ≡ lines_numbered front.now numbers.now) }
 {
     let mut lines = Vec::new(alloc);
     for number in numbers {

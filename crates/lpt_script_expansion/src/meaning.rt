@@ -1,7 +1,7 @@
 //! The numbers that a word stands for in place of a command's.
 
 ghost use Rattle.std.specs.Prelude.{◌≡◌, IfOk, option_map};
-ghost use Rattle.lpt_script_expansion.specs.Expansions.{all_of, all_parts, is_listing, meant};
+ghost use Rattle.lpt_script_expansion.specs.Expansions.{all_of, all_parts, is_listing, word_meant};
 
 use crate::numbers::read_numbers;
 use crate::openings::parts_of;
@@ -13,14 +13,14 @@ use lpt_world::World;
 use std::alloc::{AllocError, Global};
 
 // The numbers that a word in place of this command's stands for, where it may stand there.
-pub(crate) fn meant(
+pub(crate) fn word_meant(
     alloc: Global,
     world: &World,
     command: &Command,
     word: &[u8],
 ) -> Result<Option<Vec<u64>>, AllocError>
     ensures { IfOk result (λ r. option_map (λ ns. ns.items) r
-        ≡ meant world.now command.now word.now) }
+        ≡ word_meant world.now command.now word.now) }
 {
     if word == b"all".as_slice() {
         all_of(alloc, world, command)

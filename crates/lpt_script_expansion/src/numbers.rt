@@ -3,7 +3,7 @@
 ghost use Rattle.std.specs.Prelude.{◌≡◌, ◌≤◌, ◌-◌, ◌+◌, ◌++◌, option_map, IfOk, IfSome, OnOk};
 ghost use Rattle.std.specs.List.{range_with_len};
 ghost use Rattle.lpt_script_expansion.specs.NumberLists.{numbers_of, range_of, with_range};
-ghost use Rattle.lpt_script_expansion.specs.ListingInside.{added};
+ghost use Rattle.lpt_script_expansion.specs.ListingInside.{numbers_added};
 
 use lpt_script_words::{GREATEST_NUMBER, read_number};
 use lpt_text::{cut_item, first_place};
@@ -33,7 +33,7 @@ pub(crate) fn read_numbers(alloc: Global, word: &[u8]) -> Result<Option<Vec<u64>
 
 // Adds the numbers of an item, and answers whether it has any and they aren't too many.
 fn add_item(numbers: &mut Vec<u64>, item: &[u8]) -> Result<bool, AllocError>
-    ensures { IfOk result (λ done. added done numbers.new.items
+    ensures { IfOk result (λ done. numbers_added done numbers.new.items
         ≡ with_range numbers.old.items (range_of item.now)) }
 {
     let Some((from, to)) = read_range(item) else {

@@ -2,7 +2,7 @@
 
 ghost use Rattle.std.specs.Prelude.{◌≡◌, ◌==◌, ◌++◌, position, IfOk, OnOk, option_map};
 ghost use Rattle.lpt_script_text.specs.Printing.{octets_text};
-ghost use Rattle.lpt_script_expansion.specs.Cuts.{file_named, filled, given_at, spelled_at, spelled_out, unquoted};
+ghost use Rattle.lpt_script_expansion.specs.Cuts.{file_named, line_filled, given_at, spelled_at, spelled_out, before_quote};
 
 use lpt_packet::Octets;
 use lpt_script_words::split_word;
@@ -14,21 +14,21 @@ use std::alloc::{AllocError, Global};
 pub(crate) fn spelled_out(alloc: Global, line: &[u8]) -> Result<Option<Octets>, AllocError>
     ensures { IfOk result (λ r. r ≡ spelled_out line.now) }
 {
-    match quoted(alloc, line)? {
+    match quoted_line(alloc, line)? {
         Some(spelled) => Ok(Some(spelled)),
-        None => given(alloc, line),
+        None => given_line(alloc, line),
     }
 }
 
 // A line with octets in place of the text between its first quote and the one that ends it; none
 // where it has no such text.
-fn quoted(alloc: Global, line: &[u8]) -> Result<Option<Octets>, AllocError>
+fn quoted_line(alloc: Global, line: &[u8]) -> Result<Option<Octets>, AllocError>
     ensures { IfOk result (λ r. r ≡ spelled_at line.now (position (λ b. b == 34) line.now)) }
 {
     let Some(place) = first_place(line, b'"') else {
         return Ok(None);
     };
-    let Some(text) = unquoted(&line[place + 1..]) else {
+    let Some(text) = before_quote(&line[place + 1..]) else {
         return Ok(None);
     };
     let mut spelled = Vec::from_slice(alloc, &line[..place])?;
@@ -37,7 +37,7 @@ fn quoted(alloc: Global, line: &[u8]) -> Result<Option<Octets>, AllocError>
 }
 
 // A line without its first `@`; none where it has none.
-fn given(alloc: Global, line: &[u8]) -> Result<Option<Octets>, AllocError>
+fn given_line(alloc: Global, line: &[u8]) -> Result<Option<Octets>, AllocError>
     ensures { IfOk result (λ r. r ≡ given_at line.now (position (λ b. b == 64) line.now)) }
 {
     let Some(place) = first_place(line, b'@') else {
@@ -67,8 +67,8 @@ pub fn file_named(line: &[u8]) -> Option<&[u8]>
 /// A line with these octets behind its first `@` in place of a file's name: `expand` gives the line
 /// with them and without the `@`. A line without one stays as it is. The only error is out of
 /// memory.
-pub fn filled(alloc: Global, line: &[u8], octets: &[u8]) -> Result<Octets, AllocError>
-    ensures { IfOk result (λ r. r ≡ filled line.now octets.now) }
+pub fn line_filled(alloc: Global, line: &[u8], octets: &[u8]) -> Result<Octets, AllocError>
+    ensures { IfOk result (λ r. r ≡ line_filled line.now octets.now) }
 {
     let Some(place) = first_place(line, b'@') else {
         return Ok(Octets::from_vec(Vec::from_slice(alloc, line)?));
@@ -79,8 +79,8 @@ pub fn filled(alloc: Global, line: &[u8], octets: &[u8]) -> Result<Octets, Alloc
 }
 
 // What stands before a quote that ends a line.
-fn unquoted(rest: &[u8]) -> Option<&[u8]>
-    ensures { option_map (λ t. t.now) result ≡ unquoted rest.now }
+fn before_quote(rest: &[u8]) -> Option<&[u8]>
+    ensures { option_map (λ t. t.now) result ≡ before_quote rest.now }
 {
     let last = rest.len().checked_sub(1)?;
     if rest[last] != b'"' {

@@ -10,7 +10,7 @@ use Rattle.lpt_script_words.specs.declared.grammar.Command.TheVariants as comman
 use Rattle.lpt_script_words.specs.declared.grammar.Reading.TheVariants.{Skipped, Unreadable}
 use Rattle.lpt_script_words.specs.declared.showing.Show.{Show}
 use Rattle.lpt_script_words.specs.declared.showing.Show.TheVariants as show
-use Rattle.lpt_script_words.specs.Grammar.{alone_of, arguments_of, asked, is_comment, lane_and_packet_of, load_of, plain_of, reading_of, show_of, show_memory_of, show_clear_of, show_packet_of, tick_of, ticks_of, lone_transaction_of, words_reading}
+use Rattle.lpt_script_words.specs.Grammar.{alone_of, arguments_of, command_asked, is_comment, lane_and_packet_of, load_of, plain_of, reading_of, show_of, show_memory_of, show_clear_of, show_packet_of, tick_of, ticks_of, lone_transaction_of, words_reading}
 use Rattle.lpt_script_words.specs.Names.{count_of, direction_of, name_of, keyword_of, lane_of, node_of, packet_number_of, sent_flags_of, u16_of, u32_of, u8_of, worker_of}
 use Rattle.lpt_script_words.specs.Numbers.{is_word, number_of, octets_of}
 use Rattle.lpt_script_words.specs.Words.{is_empty, one_of, three_of, words}
@@ -471,7 +471,7 @@ module _ (source : ℕ) where
 
   -- ---- lines
 
-  not_asked : (o : Option Command) → not (is_some o) ≡ is_unreadable (asked o)
+  not_asked : (o : Option Command) → not (is_some o) ≡ is_unreadable (command_asked o)
   not_asked None = refl
   not_asked (Some c) = refl
 
@@ -484,7 +484,7 @@ module _ (source : ℕ) where
       by_test : (b : Bool)
           → is_some (if b then None else command_misfit w ws (command_shape w))
           ≡ is_unreadable (if b then Skipped
-          else asked (option_and_then (λ k. arguments_of source k ws) (keyword_of w)))
+          else command_asked (option_and_then (λ k. arguments_of source k ws) (keyword_of w)))
       by_test true = refl
       by_test false =
           command_exact w ws ∙ not_asked (option_and_then (λ k. arguments_of source k ws) (keyword_of w))

@@ -3,7 +3,7 @@ use Rattle.std.proofs.Common.{◌≡◌, ◌∙◌, sym, refl, ℕ, ◌/◌, ◌
 use Rattle.std.specs.Char.{is_ascii_hexdigit}
 use Rattle.std.specs.List.{list_all}
 use Rattle.hex.specs.Hex.{decode_of}
-use Rattle.lpt_script_words.specs.Numbers.{is_word, decoded, octets_of}
+use Rattle.lpt_script_words.specs.Numbers.{is_word, octets_decoded, octets_of}
 use Rattle.lpt_script_words.proofs.Hexes.{are_pairs, length-octets_of}
 use Rattle.lpt_packet.proofs.BoolLemmas.{none_is}
 
@@ -18,7 +18,7 @@ no_octets : (word : List ℕ)
 unfolding octets_of
 no_octets word e =
     (λ i. option_map length
-    (if e i then Some [] else if length word == 0 then None else decoded (decode_of word)))
+    (if e i then Some [] else if length word == 0 then None else octets_decoded (decode_of word)))
 
 -- words that spell nothing
 empty_word : (word : List ℕ)
@@ -28,7 +28,7 @@ empty_word : (word : List ℕ)
 unfolding octets_of
 empty_word word d e =
     (λ i. option_map length
-    (if d i then Some [] else if e i then None else decoded (decode_of word)))
+    (if d i then Some [] else if e i then None else octets_decoded (decode_of word)))
 
 not_pairs : (word : List ℕ)
     → is_word (codes "-") word ≡ false
@@ -40,7 +40,7 @@ not_pairs word d e p =
     (λ i. option_map length
     (if d i then Some []
     else if e i then None
-    else none_is (decoded (decode_of word)) (sym (are_pairs word) ∙ p) i))
+    else none_is (octets_decoded (decode_of word)) (sym (are_pairs word) ∙ p) i))
 
 -- an octet for each pair
 pub octets_len : (word : List ℕ)

@@ -6,7 +6,7 @@ use Rattle.lpt_memory.specs.Fields.{◌>>=◌}
 use Rattle.lpt_script_words.specs.Grammar.{counts}
 use Rattle.lpt_packet.specs.Names.{named_by}
 use Rattle.lpt_script_words.specs.Names.{cut_source, flags_of, name_of, sent_flags_of, source_of, u16_of}
-use Rattle.lpt_script_words.specs.Numbers.{is_numeral, number_of, spelled}
+use Rattle.lpt_script_words.specs.Numbers.{is_numeral, number_of, number_spelled}
 use Rattle.lpt_script_words.specs.Words.{one_of, two_of, three_of}
 use Rattle.lpt_script_lint.specs.Fitting.{at_least, behind, fit, fit_number, fit_sourced, misfit, pass, then_judged}
 use Rattle.lpt_script_lint.specs.declared.findings.Misfit.{Misfit}
@@ -64,7 +64,7 @@ within true v = by_tests (nat_le v 16383) (nat_le v 65535) refl refl
 -- a sequence count is a number of 14 bits
 pub sequence : (word : List ℕ) → is_some (number_of 16383 word) ≡ counts (u16_of word)
 unfolding number_of
-sequence word = within (is_numeral word) (spelled word)
+sequence word = within (is_numeral word) (number_spelled word)
 
 -- ---- a source before a number
 

@@ -53,8 +53,8 @@ abbrev pub printable : ℕ → ℕ
 printable b = if nat_lt b 32 || b == 127 then 63 else b
 
 -- a word behind a reason: its first 40 octets
-abbrev pub shown : List ℕ → List ℕ
-shown word =
+abbrev pub word_shown : List ℕ → List ℕ
+word_shown word =
     if length word == 0 then []
     else codes ": " ++ map printable (take 40 word)
     ++ (if nat_lt 40 (length word) then codes ".." else [])
@@ -67,7 +67,8 @@ place_text f =
 -- the line that tells a finding
 abbrev pub found_text : (path : List ℕ) → Found → List ℕ
 found_text path f =
-    codes "lpt: " ++ path ++ place_text f ++ reason_text f.finding.reason ++ shown f.word ++ 10 ∷ []
+    codes "lpt: " ++ path ++ place_text f ++ reason_text f.finding.reason ++ word_shown f.word ++ 10
+    ∷ []
 
 -- the lines that tell all that is found in a script
 abbrev pub lint_text : (path : List ℕ) → List ℕ → List ℕ

@@ -3,7 +3,7 @@
 ghost use Rattle.std.specs.Prelude.{◌≡◌, ◌++◌, map, take, IfOk, OnOk};
 ghost use Rattle.std.specs.String.{string_bytes};
 ghost use Rattle.lpt_script_lint.specs.Findings.{word_at};
-ghost use Rattle.lpt_script_lint.specs.Texts.{found_text, kind_text, named_range, printable, range_text, reason_text, shown};
+ghost use Rattle.lpt_script_lint.specs.Texts.{found_text, kind_text, named_range, printable, range_text, reason_text, word_shown};
 
 use crate::explaining::word_at;
 use crate::findings::Finding;
@@ -107,7 +107,7 @@ fn named_range(alloc: Global, name: &str, least: u64, greatest: u64) -> Result<S
 
 // Puts a word behind a reason: its first 40 octets.
 fn push_shown(text: &mut Vec<u8>, word: &[u8]) -> Result<(), AllocError>
-    ensures { OnOk result (text.new.items ≡ text.old.items ++ shown word.now) }
+    ensures { OnOk result (text.new.items ≡ text.old.items ++ word_shown word.now) }
 {
     if word.is_empty() {
         return Ok(());

@@ -10,7 +10,7 @@ use Rattle.lpt_text.specs.declared.fault.StreamFault.TheVariants as faults
 use Rattle.lpt_script.specs.Scripts.{Ran}
 use Rattle.lpt_events.specs.declared.fault.StepFault.{StepFault}
 use Rattle.lpt_world.specs.Worlds.{Shown}
-use Rattle.lpt_script_shell.specs.Answers.{Served, noted, prompted, served}
+use Rattle.lpt_script_shell.specs.Answers.{Served, command_noted, with_prompt, text_served}
 use Rattle.lpt_script_shell.specs.EndsInside.{ServedEnds}
 use Rattle.lpt_script_shell.specs.Notes.{fault_line, note_text}
 
@@ -20,7 +20,7 @@ use Rattle.lpt_script_shell.specs.Notes.{fault_line, note_text}
 pub told_ends : (w : Shown) (text : List ℕ) (r : Result Bool StreamFault) (a b : Option (List ℕ))
     → TextEnds text r a b
     → IfOk r (λ t. t ≡ true)
-    → ServedEnds (served w text true) r w a b
+    → ServedEnds (text_served w text true) r w a b
 told_ends w text (Ok t) a b p is = (is, refl, p)
 told_ends w text (Err faults.Write) a b p is = p
 told_ends w text (Err faults.Memory) a b p is = p
@@ -31,7 +31,7 @@ told_ends w text (Err faults.Read) a b p is = absurd p
 -- nothing is told where nothing was refused
 pub quiet_ends : (parts : ℕ) (ran : Ran) (v : Shown) (a b : Option (List ℕ))
     → LineEnds ran (Ok None) v a b
-    → ServedEnds (noted parts ran) (Ok false) v a b
+    → ServedEnds (command_noted parts ran) (Ok false) v a b
 quiet_ends parts ran v a b p = (
   ap is_some p.1,
   p.2,
@@ -44,7 +44,7 @@ pub noted_ends : (parts : ℕ) (ran : Ran) (reason : StepFault) (r : Result Bool
     → LineEnds ran (Ok (Some reason)) v a b
     → TextEnds (fault_line parts reason) r b c
     → IfOk r (λ t. t ≡ true)
-    → ServedEnds (noted parts ran) r v a c
+    → ServedEnds (command_noted parts ran) r v a c
 noted_ends parts ran reason r v a b c p q ok = by_result r q ok
   where
     note : fault_line parts reason ≡ note_text parts ran.refused
@@ -52,7 +52,7 @@ noted_ends parts ran reason r v a b c p q ok = by_result r q ok
 
     by_result : (r : Result Bool StreamFault) → TextEnds (fault_line parts reason) r b c
         → IfOk r (λ t. t ≡ true)
-        → ServedEnds (noted parts ran) r v a c
+        → ServedEnds (command_noted parts ran) r v a c
     by_result (Ok t) q ok = (
       ok ∙ ap is_some p.1,
       p.2,
@@ -71,7 +71,7 @@ noted_ends parts ran reason r v a b c p q ok = by_result r q ok
 pub fault_ends : (parts : ℕ) (ran : Ran) (fault : StreamFault) (v : Shown) (a b : Option (List ℕ))
     → ran.bad ≡ None
     → LineEnds ran (Err fault) v a b
-    → ServedEnds (noted parts ran) (Err fault) v a b
+    → ServedEnds (command_noted parts ran) (Err fault) v a b
 fault_ends parts ran faults.Write v a b good p =
     part_of_front a b ran.text (note_text parts ran.refused) p
 fault_ends parts ran faults.Memory v a b good p =
@@ -84,7 +84,7 @@ fault_ends parts ran faults.Read v a b good p = absurd p
 pub prompted_ends : (prompt : List ℕ) (s : Served) (f : Bool) (v : Shown) (a b c : Option (List ℕ))
     → ServedEnds s (Ok f) v a b
     → Appends b c prompt
-    → ServedEnds (prompted prompt s) (Ok f) v a c
+    → ServedEnds (with_prompt prompt s) (Ok f) v a c
 prompted_ends prompt s f v a b c p q = (p.0, p.1, Appends-trans a b c s.text prompt p.2 q)
 
 -- it could not be written
@@ -93,16 +93,16 @@ pub prompted_part : (prompt : List ℕ) (s : Served) (f : Bool) (fault : StreamF
     → ServedEnds s (Ok f) v a b
     → fault ≡ faults.Write
     → AppendsPart b c prompt
-    → ServedEnds (prompted prompt s) (Err fault) v a c
+    → ServedEnds (with_prompt prompt s) (Err fault) v a c
 prompted_part prompt s f fault v a b c p cause q =
-    subst (λ x. ServedEnds (prompted prompt s) (Err x) v a c) (sym cause)
+    subst (λ x. ServedEnds (with_prompt prompt s) (Err x) v a c) (sym cause)
     (part_after a b c s.text prompt p.2 q)
 
 -- the line could not be told
 pub prompted_fault : (prompt : List ℕ) (s : Served) (fault : StreamFault) (v : Shown)
     (a b : Option (List ℕ))
     → ServedEnds s (Err fault) v a b
-    → ServedEnds (prompted prompt s) (Err fault) v a b
+    → ServedEnds (with_prompt prompt s) (Err fault) v a b
 prompted_fault prompt s faults.Write v a b p = part_of_front a b s.text prompt p
 prompted_fault prompt s faults.Memory v a b p = part_of_front a b s.text prompt p
 prompted_fault prompt s faults.Read v a b p = absurd p

@@ -9,7 +9,7 @@ use Rattle.lpt_text.specs.declared.fault.StreamFault.{StreamFault}
 use Rattle.lpt_text.specs.declared.fault.StreamFault.TheVariants as faults
 use Rattle.lpt_script.specs.Ends.{TextEnds}
 use Rattle.lpt_world.specs.Worlds.{Shown}
-use Rattle.lpt_script_shell.specs.Answers.{Served, expanded_served, followed_by, line_run, lines_run, served, shown_lines}
+use Rattle.lpt_script_shell.specs.Answers.{Served, expanded_served, followed_by, line_run, lines_run, text_served, shown_lines}
 use Rattle.lpt_script_shell.specs.EndsInside.{ServedEnds}
 
 -- ---- what was left before stays in front
@@ -35,25 +35,25 @@ run_part s ls a b p =
 pub unshown_ends : (w v : Shown) (ls : List (List ℕ)) (fault : StreamFault) (a b : Option (List ℕ))
     → TextEnds {A = Unit} (shown_lines ls) (Err fault) a b
     → ServedEnds (expanded_served w ls) (Err fault) v a b
-unshown_ends w v ls faults.Write a b p = run_part (served w (shown_lines ls) false) ls a b p
-unshown_ends w v ls faults.Memory a b p = run_part (served w (shown_lines ls) false) ls a b p
+unshown_ends w v ls faults.Write a b p = run_part (text_served w (shown_lines ls) false) ls a b p
+unshown_ends w v ls faults.Memory a b p = run_part (text_served w (shown_lines ls) false) ls a b p
 unshown_ends w v ls faults.Read a b p = absurd p
 
 -- What was written so far, and what the lines that are left leave behind that is what all leave.
 abbrev pub IsRun : (all : Served) → (ls : List (List ℕ)) → (i : ℕ) → Shown → (failed : Bool)
     → (a b : Option (List ℕ)) → Type 0
 IsRun all ls i w failed a b =
-    (text : List ℕ) × Appends a b text × (lines_run (served w text failed) (drop i ls) ≡ all)
+    (text : List ℕ) × Appends a b text × (lines_run (text_served w text failed) (drop i ls) ≡ all)
 
 -- the next line stands in front of those behind it
 at_line : (all : Served) (ls : List (List ℕ)) (line : List ℕ) (i : ℕ) (w : Shown) (text : List ℕ)
     (failed : Bool)
     → i < length ls
     → line ≡ slice_index_or ls i line
-    → lines_run (served w text failed) (drop i ls) ≡ all
-    → lines_run (followed_by (served w text failed) (line_run w line)) (drop (i + 1) ls) ≡ all
+    → lines_run (text_served w text failed) (drop i ls) ≡ all
+    → lines_run (followed_by (text_served w text failed) (line_run w line)) (drop (i + 1) ls) ≡ all
 at_line all ls line i w text failed short at is =
-    let s = served w text failed in
+    let s = text_served w text failed in
     let cons : drop i ls ≡ slice_index_or ls i line ∷ drop (i + 1) ls =
     rw add-one (drop-cons ls i line short) in
     let split : drop i ls ≡ line ∷ drop (i + 1) ls =
@@ -73,8 +73,8 @@ line_next all ls line i w v failed more a b c short at so p =
     let text = so.0 ++ s.text in (
       text,
       Appends-trans a b c so.0 s.text so.1 p.2,
-      ap (λ x. lines_run (served x text (failed || more)) (drop (i + 1) ls)) p.1
-          ∙ ap (λ f. lines_run (served s.world text (failed || f)) (drop (i + 1) ls)) p.0
+      ap (λ x. lines_run (text_served x text (failed || more)) (drop (i + 1) ls)) p.1
+          ∙ ap (λ f. lines_run (text_served s.world text (failed || f)) (drop (i + 1) ls)) p.0
           ∙ at_line all ls line i w so.0 failed short at so.2,
     )
 
@@ -94,7 +94,7 @@ line_fault all ls line i w v failed fault a b c short at so p = by_fault fault p
     part : AppendsPart b c s.text → AppendsPart a c all.text
     part q =
         subst (λ x. AppendsPart a c x.text) (at_line all ls line i w so.0 failed short at so.2)
-        (run_part (followed_by (served w so.0 failed) s) (drop (i + 1) ls) a c
+        (run_part (followed_by (text_served w so.0 failed) s) (drop (i + 1) ls) a c
         (part_after a b c so.0 s.text so.1 q))
 
     by_fault : (fault : StreamFault)

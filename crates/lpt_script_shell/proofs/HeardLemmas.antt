@@ -14,12 +14,12 @@ use Rattle.lpt_events.specs.declared.outcome.Outcome.{Outcome}
 use Rattle.lpt_events.specs.declared.outcome.Outcome.TheVariants.{Kept, Again, Released, Broken, Ignored}
 use Rattle.lpt_events.specs.declared.outcome.Why.TheVariants.{Closed, NoRoom}
 use Rattle.lpt_events.specs.declared.reply.Answer.TheVariants.{Delivered}
-use Rattle.lpt_journal.specs.Delivery.{judged, outcome}
+use Rattle.lpt_journal.specs.Delivery.{arrival_judged, outcome}
 use Rattle.lpt_journal.specs.Due.{given_up}
 use Rattle.lpt_journal.specs.Hands.{in_hand}
 use Rattle.lpt_journal.specs.Journal.{History}
-use Rattle.lpt_journal.specs.Receivers.{ends, has_parts, heard, heard_now, is_closed, kept, limits, reception_count, with_arrival, with_piece}
-use Rattle.lpt_journal.specs.Replies.{entry, expired_now, recorded}
+use Rattle.lpt_journal.specs.Receivers.{ends, has_parts, heard, heard_now, is_closed, as_kept, limits, reception_count, with_arrival, with_piece}
+use Rattle.lpt_journal.specs.Replies.{entry, expired_now, history_after}
 use Rattle.lpt_reception.specs.Received.{Parts, contradicts, is_gap, is_whole, no_parts, spelled}
 use Rattle.lpt_memory.specs.Memories.{Contents}
 use Rattle.lpt_packet.specs.declared.direction.Direction.{Direction}
@@ -50,10 +50,10 @@ none_agree : Agree no_parts []
 none_agree k = ap is_some (maps.get-empty nat_cmp k)
 
 get_piece : (s : Parts) (q : NamedPart) (k : ℕ)
-    → maps.get (with_piece s q) k ≡ (if k == q.number then Some (kept q) else maps.get s k)
+    → maps.get (with_piece s q) k ≡ (if k == q.number then Some (as_kept q) else maps.get s k)
 get_piece s q k =
-    maps.get-insert nat_cmp_total s q.number (kept q) k
-    ∙ ap (λ b. if b then Some (kept q) else maps.get s k) (unsigned_tied k q.number)
+    maps.get-insert nat_cmp_total s q.number (as_kept q) k
+    ∙ ap (λ b. if b then Some (as_kept q) else maps.get s k) (unsigned_tied k q.number)
 
 -- with a part more
 more_agree : (s : Parts) (ns : List ℕ) (q : NamedPart)
@@ -65,7 +65,8 @@ more_agree s ns q agree k =
     ∙ ap (λ b. b || has_number ns k) (eq_swap k q.number)
     ∙ sym (any_more ns q.number k)
   where
-    go : (b : Bool) → is_some (if b then Some (kept q) else maps.get s k) ≡ (b || has_number ns k)
+    go : (b : Bool) → is_some (if b then Some (as_kept q) else maps.get s k)
+        ≡ (b || has_number ns k)
     go true = refl
     go false = agree k
 
@@ -93,12 +94,13 @@ part_tells false false false false true whole q len = tt
 part_tells false false false false false true q len = tt
 part_tells false false false false false false q len = (q, refl, refl)
 
-judged_tells : (c : Config) (h : History) (d : Direction) (a : Arrival) → Tells a (judged c h d a)
+judged_tells : (c : Config) (h : History) (d : Direction) (a : Arrival)
+    → Tells a (arrival_judged c h d a)
 judged_tells c h d (APart q) =
     let s = heard c h d q.name in
     part_tells (is_closed h d q.name)
     (not (has_parts s) && nat_le (limits c h (receiver_side d)).receptions (reception_count c h d))
-    (contradicts s q.number (kept q)) (is_some (maps.get s q.number)) (is_gap c.mode s q.number)
+    (contradicts s q.number (as_kept q)) (is_some (maps.get s q.number)) (is_gap c.mode s q.number)
     (is_whole (with_piece s q)) q (length (spelled (with_piece s q)))
 judged_tells c h d NotRead = tt
 judged_tells c h d AnIdle = tt
@@ -144,11 +146,12 @@ expired true d (Some i) name s ns agree = none_or (same_name i name) s ns agree
 
 -- the numbers that replies tell are those of the parts that were heard
 agrees : (c : Config) (first : Contents) (d : Direction) (name : Name) (es : List Act)
-    → Agree (heard c (recorded c first es) d name) (kept_numbers d name (recorded c first es))
+    → Agree (heard c (history_after c first es) d name)
+    (kept_numbers d name (history_after c first es))
 agrees c first d name [] = none_agree
 agrees c first d name (e ∷ es) = step (agrees c first d name es) e where
   h : History
-  h = recorded c first es
+  h = history_after c first es
 
   step : Agree (heard c h d name) (kept_numbers d name h)
       → (e : Act)

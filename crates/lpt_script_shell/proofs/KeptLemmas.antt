@@ -6,7 +6,7 @@ use Rattle.lpt_events.specs.declared.config.Config.{Config}
 use Rattle.lpt_events.specs.declared.entry.Entry.{Entry}
 use Rattle.lpt_events.specs.declared.reply.Reply.{Reply}
 use Rattle.lpt_journal.specs.Journal.{History}
-use Rattle.lpt_journal.specs.Replies.{recorded}
+use Rattle.lpt_journal.specs.Replies.{history_after}
 use Rattle.lpt_memory.specs.Memories.{Contents}
 use Rattle.lpt_packet.specs.declared.direction.Direction.{Direction}
 use Rattle.lpt_packet.specs.Names.{Name}
@@ -56,7 +56,7 @@ kept_told d name (x ∷ xs) (y ∷ h) e r =
     ∙ ap (λ v. kept_after d name y.event v.answer (kept_numbers d name h)) reply
 
 events_recorded : (c : Config) (first : Contents) (es : List Act)
-    → map (λ x. x.event) (recorded c first es) ≡ es
+    → map (λ x. x.event) (history_after c first es) ≡ es
 events_recorded c first [] = refl
 events_recorded c first (e ∷ es) = ap (λ l. e ∷ l) (events_recorded c first es)
 

@@ -12,7 +12,7 @@ use Rattle.lpt_text.specs.declared.fault.StreamFault.{StreamFault}
 use Rattle.lpt_text.specs.declared.fault.StreamFault.TheVariants as faults
 use Rattle.lpt_world.specs.Worlds.{Shown}
 use Rattle.lpt_script_shell.proofs.LongLemmas.{same_answer, same_end}
-use Rattle.lpt_script_shell.specs.Answers.{Served, Session, behind as before, ends_session, left, line_served, lines_served}
+use Rattle.lpt_script_shell.specs.Answers.{Served, Session, behind as before, ends_session, session_left, line_served, lines_served}
 use Rattle.lpt_script_shell.specs.EndsInside.{LinesLeft, LinesServed, ServedEnds, serve_story}
 use Rattle.lpt_script_shell.specs.declared.shell.Heard.{Heard}
 use Rattle.lpt_script_shell.specs.declared.shell.Serving.{Serving}
@@ -24,7 +24,7 @@ abbrev story_by : (over : Bool) → Served → (prompt : List ℕ) → List (Lis
     → Story LinesLeft
 story_by over s prompt more failed =
     let all : Session =
-    if over then left failed true else before s.text
+    if over then session_left failed true else before s.text
     (lines_served prompt more s.world (failed + from_bool s.failed)) in
     record { text = all.text; left = record { failed = all.failed; over = all.over } }
 

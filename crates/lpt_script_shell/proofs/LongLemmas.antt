@@ -9,7 +9,7 @@ use Rattle.lpt_text.specs.Taking.{IsBehind}
 use Rattle.lpt_script_words.specs.declared.grammar.Command.{Command}
 use Rattle.lpt_script_words.specs.declared.grammar.Command.TheVariants as command
 use Rattle.lpt_script_words.specs.Loads.{load_packet}
-use Rattle.lpt_script.specs.Scripts.{Ran, and_then, answered as answer_now, command_ran, stepped, ticked, unless_refused}
+use Rattle.lpt_script.specs.Scripts.{Ran, and_then, event_answered as answer_now, command_ran, event_stepped, clock_ticked, unless_refused}
 use Rattle.lpt_events.specs.declared.event.Event.TheVariants.{Open, Take, Deliver, Tick, Claim, Commit, Apply}
 use Rattle.lpt_events.specs.declared.fault.StepFault.{StepFault}
 use Rattle.lpt_events.specs.declared.side.Side.{Side}
@@ -17,7 +17,7 @@ use Rattle.lpt_events.specs.declared.worker.Worker.TheVariants.{W1}
 use Rattle.lpt_packet.specs.declared.direction.Direction.TheVariants.{Up}
 use Rattle.lpt_world.specs.Worlds.{Shown, refusal_at, with_entry}
 use Rattle.lpt_script_expansion.specs.Expansions.{expansion}
-use Rattle.lpt_script_shell.specs.Answers.{answered, ends_session, finding_text, line_served, own_line, own_served, prompted, served, unread_served}
+use Rattle.lpt_script_shell.specs.Answers.{line_answered, ends_session, finding_text, line_served, own_line, own_served, with_prompt, text_served, unread_served}
 
 -- ---- a line that is too long
 
@@ -45,13 +45,14 @@ long_stays line long =
 long_line : (prompt line : List ℕ) (w : Shown)
     → 140000 < length line
     → line_served prompt line w
-    ≡ prompted prompt (served w (finding_text (Some (record { column = 140001; reason = LongLine }))) true)
+    ≡ with_prompt prompt
+    (text_served w (finding_text (Some (record { column = 140001; reason = LongLine }))) true)
 long_line prompt line w long =
     let test : nat_lt 140000 (length line) ≡ true = grind (arith, nat_tests) in
-    ap (λ r. prompted prompt (answered w line r)) (unread w.config.source line long)
-    ∙ ap (λ o. prompted prompt (unread_served w line o)) (expansion_none w line test)
-    ∙ ap (λ o. prompted prompt (own_served w line o)) (own_none w line test)
-    ∙ ap (λ o. prompted prompt (served w (finding_text o) true)) (why_long line test)
+    ap (λ r. with_prompt prompt (line_answered w line r)) (unread w.config.source line long)
+    ∙ ap (λ o. with_prompt prompt (unread_served w line o)) (expansion_none w line test)
+    ∙ ap (λ o. with_prompt prompt (own_served w line o)) (own_none w line test)
+    ∙ ap (λ o. with_prompt prompt (text_served w (finding_text o) true)) (why_long line test)
 
 -- whatever is behind octets of a line that were answered, the line does the same
 pub same_answer : (prompt line rest : List ℕ) (w : Shown)
@@ -81,7 +82,7 @@ and_good r f good all = go r.refused where
   go (Some fault) = good
   go None = all r.world
 
-ticks_good : (count : ℕ) (side : Side) (w : Shown) → (ticked count side w).bad ≡ None
+ticks_good : (count : ℕ) (side : Side) (w : Shown) → (clock_ticked count side w).bad ≡ None
 ticks_good zero side w = refl
 ticks_good (suc zero) side w = good_event w (Tick side)
 ticks_good (suc (suc k)) side w =
@@ -92,8 +93,8 @@ ticks_good (suc (suc k)) side w =
     next = with_entry w 0 (Tick side) (answer_now w (Tick side))
 
     go : (t : Bool)
-        → (ticked (suc k) side next).bad ≡ None
-        → (if t then stepped w (Tick side) else ticked (suc k) side next).bad ≡ None
+        → (clock_ticked (suc k) side next).bad ≡ None
+        → (if t then event_stepped w (Tick side) else clock_ticked (suc k) side next).bad ≡ None
     go true more = good_event w (Tick side)
     go false more = more
 
@@ -104,6 +105,7 @@ command_good (command.Load l) w =
 command_good (command.Pass l n) w = good_events w (Take l n) (Deliver l)
 command_good (command.Tick side count) w = ticks_good count side w
 command_good command.Work w =
-    and_good (and_then (stepped w (Claim W1)) (λ v. stepped v (Commit W1))) (λ v. stepped v Apply)
+    and_good (and_then (event_stepped w (Claim W1)) (λ v. event_stepped v (Commit W1)))
+    (λ v. event_stepped v Apply)
     (good_events w (Claim W1) (Commit W1)) (λ v. good_event v Apply)
 command_good (command.Show s) w = refl

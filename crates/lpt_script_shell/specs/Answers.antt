@@ -43,8 +43,8 @@ pub record Served : Type 0 where
   pub failed : Bool
 
 -- a line that prints this, and leaves this world
-abbrev pub served : Shown → List ℕ → (failed : Bool) → Served
-served w text failed = record { world = w; text = text; failed = failed }
+abbrev pub text_served : Shown → List ℕ → (failed : Bool) → Served
+text_served w text failed = record { world = w; text = text; failed = failed }
 
 -- what a line prints that only a shell reads; a line that is too long isn't looked at
 abbrev pub own_line : Shown → List ℕ → Option (List ℕ)
@@ -52,19 +52,20 @@ own_line w line = if nat_lt longest_line (length line) then None else own_text w
 
 -- a line that a script doesn't read, by what it prints where a shell does
 abbrev pub own_served : Shown → List ℕ → Option (List ℕ) → Served
-own_served w line None = served w (finding_text (why line)) true
-own_served w line (Some text) = served w text false
+own_served w line None = text_served w (finding_text (why line)) true
+own_served w line (Some text) = text_served w text false
 
 -- a command that was done, with why an event was refused, where one was, and where the message that it
 -- names has so many parts
-abbrev pub noted : (parts : ℕ) → Ran → Served
-noted parts ran = served ran.world (ran.text ++ note_text parts ran.refused) (is_some ran.refused)
+abbrev pub command_noted : (parts : ℕ) → Ran → Served
+command_noted parts ran =
+    text_served ran.world (ran.text ++ note_text parts ran.refused) (is_some ran.refused)
 
 -- what is done that a script reads, with why it was refused; nothing, where nothing is
 abbrev pub reading_run : Shown → Reading → Served
-reading_run w Skipped = served w [] false
-reading_run w (Asks c) = noted (parts_named w c) (command_ran c w)
-reading_run w Unreadable = served w [] false
+reading_run w Skipped = text_served w [] false
+reading_run w (Asks c) = command_noted (parts_named w c) (command_ran c w)
+reading_run w Unreadable = text_served w [] false
 
 -- what a line does of which a script reads something
 abbrev pub line_run : Shown → List ℕ → Served
@@ -72,7 +73,7 @@ line_run w line = reading_run w (reading_of w.config.source line)
 
 -- what one thing and then another left
 abbrev pub followed_by : Served → Served → Served
-followed_by s t = served t.world (s.text ++ t.text) (s.failed || t.failed)
+followed_by s t = text_served t.world (s.text ++ t.text) (s.failed || t.failed)
 
 -- what lines leave, one behind the other, behind what was left before
 abbrev pub lines_run : Served → List (List ℕ) → Served
@@ -85,7 +86,7 @@ shown_lines ls = or_none (flat_map (λ line. line ++ 10 ∷ []) ls)
 
 -- the lines that a line stands for: they are shown, and then each does what it does by itself
 abbrev pub expanded_served : Shown → List (List ℕ) → Served
-expanded_served w ls = lines_run (served w (shown_lines ls) false) ls
+expanded_served w ls = lines_run (text_served w (shown_lines ls) false) ls
 
 -- a line that a script doesn't read: what those do that it stands for, or what only a shell reads,
 -- or why no one does
@@ -94,18 +95,19 @@ unread_served w line None = own_served w line (own_line w line)
 unread_served w line (Some ls) = expanded_served w ls
 
 -- what a line does: what it does in a script, where one reads it
-abbrev pub answered : Shown → List ℕ → Reading → Served
-answered w line Skipped = reading_run w Skipped
-answered w line (Asks c) = reading_run w (Asks c)
-answered w line Unreadable = unread_served w line (expansion w line)
+abbrev pub line_answered : Shown → List ℕ → Reading → Served
+line_answered w line Skipped = reading_run w Skipped
+line_answered w line (Asks c) = reading_run w (Asks c)
+line_answered w line Unreadable = unread_served w line (expansion w line)
 
 -- the same, with the prompt for the next line behind it
-abbrev pub prompted : (prompt : List ℕ) → Served → Served
-prompted prompt s = record s { text = s.text ++ prompt }
+abbrev pub with_prompt : (prompt : List ℕ) → Served → Served
+with_prompt prompt s = record s { text = s.text ++ prompt }
 
 -- what a line does in a shell with this prompt
 abbrev pub line_served : (prompt : List ℕ) → List ℕ → Shown → Served
-line_served prompt line w = prompted prompt (answered w line (reading_of w.config.source line))
+line_served prompt line w =
+    with_prompt prompt (line_answered w line (reading_of w.config.source line))
 
 -- ---- lines
 
@@ -125,8 +127,8 @@ pub record Session : Type 0 where
   pub over : Bool
 
 -- nothing more is printed, and so many lines failed
-abbrev pub left : (failed : ℕ) → (over : Bool) → Session
-left failed over = record { text = []; failed = failed; over = over }
+abbrev pub session_left : (failed : ℕ) → (over : Bool) → Session
+session_left failed over = record { text = []; failed = failed; over = over }
 
 -- the same with this text before its own
 abbrev pub behind : List ℕ → Session → Session
@@ -135,10 +137,10 @@ behind text s = record s { text = text ++ s.text }
 -- what lines do, from this world on, with so many failed before: nothing is done of those behind one that
 -- ends the session
 abbrev pub lines_served : (prompt : List ℕ) → List (List ℕ) → Shown → ℕ → Session
-lines_served prompt [] w failed = left failed false
+lines_served prompt [] w failed = session_left failed false
 lines_served prompt (line ∷ more) w failed =
     let s = line_served prompt line w in
-    if ends_session line then left failed true
+    if ends_session line then session_left failed true
     else behind s.text (lines_served prompt more s.world (failed + from_bool s.failed))
 
 -- what a shell does with the octets that were read: a prompt, and then their lines

@@ -4,7 +4,7 @@ use Rattle.std.specs.FinMap as maps
 use Rattle.lpt_acts.specs.Acts.{Act}
 use Rattle.lpt_events.specs.declared.config.Config.{Config}
 use Rattle.lpt_journal.specs.Receivers.{heard}
-use Rattle.lpt_journal.specs.Replies.{recorded}
+use Rattle.lpt_journal.specs.Replies.{history_after}
 use Rattle.lpt_memory.specs.Memories.{Contents}
 use Rattle.lpt_packet.specs.declared.direction.Direction.{Direction}
 use Rattle.lpt_packet.specs.Names.{Name}
@@ -14,5 +14,5 @@ use Rattle.lpt_script_shell.specs.Kept.{has_number, kept_numbers}
 abbrev pub KeptAreHeard : Type 0
 KeptAreHeard =
     (c : Config) (first : Contents) (es : List Act) (d : Direction) (name : Name) (k : ℕ)
-    → has_number (kept_numbers d name (recorded c first es)) k
-    ≡ is_some (maps.get (heard c (recorded c first es) d name) k)
+    → has_number (kept_numbers d name (history_after c first es)) k
+    ≡ is_some (maps.get (heard c (history_after c first es) d name) k)

@@ -8,7 +8,7 @@ use Rattle.lpt_script_words.specs.Words.{is_empty}
 use Rattle.lpt_events.specs.declared.lane.Lane.TheVariants.{S1, S2, G1, G2}
 use Rattle.lpt_events.specs.declared.worker.Worker.TheVariants.{W1, W2}
 use Rattle.lpt_journal.specs.Hands.{hand}
-use Rattle.lpt_journal.specs.Jobs.{applied, claimed, jobs, ticket}
+use Rattle.lpt_journal.specs.Jobs.{jobs_applied, jobs_claimed, jobs, ticket}
 use Rattle.lpt_journal.specs.Link.{sent}
 use Rattle.lpt_world.specs.Worlds.{Shown, history}
 use Rattle.lpt_script_shell.specs.declared.rows.Half.TheVariants as half
@@ -47,8 +47,8 @@ counts_text queued unclaimed =
 -- these numbers, and which jobs the workers have
 abbrev pub jobs_text : Shown → List ℕ
 jobs_text w =
-    counts_text (length (jobs w.config (history w)) - applied (history w))
-    (length (jobs w.config (history w)) - claimed (history w))
+    counts_text (length (jobs w.config (history w)) - jobs_applied (history w))
+    (length (jobs w.config (history w)) - jobs_claimed (history w))
     ++ (ticket_text (codes "w1") (option_map (λ t. (t.boot, t.job)) (ticket w.config (history w) W1))
     ++ ticket_text (codes "w2") (option_map (λ t. (t.boot, t.job)) (ticket w.config (history w) W2)))
 

@@ -7,7 +7,7 @@ ghost use Rattle.lpt_script.specs.Scripts.{command_ran};
 ghost use Rattle.lpt_script_expansion.specs.Expansions.{expansion};
 ghost use Rattle.lpt_script_words.specs.Grammar.{reading_of};
 ghost use Rattle.lpt_script_words.specs.Words.{words};
-ghost use Rattle.lpt_script_shell.specs.Answers.{answered, ends_session, finding_line, finding_text, is_exit, line_served, noted, own_line, own_served, unread_served, why_words};
+ghost use Rattle.lpt_script_shell.specs.Answers.{line_answered, ends_session, finding_line, finding_text, is_exit, line_served, command_noted, own_line, own_served, unread_served, why_words};
 ghost use Rattle.lpt_script_shell.specs.EndsInside.{ServedEnds};
 ghost use Rattle.lpt_script_shell.specs.Notes.{parts_named};
 ghost use Rattle.lpt_script_lint.specs.Findings.{why};
@@ -71,7 +71,7 @@ fn answer<K: Sink>(
     out: &mut K,
 ) -> Result<bool, StreamFault>
     ensures ends { ServedEnds
-        (answered world.old line.now (reading_of world.old.config.source line.now))
+        (line_answered world.old line.now (reading_of world.old.config.source line.now))
         result world.new (K.contents out.old) (K.contents out.new) }
     ensures writer { WriteEnds result (K.failed out.old) (K.failed out.new) }
 {
@@ -109,7 +109,8 @@ pub(crate) fn run_noted<K: Sink>(
     command: Command,
     out: &mut K,
 ) -> Result<bool, StreamFault>
-    ensures ends { ServedEnds (noted (parts_named world.old command) (command_ran command world.old))
+    ensures ends { ServedEnds
+        (command_noted (parts_named world.old command) (command_ran command world.old))
         result world.new (K.contents out.old) (K.contents out.new) }
     ensures writer { WriteEnds result (K.failed out.old) (K.failed out.new) }
 {

@@ -7,7 +7,7 @@ use Rattle.std.specs.List.{AllPass, list_all}
 use Rattle.hex.specs.Hex.{decode_of, is_hex_digit}
 use Rattle.hex.specs.declared.error.FromHexError.{FromHexError}
 use Rattle.hex.proofs.HexLemmas.{decode_of-even, decode_of-ok, decode_pairs-digits}
-use Rattle.lpt_script_words.specs.Numbers.{is_word, decoded, octets_of}
+use Rattle.lpt_script_words.specs.Numbers.{is_word, octets_decoded, octets_of}
 
 -- what isn't there is nothing
 pub none_of : {A : Type 0} (o : Option A) → is_some o ≡ false → o ≡ None
@@ -38,7 +38,7 @@ digit_same c =
 pairs_decode : (word : List ℕ) (r : Result (List ℕ) FromHexError)
     → decode_of word ≡ r
     → (length word % 2 == 0 && list_all is_ascii_hexdigit word) ≡ true
-    → is_some (decoded r) ≡ true
+    → is_some (octets_decoded r) ≡ true
 pairs_decode word (Ok octets) read h = refl
 pairs_decode word (Err fault) read h =
     let parts = and_parts (length word % 2 == 0) (list_all is_ascii_hexdigit word) h in
@@ -52,7 +52,7 @@ pairs_decode word (Err fault) read h =
 -- what decodes is pairs of digits
 decodes_pairs : (word : List ℕ) (r : Result (List ℕ) FromHexError)
     → decode_of word ≡ r
-    → is_some (decoded r) ≡ true
+    → is_some (octets_decoded r) ≡ true
     → (length word % 2 == 0 && list_all is_ascii_hexdigit word) ≡ true
 decodes_pairs word (Err fault) read h = absurd cc
 decodes_pairs word (Ok octets) read h =
@@ -71,23 +71,24 @@ same_test false false f g = refl
 
 -- pairs of digits are what decodes
 pub are_pairs : (word : List ℕ)
-    → (length word % 2 == 0 && list_all is_ascii_hexdigit word) ≡ is_some (decoded (decode_of word))
+    → (length word % 2 == 0 && list_all is_ascii_hexdigit word)
+    ≡ is_some (octets_decoded (decode_of word))
 are_pairs word =
     same_test (length word % 2 == 0 && list_all is_ascii_hexdigit word)
-    (is_some (decoded (decode_of word)))
+    (is_some (octets_decoded (decode_of word)))
     (pairs_decode word (decode_of word) refl) (decodes_pairs word (decode_of word) refl)
 
 -- where their number is even, the digits decide
 pub are_pairs-even : (word : List ℕ)
     → length word % 2 ≡ 0
-    → list_all is_ascii_hexdigit word ≡ is_some (decoded (decode_of word))
+    → list_all is_ascii_hexdigit word ≡ is_some (octets_decoded (decode_of word))
 are_pairs-even word even =
     let test : (length word % 2 == 0) ≡ true = rw even refl in
     sym (ap (λ b. b && list_all is_ascii_hexdigit word) test) ∙ are_pairs word
 
 digits_read : (word : List ℕ) (r : Result (List ℕ) FromHexError)
     → decode_of word ≡ r
-    → is_some (decoded r) ≡ true
+    → is_some (octets_decoded r) ≡ true
     → (length word % 2 ≡ 0) × AllPass is_hex_digit word
 digits_read word (Err fault) read h = absurd cc
 digits_read word (Ok octets) read h =
@@ -96,14 +97,14 @@ digits_read word (Ok octets) read h =
 
 -- what decodes is an even number of digits
 pub digits-decoded : (word : List ℕ)
-    → is_some (decoded (decode_of word)) ≡ true
+    → is_some (octets_decoded (decode_of word)) ≡ true
     → (length word % 2 ≡ 0) × AllPass is_hex_digit word
 digits-decoded word h = digits_read word (decode_of word) refl h
 
 length_read : (word : List ℕ) (r : Result (List ℕ) FromHexError)
     → decode_of word ≡ r
-    → is_some (decoded r) ≡ true
-    → Some (length word / 2) ≡ option_map length (decoded r)
+    → is_some (octets_decoded r) ≡ true
+    → Some (length word / 2) ≡ option_map length (octets_decoded r)
 length_read word (Err fault) read h = absurd cc
 length_read word (Ok octets) read h =
     let twice = (decode_of-ok word octets read).2 in
@@ -111,15 +112,15 @@ length_read word (Ok octets) read h =
 
 -- an octet for each pair
 length-decoded : (word : List ℕ)
-    → is_some (decoded (decode_of word)) ≡ true
-    → Some (length word / 2) ≡ option_map length (decoded (decode_of word))
+    → is_some (octets_decoded (decode_of word)) ≡ true
+    → Some (length word / 2) ≡ option_map length (octets_decoded (decode_of word))
 length-decoded word h = length_read word (decode_of word) refl h
 
 -- the same of a word that isn't the one of no octets
 pub length-octets_of : (word : List ℕ)
     → is_word (codes "-") word ≡ false
     → (length word == 0) ≡ false
-    → is_some (decoded (decode_of word)) ≡ true
+    → is_some (octets_decoded (decode_of word)) ≡ true
     → Some (length word / 2) ≡ option_map length (octets_of word)
 unfolding octets_of
 length-octets_of word other filled pairs = rw (other, filled) (length-decoded word pairs)

@@ -13,7 +13,7 @@ use Rattle.std.proofs.lemmas.Str.Parse.{IsDigitsTest, IsNumeralModel, WeighsDigi
 use Rattle.lpt_packet.specs.Names.{IsName, Name, named_by}
 use Rattle.lpt_events.specs.NameTexts.{name_text}
 use Rattle.lpt_script_words.specs.Names.{cut_at, cut_source, name_of, source_of, u16_of}
-use Rattle.lpt_script_words.specs.Numbers.{is_numeral, number_of, spelled}
+use Rattle.lpt_script_words.specs.Numbers.{is_numeral, number_of, number_spelled}
 
 -- ---- numbers
 
@@ -28,11 +28,12 @@ digits_test = record {
       and_from (is_ascii_digit c) (list_all is_ascii_digit cs) (grind (arith, nat_tests, k.0, k.1)) e;
 }
 
-weights : WeighsDigits spelled
+weights : WeighsDigits number_spelled
 weights = record { empty = refl; more = λ c cs k. refl }
 
-own : IsNumeralModel (λ ds. list_all is_ascii_digit ds ≡ true) spelled
-own = numerals_by_weight (λ ds. list_all is_ascii_digit ds ≡ true) digits_test spelled weights
+own : IsNumeralModel (λ ds. list_all is_ascii_digit ds ≡ true) number_spelled
+own =
+    numerals_by_weight (λ ds. list_all is_ascii_digit ds ≡ true) digits_test number_spelled weights
 
 numeral : (n : ℕ) → n < 65536 → is_numeral (decimal n) ≡ true
 numeral n small =
@@ -45,7 +46,7 @@ numeral n small =
 number-decimal : (n : ℕ) → n < 65536 → u16_of (decimal n) ≡ Some n
 unfolding number_of
 number-decimal n small =
-    let value : spelled (decimal n) ≡ n = digits_value-decimal own n (omega arith) in
+    let value : number_spelled (decimal n) ≡ n = digits_value-decimal own n (omega arith) in
     let fits : nat_le n 65535 ≡ true = grind (arith, nat_tests) in
     rw (numeral n small, value, fits) refl
 

@@ -6,10 +6,11 @@ use Rattle.std.proofs.lemmas.List.Sums.{AllPass-from_list_all}
 use Rattle.std.proofs.lemmas.Bool.Decides.{nat_tests}
 use Rattle.std.specs.Char.{is_ascii_digit}
 use Rattle.std.specs.List.{list_all}
-use Rattle.lpt_script_words.specs.Numbers.{spelled}
+use Rattle.lpt_script_words.specs.Numbers.{number_spelled}
 
 -- a digit more stands for itself, and each before it for ten times as much
-pub spelled-push : (xs : List ℕ) (d : ℕ) → spelled (xs ++ d ∷ []) ≡ spelled xs * 10 + (d - 48)
+pub spelled-push : (xs : List ℕ) (d : ℕ) → number_spelled (xs ++ d ∷ []) ≡ number_spelled xs * 10
+    + (d - 48)
 spelled-push [] d = grind arith
 spelled-push (x ∷ xs) d =
     let more = spelled-push xs d in
@@ -21,7 +22,7 @@ spelled-push (x ∷ xs) d =
 -- the same at a place of a word
 pub spelled_more : (xs : List ℕ) (i : ℕ)
     → i < length xs
-    → spelled (take (i + 1) xs) ≡ spelled (take i xs) * 10 + (get_or xs i 0 - 48)
+    → number_spelled (take (i + 1) xs) ≡ number_spelled (take i xs) * 10 + (get_or xs i 0 - 48)
 spelled_more xs i h =
     rw (take_more xs i 0 h) (spelled-push (take i xs) (get_or xs i 0))
 

@@ -244,16 +244,16 @@ is_comment [] = false
 is_comment (b ∷ bs) = b == 35
 
 -- a line with no command is unreadable
-abbrev pub asked : Option Command → Reading
-asked (Some c) = Asks c
-asked None = Unreadable
+abbrev pub command_asked : Option Command → Reading
+command_asked (Some c) = Asks c
+command_asked None = Unreadable
 
 -- what the words of a line say: a blank line and a comment are skipped
 abbrev pub words_reading : (source : ℕ) → List (List ℕ) → Reading
 words_reading source [] = Skipped
 words_reading source (w ∷ ws) =
     if is_comment w then Skipped
-    else asked (option_and_then (λ k. arguments_of source k ws) (keyword_of w))
+    else command_asked (option_and_then (λ k. arguments_of source k ws) (keyword_of w))
 
 -- what a line says where this source is configured; one of more than 140,000 octets is unreadable, whatever it holds
 unfoldable pub reading_of : (source : ℕ) → List ℕ → Reading

@@ -4,7 +4,7 @@ ghost use Rattle.std.specs.Prelude.{◌≡◌, ◌+◌, ◌*◌, ◌%◌, ◌<�
 ghost use Rattle.std.specs.List.{AllPass, list_all};
 ghost use Rattle.std.specs.Char.{is_ascii_digit, is_ascii_hexdigit};
 ghost use Rattle.hex.specs.Hex.{decode_of, hex_digit_value, is_hex_digit};
-ghost use Rattle.lpt_script_words.specs.Numbers.{is_numeral, spelled, number_of, decoded, octets_of};
+ghost use Rattle.lpt_script_words.specs.Numbers.{is_numeral, number_spelled, number_of, octets_decoded, octets_of};
 
 use lpt_packet::Octets;
 use std::alloc::{AllocError, Global};
@@ -65,7 +65,7 @@ pub(crate) fn octets_spelled(word: &[u8]) -> Option<usize>
 // Whether the word is pairs of hexadecimal digits.
 #[tactic(auto, using(crate::proofs::Hexes::are_pairs))]
 fn has_pairs(word: &[u8]) -> bool
-    ensures { result ≡ is_some (decoded (decode_of word.now)) }
+    ensures { result ≡ is_some (octets_decoded (decode_of word.now)) }
 {
     word.len() % 2 == 0 && are_digits(word)
 }
@@ -119,7 +119,7 @@ fn has_digits_alone(word: &[u8]) -> bool
 fn value_of(digits: &[u8]) -> u64
     requires few { length digits.now ≤ 10 }
     requires digits { IsTrue (list_all is_ascii_digit digits.now) }
-    ensures { result ≡ spelled digits.now }
+    ensures { result ≡ number_spelled digits.now }
 {
     let mut value = 0;
     for digit in digits {

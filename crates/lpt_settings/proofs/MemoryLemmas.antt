@@ -9,7 +9,7 @@ use Rattle.toml.proofs.Views.{items_view-drop}
 use Rattle.lpt_memory.specs.Fields.{◌>>=◌}
 use Rattle.lpt_memory.specs.Memories.{Contents, are_memories}
 use Rattle.lpt_memory.proofs.LoopLemmas.{with_front, with_front-more}
-use Rattle.lpt_settings.specs.MemoryTables.{memory_of, each_memory, if_memories, listed, default_memories}
+use Rattle.lpt_settings.specs.MemoryTables.{memory_of, each_memory, if_memories, memories_listed, default_memories}
 
 -- ---- how many there are
 
@@ -87,7 +87,7 @@ pub listed-read : (d : Data) (vs ws : List Value) (read : Option Contents)
     → Some (items_view vs) ≡ as_array d
     → ws ≡ vs
     → each_memory (items_view ws) ≡ read
-    → (read >>= if_memories) ≡ listed d
+    → (read >>= if_memories) ≡ memories_listed d
 listed-read d vs ws read seen same is =
     ap (λ r. r >>= if_memories) (sym is)
     ∙ ap (λ xs. each_memory (items_view xs) >>= if_memories) same

@@ -50,8 +50,8 @@ abbrev pub has_id : ℕ → List Value → Bool
 has_id id values = list_any (λ v. is_id id (memory_of (view v))) values
 
 -- the memories of a value that is an array of tables
-abbrev pub listed : Data → Option Contents
-listed d = as_array d >>= each_memory >>= if_memories
+abbrev pub memories_listed : Data → Option Contents
+memories_listed d = as_array d >>= each_memory >>= if_memories
 
 -- the memories where none are described: one memory 1 of 256 octets of 0
 unfoldable pub default_memories : Contents
@@ -60,7 +60,7 @@ default_memories = (1, replicate 256 0) ∷ []
 -- the memories of a value, or the default where there is none
 abbrev pub memories_or : Option Data → Option Contents
 memories_or None = Some default_memories
-memories_or (Some d) = listed d
+memories_or (Some d) = memories_listed d
 
 -- the memories at the key `memory`, or the default where the key is absent
 abbrev pub memories_of : Members → Option Contents

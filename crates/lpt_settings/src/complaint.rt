@@ -7,7 +7,7 @@ ghost use Rattle.lpt_settings.specs.Settings.{settings_of};
 
 use crate::place::{line_at, line_of};
 use crate::settings::judge;
-use crate::wrong::{Place, Reason, Wrong};
+use crate::wrong::{Reason, Wrong, WrongPlace};
 use std::alloc::{AllocError, Global};
 use std::fmt;
 use toml::de::Error;
@@ -114,7 +114,7 @@ pub fn complain(alloc: Global, text: &str, wrong: Wrong<'_>) -> Result<Complaint
 }
 
 // The table and the key, where there are any.
-fn print_place(alloc: Global, place: Place, key: &str) -> Result<String, AllocError> {
+fn print_place(alloc: Global, place: WrongPlace, key: &str) -> Result<String, AllocError> {
     let front = print_table(alloc, place)?;
     if key.is_empty() {
         return Ok(front);
@@ -124,13 +124,13 @@ fn print_place(alloc: Global, place: Place, key: &str) -> Result<String, AllocEr
 }
 
 // The table, where it isn't that of the whole file.
-fn print_table(alloc: Global, place: Place) -> Result<String, AllocError> {
+fn print_table(alloc: Global, place: WrongPlace) -> Result<String, AllocError> {
     match place {
-        Place::Top => Ok(String::new(alloc)),
-        Place::Memory(place) => {
+        WrongPlace::Top => Ok(String::new(alloc)),
+        WrongPlace::Memory(place) => {
             let number = place.saturating_add(1);
             format!(in alloc; "memory {number}: ")
         }
-        Place::Table(name) => format!(in alloc; "{name}: "),
+        WrongPlace::Table(name) => format!(in alloc; "{name}: "),
     }
 }

@@ -46,4 +46,4 @@ pub use fault::SettingsFault;
 pub use keys::{has_only, unknown_key};
 pub use numbers::{number, number_of_value};
 pub use settings::read_config;
-pub use wrong::{Place, Reason, Wrong};
+pub use wrong::{Reason, Wrong, WrongPlace};

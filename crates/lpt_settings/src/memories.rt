@@ -3,12 +3,12 @@
 ghost use Rattle.std.specs.Prelude.{◌≡◌, ◌≤◌, ◌&&◌, nat_le, replicate, Some, is_ok, is_some, option_map, option_and_then, IfOk};
 ghost use Rattle.std.specs.Result.{result_ok};
 ghost use Rattle.toml.specs.View.{view, items_view, table_view};
-ghost use Rattle.lpt_settings.specs.MemoryTables.{memory_of, each_memory, if_memories, listed, default_memories, memories_of, is_id, has_id};
+ghost use Rattle.lpt_settings.specs.MemoryTables.{memory_of, each_memory, if_memories, memories_listed, default_memories, memories_of, is_id, has_id};
 ghost use Rattle.lpt_memory.specs.Limits.{memory_limit, size_limit};
 
 use crate::keys::{MEMORY_KEYS, has_only, unknown_key};
 use crate::numbers::number;
-use crate::wrong::{Place, Reason, Wrong};
+use crate::wrong::{Reason, Wrong, WrongPlace};
 use lpt_memory::{MEMORY_LIMIT, Memories, SIZE_LIMIT};
 use lpt_packet::Octets;
 use std::alloc::{AllocError, Global};
@@ -34,7 +34,7 @@ pub(crate) fn judge_memories(table: &Table) -> Result<(), Wrong<'_>>
 
 // Judges a value that should be an array of tables.
 fn judge_listed(value: &Value) -> Result<(), Wrong<'_>>
-    ensures { is_ok result ≡ is_some (listed (view value.now)) }
+    ensures { is_ok result ≡ is_some (memories_listed (view value.now)) }
 {
     match value.as_array() {
         Some(values) => judge_values(values),
@@ -50,12 +50,12 @@ fn judge_values(values: &[Value]) -> Result<(), Wrong<'_>>
         return Err(Wrong::at("memory", Reason::Count));
     }
     for (place, value) in values.iter().enumerate() {
-        let memory = match described(value) {
+        let memory = match memory_described(value) {
             Ok(memory) => memory,
-            Err(wrong) => return Err(wrong.within(Place::Memory(place))),
+            Err(wrong) => return Err(wrong.within(WrongPlace::Memory(place))),
         };
         if has_id(&values[place + 1..], memory.id) {
-            return Err(Wrong::at("id", Reason::Twice).within(Place::Memory(place)));
+            return Err(Wrong::at("id", Reason::Twice).within(WrongPlace::Memory(place)));
         }
     }
     Ok(())
@@ -79,7 +79,7 @@ fn has_id(values: &[Value], id: u8) -> bool
 fn is_of_id(value: &Value, id: u8) -> bool
     ensures { result ≡ is_id id (memory_of (view value.now)) }
 {
-    match described(value) {
+    match memory_described(value) {
         Ok(memory) => memory.id == id,
         Err(_) => false,
     }
@@ -92,7 +92,7 @@ pub(crate) fn memories(alloc: Global, table: &Table) -> Result<Option<Memories>,
     ensures { IfOk result (λ m. m ≡ memories_of (table_view table.now)) }
 {
     match table.get("memory") {
-        Some(value) => listed(alloc, value),
+        Some(value) => memories_listed(alloc, value),
         None => default_memories(alloc),
     }
 }
@@ -108,8 +108,8 @@ fn default_memories(alloc: Global) -> Result<Option<Memories>, AllocError>
 }
 
 // The memories of an array of tables; `None` for another value. The only error is out of memory.
-fn listed(alloc: Global, value: &Value) -> Result<Option<Memories>, AllocError>
-    ensures { IfOk result (λ m. m ≡ listed (view value.now)) }
+fn memories_listed(alloc: Global, value: &Value) -> Result<Option<Memories>, AllocError>
+    ensures { IfOk result (λ m. m ≡ memories_listed (view value.now)) }
 {
     let Some(values) = value.as_array() else {
         return Ok(None);
@@ -139,7 +139,7 @@ fn if_memories(memories: Vec<(u8, Octets)>) -> Option<Memories>
 fn memory(alloc: Global, value: &Value) -> Result<Option<(u8, Octets)>, AllocError>
     ensures { IfOk result (λ m. m ≡ memory_of (view value.now)) }
 {
-    let Ok(memory) = described(value) else {
+    let Ok(memory) = memory_described(value) else {
         return Ok(None);
     };
     let octets = filled_octets(alloc, memory.size, memory.fill)?;
@@ -154,7 +154,7 @@ fn filled_octets(alloc: Global, size: usize, fill: u8) -> Result<Octets, AllocEr
 }
 
 // What a table says of a memory.
-fn described(value: &Value) -> Result<Filled, Wrong<'_>>
+fn memory_described(value: &Value) -> Result<Filled, Wrong<'_>>
     ensures value { option_map (λ m. (m.id, replicate m.size m.fill)) (result_ok result)
         ≡ memory_of (view value.now) }
     ensures least { IfOk result (λ m. 1 ≤ m.size) }

@@ -3,7 +3,7 @@
 ghost use Rattle.std.specs.Prelude.{◌≡◌, ◌≤◌, length};
 ghost use Rattle.lpt_settings.specs.Places.{line_at, line_ends};
 
-use crate::wrong::Place;
+use crate::wrong::WrongPlace;
 
 // The line of the octet of this place, counted from 1.
 #[tactic(auto, using(std::proofs::lemmas::List::take_all))]
@@ -26,11 +26,11 @@ fn line_ends(octets: &[u8]) -> usize
 }
 
 // The line of a key of this table, counted from 1.
-pub(crate) fn line_of(text: &str, place: Place, key: &str) -> Option<usize> {
+pub(crate) fn line_of(text: &str, place: WrongPlace, key: &str) -> Option<usize> {
     match place {
-        Place::Top => line_at_top(text, key.as_bytes()),
-        Place::Memory(place) => line_in_memory(text, place, key.as_bytes()),
-        Place::Table(name) => line_in_table(text, name.as_bytes(), key.as_bytes()),
+        WrongPlace::Top => line_at_top(text, key.as_bytes()),
+        WrongPlace::Memory(place) => line_in_memory(text, place, key.as_bytes()),
+        WrongPlace::Table(name) => line_in_table(text, name.as_bytes(), key.as_bytes()),
     }
 }
 

@@ -67,7 +67,7 @@ impl fmt::Display for Reason {
 
 /// In which table of a file a key stands.
 #[derive(Clone, Copy)]
-pub enum Place {
+pub enum WrongPlace {
     /// In that of the whole file.
     Top,
     /// In the memory of this place of the array, from 0.
@@ -80,7 +80,7 @@ pub enum Place {
 #[derive(Clone, Copy)]
 pub struct Wrong<'t> {
     /// The table in which it is.
-    pub place: Place,
+    pub place: WrongPlace,
     /// The key; the empty text for a memory as a whole.
     pub key: &'t str,
     /// Why it is wrong.
@@ -91,14 +91,14 @@ impl<'t> Wrong<'t> {
     /// At a key of the whole file's table.
     pub fn at(key: &'t str, reason: Reason) -> Self {
         Wrong {
-            place: Place::Top,
+            place: WrongPlace::Top,
             key,
             reason,
         }
     }
 
     /// The same in this table.
-    pub fn within(self, place: Place) -> Self {
+    pub fn within(self, place: WrongPlace) -> Self {
         Wrong {
             place,
             key: self.key,

@@ -69,7 +69,7 @@ impl<J: Origin> Shared<J> {
         ensures goes_on { GoesOn J.given result }
     {
         let Shared { world } = self;
-        shown(world.into_inner().into_world())
+        world_shown(world.into_inner().into_world())
     }
 
     /// Does one event of the log's seat, and adds its place, event and reply to the log. The place
@@ -128,7 +128,7 @@ fn answer<J: Origin>(
 }
 
 // The world, of which its journal says what holds.
-fn shown(world: World) -> World
+fn world_shown(world: World) -> World
     ensures same { result ≡ world }
     ensures legal { IsLegal result }
     ensures promised { Promised result }

@@ -24,7 +24,7 @@ pub(crate) struct Ran {
 ///
 /// Errors: `Torn` if the run isn't whole; `Memory` and `NoThread`, with which the logs agree
 /// with the journal.
-pub(crate) fn judged(
+pub(crate) fn run_judged(
     alloc: Global,
     world: &World,
     from: u64,
@@ -38,7 +38,14 @@ pub(crate) fn judged(
 {
     let Ran { logs, fault } = ran;
     let why = match fault {
-        None | Some(ShareFault::Torn) => found(alloc, world, from, owed, turns, logs.as_slice()),
+        None | Some(ShareFault::Torn) => fault_found(
+            alloc,
+            world,
+            from,
+            owed,
+            turns,
+            logs.as_slice(),
+        ),
         Some(fault) => Some(cut_short(world, from, logs.as_slice(), fault)),
     };
     match why {
@@ -61,7 +68,7 @@ fn cut_short(world: &World, from: u64, logs: &[SeatLog], fault: ShareFault) -> S
 }
 
 // Why a run isn't whole, or that memory ran out before that was seen.
-fn found(
+fn fault_found(
     alloc: Global,
     world: &World,
     from: u64,

@@ -12,7 +12,7 @@ ghost use Rattle.lpt_share.specs.WholeRuns.{IsWholeRun};
 
 use crate::first::all_seats;
 use crate::held::Origin;
-use crate::judging::{Ran, judged};
+use crate::judging::{Ran, run_judged};
 use crate::seats::{Ended, Pass};
 use crate::task::Seat;
 use crate::{Gate, ShareFault, Shared};
@@ -113,7 +113,7 @@ fn run_from<J: Origin + Send + Sync, R: Threads + Wait + Sync, G: Gate + Sync>(
         → ¬ (IsWholeRun turns (length world.journal) (owed_of world) e.world e.logs.items)) }
 {
     let from = world.journal().len() as u64;
-    let (seats, owed) = match started(alloc, rt, &world) {
+    let (seats, owed) = match seats_started(alloc, rt, &world) {
         Ok(started) => started,
         Err(_) => {
             return Err(ShareEnd {
@@ -134,14 +134,14 @@ fn run_from<J: Origin + Send + Sync, R: Threads + Wait + Sync, G: Gate + Sync>(
     };
     let ran = run_seats(&pass, seats);
     let world = shared.into_world();
-    match judged(alloc, &world, from, owed.as_slice(), turns, ran) {
+    match run_judged(alloc, &world, from, owed.as_slice(), turns, ran) {
         Ok(logs) => Ok((world, logs)),
         Err((fault, logs)) => Err(ShareEnd { fault, world, logs }),
     }
 }
 
 // The seats of a run of this world, and what it owes. The only error is out of memory.
-fn started<R: Wait>(
+fn seats_started<R: Wait>(
     alloc: Global,
     rt: &R,
     world: &World,
@@ -180,13 +180,13 @@ fn run_seats<'a, J: Origin + Send + Sync, R: Threads + Wait + Sync, G: Gate + Sy
                 }
             }
         }
-        joined(pass.rt, handles, logs, fault)
+        threads_joined(pass.rt, handles, logs, fault)
     })
 }
 
 // The logs of threads that are waited for; with why not all were started, or else the first reason
 // for which one of them ended before its time.
-fn joined<R: Threads>(
+fn threads_joined<R: Threads>(
     rt: &R,
     handles: Vec<JoinHandle<Ended>>,
     mut logs: Vec<SeatLog>,

@@ -81,12 +81,12 @@ impl<J: Origin> Shared<J> {
         ensures count { IfOk result (λ k. vec_len log.new.calls ≡ vec_len log.old.calls + k) }
         ensures fault { IfErr result (λ f. IsTurnFault J.given log.new.seen f) }
     {
-        let Some((octets, config)) = self.taken(rt, log, lane, n)? else {
+        let Some((octets, config)) = self.packet_taken(rt, log, lane, n)? else {
             return Ok(0);
         };
         gate.pass(log.seat, Point::Taken);
         let parsed = Parsed::read(octets, receiver(lane), config.apid, config.part_size);
-        let Some(_reply) = self.delivered(rt, log, lane, parsed)? else {
+        let Some(_reply) = self.packet_delivered(rt, log, lane, parsed)? else {
             return Ok(1);
         };
         gate.pass(log.seat, Point::Delivered);
@@ -185,7 +185,7 @@ impl<J: Origin> Shared<J> {
                 Ok(Some(done.reply))
             }
             Err(fault) => {
-                let ends = failed(&fault);
+                let ends = call_failed(&fault);
                 drop(fault);
                 ends
             }
@@ -194,12 +194,12 @@ impl<J: Origin> Shared<J> {
 }
 
 // How a turn ends at a call that did nothing.
-fn failed<T>(fault: &CallFault) -> Result<Option<T>, ShareFault>
+fn call_failed<T>(fault: &CallFault) -> Result<Option<T>, ShareFault>
     ensures none { IfOk result (λ answer. answer ≡ None) }
     ensures exact { result ≡ failed_by fault.now }
 {
     match fault {
-        CallFault::Refused(refused) => ended(refused.fault),
+        CallFault::Refused(refused) => turn_ended(refused.fault),
         CallFault::Torn(_length, _event) => Err(ShareFault::Torn),
         CallFault::Memory(_event) => Err(ShareFault::Memory),
     }
@@ -207,7 +207,7 @@ fn failed<T>(fault: &CallFault) -> Result<Option<T>, ShareFault>
 
 // How a turn ends at a call that was refused for this reason: with no answer, and only out of
 // memory is a fault.
-pub(crate) fn ended<T>(fault: StepFault) -> Result<Option<T>, ShareFault>
+pub(crate) fn turn_ended<T>(fault: StepFault) -> Result<Option<T>, ShareFault>
     ensures none { IfOk result (λ answer. answer ≡ None) }
     ensures memory { IfErr result (λ f. f ≡ ShareFault.Memory) }
     ensures exact { result ≡ ended_by fault }

@@ -12,7 +12,7 @@ ghost use Rattle.lpt_share.specs.Origins.{GoesOn};
 ghost use Rattle.lpt_share.specs.Turns.{Adds, Follow, IsAsked, IsTurnFault};
 
 use crate::held::{Held, Origin};
-use crate::turns::{Again, ended};
+use crate::turns::{Again, turn_ended};
 use crate::{Gate, Point, ShareFault, Shared};
 use lpt_events::{Config, Event, Lane, Reply, SeatLog, Worker};
 use lpt_memory::{Prepared, Shape, Ticket, prepare};
@@ -40,16 +40,16 @@ impl<J: Origin> Shared<J> {
         ensures count { IfOk result (λ k. vec_len log.new.calls ≡ vec_len log.old.calls + k) }
         ensures fault { IfErr result (λ f. IsTurnFault J.given log.new.seen f) }
     {
-        let Some(job) = self.claimed(rt, log, worker)? else {
+        let Some(job) = self.job_claimed(rt, log, worker)? else {
             return Ok(0);
         };
         gate.pass(log.seat, Point::Claimed);
-        let done = self.worked(alloc, rt, log, worker, job, gate)?;
+        let done = self.job_worked(alloc, rt, log, worker, job, gate)?;
         Ok(done + 1)
     }
 
     // Prepares a job that the worker has claimed, commits it, and has the oldest jobs executed.
-    fn worked<R: Wait, G: Gate>(
+    fn job_worked<R: Wait, G: Gate>(
         &self,
         alloc: Global,
         rt: &R,
@@ -63,7 +63,7 @@ impl<J: Origin> Shared<J> {
         ensures fault { IfErr result (λ f. IsTurnFault J.given log.new.seen f) }
     {
         let prepared = prepare_job(alloc, job)?;
-        let Some(_reply) = self.committed(rt, log, worker, prepared)? else {
+        let Some(_reply) = self.job_committed(rt, log, worker, prepared)? else {
             return Ok(0);
         };
         gate.pass(log.seat, Point::Committed);
@@ -73,7 +73,7 @@ impl<J: Origin> Shared<J> {
 
     // Takes a packet, for a reader under this configuration.
     #[tactic(auto, using(crate::proofs::DoingLemmas::unasked))]
-    pub(crate) fn taken<R: Wait>(
+    pub(crate) fn packet_taken<R: Wait>(
         &self,
         rt: &R,
         log: &mut SeatLog,
@@ -89,7 +89,7 @@ impl<J: Origin> Shared<J> {
 
     // Delivers what was read of the lane's packet.
     #[tactic(auto, using(crate::proofs::DoingLemmas::unasked))]
-    pub(crate) fn delivered<R: Wait>(
+    pub(crate) fn packet_delivered<R: Wait>(
         &self,
         rt: &R,
         log: &mut SeatLog,
@@ -104,7 +104,7 @@ impl<J: Origin> Shared<J> {
 
     // Claims a job, with the memories' shape and the APID for which it is prepared.
     #[tactic(auto, using(crate::proofs::DoingLemmas::unasked))]
-    fn claimed<R: Wait>(
+    fn job_claimed<R: Wait>(
         &self,
         rt: &R,
         log: &mut SeatLog,
@@ -118,7 +118,7 @@ impl<J: Origin> Shared<J> {
 
     // Commits a job that was prepared. Where it is refused, the preparation is given up.
     #[tactic(auto, using(crate::proofs::DoingLemmas::unasked))]
-    fn committed<R: Wait>(
+    fn job_committed<R: Wait>(
         &self,
         rt: &R,
         log: &mut SeatLog,
@@ -203,7 +203,7 @@ fn take<J: Origin>(
             log.seen = place;
             let fault = refused.fault;
             drop(refused);
-            ended(fault)
+            turn_ended(fault)
         }
     }
 }
@@ -229,7 +229,7 @@ fn deliver<J: Origin>(
         }
         Err((fault, _parsed)) => {
             log.seen = place;
-            ended(fault)
+            turn_ended(fault)
         }
     }
 }
@@ -260,7 +260,7 @@ fn claim<J: Origin>(
         }
         Err(refused) => {
             log.seen = place;
-            ended(refused.fault)
+            turn_ended(refused.fault)
         }
     }
 }
@@ -293,7 +293,7 @@ fn commit<J: Origin>(
         Err((fault, prepared)) => {
             prepared.abandon();
             log.seen = place;
-            ended(fault)
+            turn_ended(fault)
         }
     }
 }

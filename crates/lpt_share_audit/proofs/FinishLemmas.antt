@@ -10,7 +10,7 @@ use Rattle.lpt_journal.specs.Link.{sent, is_held, is_lost}
 use Rattle.lpt_world.specs.Worlds.{Shown, history}
 use Rattle.lpt_share_audit.specs.Finished.{packet_taken, is_let_off, is_number, is_taken, sends, is_sent, finishes, AreTakenOnce}
 use Rattle.lpt_events.specs.declared.log.SeatLog.{SeatLog}
-use Rattle.lpt_share_audit.specs.FinishedInside.{are_fresh, is_fresh, mark, marked, AreMarked}
+use Rattle.lpt_share_audit.specs.FinishedInside.{are_fresh, is_fresh, mark, packets_marked, AreMarked}
 use Rattle.lpt_share_audit.specs.Settled.{sent_on, AreTakenInTurn, IsCarriedInOrder}
 use Rattle.lpt_packet.proofs.BoolLemmas.{and_left, and_right, or_left, or_right}
 
@@ -50,7 +50,7 @@ mark_says (Some k) n ms m = elim (eqb_tells k n) [
 
 -- what is marked after entries was marked, or is taken by one of them
 marks_say : (xs : List Entry) (n : ℕ) (ms : List Bool)
-    → get_or (marked xs ms) n false ≡ true
+    → get_or (packets_marked xs ms) n false ≡ true
     → (get_or ms n false ≡ true) ⊎ (is_taken xs n ≡ true)
 marks_say [] n ms m = inl m
 marks_say (x ∷ xs) n ms m = elim (marks_say xs n (mark (packet_taken x.event) ms) m) [
@@ -88,7 +88,7 @@ blank (suc count) (suc n) = blank count n
 -- where each held packet has its mark, and no mark was set before the entries, each is taken
 all_taken : (limit : ℕ) (logs : List SeatLog) (w : Shown) (xs : List Entry) (ms after : List Bool)
     → ms ≡ replicate (length (sent (history w))) false
-    → after ≡ marked xs ms
+    → after ≡ packets_marked xs ms
     → length after ≡ length ms
     → AreMarked limit logs w 0 after
     → (n : ℕ)
@@ -148,7 +148,7 @@ either false b e = inr e
 mark_after : (xs : List Entry) (n : ℕ) (ms : List Bool)
     → n < length ms
     → (get_or ms n false ≡ true) ⊎ (is_taken xs n ≡ true)
-    → get_or (marked xs ms) n false ≡ true
+    → get_or (packets_marked xs ms) n false ≡ true
 mark_after [] n ms within (inl m) = m
 mark_after [] n ms within (inr t) = absurd (false≢true t)
 mark_after (x ∷ xs) n ms within had =
@@ -181,7 +181,7 @@ marked_from limit logs w n (m ∷ ms) all =
 
 -- where each held packet is taken by the entries, each has its mark after them
 all_marked : (limit : ℕ) (logs : List SeatLog) (w : Shown) (xs : List Entry) (ms after : List Bool)
-    → after ≡ marked xs ms
+    → after ≡ packets_marked xs ms
     → length after ≡ length ms
     → ((n : ℕ) → is_held (history w) n ≡ true → is_let_off limit logs w.journal n ≡ false
     → is_taken xs n ≡ true)
@@ -259,7 +259,7 @@ pub taken_if : (limit : ℕ) (logs : List SeatLog) (w : Shown) (xs : List Entry)
     (ms after : List Bool)
     (once all : Bool)
     → ms ≡ replicate (length (sent (history w))) false
-    → after ≡ marked xs ms
+    → after ≡ packets_marked xs ms
     → length after ≡ length ms
     → once ≡ are_fresh xs ms
     → (IsTrue all ↔ AreMarked limit logs w 0 after)

@@ -18,7 +18,7 @@ use Rattle.lpt_events.specs.declared.side.Side.{Side}
 use Rattle.lpt_events.specs.declared.side.Side.TheVariants.{Ground, Craft}
 use Rattle.lpt_events.specs.declared.worker.Worker.TheVariants.{W1, W2}
 use Rattle.lpt_journal.specs.Hands.{hand}
-use Rattle.lpt_journal.specs.Jobs.{jobs, applied, ticket}
+use Rattle.lpt_journal.specs.Jobs.{jobs, jobs_applied, ticket}
 use Rattle.lpt_journal.specs.Link.{is_held}
 use Rattle.lpt_journal.specs.Receivers.{clock}
 use Rattle.lpt_journal.specs.Journal.{History}
@@ -197,7 +197,8 @@ IsIdle w =
 -- each job is executed, or the logs of both workers are full
 abbrev pub AreExecuted : ℕ → List SeatLog → Shown → Type 0
 AreExecuted limit logs w =
-    are_full limit logs 7 8 ≡ false → length (jobs w.config (history w)) - applied (history w) ≡ 0
+    are_full limit logs 7 8 ≡ false → length (jobs w.config (history w)) - jobs_applied (history w)
+    ≡ 0
 
 -- the seat ticked so often, or the clock is at its greatest
 abbrev pub HasTicked : Shown → List Entry → ℕ → Side → ℕ → Type 0

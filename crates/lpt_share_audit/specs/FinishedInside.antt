@@ -12,9 +12,9 @@ mark None ms = ms
 mark (Some n) ms = if nat_lt n (length ms) then set ms n true else ms
 
 -- the marks with those of the packets that these entries take
-abbrev pub marked : List Entry → List Bool → List Bool
-marked [] ms = ms
-marked (x ∷ xs) ms = marked xs (mark (packet_taken x.event) ms)
+abbrev pub packets_marked : List Entry → List Bool → List Bool
+packets_marked [] ms = ms
+packets_marked (x ∷ xs) ms = packets_marked xs (mark (packet_taken x.event) ms)
 
 -- whether a packet that is taken has a mark that isn't set yet
 abbrev pub is_fresh : Option ℕ → List Bool → Bool

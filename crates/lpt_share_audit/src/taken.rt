@@ -2,7 +2,7 @@
 
 ghost use Rattle.std.specs.Prelude.{◌≡◌, ◌↔◌, length, replicate, true, false, IsTrue, IfOk};
 ghost use Rattle.lpt_share_audit.specs.Finished.{is_among, is_let_off, is_put, packet_taken, puts_to};
-ghost use Rattle.lpt_share_audit.specs.FinishedInside.{are_fresh, is_fresh, mark, marked, AreMarked};
+ghost use Rattle.lpt_share_audit.specs.FinishedInside.{are_fresh, is_fresh, mark, packets_marked, AreMarked};
 ghost use Rattle.lpt_share_audit.specs.Settled.{AreTakenInTurn};
 
 use crate::full::are_full;
@@ -37,7 +37,7 @@ fn no_marks(alloc: Global, count: usize) -> Result<Vec<bool>, AllocError>
 // Sets the mark of each packet that the entries take. Whether each had one that wasn't set.
 fn mark_taken(marks: &mut Vec<bool>, entries: &[Entry]) -> bool
     ensures once { result ≡ are_fresh entries.now marks.old.items }
-    ensures marked { marks.new.items ≡ marked entries.now marks.old.items }
+    ensures marked { marks.new.items ≡ packets_marked entries.now marks.old.items }
     ensures length { length marks.new.items ≡ length marks.old.items }
 {
     let mut once = true;

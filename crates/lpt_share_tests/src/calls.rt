@@ -1,7 +1,7 @@
 //! Calls and turns of one thread, and logs beside the journal.
 
 use crate::names::{ID_5, ID_7, ID_9};
-use crate::scenes::{Asked, CONFIG, Free, MESSAGE, octets, world_after};
+use crate::scenes::{CONFIG, Free, MESSAGE, SceneAsked, octets, world_after};
 use lpt_events::{Answer, Config, Event, Lane, SeatLog, Side, StepFault, Worker};
 use lpt_packet::Direction::{Down, Up};
 use lpt_share::{CallFault, Done, ShareFault, Shared};
@@ -13,11 +13,11 @@ use std::sync::Wait;
 use std::test::Fail;
 
 // A message goes up as 5, one goes down as 9, and a load is put.
-fn openings() -> [Asked<'static>; 3] {
+fn openings() -> [SceneAsked<'static>; 3] {
     [
-        Asked::Open(Up, ID_5, &MESSAGE),
-        Asked::Open(Down, ID_9, &MESSAGE),
-        Asked::Load,
+        SceneAsked::Open(Up, ID_5, &MESSAGE),
+        SceneAsked::Open(Down, ID_9, &MESSAGE),
+        SceneAsked::Load,
     ]
 }
 

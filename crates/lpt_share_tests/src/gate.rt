@@ -1,7 +1,7 @@
 //! The lock is free at each point of the gate.
 
 use crate::names::ID_5;
-use crate::scenes::{Asked, CONFIG, MESSAGE, world_after};
+use crate::scenes::{CONFIG, MESSAGE, SceneAsked, world_after};
 use lpt_events::{Config, Event, Lane, SeatLog, Side, Worker};
 use lpt_packet::Direction::Up;
 use lpt_share::{Gate, Point, Shared};
@@ -55,13 +55,13 @@ const SHORT: Config = Config {
 };
 
 // The first part of message 5 is received, and a load is put.
-fn reception() -> [Asked<'static>; 5] {
+fn reception() -> [SceneAsked<'static>; 5] {
     [
-        Asked::Open(Up, ID_5, &MESSAGE),
-        Asked::Send(Up, ID_5, 1),
-        Asked::Take(Lane::S1, 0),
-        Asked::Deliver(Lane::S1),
-        Asked::Load,
+        SceneAsked::Open(Up, ID_5, &MESSAGE),
+        SceneAsked::Send(Up, ID_5, 1),
+        SceneAsked::Take(Lane::S1, 0),
+        SceneAsked::Deliver(Lane::S1),
+        SceneAsked::Load,
     ]
 }
 

@@ -1,6 +1,6 @@
 //! The work of two seats overlaps: a gate holds one until the other has come.
 
-use crate::scenes::{Asked, run};
+use crate::scenes::{SceneAsked, run};
 use lpt_events::Lane::S1;
 use lpt_events::{Answer, SeatLog, Turns};
 use lpt_share::{Gate, Point};
@@ -78,16 +78,16 @@ fn wait_for<R: Clock>(rt: &R, told: &AtomicBool, ran_out: &AtomicBool) {
 }
 
 // Two loads are released, and their packets lost.
-fn releases() -> [Asked<'static>; 8] {
+fn releases() -> [SceneAsked<'static>; 8] {
     [
-        Asked::Load,
-        Asked::Load,
-        Asked::Take(S1, 0),
-        Asked::Deliver(S1),
-        Asked::Take(S1, 1),
-        Asked::Deliver(S1),
-        Asked::Lose(0),
-        Asked::Lose(1),
+        SceneAsked::Load,
+        SceneAsked::Load,
+        SceneAsked::Take(S1, 0),
+        SceneAsked::Deliver(S1),
+        SceneAsked::Take(S1, 1),
+        SceneAsked::Deliver(S1),
+        SceneAsked::Lose(0),
+        SceneAsked::Lose(1),
     ]
 }
 
@@ -128,7 +128,13 @@ fn two_lanes_have_packets_at_once(rt: HostRuntime) -> Result<(), Fail> {
         second: AtomicBool::new(false),
         ran_out: AtomicBool::new(false),
     };
-    let (world, logs) = run(rt.alloc(), &rt, &[Asked::Load, Asked::Load], TURNS, &gate)?;
+    let (world, logs) = run(
+        rt.alloc(),
+        &rt,
+        &[SceneAsked::Load, SceneAsked::Load],
+        TURNS,
+        &gate,
+    )?;
     have_delivered(&rt, &world, logs.as_slice());
     drop(world);
     assert!(rt; !gate.ran_out.load(SeqCst));

@@ -4,7 +4,7 @@ ghost use Rattle.std.specs.Prelude.{◌≡◌, Some};
 ghost use Rattle.lpt_share.specs.Origins.{Continues};
 
 use crate::names::ID_5;
-use crate::scenes::{Asked, CONFIG, world_after};
+use crate::scenes::{CONFIG, SceneAsked, world_after};
 use lpt_events::{Event, SeatLog, Side};
 use lpt_packet::Direction::Up;
 use lpt_share::{Origin, Shared};
@@ -15,7 +15,7 @@ use std::sync::Wait;
 use std::test::Fail;
 
 // The world after a tick of the spacecraft's clock, which goes on from the given one.
-fn ticked<R: Wait>(rt: &R, alloc: Global, world: World) -> World
+fn clock_ticked<R: Wait>(rt: &R, alloc: Global, world: World) -> World
     ensures { Continues world result }
 {
     ticked_under::<Brand, R>(rt, alloc, world)
@@ -36,9 +36,9 @@ fn ticked_under<J: Origin, R: Wait>(rt: &R, alloc: Global, world: World) -> Worl
 
 #[test]
 fn what_comes_out_of_a_lock_goes_on(rt: HostRuntime) -> Result<(), Fail> {
-    let asked = [Asked::Open(Up, ID_5, &[0, 1, 2, 3, 4, 5, 6, 7, 8])];
+    let asked = [SceneAsked::Open(Up, ID_5, &[0, 1, 2, 3, 4, 5, 6, 7, 8])];
     let world = world_after(rt.alloc(), CONFIG, &asked).ok_or("no world")?;
-    let world = ticked(&rt, rt.alloc(), world);
+    let world = clock_ticked(&rt, rt.alloc(), world);
     assert!(rt; world.journal().len() == 2 && world.clock(Side::Craft) == 1);
     drop(world);
     Ok(())

@@ -1,7 +1,7 @@
 //! A run of ten threads: what is to be done, and that it is done.
 
 use crate::names::{ID_1, ID_2, ID_3, ID_4, ID_9, OTHER_1};
-use crate::scenes::{Asked, MESSAGE};
+use crate::scenes::{MESSAGE, SceneAsked};
 use lpt_events::{Answer, SeatLog, Turns};
 use lpt_packet::Direction::{self, Down, Up};
 use lpt_packet::Name;
@@ -37,14 +37,14 @@ const FOURS: [u8; 27] = [
 
 /// Four large loads go up, and a message by the first one's identifier of another source; a message goes
 /// down.
-pub(crate) fn loads() -> [Asked<'static>; 6] {
+pub(crate) fn loads() -> [SceneAsked<'static>; 6] {
     [
-        Asked::Open(Up, ID_1, &ONES),
-        Asked::Open(Up, ID_2, &TWOS),
-        Asked::Open(Up, ID_3, &THREES),
-        Asked::Open(Up, ID_4, &FOURS),
-        Asked::Open(Up, OTHER_1, &[0, 1, 2, 3, 4, 5, 6, 7, 8]),
-        Asked::Open(Down, ID_9, &MESSAGE),
+        SceneAsked::Open(Up, ID_1, &ONES),
+        SceneAsked::Open(Up, ID_2, &TWOS),
+        SceneAsked::Open(Up, ID_3, &THREES),
+        SceneAsked::Open(Up, ID_4, &FOURS),
+        SceneAsked::Open(Up, OTHER_1, &[0, 1, 2, 3, 4, 5, 6, 7, 8]),
+        SceneAsked::Open(Down, ID_9, &MESSAGE),
     ]
 }
 
@@ -61,7 +61,7 @@ pub(crate) fn are_done(rt: &impl Abort, world: &World, logs: &[SeatLog]) {
     for (direction, name, octets) in released {
         assert!(rt; is_released(world, direction, name, octets), "{name:?}");
     }
-    assert!(rt; world.released().len() == 6 && executed(world) == 5);
+    assert!(rt; world.released().len() == 6 && requests_executed(world) == 5);
     for (address, octet) in [(0, 0x11), (16, 0x22), (32, 0x33), (48, 0x44), (4, 0)] {
         assert!(rt; has_at(world, address, [octet; 4]), "at {address}");
     }
@@ -75,7 +75,7 @@ fn is_released(world: &World, direction: Direction, name: Name, octets: usize) -
 }
 
 // How many requests were executed.
-fn executed(world: &World) -> usize {
+fn requests_executed(world: &World) -> usize {
     world
         .journal()
         .iter()

@@ -36,7 +36,7 @@ const LOAD: [u8; 14] = [
 
 /// An event of seat 0.
 #[derive(Clone, Copy)]
-pub(crate) enum Asked<'a> {
+pub(crate) enum SceneAsked<'a> {
     Open(Direction, Name, &'a [u8]),
     Send(Direction, Name, u16),
     /// The load of abcdef01 to address 16, as a packet of its own.
@@ -55,7 +55,11 @@ impl Gate for Free {
 }
 
 /// A world after these events, which are accepted; none if memory runs out for it.
-pub(crate) fn world_after(alloc: Global, config: Config, asked: &[Asked<'_>]) -> Option<World> {
+pub(crate) fn world_after(
+    alloc: Global,
+    config: Config,
+    asked: &[SceneAsked<'_>],
+) -> Option<World> {
     let mut world = new_world(alloc, config)?;
     if play(alloc, &mut world, asked) {
         return Some(world);
@@ -68,7 +72,7 @@ pub(crate) fn world_after(alloc: Global, config: Config, asked: &[Asked<'_>]) ->
 pub(crate) fn run<R: Threads + Wait + Sync, G: Gate + Sync>(
     alloc: Global,
     rt: &R,
-    asked: &[Asked<'_>],
+    asked: &[SceneAsked<'_>],
     turns: Turns,
     gate: &G,
 ) -> Result<(World, Vec<SeatLog>), Fail> {
@@ -97,7 +101,7 @@ fn zeros(alloc: Global) -> Result<Vec<(u8, Octets)>, AllocError> {
 }
 
 // Asks for these events, and gives whether they are accepted.
-fn play(alloc: Global, world: &mut World, asked: &[Asked<'_>]) -> bool {
+fn play(alloc: Global, world: &mut World, asked: &[SceneAsked<'_>]) -> bool {
     for one in asked {
         let Ok(event) = event(alloc, *one) else {
             return false;
@@ -110,18 +114,18 @@ fn play(alloc: Global, world: &mut World, asked: &[Asked<'_>]) -> bool {
 }
 
 // The event that is asked for.
-fn event(alloc: Global, asked: Asked<'_>) -> Result<Event, AllocError> {
+fn event(alloc: Global, asked: SceneAsked<'_>) -> Result<Event, AllocError> {
     Ok(match asked {
-        Asked::Open(direction, name, message) => Event::Open(
+        SceneAsked::Open(direction, name, message) => Event::Open(
             direction,
             name,
             octets(alloc, message)?,
         ),
-        Asked::Send(direction, name, part) => Event::Send(direction, name, part),
-        Asked::Load => plain(alloc)?,
-        Asked::Lose(n) => Event::Lose(n),
-        Asked::Take(lane, n) => Event::Take(lane, n),
-        Asked::Deliver(lane) => Event::Deliver(lane),
+        SceneAsked::Send(direction, name, part) => Event::Send(direction, name, part),
+        SceneAsked::Load => plain(alloc)?,
+        SceneAsked::Lose(n) => Event::Lose(n),
+        SceneAsked::Take(lane, n) => Event::Take(lane, n),
+        SceneAsked::Deliver(lane) => Event::Deliver(lane),
     })
 }
 

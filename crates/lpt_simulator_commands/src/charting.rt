@@ -1,7 +1,7 @@
 //! The picture of a script's run.
 
 use crate::ends::{fault_of, status_at_end};
-use crate::recalled::{Kept, Script, opened_script};
+use crate::recalled::{KeptText, Script, opened_script};
 use lpt_chart::Choice;
 use lpt_chart_script::{Drawing, draw_script};
 use lpt_command_line::{ChartWords, SettingWords};
@@ -26,7 +26,7 @@ pub fn chart<R: Machine>(
         to: words.to,
     };
     let (config, memories, _) = settings_of(rt, settings)?;
-    let mut source = match opened_script(rt, words.script, Kept::Whole) {
+    let mut source = match opened_script(rt, words.script, KeptText::Whole) {
         Ok(source) => source,
         Err(failure) => {
             drop(memories);
@@ -36,7 +36,7 @@ pub fn chart<R: Machine>(
     let alloc = rt.alloc();
     let drawn = draw_script(alloc, config, memories, choice, words.refused, &mut source);
     let status = match drawn {
-        Ok(drawing) => told(rt, &source, words, drawing),
+        Ok(drawing) => tell_run(rt, &source, words, drawing),
         Err(fault) => Err(Failure::from(fault_of(ToolFault::from(fault)))),
     };
     drop(source);
@@ -44,7 +44,7 @@ pub fn chart<R: Machine>(
 }
 
 // Writes a picture, and gives how the run ended that it is of.
-fn told<R: Machine>(
+fn tell_run<R: Machine>(
     rt: &R,
     source: &Script<R>,
     words: &ChartWords<'_>,

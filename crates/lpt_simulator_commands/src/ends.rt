@@ -19,7 +19,7 @@ pub fn status_at_end<R: Machine>(
 ) -> Result<Status, Failure> {
     let watched = source.inner();
     if let Err(ToolFault::Line(number)) = ran {
-        tell_unreadable(rt, path, number, watched.inner().kept());
+        tell_unreadable(rt, path, number, watched.inner().octets_kept());
     }
     status_after(rt, watched.error(), path, ran)
 }

@@ -2,8 +2,8 @@
 
 use lpt_io::{Machine, Watched, tell_place};
 use lpt_packet::Octets;
-use lpt_script_expansion::{file_named, filled};
-use lpt_text::{End, FromStd, LONGEST_LINE, ended, first_place, read_text};
+use lpt_script_expansion::{file_named, line_filled};
+use lpt_text::{End, FromStd, LONGEST_LINE, ended_line, first_place, read_text};
 use std::alloc::AllocError;
 use std::fs::File;
 use std::io::{self, Read};
@@ -13,7 +13,7 @@ use std::rt::Files;
 const CHUNK: usize = 4_096;
 
 /// What was read of a file, if it could be, and isn't too long.
-type Found = Result<Option<Vec<u8>>, AllocError>;
+type FoundOctets = Result<Option<Vec<u8>>, AllocError>;
 
 /// Standard input, in which each line that names a file has its octets in place of the name.
 #[derive(Drop)]
@@ -63,7 +63,7 @@ impl<'r, R: Machine> Filled<'r, R> {
 
     // What came of a line is given next, with a file's octets where it names one.
     fn end_line(&mut self) -> io::Result<()> {
-        let line = ended(&self.begun);
+        let line = ended_line(&self.begun);
         match file_named(line) {
             Some(name) if !self.is_long => {
                 let octets = octets_of(self.rt, line, name)?;
@@ -108,14 +108,14 @@ fn octets_of(
 ) -> io::Result<Octets> {
     let front = &line[..line.len().saturating_sub(name.len())];
     let room = LONGEST_LINE.saturating_sub(front.len()) / 2;
-    match found(rt, name, room)? {
-        Some(octets) => Ok(filled(rt.alloc(), line, &octets)?),
+    match file_found(rt, name, room)? {
+        Some(octets) => Ok(line_filled(rt.alloc(), line, &octets)?),
         None => Ok(Octets::from_vec(Vec::from_slice(rt.alloc(), front)?)),
     }
 }
 
 // The octets of a file, where it can be read and has at most so many.
-fn found(rt: &(impl Files + Eprint + AllocGlobal), name: &[u8], room: usize) -> Found {
+fn file_found(rt: &(impl Files + Eprint + AllocGlobal), name: &[u8], room: usize) -> FoundOctets {
     let Ok(path) = str::from_utf8(name) else {
         tell_place(rt, "a file's name isn't UTF-8");
         return Ok(None);
@@ -140,7 +140,7 @@ fn found(rt: &(impl Files + Eprint + AllocGlobal), name: &[u8], room: usize) -> 
 }
 
 // Nothing, after standard error was told this.
-fn untold(rt: &impl Eprint, why: String) -> Found {
+fn untold(rt: &impl Eprint, why: String) -> FoundOctets {
     tell_place(rt, why.as_str());
     Ok(None)
 }

@@ -1,7 +1,7 @@
 //! Scripts judged without being run.
 
 use crate::ends::status_after;
-use lpt_io::{Failure, Incoming, Machine, Status, finish, name_of, opened, output};
+use lpt_io::{Failure, Incoming, Machine, Status, finish, name_of, open_input, output};
 use lpt_script::ScriptEnd;
 use lpt_script_lint::{Finding, explain, finding_text};
 use lpt_text::split_line;
@@ -11,7 +11,7 @@ use lpt_tool::ToolFault;
 ///
 /// Errors: `Read` if the script can't be opened or read; `Write`, `Memory`.
 pub fn lint<R: Machine>(rt: &R, script: &str) -> Result<Status, Failure> {
-    let mut source = opened(rt, script)?;
+    let mut source = open_input(rt, script)?;
     let status = lint_from(rt, script, &mut source);
     drop(source);
     status

@@ -11,7 +11,7 @@ pub type Script<R> = FromStd<Watched<Recalled<R>>>;
 
 /// What is kept of a script.
 #[derive(Clone, Copy)]
-pub enum Kept {
+pub enum KeptText {
     /// The octets of the last read, and those before them of the line that they go on.
     Last,
     /// All.
@@ -27,7 +27,7 @@ pub enum Kept {
 #[derive(Drop)]
 pub struct Recalled<R: Machine> {
     input: Origin<R>,
-    reach: Kept,
+    reach: KeptText,
     kept: Vec<u8>,
     // How many octets the last read gave: those before them have no line end, unless all are kept.
     last: usize,
@@ -35,7 +35,7 @@ pub struct Recalled<R: Machine> {
 
 impl<R: Machine> Recalled<R> {
     /// What nothing was read of.
-    pub fn new(alloc: Global, input: Origin<R>, reach: Kept) -> Self {
+    pub fn new(alloc: Global, input: Origin<R>, reach: KeptText) -> Self {
         Recalled {
             input,
             reach,
@@ -45,26 +45,26 @@ impl<R: Machine> Recalled<R> {
     }
 
     /// What is kept, from the beginning of a line.
-    pub fn kept(&self) -> &[u8] {
+    pub fn octets_kept(&self) -> &[u8] {
         &self.kept
     }
 
     // Keeps what was read. Where there is no memory for it, nothing is kept from then on.
     fn keep(&mut self, octets: &[u8]) {
         match self.reach {
-            Kept::Last => {
+            KeptText::Last => {
                 self.pass();
                 if self.kept.len() > LONGEST_LINE {
                     return;
                 }
             }
-            Kept::Whole => {}
-            Kept::Nothing => return,
+            KeptText::Whole => {}
+            KeptText::Nothing => return,
         }
         self.last = octets.len();
         if self.kept.extend_from_slice(octets).is_err() {
             self.kept.clear();
-            self.reach = Kept::Nothing;
+            self.reach = KeptText::Nothing;
         }
     }
 
@@ -92,7 +92,7 @@ impl<R: Machine> Read for Recalled<R> {
 /// The script at this path, or standard input for `-`, to be read; so much is kept of it.
 ///
 /// Errors: `Read` if it can't be opened.
-pub fn opened_script<R: Machine>(rt: &R, path: &str, kept: Kept) -> Result<Script<R>, Failure> {
+pub fn opened_script<R: Machine>(rt: &R, path: &str, kept: KeptText) -> Result<Script<R>, Failure> {
     let input = input_at(rt, path)?;
     Ok(FromStd::new(Watched::new(Recalled::new(rt.alloc(), input, kept))))
 }

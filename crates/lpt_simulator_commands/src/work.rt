@@ -1,7 +1,7 @@
 //! Scripts run, with threads behind them and without.
 
 use crate::ends::status_at_end;
-use crate::recalled::{Kept, Script, opened_script};
+use crate::recalled::{KeptText, Script, opened_script};
 use lpt_command_line::SettingWords;
 use lpt_events::{Config, Turns};
 use lpt_io::{Failure, Machine, Status, finish, output, settings_of, tell_place};
@@ -34,7 +34,7 @@ pub fn run<R: Machine, T: Threads + Wait + Sync>(
     script: &str,
 ) -> Result<Status, Failure> {
     let (config, memories, turns) = settings_of(rt, settings)?;
-    let mut source = match opened_script(rt, script, Kept::Last) {
+    let mut source = match opened_script(rt, script, KeptText::Last) {
         Ok(source) => source,
         Err(failure) => {
             drop(memories);

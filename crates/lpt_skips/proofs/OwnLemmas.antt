@@ -15,7 +15,7 @@ use Rattle.lpt_packet.proofs.OctetLists.{IsOctets-drop}
 use Rattle.lpt_pus.specs.declared.fault.PusFault.{PusFault}
 use Rattle.lpt_pus.specs.declared.fault.PusFault.TheVariants.{WrongType}
 use Rattle.lpt_pus.specs.Commands.{Command, is_tc, tc_verdict}
-use Rattle.lpt_pus.specs.Messages.{tested}
+use Rattle.lpt_pus.specs.Messages.{headers_tested}
 use Rattle.lpt_pus.specs.Telemetry.{Telemetry, is_tm, tm_verdict}
 use Rattle.lpt_part.specs.declared.fault.PartFault.{PartFault}
 use Rattle.lpt_part.specs.declared.fault.PartFault.TheVariants.{ShortPart, Zero, KindNumber, PartLength}
@@ -33,7 +33,7 @@ use Rattle.lpt_stream.specs.declared.piece_kind.PieceKind.TheVariants as piece
 use Rattle.lpt_carried.specs.declared.reading.Reading.{Reading}
 use Rattle.lpt_carried.specs.declared.skip.Skip.{Skip}
 use Rattle.lpt_carried.specs.declared.skip.Skip.TheVariants.{OtherApid}
-use Rattle.lpt_carried.specs.Carried.{Named, carried, kind_to, of_kind, of_message, of_part, of_sight}
+use Rattle.lpt_carried.specs.Carried.{Named, part_carried, kind_to, of_kind, of_message, of_part, of_sight}
 use Rattle.lpt_carried.specs.Own.{IsOwn, own_layout}
 use Rattle.lpt_carried.specs.Sizes.{size_for}
 use Rattle.lpt_carried.proofs.OwnLemmas.{field-octets}
@@ -183,7 +183,7 @@ part-read w user kind body p (Err e) is =
 -- what isn't read as a message: of the other type, or for another test
 untyped : {X : Type 0} (typed long versioned : Bool) (m : X)
     → typed ≡ false
-    → tested typed long versioned m ≡ Err WrongType
+    → headers_tested typed long versioned m ≡ Err WrongType
 untyped false long versioned m is = refl
 untyped true long versioned m is = absurd cc
 
@@ -192,7 +192,7 @@ same_fault h = cc
 
 typed-unsaid : {X : Type 0} (typed long versioned : Bool) (m : X) (e : PusFault)
     → typed ≡ true
-    → tested typed long versioned m ≡ Err e
+    → headers_tested typed long versioned m ≡ Err e
     → why_unsaid e ≡ why.NoPart
 typed-unsaid false long versioned m e is h = absurd cc
 typed-unsaid true true true m e is h = absurd cc
@@ -355,8 +355,8 @@ module _ (w : Wanted) (p : ℕ) (own : IsOwn w.reading p)
       whole-own : (b : List ℕ)
           → IsOctets b
           → ((has : Bool) → has ≡ true → verdict_as has b ≡ verdict b)
-          → view (carried r b) (carried (sizeless r) b) ≡ own_verdict w p (verdict b)
-      unfolding carried
+          → view (part_carried r b) (part_carried (sizeless r) b) ≡ own_verdict w p (verdict b)
+      unfolding part_carried
       whole-own b octets packets =
           ap (λ v. view (of_sight r v) (of_sight (sizeless r) v)) (packets r.layout.has_checksum
           (ap (λ (l : Layout). l.has_checksum) own.layout_is ∙ sealed r.direction))

@@ -4,7 +4,7 @@ use Rattle.lpt_carried.specs.declared.name.Name.{Name}
 use Rattle.lpt_carried.specs.declared.reading.Reading.{Reading}
 use Rattle.lpt_carried.specs.declared.skip.Skip.{Skip}
 use Rattle.lpt_carried.specs.declared.skip.Skip.TheVariants as skip
-use Rattle.lpt_carried.specs.Carried.{Named, carried, name_of, same_name}
+use Rattle.lpt_carried.specs.Carried.{Named, part_carried, name_of, same_name}
 use Rattle.lpt_part.specs.declared.fault.PartFault.{PartFault}
 use Rattle.lpt_part.specs.declared.fault.PartFault.TheVariants.{ShortPart, Zero, KindNumber, PartLength, AbortBody}
 use Rattle.lpt_part.specs.declared.kind.Kind.{Kind}
@@ -78,7 +78,8 @@ why_carried wanted (Err e) that = why_skip e (fitting_by that)
 
 -- octets that are a piece of this kind
 abbrev pub why_of : Wanted → PieceKind → List ℕ → Why
-why_of w piece.Whole b = why_carried w.name (carried w.reading b) (carried (sizeless w.reading) b)
+why_of w piece.Whole b =
+    why_carried w.name (part_carried w.reading b) (part_carried (sizeless w.reading) b)
 why_of w piece.Damaged b = Damaged
 why_of w piece.Stray b = Stray (length b)
 

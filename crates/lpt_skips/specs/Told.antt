@@ -9,7 +9,7 @@ use Rattle.lpt_skips.specs.declared.wanted.Wanted.{Wanted}
 use Rattle.lpt_skips.specs.declared.skips.Skips.{Skips}
 use Rattle.lpt_skips.specs.declared.topic.Topic.{Topic}
 use Rattle.lpt_skips.specs.declared.topic.Topic.TheVariants.{OtherApid, OtherDirection, NoNumber, Unread, OtherName, NoPart, Damaged, Stray}
-use Rattle.lpt_skips.specs.Tallies.{raised}
+use Rattle.lpt_skips.specs.Tallies.{count_raised}
 
 -- how many there are of a topic
 abbrev pub count_of : Skips → Topic → ℕ
@@ -87,7 +87,7 @@ place_text count place =
 -- the same of a topic, where it is known; so many octets come before the stream that is read
 abbrev pub first_text : (from : ℕ) → Skips → Topic → List ℕ
 first_text from s t =
-    option_map_or (λ at. place_text (count_of s t) (raised at from)) (first_of s t) []
+    option_map_or (λ at. place_text (count_of s t) (count_raised at from)) (first_of s t) []
 
 -- a direction and a number
 abbrev pub opening : Direction → ℕ → List ℕ

@@ -4,7 +4,7 @@ ghost use Rattle.std.specs.Prelude.{◌≡◌, length};
 ghost use Rattle.lpt_carried.specs.Carried.{cut};
 ghost use Rattle.lpt_stream.specs.Pieces.{IsSealedBy};
 ghost use Rattle.lpt_skips.specs.Losses.{loses};
-ghost use Rattle.lpt_skips.specs.Tallies.{nothing_noted, noted, with_octets};
+ghost use Rattle.lpt_skips.specs.Tallies.{nothing_noted, piece_noted, with_octets};
 
 use crate::{Wanted, Why};
 use lpt_carried::{Name, PieceKind};
@@ -72,7 +72,7 @@ impl Skips {
     pub fn note(&mut self, wanted: &Wanted, kind: PieceKind, octets: &[u8])
         requires { IsSealedBy (cut wanted.now.reading) kind octets.now }
         ensures noted { self.new
-            ≡ noted wanted.now self.old (record { kind = kind; octets = octets.now }) }
+            ≡ piece_noted wanted.now self.old (record { kind = kind; octets = octets.now }) }
     {
         match wanted.why(kind, octets) {
             Why::Taken => {}

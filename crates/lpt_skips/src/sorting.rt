@@ -1,7 +1,7 @@
 //! Why a piece of a stream is none of the parts that are wanted.
 
 ghost use Rattle.std.specs.Prelude.{◌≡◌};
-ghost use Rattle.lpt_carried.specs.Carried.{carried, cut};
+ghost use Rattle.lpt_carried.specs.Carried.{part_carried, cut};
 ghost use Rattle.lpt_stream.specs.Pieces.{IsSealedBy};
 ghost use Rattle.lpt_stream.specs.declared.piece_kind.PieceKind.TheVariants.{Whole};
 ghost use Rattle.lpt_skips.specs.Skipping.{fitting_by, size_shown, sizeless, why_name, why_of, why_skip, why_unsaid};
@@ -41,7 +41,7 @@ impl Wanted {
 // Why a packet is that carries no part for this reason.
 fn why_skip(reading: &Reading, skip: Skip, octets: &[u8]) -> Why
     requires { IsSealedBy (cut reading.now) Whole octets.now }
-    ensures { result ≡ why_skip skip (fitting_by (carried (sizeless reading.now) octets.now)) }
+    ensures { result ≡ why_skip skip (fitting_by (part_carried (sizeless reading.now) octets.now)) }
 {
     match skip {
         Skip::OtherApid(apid) => Why::OtherApid(apid),
@@ -66,7 +66,7 @@ fn why_unsaid(fault: PusFault) -> Why
 // The part size that a packet shows which carries a first part.
 fn fitting_in(reading: &Reading, octets: &[u8]) -> Option<u32>
     requires { IsSealedBy (cut reading.now) Whole octets.now }
-    ensures { result ≡ fitting_by (carried (sizeless reading.now) octets.now) }
+    ensures { result ≡ fitting_by (part_carried (sizeless reading.now) octets.now) }
 {
     let sizeless = Reading {
         direction: reading.direction,

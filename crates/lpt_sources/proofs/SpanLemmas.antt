@@ -4,7 +4,7 @@ use Rattle.std.proofs.lemmas.List.{take_all}
 use Rattle.std.specs.Option.{option_map}
 use Rattle.std.specs.Io.KnownBytes.{Consumes, IsAtEnd, Keeps}
 use Rattle.std.proofs.Math.Seq.{drop-append-add, take-append-add}
-use Rattle.lpt_sources.specs.Spans.{cut_out, taken}
+use Rattle.lpt_sources.specs.Spans.{cut_out, octets_taken}
 
 -- so many octets of a room that has them
 pub front-length : (n : ℕ) (room : List ℕ) → n ≤ length room → length (take n room) ≡ n
@@ -22,7 +22,7 @@ span-passed (Some z) None b before n left bs kept came size within = absurd kept
 span-passed (Some z) (Some x) None before n left bs kept came size within = absurd came
 span-passed (Some z) (Some x) (Some y) before n left bs kept came size within =
     let sum : before ≡ length bs + (before - n) = omega (arith, size, within) in
-    ap (λ f. taken left f)
+    ap (λ f. octets_taken left f)
     (sym (drop-append-add bs y (before - n))
     ∙ ap (λ k. drop k (bs ++ y)) (sym sum)
     ∙ ap (drop before) (sym came))
@@ -43,7 +43,7 @@ span-given None b before room left n bs got none some came is size within = tt
 span-given (Some x) None before room left n bs got none some came is size within = absurd came
 span-given (Some x) (Some y) before room left n bs got none some came is size within =
     let sum : left ≡ length bs + (left - n) = omega (arith, size, within) in
-    ap (λ r. taken r (drop before x)) some
+    ap (λ r. octets_taken r (drop before x)) some
     ∙ ap (λ k. take left (drop k x)) none
     ∙ ap (take left) came
     ∙ ap (λ k. take k (bs ++ y)) sum

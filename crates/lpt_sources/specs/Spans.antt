@@ -4,13 +4,13 @@ use Rattle.std.specs.Option.{option_map}
 use Rattle.lpt_sources.specs.declared.span.Span.{Span}
 
 -- so many octets, or all
-abbrev pub taken : Option ℕ → List ℕ → List ℕ
-taken None b = b
-taken (Some n) b = take n b
+abbrev pub octets_taken : Option ℕ → List ℕ → List ℕ
+octets_taken None b = b
+octets_taken (Some n) b = take n b
 
 -- without so many in front, and so many of these, or all
 abbrev pub cut_out : (before : ℕ) → (left : Option ℕ) → List ℕ → List ℕ
-cut_out before left b = taken left (drop before b)
+cut_out before left b = octets_taken left (drop before b)
 
 abbrev pub source_of : {S : Type 0} → Span S → S
 source_of s = s.source

@@ -46,7 +46,7 @@ impl<S> Keeping<S> {
     }
 
     /// What is kept: the first octets of all that was read, up to so many.
-    pub fn kept(&self) -> &[u8]
+    pub fn octets_kept(&self) -> &[u8]
         ensures { result.now ≡ kept_of self.now }
     {
         &self.kept

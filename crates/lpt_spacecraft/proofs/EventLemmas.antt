@@ -9,9 +9,9 @@ use Rattle.lpt_stream.specs.Pieces.{up_to_limit}
 use Rattle.lpt_stream.specs.Streams.{all_octets}
 use Rattle.lpt_frames.specs.Frames.{IsFrame}
 use Rattle.lpt_frames.proofs.StretchLemmas.{so-far-frame, so-far-more, so-far-none, IsCutSoFar}
-use Rattle.lpt_spacecraft.specs.Flights.{Event, Flight, Made, Packet, came_with, clock_ticks, counted_on, dues_of, inputs_by, inputs_of, new_flight, onward, served, stretches_of}
+use Rattle.lpt_spacecraft.specs.Flights.{FlightEvent, Flight, Made, Packet, came_with, clock_ticks, counted_on, dues_of, inputs_by, inputs_of, new_flight, onward, inputs_served, stretches_of}
 use Rattle.lpt_spacecraft.specs.Streams.{flight_of, length_of, onboard, plain, served_by, Answers, Breaks, BreaksOff, Flies, Serves}
-use Rattle.lpt_spacecraft.specs.declared.pace.Course.{Course}
+use Rattle.lpt_spacecraft.specs.declared.pace.PaceCourse.{PaceCourse}
 use Rattle.lpt_spacecraft.specs.declared.pace.Pace.{Pace}
 use Rattle.lpt_spacecraft.specs.declared.spacecraft.Spacecraft.{Spacecraft}
 use Rattle.lpt_spacecraft.specs.declared.told.Told.{Told}
@@ -31,10 +31,10 @@ pub record Ends : Type 0 where
   pub has : Option (List Told)
 
 -- the events that came were taken, and these octets are held behind them
-pub record IsServed (pace : Pace) (s t : Spacecraft) (q : Course) (e : Ends) (held : List ℕ)
+pub record IsServed (pace : Pace) (s t : Spacecraft) (q : PaceCourse) (e : Ends) (held : List ℕ)
     (count place : ℕ) : Type 0 where
   pub stream : List ℕ
-  pub events : List Event
+  pub events : List FlightEvent
   pub consumed : Consumes e.before e.after stream
   pub cut : IsCutSoFar pace.passing stream (stretches_of events) held
   pub flies : Flies (served_by pace s events) t q e.old e.new e.had e.has
@@ -46,7 +46,7 @@ pub record IsServed (pace : Pace) (s t : Spacecraft) (q : Course) (e : Ends) (he
   pub few : q.since ≤ count
 
 -- none came
-pub served-none : (pace : Pace) (s : Spacecraft) (q : Course) (a old asked : Option (List ℕ))
+pub served-none : (pace : Pace) (s : Spacecraft) (q : PaceCourse) (a old asked : Option (List ℕ))
     (had : Option (List Told)) (held : List ℕ)
     → held ≡ []
     → q.pace ≡ pace
@@ -82,36 +82,37 @@ served-none pace s q a old asked had held none paced since unused = record {
 }
 
 -- what one event more makes
-pub by-next : (pace : Pace) (s : Spacecraft) (events : List Event) (x : Event)
+pub by-next : (pace : Pace) (s : Spacecraft) (events : List FlightEvent) (x : FlightEvent)
     → served_by pace s (events ++ x ∷ [])
-    ≡ onward (λ g. served s.config g (inputs_by pace.every (since_after pace.every 0 events)
+    ≡ onward (λ g. inputs_served s.config g (inputs_by pace.every (since_after pace.every 0 events)
     (0 + length_of events) x)) (served_by pace s events)
 by-next pace s events x =
     let f = new_flight pace.reuse (onboard s) in
-    ap (served s.config f) (inputs-next pace.every 0 0 events x)
+    ap (inputs_served s.config f) (inputs-next pace.every 0 0 events x)
     ∙ served-append s.config f (inputs_of pace.every 0 0 events)
     (inputs_by pace.every (since_after pace.every 0 events) (0 + length_of events) x)
 
 -- where it is a packet
-by-packet : (pace : Pace) (s : Spacecraft) (events : List Event) (due : ℕ) (b : List ℕ) (since : ℕ)
+by-packet : (pace : Pace) (s : Spacecraft) (events : List FlightEvent) (due : ℕ) (b : List ℕ)
+    (since : ℕ)
     → since ≡ since_after pace.every 0 events
     → served_by pace s (events ++ Packet due b ∷ [])
-    ≡ onward (λ g. served s.config g (clock_ticks due ++ came_with pace.every since b))
+    ≡ onward (λ g. inputs_served s.config g (clock_ticks due ++ came_with pace.every since b))
     (served_by pace s events)
 by-packet pace s events due b since is =
     by-next pace s events (Packet due b)
-    ∙ ap (λ n. onward (λ g. served s.config g (clock_ticks due ++ came_with pace.every n b))
+    ∙ ap (λ n. onward (λ g. inputs_served s.config g (clock_ticks due ++ came_with pace.every n b))
     (served_by pace s events)) (sym is)
 
 -- what a packet makes of an end on its course, whose configuration and pace these are
-abbrev pub made_next : Config → Pace → Spacecraft → Course → (due : ℕ) → List ℕ → Made
+abbrev pub made_next : Config → Pace → Spacecraft → PaceCourse → (due : ℕ) → List ℕ → Made
 made_next c pace s q due b =
-    served c (flight_of s q) (clock_ticks due ++ came_with pace.every q.since b)
+    inputs_served c (flight_of s q) (clock_ticks due ++ came_with pace.every q.since b)
 
 -- it was taken
-flies-next : (pace : Pace) (s mid t : Spacecraft) (q r : Course) (c : Config)
+flies-next : (pace : Pace) (s mid t : Spacecraft) (q r : PaceCourse) (c : Config)
     (old between new : Option (List ℕ)) (had mids has : Option (List Told))
-    (events : List Event) (due : ℕ) (b : List ℕ)
+    (events : List FlightEvent) (due : ℕ) (b : List ℕ)
     → q.since ≡ since_after pace.every 0 events
     → q.pace ≡ pace
     → c ≡ s.config
@@ -126,13 +127,14 @@ flies-next pace s mid t q r c old between new had mids has events due b is paced
     subst (λ (x : Made). Flies x t r old new had has)
     (sym (by-packet pace s events due b q.since is))
     (flies-then (served_by pace s events)
-    (λ g. served s.config g (clock_ticks due ++ came_with pace.every q.since b)) mid t q r old
+    (λ g. inputs_served s.config g (clock_ticks due ++ came_with pace.every q.since b)) mid t q r
+    old
     between new had mids has before at)
 
 -- work broke off in it
-pub breaks-next : (pace : Pace) (s mid t : Spacecraft) (q : Course) (c : Config)
+pub breaks-next : (pace : Pace) (s mid t : Spacecraft) (q : PaceCourse) (c : Config)
     (old between new asked answered : Option (List ℕ)) (had has : Option (List Told))
-    (events : List Event) (due : ℕ) (b : List ℕ)
+    (events : List FlightEvent) (due : ℕ) (b : List ℕ)
     → q.since ≡ since_after pace.every 0 events
     → q.pace ≡ pace
     → c ≡ s.config
@@ -144,7 +146,7 @@ breaks-next pace s mid t q c old between new asked answered had has events due b
     before next answers =
     let x = served_by pace s events in
     let f : Flight → Made =
-    λ g. served s.config g (clock_ticks due ++ came_with pace.every q.since b) in
+    λ g. inputs_served s.config g (clock_ticks due ++ came_with pace.every q.since b) in
     let at : Breaks x.flight.end.memories (plain (f x.flight)) t.memories between new =
     subst (λ (g : Flight). Breaks g.end.memories (plain (f g)) t.memories between new)
     before.flight
@@ -164,8 +166,9 @@ breaks-next pace s mid t q c old between new asked answered had has events due b
     }
 
 -- it broke off between two events
-pub breaks-between : (pace : Pace) (s t : Spacecraft) (q : Course)
-    (old new asked answered : Option (List ℕ)) (had has : Option (List Told)) (events : List Event)
+pub breaks-between : (pace : Pace) (s t : Spacecraft) (q : PaceCourse)
+    (old new asked answered : Option (List ℕ)) (had has : Option (List Told))
+    (events : List FlightEvent)
     → Flies (served_by pace s events) t q old new had has
     → Answers pace.clocked asked answered (dues_of events)
     → BreaksOff pace s t old new asked answered had has events
@@ -182,8 +185,9 @@ breaks-between pace s t q old new asked answered had has events h answers = reco
 }
 
 -- all were taken
-pub serves-all : (pace : Pace) (s t : Spacecraft) (q : Course)
-    (old new asked answered : Option (List ℕ)) (had has : Option (List Told)) (events : List Event)
+pub serves-all : (pace : Pace) (s t : Spacecraft) (q : PaceCourse)
+    (old new asked answered : Option (List ℕ)) (had has : Option (List Told))
+    (events : List FlightEvent)
     → Flies (served_by pace s events) t q old new had has
     → Answers pace.clocked asked answered (dues_of events)
     → Serves pace s t old new asked answered had has events
@@ -193,7 +197,7 @@ serves-all pace s t q old new asked answered had has events h answers = record {
   answers = answers;
 }
 
-pub place-next : (events : List Event) (x : Event) (at next len : ℕ)
+pub place-next : (events : List FlightEvent) (x : FlightEvent) (at next len : ℕ)
     → at ≡ up_to_limit (length_of events)
     → length_of (events ++ x ∷ []) ≡ length_of events + len
     → next ≡ min (at + len) (2 ^ 64 - 1)
@@ -201,7 +205,7 @@ pub place-next : (events : List Event) (x : Event) (at next len : ℕ)
 place-next events x at next len is sum then = omega (arith, is, sum, then)
 
 -- the clock's answers, with one more
-pub asks-next : (is_asked : Bool) (a b d : Option (List ℕ)) (events : List Event) (due : ℕ)
+pub asks-next : (is_asked : Bool) (a b d : Option (List ℕ)) (events : List FlightEvent) (due : ℕ)
     (octets : List ℕ)
     → Answers is_asked a b (dues_of events)
     → Answers is_asked b d (due ∷ [])
@@ -211,7 +215,7 @@ asks-next is_asked a b d events due octets h k =
     (answers-more is_asked a b d (dues_of events) (due ∷ []) h k)
 
 -- with more read behind, after all that was written was passed on
-pub served-more : (pace : Pace) (s t : Spacecraft) (q : Course) (e : Ends)
+pub served-more : (pace : Pace) (s t : Spacecraft) (q : PaceCourse) (e : Ends)
     (d passed : Option (List ℕ)) (held now read : List ℕ) (count place : ℕ)
     → IsServed pace s t q e held count place
     → Consumes e.after d read
@@ -238,7 +242,7 @@ served-more pace s t q e d passed held now read count place h more is kept = rec
 }
 
 -- and with the packet in front taken
-pub served-next : (pace : Pace) (s mid t : Spacecraft) (q r : Course) (c : Config) (e : Ends)
+pub served-next : (pace : Pace) (s mid t : Spacecraft) (q r : PaceCourse) (c : Config) (e : Ends)
     (new answered : Option (List ℕ)) (has : Option (List Told))
     (held now octets : List ℕ) (due count place len then : ℕ)
     → IsServed pace s mid q e held count place

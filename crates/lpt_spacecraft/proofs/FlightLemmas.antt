@@ -4,11 +4,11 @@ use Rattle.std.specs.Io.KnownBytes.{Appends}
 use Rattle.std.proofs.KnownBytes.{Appends-nil}
 use Rattle.lpt_node.specs.Nodes.{NodeData}
 use Rattle.lpt_stream.specs.Streams.{all_octets}
-use Rattle.lpt_spacecraft.specs.Flights.{cleared, clearing, due_now, freed, is_due, noting, state_of, told_first, told_freed, use_of, uses_of}
+use Rattle.lpt_spacecraft.specs.Flights.{names_cleared, clearing, due_now, name_freed, is_due, noting, state_of, told_first, told_freed, use_of, uses_of}
 use Rattle.lpt_spacecraft.specs.Serving.{Onboard}
 use Rattle.lpt_spacecraft.specs.Streams.{flight_of, onboard, Flies}
-use Rattle.lpt_spacecraft.specs.Telling.{all_noted, ended, used_up, Hears}
-use Rattle.lpt_spacecraft.specs.declared.pace.Course.{Course}
+use Rattle.lpt_spacecraft.specs.Telling.{all_noted, name_used, used_up, Hears}
+use Rattle.lpt_spacecraft.specs.declared.pace.PaceCourse.{PaceCourse}
 use Rattle.lpt_spacecraft.specs.declared.pace.Pace.{Pace}
 use Rattle.lpt_spacecraft.specs.declared.pace.Use.{Use}
 use Rattle.lpt_spacecraft.specs.declared.spacecraft.Spacecraft.{Spacecraft}
@@ -26,14 +26,14 @@ drop-at ts i z h = rw (add-one, drop-cons ts i z) refl
 pub noted-at : (d : NodeData) (ts : List Told) (i : ℕ) (z : Told)
     → i < length ts
     → all_noted d (drop i ts)
-    ≡ (get_or ts i z ∷ used_up d (ended (get_or ts i z))) ++ all_noted d (drop (i + 1) ts)
+    ≡ (get_or ts i z ∷ used_up d (name_used (get_or ts i z))) ++ all_noted d (drop (i + 1) ts)
 noted-at d ts i z h = ap (all_noted d) (drop-at ts i z h)
 
 -- the names that they used
 used-at : (reuse clock : ℕ) (ts : List Told) (i : ℕ) (z : Told)
     → i < length ts
     → uses_of reuse clock (drop i ts)
-    ≡ use_of reuse clock (ended (get_or ts i z)) ++ uses_of reuse clock (drop (i + 1) ts)
+    ≡ use_of reuse clock (name_used (get_or ts i z)) ++ uses_of reuse clock (drop (i + 1) ts)
 used-at reuse clock ts i z h = ap (uses_of reuse clock) (drop-at ts i z h)
 
 -- with one more there, what is left is less
@@ -48,15 +48,15 @@ left-next new now more left rest all is less h =
 -- the names that were used, with one more
 pub used-next : (p q : Pace) (clock : ℕ) (ts : List Told) (i : ℕ) (z : Told)
     (new now all : List Use)
-    → new ≡ now ++ use_of p.reuse clock (ended (get_or ts i z))
+    → new ≡ now ++ use_of p.reuse clock (name_used (get_or ts i z))
     → p ≡ q
     → i < length ts
     → now ++ uses_of q.reuse clock (drop i ts) ≡ all
     → new ++ uses_of q.reuse clock (drop (i + 1) ts) ≡ all
 used-next p q clock ts i z new now all is same h was =
-    left-next new now (use_of q.reuse clock (ended (get_or ts i z)))
+    left-next new now (use_of q.reuse clock (name_used (get_or ts i z)))
     (uses_of q.reuse clock (drop i ts)) (uses_of q.reuse clock (drop (i + 1) ts)) all
-    (is ∙ ap (λ (x : Pace). now ++ use_of x.reuse clock (ended (get_or ts i z))) same)
+    (is ∙ ap (λ (x : Pace). now ++ use_of x.reuse clock (name_used (get_or ts i z))) same)
     (used-at q.reuse clock ts i z h) was
 
 -- what was told of some things, and those that are left
@@ -92,7 +92,7 @@ tells-all a b left all none h =
 -- ---- a packet, and a tick
 
 -- an end came to that, what it made was written, and what has happened was noted
-pub noting-flies : (s t : Spacecraft) (q r : Course) (x : Onboard × List (List ℕ))
+pub noting-flies : (s t : Spacecraft) (q r : PaceCourse) (x : Onboard × List (List ℕ))
     (what ts : List Told) (old new : Option (List ℕ)) (had has : List Told)
     → r.pace ≡ q.pace
     → onboard t ≡ x.0
@@ -117,7 +117,7 @@ pub record ClearsOn (reuse : ℕ) (d at : NodeData) (us left : List Use) (had ha
     Type 0 where
   pub so_far : List Told
   pub told : has ≡ had ++ so_far
-  pub is : cleared reuse d us ≡ told_first so_far (cleared reuse at left)
+  pub is : names_cleared reuse d us ≡ told_first so_far (names_cleared reuse at left)
 
 pub clears-none : (reuse : ℕ) (d : NodeData) (us : List Use) (had : List Told)
     → ClearsOn reuse d d us us had had
@@ -127,13 +127,14 @@ clears-none reuse d us had =
 -- the first is due, and is freed
 clears-front : (reuse : ℕ) (at : NodeData) (left : List Use) (u : Use)
     → Some u ≡ due_now reuse at.clock left
-    → cleared reuse at left
-    ≡ told_first (told_freed (state_of at u) u) (cleared reuse (freed at u) (drop 1 left))
+    → names_cleared reuse at left
+    ≡ told_first (told_freed (state_of at u) u)
+    (names_cleared reuse (name_freed at u) (drop 1 left))
 clears-front reuse at [] u due = absurd cc
 clears-front reuse at (v ∷ vs) u due = go (is_due reuse at.clock v) refl due
   where
     on : Use → NodeData × List Use × List Told
-    on w = told_first (told_freed (state_of at w) w) (cleared reuse (freed at w) vs)
+    on w = told_first (told_freed (state_of at w) w) (names_cleared reuse (name_freed at w) vs)
 
     go : (b : Bool)
         → is_due reuse at.clock v ≡ b
@@ -148,7 +149,7 @@ pub clears-next : (reuse : ℕ) (d at next : NodeData) (us left rest : List Use)
     (had has more : List Told) (u : Use)
     → Some u ≡ due_now reuse at.clock left
     → rest ≡ drop 1 left
-    → next ≡ freed at u
+    → next ≡ name_freed at u
     → more ≡ has ++ told_freed (state_of at u) u
     → ClearsOn reuse d at us left had has
     → ClearsOn reuse d next us rest had more
@@ -158,19 +159,19 @@ clears-next reuse d at next us left rest had has more u due behind is told h =
       so_far = h.so_far ++ now;
       told = told ∙ ap (λ l. l ++ now) h.told ∙ append_assoc had h.so_far now;
       is = h.is ∙ ap (told_first h.so_far) (clears-front reuse at left u due)
-          ∙ (λ i. let x = cleared reuse (sym is i) (sym behind i) in
+          ∙ (λ i. let x = names_cleared reuse (sym is i) (sym behind i) in
           (x.0, x.1, sym (append_assoc h.so_far now x.2) i));
     }
 
 -- none is due any more
 clears-stop : (reuse : ℕ) (at : NodeData) (left : List Use)
     → None ≡ due_now reuse at.clock left
-    → cleared reuse at left ≡ (at, left, [])
+    → names_cleared reuse at left ≡ (at, left, [])
 clears-stop reuse at [] none = refl
 clears-stop reuse at (v ∷ vs) none = go (is_due reuse at.clock v) refl none
   where
     on : NodeData × List Use × List Told
-    on = told_first (told_freed (state_of at v) v) (cleared reuse (freed at v) vs)
+    on = told_first (told_freed (state_of at v) v) (names_cleared reuse (name_freed at v) vs)
 
     go : (b : Bool)
         → is_due reuse at.clock v ≡ b
@@ -182,8 +183,8 @@ clears-stop reuse at (v ∷ vs) none = go (is_due reuse at.clock v) refl none
 pub clears-end : (reuse : ℕ) (d at : NodeData) (us left : List Use) (had has : List Told)
     → None ≡ due_now reuse at.clock left
     → ClearsOn reuse d at us left had has
-    → (at ≡ (cleared reuse d us).0) × (left ≡ (cleared reuse d us).1)
-    × (has ≡ had ++ (cleared reuse d us).2)
+    → (at ≡ (names_cleared reuse d us).0) × (left ≡ (names_cleared reuse d us).1)
+    × (has ≡ had ++ (names_cleared reuse d us).2)
 clears-end reuse d at us left had has none h =
     let e = sym (h.is ∙ ap (told_first h.so_far) (clears-stop reuse at left none)) in (
       ap (λ (x : NodeData × List Use × List Told). x.0) e,
@@ -193,7 +194,7 @@ clears-end reuse d at us left had has none h =
     )
 
 -- an end at which names were freed
-pub clearing-flies : (s t : Spacecraft) (q r : Course) (x : NodeData × List Use × List Told)
+pub clearing-flies : (s t : Spacecraft) (q r : PaceCourse) (x : NodeData × List Use × List Told)
     (old : Option (List ℕ)) (had has : List Told)
     → r.pace ≡ q.pace
     → t.memories ≡ s.memories

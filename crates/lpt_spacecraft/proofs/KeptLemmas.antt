@@ -11,7 +11,7 @@ use Rattle.lpt_node.specs.Nodes.{NodeView}
 use Rattle.lpt_state.proofs.LawLemmas.{written_is_read}
 use Rattle.lpt_state.proofs.NumberLemmas.{great_back}
 use Rattle.lpt_state.specs.Lastings.{restarted_node}
-use Rattle.lpt_state.specs.Spellings.{spelled}
+use Rattle.lpt_state.specs.Spellings.{state_spelled}
 use Rattle.lpt_state.specs.Verdicts.{great_at, reading}
 use Rattle.lpt_state.specs.declared.fault.StateFault.{StateFault}
 
@@ -180,8 +180,9 @@ ok_same v w h = cc
 
 pub kept_is_read : KeptIsRead
 kept_is_read s t kept left config read =
-    let same : IsSame (spelled s.node) read.state s.memories t.memories =
-    one_kept (spelled s.node) read.state s.memories t.memories kept.lengths read.lengths read.kept
+    let same : IsSame (state_spelled s.node) read.state s.memories t.memories =
+    one_kept (state_spelled s.node) read.state s.memories t.memories kept.lengths read.lengths
+    read.kept
     in
     record {
       node = ok_same t.node (restarted_node s.node)

@@ -6,10 +6,10 @@ use Rattle.std.proofs.lemmas.List.{length-take-le}
 use Rattle.lpt_stream.specs.Pieces.{up_to_limit}
 use Rattle.lpt_frames.specs.Stretches.{IsCutInto, IsRun}
 use Rattle.lpt_frames.proofs.StretchLemmas.{cut-here, here-run, so-far-run, IsCutSoFar}
-use Rattle.lpt_spacecraft.specs.Flights.{Astray, Event, Made, Noise, dues_of, onward, served, stretches_of}
+use Rattle.lpt_spacecraft.specs.Flights.{Astray, FlightEvent, Made, Noise, dues_of, onward, inputs_served, stretches_of}
 use Rattle.lpt_spacecraft.specs.Streams.{flight_of, length_of, served_by, Answers, Flies}
 use Rattle.lpt_spacecraft.specs.Telling.{Hears}
-use Rattle.lpt_spacecraft.specs.declared.pace.Course.{Course}
+use Rattle.lpt_spacecraft.specs.declared.pace.PaceCourse.{PaceCourse}
 use Rattle.lpt_spacecraft.specs.declared.pace.Pace.{Pace}
 use Rattle.lpt_spacecraft.specs.declared.spacecraft.Spacecraft.{Spacecraft}
 use Rattle.lpt_spacecraft.specs.declared.told.Told.{Told}
@@ -27,8 +27,8 @@ is-set true h = refl
 is-set false h = absurd cc
 
 -- so many at a place were told of, behind what came
-flies-noise : (pace : Pace) (s t : Spacecraft) (q : Course) (old new : Option (List ℕ))
-    (had mids has : Option (List Told)) (events : List Event) (b : List ℕ) (place len : ℕ)
+flies-noise : (pace : Pace) (s t : Spacecraft) (q : PaceCourse) (old new : Option (List ℕ))
+    (had mids has : Option (List Told)) (events : List FlightEvent) (b : List ℕ) (place len : ℕ)
     → place ≡ up_to_limit (length_of events)
     → length b ≡ len
     → Flies (served_by pace s events) t q old new had mids
@@ -38,19 +38,20 @@ flies-noise pace s t q old new had mids has events b place len at size before to
     let f = flight_of t q in
     let here : up_to_limit (0 + length_of events) ≡ place =
     ap up_to_limit (zero-add (length_of events)) ∙ sym at in
-    let one : Flies (served s.config f (Astray place len ∷ [])) t q new new mids has =
+    let one : Flies (inputs_served s.config f (Astray place len ∷ [])) t q new new mids has =
     subst (λ (x : Made). Flies x t q new new mids has)
     (sym (served-one s.config f (Astray place len)))
     (record { flight = refl; written = Appends-nil new; told = told }) in
     subst (λ (x : Made). Flies x t q old new had has)
     (sym (by-next pace s events (Noise b)
-    ∙ (λ i. onward (λ g. served s.config g (Astray (here i) (size i) ∷ []))
+    ∙ (λ i. onward (λ g. inputs_served s.config g (Astray (here i) (size i) ∷ []))
     (served_by pace s events))))
-    (flies-then (served_by pace s events) (λ g. served s.config g (Astray place len ∷ [])) t t q q
+    (flies-then (served_by pace s events) (λ g. inputs_served s.config g (Astray place len ∷ [])) t
+    t q q
     old new new had mids has before one)
 
 -- no answer is asked for
-asks-noise : (is_asked : Bool) (a b : Option (List ℕ)) (events : List Event) (octets : List ℕ)
+asks-noise : (is_asked : Bool) (a b : Option (List ℕ)) (events : List FlightEvent) (octets : List ℕ)
     → Answers is_asked a b (dues_of events)
     → Answers is_asked a b (dues_of (events ++ Noise octets ∷ []))
 asks-noise is_asked a b events octets h =
@@ -58,17 +59,17 @@ asks-noise is_asked a b events octets h =
     (sym (dues-next events (Noise octets) ∙ append-nil (dues_of events))) h
 
 -- what came, with these octets left behind
-pub record IsDone (pace : Pace) (s t : Spacecraft) (q : Course) (e : Ends) (left : List ℕ)
+pub record IsDone (pace : Pace) (s t : Spacecraft) (q : PaceCourse) (e : Ends) (left : List ℕ)
     (place : ℕ) : Type 0 where
   pub stream : List ℕ
-  pub events : List Event
+  pub events : List FlightEvent
   pub consumed : Consumes e.before e.after stream
   pub cut : IsCutInto pace.passing stream (stretches_of events) left
   pub flies : Flies (served_by pace s events) t q e.old e.new e.had e.has
   pub answers : Answers pace.clocked e.asked e.answered (dues_of events)
   pub place_is : place ≡ up_to_limit (length_of events)
 
-pub served-here : (pace : Pace) (s t : Spacecraft) (q : Course) (e : Ends) (held : List ℕ)
+pub served-here : (pace : Pace) (s t : Spacecraft) (q : PaceCourse) (e : Ends) (held : List ℕ)
     (count place : ℕ)
     → IsServed pace s t q e held count place
     → IsDone pace s t q e held place
@@ -82,7 +83,7 @@ served-here pace s t q e held count place h = record {
   place_is = h.place_is;
 }
 
-noise-place : (events : List Event) (b : List ℕ) (place then len : ℕ)
+noise-place : (events : List FlightEvent) (b : List ℕ) (place then len : ℕ)
     → place ≡ up_to_limit (length_of events)
     → length b ≡ len
     → then ≡ min (place + len) (2 ^ 64 - 1)
@@ -92,7 +93,7 @@ noise-place events b place then len is size placed =
     (length-next events (Noise b) ∙ ap (λ n. length_of events + n) size) placed
 
 -- a run was passed over, and told of
-pub served-passed : (pace : Pace) (s t : Spacecraft) (q : Course) (e : Ends)
+pub served-passed : (pace : Pace) (s t : Spacecraft) (q : PaceCourse) (e : Ends)
     (has : Option (List Told)) (held now : List ℕ) (count place len then : ℕ)
     → IsServed pace s t q e held count place
     → pace.passing ≡ true
@@ -125,7 +126,7 @@ served-passed pace s t q e has held now count place len then h passing run left 
     }
 
 -- the last one, at the end of the stream
-pub passed-last : (pace : Pace) (s t : Spacecraft) (q : Course) (e : Ends)
+pub passed-last : (pace : Pace) (s t : Spacecraft) (q : PaceCourse) (e : Ends)
     (has : Option (List Told)) (held now : List ℕ) (count place len then : ℕ)
     → IsServed pace s t q e held count place
     → pace.passing ≡ true

@@ -7,7 +7,7 @@ use Rattle.lpt_text.specs.Streams.{ReadFails}
 use Rattle.lpt_text.specs.declared.fault.StreamFault.{StreamFault}
 use Rattle.lpt_text.specs.declared.fault.StreamFault.TheVariants as faults
 use Rattle.lpt_stream.specs.Pieces.{up_to_limit}
-use Rattle.lpt_frames.specs.Buffers.{held, FindsAgain, FindsFrame, RunsTo}
+use Rattle.lpt_frames.specs.Buffers.{octets_held, FindsAgain, FindsFrame, RunsTo}
 use Rattle.lpt_frames.specs.Frames.{IsFrame}
 use Rattle.lpt_frames.specs.Stretches.{Stretch, Framed, Passed, octets_of, stretch_octets, IsRun}
 use Rattle.lpt_frames.specs.declared.buffer.FrameBuffer.{FrameBuffer}
@@ -257,34 +257,36 @@ pub hands-fault : (fault : StreamFault) (passing : Bool) (x y : FrameBuffer)
     (a b d : Option (List ℕ)) (had has : Option (List Happening)) (bad failed : Bool)
     (count place : ℕ)
     → FindsFrame (Err fault) x y b d bad failed
-    → IsRelayed passing a b had has (held x) count place
+    → IsRelayed passing a b had has (octets_held x) count place
     → HandsOver passing (Err (unwritten_fault fault)) a d had has
 hands-fault faults.Read passing x y a b d had has bad failed count place found h =
-    hands-front passing a d had has (held y) count place
-    (relayed-more passing a b d had has (held x) (held y) found.0 count place h found.1.consumed
+    hands-front passing a d had has (octets_held y) count place
+    (relayed-more passing a b d had has (octets_held x) (octets_held y) found.0 count place h
+    found.1.consumed
     found.1.behind)
 hands-fault faults.Write passing x y a b d had has bad failed count place found h = (
   found.0,
-  hands-lost passing a b d had has (held x) found.0 count place h found.1.consumed,
+  hands-lost passing a b d had has (octets_held x) found.0 count place h found.1.consumed,
 )
 hands-fault faults.Memory passing x y a b d had has bad failed count place found h =
-    (found.0, hands-lost passing a b d had has (held x) found.0 count place h found.1)
+    (found.0, hands-lost passing a b d had has (octets_held x) found.0 count place h found.1)
 
 -- or in a run
 pub hands-again : (fault : StreamFault) (passing : Bool) (x y : FrameBuffer)
     (a b d : Option (List ℕ)) (had has : Option (List Happening)) (bad failed : Bool)
     (count place : ℕ)
     → FindsAgain (Err fault) x y b d bad failed
-    → IsRelayed passing a b had has (held x) count place
+    → IsRelayed passing a b had has (octets_held x) count place
     → HandsOver passing (Err (unwritten_fault fault)) a d had has
 hands-again faults.Read passing x y a b d had has bad failed count place found h =
-    hands-front passing a d had has (held x ++ found.0) count place
-    (relayed-more passing a b d had has (held x) (held x ++ found.0) found.0 count place h found.1
+    hands-front passing a d had has (octets_held x ++ found.0) count place
+    (relayed-more passing a b d had has (octets_held x) (octets_held x ++ found.0) found.0 count
+    place h found.1
     refl)
 hands-again faults.Write passing x y a b d had has bad failed count place found h =
-    (found.0, hands-lost passing a b d had has (held x) found.0 count place h found.1)
+    (found.0, hands-lost passing a b d had has (octets_held x) found.0 count place h found.1)
 hands-again faults.Memory passing x y a b d had has bad failed count place found h =
-    (found.0, hands-lost passing a b d had has (held x) found.0 count place h found.1)
+    (found.0, hands-lost passing a b d had has (octets_held x) found.0 count place h found.1)
 
 -- how a fault leaves the reader
 pub frame-reader : (Over : Type 0) (fault : StreamFault) (x y : FrameBuffer)
@@ -300,20 +302,20 @@ pub run-reader : (fault : StreamFault) (passing : Bool) (x y : FrameBuffer)
     (a b d : Option (List ℕ)) (had has : Option (List Happening)) (first bad failed : Bool)
     (count place : ℕ)
     → FindsAgain (Err fault) x y b d bad failed
-    → IsRelayed passing a b had has (held x) count place
+    → IsRelayed passing a b had has (octets_held x) count place
     → bad ≡ first
     → ReadFails (IsUnending passing a d) (unwritten_fault fault) first failed
 run-reader faults.Read passing x y a b d had has first bad failed count place found h same =
     go found.2
   where
-    go : (failed ≡ true) ⊎ (2 ^ 64 - 1 ≤ length (held x ++ found.0))
+    go : (failed ≡ true) ⊎ (2 ^ 64 - 1 ≤ length (octets_held x ++ found.0))
         → ReadFails (IsUnending passing a d) faults.Read first failed
     go (inl is) = inl is
     go (inr many) = inr (inr (
       h.stream ++ found.0,
       Consumes-trans a b d h.stream found.0 h.consumed found.1,
-      grown h.stream (held x) found.0 (stretch_octets h.stretches)
-          (cut-here passing h.stream h.stretches (held x) h.cut).whole many,
+      grown h.stream (octets_held x) found.0 (stretch_octets h.stretches)
+          (cut-here passing h.stream h.stretches (octets_held x) h.cut).whole many,
     ))
 run-reader faults.Write passing x y a b d had has first bad failed count place found h same =
     found.2 ∙ same

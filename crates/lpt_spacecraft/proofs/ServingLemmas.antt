@@ -8,21 +8,21 @@ use Rattle.lpt_events.specs.declared.side.Side.{Side}
 use Rattle.lpt_events.specs.declared.side.Side.TheVariants.{Craft}
 use Rattle.lpt_packet.specs.Names.{Name}
 use Rattle.lpt_events.specs.Arrivals.{arrival}
-use Rattle.lpt_node.specs.Accepting.{accepted}
+use Rattle.lpt_node.specs.Accepting.{packet_accepted}
 use Rattle.lpt_node.specs.declared.accepted.Accepted.{Accepted}
 use Rattle.lpt_node.specs.Nodes.{NodeData, message_at}
-use Rattle.lpt_node.specs.Sending.{sent, sent_of}
-use Rattle.lpt_node.specs.Times.{due, expired}
+use Rattle.lpt_node.specs.Sending.{part_sent, sent_of}
+use Rattle.lpt_node.specs.Times.{due, reception_expired}
 use Rattle.lpt_stream.specs.Streams.{all_octets}
 use Rattle.lpt_jobs.specs.Jobs.{Jobs, after_claim, after_commit}
 use Rattle.lpt_jobs.specs.declared.job.Job.{Job}
 use Rattle.lpt_jobs.specs.declared.job.Job.TheVariants.{Waiting, Claimed, Committed}
 use Rattle.lpt_memory.specs.Memories.{Contents, sizes_of}
-use Rattle.lpt_memory.specs.Readings.{Source, meant}
+use Rattle.lpt_memory.specs.Readings.{Source, source_meaning}
 use Rattle.lpt_memory.specs.Readings.{Job as Ticket}
 use Rattle.lpt_jobs.specs.Jobs.{head_of}
-use Rattle.lpt_node.specs.Jobs.{Execution, FrontIsFor, claimed, committed, executed, executed_of, with_opened}
-use Rattle.lpt_spacecraft.specs.Serving.{Onboard, after, after_accepted, all_sent, behind, first_expired, first_sent, then_expired, then_sent, read_over, taken, worked, worked_if}
+use Rattle.lpt_node.specs.Jobs.{Execution, FrontIsFor, job_claimed, job_committed, job_executed, executed_of, with_opened}
+use Rattle.lpt_spacecraft.specs.Serving.{Onboard, after, after_accepted, all_sent, behind, first_expired, first_sent, then_expired, then_sent, read_over, packet_taken, request_worked, worked_if}
 use Rattle.lpt_spacecraft.proofs.WritingLemmas.{appends-one, appends-list, part-behind, part-first, part-grown}
 use Rattle.lpt_spacecraft.specs.Streams.{Breaks}
 use Rattle.lpt_spacecraft.specs.Telling.{done_if, done_in, first_given_up, front_done, gave_up, taken_in, taken_of, work_done, written_at, written_by}
@@ -46,7 +46,7 @@ sent_of-jobs c d id k (Some m) = refl
 
 -- a part that is sent changes no job
 pub sent-jobs : (c : Config) (d : NodeData) (id : Name) (k : ℕ)
-    → (sent Craft c d id k).0.jobs ≡ d.jobs
+    → (part_sent Craft c d id k).0.jobs ≡ d.jobs
 sent-jobs c d id k = sent_of-jobs c d id k (message_at d id)
 
 -- one part more was written
@@ -54,7 +54,7 @@ pub sent-next : (c : Config) (d : NodeData) (id : Name) (k : ℕ) (old mid new :
     (p : List ℕ)
     → Appends old mid (all_octets (first_sent c d id k).1)
     → Appends mid new p
-    → p ≡ (sent Craft c (first_sent c d id k).0 id (k + 1)).1
+    → p ≡ (part_sent Craft c (first_sent c d id k).0 id (k + 1)).1
     → Appends old new (all_octets (first_sent c d id (k + 1)).1)
 sent-next c d id k old mid new p h more is =
     subst (λ (z : NodeData × List (List ℕ)). Appends old new (all_octets z.1))
@@ -68,7 +68,7 @@ pub sent-some : (c : Config) (d : NodeData) (id : Name) (k n : ℕ) (old new : O
     → AppendsPart old new (all_octets (first_sent c d id n).1)
 sent-some c d id k n old new le h =
     part-grown (λ j. (first_sent c d id j).1)
-    (λ j. ((sent Craft c (first_sent c d id j).0 id (suc j)).1 ∷ [], refl)) old new k n le
+    (λ j. ((part_sent Craft c (first_sent c d id j).0 id (suc j)).1 ∷ [], refl)) old new k n le
     (part_whole old new (all_octets (first_sent c d id k).1) h)
 
 -- and so is one of the next part behind them
@@ -77,12 +77,13 @@ pub sent-part : (c : Config) (d : NodeData) (id : Name) (k n : ℕ) (old mid new
     → k + 1 ≤ n
     → Appends old mid (all_octets (first_sent c d id k).1)
     → AppendsPart mid new p
-    → p ≡ (sent Craft c (first_sent c d id k).0 id (k + 1)).1
+    → p ≡ (part_sent Craft c (first_sent c d id k).0 id (k + 1)).1
     → AppendsPart old new (all_octets (first_sent c d id n).1)
 sent-part c d id k n old mid new p le h part is =
-    let x = (sent Craft c (first_sent c d id k).0 id (k + 1)).1 in
+    let x = (part_sent Craft c (first_sent c d id k).0 id (k + 1)).1 in
     part-grown (λ j. (first_sent c d id j).1)
-    (λ j. ((sent Craft c (first_sent c d id j).0 id (suc j)).1 ∷ [], refl)) old new (k + 1) n le
+    (λ j. ((part_sent Craft c (first_sent c d id j).0 id (suc j)).1 ∷ [], refl)) old new (k + 1) n
+    le
     (subst (λ (z : NodeData × List (List ℕ)). AppendsPart old new (all_octets z.1))
     (sym (first_sent-next c d id k))
     (part-behind old mid new (first_sent c d id k).1 (x ∷ []) h
@@ -114,9 +115,9 @@ expired-step c d at k old mid new is h more =
     subst (λ (z : NodeData × List (List ℕ)). Appends old new (all_octets z.1))
     (sym (expired-next c d k))
     (appends-list old mid new (first_expired c d k).1
-    (option_to_list (expired Craft c (first_expired c d k).0).1.packet) h
+    (option_to_list (reception_expired Craft c (first_expired c d k).0).1.packet) h
     (subst (λ (n : NodeData). Appends mid new (all_octets
-    (option_to_list (expired Craft c n).1.packet))) is more))
+    (option_to_list (reception_expired Craft c n).1.packet))) is more))
 
 -- a front part of what it makes was written
 pub expired-part : (c : Config) (d at : NodeData) (k n : ℕ) (old mid new : Option (List ℕ))
@@ -127,14 +128,15 @@ pub expired-part : (c : Config) (d at : NodeData) (k n : ℕ) (old mid new : Opt
     → AppendsPart old new (all_octets (first_expired c d n).1)
 expired-part c d at k n old mid new le is h part =
     part-grown (λ j. (first_expired c d j).1)
-    (λ j. (option_to_list (expired Craft c (first_expired c d j).0).1.packet, refl)) old new (k + 1)
+    (λ j. (option_to_list (reception_expired Craft c (first_expired c d j).0).1.packet, refl)) old
+    new (k + 1)
     n le
     (subst (λ (z : NodeData × List (List ℕ)). AppendsPart old new (all_octets z.1))
     (sym (expired-next c d k))
     (part-behind old mid new (first_expired c d k).1
-    (option_to_list (expired Craft c (first_expired c d k).0).1.packet) h
+    (option_to_list (reception_expired Craft c (first_expired c d k).0).1.packet) h
     (subst (λ (n : NodeData). AppendsPart mid new (all_octets
-    (option_to_list (expired Craft c n).1.packet))) is part)))
+    (option_to_list (reception_expired Craft c n).1.packet))) is part)))
 
 -- ---- a request
 
@@ -176,16 +178,16 @@ read_over-jobs c ms d m is =
 -- a job was claimed, and its reading handed in
 pub read-over : (c : Config) (ms : Contents) (d at new : NodeData) (t : Ticket) (boot job : ℕ)
     (r : Source) (b : Bool)
-    → (at, t) ≡ claimed d
+    → (at, t) ≡ job_claimed d
     → boot ≡ t.boot
     → job ≡ t.job
     → r ≡ record { apid = c.apid; sizes = sizes_of ms; message = t.message }
-    → (new, b) ≡ committed at boot job r
+    → (new, b) ≡ job_committed at boot job r
     → new ≡ read_over c ms d
 read-over c ms d at new t boot job r b claim boots jobs reads commit =
     ap (λ (x : NodeData × Bool). x.0) commit
-    ∙ (λ i. (committed at (boots i) (jobs i) (reads i)).0)
-    ∙ ap (λ (x : NodeData × Ticket). (committed x.0 x.1.boot x.1.job
+    ∙ (λ i. (job_committed at (boots i) (jobs i) (reads i)).0)
+    ∙ ap (λ (x : NodeData × Ticket). (job_committed x.0 x.1.boot x.1.job
     (record { apid = c.apid; sizes = sizes_of ms; message = x.1.message })).0) claim
 
 -- what was read can be executed
@@ -204,7 +206,7 @@ opened-jobs d (Some x) = refl
 -- the only job was executed
 pub executed-jobs : (c : Config) (d : NodeData) (ms : Contents) (r : Source)
     → d.jobs.jobs ≡ Committed r ∷ []
-    → (executed c d ms).0.0.jobs.jobs ≡ []
+    → (job_executed c d ms).0.0.jobs.jobs ≡ []
 executed-jobs c d ms r is =
     ap (λ (js : List Job). (executed_of c d ms (head_of js)).0.0.jobs.jobs) is
     ∙ ap (λ (q : Jobs). q.jobs) (opened-jobs _ _) ∙ ap (λ (js : List Job). drop 1 js) is
@@ -214,17 +216,17 @@ pub worked-writes : (c : Config) (s t : Onboard) (d : NodeData)
     (x : (NodeData × Execution) × Contents)
     (old mid new : Option (List ℕ))
     → d ≡ read_over c s.memories s.node
-    → x ≡ executed c d s.memories
+    → x ≡ job_executed c d s.memories
     → Appends old mid (all_octets x.0.1.packets)
     → t.node ≡ (all_sent c x.0.0 x.0.1.opened).0
     → t.memories ≡ x.1
     → Appends mid new (all_octets (all_sent c x.0.0 x.0.1.opened).1)
-    → (t ≡ (worked c s).0) × Appends old new (all_octets (worked c s).1)
+    → (t ≡ (request_worked c s).0) × Appends old new (all_octets (request_worked c s).1)
 worked-writes c s t d x old mid new reads runs first node memories more =
     subst (λ (z : (NodeData × Execution) × Contents).
     (t ≡ (behind z.0.1.packets z.1 (all_sent c z.0.0 z.0.1.opened)).0)
     × Appends old new (all_octets (behind z.0.1.packets z.1 (all_sent c z.0.0 z.0.1.opened)).1))
-    (runs ∙ ap (λ (n : NodeData). executed c n s.memories) reads) (
+    (runs ∙ ap (λ (n : NodeData). job_executed c n s.memories) reads) (
       (λ i. record { node = node i; memories = memories i }),
       appends-list old mid new x.0.1.packets
           (all_sent c x.0.0 x.0.1.opened).1 first more,
@@ -234,7 +236,7 @@ worked-writes c s t d x old mid new reads runs first node memories more =
 pub done-is : (c : Config) (s : Onboard) (d : NodeData) (x : (NodeData × Execution) × Contents)
     (wrote : Option ℕ) (r : Done)
     → d ≡ read_over c s.memories s.node
-    → x ≡ executed c d s.memories
+    → x ≡ job_executed c d s.memories
     → wrote ≡ written_at (head_of d.jobs.jobs)
     → r ≡ done_in c wrote x.0.1
     → r ≡ work_done c s
@@ -244,22 +246,22 @@ done-is c s d x wrote r reads runs writes is =
 -- the message of a request that waits alone is claimed
 pub claimed-message : (d : NodeData) (m : List ℕ)
     → d.jobs.jobs ≡ Waiting m ∷ []
-    → (claimed d).1.message ≡ m
+    → (job_claimed d).1.message ≡ m
 claimed-message d m is =
-    subst (λ (q : Jobs). (claimed (record d { jobs = q })).1.message ≡ m)
+    subst (λ (q : Jobs). (job_claimed (record d { jobs = q })).1.message ≡ m)
     (sym (ap (λ (js : List Job). record { first = d.jobs.first; jobs = js }) is)) refl
 
 -- the memory that it writes to
 pub written-front : (apid : ℕ) (ms : Contents) (js : List Job) (wrote : Option ℕ) (r : Source)
     (message m : List ℕ)
-    → wrote ≡ written_by (meant r)
+    → wrote ≡ written_by (source_meaning r)
     → r ≡ record { apid = apid; sizes = sizes_of ms; message = message }
     → message ≡ m
     → js ≡ Committed (record { apid = apid; sizes = sizes_of ms; message = m }) ∷ []
     → wrote ≡ written_at (head_of js)
 written-front apid ms js wrote r message m writes reads same alone =
     writes
-    ∙ ap (λ (x : Source). written_by (meant x))
+    ∙ ap (λ (x : Source). written_by (source_meaning x))
     (reads ∙ (λ i. record { apid = apid; sizes = sizes_of ms; message = same i }))
     ∙ sym (ap (λ (l : List Job). written_at (head_of l)) alone)
 
@@ -299,27 +301,29 @@ pub accepted-same : (side : Side) (k c : Config) (d : NodeData) (b : List ℕ)
     (x : NodeData × Accepted)
     → side ≡ Craft
     → k ≡ c
-    → x ≡ accepted side k d (arrival side k.apid k.part_size b)
-    → x ≡ accepted Craft c d (arrival Craft c.apid c.part_size b)
+    → x ≡ packet_accepted side k d (arrival side k.apid k.part_size b)
+    → x ≡ packet_accepted Craft c d (arrival Craft c.apid c.part_size b)
 accepted-same side k c d b x is same h =
-    subst (λ (s : Side). x ≡ accepted s c d (arrival s c.apid c.part_size b)) is
-    (subst (λ (z : Config). x ≡ accepted side z d (arrival side z.apid z.part_size b)) same h)
+    subst (λ (s : Side). x ≡ packet_accepted s c d (arrival s c.apid c.part_size b)) is
+    (subst (λ (z : Config). x ≡ packet_accepted side z d (arrival side z.apid z.part_size b)) same
+    h)
 
 pub taken-all : (c : Config) (s t : Onboard) (b : List ℕ) (at : NodeData) (r : Accepted)
     (old mid new : Option (List ℕ))
-    → (at, r) ≡ accepted Craft c s.node (arrival Craft c.apid c.part_size b)
+    → (at, r) ≡ packet_accepted Craft c s.node (arrival Craft c.apid c.part_size b)
     → Appends old mid (all_octets (option_to_list r.packet))
     → (t ≡ (worked_if c (record { node = at; memories = s.memories }) r.released).0)
     × Appends mid new (all_octets (worked_if c (record { node = at; memories = s.memories })
     r.released).1)
-    → (t ≡ (taken c s b).0) × Appends old new (all_octets (taken c s b).1)
+    → (t ≡ (packet_taken c s b).0) × Appends old new (all_octets (packet_taken c s b).1)
 taken-all c s t b at r old mid new is first done =
-    taken-writes c s.memories (at, r) (accepted Craft c s.node (arrival Craft c.apid c.part_size b))
+    taken-writes c s.memories (at, r)
+    (packet_accepted Craft c s.node (arrival Craft c.apid c.part_size b))
     t old mid new is first done.0 done.1
 
 -- what became of it, and of what it released
 pub taken-is : (c : Config) (s : Onboard) (b : List ℕ) (at : NodeData) (r : Accepted) (t : Taken)
-    → (at, r) ≡ accepted Craft c s.node (arrival Craft c.apid c.part_size b)
+    → (at, r) ≡ packet_accepted Craft c s.node (arrival Craft c.apid c.part_size b)
     → t.outcome ≡ r.outcome
     → t.done ≡ done_if c (record { node = at; memories = s.memories }) r.released
     → t ≡ taken_in c s b
@@ -357,23 +361,23 @@ pub worked-breaks : (c : Config) (s : Onboard) (d : NodeData)
     (x : (NodeData × Execution) × Contents)
     (now : Contents) (old new : Option (List ℕ))
     → d ≡ read_over c s.memories s.node
-    → x ≡ executed c d s.memories
+    → x ≡ job_executed c d s.memories
     → now ≡ x.1
     → AppendsPart old new (all_octets (x.0.1.packets ++ (all_sent c x.0.0 x.0.1.opened).1))
-    → Breaks s.memories (worked c s) now old new
+    → Breaks s.memories (request_worked c s) now old new
 worked-breaks c s d x now old new reads runs memories part =
     subst (λ (z : (NodeData × Execution) × Contents).
     Breaks s.memories (behind z.0.1.packets z.1 (all_sent c z.0.0 z.0.1.opened)) now old new)
-    (runs ∙ ap (λ (n : NodeData). executed c n s.memories) reads) (inr memories, part)
+    (runs ∙ ap (λ (n : NodeData). job_executed c n s.memories) reads) (inr memories, part)
 
 -- a packet was taken, and work broke off behind that
 pub taken-breaks : (c : Config) (s : Onboard) (b : List ℕ) (at : NodeData) (r : Accepted)
     (now : Contents)
     (old new : Option (List ℕ))
-    → (at, r) ≡ accepted Craft c s.node (arrival Craft c.apid c.part_size b)
+    → (at, r) ≡ packet_accepted Craft c s.node (arrival Craft c.apid c.part_size b)
     → Breaks s.memories (after (option_to_list r.packet)
     (worked_if c (record { node = at; memories = s.memories }) r.released)) now old new
-    → Breaks s.memories (taken c s b) now old new
+    → Breaks s.memories (packet_taken c s b) now old new
 taken-breaks c s b at r now old new is h =
     subst (λ (z : NodeData × Accepted). Breaks s.memories (after_accepted c s.memories z) now old
     new) is h

@@ -9,14 +9,14 @@ use Rattle.lpt_text.specs.declared.fault.StreamFault.TheVariants as faults
 use Rattle.lpt_text.specs.Streams.{ReadFails}
 use Rattle.lpt_stream.specs.Pieces.{up_to_limit}
 use Rattle.lpt_stream.specs.Streams.{all_octets, IsUnfinished}
-use Rattle.lpt_frames.specs.Buffers.{held, FindsAgain, FindsFrame}
+use Rattle.lpt_frames.specs.Buffers.{octets_held, FindsAgain, FindsFrame}
 use Rattle.lpt_frames.specs.Frames.{IsFrame}
 use Rattle.lpt_frames.specs.Stretches.{stretch_octets}
 use Rattle.lpt_frames.specs.declared.buffer.FrameBuffer.{FrameBuffer}
 use Rattle.lpt_frames.proofs.StretchLemmas.{cut-here, so-far-frame, IsCutSoFar}
 use Rattle.lpt_spacecraft.specs.Flights.{Made, Packet, stretches_of}
 use Rattle.lpt_spacecraft.specs.Streams.{end_at, length_of, plain, served_by, Answers, Breaks, BreaksOff, Flies, IsEndless, ReadsCut, ServesTo, StopsAt}
-use Rattle.lpt_spacecraft.specs.declared.pace.Course.{Course}
+use Rattle.lpt_spacecraft.specs.declared.pace.PaceCourse.{PaceCourse}
 use Rattle.lpt_spacecraft.specs.declared.pace.Pace.{Pace}
 use Rattle.lpt_spacecraft.specs.declared.spacecraft.Spacecraft.{Spacecraft}
 use Rattle.lpt_spacecraft.specs.declared.stop.Stop.{Stop}
@@ -41,7 +41,7 @@ EndsWith pace r s t e =
     ServesTo pace r s t e.before e.after e.old e.new e.asked e.answered e.had e.has
 
 -- what was written was passed on
-kept-flies : (x : Made) (t : Spacecraft) (q : Course) (old new passed : Option (List ℕ))
+kept-flies : (x : Made) (t : Spacecraft) (q : PaceCourse) (old new passed : Option (List ℕ))
     (had has : Option (List Told))
     → Flies x t q old new had has
     → Keeps new passed
@@ -54,7 +54,7 @@ kept-flies x t q old new passed had has h kept = record {
 
 -- it stopped there, or the last octets couldn't be passed on
 pub serve-stop : (r : Result Stop StreamFault) (stop : Stop) (pace : Pace) (s t : Spacecraft)
-    (q : Course) (e : Ends) (passed : Option (List ℕ)) (held : List ℕ) (place : ℕ)
+    (q : PaceCourse) (e : Ends) (passed : Option (List ℕ)) (held : List ℕ) (place : ℕ)
     → IfOk r (λ x. x ≡ stop)
     → IfErr r (λ e. e ≡ faults.Write)
     → (h : IsDone pace s t q e held place)
@@ -88,7 +88,7 @@ serve-stop (Err faults.Write) stop pace s t q e passed held place is fault h kep
 serve-stop (Err faults.Memory) stop pace s t q e passed held place is fault h kept at = absurd cc
 
 -- no more came
-pub serve-read : (pace : Pace) (s t : Spacecraft) (q : Course) (e : Ends) (held : List ℕ)
+pub serve-read : (pace : Pace) (s t : Spacecraft) (q : PaceCourse) (e : Ends) (held : List ℕ)
     (count place : ℕ)
     → IsServed pace s t q e held count place
     → EndsWith pace (Err faults.Read) s t e
@@ -102,7 +102,7 @@ serve-read pace s t q e held count place h = (
 )
 
 -- a write failed
-serve-write : (pace : Pace) (s t : Spacecraft) (q : Course) (e : Ends) (held : List ℕ)
+serve-write : (pace : Pace) (s t : Spacecraft) (q : PaceCourse) (e : Ends) (held : List ℕ)
     (count place : ℕ)
     → IsServed pace s t q e held count place
     → EndsWith pace (Err faults.Write) s t e
@@ -116,7 +116,8 @@ serve-write pace s t q e held count place h = (
 )
 
 -- octets were lost
-serve-lost : (pace : Pace) (s t : Spacecraft) (q : Course) (e : Ends) (d passed : Option (List ℕ))
+serve-lost : (pace : Pace) (s t : Spacecraft) (q : PaceCourse) (e : Ends)
+    (d passed : Option (List ℕ))
     (held lost : List ℕ) (count place : ℕ)
     → IsServed pace s t q e held count place
     → Consumes e.after d lost
@@ -137,44 +138,48 @@ serve-lost pace s t q e d passed held lost count place h more kept = (
 )
 
 -- a read or a write failed before the next packet
-pub serve-fault : (fault : StreamFault) (pace : Pace) (s t : Spacecraft) (q : Course)
+pub serve-fault : (fault : StreamFault) (pace : Pace) (s t : Spacecraft) (q : PaceCourse)
     (x y : FrameBuffer) (e : Ends) (d passed : Option (List ℕ)) (bad failed : Bool)
     (count place : ℕ)
     → FindsFrame (Err fault) x y e.after d bad failed
-    → IsServed pace s t q e (held x) count place
+    → IsServed pace s t q e (octets_held x) count place
     → Keeps e.new passed
     → EndsWith pace (Err fault) s t (record e { after = d; new = passed })
 serve-fault faults.Read pace s t q x y e d passed bad failed count place found h kept =
-    serve-read pace s t q (record e { after = d; new = passed }) (held y) count place
-    (served-more pace s t q e d passed (held x) (held y) found.0 count place h
+    serve-read pace s t q (record e { after = d; new = passed }) (octets_held y) count place
+    (served-more pace s t q e d passed (octets_held x) (octets_held y) found.0 count place h
     found.1.consumed found.1.behind kept)
 serve-fault faults.Write pace s t q x y e d passed bad failed count place found h kept =
-    serve-write pace s t q (record e { after = d; new = passed }) (held y) count place
-    (served-more pace s t q e d passed (held x) (held y) found.0 count place h
+    serve-write pace s t q (record e { after = d; new = passed }) (octets_held y) count place
+    (served-more pace s t q e d passed (octets_held x) (octets_held y) found.0 count place h
     found.1.consumed found.1.behind kept)
 serve-fault faults.Memory pace s t q x y e d passed bad failed count place found h kept =
-    serve-lost pace s t q e d passed (held x) found.0 count place h found.1 kept
+    serve-lost pace s t q e d passed (octets_held x) found.0 count place h found.1 kept
 
 -- or in a run that is passed over
-pub again-fault : (fault : StreamFault) (pace : Pace) (s t : Spacecraft) (q : Course)
+pub again-fault : (fault : StreamFault) (pace : Pace) (s t : Spacecraft) (q : PaceCourse)
     (x y : FrameBuffer) (e : Ends) (d passed : Option (List ℕ)) (bad failed : Bool)
     (count place : ℕ)
     → FindsAgain (Err fault) x y e.after d bad failed
-    → IsServed pace s t q e (held x) count place
+    → IsServed pace s t q e (octets_held x) count place
     → Keeps e.new passed
     → EndsWith pace (Err fault) s t (record e { after = d; new = passed })
 again-fault faults.Read pace s t q x y e d passed bad failed count place found h kept =
-    serve-read pace s t q (record e { after = d; new = passed }) (held x ++ found.0) count place
-    (served-more pace s t q e d passed (held x) (held x ++ found.0) found.0 count place h found.1
+    serve-read pace s t q (record e { after = d; new = passed }) (octets_held x ++ found.0) count
+    place
+    (served-more pace s t q e d passed (octets_held x) (octets_held x ++ found.0) found.0 count
+    place h found.1
     refl kept)
 again-fault faults.Write pace s t q x y e d passed bad failed count place found h kept =
-    serve-write pace s t q (record e { after = d; new = passed }) (held x ++ found.0) count place
-    (served-more pace s t q e d passed (held x) (held x ++ found.0) found.0 count place h found.1
+    serve-write pace s t q (record e { after = d; new = passed }) (octets_held x ++ found.0) count
+    place
+    (served-more pace s t q e d passed (octets_held x) (octets_held x ++ found.0) found.0 count
+    place h found.1
     refl kept)
 again-fault faults.Memory pace s t q x y e d passed bad failed count place found h kept =
-    serve-lost pace s t q e d passed (held x) found.0 count place h found.1 kept
+    serve-lost pace s t q e d passed (octets_held x) found.0 count place h found.1 kept
 
-broken : (pace : Pace) (s mid t : Spacecraft) (q : Course) (c : Config) (e : Ends)
+broken : (pace : Pace) (s mid t : Spacecraft) (q : PaceCourse) (c : Config) (e : Ends)
     (new answered : Option (List ℕ)) (held octets : List ℕ) (due count place len : ℕ)
     → IsServed pace s mid q e held count place
     → c ≡ s.config
@@ -204,7 +209,7 @@ broken pace s mid t q c e new answered held octets due count place len h same fr
     )
 
 -- work broke off in the packet in front
-pub serve-broken : (fault : StreamFault) (pace : Pace) (s mid t : Spacecraft) (q : Course)
+pub serve-broken : (fault : StreamFault) (pace : Pace) (s mid t : Spacecraft) (q : PaceCourse)
     (c : Config) (e : Ends) (new answered : Option (List ℕ)) (held octets : List ℕ)
     (due count place len : ℕ)
     → (fault ≡ faults.Write) ⊎ (fault ≡ faults.Memory)
@@ -231,7 +236,7 @@ serve-broken faults.Memory pace s mid t q c e new answered held octets due count
     )
 
 -- so many events came
-pub endless : (pace : Pace) (s t : Spacecraft) (q : Course) (e : Ends) (held : List ℕ)
+pub endless : (pace : Pace) (s t : Spacecraft) (q : PaceCourse) (e : Ends) (held : List ℕ)
     (count place : ℕ)
     → IsServed pace s t q e held count place
     → count ≡ 2 ^ 64 - 1
@@ -259,21 +264,21 @@ grown stream held read front is many =
     omega (arith, first, sum, part, many)
 
 -- how a run that is passed over leaves the reader, where a fault ends it
-pub again-reader : (fault : StreamFault) (pace : Pace) (s t : Spacecraft) (q : Course)
+pub again-reader : (fault : StreamFault) (pace : Pace) (s t : Spacecraft) (q : PaceCourse)
     (x y : FrameBuffer) (e : Ends) (d : Option (List ℕ)) (had failed : Bool) (count place : ℕ)
     → FindsAgain (Err fault) x y e.after d had failed
-    → IsServed pace s t q e (held x) count place
+    → IsServed pace s t q e (octets_held x) count place
     → ReadFails (IsEndless pace.passing t e.before d) fault had failed
 again-reader faults.Read pace s t q x y e d had failed count place found h = go found.2
   where
-    go : (failed ≡ true) ⊎ (2 ^ 64 - 1 ≤ length (held x ++ found.0))
+    go : (failed ≡ true) ⊎ (2 ^ 64 - 1 ≤ length (octets_held x ++ found.0))
         → ReadFails (IsEndless pace.passing t e.before d) faults.Read had failed
     go (inl bad) = inl bad
     go (inr many) = inr (inr (inr (
       h.stream ++ found.0,
       Consumes-trans e.before e.after d h.stream found.0 h.consumed found.1,
-      grown h.stream (held x) found.0 (stretch_octets (stretches_of h.events))
-          (cut-here pace.passing h.stream (stretches_of h.events) (held x) h.cut).whole many,
+      grown h.stream (octets_held x) found.0 (stretch_octets (stretches_of h.events))
+          (cut-here pace.passing h.stream (stretches_of h.events) (octets_held x) h.cut).whole many,
     )))
 again-reader faults.Write pace s t q x y e d had failed count place found h = found.2
 again-reader faults.Memory pace s t q x y e d had failed count place found h = found.2

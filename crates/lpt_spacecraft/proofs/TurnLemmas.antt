@@ -8,13 +8,13 @@ use Rattle.lpt_text.specs.declared.fault.StreamFault.{StreamFault}
 use Rattle.lpt_text.specs.declared.fault.StreamFault.TheVariants as faults
 use Rattle.lpt_text.proofs.StreamLemmas.{part_whole}
 use Rattle.lpt_stream.specs.Streams.{all_octets}
-use Rattle.lpt_spacecraft.specs.Flights.{Astray, Flight, Made, Packet, new_flight, onward, served}
+use Rattle.lpt_spacecraft.specs.Flights.{Astray, Flight, Made, Packet, new_flight, onward, inputs_served}
 use Rattle.lpt_spacecraft.specs.Streams.{flight_of, onboard, plain, Breaks, Flies}
 use Rattle.lpt_spacecraft.specs.Telling.{Hears}
-use Rattle.lpt_spacecraft.specs.Waiting.{Attends, AttendsTo, Falters, Gains, Heeds, Idles, IsWithoutEnd, Skips, Turn, due_at, dues_at, given_as, givens, inputs_at, made_at, since_at, turns_bring}
+use Rattle.lpt_spacecraft.specs.Waiting.{Attends, AttendsTo, Falters, Gains, Heeds, Idles, IsWithoutEnd, Skips, WaitTurn, due_at, dues_at, given_as, givens, inputs_at, made_at, since_at, turns_bring}
 use Rattle.lpt_spacecraft.specs.declared.inlet.Happening.{Happening}
 use Rattle.lpt_spacecraft.specs.declared.inlet.Happening.TheVariants as happens
-use Rattle.lpt_spacecraft.specs.declared.pace.Course.{Course}
+use Rattle.lpt_spacecraft.specs.declared.pace.PaceCourse.{PaceCourse}
 use Rattle.lpt_spacecraft.specs.declared.pace.Pace.{Pace}
 use Rattle.lpt_spacecraft.specs.declared.spacecraft.Spacecraft.{Spacecraft}
 use Rattle.lpt_spacecraft.specs.declared.stop.Stop.{Stop}
@@ -50,30 +50,30 @@ gains-same a b d xs h k = subst (Gains a d) (append-nil xs) (gains-more a b d xs
 -- ---- one turn more
 
 -- how many packets came since the last tick by packets, after these turns
-abbrev pub since_behind : (every since : ℕ) → List Turn → ℕ
+abbrev pub since_behind : (every since : ℕ) → List WaitTurn → ℕ
 since_behind every since [] = since
 since_behind every since (x ∷ xs) = since_behind every (since_at every since x) xs
 
-since-more : (every since : ℕ) (xs : List Turn) (x : Turn)
+since-more : (every since : ℕ) (xs : List WaitTurn) (x : WaitTurn)
     → since_behind every since (xs ++ x ∷ []) ≡ since_at every (since_behind every since xs) x
 since-more every since [] x = refl
 since-more every since (y ∷ ys) x = since-more every (since_at every since y) ys x
 
-givens-more : (xs : List Turn) (x : Turn)
+givens-more : (xs : List WaitTurn) (x : WaitTurn)
     → givens (xs ++ x ∷ []) ≡ givens xs ++ given_as x ∷ []
 givens-more [] x = refl
 givens-more (y ∷ ys) x = ap (λ l. given_as y ∷ l) (givens-more ys x)
 
-due_first : (x : Turn) (ns ms : List ℕ) → due_at x (ns ++ ms) ≡ due_at x ns ++ ms
+due_first : (x : WaitTurn) (ns ms : List ℕ) → due_at x (ns ++ ms) ≡ due_at x ns ++ ms
 due_first (Heeds due b) ns ms = refl
 due_first (Idles due) ns ms = refl
 due_first (Skips place len) ns ms = refl
 
-dues-more : (xs : List Turn) (x : Turn) → dues_at (xs ++ x ∷ []) ≡ dues_at xs ++ due_at x []
+dues-more : (xs : List WaitTurn) (x : WaitTurn) → dues_at (xs ++ x ∷ []) ≡ dues_at xs ++ due_at x []
 dues-more [] x = refl
 dues-more (y ∷ ys) x = ap (due_at y) (dues-more ys x) ∙ due_first y (dues_at ys) (due_at x [])
 
-bring-more : (every since : ℕ) (xs : List Turn) (x : Turn)
+bring-more : (every since : ℕ) (xs : List WaitTurn) (x : WaitTurn)
     → turns_bring every since (xs ++ x ∷ [])
     ≡ turns_bring every since xs ++ inputs_at every (since_behind every since xs) x
 bring-more every since [] x = append-nil (inputs_at every since x)
@@ -85,29 +85,30 @@ bring-more every since (y ∷ ys) x =
     (inputs_at every (since_behind every n ys) x))
 
 -- no more packets came than turns
-few-at : (every since count : ℕ) (x : Turn) → since ≤ count → since_at every since x ≤ count + 1
+few-at : (every since count : ℕ) (x : WaitTurn) → since ≤ count → since_at every since x ≤ count + 1
 few-at every since count (Heeds due b) h = counted-few every since count (Packet due b) h
 few-at every since count (Idles due) h = omega (arith, h)
 few-at every since count (Skips place len) h = omega (arith, h)
 
 -- what they make with it
-made-more : (pace : Pace) (s : Spacecraft) (xs : List Turn) (x : Turn) (since : ℕ)
+made-more : (pace : Pace) (s : Spacecraft) (xs : List WaitTurn) (x : WaitTurn) (since : ℕ)
     → since ≡ since_behind pace.every 0 xs
     → made_at pace s (xs ++ x ∷ [])
-    ≡ onward (λ g. served s.config g (inputs_at pace.every since x)) (made_at pace s xs)
+    ≡ onward (λ g. inputs_served s.config g (inputs_at pace.every since x)) (made_at pace s xs)
 made-more pace s xs x since is =
     let f = new_flight pace.reuse (onboard s) in
-    ap (served s.config f) (bring-more pace.every 0 xs x)
+    ap (inputs_served s.config f) (bring-more pace.every 0 xs x)
     ∙ served-append s.config f (turns_bring pace.every 0 xs)
     (inputs_at pace.every (since_behind pace.every 0 xs) x)
-    ∙ ap (λ n. onward (λ g. served s.config g (inputs_at pace.every n x)) (made_at pace s xs))
+    ∙ ap (λ n. onward (λ g. inputs_served s.config g (inputs_at pace.every n x))
+    (made_at pace s xs))
     (sym is)
 
 -- octets that are passed over make nothing, and are told
-pub skip-flies : (c : Config) (s : Spacecraft) (q : Course) (old : Option (List ℕ))
+pub skip-flies : (c : Config) (s : Spacecraft) (q : PaceCourse) (old : Option (List ℕ))
     (had has : Option (List Told)) (place len : ℕ)
     → Hears had has (tells.Skipped place len ∷ [])
-    → Flies (served c (flight_of s q) (Astray place len ∷ [])) s q old old had has
+    → Flies (inputs_served c (flight_of s q) (Astray place len ∷ [])) s q old old had has
 skip-flies c s q old had has place len h =
     record { flight = refl; written = Appends-nil old; told = h }
 
@@ -124,9 +125,9 @@ pub record Sides : Type 0 where
   pub had : Option (List Told)
   pub has : Option (List Told)
 
-pub record IsAttended (pace : Pace) (s t : Spacecraft) (q : Course) (e : Sides) (count : ℕ) :
+pub record IsAttended (pace : Pace) (s t : Spacecraft) (q : PaceCourse) (e : Sides) (count : ℕ) :
     Type 0 where
-  pub turns : List Turn
+  pub turns : List WaitTurn
   pub given : Gains e.was e.gave (givens turns)
   pub flies : Flies (made_at pace s turns) t q e.old e.new e.had e.has
   pub answers : Consumes e.asked e.answered (dues_at turns)
@@ -136,7 +137,7 @@ pub record IsAttended (pace : Pace) (s t : Spacecraft) (q : Course) (e : Sides) 
   pub few : q.since ≤ count
 
 -- none was
-pub attended-none : (pace : Pace) (s : Spacecraft) (q : Course) (was : Option (List Happening))
+pub attended-none : (pace : Pace) (s : Spacecraft) (q : PaceCourse) (was : Option (List Happening))
     (old asked : Option (List ℕ)) (had : Option (List Told))
     → q.pace ≡ pace
     → q.since ≡ 0
@@ -168,7 +169,7 @@ attended-none pace s q was old asked had paced since unused = record {
 }
 
 -- all that was written was passed on
-pub attended-passed : (pace : Pace) (s t : Spacecraft) (q : Course) (e : Sides)
+pub attended-passed : (pace : Pace) (s t : Spacecraft) (q : PaceCourse) (e : Sides)
     (passed : Option (List ℕ)) (count : ℕ)
     → IsAttended pace s t q e count
     → Keeps e.new passed
@@ -190,12 +191,12 @@ attended-passed pace s t q e passed count h kept = record {
 }
 
 -- what a turn makes of an end on its course, whose configuration and pace these are
-abbrev pub made_then : Config → Pace → Spacecraft → Course → Turn → Made
-made_then c pace s q x = served c (flight_of s q) (inputs_at pace.every q.since x)
+abbrev pub made_then : Config → Pace → Spacecraft → PaceCourse → WaitTurn → Made
+made_then c pace s q x = inputs_served c (flight_of s q) (inputs_at pace.every q.since x)
 
-flies-turn : (pace : Pace) (s mid t : Spacecraft) (q r : Course) (c : Config)
-    (old between new : Option (List ℕ)) (had mids has : Option (List Told)) (xs : List Turn)
-    (x : Turn)
+flies-turn : (pace : Pace) (s mid t : Spacecraft) (q r : PaceCourse) (c : Config)
+    (old between new : Option (List ℕ)) (had mids has : Option (List Told)) (xs : List WaitTurn)
+    (x : WaitTurn)
     → q.since ≡ since_behind pace.every 0 xs
     → q.pace ≡ pace
     → c ≡ s.config
@@ -208,13 +209,14 @@ flies-turn pace s mid t q r c old between new had mids has xs x is paced same be
     (subst (λ (k : Config). Flies (made_then k q.pace mid q x) t r between new mids has) same next)
     in
     subst (λ (y : Made). Flies y t r old new had has) (sym (made-more pace s xs x q.since is))
-    (flies-then (made_at pace s xs) (λ g. served s.config g (inputs_at pace.every q.since x)) mid t
+    (flies-then (made_at pace s xs) (λ g. inputs_served s.config g (inputs_at pace.every q.since x))
+    mid t
     q r old between new had mids has before at)
 
 -- one more was
-pub attended-next : (pace : Pace) (s mid t : Spacecraft) (q r : Course) (c : Config) (e : Sides)
+pub attended-next : (pace : Pace) (s mid t : Spacecraft) (q r : PaceCourse) (c : Config) (e : Sides)
     (gave : Option (List Happening)) (new answered : Option (List ℕ)) (has : Option (List Told))
-    (x : Turn) (count : ℕ)
+    (x : WaitTurn) (count : ℕ)
     → IsAttended pace s mid q e count
     → c ≡ s.config
     → Gains e.gave gave (given_as x ∷ [])
@@ -246,7 +248,7 @@ attended-next pace s mid t q r c e gave new answered has x count h same given as
 
 -- ---- how it ends
 
-attends-all : (pace : Pace) (s t : Spacecraft) (q : Course) (e : Sides) (count : ℕ)
+attends-all : (pace : Pace) (s t : Spacecraft) (q : PaceCourse) (e : Sides) (count : ℕ)
     → (h : IsAttended pace s t q e count)
     → Attends pace s t e.old e.new e.asked e.answered e.had e.has h.turns
 attends-all pace s t q e count h = record {
@@ -256,7 +258,7 @@ attends-all pace s t q e count h = record {
 }
 
 -- work broke off between two turns
-falters-between : (pace : Pace) (s t : Spacecraft) (q : Course) (e : Sides) (count : ℕ)
+falters-between : (pace : Pace) (s t : Spacecraft) (q : PaceCourse) (e : Sides) (count : ℕ)
     → (h : IsAttended pace s t q e count)
     → Falters pace s t e.old e.new e.asked e.answered e.had e.has h.turns
 falters-between pace s t q e count h = record {
@@ -272,7 +274,7 @@ falters-between pace s t q e count h = record {
 }
 
 -- at the end that was given
-pub attends-end : (stop : Stop) (pace : Pace) (s t : Spacecraft) (q : Course) (e : Sides)
+pub attends-end : (stop : Stop) (pace : Pace) (s t : Spacecraft) (q : PaceCourse) (e : Sides)
     (gave : Option (List Happening)) (count : ℕ)
     → IsAttended pace s t q e count
     → Gains e.gave gave (happens.End stop ∷ [])
@@ -284,7 +286,8 @@ attends-end stop pace s t q e gave count h given = (
 )
 
 -- at a fault between two turns
-pub attends-fault : (fault : StreamFault) (pace : Pace) (s t : Spacecraft) (q : Course) (e : Sides)
+pub attends-fault : (fault : StreamFault) (pace : Pace) (s t : Spacecraft) (q : PaceCourse)
+    (e : Sides)
     (gave : Option (List Happening)) (count : ℕ)
     → IsAttended pace s t q e count
     → Gains e.gave gave []
@@ -306,18 +309,18 @@ attends-fault faults.Memory pace s t q e gave count h given = (
 )
 
 -- work broke off in a turn
-broken : (pace : Pace) (s mid t : Spacecraft) (q : Course) (c : Config) (e : Sides)
-    (gave : Option (List Happening)) (new answered : Option (List ℕ)) (x : Turn) (count : ℕ)
+broken : (pace : Pace) (s mid t : Spacecraft) (q : PaceCourse) (c : Config) (e : Sides)
+    (gave : Option (List Happening)) (new answered : Option (List ℕ)) (x : WaitTurn) (count : ℕ)
     → (h : IsAttended pace s mid q e count)
     → c ≡ s.config
     → Gains e.gave gave (given_as x ∷ [])
     → Consumes e.answered answered (due_at x [])
     → Breaks mid.memories (plain (made_then c q.pace mid q x)) t.memories e.new new
-    → (turns : List Turn) × Gains e.was gave (givens turns)
+    → (turns : List WaitTurn) × Gains e.was gave (givens turns)
     × Falters pace s t e.old new e.asked answered e.had e.has turns
 broken pace s mid t q c e gave new answered x count h same given asks broke =
     let y = made_at pace s h.turns in
-    let f : Flight → Made = λ g. served s.config g (inputs_at pace.every q.since x) in
+    let f : Flight → Made = λ g. inputs_served s.config g (inputs_at pace.every q.since x) in
     let at : Breaks y.flight.end.memories (plain (f y.flight)) t.memories e.new new =
     subst (λ (g : Flight). Breaks g.end.memories (plain (f g)) t.memories e.new new)
     h.flies.flight
@@ -342,9 +345,9 @@ broken pace s mid t q c e gave new answered x count h same given asks broke =
       },
     )
 
-pub attends-broken : (fault : StreamFault) (pace : Pace) (s mid t : Spacecraft) (q : Course)
+pub attends-broken : (fault : StreamFault) (pace : Pace) (s mid t : Spacecraft) (q : PaceCourse)
     (c : Config) (e : Sides) (gave : Option (List Happening)) (new answered : Option (List ℕ))
-    (x : Turn) (count : ℕ)
+    (x : WaitTurn) (count : ℕ)
     → (fault ≡ faults.Write) ⊎ (fault ≡ faults.Memory)
     → IsAttended pace s mid q e count
     → c ≡ s.config
@@ -362,7 +365,7 @@ attends-broken faults.Memory pace s mid t q c e gave new answered x count is h s
     = broken pace s mid t q c e gave new answered x count h same given asks broke
 
 -- so many turns were taken
-pub without-end : (pace : Pace) (s t : Spacecraft) (q : Course) (e : Sides) (count : ℕ)
+pub without-end : (pace : Pace) (s t : Spacecraft) (q : PaceCourse) (e : Sides) (count : ℕ)
     → IsAttended pace s t q e count
     → count ≡ 2 ^ 64 - 1
     → IsWithoutEnd t e.was e.gave

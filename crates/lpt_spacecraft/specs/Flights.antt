@@ -6,12 +6,12 @@ use Rattle.lpt_frames.specs.Stretches.{Stretch, Framed, Passed}
 use Rattle.lpt_ledger.specs.declared.state.State.{State}
 use Rattle.lpt_ledger.specs.declared.state.State.TheVariants.{Free, Open, Closed}
 use Rattle.lpt_node.specs.Nodes.{NodeData}
-use Rattle.lpt_node.specs.Restarts.{name_state, retired}
+use Rattle.lpt_node.specs.Restarts.{name_state, name_retired}
 use Rattle.lpt_packet.specs.Names.{Name}
 use Rattle.lpt_packet.specs.declared.direction.Direction.{Direction}
 use Rattle.lpt_stream.specs.Pieces.{up_to_limit}
-use Rattle.lpt_spacecraft.specs.Serving.{Onboard, beaten, taken}
-use Rattle.lpt_spacecraft.specs.Telling.{all_noted, ended, given_up, taken_in, took}
+use Rattle.lpt_spacecraft.specs.Serving.{Onboard, beaten, packet_taken}
+use Rattle.lpt_spacecraft.specs.Telling.{all_noted, name_used, given_up, taken_in, took}
 use Rattle.lpt_spacecraft.specs.declared.pace.Use.{Use}
 use Rattle.lpt_spacecraft.specs.declared.told.Told.{Told}
 use Rattle.lpt_spacecraft.specs.declared.told.Told.TheVariants.{Freed, Skipped}
@@ -52,7 +52,7 @@ use_of reuse clock (Some x) =
 -- the names that were used, of what has happened at this clock
 abbrev pub uses_of : (reuse clock : ℕ) → List Told → List Use
 uses_of reuse clock [] = []
-uses_of reuse clock (t ∷ ts) = use_of reuse clock (ended t) ++ uses_of reuse clock ts
+uses_of reuse clock (t ∷ ts) = use_of reuse clock (name_used t) ++ uses_of reuse clock ts
 
 -- the end came to that and made that, and this has happened
 abbrev pub noting : Flight → Onboard × List (List ℕ) → List Told → Made
@@ -76,13 +76,13 @@ is_closed Open = false
 
 -- a name of this state is freed, where it is closed
 abbrev pub freed_as : State → NodeData → Direction → Name → NodeData
-freed_as Closed d way name = retired Craft d way name
+freed_as Closed d way name = name_retired Craft d way name
 freed_as Free d way name = d
 freed_as Open d way name = d
 
 -- a name that was used is freed
-abbrev pub freed : NodeData → Use → NodeData
-freed d u = freed_as (state_of d u) d u.direction u.name
+abbrev pub name_freed : NodeData → Use → NodeData
+name_freed d u = freed_as (state_of d u) d u.direction u.name
 
 -- and that is told
 abbrev pub told_freed : State → Use → List Told
@@ -104,11 +104,11 @@ told_first ts x = (x.0, x.1, ts ++ x.2)
 
 -- the names in front that were used so many ticks ago are freed: the node after it, the names that
 -- are left, and what is told
-abbrev pub cleared : (reuse : ℕ) → NodeData → List Use → NodeData × List Use × List Told
-cleared reuse d [] = (d, [], [])
-cleared reuse d (u ∷ us) =
+abbrev pub names_cleared : (reuse : ℕ) → NodeData → List Use → NodeData × List Use × List Told
+names_cleared reuse d [] = (d, [], [])
+names_cleared reuse d (u ∷ us) =
     if is_due reuse d.clock u
-    then told_first (told_freed (state_of d u) u) (cleared reuse (freed d u) us)
+    then told_first (told_freed (state_of d u) u) (names_cleared reuse (name_freed d u) us)
     else (d, u ∷ us, [])
 
 -- the end came to that
@@ -123,9 +123,9 @@ clearing f x = record {
 
 -- what the end makes of it
 abbrev pub step : Config → Flight → Input → Made
-step c f (Came b) = noting f (taken c f.end b) (took (taken_in c f.end b))
+step c f (Came b) = noting f (packet_taken c f.end b) (took (taken_in c f.end b))
 step c f Ticked = noting f (beaten c f.end) (given_up c f.end)
-step c f Cleared = clearing f (cleared f.reuse f.end.node f.uses)
+step c f Cleared = clearing f (names_cleared f.reuse f.end.node f.uses)
 step c f (Astray place len) =
     record { flight = f; packets = []; told = Skipped place len ∷ [] }
 
@@ -142,9 +142,9 @@ abbrev pub onward : (Flight → Made) → Made → Made
 onward f x = behind_made x (f x.flight)
 
 -- the end after all that came, the packets that it made, and what is told
-abbrev pub served : Config → Flight → List Input → Made
-served c f [] = record { flight = f; packets = []; told = [] }
-served c f (x ∷ xs) = onward (λ g. served c g xs) (step c f x)
+abbrev pub inputs_served : Config → Flight → List Input → Made
+inputs_served c f [] = record { flight = f; packets = []; told = [] }
+inputs_served c f (x ∷ xs) = onward (λ g. inputs_served c g xs) (step c f x)
 
 -- ---- ticks by packets
 
@@ -171,46 +171,46 @@ clock_ticks (suc n) = clock_ticks n ++ (Ticked ∷ Cleared ∷ [])
 
 -- what is found in a stream: a packet, before which so many ticks are due by the clock, and octets
 -- that are passed over
-pub data Event : Type 0 where
-  Packet : (due : ℕ) → (octets : List ℕ) → Event
-  Noise : (octets : List ℕ) → Event
+pub data FlightEvent : Type 0 where
+  Packet : (due : ℕ) → (octets : List ℕ) → FlightEvent
+  Noise : (octets : List ℕ) → FlightEvent
 
 -- as it was cut
-abbrev pub stretch_of : Event → Stretch
+abbrev pub stretch_of : FlightEvent → Stretch
 stretch_of (Packet due b) = Framed b
 stretch_of (Noise b) = Passed b
 
-abbrev pub stretches_of : List Event → List Stretch
+abbrev pub stretches_of : List FlightEvent → List Stretch
 stretches_of [] = []
 stretches_of (e ∷ es) = stretch_of e ∷ stretches_of es
 
 -- how many ticks are due before packets, in front of those before others
-abbrev pub due_before : Event → List ℕ → List ℕ
+abbrev pub due_before : FlightEvent → List ℕ → List ℕ
 due_before (Packet due b) ns = due ∷ ns
 due_before (Noise b) ns = ns
 
 -- how many are due before each packet
-abbrev pub dues_of : List Event → List ℕ
+abbrev pub dues_of : List FlightEvent → List ℕ
 dues_of [] = []
 dues_of (e ∷ es) = due_before e (dues_of es)
 
 -- how many octets it has
-abbrev pub size_of : Event → ℕ
+abbrev pub size_of : FlightEvent → ℕ
 size_of (Packet due b) = length b
 size_of (Noise b) = length b
 
 -- what comes with it at a place
-abbrev pub inputs_by : (every since place : ℕ) → Event → List Input
+abbrev pub inputs_by : (every since place : ℕ) → FlightEvent → List Input
 inputs_by every since place (Packet due b) = clock_ticks due ++ came_with every since b
 inputs_by every since place (Noise b) = Astray (up_to_limit place) (length b) ∷ []
 
 -- how many packets came since the last tick by packets, with it
-abbrev pub since_by : (every since : ℕ) → Event → ℕ
+abbrev pub since_by : (every since : ℕ) → FlightEvent → ℕ
 since_by every since (Packet due b) = counted_on every since
 since_by every since (Noise b) = since
 
 -- what comes with all of them, from a place on
-abbrev pub inputs_of : (every since place : ℕ) → List Event → List Input
+abbrev pub inputs_of : (every since place : ℕ) → List FlightEvent → List Input
 inputs_of every since place [] = []
 inputs_of every since place (e ∷ es) =
     inputs_by every since place e

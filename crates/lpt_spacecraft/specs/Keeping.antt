@@ -3,9 +3,9 @@ use Rattle.std.specs.Prelude.{◌≡◌, ℕ, zero, suc, ◌+◌, ◌<◌, ◌^�
 use Rattle.lpt_events.specs.declared.side.Side.TheVariants.{Craft}
 use Rattle.lpt_memory.specs.Memories.{content_of, Contents}
 use Rattle.lpt_packet.specs.Numbers.{be}
-use Rattle.lpt_packet.specs.Packets.{sealed}
+use Rattle.lpt_packet.specs.Packets.{octets_sealed}
 use Rattle.lpt_state.specs.Lastings.{restarted_node, IsEnd}
-use Rattle.lpt_state.specs.Spellings.{spelled}
+use Rattle.lpt_state.specs.Spellings.{state_spelled}
 use Rattle.lpt_state.specs.Verdicts.{reading}
 use Rattle.lpt_spacecraft.specs.declared.spacecraft.Spacecraft.{Spacecraft}
 
@@ -28,12 +28,12 @@ kept_head len = codes "LPTK" ++ 1 ∷ [] ++ be len 8
 
 -- a state and memories, by identifier, with the checksum of all of them behind
 unfoldable pub kept_octets : (state : List ℕ) → Contents → List ℕ
-kept_octets state ms = sealed (kept_head (length state) ++ state ++ kept_memories 256 ms)
+kept_octets state ms = octets_sealed (kept_head (length state) ++ state ++ kept_memories 256 ms)
 
 -- what was kept last is this spacecraft, its state and its memories, where that is known
 abbrev pub IsKeptAs : Option (List ℕ) → Spacecraft → Type 0
 IsKeptAs None s = ⊤
-IsKeptAs (Some b) s = b ≡ kept_octets (spelled s.node) s.memories
+IsKeptAs (Some b) s = b ≡ kept_octets (state_spelled s.node) s.memories
 
 -- the length of a memory, where there is one, is a number of 64 bits
 abbrev pub HasLength : Option (List ℕ) → Type 0
@@ -57,7 +57,7 @@ pub record IsReadFrom (octets : List ℕ) (s : Spacecraft) : Type 0 where
 -- what holds of a spacecraft that could be kept
 pub record IsKept (s : Spacecraft) : Type 0 where
   pub is_end : IsEnd s.node
-  pub lengths : HaveLengths (spelled s.node) s.memories
+  pub lengths : HaveLengths (state_spelled s.node) s.memories
 
 -- a spacecraft has the node that a restart leaves of another, and its memories, each with the
 -- content that it had
@@ -72,5 +72,5 @@ KeptIsRead =
     → IsKept s
     → s.node.at.boot + 1 < 2 ^ 64
     → t.config ≡ s.config
-    → IsReadFrom (kept_octets (spelled s.node) s.memories) t
+    → IsReadFrom (kept_octets (state_spelled s.node) s.memories) t
     → IsAgain s t

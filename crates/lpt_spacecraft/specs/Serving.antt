@@ -8,11 +8,11 @@ use Rattle.lpt_packet.specs.Names.{Name}
 use Rattle.lpt_part.specs.Splitting.{part_count}
 use Rattle.lpt_node.specs.declared.accepted.Accepted.{Accepted}
 use Rattle.lpt_node.specs.declared.fault.NodeFault.{NodeFault}
-use Rattle.lpt_node.specs.Accepting.{accepted}
-use Rattle.lpt_node.specs.Jobs.{claimed, committed, executed}
+use Rattle.lpt_node.specs.Accepting.{packet_accepted}
+use Rattle.lpt_node.specs.Jobs.{job_claimed, job_committed, job_executed}
 use Rattle.lpt_node.specs.Nodes.{NodeData, no_data}
-use Rattle.lpt_node.specs.Sending.{sent, closed}
-use Rattle.lpt_node.specs.Times.{refusal_tick, ticked, expired}
+use Rattle.lpt_node.specs.Sending.{part_sent, sender_closed}
+use Rattle.lpt_node.specs.Times.{refusal_tick, clock_ticked, reception_expired}
 
 -- ---- what changes
 
@@ -30,7 +30,7 @@ new_end c first = record { node = no_data c; memories = first }
 -- what was made, with the packet of part k behind
 abbrev pub then_sent : Config → Name → (k : ℕ) → NodeData × List (List ℕ) → NodeData × List (List ℕ)
 then_sent c id k x =
-    ((sent Craft c x.0 id k).0, x.1 ++ (sent Craft c x.0 id k).1 ∷ [])
+    ((part_sent Craft c x.0 id k).0, x.1 ++ (part_sent Craft c x.0 id k).1 ∷ [])
 
 -- the first k parts of a message are sent
 abbrev pub first_sent : Config → NodeData → Name → (k : ℕ) → NodeData × List (List ℕ)
@@ -39,7 +39,7 @@ first_sent c d id (suc k) = then_sent c id (suc k) (first_sent c d id k)
 
 -- all parts of a message were sent, and then its sender is closed
 abbrev pub then_closed : Name → NodeData × List (List ℕ) → NodeData × List (List ℕ)
-then_closed id x = (closed x.0 id, x.1)
+then_closed id x = (sender_closed x.0 id, x.1)
 
 -- a message that was opened is sent in all its parts, and its sender is closed
 abbrev pub all_sent : Config → NodeData → Option (Name × List ℕ) → NodeData × List (List ℕ)
@@ -52,10 +52,10 @@ all_sent c d (Some x) =
 -- the request that waits is claimed, and its reading for the memories handed in
 abbrev pub read_over : Config → Contents → NodeData → NodeData
 read_over c ms d =
-    (committed (claimed d).0 (claimed d).1.boot (claimed d).1.job (record {
+    (job_committed (job_claimed d).0 (job_claimed d).1.boot (job_claimed d).1.job (record {
       apid = c.apid;
       sizes = sizes_of ms;
-      message = (claimed d).1.message;
+      message = (job_claimed d).1.message;
     })).0
 
 -- an end, and the packets that were made before it came to that
@@ -63,15 +63,15 @@ abbrev pub behind : List (List ℕ) → Contents → NodeData × List (List ℕ)
 behind before ms x = (record { node = x.0; memories = ms }, before ++ x.1)
 
 -- the request that waits is read and executed, and its reports are sent
-abbrev pub worked : Config → Onboard → Onboard × List (List ℕ)
-worked c s =
-    let x = executed c (read_over c s.memories s.node) s.memories in
+abbrev pub request_worked : Config → Onboard → Onboard × List (List ℕ)
+request_worked c s =
+    let x = job_executed c (read_over c s.memories s.node) s.memories in
     behind x.0.1.packets x.1 (all_sent c x.0.0 x.0.1.opened)
 
 -- the same, where something was released
 abbrev pub worked_if : Config → Onboard → Option (List ℕ) → Onboard × List (List ℕ)
 worked_if c s None = (s, [])
-worked_if c s (Some m) = worked c s
+worked_if c s (Some m) = request_worked c s
 
 -- ---- what comes
 
@@ -87,19 +87,23 @@ after_accepted c ms x =
     (worked_if c (record { node = x.0; memories = ms }) x.1.released)
 
 -- a packet comes
-abbrev pub taken : Config → Onboard → List ℕ → Onboard × List (List ℕ)
-taken c s b =
-    after_accepted c s.memories (accepted Craft c s.node (arrival Craft c.apid c.part_size b))
+abbrev pub packet_taken : Config → Onboard → List ℕ → Onboard × List (List ℕ)
+packet_taken c s b =
+    after_accepted c s.memories
+    (packet_accepted Craft c s.node (arrival Craft c.apid c.part_size b))
 
 -- the clock is one tick on, but at its end
 abbrev pub ticked_by : NodeData → Option NodeFault → NodeData
-ticked_by d None = ticked d
+ticked_by d None = clock_ticked d
 ticked_by d (Some fault) = d
 
 -- what was made, with the report of the reception that is due behind, where one is
 abbrev pub then_expired : Config → NodeData × List (List ℕ) → NodeData × List (List ℕ)
-then_expired c x =
-    ((expired Craft c x.0).0, x.1 ++ option_to_list (expired Craft c x.0).1.packet)
+then_expired c x = (
+  (reception_expired Craft c x.0).0,
+  x.1
+      ++ option_to_list (reception_expired Craft c x.0).1.packet,
+)
 
 -- the receptions that are due are given up, k of them at most
 abbrev pub first_expired : Config → NodeData → (k : ℕ) → NodeData × List (List ℕ)

@@ -3,7 +3,7 @@ use Rattle.std.specs.Prelude.{◌≡◌, ◌⊎◌, ◌-◌, ◌^◌, ◌<◌, �
 use Rattle.std.specs.List.{AllByRecursion}
 use Rattle.std.specs.Io.KnownBytes.{Appends, Consumes, IsAtEnd}
 use Rattle.lpt_memory.specs.Memories.{Contents}
-use Rattle.lpt_jobs.specs.Jobs.{numbered}
+use Rattle.lpt_jobs.specs.Jobs.{jobs_numbered}
 use Rattle.lpt_jobs.specs.declared.job.Job.{Job}
 use Rattle.lpt_jobs.specs.declared.job.Job.TheVariants.{Waiting}
 use Rattle.lpt_node.specs.Nodes.{NodeData}
@@ -14,10 +14,10 @@ use Rattle.lpt_stream.specs.Pieces.{up_to_limit}
 use Rattle.lpt_stream.specs.Streams.{all_octets, IsUnfinished}
 use Rattle.lpt_frames.specs.Frames.{IsStray}
 use Rattle.lpt_frames.specs.Stretches.{stretch_octets, IsCutInto}
-use Rattle.lpt_spacecraft.specs.Flights.{Event, Flight, Made, dues_of, inputs_of, new_flight, served, stretches_of}
+use Rattle.lpt_spacecraft.specs.Flights.{FlightEvent, Flight, Made, dues_of, inputs_of, new_flight, inputs_served, stretches_of}
 use Rattle.lpt_spacecraft.specs.Serving.{Onboard}
 use Rattle.lpt_spacecraft.specs.Telling.{Hears}
-use Rattle.lpt_spacecraft.specs.declared.pace.Course.{Course}
+use Rattle.lpt_spacecraft.specs.declared.pace.PaceCourse.{PaceCourse}
 use Rattle.lpt_spacecraft.specs.declared.pace.Pace.{Pace}
 use Rattle.lpt_spacecraft.specs.declared.spacecraft.Spacecraft.{Spacecraft}
 use Rattle.lpt_spacecraft.specs.declared.stop.Stop.{Stop}
@@ -58,7 +58,7 @@ Breaks before x now old new =
 -- ---- an end as a stream goes on
 
 -- the end, and the names that it has used
-abbrev pub flight_of : Spacecraft → Course → Flight
+abbrev pub flight_of : Spacecraft → PaceCourse → Flight
 flight_of s q = record { end = onboard s; reuse = q.pace.reuse; uses = q.uses.items }
 
 -- the end, and what it made
@@ -66,7 +66,7 @@ abbrev pub plain : Made → Onboard × List (List ℕ)
 plain x = (x.flight.end, x.packets)
 
 -- it came to that, what it made was written, and what there is to tell was told
-pub record Flies (x : Made) (s : Spacecraft) (q : Course) (old new : Option (List ℕ))
+pub record Flies (x : Made) (s : Spacecraft) (q : PaceCourse) (old new : Option (List ℕ))
     (had has : Option (List Told)) : Type 0 where
   pub flight : flight_of s q ≡ x.flight
   pub written : Appends old new (all_octets x.packets)
@@ -75,9 +75,9 @@ pub record Flies (x : Made) (s : Spacecraft) (q : Course) (old new : Option (Lis
 -- ---- a stream
 
 -- what these events make of a spacecraft at this pace
-abbrev pub served_by : Pace → Spacecraft → List Event → Made
+abbrev pub served_by : Pace → Spacecraft → List FlightEvent → Made
 served_by pace s events =
-    served s.config (new_flight pace.reuse (onboard s)) (inputs_of pace.every 0 0 events)
+    inputs_served s.config (new_flight pace.reuse (onboard s)) (inputs_of pace.every 0 0 events)
 
 -- The clock answered so, one answer after the other, where it is asked; where it isn't, no tick is
 -- due.
@@ -88,14 +88,14 @@ Answers false before after dues = (after ≡ before) × AllByRecursion (λ n. n 
 -- octets were read, and cut into events and a rest of which this holds; those that are lost were
 -- read behind them
 abbrev pub ReadsCut : (passing : Bool) → (before after : Option (List ℕ)) → (lost : List ℕ)
-    → (List Event → List ℕ → Type 0) → Type 0
+    → (List FlightEvent → List ℕ → Type 0) → Type 0
 ReadsCut passing before after lost P =
-    (stream : List ℕ) × (events : List Event) × (rest : List ℕ)
+    (stream : List ℕ) × (events : List FlightEvent) × (rest : List ℕ)
     × Consumes before after (stream ++ lost) × IsCutInto passing stream (stretches_of events) rest
     × P events rest
 
 -- how many octets events have
-abbrev pub length_of : List Event → ℕ
+abbrev pub length_of : List FlightEvent → ℕ
 length_of events = length (stretch_octets (stretches_of events))
 
 -- where a stream ends, with these octets left behind its packets, at this place
@@ -116,7 +116,7 @@ StopsAt passing (Stray place) len rest after =
 -- all of these were taken, what they make was written, and what they tell was told; the clock
 -- answered so before each packet
 pub record Serves (pace : Pace) (s t : Spacecraft) (old new asked answered : Option (List ℕ))
-    (had has : Option (List Told)) (events : List Event) : Type 0 where
+    (had has : Option (List Told)) (events : List FlightEvent) : Type 0 where
   pub writes : Writes (plain (served_by pace s events)) t old new
   pub told : Hears had has (served_by pace s events).told
   pub answers : Answers pace.clocked asked answered (dues_of events)
@@ -125,9 +125,9 @@ pub record Serves (pace : Pace) (s t : Spacecraft) (old new asked answered : Opt
 -- part; the memories are as before the last or as it leaves them. Or there is none at which work
 -- broke off.
 pub record BreaksOff (pace : Pace) (s t : Spacecraft) (old new asked answered : Option (List ℕ))
-    (had has : Option (List Told)) (events : List Event) : Type 0 where
-  pub taken : List Event
-  pub last : Option Event
+    (had has : Option (List Told)) (events : List FlightEvent) : Type 0 where
+  pub taken : List FlightEvent
+  pub last : Option FlightEvent
   pub are : events ≡ taken ++ option_to_list last
   pub breaks : Breaks (served_by pace s taken).flight.end.memories
       (plain (served_by pace s events)) t.memories old new
@@ -158,5 +158,5 @@ ServesTo pace (Err faults.Memory) s t before after old new asked answered had ha
 abbrev pub IsEndless : (passing : Bool) → Spacecraft → (before after : Option (List ℕ)) → Type 0
 IsEndless passing t before after =
     ReadsCut passing before after [] (λ events rest. length events ≡ 2 ^ 64 - 1)
-    ⊎ ((numbered t.node.at.jobs ≡ 2 ^ 64 - 1)
+    ⊎ ((jobs_numbered t.node.at.jobs ≡ 2 ^ 64 - 1)
     ⊎ ((octets : List ℕ) × Consumes before after octets × (2 ^ 64 - 1 ≤ length octets)))

@@ -13,10 +13,10 @@ use Rattle.lpt_memory.specs.Given.{accesses}
 use Rattle.lpt_memory.specs.declared.given.Access.{Access}
 use Rattle.lpt_memory.specs.Meanings.{Meaning}
 use Rattle.lpt_memory.specs.Memories.{Contents}
-use Rattle.lpt_memory.specs.Readings.{meant}
+use Rattle.lpt_memory.specs.Readings.{source_meaning}
 use Rattle.lpt_node.specs.declared.accepted.Accepted.{Accepted}
-use Rattle.lpt_node.specs.Accepting.{accepted}
-use Rattle.lpt_node.specs.Jobs.{Execution, executed}
+use Rattle.lpt_node.specs.Accepting.{packet_accepted}
+use Rattle.lpt_node.specs.Jobs.{Execution, job_executed}
 use Rattle.lpt_node.specs.Nodes.{NodeData}
 use Rattle.lpt_node.specs.Times.{due, refusal_tick}
 use Rattle.lpt_packet.specs.Names.{Name}
@@ -55,7 +55,7 @@ written_by m = written_of (slice_get (accesses m) 0)
 abbrev pub written_at : Head → Option ℕ
 written_at NoJob = None
 written_at NotReady = None
-written_at (Ready r) = written_by (meant r)
+written_at (Ready r) = written_by (source_meaning r)
 
 -- a request was executed, which wrote to this memory, or to none
 abbrev pub done_in : Config → Option ℕ → Execution → Done
@@ -68,7 +68,7 @@ done_in c wrote x = record {
 
 -- the request that stands at the front is executed
 abbrev pub front_done : Config → Contents → NodeData → Done
-front_done c ms d = done_in c (written_at (head_of d.jobs.jobs)) (executed c d ms).0.1
+front_done c ms d = done_in c (written_at (head_of d.jobs.jobs)) (job_executed c d ms).0.1
 
 -- the request that waits is read and executed
 abbrev pub work_done : Config → Onboard → Done
@@ -89,7 +89,7 @@ taken_of c ms x = record {
 -- a packet comes
 abbrev pub taken_in : Config → Onboard → List ℕ → Taken
 taken_in c s b =
-    taken_of c s.memories (accepted Craft c s.node (arrival Craft c.apid c.part_size b))
+    taken_of c s.memories (packet_accepted Craft c s.node (arrival Craft c.apid c.part_size b))
 
 -- ---- what is told
 
@@ -123,13 +123,13 @@ ended_by (Broken name reason) = Some (Up, name)
 ended_by _ = None
 
 -- the name that this has used up, where it has
-abbrev pub ended : Told → Option (Direction × Name)
-ended (Took o) = ended_by o
-ended (Did d) = option_map (λ x. (Down, x.0)) d.sent
-ended (GaveUp name) = Some (Up, name)
-ended (Freed way name) = None
-ended (UsedUp way source) = None
-ended (Skipped place len) = None
+abbrev pub name_used : Told → Option (Direction × Name)
+name_used (Took o) = ended_by o
+name_used (Did d) = option_map (λ x. (Down, x.0)) d.sent
+name_used (GaveUp name) = Some (Up, name)
+name_used (Freed way name) = None
+name_used (UsedUp way source) = None
+name_used (Skipped place len) = None
 
 -- what an end knows of the names of a direction
 abbrev pub names_at : NodeData → Direction → Marks
@@ -149,4 +149,4 @@ used_up d (Some x) = none_left (least_free_in (names_at d x.0) x.1.source) x.0 x
 -- what has happened, with what is told behind each, at an end that came to this
 abbrev pub all_noted : NodeData → List Told → List Told
 all_noted d [] = []
-all_noted d (t ∷ ts) = (t ∷ used_up d (ended t)) ++ all_noted d ts
+all_noted d (t ∷ ts) = (t ∷ used_up d (name_used t)) ++ all_noted d ts

@@ -131,7 +131,7 @@ fn keep_in<F: WholeFile>(file: &mut F, craft: &Spacecraft) -> Result<(), KeepFau
     ensures whole { (F.content file.new ≡ F.content file.old)
         ⊎ IsKeptAs (F.content file.new) craft.now }
 {
-    let Ok(octets) = craft.kept(craft.alloc) else {
+    let Ok(octets) = craft.octets_kept(craft.alloc) else {
         return Err(KeepFault::Memory);
     };
     match file.replace(&octets) {

@@ -1,14 +1,14 @@
 //! What the spacecraft's end makes of a packet, and of the tick behind it, as a stream goes on.
 
 ghost use Rattle.std.specs.Prelude.{◌≡◌, ◌∷◌, ◌⊎◌, ◌+◌, ◌<◌, ◌^◌, [], ◌++◌, IfErr, OnOk, Some};
-ghost use Rattle.lpt_jobs.specs.Jobs.{numbered};
+ghost use Rattle.lpt_jobs.specs.Jobs.{jobs_numbered};
 ghost use Rattle.lpt_stream.specs.Streams.{all_octets};
 ghost use Rattle.lpt_text.specs.Streams.{AppendsPart, WriteEnds};
-ghost use Rattle.lpt_spacecraft.specs.Flights.{Came, Ticked, Cleared, came_with, clock_ticks, counted_on, served, step};
-ghost use Rattle.lpt_spacecraft.specs.Serving.{beaten, taken};
+ghost use Rattle.lpt_spacecraft.specs.Flights.{Came, Ticked, Cleared, came_with, clock_ticks, counted_on, inputs_served, step};
+ghost use Rattle.lpt_spacecraft.specs.Serving.{beaten, packet_taken};
 ghost use Rattle.lpt_spacecraft.specs.Streams.{flight_of, onboard, plain, Breaks, Flies, IsIdle};
 
-use crate::pace::Course;
+use crate::pace::PaceCourse;
 use crate::{Spacecraft, Told};
 use lpt_text::{Sink, StreamFault};
 
@@ -16,16 +16,16 @@ use lpt_text::{Sink, StreamFault};
 // writes what they make; adds what there is to tell.
 pub(crate) fn serve_one<K: Sink>(
     craft: &mut Spacecraft,
-    course: &mut Course,
+    course: &mut PaceCourse,
     due: u64,
     octets: &[u8],
     told: &mut Vec<Told>,
     out: &mut K,
 ) -> Result<(), StreamFault>
     requires idle { IsIdle craft.old }
-    requires room { numbered craft.old.node.at.jobs + 1 < 2 ^ 64 }
+    requires room { jobs_numbered craft.old.node.at.jobs + 1 < 2 ^ 64 }
     requires since { course.old.since + 1 < 2 ^ 64 }
-    ensures ok { OnOk result (Flies (served craft.old.config (flight_of craft.old course.old)
+    ensures ok { OnOk result (Flies (inputs_served craft.old.config (flight_of craft.old course.old)
         (clock_ticks due ++ came_with course.old.pace.every course.old.since octets.now))
         craft.new course.new (K.contents out.old) (K.contents out.new)
         (Some told.old.items) (Some told.new.items)) }
@@ -39,7 +39,7 @@ pub(crate) fn serve_one<K: Sink>(
     ensures fault { IfErr result (λ e. (e ≡ StreamFault.Write) ⊎ (e ≡ StreamFault.Memory)) }
     ensures writer { WriteEnds result (K.failed out.old) (K.failed out.new) }
     ensures breaks { IfErr result (λ _. Breaks craft.old.memories
-        (plain (served craft.old.config (flight_of craft.old course.old)
+        (plain (inputs_served craft.old.config (flight_of craft.old course.old)
         (clock_ticks due ++ came_with course.old.pace.every course.old.since octets.now)))
         craft.new.memories (K.contents out.old) (K.contents out.new)) }
 {
@@ -51,13 +51,13 @@ pub(crate) fn serve_one<K: Sink>(
 // Ticks so many times, and adds what there is to tell.
 pub(crate) fn tick_all<K: Sink>(
     craft: &mut Spacecraft,
-    course: &mut Course,
+    course: &mut PaceCourse,
     due: u64,
     told: &mut Vec<Told>,
     out: &mut K,
 ) -> Result<(), StreamFault>
     requires idle { IsIdle craft.old }
-    ensures ok { OnOk result (Flies (served craft.old.config (flight_of craft.old course.old)
+    ensures ok { OnOk result (Flies (inputs_served craft.old.config (flight_of craft.old course.old)
         (clock_ticks due)) craft.new course.new (K.contents out.old) (K.contents out.new)
         (Some told.old.items) (Some told.new.items)) }
     ensures idle { OnOk result (IsIdle craft.new) }
@@ -71,7 +71,7 @@ pub(crate) fn tick_all<K: Sink>(
     ensures fault { IfErr result (λ e. (e ≡ StreamFault.Write) ⊎ (e ≡ StreamFault.Memory)) }
     ensures writer { WriteEnds result (K.failed out.old) (K.failed out.new) }
     ensures part { IfErr result (λ _. AppendsPart (K.contents out.old) (K.contents out.new)
-        (all_octets (served craft.old.config (flight_of craft.old course.old)
+        (all_octets (inputs_served craft.old.config (flight_of craft.old course.old)
         (clock_ticks due)).packets)) }
 {
     for k in 0..due {
@@ -83,15 +83,15 @@ pub(crate) fn tick_all<K: Sink>(
 // Takes a packet, and ticks behind it where that is due, and adds what there is to tell.
 fn take_next<K: Sink>(
     craft: &mut Spacecraft,
-    course: &mut Course,
+    course: &mut PaceCourse,
     octets: &[u8],
     told: &mut Vec<Told>,
     out: &mut K,
 ) -> Result<(), StreamFault>
     requires idle { IsIdle craft.old }
-    requires room { numbered craft.old.node.at.jobs + 1 < 2 ^ 64 }
+    requires room { jobs_numbered craft.old.node.at.jobs + 1 < 2 ^ 64 }
     requires since { course.old.since + 1 < 2 ^ 64 }
-    ensures ok { OnOk result (Flies (served craft.old.config (flight_of craft.old course.old)
+    ensures ok { OnOk result (Flies (inputs_served craft.old.config (flight_of craft.old course.old)
         (came_with course.old.pace.every course.old.since octets.now)) craft.new course.new
         (K.contents out.old) (K.contents out.new) (Some told.old.items) (Some told.new.items)) }
     ensures since { OnOk result (course.new.since
@@ -104,7 +104,7 @@ fn take_next<K: Sink>(
     ensures fault { IfErr result (λ e. (e ≡ StreamFault.Write) ⊎ (e ≡ StreamFault.Memory)) }
     ensures writer { WriteEnds result (K.failed out.old) (K.failed out.new) }
     ensures breaks { IfErr result (λ _. Breaks craft.old.memories
-        (plain (served craft.old.config (flight_of craft.old course.old)
+        (plain (inputs_served craft.old.config (flight_of craft.old course.old)
         (came_with course.old.pace.every course.old.since octets.now)))
         craft.new.memories (K.contents out.old) (K.contents out.new)) }
 {
@@ -126,13 +126,13 @@ fn take_next<K: Sink>(
 // Takes a packet, and adds what became of it.
 fn take_one<K: Sink>(
     craft: &mut Spacecraft,
-    course: &mut Course,
+    course: &mut PaceCourse,
     octets: &[u8],
     told: &mut Vec<Told>,
     out: &mut K,
 ) -> Result<(), StreamFault>
     requires idle { IsIdle craft.old }
-    requires room { numbered craft.old.node.at.jobs + 1 < 2 ^ 64 }
+    requires room { jobs_numbered craft.old.node.at.jobs + 1 < 2 ^ 64 }
     ensures ok { OnOk result (Flies (step craft.old.config (flight_of craft.old course.old)
         (Came octets.now)) craft.new course.new (K.contents out.old) (K.contents out.new)
         (Some told.old.items) (Some told.new.items)) }
@@ -145,7 +145,7 @@ fn take_one<K: Sink>(
     ensures fault { IfErr result (λ e. (e ≡ StreamFault.Write) ⊎ (e ≡ StreamFault.Memory)) }
     ensures writer { WriteEnds result (K.failed out.old) (K.failed out.new) }
     ensures breaks { IfErr result (λ _. Breaks craft.old.memories
-        (taken craft.old.config (onboard craft.old) octets.now) craft.new.memories
+        (packet_taken craft.old.config (onboard craft.old) octets.now) craft.new.memories
         (K.contents out.old) (K.contents out.new)) }
 {
     let taken = match craft.take(octets, out) {
@@ -161,12 +161,12 @@ fn take_one<K: Sink>(
 // Ticks, frees the names that are due then, and adds what there is to tell.
 fn tick_one<K: Sink>(
     craft: &mut Spacecraft,
-    course: &mut Course,
+    course: &mut PaceCourse,
     told: &mut Vec<Told>,
     out: &mut K,
 ) -> Result<(), StreamFault>
     requires idle { IsIdle craft.old }
-    ensures ok { OnOk result (Flies (served craft.old.config (flight_of craft.old course.old)
+    ensures ok { OnOk result (Flies (inputs_served craft.old.config (flight_of craft.old course.old)
         (Ticked ∷ Cleared ∷ [])) craft.new course.new (K.contents out.old) (K.contents out.new)
         (Some told.old.items) (Some told.new.items)) }
     ensures idle { OnOk result (IsIdle craft.new) }

@@ -3,7 +3,7 @@
 ghost use Rattle.std.specs.Prelude.{◌≡◌, ℕ, ◌<◌, ◌≤◌, ◌++◌, length, IfOk, IfSome, OnOk, option_map};
 ghost use Rattle.lpt_events.specs.Configs.{IsConfig};
 ghost use Rattle.lpt_memory.specs.Memories.{content_of};
-ghost use Rattle.lpt_state.specs.Spellings.{spelled};
+ghost use Rattle.lpt_state.specs.Spellings.{state_spelled};
 ghost use Rattle.lpt_spacecraft.specs.Keeping.{kept_head, kept_memories, kept_memory, kept_octets, HasLength, HaveLengths, IsKept, IsReadFrom};
 ghost use Rattle.lpt_spacecraft.specs.Streams.{IsIdle};
 
@@ -31,9 +31,9 @@ pub enum KeptFault {
 
 impl Spacecraft {
     /// The octets that are kept of it. The only error is out of memory.
-    pub fn kept(&self, alloc: Global) -> Result<Vec<u8>, AllocError>
+    pub fn octets_kept(&self, alloc: Global) -> Result<Vec<u8>, AllocError>
         ensures octets { IfOk result (λ v. v.items
-            ≡ kept_octets (spelled self.now.node) self.now.memories) }
+            ≡ kept_octets (state_spelled self.now.node) self.now.memories) }
         ensures whole { OnOk result (IsKept self.now) }
     {
         let mut state = Vec::new(alloc);
@@ -120,13 +120,13 @@ fn add_memory(octets: &mut Vec<u8>, id: u8, content: Option<&[u8]>) -> Result<()
 
 // The state, and the octets of the memories behind it.
 fn parts_in(octets: &[u8]) -> Option<(&[u8], &[u8])> {
-    let (state, behind) = counted(octets.strip_prefix(b"LPTK\x01")?)?;
+    let (state, behind) = octets_counted(octets.strip_prefix(b"LPTK\x01")?)?;
     let (memories, _) = behind.split_last_chunk::<2>()?;
     Some((state, memories))
 }
 
 // The octets whose number stands in front of them, in 64 bits, and those behind.
-fn counted(octets: &[u8]) -> Option<(&[u8], &[u8])>
+fn octets_counted(octets: &[u8]) -> Option<(&[u8], &[u8])>
     ensures { IfSome result (λ x. length x.1.now ≤ length octets.now) }
 {
     let (len, behind) = octets.split_first_chunk::<8>()?;
@@ -138,7 +138,7 @@ fn memories_in(alloc: Global, octets: &[u8]) -> Result<Memories, KeptFault> {
     let mut list = Vec::new(alloc);
     let mut left = octets;
     while let Some((id, behind)) = left.split_first() {
-        let Some((content, behind)) = counted(behind) else {
+        let Some((content, behind)) = octets_counted(behind) else {
             return Err(KeptFault::Damaged);
         };
         let Ok(content) = content.to_vec(alloc) else {

@@ -2,8 +2,8 @@
 
 ghost use Rattle.std.specs.Prelude.{◌≡◌, ◌<◌, ◌+◌, ◌^◌, ◌∷◌, [], ◌++◌, IfErr, OnOk, Some};
 ghost use Rattle.lpt_spacecraft.specs.Changes.{ticks_with};
-ghost use Rattle.lpt_spacecraft.specs.Flights.{cleared, due_now, freed, state_of, told_freed, use_of, uses_of};
-ghost use Rattle.lpt_spacecraft.specs.Telling.{all_noted, ended, took, used_up};
+ghost use Rattle.lpt_spacecraft.specs.Flights.{names_cleared, due_now, name_freed, state_of, told_freed, use_of, uses_of};
+ghost use Rattle.lpt_spacecraft.specs.Telling.{all_noted, name_used, took, used_up};
 
 use crate::Spacecraft;
 use crate::told::{Taken, Told};
@@ -36,7 +36,7 @@ pub(crate) struct Use {
 
 /// How far a run has come.
 #[derive(Drop)]
-pub(crate) struct Course {
+pub(crate) struct PaceCourse {
     pub(crate) pace: Pace,
     /// How many packets came since the last tick.
     pub(crate) since: u64,
@@ -45,14 +45,14 @@ pub(crate) struct Course {
     pub(crate) uses: VecDeque<Use>,
 }
 
-impl Course {
+impl PaceCourse {
     // A run in which nothing has come.
-    pub(crate) fn new(alloc: Global, pace: Pace) -> Course
+    pub(crate) fn new(alloc: Global, pace: Pace) -> PaceCourse
         ensures pace { result.pace ≡ pace }
         ensures since { result.since ≡ 0 }
         ensures uses { result.uses.items ≡ [] }
     {
-        Course {
+        PaceCourse {
             pace,
             since: 0,
             uses: VecDeque::new(alloc),
@@ -126,15 +126,15 @@ impl Course {
         told: &mut Vec<Told>,
     ) -> Result<(), StreamFault>
         ensures told { OnOk result (told.new.items
-            ≡ told.old.items ++ what ∷ used_up craft.now.node.at (ended what)) }
+            ≡ told.old.items ++ what ∷ used_up craft.now.node.at (name_used what)) }
         ensures uses { OnOk result (self.new.uses.items ≡ self.old.uses.items
-            ++ use_of self.old.pace.reuse craft.now.node.at.clock (ended what)) }
+            ++ use_of self.old.pace.reuse craft.now.node.at.clock (name_used what)) }
         ensures pace { self.new.pace ≡ self.old.pace }
         ensures since { self.new.since ≡ self.old.since }
         ensures fault { IfErr result (λ e. e ≡ StreamFault.Memory) }
     {
         add(told, what)?;
-        let Some((direction, name)) = what.ended() else {
+        let Some((direction, name)) = what.name_used() else {
             return Ok(());
         };
         if craft.is_used_up(direction, name.source) {
@@ -173,11 +173,11 @@ impl Course {
         told: &mut Vec<Told>,
     ) -> Result<(), StreamFault>
         ensures node { OnOk result (craft.new.node.at
-            ≡ (cleared self.old.pace.reuse craft.old.node.at self.old.uses.items).0) }
+            ≡ (names_cleared self.old.pace.reuse craft.old.node.at self.old.uses.items).0) }
         ensures uses { OnOk result (self.new.uses.items
-            ≡ (cleared self.old.pace.reuse craft.old.node.at self.old.uses.items).1) }
+            ≡ (names_cleared self.old.pace.reuse craft.old.node.at self.old.uses.items).1) }
         ensures told { OnOk result (told.new.items ≡ told.old.items
-            ++ (cleared self.old.pace.reuse craft.old.node.at self.old.uses.items).2) }
+            ++ (names_cleared self.old.pace.reuse craft.old.node.at self.old.uses.items).2) }
 
         ensures pace { self.new.pace ≡ self.old.pace }
         ensures since { self.new.since ≡ self.old.since }
@@ -212,7 +212,7 @@ impl Course {
 
 // Frees a name that was used, where it is closed, and adds that. The only error is out of memory.
 fn free(craft: &mut Spacecraft, used: Use, told: &mut Vec<Told>) -> Result<(), StreamFault>
-    ensures node { craft.new.node.at ≡ freed craft.old.node.at used }
+    ensures node { craft.new.node.at ≡ name_freed craft.old.node.at used }
     ensures told { OnOk result (told.new.items
         ≡ told.old.items ++ told_freed (state_of craft.old.node.at used) used) }
     ensures memories { craft.new.memories ≡ craft.old.memories }

@@ -56,14 +56,14 @@ pub fn relay_stream<P: Peer, R: Relay>(
                 }
                 place = place.saturating_add(run.len);
                 if run.is_end {
-                    return Ok(Some(end_at(place, buffer.held())));
+                    return Ok(Some(end_at(place, buffer.octets_held())));
                 }
                 continue;
             }
-            Ok(Front::End) => return Ok(Some(end_at(place, buffer.held()))),
+            Ok(Front::End) => return Ok(Some(end_at(place, buffer.octets_held()))),
             Err(fault) => return Err(unwritten_fault(fault)),
         };
-        let Ok(octets) = Vec::from_slice(alloc, &buffer.held()[..len]) else {
+        let Ok(octets) = Vec::from_slice(alloc, &buffer.octets_held()[..len]) else {
             return Err(StreamFault::Memory);
         };
         if !relay.hand(Happening::Packet(Octets::from_vec(octets))) {

@@ -2,9 +2,9 @@
 
 ghost use Rattle.std.specs.Prelude.{◌≡◌, ◌⊎◌, ◌+◌, ◌<◌, ◌^◌, ◌++◌, IfErr, IfOk, OnErr, OnOk, IsOk, Some};
 ghost use Rattle.std.specs.Io.KnownBytes.{Keeps};
-ghost use Rattle.lpt_jobs.specs.Jobs.{numbered};
+ghost use Rattle.lpt_jobs.specs.Jobs.{jobs_numbered};
 ghost use Rattle.lpt_text.specs.Streams.{ReadEnds, WriteEnds};
-ghost use Rattle.lpt_spacecraft.specs.Flights.{came_with, clock_ticks, counted_on, served};
+ghost use Rattle.lpt_spacecraft.specs.Flights.{came_with, clock_ticks, counted_on, inputs_served};
 ghost use Rattle.lpt_spacecraft.specs.Keeping.{IsKeptAs};
 ghost use Rattle.lpt_spacecraft.specs.Streams.{end_at, flight_of, plain, Breaks, Flies, IsEndless, IsIdle, ServesTo};
 ghost use Rattle.lpt_spacecraft.specs.Telling.{Hears};
@@ -12,7 +12,7 @@ ghost use Rattle.lpt_spacecraft.specs.Telling.{Hears};
 use crate::clock::due_by;
 use crate::flying::serve_one;
 use crate::keeping::{Outlet, keep_changed};
-use crate::pace::Course;
+use crate::pace::PaceCourse;
 use crate::{Clock, Keeper, Listener, Pace, Spacecraft, Stop, Told};
 use lpt_frames::{FrameBuffer, Front};
 use lpt_stream::Peer;
@@ -59,7 +59,7 @@ pub fn serve_stream<P: Peer, C: Clock, H: Keeper, L: Listener, K: Sink>(
     ensures writer { WriteEnds result (K.failed out.old) (K.failed out.new) }
 {
     let mut buffer = FrameBuffer::new(craft.alloc);
-    let mut course = Course::new(craft.alloc, pace);
+    let mut course = PaceCourse::new(craft.alloc, pace);
     let mut place: u64 = 0;
     for count in 0..u64::MAX {
         let len = match buffer.find_frame(peer, out) {
@@ -73,18 +73,18 @@ pub fn serve_stream<P: Peer, C: Clock, H: Keeper, L: Listener, K: Sink>(
                 listener.tell(Told::Skipped { place, len });
                 place = place.saturating_add(run.len);
                 if run.is_end {
-                    return stop_at(end_at(place, buffer.held()), out);
+                    return stop_at(end_at(place, buffer.octets_held()), out);
                 }
                 continue;
             }
-            Ok(Front::End) => return stop_at(end_at(place, buffer.held()), out),
+            Ok(Front::End) => return stop_at(end_at(place, buffer.octets_held()), out),
             Err(fault) => return Err(fault),
         };
         if craft.is_full() {
             return Err(StreamFault::Read);
         }
         let due = due_by(clock, pace.clocked);
-        let octets = &buffer.held()[..len];
+        let octets = &buffer.octets_held()[..len];
         match serve_packet(craft, &mut course, due, octets, keeper, listener, out) {
             Ok(()) => {}
             Err(fault) => return Err(fault),
@@ -99,7 +99,7 @@ pub fn serve_stream<P: Peer, C: Clock, H: Keeper, L: Listener, K: Sink>(
 // is written once the spacecraft is kept, and then what there is to tell is told.
 pub(crate) fn serve_packet<H: Keeper, L: Listener, K: Outlet>(
     craft: &mut Spacecraft,
-    course: &mut Course,
+    course: &mut PaceCourse,
     due: u64,
     octets: &[u8],
     keeper: &mut H,
@@ -107,10 +107,10 @@ pub(crate) fn serve_packet<H: Keeper, L: Listener, K: Outlet>(
     out: &mut K,
 ) -> Result<(), StreamFault>
     requires idle { IsIdle craft.old }
-    requires room { numbered craft.old.node.at.jobs + 1 < 2 ^ 64 }
+    requires room { jobs_numbered craft.old.node.at.jobs + 1 < 2 ^ 64 }
     requires since { course.old.since + 1 < 2 ^ 64 }
     requires kept { IsKeptAs (H.kept keeper.old) craft.old }
-    ensures ok { OnOk result (Flies (served craft.old.config (flight_of craft.old course.old)
+    ensures ok { OnOk result (Flies (inputs_served craft.old.config (flight_of craft.old course.old)
         (clock_ticks due ++ came_with course.old.pace.every course.old.since octets.now))
         craft.new course.new (K.contents out.old) (K.contents out.new) (L.heard listener.old)
         (L.heard listener.new)) }
@@ -125,7 +125,7 @@ pub(crate) fn serve_packet<H: Keeper, L: Listener, K: Outlet>(
     ensures fault { IfErr result (λ e. (e ≡ StreamFault.Write) ⊎ (e ≡ StreamFault.Memory)) }
     ensures writer { WriteEnds result (K.failed out.old) (K.failed out.new) }
     ensures breaks { IfErr result (λ _. Breaks craft.old.memories
-        (plain (served craft.old.config (flight_of craft.old course.old)
+        (plain (inputs_served craft.old.config (flight_of craft.old course.old)
         (clock_ticks due ++ came_with course.old.pace.every course.old.since octets.now)))
         craft.new.memories (K.contents out.old) (K.contents out.new)) }
     ensures untold { OnErr result (L.heard listener.new ≡ L.heard listener.old) }

@@ -1,17 +1,17 @@
 //! What the spacecraft's end makes of a packet.
 
 ghost use Rattle.std.specs.Prelude.{◌≡◌, ◌∷◌, ◌⊎◌, ◌+◌, ◌-◌, ◌<◌, ◌^◌, ℕ, List, ◌++◌, [], true, false, IfErr, IfOk, Ok, OnErr, OnOk, Some, option_map};
-ghost use Rattle.lpt_jobs.specs.Jobs.{numbered};
+ghost use Rattle.lpt_jobs.specs.Jobs.{jobs_numbered};
 ghost use Rattle.lpt_jobs.specs.declared.job.Job.TheVariants.{Waiting};
 ghost use Rattle.lpt_events.specs.Configs.{IsConfig};
 ghost use Rattle.lpt_events.specs.declared.side.Side.TheVariants.{Craft};
 ghost use Rattle.lpt_memory.specs.Memories.{content_of};
-ghost use Rattle.lpt_memory.specs.Readings.{meant};
+ghost use Rattle.lpt_memory.specs.Readings.{source_meaning};
 ghost use Rattle.lpt_state.specs.Lastings.{IsEnd};
-ghost use Rattle.lpt_state.specs.Spellings.{spelled};
+ghost use Rattle.lpt_state.specs.Spellings.{state_spelled};
 ghost use Rattle.lpt_state.specs.Verdicts.{reading, StateRefusedBy};
 ghost use Rattle.lpt_text.specs.Streams.{WriteEnds};
-ghost use Rattle.lpt_spacecraft.specs.Serving.{new_end, taken, worked, worked_if};
+ghost use Rattle.lpt_spacecraft.specs.Serving.{new_end, packet_taken, request_worked, worked_if};
 ghost use Rattle.lpt_spacecraft.specs.Streams.{onboard, Breaks, IsIdle, WaitsFor, Writes};
 ghost use Rattle.lpt_spacecraft.specs.Telling.{done_if, taken_in, work_done, written_by};
 
@@ -72,7 +72,7 @@ impl Spacecraft {
     /// Appends the state of the end, without the memories. The only error is out of memory, and
     /// then nothing is appended.
     pub fn write_state(&self, out: &mut Vec<u8>) -> Result<(), AllocError>
-        ensures ok { OnOk result (out.new.items ≡ out.old.items ++ spelled self.now.node) }
+        ensures ok { OnOk result (out.new.items ≡ out.old.items ++ state_spelled self.now.node) }
         ensures end { OnOk result (IsEnd self.now.node) }
         ensures err { OnErr result (out.new.items ≡ out.old.items) }
     {
@@ -88,8 +88,8 @@ impl Spacecraft {
 
     /// Whether no more requests can be numbered: 2^64 - 1 were released.
     pub fn is_full(&self) -> bool
-        ensures full { result ≡ true → numbered self.now.node.at.jobs ≡ 2 ^ 64 - 1 }
-        ensures room { result ≡ false → numbered self.now.node.at.jobs + 1 < 2 ^ 64 }
+        ensures full { result ≡ true → jobs_numbered self.now.node.at.jobs ≡ 2 ^ 64 - 1 }
+        ensures room { result ≡ false → jobs_numbered self.now.node.at.jobs + 1 < 2 ^ 64 }
     {
         self.node.jobs() == u64::MAX
     }
@@ -101,8 +101,9 @@ impl Spacecraft {
     /// request leaves them, and a front part of what would be reported stays written.
     pub fn take<K: Sink>(&mut self, octets: &[u8], out: &mut K) -> Result<Taken, StreamFault>
         requires idle { IsIdle self.old }
-        requires room { numbered self.old.node.at.jobs + 1 < 2 ^ 64 }
-        ensures ok { OnOk result (Writes (taken self.old.config (onboard self.old) octets.now)
+        requires room { jobs_numbered self.old.node.at.jobs + 1 < 2 ^ 64 }
+        ensures ok { OnOk result
+            (Writes (packet_taken self.old.config (onboard self.old) octets.now)
             self.new (K.contents out.old) (K.contents out.new)) }
         ensures done { IfOk result (λ t.
             t ≡ taken_in self.old.config (onboard self.old) octets.now) }
@@ -113,7 +114,7 @@ impl Spacecraft {
         ensures fault { IfErr result (λ e. (e ≡ StreamFault.Write) ⊎ (e ≡ StreamFault.Memory)) }
         ensures writer { WriteEnds result (K.failed out.old) (K.failed out.new) }
         ensures breaks { IfErr result (λ _. Breaks self.old.memories
-            (taken self.old.config (onboard self.old) octets.now) self.new.memories
+            (packet_taken self.old.config (onboard self.old) octets.now) self.new.memories
             (K.contents out.old) (K.contents out.new)) }
     {
         let Ok(accepted) = self.node.accept_octets(octets) else {
@@ -169,7 +170,8 @@ impl Spacecraft {
     // of it.
     fn work<K: Sink>(&mut self, out: &mut K) -> Result<Done, StreamFault>
         requires { (m : List ℕ) × (self.old.node.at.jobs.jobs ≡ Waiting m ∷ []) }
-        ensures ok { OnOk result (Writes (worked self.old.config (onboard self.old)) self.new
+        ensures ok { OnOk result
+            (Writes (request_worked self.old.config (onboard self.old)) self.new
             (K.contents out.old) (K.contents out.new)) }
         ensures done { IfOk result (λ x. x ≡ work_done self.old.config (onboard self.old)) }
         ensures idle { OnOk result (IsIdle self.new) }
@@ -179,7 +181,7 @@ impl Spacecraft {
         ensures fault { IfErr result (λ e. (e ≡ StreamFault.Write) ⊎ (e ≡ StreamFault.Memory)) }
         ensures writer { WriteEnds result (K.failed out.old) (K.failed out.new) }
         ensures breaks { IfErr result (λ _. Breaks self.old.memories
-            (worked self.old.config (onboard self.old)) self.new.memories
+            (request_worked self.old.config (onboard self.old)) self.new.memories
             (K.contents out.old) (K.contents out.new)) }
     {
         let Ok(shape) = self.memories.shape() else {
@@ -225,7 +227,7 @@ impl Spacecraft {
 
 // The memory that a message writes to, where it does.
 fn written_by(reading: &Reading) -> Option<u8>
-    ensures { result ≡ written_by (meant reading.now) }
+    ensures { result ≡ written_by (source_meaning reading.now) }
 {
     let access = reading.access(0)?;
     if access.is_write {

@@ -61,13 +61,13 @@ pub trait Listener {
 
 impl Told {
     ghost use Rattle.std.specs.Prelude.{◌≡◌};
-    ghost use Rattle.lpt_spacecraft.specs.Telling.{ended};
+    ghost use Rattle.lpt_spacecraft.specs.Telling.{name_used};
     ghost use Rattle.lpt_spacecraft.specs.Changes.{changes};
     ghost use Rattle.lpt_spacecraft.specs.Files.{writes_to};
 
     // The name that this has used up, with the direction of its message, where it has.
-    pub(crate) fn ended(&self) -> Option<(Direction, Name)>
-        ensures { result ≡ ended self.now }
+    pub(crate) fn name_used(&self) -> Option<(Direction, Name)>
+        ensures { result ≡ name_used self.now }
     {
         match *self {
             Told::Took(Outcome::Released(name, _)) => Some((Direction::Up, name)),

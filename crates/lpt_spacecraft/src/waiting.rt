@@ -2,7 +2,7 @@
 
 ghost use Rattle.std.specs.Prelude.{◌≡◌, ◌⊎◌, ◌^◌, IfErr, OnErr, OnOk, IsOk};
 ghost use Rattle.lpt_text.specs.Streams.{ReadEnds, WriteEnds};
-ghost use Rattle.lpt_spacecraft.specs.Flights.{clock_ticks, served};
+ghost use Rattle.lpt_spacecraft.specs.Flights.{clock_ticks, inputs_served};
 ghost use Rattle.lpt_spacecraft.specs.Keeping.{IsKeptAs};
 ghost use Rattle.lpt_spacecraft.specs.Streams.{flight_of, plain, Breaks, Flies, IsIdle};
 ghost use Rattle.lpt_spacecraft.specs.Waiting.{AttendsTo, IsWithoutEnd};
@@ -10,7 +10,7 @@ ghost use Rattle.lpt_spacecraft.specs.Waiting.{AttendsTo, IsWithoutEnd};
 use crate::flying::tick_all;
 use crate::inlet::{Happening, Inlet};
 use crate::keeping::Outlet;
-use crate::pace::Course;
+use crate::pace::PaceCourse;
 use crate::serving::{serve_packet, tell_all};
 use crate::{Clock, Keeper, Listener, Pace, Spacecraft, Stop, Told};
 use lpt_text::{FromStd, Sink, StreamFault, flush_out};
@@ -50,7 +50,7 @@ pub fn serve_waiting<I: Inlet, C: Clock, H: Keeper, L: Listener, K: Sink>(
         result (I.failed inlet.old) (I.failed inlet.new) }
     ensures writer { WriteEnds result (K.failed out.old) (K.failed out.new) }
 {
-    let mut course = Course::new(craft.alloc, pace);
+    let mut course = PaceCourse::new(craft.alloc, pace);
     for count in 0..u64::MAX {
         if craft.is_full() {
             return Err(StreamFault::Read);
@@ -87,7 +87,7 @@ pub fn serve_waiting<I: Inlet, C: Clock, H: Keeper, L: Listener, K: Sink>(
 // and then what there is to tell is told.
 fn serve_ticks<H: Keeper, L: Listener, K: Outlet>(
     craft: &mut Spacecraft,
-    course: &mut Course,
+    course: &mut PaceCourse,
     due: u64,
     keeper: &mut H,
     listener: &mut L,
@@ -95,7 +95,7 @@ fn serve_ticks<H: Keeper, L: Listener, K: Outlet>(
 ) -> Result<(), StreamFault>
     requires idle { IsIdle craft.old }
     requires kept { IsKeptAs (H.kept keeper.old) craft.old }
-    ensures ok { OnOk result (Flies (served craft.old.config (flight_of craft.old course.old)
+    ensures ok { OnOk result (Flies (inputs_served craft.old.config (flight_of craft.old course.old)
         (clock_ticks due)) craft.new course.new (K.contents out.old) (K.contents out.new)
         (L.heard listener.old) (L.heard listener.new)) }
     ensures idle { OnOk result (IsIdle craft.new) }
@@ -109,7 +109,7 @@ fn serve_ticks<H: Keeper, L: Listener, K: Outlet>(
     ensures fault { IfErr result (λ e. (e ≡ StreamFault.Write) ⊎ (e ≡ StreamFault.Memory)) }
     ensures writer { WriteEnds result (K.failed out.old) (K.failed out.new) }
     ensures breaks { IfErr result (λ _. Breaks craft.old.memories
-        (plain (served craft.old.config (flight_of craft.old course.old) (clock_ticks due)))
+        (plain (inputs_served craft.old.config (flight_of craft.old course.old) (clock_ticks due)))
         craft.new.memories (K.contents out.old) (K.contents out.new)) }
     ensures untold { OnErr result (L.heard listener.new ≡ L.heard listener.old) }
 {

@@ -12,11 +12,11 @@ use Rattle.lpt_ledger.specs.States.{state_at}
 use Rattle.lpt_ledger.specs.declared.state.State.{State}
 use Rattle.lpt_ledger.specs.declared.state.State.TheVariants.{Free, Open, Closed}
 use Rattle.lpt_node.specs.declared.accepted.Accepted.{Accepted}
-use Rattle.lpt_node.specs.Accepting.{accepted}
+use Rattle.lpt_node.specs.Accepting.{packet_accepted}
 use Rattle.lpt_node.specs.Nodes.{NodeData}
-use Rattle.lpt_node.specs.Receivers.{table_in, kept_of, parts_with, after_offer, received_from, if_free, received}
-use Rattle.lpt_node.specs.Receiving.{abort_head, after_received, parted, receiver_of}
-use Rattle.lpt_table.specs.Offering.{OfferKind, offered}
+use Rattle.lpt_node.specs.Receivers.{table_in, kept_of, parts_with, after_offer, received_from, if_free, part_received}
+use Rattle.lpt_node.specs.Receiving.{abort_head, after_received, part_accepted, receiver_of}
+use Rattle.lpt_table.specs.Offering.{OfferKind, part_offered}
 use Rattle.lpt_table.specs.Offering as offering
 use Rattle.lpt_table.specs.Tables.{Entries, TableState}
 use Rattle.lpt_model.specs.State.{as_list}
@@ -38,7 +38,7 @@ waits_alone js m none = ap (λ l. l ++ Waiting m ∷ []) none
 module _ (c : Config) (d : NodeData) (idle : d.jobs.jobs ≡ []) (q : NamedPart) where
   -- what an offer of the part comes to
   abbrev offer : OfferKind × TableState
-  offer = offered (table_in (receiver_of c d.receiving)) q.name q.number (kept_of q) d.clock
+  offer = part_offered (table_in (receiver_of c d.receiving)) q.name q.number (kept_of q) d.clock
 
   -- what the node makes of it, where it knows its name so
   abbrev made_by : State → NodeData × Accepted
@@ -48,8 +48,8 @@ module _ (c : Config) (d : NodeData) (idle : d.jobs.jobs ≡ []) (q : NamedPart)
       (received_from (abort_head Craft c d q.name.source) (receiver_of c d.receiving) q.name
       (parts_with (table_in (receiver_of c d.receiving)) q) offer))
 
-  parted_is : parted Craft c d q ≡ made_by (state_at d.receiving.ledger q.name)
-  unfolding received
+  parted_is : part_accepted Craft c d q ≡ made_by (state_at d.receiving.ledger q.name)
+  unfolding part_received
   parted_is = refl
 
   waits_offer : (kind : OfferKind) (es : Entries)
@@ -68,13 +68,13 @@ module _ (c : Config) (d : NodeData) (idle : d.jobs.jobs ≡ []) (q : NamedPart)
   waits_known Open = idle
   waits_known Closed = idle
 
-  waits_parted : Waits (parted Craft c d q)
+  waits_parted : Waits (part_accepted Craft c d q)
   waits_parted = subst Waits (sym parted_is) (waits_known (state_at d.receiving.ledger q.name))
 
 -- what waits after a delivery, by what it released
 pub waits-accepted : (c : Config) (d : NodeData) (a : Arrival)
     → d.jobs.jobs ≡ []
-    → WaitsFor (accepted Craft c d a).1.released (accepted Craft c d a).0.jobs.jobs
+    → WaitsFor (packet_accepted Craft c d a).1.released (packet_accepted Craft c d a).0.jobs.jobs
 waits-accepted c d NotRead idle = idle
 waits-accepted c d AnIdle idle = idle
 waits-accepted c d Foreign idle = idle
@@ -88,7 +88,7 @@ waits-accepted c d (APart q) idle = waits_parted c d idle q
 pub accept-run : (c : Config) (p : Pair) (s : Onboard) (b : List ℕ)
     → IsCraftOf p s
     → CanMove c p (Do (Accept Up b))
-    → let x = accepted Craft c s.node (arrival Craft c.apid c.part_size b) in
+    → let x = packet_accepted Craft c s.node (arrival Craft c.apid c.part_size b) in
     Reaches c p (record { node = x.0; memories = s.memories }) (option_to_list x.1.packet)
 accept-run c p s b at may =
     let a = arrival Craft c.apid c.part_size b in
@@ -96,13 +96,14 @@ accept-run c p s b at may =
       moves = Do (Accept Up b) ∷ [];
       own = (tt, tt);
       can = (may, tt);
-      node = ap (λ (d : NodeData). (accepted Craft c d a).0) at.node;
+      node = ap (λ (d : NodeData). (packet_accepted Craft c d a).0) at.node;
       memories = at.memories;
       tickets = at.tickets;
       put = octets-put p.ends.on_the_way Down None
-          (as_list (accepted Craft c p.ends.on_craft a).1.packet)
-          ∙ ap (λ (d : NodeData). reverse (as_list (accepted Craft c d a).1.packet) ++ octets_of
+          (as_list (packet_accepted Craft c p.ends.on_craft a).1.packet)
+          ∙ ap (λ (d : NodeData). reverse (as_list (packet_accepted Craft c d a).1.packet)
+          ++ octets_of
           p.ends.on_the_way) at.node
           ∙ ap (λ l. reverse l ++ octets_of p.ends.on_the_way)
-          (as_list-same (accepted Craft c s.node a).1.packet);
+          (as_list-same (packet_accepted Craft c s.node a).1.packet);
     }

@@ -9,11 +9,11 @@ use Rattle.lpt_events.specs.declared.side.Side.TheVariants.{Craft}
 use Rattle.lpt_ledger.specs.declared.state.State.{State}
 use Rattle.lpt_ledger.specs.declared.state.State.TheVariants.{Free, Open, Closed}
 use Rattle.lpt_node.specs.Nodes.{NodeData}
-use Rattle.lpt_node.specs.Restarts.{retired}
-use Rattle.lpt_apart.specs.Moves.{Pair, Do, moved}
+use Rattle.lpt_node.specs.Restarts.{name_retired}
+use Rattle.lpt_apart.specs.Moves.{Pair, Do, pair_after}
 use Rattle.lpt_apart.specs.Moves.{Free as FreeUp}
 use Rattle.lpt_apart.specs.Steps.{Retire}
-use Rattle.lpt_spacecraft.specs.Flights.{cleared, freed_as, is_closed, is_due, state_of, told_first}
+use Rattle.lpt_spacecraft.specs.Flights.{names_cleared, freed_as, is_closed, is_due, state_of, told_first}
 use Rattle.lpt_spacecraft.specs.Uses.{NameUse}
 use Rattle.lpt_spacecraft.specs.declared.told.Told.{Told}
 use Rattle.lpt_spacecraft.specs.declared.told.Told.TheVariants.{Freed}
@@ -43,10 +43,10 @@ one : (c : Config) (p : Pair) (d : NodeData) (way : Direction) (name : Name)
     (f : NodeData → NodeData × List NameUse × List Told)
     → p.ends.on_craft ≡ d
     → ((q : Pair) (e : NodeData) → q.ends.on_craft ≡ e → MayClear c q (f e))
-    → MayClear c p (told_first (Freed way name ∷ []) (f (retired Craft d way name)))
+    → MayClear c p (told_first (Freed way name ∷ []) (f (name_retired Craft d way name)))
 one c p d Up name f is more can =
-    let r = more (moved c p (FreeUp Up name)) (retired Craft d Up name)
-    (ap (λ (e : NodeData). retired Craft e Up name) is) can.1 in
+    let r = more (pair_after c p (FreeUp Up name)) (name_retired Craft d Up name)
+    (ap (λ (e : NodeData). name_retired Craft e Up name) is) can.1 in
     record {
       own = (tt, r.own);
       node = r.node;
@@ -55,8 +55,8 @@ one c p d Up name f is more can =
       way = r.way;
     }
 one c p d Down name f is more can =
-    let r = more (moved c p (Do (Retire Down name))) (retired Craft d Down name)
-    (ap (λ (e : NodeData). retired Craft e Down name) is) can.1 in
+    let r = more (pair_after c p (Do (Retire Down name))) (name_retired Craft d Down name)
+    (ap (λ (e : NodeData). name_retired Craft e Down name) is) can.1 in
     record {
       own = (tt, r.own);
       node = r.node;
@@ -91,16 +91,16 @@ by_due c p d u us f false is more = λ can. none c p d (u ∷ us) is
 -- the names in front that are due
 pub clear-run : (c : Config) (reuse : ℕ) (p : Pair) (d : NodeData) (us : List NameUse)
     → p.ends.on_craft ≡ d
-    → MayClear c p (cleared reuse d us)
+    → MayClear c p (names_cleared reuse d us)
 clear-run c reuse p d [] is = λ can. none c p d [] is
 clear-run c reuse p d (u ∷ us) is =
-    by_due c p d u us (λ e. cleared reuse e us) (is_due reuse d.clock u) is
+    by_due c p d u us (λ e. names_cleared reuse e us) (is_due reuse d.clock u) is
     (λ q e same. clear-run c reuse q e us same)
 
 -- ---- no job changes
 
 retired_jobs : (d : NodeData) (way : Direction) (name : Name)
-    → (retired Craft d way name).jobs ≡ d.jobs
+    → (name_retired Craft d way name).jobs ≡ d.jobs
 retired_jobs d Up name = refl
 retired_jobs d Down name = refl
 
@@ -118,10 +118,10 @@ jobs_if d u us x ts true is = is
 jobs_if d u us x ts false is = refl
 
 pub clear-jobs : (reuse : ℕ) (d : NodeData) (us : List NameUse)
-    → (cleared reuse d us).0.jobs ≡ d.jobs
+    → (names_cleared reuse d us).0.jobs ≡ d.jobs
 clear-jobs reuse d [] = refl
 clear-jobs reuse d (u ∷ us) =
     let s = state_of d u in
-    jobs_if d u us (cleared reuse (freed_as s d u.direction u.name) us)
+    jobs_if d u us (names_cleared reuse (freed_as s d u.direction u.name) us)
     (if is_closed s then Freed u.direction u.name ∷ [] else []) (is_due reuse d.clock u)
     (clear-jobs reuse (freed_as s d u.direction u.name) us ∙ freed_jobs d s u.direction u.name)

@@ -10,14 +10,14 @@ use Rattle.lpt_jobs.specs.Jobs.{Jobs}
 use Rattle.lpt_jobs.specs.declared.job.Job.TheVariants.{Waiting}
 use Rattle.lpt_memory.specs.Memories.{sizes_of}
 use Rattle.lpt_memory.specs.Readings.{Source}
-use Rattle.lpt_node.specs.Accepting.{accepted}
-use Rattle.lpt_node.specs.Jobs.{executed}
+use Rattle.lpt_node.specs.Accepting.{packet_accepted}
+use Rattle.lpt_node.specs.Jobs.{job_executed}
 use Rattle.lpt_model.specs.Tickets.{no_tickets}
 use Rattle.lpt_packet.specs.declared.direction.Direction.TheVariants.{Up}
 use Rattle.lpt_apart.specs.Moves.{Pair, Do, CanMove}
 use Rattle.lpt_apart.specs.Steps.{Accept}
-use Rattle.lpt_spacecraft.specs.Flights.{Flight, Input, Astray, Came, Ticked, Cleared, cleared}
-use Rattle.lpt_spacecraft.specs.Serving.{Onboard, all_sent, beaten, read_over, taken, worked, worked_if}
+use Rattle.lpt_spacecraft.specs.Flights.{Flight, Input, Astray, Came, Ticked, Cleared, names_cleared}
+use Rattle.lpt_spacecraft.specs.Serving.{Onboard, all_sent, beaten, read_over, packet_taken, request_worked, worked_if}
 use Rattle.lpt_spacecraft.specs.Streams.{WaitsFor}
 use Rattle.lpt_spacecraft.proofs.ServingLemmas.{executed-jobs, read_over-jobs}
 use Rattle.lpt_spacecraft_moves.specs.Moves.{after_moves, free_moves, octets_of, AreMovesFor, IsCraftOf, MayBring, ReleasesOctets}
@@ -36,15 +36,17 @@ module _ (c : Config) (good : IsConfig c) (p : Pair) (s : Onboard)
   worked_run : (m : List ℕ)
       → IsOctets m
       → s.node.jobs.jobs ≡ Waiting m ∷ []
-      → Reaches c p (worked c s).0 (worked c s).1 × ((worked c s).0.node.jobs.jobs ≡ [])
+      → Reaches c p (request_worked c s).0 (request_worked c s).1
+      × ((request_worked c s).0.node.jobs.jobs ≡ [])
   worked_run m octets waits =
       let d = read_over c s.memories s.node in
-      let x = executed c d s.memories in
+      let x = job_executed c d s.memories in
       let alone = read_over-jobs c s.memories s.node m waits in
       let r = request-run c p s m node memories tickets waits in
       let after : Onboard = record { node = x.0.0; memories = x.1 } in
       let reading : Source = record { apid = c.apid; sizes = sizes_of s.memories; message = m } in (
-        reaches-then c p after (worked c s).0 x.0.1.packets (all_sent c x.0.0 x.0.1.opened).1 r
+        reaches-then c p after (request_worked c s).0 x.0.1.packets
+            (all_sent c x.0.0 x.0.1.opened).1 r
             (all-run c (after_moves c p r.moves) after x.0.1.opened good r.node r.memories r.tickets
             (λ y e. executed-opened c d s.memories m y octets alone e)),
         ap (λ (q : Jobs). q.jobs) (all_sent-jobs c x.0.0 x.0.1.opened)
@@ -66,15 +68,16 @@ came_run : (c : Config) (p : Pair) (s : Onboard) (b : List ℕ)
     → IsCraftOf p s
     → CanMove c p (Do (Accept Up b))
     → ReleasesOctets c s (Came b)
-    → Reaches c p (taken c s b).0 (taken c s b).1 × ((taken c s b).0.node.jobs.jobs ≡ [])
+    → Reaches c p (packet_taken c s b).0 (packet_taken c s b).1
+    × ((packet_taken c s b).0.node.jobs.jobs ≡ [])
 came_run c p s b good at may octets =
-    let x = accepted Craft c s.node (arrival Craft c.apid c.part_size b) in
+    let x = packet_accepted Craft c s.node (arrival Craft c.apid c.part_size b) in
     let r = accept-run c p s b at may in
     let after : Onboard = record { node = x.0; memories = s.memories } in
     let done = worked_if_run c good (after_moves c p r.moves) after r.node r.memories r.tickets
     x.1.released octets
     (waits-accepted c s.node (arrival Craft c.apid c.part_size b) at.idle) in (
-      reaches-then c p after (taken c s b).0 (option_to_list x.1.packet)
+      reaches-then c p after (packet_taken c s b).0 (option_to_list x.1.packet)
           (worked_if c after x.1.released).1 r done.0,
       done.1,
     )
@@ -117,7 +120,7 @@ input-moves c p f Ticked good at may octets =
 input-moves c p f (Astray place len) good at may octets =
     record { moves = []; own = tt; can = tt; are = at; put = refl }
 input-moves c p f Cleared good at may octets =
-    let x = cleared f.reuse f.end.node f.uses in
+    let x = names_cleared f.reuse f.end.node f.uses in
     let r = clear-run c f.reuse p f.end.node f.uses at.node may in
     record {
       moves = free_moves x.2;

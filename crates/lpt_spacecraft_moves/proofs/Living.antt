@@ -7,22 +7,22 @@ use Rattle.lpt_events.specs.Configs.{IsConfig}
 use Rattle.lpt_events.specs.declared.config.Config.{Config}
 use Rattle.lpt_events.specs.declared.side.Side.TheVariants.{Ground, Craft}
 use Rattle.lpt_memory.specs.Memories.{Contents}
-use Rattle.lpt_node.specs.Accepting.{accepted}
+use Rattle.lpt_node.specs.Accepting.{packet_accepted}
 use Rattle.lpt_node.specs.Nodes.{NodeData, NodeView, no_data}
-use Rattle.lpt_node.specs.Restarts.{restarted}
+use Rattle.lpt_node.specs.Restarts.{node_restarted}
 use Rattle.lpt_state.specs.Lastings.{restarted_node}
 use Rattle.lpt_state.specs.Verdicts.{reading}
 use Rattle.lpt_state.proofs.LawLemmas.{written_is_read}
 use Rattle.lpt_apart.specs.Clocks.{after_all, later, no_pair_later, own_config, CanAll}
 use Rattle.lpt_apart.specs.Facts.{AllDue}
-use Rattle.lpt_apart.specs.Moves.{Pair, Move, Do, Free, CanMove, moved}
+use Rattle.lpt_apart.specs.Moves.{Pair, Move, Do, Free, CanMove, pair_after}
 use Rattle.lpt_apart.specs.Steps.{Accept, Expire, Finish, Open, Plain, Restart, Retire, Send, Tick}
 use Rattle.lpt_apart.specs.Whole.{came_since, WithholdsNothing}
 use Rattle.lpt_apart.specs.Worlds.{IsPromised}
 use Rattle.lpt_apart.proofs.Clocks.{ends_with_clocks_keep_the_promise, ends_with_clocks_withhold_nothing}
 use Rattle.lpt_spacecraft.specs.Flights.{Flight, Input, Astray, Came, Cleared, Ticked, new_flight}
 use Rattle.lpt_spacecraft.specs.Serving.{Onboard, new_end}
-use Rattle.lpt_spacecraft_moves.specs.Lives.{behind, craft_own, done, done_all, joined_new, view_of, CanDo, CanDoAll, Deed, GroundAndSpacecraftKeepThePromise, IsOfGround, IsStarted, Joined, KeepsThePromise, Makes, Starts, Takes}
+use Rattle.lpt_spacecraft_moves.specs.Lives.{behind, craft_own, joined_after, done_all, joined_new, view_of, CanDo, CanDoAll, Deed, GroundAndSpacecraftKeepThePromise, IsOfGround, IsStarted, Joined, KeepsThePromise, Makes, Starts, Takes}
 use Rattle.lpt_spacecraft_moves.specs.Moves.{after_moves, CanMakeAll, IsCraftOf, MayBring, ReleasesOctets}
 use Rattle.lpt_spacecraft_moves.proofs.InputRuns.{input-moves}
 use Rattle.lpt_spacecraft_moves.proofs.OctetLogs.{octets_on, released_octets, AreOfOctets}
@@ -33,7 +33,7 @@ use Rattle.lpt_spacecraft_moves.proofs.OctetLogs.{octets_on, released_octets, Ar
 ground_leaves : (c : Config) (p : Pair) (s : Onboard) (x : Move)
     → IsOfGround x
     → IsCraftOf p s
-    → IsCraftOf (moved c p x) s
+    → IsCraftOf (pair_after c p x) s
 ground_leaves c p s (Do (Open Up name m)) own at =
     record { node = at.node; memories = at.memories; tickets = at.tickets; idle = at.idle }
 ground_leaves c p s (Do (Send Up name k)) own at =
@@ -60,15 +60,15 @@ ground_leaves c p s x own at = absurd own
 starts_again : (c : Config) (p : Pair) (s t : Onboard)
     → IsCraftOf p s
     → IsStarted c s t
-    → IsCraftOf (moved c p (Do (Restart Craft))) t
+    → IsCraftOf (pair_after c p (Do (Restart Craft))) t
 starts_again c p s t at is =
     let read : Ok (restarted_node (view_of c s)) ≡ Ok (view_of c t) =
     sym (ap (reading Craft c) is.kept
     ∙ written_is_read (view_of c s) is.is_end is.number_left) ∙ is.read in
     let same : restarted_node (view_of c s) ≡ view_of c t = cc in
-    let node : restarted s.node ≡ t.node = ap (λ (v : NodeView). v.at) same in
+    let node : node_restarted s.node ≡ t.node = ap (λ (v : NodeView). v.at) same in
     record {
-      node = ap restarted at.node ∙ node;
+      node = ap node_restarted at.node ∙ node;
       memories = at.memories ∙ sym is.memories;
       tickets = at.tickets;
       idle = ap (λ (d : NodeData). d.jobs.jobs) (sym node);
@@ -108,10 +108,10 @@ record AreLed (c : Config) (start : Pair) (j : Joined) : Type 0 where
 led_on : (c : Config) (start : Pair) (j : Joined) (x : Deed)
     → AreLed c start j
     → CanDo c j x
-    → AreLed c start (done c j x)
+    → AreLed c start (joined_after c j x)
 led_on c start j (Makes x) led can = record {
   can = (led.can, subst (λ (p : Pair). CanMove c p x) led.at can.1);
-  at = ap (λ (p : Pair). moved c p x) led.at;
+  at = ap (λ (p : Pair). pair_after c p x) led.at;
   craft = ground_leaves c j.pair j.flight.end x can.0 led.craft;
 }
 led_on c start j (Takes x ms) led can =
@@ -124,11 +124,11 @@ led_on c start j (Takes x ms) led can =
           (subst (λ (p : Pair). CanMakeAll c p ms) led.at may);
       at = ap (λ (p : Pair). after_moves c p ms) led.at ∙ sym (after_behind c start ms j.moves);
       craft = subst (λ (l : List Move). IsCraftOf (after_moves c j.pair l)
-          (done c j (Takes x ms)).flight.end) same are.are;
+          (joined_after c j (Takes x ms)).flight.end) same are.are;
     }
 led_on c start j (Starts reuse t) led can = record {
   can = (led.can, tt);
-  at = ap (λ (p : Pair). moved c p (Do (Restart Craft))) led.at;
+  at = ap (λ (p : Pair). pair_after c p (Do (Restart Craft))) led.at;
   craft = starts_again c j.pair j.flight.end t led.craft can;
 }
 
@@ -176,7 +176,7 @@ module _ (c : Config) (first : Contents) (ticks reuse : ℕ) (good : IsConfig c)
   octets xs f (Came b) can at may =
       let p : Pair = after_all c start xs in
       let due = (promised (Do (Accept Up b) ∷ xs) (can, may)).due in
-      let x = accepted Craft c p.ends.on_craft (arrival_in c Up b) in
+      let x = packet_accepted Craft c p.ends.on_craft (arrival_in c Up b) in
       subst (λ (n : NodeData). ReleasesOctets c (record { node = n; memories = f.end.memories })
       (Came b)) at.node
       (released_octets p.ends.log x.1.outcome x.1.released (octets_all c start xs tt can) due)

@@ -14,11 +14,11 @@ use Rattle.lpt_journal.proofs.OctetLemmas.{made_octets}
 use Rattle.lpt_memory.specs.Readings.{Job}
 use Rattle.lpt_model.specs.State.{released_of}
 use Rattle.lpt_model.specs.Tickets.{ticket_of}
-use Rattle.lpt_node.specs.Accepting.{accepted}
-use Rattle.lpt_node.specs.Jobs.{executed}
+use Rattle.lpt_node.specs.Accepting.{packet_accepted}
+use Rattle.lpt_node.specs.Jobs.{job_executed}
 use Rattle.lpt_node.specs.declared.accepted.Accepted.{Accepted}
-use Rattle.lpt_apart.specs.Facts.{Fact, Opened, Asked, Released, Aborted, Executed, Retired, Restarted, Log, awaited, is_of_it, is_same, with_abortion, AllDue, IsDue}
-use Rattle.lpt_apart.specs.Moves.{Pair, Move, Do, Free, CanMove, moved}
+use Rattle.lpt_apart.specs.Facts.{Fact, Opened, Asked, Released, Aborted, Executed, Retired, Restarted, Log, message_awaited, is_of_it, is_same, with_abortion, AllDue, IsDue}
+use Rattle.lpt_apart.specs.Moves.{Pair, Move, Do, Free, CanMove, pair_after}
 use Rattle.lpt_apart.specs.Steps.{Open, Send, Plain, Finish, Accept, Tick, Expire, Claim, Commit, Apply, Retire, Restart, committed_on, with_release, with_report}
 
 -- what ground opened or asked is octets
@@ -70,19 +70,21 @@ opened_or Down i name m n before octets had is = had is
 -- a message that is awaited at the spacecraft is octets
 awaited_octets : (log : Log) (name : Name) (m : List ℕ)
     → AreOfOctets log
-    → awaited log Up name ≡ Some m
+    → message_awaited log Up name ≡ Some m
     → IsOctets m
 awaited_octets [] name m all is = absurd cc
 awaited_octets (Opened d i n ∷ log) name m all is =
-    opened_or d i name m n (awaited log Up name) all.1 (awaited_octets log name m all.0) is
+    opened_or d i name m n (message_awaited log Up name) all.1 (awaited_octets log name m all.0) is
 awaited_octets (Asked b ∷ log) name m all is = awaited_octets log name m all.0 is
 awaited_octets (Released of n ∷ log) name m all is =
-    released_or of name m (awaited log Up name) (awaited_octets log name m all.0) is
+    released_or of name m (message_awaited log Up name) (awaited_octets log name m all.0) is
 awaited_octets (Aborted d i ∷ log) name m all is =
-    none_or (is_same d i Up name) m (awaited log Up name) (awaited_octets log name m all.0) is
+    none_or (is_same d i Up name) m (message_awaited log Up name) (awaited_octets log name m all.0)
+    is
 awaited_octets (Executed ∷ log) name m all is = awaited_octets log name m all.0 is
 awaited_octets (Retired d i ∷ log) name m all is =
-    none_or (is_same d i Up name) m (awaited log Up name) (awaited_octets log name m all.0) is
+    none_or (is_same d i Up name) m (message_awaited log Up name) (awaited_octets log name m all.0)
+    is
 awaited_octets (Restarted side ∷ log) name m all is = awaited_octets log name m all.0 is
 
 -- ---- what was asked
@@ -154,7 +156,7 @@ abortion_octets d o log all = all
 pub octets_on : (c : Config) (p : Pair) (x : Move)
     → CanMove c p x
     → AreOfOctets p.ends.log
-    → AreOfOctets (moved c p x).ends.log
+    → AreOfOctets (pair_after c p x).ends.log
 octets_on c p (Do (Open Up name m)) can all = (all, can.0.1)
 octets_on c p (Do (Open Down name m)) can all = (all, tt)
 octets_on c p (Do (Send Up name k)) can all = all
@@ -167,12 +169,12 @@ octets_on c p (Do (Plain source flags service subtype body)) can all = (
 octets_on c p (Do (Finish Up name)) can all = all
 octets_on c p (Do (Finish Down name)) can all = all
 octets_on c p (Do (Accept Up b)) can all =
-    let x = accepted Craft c p.ends.on_craft (arrival_in c Up b) in
+    let x = packet_accepted Craft c p.ends.on_craft (arrival_in c Up b) in
     abortion_octets Up x.1.outcome
     (with_release p.ends.log (released_of Up x.1.outcome) x.1.released)
     (release_octets p.ends.log (released_of Up x.1.outcome) x.1.released all)
 octets_on c p (Do (Accept Down b)) can all =
-    let x = accepted Ground c p.ends.on_ground (arrival_in c Down b) in
+    let x = packet_accepted Ground c p.ends.on_ground (arrival_in c Down b) in
     abortion_octets Down x.1.outcome
     (with_release p.ends.log (released_of Down x.1.outcome) x.1.released)
     (release_octets p.ends.log (released_of Down x.1.outcome) x.1.released all)
@@ -185,7 +187,7 @@ octets_on c p (Do (Commit w)) can all = go (ticket_of p.ends.tickets w) where
   go None = all
   go (Some t) = all
 octets_on c p (Do Apply) can all =
-    (report_octets p.ends.log (executed c p.ends.on_craft p.ends.memories).0.1.opened all, tt)
+    (report_octets p.ends.log (job_executed c p.ends.on_craft p.ends.memories).0.1.opened all, tt)
 octets_on c p (Do (Retire Up name)) can all = (all, tt)
 octets_on c p (Do (Retire Down name)) can all = (all, tt)
 octets_on c p (Do (Restart side)) can all = (all, tt)

@@ -23,9 +23,9 @@ use Rattle.lpt_jobs.specs.declared.job.Job.TheVariants.{Committed}
 use Rattle.lpt_memory.specs.Effects.{answer, AnswerFits}
 use Rattle.lpt_memory.specs.Meanings.{meaning}
 use Rattle.lpt_memory.specs.Memories.{Contents, sizes_of}
-use Rattle.lpt_memory.specs.Readings.{Source, meant}
+use Rattle.lpt_memory.specs.Readings.{Source, source_meaning}
 use Rattle.lpt_node.specs.Counting.{counter_of}
-use Rattle.lpt_node.specs.Jobs.{ending_at, executed, executed_of, executed_ending, report_packets, reported, with_opened}
+use Rattle.lpt_node.specs.Jobs.{ending_at, job_executed, executed_of, executed_ending, report_packets, reports_made, with_opened}
 use Rattle.lpt_node.specs.Nodes.{NodeData, Sending, message_at}
 use Rattle.lpt_node.specs.Sending.{counted_kind}
 use Rattle.lpt_node.proofs.MapLemmas.{get_insert}
@@ -148,11 +148,11 @@ opened_at c d ms r x octets sizes e =
     let made = made_reports c peer d.sending d.clock rs
     (message_sendable r.apid r.message end
     (ending_fits c.part_size (is_some free) (nat_lt (maps.len d.sending.messages) d.outgoing)
-    (answer (meant r) ms) fits)) in
+    (answer (source_meaning r) ms) fits)) in
     let is = opened_is free (large_packets c.part_size xs) x e in
     let long = large_fits c.part_size xs x.1 is.1.0 made is.1.1 in
     let before : NodeData = record d {
-      sending = reported d.sending rs;
+      sending = reports_made d.sending rs;
       jobs = without_front d.jobs;
     } in
     subst (λ o. IsOpenedAt c (with_opened before o) x) (sym e) (record {
@@ -168,8 +168,8 @@ opened_at c d ms r x octets sizes e =
 pub executed-opened : (c : Config) (d : NodeData) (ms : Contents) (m : List ℕ) (x : Name × List ℕ)
     → IsOctets m
     → d.jobs.jobs ≡ Committed (record { apid = c.apid; sizes = sizes_of ms; message = m }) ∷ []
-    → (executed c d ms).0.1.opened ≡ Some x
-    → IsOpenedAt c (executed c d ms).0.0 x
+    → (job_executed c d ms).0.1.opened ≡ Some x
+    → IsOpenedAt c (job_executed c d ms).0.0 x
 executed-opened c d ms m x octets is =
     let r : Source = record { apid = c.apid; sizes = sizes_of ms; message = m } in
     subst (λ (js : List Job). (executed_of c d ms (head_of js)).0.1.opened ≡ Some x

@@ -14,7 +14,7 @@ use Rattle.lpt_ledger.specs.Marks.{Marks}
 use Rattle.lpt_ledger.specs.States.{state_at}
 use Rattle.lpt_ledger.specs.declared.state.State.TheVariants.{Open}
 use Rattle.lpt_node.specs.Nodes.{Messages, NodeData, message_at}
-use Rattle.lpt_node.specs.Sending.{closed, refusal_finish, refusal_finish_in, refusal_send, refusal_send_of, sent, sent_of}
+use Rattle.lpt_node.specs.Sending.{sender_closed, refusal_finish, refusal_finish_in, refusal_send, refusal_send_of, part_sent, sent_of}
 use Rattle.lpt_node.specs.declared.fault.NodeFault.TheVariants.{NoSuchPart}
 use Rattle.lpt_model.specs.Tickets.{no_tickets}
 use Rattle.lpt_apart.specs.Moves.{Pair, Do}
@@ -77,8 +77,8 @@ send_run : (c : Config) (p : Pair) (s : Onboard) (name : Name) (m : List ℕ) (k
     → 1 ≤ k
     → k ≤ part_count (length m) c.part_size
     → k < 65536
-    → Reaches c p (record { node = (sent Craft c s.node name k).0; memories = s.memories })
-    ((sent Craft c s.node name k).1 ∷ [])
+    → Reaches c p (record { node = (part_sent Craft c s.node name k).0; memories = s.memories })
+    ((part_sent Craft c s.node name k).1 ∷ [])
 send_run c p s name m k node memories tickets named there some most fits = record {
   moves = Do (Send Down name k) ∷ [];
   own = (tt, tt);
@@ -91,11 +91,12 @@ send_run c p s name m k node memories tickets named there some most fits = recor
     ),
     tt,
   );
-  node = ap (λ (d : NodeData). (sent Craft c d name k).0) node;
+  node = ap (λ (d : NodeData). (part_sent Craft c d name k).0) node;
   memories = memories;
   tickets = tickets;
-  put = octets-put p.ends.on_the_way Down (Some name) ((sent Craft c p.ends.on_craft name k).1 ∷ [])
-      ∙ ap (λ (d : NodeData). reverse ((sent Craft c d name k).1 ∷ []) ++ octets_of
+  put = octets-put p.ends.on_the_way Down (Some name)
+      ((part_sent Craft c p.ends.on_craft name k).1 ∷ [])
+      ∙ ap (λ (d : NodeData). reverse ((part_sent Craft c d name k).1 ∷ []) ++ octets_of
       p.ends.on_the_way) node;
 }
 
@@ -115,7 +116,7 @@ module _ (c : Config) (p : Pair) (s : Onboard) (name : Name) (m : List ℕ)
   parts_run (suc k) most fits =
       let r = parts_run k (omega arith) fits in
       reaches-then c p (after_parts k) (after_parts (suc k)) (first_sent c s.node name k).1
-      ((sent Craft c (first_sent c s.node name k).0 name (suc k)).1 ∷ []) r
+      ((part_sent Craft c (first_sent c s.node name k).0 name (suc k)).1 ∷ []) r
       (send_run c (after_moves c p r.moves) (after_parts k) name m (suc k) r.node r.memories
       r.tickets named
       (ap (λ (x : Messages). maps.get x name) (messages_sent c s.node name k) ∙ there)
@@ -127,7 +128,7 @@ finish_run : (c : Config) (p : Pair) (s : Onboard) (name : Name)
     → p.ends.tickets ≡ no_tickets
     → IsName name
     → state_at s.node.sending.ledger name ≡ Open
-    → Reaches c p (record { node = closed s.node name; memories = s.memories }) []
+    → Reaches c p (record { node = sender_closed s.node name; memories = s.memories }) []
 finish_run c p s name node memories tickets named open_there = record {
   moves = Do (Finish Down name) ∷ [];
   own = (tt, tt);
@@ -138,7 +139,7 @@ finish_run c p s name node memories tickets named open_there = record {
     ),
     tt,
   );
-  node = ap (λ (d : NodeData). closed d name) node;
+  node = ap (λ (d : NodeData). sender_closed d name) node;
   memories = memories;
   tickets = tickets;
   put = refl;
@@ -164,7 +165,7 @@ all-run c p s (Some x) good node memories tickets opens =
     let sent_all : Onboard = record { node = (first_sent c s.node x.0 n).0; memories = s.memories }
     in
     let done : Onboard = record {
-      node = closed (first_sent c s.node x.0 n).0 x.0;
+      node = sender_closed (first_sent c s.node x.0 n).0 x.0;
       memories =
           s.memories;
     } in

@@ -9,7 +9,7 @@ use Rattle.lpt_events.specs.declared.config.Config.{Config}
 use Rattle.lpt_model.specs.State.{as_list}
 use Rattle.lpt_model.specs.Tickets.{no_tickets}
 use Rattle.lpt_apart.specs.Ends.{PutOut, put_out}
-use Rattle.lpt_apart.specs.Moves.{Pair, Move, moved}
+use Rattle.lpt_apart.specs.Moves.{Pair, Move, pair_after}
 use Rattle.lpt_spacecraft.specs.Serving.{Onboard}
 use Rattle.lpt_spacecraft_moves.specs.Moves.{after_moves, octets_of, CanMakeAll, IsOfCraft}
 
@@ -18,14 +18,14 @@ use Rattle.lpt_spacecraft_moves.specs.Moves.{after_moves, octets_of, CanMakeAll,
 after-append : (c : Config) (p : Pair) (xs ys : List Move)
     → after_moves c p (xs ++ ys) ≡ after_moves c (after_moves c p xs) ys
 after-append c p [] ys = refl
-after-append c p (x ∷ xs) ys = after-append c (moved c p x) xs ys
+after-append c p (x ∷ xs) ys = after-append c (pair_after c p x) xs ys
 
 can-append : (c : Config) (p : Pair) (xs ys : List Move)
     → CanMakeAll c p xs
     → CanMakeAll c (after_moves c p xs) ys
     → CanMakeAll c p (xs ++ ys)
 can-append c p [] ys h k = k
-can-append c p (x ∷ xs) ys h k = (h.0, can-append c (moved c p x) xs ys h.1 k)
+can-append c p (x ∷ xs) ys h k = (h.0, can-append c (pair_after c p x) xs ys h.1 k)
 
 own-append : (xs ys : List Move)
     → AllByRecursion IsOfCraft xs

@@ -9,7 +9,7 @@ use Rattle.lpt_events.specs.declared.side.Side.TheVariants.{Craft}
 use Rattle.lpt_node.specs.declared.expired.Expired.{Expired}
 use Rattle.lpt_node.specs.declared.fault.NodeFault.{NodeFault}
 use Rattle.lpt_node.specs.Nodes.{NodeData}
-use Rattle.lpt_node.specs.Times.{due, expired, expired_of, refusal_expire, refusal_expire_of, refusal_tick, ticked}
+use Rattle.lpt_node.specs.Times.{due, reception_expired, expired_of, refusal_expire, refusal_expire_of, refusal_tick, clock_ticked}
 use Rattle.lpt_model.specs.State.{as_list}
 use Rattle.lpt_model.specs.Tickets.{no_tickets}
 use Rattle.lpt_apart.specs.Moves.{Pair, Do}
@@ -33,8 +33,8 @@ expire_run : (c : Config) (p : Pair) (s : Onboard) (o : Option Name)
     (option_to_list (made_of c s.node o).1.packet)
 expire_run c p s None node memories tickets is = reaches-nothing c p s node memories tickets
 expire_run c p s (Some name) node memories tickets is =
-    let same : expired Craft c p.ends.on_craft ≡ made_of c s.node (Some name) =
-    ap (expired Craft c) node ∙ ap (made_of c s.node) is in
+    let same : reception_expired Craft c p.ends.on_craft ≡ made_of c s.node (Some name) =
+    ap (reception_expired Craft c) node ∙ ap (made_of c s.node) is in
     record {
       moves = Do (Expire Craft None) ∷ [];
       own = (tt, tt);
@@ -43,7 +43,7 @@ expire_run c p s (Some name) node memories tickets is =
       memories = memories;
       tickets = tickets;
       put = octets-put p.ends.on_the_way Down None
-          (as_list (expired Craft c p.ends.on_craft).1.packet)
+          (as_list (reception_expired Craft c p.ends.on_craft).1.packet)
           ∙ ap (λ (x : NodeData × Expired). reverse (as_list x.1.packet) ++ octets_of
           p.ends.on_the_way) same
           ∙ ap (λ l. reverse l ++ octets_of p.ends.on_the_way)
@@ -67,7 +67,7 @@ module _ (c : Config) (p : Pair) (s : Onboard) (node : p.ends.on_craft ≡ s.nod
       let r = expires_run k in
       let d = (first_expired c s.node k).0 in
       reaches-then c p (after_some k) (after_some (suc k)) (first_expired c s.node k).1
-      (option_to_list (expired Craft c d).1.packet) r
+      (option_to_list (reception_expired Craft c d).1.packet) r
       (expire_run c (after_moves c p r.moves) (after_some k) (due c d) r.node r.memories r.tickets
       refl)
 
@@ -90,7 +90,7 @@ tick_run c p s None node memories tickets is = record {
   moves = Do (Tick Craft On) ∷ [];
   own = (tt, tt);
   can = (ap refusal_tick node ∙ is, tt);
-  node = ap ticked node;
+  node = ap clock_ticked node;
   memories = memories;
   tickets = tickets;
   put = refl;

@@ -7,11 +7,11 @@ use Rattle.lpt_events.specs.declared.side.Side.TheVariants.{Ground, Craft}
 use Rattle.lpt_memory.specs.Memories.{Contents}
 use Rattle.lpt_node.specs.Nodes.{NodeView}
 use Rattle.lpt_state.specs.Lastings.{IsEnd}
-use Rattle.lpt_state.specs.Spellings.{spelled}
+use Rattle.lpt_state.specs.Spellings.{state_spelled}
 use Rattle.lpt_state.specs.Verdicts.{reading}
 use Rattle.lpt_acts.specs.Acts.{limits_of}
 use Rattle.lpt_apart.specs.Clocks.{Own, later, no_pair_later}
-use Rattle.lpt_apart.specs.Moves.{Pair, Move, Do, Free, CanMove, moved}
+use Rattle.lpt_apart.specs.Moves.{Pair, Move, Do, Free, CanMove, pair_after}
 use Rattle.lpt_apart.specs.Steps.{Accept, Expire, Finish, Open, Plain, Restart, Retire, Send, Tick}
 use Rattle.lpt_apart.specs.Whole.{came_since, WithholdsNothing}
 use Rattle.lpt_apart.specs.Worlds.{IsPromised}
@@ -65,7 +65,7 @@ view_of c s = record { side = Craft; config = c; at = s.node }
 -- its memories were named in the order of their identifiers.
 pub record IsStarted (c : Config) (s t : Onboard) : Type 0 where
   pub state : List ℕ
-  pub kept : state ≡ spelled (view_of c s)
+  pub kept : state ≡ state_spelled (view_of c s)
   pub is_end : IsEnd (view_of c s)
   pub number_left : s.node.boot + 1 < 2 ^ 64
   pub read : reading Craft c state ≡ Ok (view_of c t)
@@ -84,15 +84,15 @@ behind [] before = before
 behind (x ∷ xs) before = behind xs (x ∷ before)
 
 -- what a deed makes of them
-abbrev pub done : Config → Joined → Deed → Joined
-done c j (Makes x) = record j { pair = moved c j.pair x; moves = x ∷ j.moves }
-done c j (Takes x ms) = record {
+abbrev pub joined_after : Config → Joined → Deed → Joined
+joined_after c j (Makes x) = record j { pair = pair_after c j.pair x; moves = x ∷ j.moves }
+joined_after c j (Takes x ms) = record {
   pair = after_moves c j.pair ms;
   flight = (step c j.flight x).flight;
   moves = behind ms j.moves;
 }
-done c j (Starts reuse t) = record {
-  pair = moved c j.pair (Do (Restart Craft));
+joined_after c j (Starts reuse t) = record {
+  pair = pair_after c j.pair (Do (Restart Craft));
   flight = new_flight reuse t;
   moves = Do (Restart Craft) ∷ j.moves;
 }
@@ -100,7 +100,7 @@ done c j (Starts reuse t) = record {
 -- after these deeds, the newest of which stands first
 abbrev pub done_all : Config → Joined → List Deed → Joined
 done_all c j [] = j
-done_all c j (x ∷ xs) = done c (done_all c j xs) x
+done_all c j (x ∷ xs) = joined_after c (done_all c j xs) x
 
 -- each of them can be done after those before it
 abbrev pub CanDoAll : Config → Joined → List Deed → Type 0

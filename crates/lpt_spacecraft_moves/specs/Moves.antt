@@ -7,10 +7,10 @@ use Rattle.lpt_events.specs.Arrivals.{arrival}
 use Rattle.lpt_events.specs.Configs.{IsConfig}
 use Rattle.lpt_events.specs.declared.config.Config.{Config}
 use Rattle.lpt_events.specs.declared.side.Side.TheVariants.{Craft}
-use Rattle.lpt_node.specs.Accepting.{accepted}
+use Rattle.lpt_node.specs.Accepting.{packet_accepted}
 use Rattle.lpt_model.specs.Tickets.{no_tickets}
 use Rattle.lpt_apart.specs.Ends.{PutOut, without}
-use Rattle.lpt_apart.specs.Moves.{Pair, Move, Do, Free, CanMove, moved}
+use Rattle.lpt_apart.specs.Moves.{Pair, Move, Do, Free, CanMove, pair_after}
 use Rattle.lpt_apart.specs.Steps.{Accept, Apply, Claim, Commit, Expire, Finish, Retire, Send, Tick}
 use Rattle.lpt_spacecraft.specs.Flights.{Flight, Input, Astray, Came, Ticked, Cleared, step}
 use Rattle.lpt_spacecraft.specs.Serving.{Onboard}
@@ -22,12 +22,12 @@ use Rattle.lpt_spacecraft.specs.declared.told.Told.TheVariants.{Took, Did, GaveU
 -- the ends after these moves
 abbrev pub after_moves : Config → Pair → List Move → Pair
 after_moves c p [] = p
-after_moves c p (x ∷ xs) = after_moves c (moved c p x) xs
+after_moves c p (x ∷ xs) = after_moves c (pair_after c p x) xs
 
 -- each of them can be made after those before it
 abbrev pub CanMakeAll : Config → Pair → List Move → Type 0
 CanMakeAll c p [] = ⊤
-CanMakeAll c p (x ∷ xs) = CanMove c p x × CanMakeAll c (moved c p x) xs
+CanMakeAll c p (x ∷ xs) = CanMove c p x × CanMakeAll c (pair_after c p x) xs
 
 -- ---- the spacecraft's end of a pair
 
@@ -63,7 +63,7 @@ MayBring c p f Cleared = CanMakeAll c p (free_moves (step c f Cleared).told)
 -- the message that it releases, where it releases one, is octets
 abbrev pub ReleasesOctets : Config → Onboard → Input → Type 0
 ReleasesOctets c s (Came b) =
-    IfSome (accepted Craft c s.node (arrival Craft c.apid c.part_size b)).1.released IsOctets
+    IfSome (packet_accepted Craft c s.node (arrival Craft c.apid c.part_size b)).1.released IsOctets
 ReleasesOctets c s Ticked = ⊤
 ReleasesOctets c s (Astray place len) = ⊤
 ReleasesOctets c s Cleared = ⊤

@@ -2,7 +2,7 @@
 use Rattle.std.proofs.Common.{◌≡◌, ◌∙◌, ap, sym, refl, ℕ, zero, suc, ◌+◌, ◌-◌, ◌≤◌, List, [], ◌∷◌, ◌++◌, Option, Some, None, append_assoc, arith}
 use native.Mathlib.Numerals.{unary_clauses}
 use Rattle.lpt_split.specs.Splits.{AreNumbers}
-use Rattle.lpt_split.specs.Lists.{followed, numbers_in, numbers_of, numbers_of_items, range_of, run}
+use Rattle.lpt_split.specs.Lists.{numbers_followed, numbers_in, numbers_of, numbers_of_items, range_of, run}
 use Rattle.lpt_text.specs.Items.{items_of}
 
 -- ---- runs
@@ -69,7 +69,7 @@ read-first last list = behind-nil (numbers_of_items last (items_of list))
 
 -- an item's numbers stand in front of those of the others
 pub behind-item : (xs : List ℕ) (r : ℕ × ℕ) (rest : Option (List ℕ))
-    → behind xs (followed (Some r) rest) ≡ behind (xs ++ numbers_in r) rest
+    → behind xs (numbers_followed (Some r) rest) ≡ behind (xs ++ numbers_in r) rest
 behind-item xs r None = refl
 behind-item xs r (Some ys) = ap Some (sym (append_assoc xs (numbers_in r) ys))
 
@@ -82,7 +82,7 @@ pub read-next : (last : ℕ) (left item more : List ℕ) (xs : List ℕ) (r : �
 read-next last left item more xs r all was cut is =
     let rest = numbers_of_items last (items_of more) in
     sym (behind-item xs r rest)
-    ∙ ap (λ o. behind xs (followed o rest)) is
+    ∙ ap (λ o. behind xs (numbers_followed o rest)) is
     ∙ sym (ap (λ items. behind xs (numbers_of_items last items)) cut)
     ∙ was
 
@@ -93,6 +93,6 @@ pub read-none : (last : ℕ) (left item : List ℕ) (items : List (List ℕ)) (x
     → None ≡ range_of last item
     → None ≡ all
 read-none last left item items xs all was cut is =
-    ap (λ o. behind xs (followed o (numbers_of_items last items))) is
+    ap (λ o. behind xs (numbers_followed o (numbers_of_items last items))) is
     ∙ sym (ap (λ items. behind xs (numbers_of_items last items)) cut)
     ∙ was

@@ -37,15 +37,16 @@ abbrev pub numbers_in : ℕ × ℕ → List ℕ
 numbers_in r = run r.0 (r.1 + 1 - r.0)
 
 -- numbers, and those behind them, where both are there
-abbrev pub followed : Option (ℕ × ℕ) → Option (List ℕ) → Option (List ℕ)
-followed (Some r) (Some ns) = Some (numbers_in r ++ ns)
-followed (Some r) None = None
-followed None ns = None
+abbrev pub numbers_followed : Option (ℕ × ℕ) → Option (List ℕ) → Option (List ℕ)
+numbers_followed (Some r) (Some ns) = Some (numbers_in r ++ ns)
+numbers_followed (Some r) None = None
+numbers_followed None ns = None
 
 -- the parts that items name
 abbrev pub numbers_of_items : ℕ → List (List ℕ) → Option (List ℕ)
 numbers_of_items last [] = Some []
-numbers_of_items last (item ∷ items) = followed (range_of last item) (numbers_of_items last items)
+numbers_of_items last (item ∷ items) =
+    numbers_followed (range_of last item) (numbers_of_items last items)
 
 -- the parts that a list names, of a message of so many
 unfoldable pub numbers_of : ℕ → List ℕ → Option (List ℕ)

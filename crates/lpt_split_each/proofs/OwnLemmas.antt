@@ -8,7 +8,7 @@ use Rattle.lpt_layout.specs.Packets.{verdict_as}
 use Rattle.lpt_packet.specs.declared.direction.Direction.{Direction}
 use Rattle.lpt_packet.specs.declared.direction.Direction.TheVariants.{Up, Down}
 use Rattle.lpt_packet.specs.Numbers.{IsOctets}
-use Rattle.lpt_packet.specs.Packets.{Fields, Sight, APacket, IsPacket, IsSight, seen, verdict}
+use Rattle.lpt_packet.specs.Packets.{Fields, Sight, APacket, IsPacket, IsSight, packet_seen, verdict}
 use Rattle.lpt_packet.proofs.Readings.{packet_again}
 use Rattle.lpt_split.specs.declared.writing.Writing.{Writing}
 use Rattle.lpt_split.specs.Own.{IsOwn}
@@ -22,8 +22,8 @@ pub message-own : (w : Writing) (c : Config) (m : List ℕ)
     → IsOwn w c
     → IsOctets m
     → verdict_as true m ≡ verdict m
-    → (seen m ≡ result_ok (verdict m))
-    → ((s : Sight) → (seen m ≡ Some s) ↔ IsSight m s)
+    → (packet_seen m ≡ result_ok (verdict m))
+    → ((s : Sight) → (packet_seen m ≡ Some s) ↔ IsSight m s)
     → IsMessage w m ↔ ((f : Fields) × IsPacket m f × (f.kind ≡ kind_to w.direction))
 message-own w c m own octets same tests relation =
     let sealed : w.layout.has_checksum ≡ true =

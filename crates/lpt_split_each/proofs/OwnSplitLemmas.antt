@@ -24,7 +24,7 @@ use Rattle.lpt_split_each.specs.declared.ending.EachEnd.TheVariants.{End, Cut, S
 use Rattle.lpt_split_each.specs.declared.ending.EachSplit.{EachSplit}
 use Rattle.lpt_split_each.specs.Own as own
 use Rattle.lpt_split_each.specs.Shares as each
-use Rattle.lpt_split_each.specs.Shares.{picked, share}
+use Rattle.lpt_split_each.specs.Shares.{parts_picked, share}
 use Rattle.lpt_split_each.specs.Streams as stream
 use Rattle.lpt_split_each.specs.Streams.{identifiers, IsNext}
 
@@ -69,7 +69,7 @@ counts-fit : (w : EachWanted) (id count : ℕ) (ms : List (List ℕ)) (behind : 
 counts-fit w id count [] behind packets fits h = omega (arith, h.0)
 counts-fit w id count (m ∷ ms) behind packets fits (next, mine, others, is, rest, all) =
     counts-fit w (id + 1) next ms behind others
-    (share-counts w id count m (picked w.picks.now id) next mine fits is) rest
+    (share-counts w id count m (parts_picked w.picks.now id) next mine fits is) rest
 
 module _ (same : (c : Config) (w : Writing) (id : ℕ) (m : List ℕ) (count : ℕ) (ns : List ℕ)
     → IsOwn w c
@@ -115,7 +115,7 @@ module _ (same : (c : Config) (w : Writing) (id : ℕ) (m : List ℕ) (count : �
     next,
     mine,
     others,
-    share-own id count m (picked w.picks.now id) next mine is,
+    share-own id count m (parts_picked w.picks.now id) next mine is,
     all-own (id + 1) next ms behind others rest,
     all,
   )

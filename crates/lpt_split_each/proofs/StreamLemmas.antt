@@ -13,7 +13,7 @@ use Rattle.lpt_split.specs.declared.writing.Writing.{Writing}
 use Rattle.lpt_split.specs.Forms.{packets_in}
 use Rattle.lpt_stream.specs.Pieces.{up_to_limit}
 use Rattle.lpt_stream.specs.Streams.{all_octets, IsUnfinished}
-use Rattle.lpt_frames.specs.Buffers.{held, FindsFrame}
+use Rattle.lpt_frames.specs.Buffers.{octets_held, FindsFrame}
 use Rattle.lpt_frames.specs.Frames.{IsCut, IsFrame}
 use Rattle.lpt_frames.specs.declared.buffer.FrameBuffer.{FrameBuffer}
 use Rattle.lpt_frames.proofs.FrameLemmas.{cut-more, cut-next, cut-none, octets-next}
@@ -240,7 +240,7 @@ module _ (w : EachWanted) where
   pub split-fault : (fault : StreamFault) (x y : FrameBuffer)
       (a b d old new : Option (List ℕ)) (had failed : Bool) (next count place : ℕ)
       → FindsFrame (Err fault) x y b d had failed
-      → IsSplit w a b old new (held x) next count place
+      → IsSplit w a b old new (octets_held x) next count place
       → MakesPackets w (Err fault) a d old new
   split-fault faults.Read x y a b d old new had failed next count place found h =
       (h.stream ++ found.0, Consumes-trans a b d h.stream found.0 h.consumed found.1.consumed)

@@ -20,7 +20,7 @@ use Rattle.lpt_split_each.specs.declared.ending.EachEnd.{EachEnd}
 use Rattle.lpt_split_each.specs.declared.ending.EachEnd.TheVariants.{End, Cut, Stray, NoMessage, Unsplit, NoIdentifier}
 use Rattle.lpt_split_each.specs.declared.ending.EachSplit.{EachSplit}
 use Rattle.lpt_split_each.specs.Messages.{IsMessage}
-use Rattle.lpt_split_each.specs.Shares.{picked}
+use Rattle.lpt_split_each.specs.Shares.{parts_picked}
 use Rattle.lpt_split_each.specs.Streams.{IsNext, ReadsMessages, WritesAll, WritesNothing, WritesPart, is_end}
 
 -- these are the packets of just the parts that a list names, in its order, as the sending node puts
@@ -54,7 +54,7 @@ abbrev pub AreAll : Config → EachWanted → (id count : ℕ) → List (List �
 AreAll c w id count [] behind packets = (behind ≡ count) × (packets ≡ [])
 AreAll c w id count (m ∷ ms) behind packets =
     (next : ℕ) × (mine : List (List ℕ)) × (others : List (List ℕ))
-    × AreShare c w.writing id count m (picked w.picks.now id) next mine
+    × AreShare c w.writing id count m (parts_picked w.picks.now id) next mine
     × AreAll c w (id + 1) next ms behind others
     × (packets ≡ mine ++ others)
 
@@ -84,7 +84,7 @@ EndsAt c w next len (NoMessage place) rest after =
 EndsAt c w next len (Unsplit end) rest after =
     (next < 65536)
     × ((m : List ℕ) × IsNext m rest × IsMessage w.writing m
-    × ((list : List ℕ) × (picked w.picks.now next ≡ Some list) × IsUnsplit c m list end))
+    × ((list : List ℕ) × (parts_picked w.picks.now next ≡ Some list) × IsUnsplit c m list end))
 EndsAt c w next len (NoIdentifier place) rest after =
     (place ≡ up_to_limit len) × (65536 ≤ next)
     × ((next ≡ 65536) ⊎ (next ≡ w.id)) × ((m : List ℕ) × IsNext m rest)

@@ -22,9 +22,9 @@ abbrev pub all_parts : List ℕ
 all_parts = 49 ∷ 45 ∷ []
 
 -- the list of the parts that are wanted under an identifier: of all parts, where nothing is picked
-abbrev pub picked : List Pick → ℕ → Option (List ℕ)
-picked [] id = Some all_parts
-picked (p ∷ ps) id = list_of (p ∷ ps) id
+abbrev pub parts_picked : List Pick → ℕ → Option (List ℕ)
+parts_picked [] id = Some all_parts
+parts_picked (p ∷ ps) id = list_of (p ∷ ps) id
 
 -- ---- a message
 
@@ -45,12 +45,12 @@ AreShare w id count m (Some list) behind packets =
 abbrev pub ArePackets : EachWanted → (id count : ℕ) → (m : List ℕ) → (behind : ℕ)
     → List (List ℕ) → Type 0
 ArePackets w id count m behind packets =
-    AreShare w id count m (picked w.picks.now id) behind packets
+    AreShare w id count m (parts_picked w.picks.now id) behind packets
 
 -- something is wanted of it, and it isn't split, so
 abbrev pub IsRefused : EachWanted → (id count : ℕ) → (m : List ℕ) → SplitEnd → Type 0
 IsRefused w id count m end =
-    (list : List ℕ) × (picked w.picks.now id ≡ Some list)
+    (list : List ℕ) × (parts_picked w.picks.now id ≡ Some list)
     × IsUnsplit w.writing (share id count list) m end
 
 -- they were written; or nothing was

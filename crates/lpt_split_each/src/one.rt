@@ -2,10 +2,10 @@
 
 ghost use Rattle.std.specs.Prelude.{◌≡◌, ◌≤◌, ◌⊎◌, IfErr, IfOk};
 ghost use Rattle.lpt_text.specs.Streams.{WriteEnds};
-ghost use Rattle.lpt_split_each.specs.Shares.{WritesOne, picked};
+ghost use Rattle.lpt_split_each.specs.Shares.{WritesOne, parts_picked};
 
 use crate::EachWanted;
-use crate::pick::picked;
+use crate::pick::parts_picked;
 use lpt_split::{SplitEnd, Wanted, put_split};
 use lpt_text::{Sink, StreamFault, write_out};
 use std::alloc::Global;
@@ -37,7 +37,7 @@ pub(crate) fn split_one<K: Sink>(
     ensures writer { WriteEnds result (K.failed out.old) (K.failed out.new) }
     ensures fault { IfErr result (λ e. (e ≡ StreamFault.Write) ⊎ (e ≡ StreamFault.Memory)) }
 {
-    let Some(parts) = picked(wanted.picks, id) else {
+    let Some(parts) = parts_picked(wanted.picks, id) else {
         return Ok(One::Written(first));
     };
     let choice = Wanted {

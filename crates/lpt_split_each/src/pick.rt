@@ -2,7 +2,7 @@
 
 ghost use Rattle.std.specs.Prelude.{◌≡◌};
 ghost use Rattle.std.specs.Option.{option_map};
-ghost use Rattle.lpt_split_each.specs.Shares.{list_of, picked};
+ghost use Rattle.lpt_split_each.specs.Shares.{list_of, parts_picked};
 
 /// Parts of the message under an identifier.
 #[derive(Clone, Copy)]
@@ -15,8 +15,8 @@ pub struct Pick<'a> {
 
 // The list of the parts that are wanted under this identifier: all, where nothing is picked; else
 // those that the first pick of it names, or none.
-pub(crate) fn picked<'a>(picks: &[Pick<'a>], id: u32) -> Option<&'a [u8]>
-    ensures { option_map (λ list. list.now) result ≡ picked picks.now id }
+pub(crate) fn parts_picked<'a>(picks: &[Pick<'a>], id: u32) -> Option<&'a [u8]>
+    ensures { option_map (λ list. list.now) result ≡ parts_picked picks.now id }
 {
     if picks.is_empty() {
         return Some(b"1-");

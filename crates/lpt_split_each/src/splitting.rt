@@ -74,20 +74,20 @@ fn make_packets<S: Source, K: Sink>(
     loop {
         let len = match buffer.find_frame(source, out) {
             Ok(Front::Frame(len)) => len,
-            Ok(Front::Stray) => return Ok(ended(next, EachEnd::Stray(place))),
-            Ok(Front::End) => return Ok(ended(next, end_at(place, buffer.held()))),
+            Ok(Front::Stray) => return Ok(split_ended(next, EachEnd::Stray(place))),
+            Ok(Front::End) => return Ok(split_ended(next, end_at(place, buffer.octets_held()))),
             Err(fault) => return Err(fault),
         };
         if next > most {
-            return Ok(ended(next, EachEnd::NoIdentifier(place)));
+            return Ok(split_ended(next, EachEnd::NoIdentifier(place)));
         }
-        let message = &buffer.held()[..len];
+        let message = &buffer.octets_held()[..len];
         if !is_message(&wanted.writing, message) {
-            return Ok(ended(next, EachEnd::NoMessage(place)));
+            return Ok(split_ended(next, EachEnd::NoMessage(place)));
         }
         match split_one(alloc, wanted, next as u32, count, message, out) {
             Ok(One::Written(behind)) => count = behind,
-            Ok(One::Unsplit(end)) => return Ok(ended(next, EachEnd::Unsplit(end))),
+            Ok(One::Unsplit(end)) => return Ok(split_ended(next, EachEnd::Unsplit(end))),
             Err(fault) => return Err(fault),
         }
         place = place.saturating_add(len as u64);
@@ -119,7 +119,7 @@ fn goes(direction: Direction, kind: PacketKind) -> bool
 }
 
 // An end before the message of this identifier.
-fn ended(next: u64, end: EachEnd) -> EachSplit
+fn split_ended(next: u64, end: EachEnd) -> EachSplit
     ensures { result ≡ record { next = next; end = end } }
 {
     EachSplit { next, end }

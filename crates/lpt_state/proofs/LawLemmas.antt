@@ -5,7 +5,7 @@ use Rattle.std.specs.List.{list_any}
 use Rattle.std.specs.Ordering.{eq_by_cmp}
 use Rattle.lpt_events.specs.declared.config.Config.{Config}
 use Rattle.lpt_events.specs.declared.side.Side.{Side}
-use Rattle.lpt_ledger.specs.declared.run.Run.{Run}
+use Rattle.lpt_ledger.specs.declared.run.NameRun.{NameRun}
 use Rattle.lpt_ledger.specs.declared.state.State.{State}
 use Rattle.lpt_ledger.specs.declared.state.State.TheVariants.{Free, Open, Closed}
 use Rattle.lpt_ledger.specs.Marks.{Mark, Marks, Opened, Shut, all_closed, shut_mark}
@@ -15,7 +15,7 @@ use Rattle.lpt_ledger.proofs.AscendLemmas.{runs_ascend, runs_of-closed_by}
 use Rattle.lpt_ledger.proofs.ClosingLemmas.{get-all_closed}
 use Rattle.lpt_ledger.proofs.RunsLemmas.{closed_by-runs_of, few_runs, get-shut_names}
 use Rattle.lpt_node.specs.Nodes.{NodeData, NodeView, is_open}
-use Rattle.lpt_node.specs.Restarts.{restarted, resumed, NoneOpen, node_within, limits_at}
+use Rattle.lpt_node.specs.Restarts.{node_restarted, node_resumed, NoneOpen, node_within, limits_at}
 use Rattle.lpt_packet.proofs.BoolLemmas.{and_both, and_left, and_right}
 use Rattle.lpt_packet.proofs.Bursts.{burst_shows, sealed_is_zero}
 use Rattle.lpt_packet.proofs.NameLemmas.{name_cmp_total, name_cmp-IsAntisymmetric}
@@ -23,11 +23,11 @@ use Rattle.lpt_packet.specs.Names.{Name, name_cmp}
 use Rattle.lpt_packet.specs.Bursts.{DifferInBurst}
 use Rattle.lpt_packet.specs.Checksums.{checksum}
 use Rattle.lpt_packet.specs.Numbers.{IsOctets, be}
-use Rattle.lpt_packet.specs.Packets.{sealed}
+use Rattle.lpt_packet.specs.Packets.{octets_sealed}
 use Rattle.lpt_state.specs.declared.fault.StateFault.{StateFault}
 use Rattle.lpt_state.specs.Lastings.{after, lasting_of, names_used, restarted_node, IsEnd, Lasting, IsBoundAlike, restarted_as}
-use Rattle.lpt_state.specs.Spellings.{front, length_with, spelled, spelling, config_octets, mode_octet, tag, version, side_octet, number_octets, runs_octets}
-use Rattle.lpt_state.specs.Verdicts.{end_after, lasting_at, reading, received_count, sent_count, told, verdict}
+use Rattle.lpt_state.specs.Spellings.{front, length_with, state_spelled, spelling, config_octets, mode_octet, tag, version, side_octet, number_octets, runs_octets}
+use Rattle.lpt_state.specs.Verdicts.{end_after, lasting_at, reading, received_count, sent_count, verdict_told, verdict}
 use Rattle.lpt_state.proofs.NumberLemmas.{great_before}
 use Rattle.lpt_state.proofs.ReadingLemmas.{passed, spelled_again, Passed}
 use Rattle.lpt_state.proofs.SpellingLemmas.{length-spelling, written_again}
@@ -51,7 +51,7 @@ never_open true = refl
 never_open false = refl
 
 -- none is open where runs were closed
-pub none_open : (rs : List Run) → NoneOpen (closed_by rs)
+pub none_open : (rs : List NameRun) → NoneOpen (closed_by rs)
 none_open rs q =
     ap (λ (o : Option Mark). is_open (state_of o)) (get-shut_names (names_in rs) empty q
     ∙ ap (cond (list_any (eq_by_cmp name_cmp q) (names_in rs)) (Some Shut)) (get-empty name_cmp q))
@@ -62,8 +62,8 @@ none_open rs q =
 -- what is made of what outlasts is what a restart leaves within these limits
 after-lasting_of : (l : Limits) (d : NodeData)
     → NoneOpen d.receiving.ledger
-    → after l (lasting_of d) ≡ node_within l (restarted d)
-after-lasting_of l d none = λ i. resumed l (d.boot + 1) d.clock
+    → after l (lasting_of d) ≡ node_within l (node_restarted d)
+after-lasting_of l d none = λ i. node_resumed l (d.boot + 1) d.clock
     (closed_by-runs_of d.sending.ledger i)
     ((closed_by-runs_of d.receiving.ledger ∙ all_closed-same d.receiving.ledger none) i)
 
@@ -83,7 +83,7 @@ spelling-alike side c d s k =
     let octets : config_octets c ≡ config_octets d =
     λ i. be (k.apid i) 2 ++ be (k.source i) 2 ++ be (k.part_size i) 4 ++ mode_octet (k.mode i) ∷ []
     in
-    ap (λ os. sealed (tag ++ version ∷ side_octet side ∷ [] ++ os
+    ap (λ os. octets_sealed (tag ++ version ∷ side_octet side ∷ [] ++ os
     ++ number_octets s.boot s.clock (length s.sent) (length s.received)
     ++ runs_octets s.sent ++ runs_octets s.received)) octets
 
@@ -91,32 +91,33 @@ pub written_is_read_as : (v : NodeView) (c : Config)
     → IsEnd v
     → v.at.boot + 1 < 2 ^ 64
     → IsBoundAlike v.config c
-    → reading v.side c (spelled v) ≡ Ok (restarted_as c v)
+    → reading v.side c (state_spelled v) ≡ Ok (restarted_as c v)
 written_is_read_as v c is next alike =
     let s : Lasting = lasting_of v.at in
     let ascends = and_both (ascend s.sent) (ascend s.received) (runs_ascend v.at.sending.ledger)
     (runs_ascend v.at.receiving.ledger) in
     ap (reading v.side c) (spelling-alike v.side v.config c s alike)
-    ∙ ap (told v.side c) (written_again v.side c s is.fits next ascends)
-    ∙ made v.side c (after (limits_of c) s) (node_within (limits_of c) (restarted v.at))
+    ∙ ap (verdict_told v.side c) (written_again v.side c s is.fits next ascends)
+    ∙ made v.side c (after (limits_of c) s) (node_within (limits_of c) (node_restarted v.at))
     (after-lasting_of (limits_of c) v.at is.none_open)
 
 pub written_is_read : (v : NodeView)
     → IsEnd v
     → v.at.boot + 1 < 2 ^ 64
-    → reading v.side v.config (spelled v) ≡ Ok (restarted_node v)
+    → reading v.side v.config (state_spelled v) ≡ Ok (restarted_node v)
 written_is_read v is next =
     let alike : IsBoundAlike v.config v.config =
     record { apid = refl; source = refl; part_size = refl; mode = refl } in
     written_is_read_as v v.config is next alike
-    ∙ made v.side v.config (node_within (limits_of v.config) (restarted v.at)) (restarted v.at)
-    (ap (λ (l : Limits). node_within l (restarted v.at)) (sym is.own_limits))
+    ∙ made v.side v.config (node_within (limits_of v.config) (node_restarted v.at))
+    (node_restarted v.at)
+    (ap (λ (l : Limits). node_within l (node_restarted v.at)) (sym is.own_limits))
 
 -- ---- one spelling
 
 -- what is told of a verdict was found
 told_says : (side : Side) (c : Config) (r : Result Lasting StateFault) (v : NodeView)
-    → told side c r ≡ Ok v
+    → verdict_told side c r ≡ Ok v
     → (s : Lasting) × (r ≡ Ok s) × (end_after side c s ≡ v)
 told_says side c (Ok s) v h = (s, refl, cc)
 told_says side c (Err e) v h = absurd cc
@@ -210,10 +211,10 @@ bursts_show side other c d x y v w o p differ h k =
 -- ---- how long a state is
 
 pub length_of : (v : NodeView)
-    → length (spelled v) ≡ length_with
+    → length (state_spelled v) ≡ length_with
     (length (lasting_of v.at).sent + length (lasting_of v.at).received)
 length_of v = length-spelling v.side v.config (lasting_of v.at)
 
-pub length_bound : (v : NodeView) → length (spelled v) ≤ length_with (names_used v.at)
+pub length_bound : (v : NodeView) → length (state_spelled v) ≤ length_with (names_used v.at)
 length_bound v =
     omega (arith, length_of v, few_runs v.at.sending.ledger, few_runs v.at.receiving.ledger)

@@ -4,7 +4,7 @@ use Rattle.std.proofs.lemmas.List.{drop-drop}
 use Rattle.std.proofs.lemmas.List.Concat.{flat_map-append}
 use Rattle.std.proofs.Math.Seq.{drop-append_seam, take-append_seam}
 use borrow.Rule.Slice.PartMut.{put_mid}
-use Rattle.lpt_ledger.specs.declared.run.Run.{Run}
+use Rattle.lpt_ledger.specs.declared.run.NameRun.{NameRun}
 use Rattle.lpt_state.specs.Spellings.{run_octets, runs_octets}
 use Rattle.lpt_state.proofs.RunLemmas.{length-runs_octets}
 
@@ -37,14 +37,14 @@ put_both xs ys old =
     ∙ ap (λ (k : ℕ). (xs ++ ys) ++ drop k old) size
 
 -- a run more
-pub more_octets : (seen : List Run) (r : Run)
+pub more_octets : (seen : List NameRun) (r : NameRun)
     → runs_octets (seen ++ r ∷ []) ≡ runs_octets seen ++ run_octets r
 more_octets seen r =
     flat_map-append run_octets seen (r ∷ [])
     ∙ ap (λ (zs : List ℕ). runs_octets seen ++ zs) (append-nil (run_octets r))
 
 -- one is written behind those before
-pub next_put : (seen : List Run) (r : Run) (old out six : List ℕ) (count k : ℕ)
+pub next_put : (seen : List NameRun) (r : NameRun) (old out six : List ℕ) (count k : ℕ)
     → count ≡ length seen
     → k ≡ 6
     → out ≡ runs_octets seen ++ drop (6 * length seen) old

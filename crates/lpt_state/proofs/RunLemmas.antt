@@ -3,7 +3,7 @@ use Rattle.std.proofs.Common.{◌≡◌, ◌∙◌, refl, ap, sym, ℕ, suc, ◌
 use Rattle.std.specs.List.{All}
 use Rattle.lpt_packet.proofs.Codec.{word_cells, word_of_be}
 use Rattle.lpt_packet.specs.Numbers.{IsOctets}
-use Rattle.lpt_ledger.specs.declared.run.Run.{Run}
+use Rattle.lpt_ledger.specs.declared.run.NameRun.{NameRun}
 use Rattle.lpt_ledger.specs.Marks.{Marks}
 use Rattle.lpt_ledger.specs.Runs.{ascend_behind, has_name, names_in, names_of, shut_names, stands, IsRun}
 use Rattle.lpt_ledger.proofs.RunsLemmas.{shut_names-append}
@@ -11,12 +11,12 @@ use Rattle.lpt_state.specs.Spellings.{runs_octets}
 use Rattle.lpt_state.specs.Verdicts.{run_at, runs_in}
 
 -- six octets a run
-pub length-runs_octets : (rs : List Run) → length (runs_octets rs) ≡ 6 * length rs
+pub length-runs_octets : (rs : List NameRun) → length (runs_octets rs) ≡ 6 * length rs
 length-runs_octets [] = refl
 length-runs_octets (r ∷ rs) = omega (arith, length-runs_octets rs)
 
 -- runs are read off their octets
-pub runs_again : (rs : List Run) → All IsRun rs → runs_in (runs_octets rs) ≡ rs
+pub runs_again : (rs : List NameRun) → All IsRun rs → runs_in (runs_octets rs) ≡ rs
 unfolding runs_in
 runs_again [] fit = refl
 runs_again (r ∷ rs) fit =
@@ -46,7 +46,7 @@ sixes_again (a ∷ b ∷ c ∷ d ∷ e ∷ f ∷ rest) n long o =
     )
 
 -- the run of the first six octets is the first run
-pub next_run : (b : List ℕ) (r : Run) → 6 ≤ length b → r ≡ run_at (take 6 b) → runs_in b ≡ r
+pub next_run : (b : List ℕ) (r : NameRun) → 6 ≤ length b → r ≡ run_at (take 6 b) → runs_in b ≡ r
     ∷ runs_in (drop 6 b)
 unfolding runs_in
 next_run [] r long is = absurd (omega arith)
@@ -55,7 +55,7 @@ next_run (a ∷ b ∷ []) r long is = absurd (omega arith)
 next_run (a ∷ b ∷ c ∷ []) r long is = absurd (omega arith)
 next_run (a ∷ b ∷ c ∷ d ∷ []) r long is = absurd (omega arith)
 next_run (a ∷ b ∷ c ∷ d ∷ e ∷ []) r long is = absurd (omega arith)
-next_run (a ∷ b ∷ c ∷ d ∷ e ∷ f ∷ rest) r long is = ap (λ (x : Run). x ∷ runs_in rest) (sym is)
+next_run (a ∷ b ∷ c ∷ d ∷ e ∷ f ∷ rest) r long is = ap (λ (x : NameRun). x ∷ runs_in rest) (sym is)
 
 -- fewer octets are none
 pub no_run : (b : List ℕ) → length b < 6 → runs_in b ≡ []
@@ -75,7 +75,7 @@ and_again true b t = refl
 and_again false b t = refl
 
 -- runs ascend where the first goes on, and the others do behind it
-pub ascend_step : (p : Option Run) (b : List ℕ) (r : Run) (rest : List ℕ) (t : Bool)
+pub ascend_step : (p : Option NameRun) (b : List ℕ) (r : NameRun) (rest : List ℕ) (t : Bool)
     → runs_in b ≡ r ∷ runs_in rest
     → (has_name r && stands p r) ≡ t
     → ascend_behind p (runs_in b) ≡ (t && ascend_behind (Some r) (runs_in rest))
@@ -86,14 +86,15 @@ ascend_step p b r rest t is goes =
     ∙ ap (λ (x : Bool). x && ascend_behind (Some r) (runs_in rest)) goes
 
 -- where none is left, they do
-pub ascend_end : (p : Option Run) (b : List ℕ) → runs_in b ≡ [] → ascend_behind p (runs_in b) ≡ true
+pub ascend_end : (p : Option NameRun) (b : List ℕ) → runs_in b ≡ [] → ascend_behind p (runs_in b)
+    ≡ true
 unfolding ascend_behind
 ascend_end p b none = ap (ascend_behind p) none
 
 -- ---- runs of names that are closed
 
 -- the names of one run are closed, and then those of the others
-pub shut_step : (m n : Marks) (b : List ℕ) (r : Run) (rest : List ℕ)
+pub shut_step : (m n : Marks) (b : List ℕ) (r : NameRun) (rest : List ℕ)
     → runs_in b ≡ r ∷ runs_in rest
     → n ≡ shut_names m (names_of r)
     → shut_names n (names_in (runs_in rest)) ≡ shut_names m (names_in (runs_in b))
@@ -101,9 +102,9 @@ unfolding names_in
 shut_step m n b r rest is shut =
     ap (λ (x : Marks). shut_names x (names_in (runs_in rest))) shut
     ∙ sym (shut_names-append m (names_of r) (names_in (runs_in rest)))
-    ∙ ap (λ (rs : List Run). shut_names m (names_in rs)) (sym is)
+    ∙ ap (λ (rs : List NameRun). shut_names m (names_in rs)) (sym is)
 
 -- where none is left, all are closed
 pub shut_end : (m : Marks) (b : List ℕ) → runs_in b ≡ [] → m ≡ shut_names m (names_in (runs_in b))
 unfolding names_in shut_names
-shut_end m b none = ap (λ (rs : List Run). shut_names m (names_in rs)) (sym none)
+shut_end m b none = ap (λ (rs : List NameRun). shut_names m (names_in rs)) (sym none)

@@ -6,8 +6,8 @@ use Rattle.lpt_state.specs.Lastings.{Lasting}
 use Rattle.lpt_state.specs.Verdicts.{runs_in}
 
 -- what it says
-abbrev pub found : Found → Lasting
-found f = record {
+abbrev pub state_found : Found → Lasting
+state_found f = record {
   boot = f.boot;
   clock = f.clock;
   sent = runs_in f.sent.now;
@@ -16,5 +16,5 @@ found f = record {
 
 -- what a reader answered is this verdict
 abbrev pub Gives : Result Found StateFault → Result Lasting StateFault → Type 0
-Gives (Ok f) v = v ≡ Ok (found f)
+Gives (Ok f) v = v ≡ Ok (state_found f)
 Gives (Err e) v = v ≡ Err e

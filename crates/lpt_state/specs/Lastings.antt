@@ -4,18 +4,18 @@ use Rattle.std.specs.FinMap as map
 use Rattle.std.specs.List.{All}
 use Rattle.lpt_acts.specs.Acts.{Limits, limits_of}
 use Rattle.lpt_events.specs.declared.config.Config.{Config}
-use Rattle.lpt_ledger.specs.declared.run.Run.{Run}
+use Rattle.lpt_ledger.specs.declared.run.NameRun.{NameRun}
 use Rattle.lpt_ledger.specs.Runs.{closed_by, runs_of, IsRun}
 use Rattle.lpt_node.specs.Nodes.{NodeData, NodeView}
-use Rattle.lpt_node.specs.Restarts.{resumed, restarted, NoneOpen, node_within, limits_at}
+use Rattle.lpt_node.specs.Restarts.{node_resumed, node_restarted, NoneOpen, node_within, limits_at}
 
 -- the number of the boot, the clock, and the names that were used, as runs: those of outgoing
 -- transactions, and those of incoming ones that have ended
 pub record Lasting : Type 0 where
   pub boot : ℕ
   pub clock : ℕ
-  pub sent : List Run
-  pub received : List Run
+  pub sent : List NameRun
+  pub received : List NameRun
 
 -- what of an end outlasts a restart
 abbrev pub lasting_of : NodeData → Lasting
@@ -28,12 +28,12 @@ lasting_of d = record {
 
 -- what is made of it within these limits: the next boot, in which nothing is open
 abbrev pub after : Limits → Lasting → NodeData
-after l s = resumed l (s.boot + 1) s.clock (closed_by s.sent) (closed_by s.received)
+after l s = node_resumed l (s.boot + 1) s.clock (closed_by s.sent) (closed_by s.received)
 
 -- an end once it was restarted under another configuration, with the limits of that
 abbrev pub restarted_as : Config → NodeView → NodeView
 restarted_as c v =
-    record v { config = c; at = node_within (limits_of c) (restarted v.at) }
+    record v { config = c; at = node_within (limits_of c) (node_restarted v.at) }
 
 -- two configurations differ in limits and first clocks alone
 pub record IsBoundAlike (c d : Config) : Type 0 where
@@ -44,10 +44,10 @@ pub record IsBoundAlike (c d : Config) : Type 0 where
 
 -- an end once it was restarted
 abbrev pub restarted_node : NodeView → NodeView
-restarted_node v = record v { at = restarted v.at }
+restarted_node v = record v { at = node_restarted v.at }
 
 -- runs whose numbers have 16 bits, fewer than a number of 64 bits can tell
-pub record AreRuns (rs : List Run) : Type 0 where
+pub record AreRuns (rs : List NameRun) : Type 0 where
   pub fit : All IsRun rs
   pub few : length rs < 2 ^ 64
 

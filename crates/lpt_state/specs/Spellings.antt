@@ -4,10 +4,10 @@ use Rattle.std.specs.List.{flat_map}
 use Rattle.lpt_events.specs.declared.config.Config.{Config}
 use Rattle.lpt_events.specs.declared.side.Side.{Side}
 use Rattle.lpt_events.specs.declared.side.Side.TheVariants.{Ground, Craft}
-use Rattle.lpt_ledger.specs.declared.run.Run.{Run}
+use Rattle.lpt_ledger.specs.declared.run.NameRun.{NameRun}
 use Rattle.lpt_node.specs.Nodes.{NodeView}
 use Rattle.lpt_packet.specs.Numbers.{be}
-use Rattle.lpt_packet.specs.Packets.{sealed}
+use Rattle.lpt_packet.specs.Packets.{octets_sealed}
 use Rattle.lpt_part.specs.declared.mode.Mode.{Mode}
 use Rattle.lpt_part.specs.declared.mode.Mode.TheVariants.{Any, Strict}
 use Rattle.lpt_state.specs.Lastings.{Lasting, lasting_of}
@@ -45,11 +45,11 @@ abbrev pub number_octets : (boot clock sent received : ℕ) → List ℕ
 number_octets boot clock sent received = be boot 8 ++ be clock 4 ++ be sent 8 ++ be received 8
 
 -- a run: source 16 bits, first identifier 16, last identifier 16
-abbrev pub run_octets : Run → List ℕ
+abbrev pub run_octets : NameRun → List ℕ
 run_octets r = be r.source 2 ++ be r.first 2 ++ be r.last 2
 
 -- runs, one behind the other
-abbrev pub runs_octets : List Run → List ℕ
+abbrev pub runs_octets : List NameRun → List ℕ
 runs_octets rs = flat_map run_octets rs
 
 -- the octets of what outlasts, as far as the checksum
@@ -60,15 +60,15 @@ front side c s =
 
 -- the octets of what outlasts, with the checksum of all of them behind
 unfoldable pub spelling : Side → Config → Lasting → List ℕ
-spelling side c s = sealed (front side c s)
+spelling side c s = octets_sealed (front side c s)
 
 -- the octets of an end's state
-abbrev pub spelled : NodeView → List ℕ
-spelled v = spelling v.side v.config (lasting_of v.at)
+abbrev pub state_spelled : NodeView → List ℕ
+state_spelled v = spelling v.side v.config (lasting_of v.at)
 
 -- the same, as far as the checksum
-abbrev pub unsealed : NodeView → List ℕ
-unsealed v = front v.side v.config (lasting_of v.at)
+abbrev pub state_unsealed : NodeView → List ℕ
+state_unsealed v = front v.side v.config (lasting_of v.at)
 
 -- how many octets stand around the runs, and how many a state with so many runs has
 abbrev pub around : ℕ

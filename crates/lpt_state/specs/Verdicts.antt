@@ -3,7 +3,7 @@ use Rattle.std.specs.Prelude.{◌≡◌, ℕ, ◌+◌, ◌-◌, ◌*◌, ◌^◌
 use Rattle.lpt_acts.specs.Acts.{limits_of}
 use Rattle.lpt_events.specs.declared.config.Config.{Config}
 use Rattle.lpt_events.specs.declared.side.Side.{Side}
-use Rattle.lpt_ledger.specs.declared.run.Run.{Run}
+use Rattle.lpt_ledger.specs.declared.run.NameRun.{NameRun}
 use Rattle.lpt_ledger.specs.Runs.{ascend}
 use Rattle.lpt_node.specs.Nodes.{NodeView}
 use Rattle.lpt_packet.specs.Checksums.{checksum}
@@ -32,11 +32,11 @@ abbrev pub runs_part : List ℕ → List ℕ
 runs_part b = take (length b - around) (drop 43 b)
 
 -- the run that stands at the front of octets
-abbrev pub run_at : List ℕ → Run
+abbrev pub run_at : List ℕ → NameRun
 run_at b = record { source = word_at b 0; first = word_at b 2; last = word_at b 4 }
 
 -- the runs that octets say, six octets each
-unfoldable pub runs_in : List ℕ → List Run
+unfoldable pub runs_in : List ℕ → List NameRun
 runs_in (a ∷ b ∷ c ∷ d ∷ e ∷ f ∷ rest) =
     record { source = 256 * a + b; first = 256 * c + d; last = 256 * e + f } ∷ runs_in rest
 runs_in _ = []
@@ -87,13 +87,13 @@ abbrev pub end_after : Side → Config → Lasting → NodeView
 end_after side c s = record { side = side; config = c; at = after (limits_of c) s }
 
 -- a verdict in the words of the end that is made
-abbrev pub told : Side → Config → Result Lasting StateFault → Result NodeView StateFault
-told side c (Ok s) = Ok (end_after side c s)
-told side c (Err e) = Err e
+abbrev pub verdict_told : Side → Config → Result Lasting StateFault → Result NodeView StateFault
+verdict_told side c (Ok s) = Ok (end_after side c s)
+verdict_told side c (Err e) = Err e
 
 -- the end that octets say, or the first fault
 abbrev pub reading : Side → Config → List ℕ → Result NodeView StateFault
-reading side c b = told side c (verdict side c b)
+reading side c b = verdict_told side c (verdict side c b)
 
 -- the fault is the first, or out of memory where there is none
 abbrev pub StateRefusedBy : Result NodeView StateFault → StateFault → Type 0

@@ -7,20 +7,20 @@ ghost use Rattle.lpt_node.specs.Nodes.{NodeView};
 ghost use Rattle.lpt_packet.specs.Bursts.{DifferInBurst};
 ghost use Rattle.lpt_packet.specs.Numbers.{IsOctets};
 ghost use Rattle.lpt_state.specs.Lastings.{names_used, restarted_as, restarted_node, lasting_of, IsBoundAlike, IsEnd};
-ghost use Rattle.lpt_state.specs.Spellings.{length_with, spelled};
+ghost use Rattle.lpt_state.specs.Spellings.{length_with, state_spelled};
 ghost use Rattle.lpt_state.specs.Verdicts.{reading};
 
 /// What is read of what was written is exactly what a restart leaves.
 pub fn written_is_read()
     ensures { (v : NodeView) → IsEnd v → v.at.boot + 1 < 2 ^ 64
-        → reading v.side v.config (spelled v) ≡ Ok (restarted_node v) }
+        → reading v.side v.config (state_spelled v) ≡ Ok (restarted_node v) }
 {}
 
 /// So it is under another configuration that differs in limits and first clock alone: what is read
 /// is what a restart within these limits leaves.
 pub fn written_is_read_as()
     ensures { (v : NodeView) (c : Config) → IsEnd v → v.at.boot + 1 < 2 ^ 64
-        → IsBoundAlike v.config c → reading v.side c (spelled v) ≡ Ok (restarted_as c v) }
+        → IsBoundAlike v.config c → reading v.side c (state_spelled v) ≡ Ok (restarted_as c v) }
 {}
 
 /// There is one spelling for each state: octets that are read as the same end are the same.
@@ -45,7 +45,7 @@ pub fn bursts_show()
 
 /// A state has 45 octets and 6 for each run of names, of which there are no more than names in use.
 pub fn has_this_length()
-    ensures exact { (v : NodeView) → length (spelled v)
+    ensures exact { (v : NodeView) → length (state_spelled v)
         ≡ length_with (length (lasting_of v.at).sent + length (lasting_of v.at).received) }
-    ensures bound { (v : NodeView) → length (spelled v) ≤ length_with (names_used v.at) }
+    ensures bound { (v : NodeView) → length (state_spelled v) ≤ length_with (names_used v.at) }
 {}

@@ -5,7 +5,7 @@ ghost use Rattle.lpt_packet.specs.Numbers.{word_at};
 ghost use Rattle.lpt_pus.specs.Numbers.{long_at};
 ghost use Rattle.lpt_state.specs.Verdicts.{great_at, run_at, stands_at};
 
-use lpt_ledger::Run;
+use lpt_ledger::NameRun;
 
 /// The number of 32 bits at a place.
 pub(crate) fn long(octets: &[u8], at: usize) -> u32
@@ -32,10 +32,10 @@ pub(crate) fn word(octets: &[u8], at: usize) -> u16
 }
 
 /// The run that six octets say.
-pub(crate) fn run_from(octets: &[u8; 6]) -> Run
+pub(crate) fn run_from(octets: &[u8; 6]) -> NameRun
     ensures { result ≡ run_at octets.now }
 {
-    Run {
+    NameRun {
         source: word(octets, 0),
         first: word(octets, 2),
         last: word(octets, 4),

@@ -5,7 +5,7 @@ ghost use Rattle.lpt_events.specs.Configs.{IsConfig};
 ghost use Rattle.lpt_jobs.specs.Jobs.{no_jobs};
 ghost use Rattle.lpt_ledger.specs.Runs.{ascend, closed_by, has_name, is_behind, stands};
 ghost use Rattle.lpt_node.specs.Restarts.{NoneOpen};
-ghost use Rattle.lpt_state.specs.Found.{found, Gives};
+ghost use Rattle.lpt_state.specs.Found.{state_found, Gives};
 ghost use Rattle.lpt_state.specs.Spellings.{length_with};
 ghost use Rattle.lpt_state.specs.Verdicts.{both_ascend, end_after, great_at, is_sealed, lasting_at, received_count, runs_in, sent_count, reading, verdict, StateRefusedBy};
 
@@ -14,7 +14,7 @@ use crate::found::Found;
 use crate::numbers::{great, long, run_from, stands_at, word};
 use crate::writing::{config_octets, side_octet};
 use lpt_events::{Config, Side};
-use lpt_ledger::{Ledger, Run};
+use lpt_ledger::{Ledger, NameRun};
 use lpt_node::Node;
 use lpt_packet::crc16;
 use std::alloc::{AllocError, Global};
@@ -93,7 +93,7 @@ fn first_fault<'a>(side: Side, config: &Config, octets: &'a [u8]) -> Result<Foun
 // What stands at the places of a state.
 fn found_in(octets: &[u8]) -> Found<'_>
     requires { length octets.now ≡ length_with (sent_count octets.now + received_count octets.now) }
-    ensures found { found result ≡ lasting_at octets.now }
+    ensures found { state_found result ≡ lasting_at octets.now }
     ensures boot { result.boot ≡ great_at octets.now 15 }
 {
     let runs = &octets[RUNS..octets.len() - 2];
@@ -127,7 +127,7 @@ fn is_sealed(octets: &[u8]) -> bool
 
 // Whether the runs of what was found ascend.
 fn both_ascend(state: &Found<'_>) -> bool
-    ensures { result ≡ both_ascend (found state.now) }
+    ensures { result ≡ both_ascend (state_found state.now) }
 {
     ascends(state.sent) && ascends(state.received)
 }
@@ -150,7 +150,7 @@ fn ascends(octets: &[u8]) -> bool
 }
 
 // Whether a run has a name, and stands behind the one before it, where there is one.
-fn goes_on(before: Option<Run>, this: Run) -> bool
+fn goes_on(before: Option<NameRun>, this: NameRun) -> bool
     ensures { result ≡ (has_name this && stands before this) }
 {
     match before {
@@ -160,7 +160,7 @@ fn goes_on(before: Option<Run>, this: Run) -> bool
 }
 
 // Whether a run stands behind another, and doesn't follow it.
-fn is_behind(before: Run, this: Run) -> bool
+fn is_behind(before: NameRun, this: NameRun) -> bool
     ensures { result ≡ is_behind before this }
 {
     before.source < this.source
@@ -171,10 +171,10 @@ fn is_behind(before: Run, this: Run) -> bool
 fn resume(alloc: Global, side: Side, config: &Config, state: &Found<'_>) -> Result<Node, AllocError>
     requires config { IsConfig config.now }
     requires boot { state.now.boot + 1 < 2 ^ 64 }
-    ensures { IfOk result (λ n. n ≡ end_after side config.now (found state.now)) }
+    ensures { IfOk result (λ n. n ≡ end_after side config.now (state_found state.now)) }
 {
-    let senders = closed(alloc, state.sent)?;
-    let receivers = closed(alloc, state.received)?;
+    let senders = ledger_closed(alloc, state.sent)?;
+    let receivers = ledger_closed(alloc, state.received)?;
     Node::resume(
         alloc,
         side,
@@ -188,7 +188,7 @@ fn resume(alloc: Global, side: Side, config: &Config, state: &Found<'_>) -> Resu
 
 // A ledger in which the names of these runs are closed, and no others in use. The only error is out
 // of memory.
-fn closed(alloc: Global, octets: &[u8]) -> Result<Ledger, AllocError>
+fn ledger_closed(alloc: Global, octets: &[u8]) -> Result<Ledger, AllocError>
     ensures names { IfOk result (λ l. l ≡ closed_by (runs_in octets.now)) }
     ensures none_open { IfOk result (λ l. NoneOpen l) }
 {

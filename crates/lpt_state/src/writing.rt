@@ -3,10 +3,10 @@
 ghost use Rattle.std.specs.Prelude.{◌≡◌, ◌+◌, ◌*◌, ◌≤◌, ◌^◌, ◌++◌, length, drop, OnOk, OnErr};
 ghost use Rattle.lpt_ledger.specs.Runs.{runs_of};
 ghost use Rattle.lpt_state.specs.Lastings.{lasting_of, IsEnd};
-ghost use Rattle.lpt_state.specs.Spellings.{config_octets, head_octets, mode_octet, number_octets, run_octets, runs_octets, side_octet, spelled, unsealed};
+ghost use Rattle.lpt_state.specs.Spellings.{config_octets, head_octets, mode_octet, number_octets, run_octets, runs_octets, side_octet, state_spelled, state_unsealed};
 
 use lpt_events::{Config, Side};
-use lpt_ledger::{Ledger, Run};
+use lpt_ledger::{Ledger, NameRun};
 use lpt_node::Node;
 use lpt_packet::crc16;
 use lpt_part::Mode;
@@ -21,7 +21,7 @@ const HEAD: usize = 15;
 /// Appends the state of an end: what of it outlasts a restart. The only error is out of memory, and
 /// then nothing is appended.
 pub fn write_state(node: &Node, out: &mut Vec<u8>) -> Result<(), AllocError>
-    ensures ok { OnOk result (out.new.items ≡ out.old.items ++ spelled node.now) }
+    ensures ok { OnOk result (out.new.items ≡ out.old.items ++ state_spelled node.now) }
     ensures end { OnOk result (IsEnd node.now) }
     ensures err { OnErr result (out.new.items ≡ out.old.items) }
 {
@@ -34,7 +34,7 @@ pub fn write_state(node: &Node, out: &mut Vec<u8>) -> Result<(), AllocError>
 
 /// How many octets the state of an end has. It takes no memory.
 pub fn state_len(node: &Node) -> usize
-    ensures len { result ≡ length (spelled node.now) }
+    ensures len { result ≡ length (state_spelled node.now) }
     ensures few { result ≤ 2 ^ 36 }
     ensures end { IsEnd node.now }
 {
@@ -44,8 +44,8 @@ pub fn state_len(node: &Node) -> usize
 
 /// Writes the state of an end to the front of a buffer that has room for it. It takes no memory.
 pub fn write_state_into(node: &Node, out: &mut [u8])
-    requires { length (spelled node.now) ≤ length out.old }
-    ensures { out.new ≡ spelled node.now ++ drop (length (spelled node.now)) out.old }
+    requires { length (state_spelled node.now) ≤ length out.old }
+    ensures { out.new ≡ state_spelled node.now ++ drop (length (state_spelled node.now)) out.old }
 {
     let end = put_unsealed(node, out);
     let (before, behind) = out.split_at_mut(end);
@@ -56,9 +56,10 @@ pub fn write_state_into(node: &Node, out: &mut [u8])
 // Writes what stands before the checksum to the front of a buffer that has room for it, and answers
 // how many octets that is.
 fn put_unsealed(node: &Node, out: &mut [u8]) -> usize
-    requires { length (unsealed node.now) ≤ length out.old }
-    ensures len { result ≡ length (unsealed node.now) }
-    ensures octets { out.new ≡ unsealed node.now ++ drop (length (unsealed node.now)) out.old }
+    requires { length (state_unsealed node.now) ≤ length out.old }
+    ensures len { result ≡ length (state_unsealed node.now) }
+    ensures octets { out.new ≡ state_unsealed node.now
+        ++ drop (length (state_unsealed node.now)) out.old }
 {
     let (front, runs) = out.split_at_mut(RUNS);
     let (sent, received) = put_both(node, runs);
@@ -157,7 +158,7 @@ fn put_numbers(out: &mut [u8], boot: u64, clock: u32, sent: usize, received: usi
 }
 
 // The octets of a run.
-fn run_octets(run: Run) -> [u8; 6]
+fn run_octets(run: NameRun) -> [u8; 6]
     ensures { result ≡ run_octets run }
 {
     let [a, b] = run.source.to_be_bytes();

@@ -19,8 +19,8 @@ config = record {
 }
 
 -- what outlasts
-abbrev pub mixed : Lasting
-mixed = record {
+abbrev pub mixed_state : Lasting
+mixed_state = record {
   boot = 258;
   clock = 16909060;
   sent =

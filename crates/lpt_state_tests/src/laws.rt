@@ -7,16 +7,16 @@ ghost use Rattle.lpt_part.specs.declared.mode.Mode.TheVariants.{Strict};
 ghost use Rattle.lpt_state.specs.declared.fault.StateFault.TheVariants as fault;
 ghost use Rattle.lpt_state.specs.Spellings.{spelling};
 ghost use Rattle.lpt_state.specs.Verdicts.{verdict};
-ghost use Rattle.lpt_state_tests.specs.Worked.{config, mixed, mixed_octets, names_sent};
+ghost use Rattle.lpt_state_tests.specs.Worked.{config, mixed_state, mixed_octets, names_sent};
 
 /// A worked state has these octets, and they are read as it, at an end of its side and its
 /// configuration, whatever the limits and the first clock.
 pub fn worked_state()
-    ensures spelled { spelling Ground config mixed ≡ mixed_octets }
-    ensures read { verdict Ground config mixed_octets ≡ Ok mixed }
-    ensures clock { verdict Ground (record config { clock = 9 }) mixed_octets ≡ Ok mixed }
+    ensures spelled { spelling Ground config mixed_state ≡ mixed_octets }
+    ensures read { verdict Ground config mixed_octets ≡ Ok mixed_state }
+    ensures clock { verdict Ground (record config { clock = 9 }) mixed_octets ≡ Ok mixed_state }
     ensures limits { verdict Ground (record config { timeout = 9; receptions = 2; outgoing = 1 })
-        mixed_octets ≡ Ok mixed }
+        mixed_octets ≡ Ok mixed_state }
     ensures side { verdict Craft config mixed_octets ≡ Err fault.Side }
     ensures config { verdict Ground (record config { mode = Strict }) mixed_octets
         ≡ Err fault.Config }
@@ -24,6 +24,6 @@ pub fn worked_state()
 
 /// Worked names have these runs, and the runs those names.
 pub fn worked_names()
-    ensures runs { runs_of_names names_sent ≡ mixed.sent }
-    ensures names { names_in mixed.sent ≡ names_sent }
+    ensures runs { runs_of_names names_sent ≡ mixed_state.sent }
+    ensures names { names_in mixed_state.sent ≡ names_sent }
 {}

@@ -12,7 +12,7 @@ use std::process::Abort;
 use std::test::Fail;
 
 /// A state, the end that it says, and the state of that one.
-struct Row {
+struct StateRow {
     side: Side,
     config: Config,
     octets: &'static [u8],
@@ -45,8 +45,8 @@ const GREATEST: Config = Config {
     mode: Mode::Strict,
 };
 
-static ROWS: [Row; 3] = [
-    Row {
+static ROWS: [StateRow; 3] = [
+    StateRow {
         side: Side::Ground,
         config: CONFIG,
         octets: &EMPTY,
@@ -58,7 +58,7 @@ static ROWS: [Row; 3] = [
         ],
         again: &EMPTY_AGAIN,
     },
-    Row {
+    StateRow {
         side: Side::Craft,
         config: GREATEST,
         octets: &MANY,
@@ -76,7 +76,7 @@ static ROWS: [Row; 3] = [
         ],
         again: &MANY_AGAIN,
     },
-    Row {
+    StateRow {
         side: Side::Ground,
         config: CONFIG,
         octets: &MIXED,
@@ -115,7 +115,7 @@ pub(crate) fn read(
 }
 
 // Whether the end is as the row says.
-fn is_said(row: &Row, node: &Node) -> bool {
+fn is_said(row: &StateRow, node: &Node) -> bool {
     let mut said = node.boot() == row.boot && node.clock() == row.clock;
     for (direction, source, id, used) in row.names {
         let name = Name {
@@ -128,7 +128,7 @@ fn is_said(row: &Row, node: &Node) -> bool {
 }
 
 // The end is as its row says, and its state too.
-fn check(rt: &impl Abort, alloc: Global, row: &Row, node: &Node) -> Result<(), Fail> {
+fn check(rt: &impl Abort, alloc: Global, row: &StateRow, node: &Node) -> Result<(), Fail> {
     assert!(rt; is_said(row, node));
     let mut out = Vec::new(alloc);
     write_state(node, &mut out)?;

@@ -13,13 +13,13 @@ use Rattle.lpt_stream.specs.declared.buffer.PacketBuffer.{PacketBuffer}
 use Rattle.lpt_stream.specs.declared.found.Found.{Found}
 use Rattle.lpt_stream.specs.declared.piece_kind.PieceKind.{PieceKind}
 use Rattle.lpt_stream.specs.declared.piece_kind.PieceKind.TheVariants.{Whole}
-use Rattle.lpt_stream.specs.Buffers.{cut_of, held, is_in_step, is_ended, found_piece, IsInFront, IsUnsettled, Adds, Goes, IsAsked, IsOpenAt, Fills, FindsPiece, FindsPassing}
+use Rattle.lpt_stream.specs.Buffers.{cut_of, octets_held, is_in_step, is_ended, found_piece, IsInFront, IsUnsettled, Adds, Goes, IsAsked, IsOpenAt, Fills, FindsPiece, FindsPassing}
 use Rattle.lpt_stream.specs.Pieces.{lookahead, begins_by, is_framed, kind_by, size_in, piece_by, waits_by}
 use Rattle.lpt_stream.proofs.ByLemmas.{packet_stays_by, piece_stays_by, last_stays_by, judged_stays_by, nothing_shows, unframed_begins_by}
 
 -- nothing was read by what changes nothing of what is held
 pub goes-same : (b new : PacketBuffer) (a : Option (List ℕ))
-    → held new ≡ held b
+    → octets_held new ≡ octets_held b
     → cut_of new ≡ cut_of b
     → is_in_step new ≡ is_in_step b
     → is_ended new ≡ is_ended b
@@ -27,7 +27,7 @@ pub goes-same : (b new : PacketBuffer) (a : Option (List ℕ))
 goes-same b new a same by step end = record {
   added = record {
     consumed = Consumes-nil a;
-    behind = same ∙ sym (append-nil (held b));
+    behind = same ∙ sym (append-nil (octets_held b));
     step = step;
     cut = by;
   };
@@ -42,7 +42,7 @@ pub adds-more : (old mid new : PacketBuffer) (a b c : Option (List ℕ)) (read m
     → Adds old new a c (read ++ more)
 adds-more old mid new a b c read more p q = record {
   consumed = Consumes-trans a b c read more p.consumed q.consumed;
-  behind = q.behind ∙ ap (λ x. x ++ more) p.behind ∙ append_assoc (held old) read more;
+  behind = q.behind ∙ ap (λ x. x ++ more) p.behind ∙ append_assoc (octets_held old) read more;
   step = q.step ∙ p.step;
   cut = q.cut ∙ p.cut;
 }
@@ -78,26 +78,27 @@ goes-more old mid new a b c read more more_comes p q gives = record {
 -- the end is nearer, or so much as is looked at
 pub nearer : (mid new : PacketBuffer) (b c : Option (List ℕ)) (more : List ℕ)
     → is_ended mid ≡ false
-    → length (held mid) < 131084
+    → length (octets_held mid) < 131084
     → Adds mid new b c more
     → Gives new c more
-    → (if is_ended new then 0 else 131085 - length (held new))
-    < (if is_ended mid then 0 else 131085 - length (held mid))
+    → (if is_ended new then 0 else 131085 - length (octets_held new))
+    < (if is_ended mid then 0 else 131085 - length (octets_held mid))
 nearer mid new b c more more_comes few q (inl h) =
-    let size : length (held new) ≡ length (held mid) + length more =
-    ap length q.behind ∙ length-append (held mid) more in
+    let size : length (octets_held new) ≡ length (octets_held mid) + length more =
+    ap length q.behind ∙ length-append (octets_held mid) more in
     let some = h.1 in
     subst (λ e.
-    (if e then 0 else 131085 - length (held new)) <
-    (if is_ended mid then 0 else 131085 - length (held mid))) (sym h.0)
-    (subst (λ e. 131085 - length (held new) < (if e then 0 else 131085 - length (held mid)))
+    (if e then 0 else 131085 - length (octets_held new)) <
+    (if is_ended mid then 0 else 131085 - length (octets_held mid))) (sym h.0)
+    (subst (λ e. 131085 - length (octets_held new)
+    < (if e then 0 else 131085 - length (octets_held mid)))
     (sym more_comes)
     (omega (arith, few, size, some)))
 nearer mid new b c more more_comes few q (inr h) =
     subst (λ e.
-    (if e then 0 else 131085 - length (held new)) <
-    (if is_ended mid then 0 else 131085 - length (held mid))) (sym h.0)
-    (subst (λ e. 0 < (if e then 0 else 131085 - length (held mid))) (sym more_comes)
+    (if e then 0 else 131085 - length (octets_held new)) <
+    (if is_ended mid then 0 else 131085 - length (octets_held mid))) (sym h.0)
+    (subst (λ e. 0 < (if e then 0 else 131085 - length (octets_held mid))) (sym more_comes)
     (omega (arith, few)))
 
 -- it was asked for, since what was held waited
@@ -105,7 +106,7 @@ pub asked-more : (old mid : PacketBuffer) (a b : Option (List ℕ)) (read more :
     → Goes old mid a b read
     → IsUnsettled mid
     → length more ≤ 65536
-    → IsAsked (cut_of old) (is_in_step old) (held old) (read ++ more)
+    → IsAsked (cut_of old) (is_in_step old) (octets_held old) (read ++ more)
 asked-more old mid a b read more goes h size = inr (
   read,
   more,
@@ -119,12 +120,12 @@ asked-more old mid a b read more goes h size = inr (
 pub judged-more : (mid new : PacketBuffer) (b c : Option (List ℕ)) (more : List ℕ) (framed : Bool)
     → Adds mid new b c more
     → IsUnsettled mid
-    → framed ≡ is_framed (held mid)
+    → framed ≡ is_framed (octets_held mid)
     → framed ≡ true
-    → begins_by (cut_of new) (is_in_step new) (take lookahead (held new)) ≡ false
+    → begins_by (cut_of new) (is_in_step new) (take lookahead (octets_held new)) ≡ false
 judged-more mid new b c more framed added h is e =
     (λ i. begins_by (added.cut i) (added.step i) (take lookahead (added.behind i)))
-    ∙ judged_stays_by (cut_of mid) (is_in_step mid) (held mid) more (sym is ∙ e) h.none h.few
+    ∙ judged_stays_by (cut_of mid) (is_in_step mid) (octets_held mid) more (sym is ∙ e) h.none h.few
 
 -- a read that failed while what was held waited
 pub open-more : (old mid new : PacketBuffer) (a b c : Option (List ℕ)) (read : List ℕ)
@@ -137,7 +138,7 @@ open-more old mid new a b c read more_comes p h q = (
   read ++ [],
   adds-more old mid new a b c read [] p.added q,
   λ e. absurd (both (is_ended mid) (p.stays e).0 more_comes),
-  (λ i. waits_by (q.cut i) (q.step i) ((q.behind ∙ append-nil (held mid)) i)) ∙ h.waits,
+  (λ i. waits_by (q.cut i) (q.step i) ((q.behind ∙ append-nil (octets_held mid)) i)) ∙ h.waits,
 )
 
 -- a read that failed, or for which memory ran out, ends the search
@@ -258,30 +259,30 @@ near_size b near n is h =
 
 -- a packet
 pub packet_settled : (p : PacketBuffer) (near : List ℕ) (n : ℕ)
-    → near ≡ take lookahead (held p)
-    → 0 < length (held p)
+    → near ≡ take lookahead (octets_held p)
+    → 0 < length (octets_held p)
     → 0 < n
     → begins_by (cut_of p) (is_in_step p) near ≡ true
     → n ≡ 7 + word_at near 4
     → n ≤ length near
     → IsInFront p (record { kind = Whole; len = n })
 packet_settled p near n is some least taken size within =
-    let fits = near_size (held p) near n is within in
+    let fits = near_size (octets_held p) near n is within in
     record {
       some = some;
       least = least;
       most = fits.1;
       within = fits.0;
       is = λ more e.
-          packet_stays_by (cut_of p) (is_in_step p) (held p) more n
+          packet_stays_by (cut_of p) (is_in_step p) (octets_held p) more n
           (ap (begins_by (cut_of p) (is_in_step p)) (sym is) ∙ taken)
           (size ∙ ap (λ x. 7 + word_at x 4) is) (subst (λ x. n ≤ length x) is within) fits.0;
     }
 
 -- what doesn't wait, or is the last
 pub other_settled : (p : PacketBuffer) (near : List ℕ) (k : PieceKind) (n : ℕ)
-    → near ≡ take lookahead (held p)
-    → 0 < length (held p)
+    → near ≡ take lookahead (octets_held p)
+    → 0 < length (octets_held p)
     → 0 < n
     → (waits_by (cut_of p) (is_in_step p) near ≡ false) ⊎ (is_ended p ≡ true)
     → k ≡ kind_by (cut_of p) (is_in_step p) near
@@ -289,7 +290,7 @@ pub other_settled : (p : PacketBuffer) (near : List ℕ) (k : PieceKind) (n : �
     → n ≤ length near
     → IsInFront p (record { kind = k; len = n })
 other_settled p near k n is some least known kind size within =
-    let fits = near_size (held p) near n is within in
+    let fits = near_size (octets_held p) near n is within in
     let kind_is = kind ∙ ap (kind_by (cut_of p) (is_in_step p)) is in
     let size_is = size ∙ ap (size_in k) is in
     record {
@@ -301,18 +302,19 @@ other_settled p near k n is some least known kind size within =
     } where
       go : (more : List ℕ)
           → (is_ended p ≡ true → more ≡ [])
-          → k ≡ kind_by (cut_of p) (is_in_step p) (take lookahead (held p))
-          → n ≡ size_in k (take lookahead (held p))
-          → n ≤ length (held p)
+          → k ≡ kind_by (cut_of p) (is_in_step p) (take lookahead (octets_held p))
+          → n ≡ size_in k (take lookahead (octets_held p))
+          → n ≤ length (octets_held p)
           → (waits_by (cut_of p) (is_in_step p) near ≡ false) ⊎ (is_ended p ≡ true)
-          → piece_by (cut_of p) (is_in_step p) (held p ++ more)
+          → piece_by (cut_of p) (is_in_step p) (octets_held p ++ more)
           ≡ found_piece p (record { kind = k; len = n })
       go more e kind_is size_is fits (inl h) =
-          piece_stays_by (cut_of p) (is_in_step p) (held p) more k n
+          piece_stays_by (cut_of p) (is_in_step p) (octets_held p) more k n
           (sym (ap (waits_by (cut_of p) (is_in_step p)) is)
           ∙ h) kind_is size_is fits
       go more e kind_is size_is fits (inr h) =
-          last_stays_by (cut_of p) (is_in_step p) (held p) more k n (e h) kind_is size_is fits
+          last_stays_by (cut_of p) (is_in_step p) (octets_held p) more k n (e h) kind_is size_is
+          fits
 
 -- where fewer are held than are looked at, those are all
 pub all_held : (b near : List ℕ) → near ≡ take lookahead b → length near < 131084 → near ≡ b
@@ -322,14 +324,14 @@ all_held b near is few =
 
 -- what is looked at waits
 pub unsettled : (p : PacketBuffer) (near : List ℕ)
-    → near ≡ take lookahead (held p)
+    → near ≡ take lookahead (octets_held p)
     → waits_by (cut_of p) (is_in_step p) near ≡ true
     → length near < 131084
     → begins_by (cut_of p) (is_in_step p) near ≡ false
     → is_ended p ≡ false
     → IsUnsettled p
 unsettled p near is waiting few none more_comes =
-    let all = all_held (held p) near is few in
+    let all = all_held (octets_held p) near is few in
     record {
       waits = sym (ap (waits_by (cut_of p) (is_in_step p)) all) ∙ waiting;
       few = subst (λ x. length x < lookahead) all few;
@@ -338,10 +340,10 @@ unsettled p near is waiting few none more_comes =
     }
 
 -- nothing is held
-pub nothing_held : (p : PacketBuffer) (o : List ℕ) → o ≡ held p → (length o == 0) ≡ true
+pub nothing_held : (p : PacketBuffer) (o : List ℕ) → o ≡ octets_held p → (length o == 0) ≡ true
     → IsUnsettled p
 nothing_held p o is none =
-    let empty : [] ≡ held p = sym (no_octets o none) ∙ is in
+    let empty : [] ≡ octets_held p = sym (no_octets o none) ∙ is in
     record {
       waits = sym (ap (waits_by (cut_of p) (is_in_step p)) empty)
           ∙ nothing_shows (cut_of p) (is_in_step p);

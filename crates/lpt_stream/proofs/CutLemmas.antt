@@ -6,7 +6,7 @@ use Rattle.std.specs.Io.KnownBytes.{Consumes}
 use Rattle.lpt_stream.specs.declared.cut.Cut.{Cut}
 use Rattle.lpt_stream.specs.declared.buffer.PacketBuffer.{PacketBuffer}
 use Rattle.lpt_stream.specs.declared.found.Found.{Found}
-use Rattle.lpt_stream.specs.Buffers.{cut_of, held, is_in_step, is_ended, found_piece, Goes, IsInFront, IsOpenAt}
+use Rattle.lpt_stream.specs.Buffers.{cut_of, octets_held, is_in_step, is_ended, found_piece, Goes, IsInFront, IsOpenAt}
 use Rattle.lpt_stream.specs.declared.piece_kind.PieceKind.{PieceKind}
 use Rattle.lpt_stream.specs.declared.piece_kind.PieceKind.TheVariants.{Whole, Damaged, Stray}
 use Rattle.lpt_stream.specs.Pieces.{Piece, piece_by, keeps_step, waits_by, LeadsBy, CutsBy, octets_in, packet_before, packets_of, up_to_limit}
@@ -59,14 +59,14 @@ pub record IsRead (cut : Cut) (P : List Piece
   pub pieces : List Piece
   pub is : cut_of b ≡ cut
   pub leads : (more : List ℕ) → (is_ended b ≡ true → more ≡ [])
-      → LeadsBy cut true (stream ++ more) pieces (is_in_step b) (held b ++ more)
+      → LeadsBy cut true (stream ++ more) pieces (is_in_step b) (octets_held b ++ more)
   pub gives : P pieces
   pub count_is : length pieces ≡ count
 
 -- of nothing
 pub read-none : (cut : Cut) (P : List Piece → Type 0) (b : PacketBuffer)
     → P []
-    → held b ≡ []
+    → octets_held b ≡ []
     → cut_of b ≡ cut
     → is_in_step b ≡ true
     → IsRead cut P b [] 0
@@ -95,12 +95,12 @@ read-more cut P old new a c stream read count h goes = record {
       let was =
       h.leads (read ++ more)
       (λ e. no_more read more (goes.stays e).1 (over (goes.stays e).0)) in
-      subst (λ x. LeadsBy cut true x h.pieces (is_in_step new) (held new ++ more))
+      subst (λ x. LeadsBy cut true x h.pieces (is_in_step new) (octets_held new ++ more))
       (sym (append_assoc stream read more))
       (subst (λ x. LeadsBy cut true (stream ++ (read ++ more)) h.pieces (is_in_step new) x)
-      (sym (ap (λ x. x ++ more) goes.added.behind ∙ append_assoc (held old) read more))
+      (sym (ap (λ x. x ++ more) goes.added.behind ∙ append_assoc (octets_held old) read more))
       (subst (λ s. LeadsBy cut true (stream ++ (read ++ more)) h.pieces s
-      (held old ++ (read ++ more)))
+      (octets_held old ++ (read ++ more)))
       (sym goes.added.step) was));
   gives = h.gives;
   count_is = h.count_is;
@@ -114,14 +114,14 @@ pub read-open : (cut : Cut) (P : List Piece → Type 0) (old new : PacketBuffer)
     (a c : Option (List ℕ)) (stream : List ℕ) (count : ℕ)
     → (h : IsRead cut P old stream count)
     → (goes : IsOpenAt old new a c)
-    → LeadsBy cut true (stream ++ goes.0) h.pieces (is_in_step new) (held new)
-    × (waits_by cut (is_in_step new) (held new) ≡ true)
+    → LeadsBy cut true (stream ++ goes.0) h.pieces (is_in_step new) (octets_held new)
+    × (waits_by cut (is_in_step new) (octets_held new) ≡ true)
 read-open cut P old new a c stream count h goes = (
   subst (λ x. LeadsBy cut true (stream ++ goes.0) h.pieces (is_in_step new) x)
       (sym goes.1.behind)
-      (subst (λ s. LeadsBy cut true (stream ++ goes.0) h.pieces s (held old ++ goes.0))
+      (subst (λ s. LeadsBy cut true (stream ++ goes.0) h.pieces s (octets_held old ++ goes.0))
       (sym goes.1.step) (h.leads goes.0 goes.2)),
-  subst (λ x. waits_by x (is_in_step new) (held new) ≡ true) (goes.1.cut ∙ h.is) goes.3,
+  subst (λ x. waits_by x (is_in_step new) (octets_held new) ≡ true) (goes.1.cut ∙ h.is) goes.3,
 )
 
 -- with the piece in front taken
@@ -129,7 +129,7 @@ pub read-next : (cut : Cut) (P Q : List Piece
     → Type 0) (b new : PacketBuffer) (f : Found) (stream : List ℕ) (count : ℕ)
     → (h : IsRead cut P b stream count)
     → IsInFront b f
-    → held new ≡ drop f.len (held b)
+    → octets_held new ≡ drop f.len (octets_held b)
     → cut_of new ≡ cut_of b
     → is_in_step new ≡ keeps_step f.kind
     → is_ended new ≡ is_ended b
@@ -140,20 +140,23 @@ read-next cut P Q b new f stream count h front over by step end gives = record {
   is = by ∙ h.is;
   leads = λ more none.
       let left : is_ended b ≡ true → more ≡ [] = λ e. none (end ∙ e) in
-      let next = leads-next cut true (stream ++ more) h.pieces (is_in_step b) (held b ++ more)
-      (found_piece b f) (h.leads more left) (long (held b) more front.some)
-      (sym (subst (λ x. piece_by x (is_in_step b) (held b ++ more) ≡ found_piece b f) h.is
+      let next =
+      leads-next cut true (stream ++ more) h.pieces (is_in_step b) (octets_held b ++ more)
+      (found_piece b f) (h.leads more left) (long (octets_held b) more front.some)
+      (sym (subst (λ x. piece_by x (is_in_step b) (octets_held b ++ more) ≡ found_piece b f) h.is
       (front.is more left))) in
-      let size : length (take f.len (held b))
-      ≡ f.len = length-take-le f.len (held b) front.within in
-      let over_it : drop (length (take f.len (held b))) (held b ++ more) ≡ held new ++ more =
-      ap (λ n. drop n (held b ++ more)) size ∙ drop-append-le f.len (held b) more front.within
+      let size : length (take f.len (octets_held b))
+      ≡ f.len = length-take-le f.len (octets_held b) front.within in
+      let over_it : drop (length (take f.len (octets_held b))) (octets_held b ++ more)
+      ≡ octets_held new ++ more =
+      ap (λ n. drop n (octets_held b ++ more)) size
+      ∙ drop-append-le f.len (octets_held b) more front.within
       ∙ ap (λ x. x ++ more) (sym over) in
       subst (λ x. LeadsBy cut true (stream ++ more) (h.pieces ++ found_piece b f ∷ [])
       (is_in_step new) x)
       over_it
       (subst (λ s. LeadsBy cut true (stream ++ more) (h.pieces ++ found_piece b f ∷ []) s
-      (drop (length (take f.len (held b))) (held b ++ more))) (sym step) next);
+      (drop (length (take f.len (octets_held b))) (octets_held b ++ more))) (sym step) next);
   gives = gives;
   count_is = length-append h.pieces (found_piece b f ∷ []) ∙ ap (λ c. c + 1) h.count_is;
 }
@@ -162,7 +165,7 @@ read-next cut P Q b new f stream count h front over by step end gives = record {
 pub read-end : (cut : Cut) (P : List Piece
     → Type 0) (b : PacketBuffer) (stream : List ℕ) (count : ℕ)
     → (h : IsRead cut P b stream count)
-    → held b ≡ []
+    → octets_held b ≡ []
     → CutsBy cut stream h.pieces
 read-end cut P b stream count h none = (
   is_in_step b,
@@ -176,10 +179,11 @@ read-end cut P b stream count h none = (
 pub read-leads : (cut : Cut) (P : List Piece
     → Type 0) (b : PacketBuffer) (stream : List ℕ) (count : ℕ)
     → (h : IsRead cut P b stream count)
-    → LeadsBy cut true stream h.pieces (is_in_step b) (held b)
+    → LeadsBy cut true stream h.pieces (is_in_step b) (octets_held b)
 read-leads cut P b stream count h =
-    subst (λ x. LeadsBy cut true x h.pieces (is_in_step b) (held b)) (append-nil stream)
-    (subst (λ x. LeadsBy cut true (stream ++ []) h.pieces (is_in_step b) x) (append-nil (held b))
+    subst (λ x. LeadsBy cut true x h.pieces (is_in_step b) (octets_held b)) (append-nil stream)
+    (subst (λ x. LeadsBy cut true (stream ++ []) h.pieces (is_in_step b) x)
+    (append-nil (octets_held b))
     (h.leads [] (λ e. refl)))
 
 -- so many pieces were read
@@ -192,7 +196,7 @@ read-endless cut P b before after count h most = (
   h.0,
   h.2.pieces,
   is_in_step b,
-  held b,
+  octets_held b,
   h.1,
   read-leads cut P b h.0 count h.2,
   h.2.count_is ∙ most,
@@ -204,12 +208,12 @@ pub read-front : (cut : Cut) (P : List Piece
     → (h : IsRead cut P b stream count)
     → IsInFront b f
     → LeadsBy cut true stream (h.pieces ++ found_piece b f ∷ []) (keeps_step f.kind)
-    (drop (length (take f.len (held b))) (held b))
+    (drop (length (take f.len (octets_held b))) (octets_held b))
 read-front cut P b f stream count h front =
-    leads-next cut true stream h.pieces (is_in_step b) (held b) (found_piece b f)
+    leads-next cut true stream h.pieces (is_in_step b) (octets_held b) (found_piece b f)
     (read-leads cut P b stream count h) front.some
-    (sym (ap (piece_by cut (is_in_step b)) (sym (append-nil (held b)))
-    ∙ subst (λ x. piece_by x (is_in_step b) (held b ++ []) ≡ found_piece b f) h.is
+    (sym (ap (piece_by cut (is_in_step b)) (sym (append-nil (octets_held b)))
+    ∙ subst (λ x. piece_by x (is_in_step b) (octets_held b ++ []) ≡ found_piece b f) h.is
     (front.is [] (λ e. refl))))
 
 -- ---- the packets among the pieces

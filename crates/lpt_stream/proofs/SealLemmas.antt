@@ -11,7 +11,7 @@ use Rattle.lpt_stream.specs.declared.buffer.PacketBuffer.{PacketBuffer}
 use Rattle.lpt_stream.specs.declared.found.Found.{Found}
 use Rattle.lpt_stream.specs.declared.piece_kind.PieceKind.{PieceKind}
 use Rattle.lpt_stream.specs.declared.piece_kind.PieceKind.TheVariants.{Whole, Damaged, Stray}
-use Rattle.lpt_stream.specs.Buffers.{cut_of, held, is_in_step, found_piece, IsInFront}
+use Rattle.lpt_stream.specs.Buffers.{cut_of, octets_held, is_in_step, found_piece, IsInFront}
 use Rattle.lpt_stream.specs.Pieces.{Piece, IsSealed, IsSealedBy, begins, ends_in_checksum, is_found, is_taken, is_passed, kind_in, size_in, lookahead, piece_at, piece_by}
 
 -- what is taken has no fault
@@ -65,14 +65,14 @@ sealed_by Resumed s b h = tt
 -- nor has the piece that was found, where checksums are looked at
 pub found_sealed : (b : PacketBuffer) (f : Found)
     → IsInFront b f
-    → IsSealedBy (cut_of b) f.kind (take f.len (held b))
+    → IsSealedBy (cut_of b) f.kind (take f.len (octets_held b))
 found_sealed b f h =
     let c = cut_of b in
     let s = is_in_step b in
-    let is : piece_by c s (held b) ≡ found_piece b f =
-    sym (ap (piece_by c s) (append-nil (held b))) ∙ h.is [] (λ e. refl) in
-    let size = length-take-le f.len (held b) h.within in
+    let is : piece_by c s (octets_held b) ≡ found_piece b f =
+    sym (ap (piece_by c s) (append-nil (octets_held b))) ∙ h.is [] (λ e. refl) in
+    let size = length-take-le f.len (octets_held b) h.within in
     let most = h.most in
     subst (λ (p : Piece). IsSealedBy c p.kind p.octets) is
-    (sealed_by c s (held b)
+    (sealed_by c s (octets_held b)
     (subst (λ (p : Piece). length p.octets ≤ lookahead) (sym is) (omega (arith, size, most))))

@@ -6,10 +6,10 @@ use Rattle.std.proofs.Math.Seq.{take-append_seam, drop-append_seam}
 use Rattle.lpt_packet.specs.Numbers.{word_at}
 use Rattle.lpt_packet.specs.declared.fault.PacketFault.{PacketFault}
 use Rattle.lpt_packet.specs.declared.packet.Seen.{Seen}
-use Rattle.lpt_packet.specs.Packets.{Fields, IsPacket, IsIdle, Sight, seen, sight, verdict}
+use Rattle.lpt_packet.specs.Packets.{Fields, IsPacket, IsIdle, Sight, packet_seen, sight, verdict}
 use Rattle.lpt_packet.proofs.Codec.{length-spelling, word_at-4}
 use Rattle.lpt_packet.proofs.Readings.{lt_false}
-use Rattle.lpt_stream.specs.Streams.{wanted, cut_at, front_of, IsFramed}
+use Rattle.lpt_stream.specs.Streams.{octets_wanted, cut_at, front_of, IsFramed}
 
 -- ---- the front
 
@@ -21,7 +21,7 @@ word_at-front b rest h =
     λ i. 256 * high i + low i
 
 -- what is wanted of octets with a whole header
-wanted-headed : (b : List ℕ) → 6 ≤ length b → wanted b ≡ 7 + word_at b 4
+wanted-headed : (b : List ℕ) → 6 ≤ length b → octets_wanted b ≡ 7 + word_at b 4
 wanted-headed b h = ap (λ t. if t then 6 else 7 + word_at b 4) (lt_false (length b) 6 h)
 
 -- octets as their header says are cut out, whatever comes behind
@@ -32,8 +32,8 @@ framed_first b rest h =
     let size : length all ≡ length b + length rest = length-append b rest in
     let same : 7 + word_at all 4 ≡ length b = ap (λ n. 7 + n) (word_at-front b rest h.headed)
     ∙ sym h.whole in
-    let want : wanted all ≡ length b = wanted-headed all (omega (arith, h.headed)) ∙ same in
-    let enough : nat_lt (length all) (wanted all) ≡ false = lt_false _ _ (omega arith) in
+    let want : octets_wanted all ≡ length b = wanted-headed all (omega (arith, h.headed)) ∙ same in
+    let enough : nat_lt (length all) (octets_wanted all) ≡ false = lt_false _ _ (omega arith) in
     ap (λ t. if t then None else Some (cut_at (7 + word_at all 4) all)) enough
     ∙ ap (λ n. Some (cut_at n all)) same
     ∙ (λ i. Some (take-append_seam b rest i, drop-append_seam b rest i))
@@ -58,17 +58,17 @@ framed_idle b h =
 
 -- what a reader saw is seen
 pub seen-read : (b : List ℕ) (s r : Seen)
-    → seen b ≡ result_ok (verdict b)
+    → packet_seen b ≡ result_ok (verdict b)
     → verdict b ≡ Ok (sight s)
     → s ≡ r
-    → seen b ≡ Some (sight r)
+    → packet_seen b ≡ Some (sight r)
 seen-read b s r law reads same =
     law ∙ ap (λ (r : Result Sight PacketFault). result_ok r) reads
     ∙ ap (λ (s : Seen). Some (sight s)) same
 
 -- and nothing where it gave a fault
 pub seen-unread : (b : List ℕ) (e : PacketFault)
-    → seen b ≡ result_ok (verdict b)
+    → packet_seen b ≡ result_ok (verdict b)
     → verdict b ≡ Err e
-    → seen b ≡ None
+    → packet_seen b ≡ None
 seen-unread b e law h = law ∙ ap (λ (r : Result Sight PacketFault). result_ok r) h

@@ -11,12 +11,12 @@ use Rattle.lpt_stream.specs.Pieces.{Piece, begins_by, lookahead, piece_by, waits
 -- ---- what is held
 
 -- the octets that were read and not passed over yet
-abbrev pub held : PacketBuffer → List ℕ
-held b = drop b.start (take b.end b.octets.items)
+abbrev pub octets_held : PacketBuffer → List ℕ
+octets_held b = drop b.start (take b.end b.octets.items)
 
 -- all octets for which there is room
-abbrev pub kept : PacketBuffer → List ℕ
-kept b = b.octets.items
+abbrev pub octets_kept : PacketBuffer → List ℕ
+octets_kept b = b.octets.items
 
 -- whether they come right behind a packet
 abbrev pub is_in_step : PacketBuffer → Bool
@@ -32,23 +32,23 @@ is_ended b = b.ended
 
 -- the piece that was found
 abbrev pub found_piece : PacketBuffer → Found → Piece
-found_piece b f = record { kind = f.kind; octets = take f.len (held b) }
+found_piece b f = record { kind = f.kind; octets = take f.len (octets_held b) }
 
 -- the piece stands in front of what is held, whatever comes behind
 pub record IsInFront (b : PacketBuffer) (f : Found) : Type 0 where
-  pub some : 0 < length (held b)
+  pub some : 0 < length (octets_held b)
   pub least : 0 < f.len
   pub most : f.len ≤ lookahead
-  pub within : f.len ≤ length (held b)
+  pub within : f.len ≤ length (octets_held b)
   pub is : (more : List ℕ) → (is_ended b ≡ true → more ≡ [])
-      → piece_by (cut_of b) (is_in_step b) (held b ++ more) ≡ found_piece b f
+      → piece_by (cut_of b) (is_in_step b) (octets_held b ++ more) ≡ found_piece b f
 
 -- nothing can be said of it yet: it depends on octets that may still come
 pub record IsUnsettled (b : PacketBuffer) : Type 0 where
-  pub waits : waits_by (cut_of b) (is_in_step b) (held b) ≡ true
-  pub few : length (held b) < lookahead
-  pub none : begins_by (cut_of b) (is_in_step b) (held b) ≡ false
-  pub last : is_ended b ≡ true → held b ≡ []
+  pub waits : waits_by (cut_of b) (is_in_step b) (octets_held b) ≡ true
+  pub few : length (octets_held b) < lookahead
+  pub none : begins_by (cut_of b) (is_in_step b) (octets_held b) ≡ false
+  pub last : is_ended b ≡ true → octets_held b ≡ []
 
 -- ---- reads
 
@@ -56,7 +56,7 @@ pub record IsUnsettled (b : PacketBuffer) : Type 0 where
 pub record Adds (old new : PacketBuffer) (before after : Option (List ℕ))
     (read : List ℕ) : Type 0 where
   pub consumed : Consumes before after read
-  pub behind : held new ≡ held old ++ read
+  pub behind : octets_held new ≡ octets_held old ++ read
   pub step : is_in_step new ≡ is_in_step old
   pub cut : cut_of new ≡ cut_of old
 
@@ -94,7 +94,7 @@ IsAsked c s held read =
 abbrev pub IsOpenAt : (old new : PacketBuffer) → (before after : Option (List ℕ)) → Type 0
 IsOpenAt old new before after =
     (read : List ℕ) × Adds old new before after read × (is_ended old ≡ true → read ≡ [])
-    × (waits_by (cut_of new) (is_in_step new) (held new) ≡ true)
+    × (waits_by (cut_of new) (is_in_step new) (octets_held new) ≡ true)
 
 -- what a search for a piece gives: the one in front; or that none is left at the end of the stream;
 -- or that a read failed
@@ -103,9 +103,10 @@ abbrev pub FindsPiece :
     → (had failed : Bool) → Type 0
 FindsPiece (Ok (Some f)) old new before after had failed =
     (read : List ℕ) × Goes old new before after read × IsInFront new f × (failed ≡ had)
-    × IsAsked (cut_of old) (is_in_step old) (held old) read
+    × IsAsked (cut_of old) (is_in_step old) (octets_held old) read
 FindsPiece (Ok None) old new before after had failed =
-    (read : List ℕ) × Goes old new before after read × (held new ≡ []) × (is_ended new ≡ true)
+    (read : List ℕ) × Goes old new before after read × (octets_held new ≡ [])
+    × (is_ended new ≡ true)
     × (failed ≡ had)
 FindsPiece (Err faults.Read) old new before after had failed =
     IsOpenAt old new before after × (failed ≡ true)

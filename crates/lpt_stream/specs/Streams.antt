@@ -15,12 +15,12 @@ abbrev pub length_at : List ℕ → Option ℕ
 length_at b = if nat_lt (length b) primary_header then None else Some (7 + word_at b 4)
 
 -- how many octets must have come before more can be said: a header's, and then the packet's
-abbrev pub wanted : List ℕ → ℕ
-wanted b = if nat_lt (length b) primary_header then primary_header else 7 + word_at b 4
+abbrev pub octets_wanted : List ℕ → ℕ
+octets_wanted b = if nat_lt (length b) primary_header then primary_header else 7 + word_at b 4
 
 -- less than a packet
 abbrev pub IsUnfinished : List ℕ → Type 0
-IsUnfinished b = length b < wanted b
+IsUnfinished b = length b < octets_wanted b
 
 -- the octets up to a place, and those behind it
 abbrev pub cut_at : ℕ → List ℕ → List ℕ × List ℕ
@@ -28,7 +28,7 @@ cut_at n b = (take n b, drop n b)
 
 -- the packet at the front and what comes behind it, where it has come whole
 unfoldable pub front_of : List ℕ → Option (List ℕ × List ℕ)
-front_of b = if nat_lt (length b) (wanted b) then None else Some (cut_at (7 + word_at b 4) b)
+front_of b = if nat_lt (length b) (octets_wanted b) then None else Some (cut_at (7 + word_at b 4) b)
 
 -- ---- the stream
 

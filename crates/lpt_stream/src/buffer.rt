@@ -5,7 +5,7 @@ ghost use Rattle.lpt_search.specs.Searches.{Knows};
 ghost use Rattle.lpt_stream.specs.Pieces.{most_kept};
 
 use crate::cutting::whole_length;
-use crate::found::{Found, announced, other_in_front, packet_unless};
+use crate::found::{Found, length_announced, other_in_front, packet_unless};
 use crate::waiting::waits;
 use crate::{Cut, Peer, PieceKind};
 use lpt_search::Search;
@@ -50,12 +50,12 @@ impl PacketBuffer {
     ghost use Rattle.std.specs.Prelude.{◌≡◌, ◌≢◌, ◌⊎◌, ◌+◌, ◌<◌, [], drop, take, true, false, None, Err, IfSome, OnOk};
     ghost use Rattle.std.specs.Io.KnownBytes.{Keeps};
     ghost use Rattle.lpt_text.specs.Streams.{WriteEnds};
-    ghost use Rattle.lpt_stream.specs.Buffers.{cut_of, held, is_ended, is_in_step, kept, Fills, FindsPassing, IsInFront, IsUnsettled};
+    ghost use Rattle.lpt_stream.specs.Buffers.{cut_of, octets_held, is_ended, is_in_step, octets_kept, Fills, FindsPassing, IsInFront, IsUnsettled};
     ghost use Rattle.lpt_stream.specs.Pieces.{begins_by, is_framed, keeps_step, lookahead, waits_by};
 
     /// A stream of which nothing was read.
     pub fn new(alloc: Global, cut: Cut) -> Self
-        ensures held { held result ≡ [] }
+        ensures held { octets_held result ≡ [] }
         ensures cut { cut_of result ≡ cut }
         ensures step { is_in_step result ≡ true }
         ensures end { is_ended result ≡ false }
@@ -72,23 +72,23 @@ impl PacketBuffer {
     }
 
     /// The octets that were read and not passed over yet.
-    pub fn held(&self) -> &[u8]
-        ensures { result.now ≡ held self.now }
+    pub fn octets_held(&self) -> &[u8]
+        ensures { result.now ≡ octets_held self.now }
     {
         &self.octets[self.start..self.end]
     }
 
     /// Cites for how many octets there is room, of which some are held.
     pub fn few_are_kept(&self)
-        ensures { length (kept self.now) ≤ most_kept }
+        ensures { length (octets_kept self.now) ≤ most_kept }
     {
         let _start = self.start;
     }
 
     /// Passes over the piece that was found in front.
     pub fn skip(&mut self, found: Found)
-        requires { found.len ≤ length (held self.old) }
-        ensures held { held self.new ≡ drop found.len (held self.old) }
+        requires { found.len ≤ length (octets_held self.old) }
+        ensures held { octets_held self.new ≡ drop found.len (octets_held self.old) }
         ensures cut { cut_of self.new ≡ cut_of self.old }
         ensures step { is_in_step self.new ≡ keeps_step found.kind }
         ensures end { is_ended self.new ≡ is_ended self.old }
@@ -122,7 +122,7 @@ impl PacketBuffer {
     {
         let mut is_judged = self.shows_none();
         loop {
-            match self.settled(is_judged) {
+            match self.piece_settled(is_judged) {
                 Some(found) => return Ok(Some(found)),
                 None if self.ended => return Ok(None),
                 None => {}
@@ -141,14 +141,15 @@ impl PacketBuffer {
 
     // The piece in front, as soon as nothing that may come behind the octets that are held can
     // change it. Where it is judged already that no packet is there, that isn't looked at again.
-    fn settled(&self, is_judged: bool) -> Option<Found>
+    fn piece_settled(&self, is_judged: bool) -> Option<Found>
         requires { is_judged ≡ true
-            → begins_by (cut_of self.now) (is_in_step self.now) (take lookahead (held self.now))
+            → begins_by (cut_of self.now) (is_in_step self.now)
+            (take lookahead (octets_held self.now))
             ≡ false }
         ensures some { IfSome result (IsInFront self.now) }
         ensures none { result ≡ None → IsUnsettled self.now }
     {
-        let octets = self.held();
+        let octets = self.octets_held();
         if octets.is_empty() {
             return None;
         }
@@ -172,9 +173,10 @@ impl PacketBuffer {
     // checksum of what a header there announces is wrong.
     fn shows_none(&mut self) -> bool
         ensures none { result ≡ true
-            → begins_by (cut_of self.new) (is_in_step self.new) (take lookahead (held self.new))
+            → begins_by (cut_of self.new) (is_in_step self.new)
+            (take lookahead (octets_held self.new))
             ≡ false }
-        ensures held { held self.new ≡ held self.old }
+        ensures held { octets_held self.new ≡ octets_held self.old }
         ensures cut { cut_of self.new ≡ cut_of self.old }
         ensures step { is_in_step self.new ≡ is_in_step self.old }
         ensures end { is_ended self.new ≡ is_ended self.old }
@@ -183,7 +185,7 @@ impl PacketBuffer {
             return false;
         }
         let octets = &self.octets[self.start..self.end];
-        match announced(&octets[..LOOKAHEAD.min(octets.len())]) {
+        match length_announced(&octets[..LOOKAHEAD.min(octets.len())]) {
             Some(len) => !self.search.may_fit(octets, len),
             None => false,
         }
@@ -204,16 +206,16 @@ impl PacketBuffer {
 
     // Whether as many octets are held as the header in front says.
     fn is_framed(&self) -> bool
-        ensures { result ≡ is_framed (held self.now) }
+        ensures { result ≡ is_framed (octets_held self.now) }
     {
-        whole_length(self.held()).is_some()
+        whole_length(self.octets_held()).is_some()
     }
 
     // Reads some octets behind those that are held, or the stream's end, where a sink has passed on
     // all that was written to it.
     fn fill_passing<P: Peer, K: Sink>(&mut self, peer: &mut P, out: &K) -> Result<(), StreamFault>
         requires more { is_ended self.old ≡ false }
-        requires few { length (held self.old) < lookahead }
+        requires few { length (octets_held self.old) < lookahead }
         requires flushed { K.flushed out.now ≡ K.contents out.now }
         ensures { Fills result self.old self.new (P.remaining peer.old) (P.remaining peer.new)
             (P.failed peer.old) (P.failed peer.new) }
@@ -233,9 +235,9 @@ impl PacketBuffer {
 
     // Moves what is held to the front.
     fn compact(&mut self)
-        ensures held { held self.new ≡ held self.old }
+        ensures held { octets_held self.new ≡ octets_held self.old }
         ensures front { self.new.start ≡ 0 }
-        ensures last { self.new.end ≡ length (held self.old) }
+        ensures last { self.new.end ≡ length (octets_held self.old) }
         ensures step { is_in_step self.new ≡ is_in_step self.old }
         ensures cut { cut_of self.new ≡ cut_of self.old }
         ensures end { is_ended self.new ≡ is_ended self.old }
@@ -248,7 +250,7 @@ impl PacketBuffer {
     // Makes room behind it for what a read gives.
     fn make_room(&mut self) -> Result<(), AllocError>
         requires { self.old.end < lookahead }
-        ensures held { held self.new ≡ held self.old }
+        ensures held { octets_held self.new ≡ octets_held self.old }
         ensures front { self.new.start ≡ self.old.start }
         ensures last { self.new.end ≡ self.old.end }
         ensures room { OnOk result (self.new.end + 65536 ≤ length self.new.octets.items) }

@@ -143,7 +143,7 @@ pub fn take_pieces<P: Peer, K: Sink, W, T: Taker<K, W>>(
         let Some(found) = buffer.find_piece_passing(source, out)? else {
             return Ok(taker);
         };
-        let octets = &buffer.held()[..found.len];
+        let octets = &buffer.octets_held()[..found.len];
         taker = taker.take(alloc, out, lent, place, found.kind, octets)?;
         place = place.saturating_add(found.len as u64);
         buffer.skip(found);

@@ -123,7 +123,7 @@ pub(crate) fn packet_unless(is_judged: bool, cut: Cut, bytes: &[u8], in_step: bo
 
 // How many octets the packet has that the header in front announces, where they have all come. If
 // their checksum isn't 0, no packet begins there, behind octets that are none.
-pub(crate) fn announced(bytes: &[u8]) -> Option<usize>
+pub(crate) fn length_announced(bytes: &[u8]) -> Option<usize>
     ensures within { IfSome result (λ n. n ≤ length bytes.now) }
     ensures short { IfSome result (λ n. n ≤ longest_packet) }
     ensures none { IfSome result (λ n. checksum (take n bytes.now) ≢ 0

@@ -7,7 +7,7 @@ ghost use Rattle.lpt_stream.specs.Pieces.{begins, lookahead};
 ghost use Rattle.lpt_stream.specs.Strays.{is_octet_of_none, is_stray, strays_in};
 
 use crate::PieceKind;
-use crate::found::announced;
+use crate::found::length_announced;
 use crate::front::{LOOKAHEAD, piece_unless};
 use lpt_packet::LONGEST_PACKET;
 use lpt_search::Marks;
@@ -67,7 +67,7 @@ fn shows_none(marks: &mut Marks, room: &mut [u16], octets: &[u8], at: usize) -> 
         → begins false (take lookahead (drop at octets.now)) ≡ false }
 {
     let front = &octets[at..];
-    match announced(&front[..LOOKAHEAD.min(front.len())]) {
+    match length_announced(&front[..LOOKAHEAD.min(front.len())]) {
         Some(len) => !marks.may_fit(room, octets, at, len),
         None => false,
     }

@@ -7,7 +7,7 @@ use Rattle.lpt_pus.specs.Codes.{number_of}
 use Rattle.lpt_pus.specs.Commands.{Command, command_in}
 use Rattle.lpt_pus.specs.Numbers.{long_at}
 use Rattle.lpt_memory.specs.Memories.{Contents}
-use Rattle.lpt_verify.specs.Reports.{success_if, failure, asks, accepted as acceptance, started, completed}
+use Rattle.lpt_verify.specs.Reports.{success_if, failure, asks, acceptance_reports as acceptance, start_reports, completion_reports}
 use Rattle.lpt_events.specs.declared.config.Config.{Config}
 use Rattle.lpt_execution.specs.declared.ending.Ending.{Ending}
 use Rattle.lpt_execution.specs.declared.ending.Ending.TheVariants.{Silent, Refused, Carried}
@@ -15,7 +15,7 @@ use Rattle.lpt_execution.specs.declared.ending.Report.{Report}
 use Rattle.lpt_execution.specs.Endings.{is_small}
 use Rattle.lpt_execution.specs.Reporting.{verification, data_report, reports_of, message_reports, request_source, link_packets}
 use Rattle.lpt_jobs.specs.Jobs.{Head, NoJob as NoHead, NotReady, Ready, head_of}
-use Rattle.lpt_node.specs.Jobs.{report_packets, ending_at, executed_of, executed}
+use Rattle.lpt_node.specs.Jobs.{report_packets, ending_at, executed_of, job_executed}
 use Rattle.lpt_node.specs.Nodes.{Sending, NodeData}
 use Rattle.lpt_node.specs.Sending.{counted_kind}
 
@@ -40,8 +40,8 @@ few_of request flags (Refused code) = go (nat_le (number_of code) 2) where
         one_if (asks flags 1) request 1,
       )
 few_of request flags (Carried r) =
-    let before = acceptance request flags ++ started request flags in
-    let after = completed request flags in
+    let before = acceptance request flags ++ start_reports request flags in
+    let after = completion_reports request flags in
     let all : length (reports_of request flags (Carried r))
     ≡ length (map verification before ++ data_report r) + length (map verification after) =
     length-append (map verification before ++ data_report r) (map verification after) in
@@ -51,7 +51,7 @@ few_of request flags (Carried r) =
       length-append (map verification before) (data_report r),
       length-map before verification,
       length-map after verification,
-      length-append (acceptance request flags) (started request flags),
+      length-append (acceptance request flags) (start_reports request flags),
       one_if (asks flags 1) request 1,
       one_if (asks flags 2) request 3,
       one_if (asks flags 8) request 7,
@@ -85,7 +85,7 @@ length-report_packets c peer s clock (r ∷ rs) =
 
 -- an execution puts four packets on the link at most
 pub few_packets : (c : Config) (d : NodeData) (ms : Contents)
-    → length (executed c d ms).0.1.packets ≤ 4
+    → length (job_executed c d ms).0.1.packets ≤ 4
 few_packets c d ms = go (head_of d.jobs.jobs) where
   go : (at : Head) → length (executed_of c d ms at).0.1.packets ≤ 4
   go NoHead = omega arith

@@ -3,7 +3,7 @@
 use Rattle.std.specs.Prelude.{◌≡◌}
 use Rattle.lpt_events.specs.declared.config.Config.{Config}
 use Rattle.lpt_events.specs.declared.side.Side.TheVariants.{Ground, Craft}
-use Rattle.lpt_jobs.specs.Jobs.{numbered}
+use Rattle.lpt_jobs.specs.Jobs.{jobs_numbered}
 use Rattle.lpt_node.specs.Nodes.{NodeView}
 use Rattle.lpt_events.specs.Configs.{IsConfig}
 
@@ -13,4 +13,4 @@ pub record IsSound (c : Config) (on_ground on_craft : NodeView) : Type 0 where
   pub ground_config : on_ground.config ≡ c
   pub craft_side : on_craft.side ≡ Craft
   pub craft_config : on_craft.config ≡ c
-  pub ground_jobs : numbered on_ground.at.jobs ≡ 0
+  pub ground_jobs : jobs_numbered on_ground.at.jobs ≡ 0

@@ -4,8 +4,8 @@ ghost use Rattle.std.specs.Prelude.{◌≡◌, ◌+◌, ◌<◌, ◌↔◌, ◌^
 ghost use Rattle.std.specs.Vec.{vec_capacity};
 ghost use Rattle.lpt_events.specs.Lanes.{lane_direction};
 ghost use Rattle.lpt_events.specs.Sides.{receiver_side};
-ghost use Rattle.lpt_jobs.specs.Jobs.{numbered};
-ghost use Rattle.lpt_node.specs.Accepting.{accepted};
+ghost use Rattle.lpt_jobs.specs.Jobs.{jobs_numbered};
+ghost use Rattle.lpt_node.specs.Accepting.{packet_accepted};
 ghost use Rattle.lpt_node.specs.ParsedViews.{arrival_from};
 ghost use Rattle.lpt_link.specs.Links.{after_drop, packet_in_hand, refusal_drop};
 ghost use Rattle.lpt_model.specs.Events.{refusal_of, after};
@@ -27,7 +27,7 @@ impl System {
     #[inline(always)]
     pub(crate) fn deliver(&mut self, place: u64, lane: Lane) -> Result<Reply, AllocError>
         requires free { refusal_of self.old.config (state_of self.old) (Event.Deliver lane) ≡ None }
-        requires numbers { numbered self.old.on_craft.at.jobs + 1 < 2 ^ 64 }
+        requires numbers { jobs_numbered self.old.on_craft.at.jobs + 1 < 2 ^ 64 }
         ensures ok { IfOk result (λ r. (state_of self.new, r)
             ≡ after self.old.config place (state_of self.old) (Event.Deliver lane)) }
         ensures err { OnErr result (state_of self.new ≡ state_of self.old) }
@@ -36,7 +36,7 @@ impl System {
         self.released.reserve(1)?;
         self.link.reserve(1, None)?;
         let accepted = self.receive_held(lane)?;
-        Ok(self.delivered(place, lane, accepted))
+        Ok(self.packet_delivered(place, lane, accepted))
     }
 
     /// Delivers what is in a lane's hand, which was read before. The only error is out of memory;
@@ -44,7 +44,7 @@ impl System {
     pub fn deliver_read(&mut self, place: u64, lane: Lane, parsed: Parsed) -> Result<Reply, Parsed>
         requires full { refusal_of self.old.config (state_of self.old) (Event.Deliver lane) ≡ None }
         requires read { IsReadOf self.old.config (octets_held self.old.link.at lane) lane parsed }
-        requires numbers { numbered self.old.on_craft.at.jobs + 1 < 2 ^ 64 }
+        requires numbers { jobs_numbered self.old.on_craft.at.jobs + 1 < 2 ^ 64 }
         ensures ok { IfOk result (λ r. (state_of self.new, r)
             ≡ after self.old.config place (state_of self.old) (Event.Deliver lane)) }
         ensures back { IfErr result (λ p. p ≡ parsed) }
@@ -55,12 +55,12 @@ impl System {
             return Err(parsed);
         }
         let accepted = self.receive(lane, parsed)?;
-        Ok(self.delivered(place, lane, accepted))
+        Ok(self.packet_delivered(place, lane, accepted))
     }
 
     // Notes what a receiver made of the packet in a lane's hand, which is empty then.
     #[inline(always)]
-    fn delivered(&mut self, place: u64, lane: Lane, accepted: Accepted) -> Reply
+    fn packet_delivered(&mut self, place: u64, lane: Lane, accepted: Accepted) -> Reply
         requires room { vec_len self.old.released < vec_capacity self.old.released }
         requires spare { 0 < self.old.link.spare }
         requires full { refusal_drop self.old.link.at lane ≡ None }
@@ -85,9 +85,9 @@ impl System {
     #[inline(always)]
     fn receive_held(&mut self, lane: Lane) -> Result<Accepted, AllocError>
         requires full { refusal_of self.old.config (state_of self.old) (Event.Deliver lane) ≡ None }
-        requires numbers { numbered self.old.on_craft.at.jobs + 1 < 2 ^ 64 }
+        requires numbers { jobs_numbered self.old.on_craft.at.jobs + 1 < 2 ^ 64 }
         ensures ok { IfOk result (λ r. IsAccepted (state_of self.old) lane (state_of self.new) r
-            (accepted (receiver_side (lane_direction lane)) self.old.config
+            (packet_accepted (receiver_side (lane_direction lane)) self.old.config
             (end_of (state_of self.old) (receiver_side (lane_direction lane)))
             (arrival_held self.old.config (lane_direction lane) (packet_in_hand self.old.link.at lane)))) }
         ensures err { OnErr result (state_of self.new ≡ state_of self.old) }
@@ -107,9 +107,9 @@ impl System {
         requires side { parsed.side ≡ receiver_side (lane_direction lane) }
         requires apid { parsed.apid ≡ self.old.config.apid }
         requires part_size { parsed.p ≡ self.old.config.part_size }
-        requires numbers { numbered self.old.on_craft.at.jobs + 1 < 2 ^ 64 }
+        requires numbers { jobs_numbered self.old.on_craft.at.jobs + 1 < 2 ^ 64 }
         ensures ok { IfOk result (λ r. IsAccepted (state_of self.old) lane (state_of self.new) r
-            (accepted (receiver_side (lane_direction lane)) self.old.config
+            (packet_accepted (receiver_side (lane_direction lane)) self.old.config
             (end_of (state_of self.old) (receiver_side (lane_direction lane))) (arrival_from parsed))) }
         ensures back { IfErr result (λ p. p ≡ parsed) }
         ensures err { OnErr result (state_of self.new ≡ state_of self.old) }

@@ -3,7 +3,7 @@
 
 ghost use Rattle.std.specs.Prelude.{◌≡◌, ◌+◌, ◌<◌, ◌≤◌, ◌^◌, IfOk, IfSome, OnErr, None, Some, length};
 ghost use Rattle.std.specs.Option.{option_map};
-ghost use Rattle.lpt_jobs.specs.Jobs.{numbered};
+ghost use Rattle.lpt_jobs.specs.Jobs.{jobs_numbered};
 ghost use Rattle.lpt_link.specs.Counts.{HasPlace};
 ghost use Rattle.lpt_link.specs.Links.{after_put};
 ghost use Rattle.lpt_node.specs.Asking.{refusal_of as node_refusal};
@@ -113,7 +113,7 @@ impl System {
     pub fn apply(&mut self, place: u64, event: &Event) -> Result<Reply, AllocError>
         requires free { refusal_of self.old.config (state_of self.old) event.now ≡ None }
         requires ready { IsReady self.old.config (state_of self.old) event.now }
-        requires numbers { numbered self.old.on_craft.at.jobs + 1 < 2 ^ 64 }
+        requires numbers { jobs_numbered self.old.on_craft.at.jobs + 1 < 2 ^ 64 }
         requires boots { (side : Side) → (end_of (state_of self.old) side).boot + 1 < 2 ^ 64 }
         ensures ok { IfOk result (λ r. (state_of self.new, r) ≡ after self.old.config place (state_of self.old) event.now) }
         ensures err { OnErr result (state_of self.new ≡ state_of self.old) }

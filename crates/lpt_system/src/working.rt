@@ -4,7 +4,7 @@ ghost use Rattle.std.specs.Prelude.{◌≡◌, ◌≤◌, Some, None, IfOk, OnEr
 ghost use Rattle.std.specs.Option.{option_map};
 ghost use Rattle.lpt_packet.specs.declared.direction.Direction.TheVariants.{Down};
 ghost use Rattle.lpt_jobs.specs.Jobs.{is_claimed};
-ghost use Rattle.lpt_node.specs.Jobs.{committed};
+ghost use Rattle.lpt_node.specs.Jobs.{job_committed};
 ghost use Rattle.lpt_model.specs.Events.{after, refusal_of, IsReady};
 ghost use Rattle.lpt_model.specs.State.{put_all, put_some, commit_told, quiet as quiet_reply};
 ghost use Rattle.lpt_model.specs.Tickets.{ticket_of};
@@ -112,10 +112,11 @@ impl System {
         requires { prepared.boot ≡ self.old.on_craft.at.boot
             → IsTrue (is_claimed self.old.on_craft.at.jobs prepared.job) }
         ensures state { state_of self.new ≡ record (state_of self.old) {
-          on_craft = (committed self.old.on_craft.at prepared.boot prepared.job prepared.read).0;
+          on_craft =
+              (job_committed self.old.on_craft.at prepared.boot prepared.job prepared.read).0;
         } }
         ensures reply { result ≡ quiet_reply (commit_told
-            (committed self.old.on_craft.at prepared.boot prepared.job prepared.read).1
+            (job_committed self.old.on_craft.at prepared.boot prepared.job prepared.read).1
             (record { boot = prepared.boot; job = prepared.job; message = prepared.read.message })) }
         ensures config { self.new.config ≡ self.old.config }
     {

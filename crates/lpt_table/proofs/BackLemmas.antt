@@ -21,7 +21,7 @@ use Rattle.lpt_packet.proofs.KeyLemmas.{both, first, second, less}
 use Rattle.lpt_packet.proofs.NameLemmas.{name_cmp-IsAntisymmetric, name_cmp_total}
 use Rattle.lpt_packet.specs.Names.{Name, name_before, name_cmp}
 use Rattle.lpt_reception.specs.Received.{Received}
-use Rattle.lpt_table.specs.declared.places.Place.{Place}
+use Rattle.lpt_table.specs.declared.places.DuePlace.{DuePlace}
 use Rattle.lpt_table.specs.Deadlines.{IsDue, IsDueEntry, due_of}
 use Rattle.lpt_table.specs.EntriesOf.{IsHeld, IsListed, entry_at, entries_of, map_of}
 use Rattle.lpt_table.specs.Places.{AreApart, by_moment, by_name, when_cmp}
@@ -59,7 +59,7 @@ get-set_back ticks m q =
 -- ---- places
 
 -- what is found of places that are set back
-find-back : (ticks : ℕ) (q : Name) (xs : List Place)
+find-back : (ticks : ℕ) (q : Name) (xs : List DuePlace)
     → find name_cmp q (by_name (mapped (place_earlier ticks) xs))
     ≡ option_map (place_earlier ticks) (find name_cmp q (by_name xs))
 find-back ticks q [] = refl
@@ -72,14 +72,14 @@ find-back ticks q (x ∷ xs) =
       | false ↦ find-back ticks q xs
     ]
 
-twice : (ticks : ℕ) (s : Slab Received) (r : Option Place)
+twice : (ticks : ℕ) (s : Slab Received) (r : Option DuePlace)
     → option_map (entry_at s) (option_map (place_earlier ticks) r)
     ≡ option_map (earlier ticks) (option_map (entry_at s) r)
 twice ticks s None = refl
 twice ticks s (Some x) = refl
 
 -- the map of places that are set back
-pub back-map : (ticks : ℕ) (s : Slab Received) (xs : List Place)
+pub back-map : (ticks : ℕ) (s : Slab Received) (xs : List DuePlace)
     → map_of s (mapped (place_earlier ticks) xs) ≡ set_back ticks (map_of s xs)
 back-map ticks s xs =
     same_map name_cmp_total name_cmp-IsAntisymmetric _ _ (λ q.
@@ -89,7 +89,7 @@ back-map ticks s xs =
     ∙ ap (option_map (earlier ticks)) (sym (get-map_of s xs q))
     ∙ sym (get-set_back ticks (map_of s xs) q))
 
-apart-back : (n : ℕ) (xs : List Place)
+apart-back : (n : ℕ) (xs : List DuePlace)
     → AreApart name_cmp (by_name xs)
     → AreApart name_cmp (by_name (mapped (place_earlier n) xs))
 apart-back n [] h = tt
@@ -99,7 +99,7 @@ apart-back n (x ∷ xs) h = (
 )
 
 -- it has as many receptions
-pub back-len : (ticks : ℕ) (s : Slab Received) (xs : List Place)
+pub back-len : (ticks : ℕ) (s : Slab Received) (xs : List DuePlace)
     → AreApart name_cmp (by_name xs)
     → map.len (map_of s (mapped (place_earlier ticks) xs)) ≡ map.len (map_of s xs)
 back-len ticks s xs h =
@@ -110,19 +110,20 @@ back-len ticks s xs h =
 -- ---- the order of places
 
 -- no last tick of these places is below so many
-abbrev pub AreLate : ℕ → List Place → Type 0
-AreLate n xs = All (λ (x : Place). n ≤ x.last) xs
+abbrev pub AreLate : ℕ → List DuePlace → Type 0
+AreLate n xs = All (λ (x : DuePlace). n ≤ x.last) xs
 
-all-first : (n : ℕ) (x : Place) (xs : List Place) → AreLate n (x ∷ xs) → n ≤ x.last
+all-first : (n : ℕ) (x : DuePlace) (xs : List DuePlace) → AreLate n (x ∷ xs) → n ≤ x.last
 all-first n x xs g = g 0 x (omega arith)
 
-all-rest : (n : ℕ) (x : Place) (xs : List Place) → AreLate n (x ∷ xs) → AreLate n xs
+all-rest : (n : ℕ) (x : DuePlace) (xs : List DuePlace) → AreLate n (x ∷ xs) → AreLate n xs
 all-rest n x xs g = λ k d l. g (suc k) d (omega arith)
 
 all-none : (n : ℕ) → AreLate n []
 all-none n = λ k d l. absurd (omega arith)
 
-all-more : (n : ℕ) (x : Place) (xs : List Place) → n ≤ x.last → AreLate n xs → AreLate n (x ∷ xs)
+all-more : (n : ℕ) (x : DuePlace) (xs : List DuePlace) → n ≤ x.last → AreLate n xs
+    → AreLate n (x ∷ xs)
 all-more n x xs p g zero d l = p
 all-more n x xs p g (suc k) d l = g k d (omega arith)
 
@@ -138,7 +139,7 @@ cmp-back n a b f g =
           sym (nat_cmp_is (a - n) (b - n) Greater (omega arith))
     ] refl
 
-below-back : (n a : ℕ) (name : Name) (xs : List Place)
+below-back : (n a : ℕ) (name : Name) (xs : List DuePlace)
     → n ≤ a
     → AreLate n xs
     → T (below_all when_cmp (a, name) (by_moment xs))
@@ -154,7 +155,7 @@ below-back n a name (x ∷ xs) f g h =
     (first here rest h))
     (below-back n a name xs f (all-rest n x xs g) (second here rest h))
 
-sorted-back : (n : ℕ) (xs : List Place)
+sorted-back : (n : ℕ) (xs : List DuePlace)
     → AreLate n xs
     → T (is_sorted when_cmp (by_moment xs))
     → T (is_sorted when_cmp (by_moment (mapped (place_earlier n) xs)))
@@ -168,7 +169,7 @@ sorted-back n (x ∷ xs) g h =
     (sorted-back n xs (all-rest n x xs g) (second below rest h))
 
 -- what stands behind a tick is no earlier
-all-behind : (n : ℕ) (m : ℕ × Name) (xs : List Place)
+all-behind : (n : ℕ) (m : ℕ × Name) (xs : List DuePlace)
     → n ≤ m.0
     → T (below_all when_cmp m (by_moment xs))
     → AreLate n xs
@@ -180,7 +181,7 @@ all-behind n m (x ∷ xs) f h =
     earlier_tick m.0 x.last (name_cmp m.1 x.name) (less _ (first here rest h)) in
     all-more n x xs (omega arith) (all-behind n m xs f (second here rest h))
 
-reaching : (n : ℕ) (xs : List Place)
+reaching : (n : ℕ) (xs : List DuePlace)
     → T (is_sorted when_cmp (by_moment xs))
     → option_map_or (λ last. nat_le n last) (first_last xs) true ≡ true
     → AreLate n xs
@@ -193,7 +194,7 @@ reaching n (x ∷ xs) up h =
     (is_sorted when_cmp (by_moment xs)) up))
 
 -- where the map reaches back, each place does
-pub all-reach : (n : ℕ) (s : Slab Received) (xs : List Place)
+pub all-reach : (n : ℕ) (s : Slab Received) (xs : List DuePlace)
     → T (is_sorted when_cmp (by_moment xs))
     → reaches_back n (map_of s xs) ≡ true
     → AreLate n xs
@@ -202,7 +203,7 @@ all-reach n s xs up h =
     (ap (λ (r : Option ℕ). option_map_or (λ last. nat_le n last) r true) (first-least s xs up) ∙ h)
 
 -- what a list has once these places were written over its own
-pub written-back : {Z : Type 0} (v : Vec Place Z) (ws zs : List Place) (n : ℕ)
+pub written-back : {Z : Type 0} (v : Vec DuePlace Z) (ws zs : List DuePlace) (n : ℕ)
     → ws ≡ mapped (place_earlier n) zs
     → zs ≡ v.items
     → (with_items v ws).items ≡ mapped (place_earlier n) v.items
@@ -213,24 +214,24 @@ written-back v ws zs n f g =
     ∙ is
 
 -- a place that is found among those that are set back was found, and has the key that it had
-found-back : (n : ℕ) (q : Name) (xs : List Place) (x : Place)
+found-back : (n : ℕ) (q : Name) (xs : List DuePlace) (x : DuePlace)
     → find name_cmp q (by_name (mapped (place_earlier n) xs)) ≡ Some x
-    → (y : Place) × ((find name_cmp q (by_name xs) ≡ Some y) × (x.key ≡ y.key))
+    → (y : DuePlace) × ((find name_cmp q (by_name xs) ≡ Some y) × (x.key ≡ y.key))
 found-back n q xs x is =
     go (find name_cmp q (by_name xs)) refl where
-      go : (r : Option Place)
+      go : (r : Option DuePlace)
           → find name_cmp q (by_name xs) ≡ r
-          → (y : Place) × ((find name_cmp q (by_name xs) ≡ Some y) × (x.key ≡ y.key))
+          → (y : DuePlace) × ((find name_cmp q (by_name xs) ≡ Some y) × (x.key ≡ y.key))
       go None e =
-          absurd (let no : ◌≡◌ {A = Option Place} None (Some x) =
+          absurd (let no : ◌≡◌ {A = Option DuePlace} None (Some x) =
           sym (find-back n q xs ∙ ap (option_map (place_earlier n)) e) ∙ is in cc)
       go (Some y) e =
-          let same : ◌≡◌ {A = Option Place} (Some (place_earlier n y)) (Some x) =
+          let same : ◌≡◌ {A = Option DuePlace} (Some (place_earlier n y)) (Some x) =
           sym (find-back n q xs ∙ ap (option_map (place_earlier n)) e) ∙ is in
-          (y, (e, sym (ap (λ (z : Place). z.key) (inside (place_earlier n y) x same))))
+          (y, (e, sym (ap (λ (z : DuePlace). z.key) (inside (place_earlier n y) x same))))
 
 -- the list stays sound
-pub back-listed : (limit p capacity more n : ℕ) (s : Slab Received) (xs : List Place)
+pub back-listed : (limit p capacity more n : ℕ) (s : Slab Received) (xs : List DuePlace)
     → IsListed limit p capacity s xs
     → AreLate n xs
     → capacity ≤ more

@@ -12,7 +12,7 @@ use Rattle.lpt_packet.proofs.NameLemmas.{name_cmp_total, name_before-refl, name_
 use Rattle.lpt_packet.specs.Names.{Name, name_before, name_cmp}
 use Rattle.lpt_part.specs.declared.mode.Mode.TheVariants.{Any}
 use Rattle.lpt_reception.specs.Received.{Received}
-use Rattle.lpt_table.specs.declared.places.Place.{Place}
+use Rattle.lpt_table.specs.declared.places.DuePlace.{DuePlace}
 use Rattle.lpt_table.specs.Deadlines.{IsDue, due_of, soonest}
 use Rattle.lpt_table.specs.EntriesOf.{entry_at, entries_of, map_of}
 use Rattle.lpt_table.specs.Places.{by_moment, when_cmp, first_overdue}
@@ -23,7 +23,7 @@ use Rattle.lpt_table.proofs.OrderLemmas.{earlier_tick, earlier_name}
 use Rattle.lpt_packet.proofs.KeyLemmas.{less, first, second}
 
 -- what stands behind a moment is later
-behind : (m : ℕ × Name) (s : Slab Received) (xs : List Place) (q : Name) (f : TableEntry)
+behind : (m : ℕ × Name) (s : Slab Received) (xs : List DuePlace) (q : Name) (f : TableEntry)
     → T (below_all when_cmp m (by_moment xs))
     → find name_cmp q (entries_of s xs) ≡ Some f
     → when_cmp m (f.last, q) ≡ Less
@@ -45,7 +45,7 @@ behind m s (x ∷ xs) q f up g =
           behind m s xs q f (second earlier (below_all when_cmp m (by_moment xs)) up) h
     ] refl g
 
-module _ (s : Slab Received) (x : Place) (xs : List Place)
+module _ (s : Slab Received) (x : DuePlace) (xs : List DuePlace)
     (up : T (is_sorted when_cmp (by_moment (x ∷ xs)))) where
   -- what is found is the first one or later
   cases : (q : Name) (f : TableEntry)
@@ -84,16 +84,16 @@ module _ (s : Slab Received) (x : Place) (xs : List Place)
   ]
 
 -- the receptions at these places, under this timeout
-abbrev at_places : ℕ → Slab Received → List Place → TableState
+abbrev at_places : ℕ → Slab Received → List DuePlace → TableState
 at_places timeout s xs =
     record { limit = 0; timeout = timeout; p = 0; mode = Any; entries = map_of s xs; out = None }
 
-found : (s : Slab Received) (xs : List Place) (q : Name) (f : TableEntry)
+found : (s : Slab Received) (xs : List DuePlace) (q : Name) (f : TableEntry)
     → map.get (map_of s xs) q ≡ Some f
     → find name_cmp q (entries_of s xs) ≡ Some f
 found s xs q f g = sym (get-from_entries name_cmp_total (entries_of s xs) q) ∙ g
 
-first_is_due : (timeout now : ℕ) (s : Slab Received) (xs : List Place)
+first_is_due : (timeout now : ℕ) (s : Slab Received) (xs : List DuePlace)
     → T (is_sorted when_cmp (by_moment xs))
     → IsDue (at_places timeout s xs) now (first_overdue timeout now xs)
 first_is_due timeout now s [] up = λ q f g. absurd (let none = found s [] q f g in cc)
@@ -121,7 +121,7 @@ first_is_due timeout now s (x ∷ xs) up =
     ] refl
 
 -- the first place is that of the reception that is due
-pub first_overdue-is : (timeout now : ℕ) (s : Slab Received) (xs : List Place)
+pub first_overdue-is : (timeout now : ℕ) (s : Slab Received) (xs : List DuePlace)
     → T (is_sorted when_cmp (by_moment xs))
     → first_overdue timeout now xs
     ≡ option_map (λ (b : Name × ℕ). b.0) (soonest timeout now (map.entries (map_of s xs)))

@@ -11,7 +11,7 @@ use Rattle.slab.specs.Slab.{Slab, get}
 use Rattle.lpt_packet.proofs.NameLemmas.{name_cmp_total, name_tied, same_name-refl, same_name-true}
 use Rattle.lpt_packet.specs.Names.{Name, name_cmp, same_name}
 use Rattle.lpt_reception.specs.Received.{Received}
-use Rattle.lpt_table.specs.declared.places.Place.{Place}
+use Rattle.lpt_table.specs.declared.places.DuePlace.{DuePlace}
 use Rattle.lpt_table.specs.EntriesOf.{entry_at, parts_in, entries_of, map_of}
 use Rattle.lpt_table.specs.EntryLists.{Listing}
 use Rattle.lpt_table.specs.Places.{by_name, AreApart}
@@ -35,15 +35,15 @@ inside x y e = cc
 -- ---- the places and the map
 
 -- a place under its name
-abbrev pub under_name : Place → Name × Place
+abbrev pub under_name : DuePlace → Name × DuePlace
 under_name x = (x.name, x)
 
 -- it has as many entries as there are places
-pub length-by_name : (xs : List Place) → length (by_name xs) ≡ length xs
+pub length-by_name : (xs : List DuePlace) → length (by_name xs) ≡ length xs
 length-by_name xs = length-map xs under_name
 
 -- what is found of the receptions is what is kept at the place of the name
-find-entries_of : (s : Slab Received) (q : Name) (xs : List Place)
+find-entries_of : (s : Slab Received) (q : Name) (xs : List DuePlace)
     → find name_cmp q (entries_of s xs) ≡ option_map (entry_at s) (find name_cmp q (by_name xs))
 find-entries_of s q [] = refl
 find-entries_of s q (x ∷ xs) =
@@ -55,11 +55,11 @@ find-entries_of s q (x ∷ xs) =
     ]
 
 -- so what the map has is what is kept at the place of the name
-pub get-map_of : (s : Slab Received) (xs : List Place) (q : Name)
+pub get-map_of : (s : Slab Received) (xs : List DuePlace) (q : Name)
     → maps.get (map_of s xs) q ≡ option_map (entry_at s) (find name_cmp q (by_name xs))
 get-map_of s xs q = get-from_entries name_cmp_total (entries_of s xs) q ∙ find-entries_of s q xs
 
-AreApart-entries_of : (s : Slab Received) (xs : List Place)
+AreApart-entries_of : (s : Slab Received) (xs : List DuePlace)
     → AreApart name_cmp (by_name xs)
     → AreApart name_cmp (entries_of s xs)
 AreApart-entries_of s [] h = tt
@@ -69,28 +69,29 @@ AreApart-entries_of s (x ∷ xs) h = (
 )
 
 -- as many receptions are open as there are places
-pub len-map_of : (s : Slab Received) (xs : List Place)
+pub len-map_of : (s : Slab Received) (xs : List DuePlace)
     → AreApart name_cmp (by_name xs)
     → maps.len (map_of s xs) ≡ length xs
 len-map_of s xs h =
     len-from_entries name_cmp name_cmp_total (entries_of s xs) (AreApart-entries_of s xs h)
-    ∙ length-map xs (λ (x : Place). (x.name, entry_at s x))
+    ∙ length-map xs (λ (x : DuePlace). (x.name, entry_at s x))
 
 -- what is found under a name has that name
-pub find-named : (q : Name) (xs : List Place) (x : Place)
+pub find-named : (q : Name) (xs : List DuePlace) (x : DuePlace)
     → find name_cmp q (by_name xs) ≡ Some x
     → x.name ≡ q
 find-named q [] x h = absurd cc
 find-named q (y ∷ ys) x h =
     elim (eq_by_cmp name_cmp q y.name) as (λ b. eq_by_cmp name_cmp q y.name ≡ b
     → cond b (Some y) (find name_cmp q (by_name ys)) ≡ Some x → x.name ≡ q) [
-      | true ↦ λ t g. ap (λ (z : Place). z.name) (sym (inside y x g)) ∙ sym (equal_tied q y.name t)
+      | true ↦ λ t g. ap (λ (z : DuePlace). z.name) (sym (inside y x g))
+          ∙ sym (equal_tied q y.name t)
       | false ↦ λ t g. find-named q ys x g
     ] refl h
 
 -- receptions that stay where they are stay the same
-pub same_entries : (s t : Slab Received) (r : Option Place)
-    → ((y : Place) → r ≡ Some y → get t y.key ≡ get s y.key)
+pub same_entries : (s t : Slab Received) (r : Option DuePlace)
+    → ((y : DuePlace) → r ≡ Some y → get t y.key ≡ get s y.key)
     → option_map (entry_at t) r ≡ option_map (entry_at s) r
 same_entries s t None h = refl
 same_entries s t (Some y) h =
@@ -110,7 +111,7 @@ changed limit p m n now f is h =
     (ap (listing limit p) h)
 
 -- a place that is free in the value is free in the list
-pub free : (limit p : ℕ) (s : Slab Received) (xs : List Place) (now : Listing)
+pub free : (limit p : ℕ) (s : Slab Received) (xs : List DuePlace) (now : Listing)
     → AreApart name_cmp (by_name xs)
     → listing limit p (map_of s xs) ≡ now
     → maps.len now.entries < now.limit

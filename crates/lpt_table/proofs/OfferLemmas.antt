@@ -20,7 +20,7 @@ use Rattle.lpt_reception.specs.Received.{Kept as KeptPart, Parts, Received, Ende
 use Rattle.lpt_table.specs.declared.offer.Offer.{Offer}
 use Rattle.lpt_table.specs.declared.offer.Offer.TheVariants.{Kept, Again, Whole, Conflict, Gap, NoRoom, Memory}
 use Rattle.lpt_table.specs.EntryLists.{Listing, TakesIn, last_after}
-use Rattle.lpt_table.specs.Offering.{is_full, parts_of, parts_at, received_at, with_entry, TakesOut, put_back, offered}
+use Rattle.lpt_table.specs.Offering.{is_full, parts_of, parts_at, received_at, with_entry, TakesOut, put_back, part_offered}
 use Rattle.lpt_table.specs.Offers.{Offers, IsOfName, kind_of}
 use Rattle.lpt_table.specs.Tables.{TableEntry, TableState, Entries}
 use Rattle.lpt_table.proofs.MapLemmas.{insert-remove, insert-same, remove-insert, get-inserted, get-removed}
@@ -280,8 +280,8 @@ module _ (old new : TableState) (name : Name) (n now : ℕ) (x : KeptPart) where
   -- the answer and the table are what is computed, out of memory aside
   pub offers_offered : (offer : Offer)
       → Offers old name n x now offer new
-      → IfSome (kind_of offer) (λ k. offered old name n x now ≡ (k, new))
-  unfolding offered
+      → IfSome (kind_of offer) (λ k. part_offered old name n x now ≡ (k, new))
+  unfolding part_offered
   offers_offered Kept h =
       rw (h.0, h.1.0.new.agrees, h.1.0.new.absent, h.1.0.in_order, h.1.1, h.2)
   offers_offered Again h = rw (h.0, h.1.0, h.1.1, h.2)

@@ -10,7 +10,7 @@ use Rattle.std.specs.Cmp.{IsTotalOrder, nat_cmp_total, on_total, then_total, ran
 use Rattle.std.proofs.Common.{◌∙◌, ap, arith}
 use Rattle.lpt_packet.specs.Names.{Name, name_cmp}
 use Rattle.lpt_packet.proofs.NameLemmas.{name_cmp_total}
-use Rattle.lpt_table.specs.declared.places.Place.{Place}
+use Rattle.lpt_table.specs.declared.places.DuePlace.{DuePlace}
 use Rattle.lpt_table.specs.Places.{by_name, by_moment, when_cmp}
 use Rattle.lpt_table.proofs.PlaceLemmas.{not_first}
 use Rattle.lpt_packet.proofs.KeyLemmas.{both, first, second}
@@ -50,7 +50,7 @@ module _ {K X : Type 0} (R : K → K → Ordering) where
 -- ---- places
 
 -- where no place has a name, none has it at any tick
-pub find-by_moment : (last : ℕ) (name : Name) (xs : List Place)
+pub find-by_moment : (last : ℕ) (name : Name) (xs : List DuePlace)
     → find name_cmp name (by_name xs) ≡ None
     → find when_cmp (last, name) (by_moment xs) ≡ None
 find-by_moment last name [] none = refl

@@ -14,40 +14,40 @@ use Rattle.lpt_packet.proofs.NameLemmas.{name_cmp-IsAntisymmetric, name_cmp_tota
 use Rattle.lpt_packet.specs.Names.{Name, name_cmp}
 use Rattle.lpt_reception.specs.Received.{Received}
 use Rattle.lpt_table.specs.declared.entries.Entry.{Entry}
-use Rattle.lpt_table.specs.declared.places.Place.{Place}
+use Rattle.lpt_table.specs.declared.places.DuePlace.{DuePlace}
 use Rattle.lpt_table.specs.EntriesOf.{entry_in, entry_at, parts_in, map_of, IsIts, IsHeld, IsListed}
 use Rattle.lpt_table.specs.Places.{by_name, by_moment, when_cmp, rank, AreApart}
 use Rattle.lpt_table.proofs.OrderLemmas.{when_cmp_total, find-by_moment}
 use Rattle.lpt_table.proofs.PlaceLemmas.{AreApart-inserted, find-inserted, rank-within, put-rank}
 use Rattle.lpt_table.proofs.ListingLemmas.{equal_tied, inside, get-map_of, len-map_of, same_entries}
 
-by_name_insert : (xs : List Place) (i : ℕ) (x : Place)
+by_name_insert : (xs : List DuePlace) (i : ℕ) (x : DuePlace)
     → by_name (insert xs i x) ≡ insert (by_name xs) i (x.name, x)
 by_name_insert xs i x = simp (map-append, take-map, drop-map)
 
-by_moment_insert : (xs : List Place) (i : ℕ) (x : Place)
+by_moment_insert : (xs : List DuePlace) (i : ℕ) (x : DuePlace)
     → by_moment (insert xs i x) ≡ insert (by_moment xs) i ((x.last, x.name), x.key)
 by_moment_insert xs i x = simp (map-append, take-map, drop-map)
 
 -- a last tick and a name belong into the list or at its end
-pub belongs-within : (last : ℕ) (name : Name) (xs : List Place)
+pub belongs-within : (last : ℕ) (name : Name) (xs : List DuePlace)
     → rank when_cmp (last, name) (by_moment xs) ≤ length xs
 belongs-within last name xs =
     omega (
       arith,
       rank-within when_cmp (last, name) (by_moment xs),
-      length-map {A = Place} {B = (ℕ × Name) × ℕ} xs (λ x. ((x.last, x.name), x.key)),
+      length-map {A = DuePlace} {B = (ℕ × Name) × ℕ} xs (λ x. ((x.last, x.name), x.key)),
     )
 
 -- ---- a reception that is put in
 
-module _ (limit p capacity : ℕ) (s : Slab Received) (xs : List Place)
+module _ (limit p capacity : ℕ) (s : Slab Received) (xs : List DuePlace)
     (l : IsListed limit p capacity s xs) where
   module _ (e : Entry) (absent : maps.get (map_of s xs) e.name ≡ None) where
     none : find name_cmp e.name (by_name xs) ≡ None
     none = unmapped (find name_cmp e.name (by_name xs))
         (sym (get-map_of s xs e.name) ∙ absent) where
-          unmapped : (r : Option Place) → option_map (entry_at s) r ≡ None → r ≡ None
+          unmapped : (r : Option DuePlace) → option_map (entry_at s) r ≡ None → r ≡ None
           unmapped None h = refl
           unmapped (Some x) h = absurd cc
 
@@ -58,11 +58,11 @@ module _ (limit p capacity : ℕ) (s : Slab Received) (xs : List Place)
     module _ (t : Slab Received) (key : ℕ) (u : Updates s t key (Some e.filling))
         (vacant : get s key ≡ None) where
       -- its place
-      abbrev pub here : Place
+      abbrev pub here : DuePlace
       here = record { last = e.last; name = e.name; key = key }
 
       -- the places with it
-      abbrev pub placed : List Place
+      abbrev pub placed : List DuePlace
       placed = insert xs belongs here
 
       length-placed : length placed ≡ length xs + 1
@@ -91,14 +91,14 @@ module _ (limit p capacity : ℕ) (s : Slab Received) (xs : List Place)
           (is_sorted-put when_cmp when_cmp_total (e.last, e.name) key (by_moment xs) l.ordered)
 
       -- no other has the key
-      fresh : (q : Name) (y : Place) → find name_cmp q (by_name xs) ≡ Some y → y.key ≢ key
+      fresh : (q : Name) (y : DuePlace) → find name_cmp q (by_name xs) ≡ Some y → y.key ≢ key
       fresh q y g same =
           let mine = l.held q y g in
           let never : None ≡ Some mine.filling = sym vacant ∙ ap (get s) (sym same) ∙ mine.kept in
           absurd cc
 
       -- the others stay where they are
-      stays : (q : Name) (y : Place)
+      stays : (q : Name) (y : DuePlace)
           → find name_cmp q (by_name xs) ≡ Some y
           → get t y.key ≡ get s y.key
       stays q y g = u.others y.key (fresh q y g)
@@ -113,7 +113,7 @@ module _ (limit p capacity : ℕ) (s : Slab Received) (xs : List Place)
           (same_entries s t (find name_cmp q (by_name xs)) (stays q))
           ∙ ap (cond (eq_by_cmp name_cmp q e.name) (Some (entry_in e))) (sym (get-map_of s xs q))
           ∙ sym (get-insert name_cmp_total (map_of s xs) e.name (entry_in e) q)) where
-            pushed : (b : Bool) (r : Option Place)
+            pushed : (b : Bool) (r : Option DuePlace)
                 → option_map (entry_at t) r ≡ option_map (entry_at s) r
                 → option_map (entry_at t)
                 (cond b (Some (record { last = e.last; name = e.name; key = key })) r)
@@ -163,7 +163,7 @@ module _ (limit p capacity : ℕ) (s : Slab Received) (xs : List Place)
         places = omega (arith, l.places, grown);
         slots = omega (arith, same, l.slots);
       } where
-        alone_by : (q r : Name) (y z : Place) (a b : Bool)
+        alone_by : (q r : Name) (y z : DuePlace) (a b : Bool)
             → eq_by_cmp name_cmp q e.name ≡ a
             → eq_by_cmp name_cmp r e.name ≡ b
             → cond a (Some here) (find name_cmp q (by_name xs)) ≡ Some y
@@ -173,12 +173,12 @@ module _ (limit p capacity : ℕ) (s : Slab Received) (xs : List Place)
         alone_by q r y z true true i j g h same =
             equal_tied q e.name i ∙ sym (equal_tied r e.name j)
         alone_by q r y z true false i j g h same =
-            absurd (fresh r z h (sym same ∙ ap (λ (x : Place). x.key) (sym (inside here y g))))
+            absurd (fresh r z h (sym same ∙ ap (λ (x : DuePlace). x.key) (sym (inside here y g))))
         alone_by q r y z false true i j g h same =
-            absurd (fresh q y g (same ∙ ap (λ (x : Place). x.key) (sym (inside here z h))))
+            absurd (fresh q y g (same ∙ ap (λ (x : DuePlace). x.key) (sym (inside here z h))))
         alone_by q r y z false false i j g h same = l.alone q r y z g h same
 
-        held_by : (q : Name) (y : Place) (b : Bool)
+        held_by : (q : Name) (y : DuePlace) (b : Bool)
             → eq_by_cmp name_cmp q e.name ≡ b
             → cond b (Some (record { last = e.last; name = e.name; key = key }))
             (find name_cmp q (by_name xs)) ≡ Some y
@@ -187,7 +187,7 @@ module _ (limit p capacity : ℕ) (s : Slab Received) (xs : List Place)
             let here : record { last = e.last; name = e.name; key = key } ≡ y = inside _ _ g in
             record {
               filling = e.filling;
-              kept = ap (λ (x : Place). get t x.key) (sym here) ∙ u.changed;
+              kept = ap (λ (x : DuePlace). get t x.key) (sym here) ∙ u.changed;
               named = its.named ∙ ap (λ (n : Name). n.id) (sym (equal_tied q e.name is));
               of_size = its.of_size;
             }

@@ -7,17 +7,17 @@ use Rattle.std.specs.declared.cmp.Ordering.TheVariants.{Less, Equal, Greater}
 use Rattle.std.specs.Ordering.{is_lt}
 use Rattle.std.proofs.Common.{ap, arith}
 use Rattle.lpt_packet.specs.Names.{Name}
-use Rattle.lpt_table.specs.declared.places.Place.{Place}
+use Rattle.lpt_table.specs.declared.places.DuePlace.{DuePlace}
 use Rattle.lpt_table.specs.Places.{by_moment, rank, when_cmp}
 use Rattle.lpt_table.proofs.OrderLemmas.{when_cmp_total}
 use Rattle.lpt_packet.proofs.KeyLemmas.{less, first, second}
 
 -- a last tick and a name beside those of a place
-abbrev pub beside : ℕ × Name → Place → Ordering
+abbrev pub beside : ℕ × Name → DuePlace → Ordering
 beside m x = when_cmp m (x.last, x.name)
 
 -- before a place that is later, it belongs at that place or before
-pub rank-at-most : (m : ℕ × Name) (xs : List Place) (i : ℕ) (d : Place)
+pub rank-at-most : (m : ℕ × Name) (xs : List DuePlace) (i : ℕ) (d : DuePlace)
     → i < length xs
     → beside m (slice_index_or xs i d) ≡ Less
     → rank when_cmp m (by_moment xs) ≤ i
@@ -34,7 +34,7 @@ rank-at-most m (x ∷ xs) (suc i) d in_it h =
     ]
 
 -- what is below all is below each
-pub below_each : (m : ℕ × Name) (xs : List Place) (i : ℕ) (d : Place)
+pub below_each : (m : ℕ × Name) (xs : List DuePlace) (i : ℕ) (d : DuePlace)
     → i < length xs
     → T (below_all when_cmp m (by_moment xs))
     → beside m (slice_index_or xs i d) ≡ Less
@@ -46,7 +46,7 @@ below_each m (x ∷ xs) (suc i) d in_it up =
     (second (is_lt (beside m x)) (below_all when_cmp m (by_moment xs)) up)
 
 -- what is below all belongs before them
-pub rank-below_all : (m : ℕ × Name) (xs : List Place)
+pub rank-below_all : (m : ℕ × Name) (xs : List DuePlace)
     → T (below_all when_cmp m (by_moment xs))
     → rank when_cmp m (by_moment xs) ≡ 0
 rank-below_all m [] up = refl
@@ -56,7 +56,7 @@ rank-below_all m (x ∷ xs) up =
     (less (beside m x) (first (is_lt (beside m x)) (below_all when_cmp m (by_moment xs)) up))
 
 -- it belongs behind a place that is not later
-pub rank-beyond : (m : ℕ × Name) (xs : List Place) (i : ℕ) (d : Place)
+pub rank-beyond : (m : ℕ × Name) (xs : List DuePlace) (i : ℕ) (d : DuePlace)
     → T (is_sorted when_cmp (by_moment xs))
     → i < length xs
     → (beside m (slice_index_or xs i d) ≡ Less → ⊥)

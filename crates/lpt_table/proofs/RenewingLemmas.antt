@@ -16,10 +16,10 @@ use Rattle.lpt_packet.proofs.NameLemmas.{name_cmp-IsAntisymmetric, name_cmp_tota
 use Rattle.lpt_packet.specs.Names.{Name, name_cmp}
 use Rattle.lpt_reception.specs.Received.{Received}
 use Rattle.lpt_table.specs.declared.entries.Entry.{Entry}
-use Rattle.lpt_table.specs.declared.places.Place.{Place}
+use Rattle.lpt_table.specs.declared.places.DuePlace.{DuePlace}
 use Rattle.lpt_table.specs.EntriesOf.{entry_in, map_of, IsListed}
 use Rattle.lpt_table.specs.Tables.{Entries}
-use Rattle.lpt_table.specs.Places.{by_name, by_moment, when_cmp, rank, spot, renewed}
+use Rattle.lpt_table.specs.Places.{by_name, by_moment, when_cmp, rank, spot, place_renewed}
 use Rattle.lpt_table.proofs.MapLemmas.{insert-remove, get-removed}
 use Rattle.lpt_table.proofs.OrderLemmas.{is_sorted-remove, when_cmp_total}
 use Rattle.lpt_table.proofs.RankLemmas.{below_each, beside, rank-below_all}
@@ -29,7 +29,7 @@ use Rattle.lpt_table.proofs.TakingLemmas.{by_moment_remove, found-within, found-
 -- ---- places
 
 -- what is written at a place is put where another was taken out
-pub set-insert : (xs : List Place) (at : ℕ) (x : Place)
+pub set-insert : (xs : List DuePlace) (at : ℕ) (x : DuePlace)
     → at < length xs
     → slice_set xs at x ≡ insert (remove xs at) at x
 set-insert [] at x l = absurd (omega arith)
@@ -37,14 +37,14 @@ set-insert (y ∷ ys) zero x l = refl
 set-insert (y ∷ ys) (suc at) x l = ap (λ zs. y ∷ zs) (set-insert ys at x (omega arith))
 
 -- without the last one the front is left
-pub remove-last : (xs : List Place) (at : ℕ) → at + 1 ≡ length xs → remove xs at ≡ take at xs
+pub remove-last : (xs : List DuePlace) (at : ℕ) → at + 1 ≡ length xs → remove xs at ≡ take at xs
 remove-last [] at l = absurd (omega arith)
 remove-last (y ∷ []) zero l = refl
 remove-last (y ∷ z ∷ zs) zero l = absurd (omega arith)
 remove-last (y ∷ ys) (suc at) l = ap (λ zs. y ∷ zs) (remove-last ys at (omega arith))
 
 -- places stay in order without one
-pub sorted-without : (xs : List Place) (at : ℕ)
+pub sorted-without : (xs : List DuePlace) (at : ℕ)
     → T (is_sorted when_cmp (by_moment xs))
     → T (is_sorted when_cmp (by_moment (remove xs at)))
 sorted-without xs at h =
@@ -52,17 +52,17 @@ sorted-without xs at h =
     (is_sorted-remove when_cmp (by_moment xs) at h)
 
 -- one that belongs at the end is written there
-pub renewed-last : (xs : List Place) (at : ℕ) (x : Place)
+pub renewed-last : (xs : List DuePlace) (at : ℕ) (x : DuePlace)
     → at + 1 ≡ length xs
     → rank when_cmp (x.last, x.name) (by_moment (take at xs)) ≡ at
-    → slice_set xs at x ≡ renewed xs at x
+    → slice_set xs at x ≡ place_renewed xs at x
 renewed-last xs at x last same =
     set-insert xs at x (omega (arith, last))
     ∙ ap (λ i. insert (remove xs at) i x)
     (sym same ∙ ap (λ ys. rank when_cmp (x.last, x.name) (by_moment ys)) (sym (remove-last xs at last)))
 
 -- a place is put back where it was taken out
-put-back : (xs : List Place) (at : ℕ) (x : Place)
+put-back : (xs : List DuePlace) (at : ℕ) (x : DuePlace)
     → at < length xs
     → x ≡ slice_index_or xs at x
     → insert (remove xs at) at x ≡ xs
@@ -71,7 +71,7 @@ put-back (y ∷ ys) zero x l q = ap (λ z. z ∷ ys) q
 put-back (y ∷ ys) (suc at) x l q = ap (λ zs. y ∷ zs) (put-back ys at x (omega arith) q)
 
 -- among the others a place belongs where it is
-rank-own : (xs : List Place) (at : ℕ) (x : Place)
+rank-own : (xs : List DuePlace) (at : ℕ) (x : DuePlace)
     → T (is_sorted when_cmp (by_moment xs))
     → at < length xs
     → x ≡ slice_index_or xs at x
@@ -80,7 +80,7 @@ rank-own [] at x up l q = absurd (omega arith)
 rank-own (y ∷ ys) zero x up l q =
     let below = below_all when_cmp (y.last, y.name) (by_moment ys) in
     rank-below_all (x.last, x.name) ys
-    (subst (λ (z : Place). T (below_all when_cmp (z.last, z.name) (by_moment ys))) (sym q)
+    (subst (λ (z : DuePlace). T (below_all when_cmp (z.last, z.name) (by_moment ys))) (sym q)
     (first below (is_sorted when_cmp (by_moment ys)) up))
 rank-own (y ∷ ys) (suc at) x up l q =
     let n = rank when_cmp (x.last, x.name) (by_moment (remove ys at)) in
@@ -88,7 +88,7 @@ rank-own (y ∷ ys) (suc at) x up l q =
     let rest : n ≡ at =
     rank-own ys at x (second below (is_sorted when_cmp (by_moment ys)) up) (omega arith) q in
     let later : beside (y.last, y.name) x ≡ Less =
-    subst (λ (z : Place). beside (y.last, y.name) z ≡ Less) (sym q)
+    subst (λ (z : DuePlace). beside (y.last, y.name) z ≡ Less) (sym q)
     (below_each (y.last, y.name) ys at x (omega arith)
     (first below (is_sorted when_cmp (by_moment ys)) up))
     in
@@ -97,19 +97,19 @@ rank-own (y ∷ ys) (suc at) x up l q =
     ∙ ap suc rest
 
 -- so the places stay as they are where one is renewed that is the same
-pub renewed-same : (xs : List Place) (at : ℕ) (x : Place)
+pub renewed-same : (xs : List DuePlace) (at : ℕ) (x : DuePlace)
     → T (is_sorted when_cmp (by_moment xs))
     → at < length xs
     → x ≡ slice_index_or xs at x
-    → renewed xs at x ≡ xs
+    → place_renewed xs at x ≡ xs
 renewed-same xs at x up l q =
     ap (λ i. insert (remove xs at) i x) (rank-own xs at x up l q) ∙ put-back xs at x l q
 
 -- ---- a reception that changes
 
-module _ (limit p capacity : ℕ) (s : Slab Received) (xs : List Place)
+module _ (limit p capacity : ℕ) (s : Slab Received) (xs : List DuePlace)
     (l : IsListed limit p capacity s xs) (name : Name) (at : ℕ)
-    (is : Some at ≡ spot name_cmp name (by_name xs)) (x : Place)
+    (is : Some at ≡ spot name_cmp name (by_name xs)) (x : DuePlace)
     (q : x ≡ slice_index_or xs at x) (f : Received) (last : ℕ) where
   -- the slab without it
   abbrev gap : Slab Received
@@ -123,7 +123,7 @@ module _ (limit p capacity : ℕ) (s : Slab Received) (xs : List Place)
   e = record { name = name; filling = f; last = last }
 
   -- its place, which has the name
-  abbrev pub place : Place
+  abbrev pub place : DuePlace
   place = record x { last = last }
 
   its : record { last = last; name = name; key = x.key } ≡ place
@@ -174,19 +174,20 @@ module _ (limit p capacity : ℕ) (s : Slab Received) (xs : List Place)
       ∙ get-removed name_cmp_total name_cmp-IsAntisymmetric (map_of s xs) name
 
   -- the map has the entry under its name
-  pub renewed-map : map_of after (renewed xs at place) ≡ maps.insert (map_of s xs) name (entry_in e)
+  pub renewed-map : map_of after (place_renewed xs at place)
+      ≡ maps.insert (map_of s xs) name (entry_in e)
   renewed-map =
-      ap (λ y. map_of after (renewed xs at y)) (sym its)
+      ap (λ y. map_of after (place_renewed xs at y)) (sym its)
       ∙ placed-map limit p capacity gap (remove xs at) rest e absent after x.key back out.changed
       ∙ ap (λ (m : Entries). maps.insert m name (entry_in e)) (sym without)
       ∙ insert-remove name_cmp_total name_cmp-IsAntisymmetric (map_of s xs) name (entry_in e)
 
   -- it has as many entries
-  pub renewed-len : maps.len (map_of after (renewed xs at place)) ≡ maps.len (map_of s xs)
+  pub renewed-len : maps.len (map_of after (place_renewed xs at place)) ≡ maps.len (map_of s xs)
   renewed-len =
       omega (
         arith,
-        ap (λ y. maps.len (map_of after (renewed xs at y))) its,
+        ap (λ y. maps.len (map_of after (place_renewed xs at y))) its,
         placed-len limit p capacity gap (remove xs at) rest e absent after x.key back out.changed,
         removed-len limit p capacity s xs l name at is x q gap out,
       )
@@ -196,10 +197,10 @@ module _ (limit p capacity : ℕ) (s : Slab Received) (xs : List Place)
       → f.id ≡ name.id
       → f.p ≡ p
       → capacity ≤ more
-      → IsListed limit p more after (renewed xs at place)
+      → IsListed limit p more after (place_renewed xs at place)
   renewed-listed more named of_size grown =
       let within = found-within limit p capacity s xs l name at is in
-      subst (λ y. IsListed limit p more after (renewed xs at y)) its
+      subst (λ y. IsListed limit p more after (place_renewed xs at y)) its
       (placed-listed limit p capacity gap (remove xs at) rest e absent after x.key back out.changed
       more (record { of_size = of_size; named = named })
       (omega (arith, length-remove xs at within, l.within)) grown

@@ -5,15 +5,15 @@ use Rattle.std.specs.FinMap.Entries.{by_order, find}
 use Rattle.lpt_packet.specs.Names.{Name, name_cmp, no_name}
 use Rattle.lpt_packet.proofs.KeyLemmas.{found_first, found_behind, same_or_not}
 use Rattle.lpt_packet.proofs.NameLemmas.{name_cmp_total, name_cmp-IsAntisymmetric, name_cmp-same}
-use Rattle.lpt_table.specs.declared.places.Place.{Place}
+use Rattle.lpt_table.specs.declared.places.DuePlace.{DuePlace}
 use Rattle.lpt_table.specs.Places.{AreApart, by_name, spot}
 
 -- what a place is that isn't there
-abbrev pub none : Place
+abbrev pub none : DuePlace
 none = record { last = 0; name = no_name; key = 0 }
 
 -- a name that no place has stands nowhere
-pub spot-absent : (name : Name) (xs : List Place)
+pub spot-absent : (name : Name) (xs : List DuePlace)
     → ((k : ℕ) → k < length xs → (get_or xs k none).name ≢ name)
     → spot name_cmp name (by_name xs) ≡ None
 spot-absent name [] h = refl
@@ -29,18 +29,18 @@ spot-absent name (x ∷ xs) h =
     ] refl
 
 -- the first place is found under its name, and another name behind it
-first : (name : Name) (e : Name × Place) (es : List (Name × Place))
+first : (name : Name) (e : Name × DuePlace) (es : List (Name × DuePlace))
     → name ≡ e.0
     → find name_cmp name (e ∷ es) ≡ Some e.1
 first = found_first name_cmp_total name_cmp-IsAntisymmetric
 
-behind : (name : Name) (e : Name × Place) (es : List (Name × Place))
+behind : (name : Name) (e : Name × DuePlace) (es : List (Name × DuePlace))
     → name ≢ e.0
     → find name_cmp name (e ∷ es) ≡ find name_cmp name es
 behind = found_behind name_cmp_total name_cmp-IsAntisymmetric
 
 -- a name that a place has is found
-found-at : (name : Name) (xs : List Place) (at : ℕ)
+found-at : (name : Name) (xs : List DuePlace) (at : ℕ)
     → at < length xs
     → (get_or xs at none).name ≡ name
     → find name_cmp name (by_name xs) ≡ None
@@ -57,7 +57,7 @@ found-at name (x ∷ xs) (suc at) l e h =
     ]
 
 -- where names are apart, a name stands at the place that has it
-pub spot-at : (name : Name) (xs : List Place) (at : ℕ)
+pub spot-at : (name : Name) (xs : List DuePlace) (at : ℕ)
     → AreApart name_cmp (by_name xs)
     → at < length xs
     → (get_or xs at none).name ≡ name

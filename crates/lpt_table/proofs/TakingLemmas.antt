@@ -15,7 +15,7 @@ use Rattle.lpt_packet.proofs.NameLemmas.{name_cmp-IsAntisymmetric, name_cmp_tota
 use Rattle.lpt_packet.specs.Names.{Name, name_cmp}
 use Rattle.lpt_reception.specs.Received.{Received}
 use Rattle.lpt_table.specs.declared.entries.Entry.{Entry}
-use Rattle.lpt_table.specs.declared.places.Place.{Place}
+use Rattle.lpt_table.specs.declared.places.DuePlace.{DuePlace}
 use Rattle.lpt_table.specs.EntriesOf.{entry_at, parts_in, map_of, IsHeld, IsListed, IsEntry}
 use Rattle.lpt_table.specs.Places.{by_name, by_moment, when_cmp, spot, AreApart}
 use Rattle.lpt_table.proofs.MapLemmas.{find-others, remove-absent}
@@ -30,13 +30,14 @@ not_none : {X : Type 0} (b : Bool) (r : Option X) (x : X)
 not_none true r x h = absurd cc
 not_none false r x h = (refl, h)
 
-by_name_remove : (xs : List Place) (i : ℕ) → by_name (remove xs i) ≡ remove (by_name xs) i
+by_name_remove : (xs : List DuePlace) (i : ℕ) → by_name (remove xs i) ≡ remove (by_name xs) i
 by_name_remove xs i = simp (map-append, take-map, drop-map)
 
-pub by_moment_remove : (xs : List Place) (i : ℕ) → by_moment (remove xs i) ≡ remove (by_moment xs) i
+pub by_moment_remove : (xs : List DuePlace) (i : ℕ) → by_moment (remove xs i)
+    ≡ remove (by_moment xs) i
 by_moment_remove xs i = simp (map-append, take-map, drop-map)
 
-module _ (limit p capacity : ℕ) (s : Slab Received) (xs : List Place)
+module _ (limit p capacity : ℕ) (s : Slab Received) (xs : List DuePlace)
     (l : IsListed limit p capacity s xs) where
   spots : (name : Name) → Spots name_cmp name (by_name xs) (spot name_cmp name (by_name xs))
   spots name = Spots-spot name_cmp name_cmp_total name (by_name xs) l.apart
@@ -48,7 +49,7 @@ module _ (limit p capacity : ℕ) (s : Slab Received) (xs : List Place)
       is_some-Spots name_cmp name (by_name xs) (spot name_cmp name (by_name xs)) (spots name)
       ∙ is_some-map (find name_cmp name (by_name xs))
       ∙ ap is_some (sym (get-map_of s xs name)) where
-        is_some-map : (r : Option Place) → is_some r ≡ is_some (option_map (entry_at s) r)
+        is_some-map : (r : Option DuePlace) → is_some r ≡ is_some (option_map (entry_at s) r)
         is_some-map None = refl
         is_some-map (Some x) = refl
 
@@ -88,11 +89,11 @@ module _ (limit p capacity : ℕ) (s : Slab Received) (xs : List Place)
         subst (AreApart name_cmp) (here.rest ∙ sym (by_name_remove xs at))
         (AreApart-where_key name_cmp _ (by_name xs) l.apart)
 
-    module _ (x : Place) (q : x ≡ slice_index_or xs at x) where
+    module _ (x : DuePlace) (q : x ≡ slice_index_or xs at x) where
       found : find name_cmp name (by_name xs) ≡ Some x
       found =
           here.value (x.name, x)
-          ∙ ap (λ (e : Name × Place). Some e.1)
+          ∙ ap (λ (e : Name × DuePlace). Some e.1)
           (get_or-map under_name xs at x ∙ ap under_name (sym q))
 
       -- the place has the name
@@ -127,7 +128,7 @@ module _ (limit p capacity : ℕ) (s : Slab Received) (xs : List Place)
 
       module _ (t : Slab Received) (u : Updates s t x.key None) where
         -- the others stay where they are
-        others : (q : Name) (y : Place)
+        others : (q : Name) (y : DuePlace)
             → find name_cmp q (by_name (remove xs at)) ≡ Some y
             → (find name_cmp q (by_name xs) ≡ Some y) × (get t y.key ≡ get s y.key)
         others q y g =
@@ -150,7 +151,7 @@ module _ (limit p capacity : ℕ) (s : Slab Received) (xs : List Place)
             ∙ pushed (eq_by_cmp name_cmp q name) (find name_cmp q (by_name xs))
             ∙ ap (cond (eq_by_cmp name_cmp q name) None) (sym (get-map_of s xs q))
             ∙ sym (get-remove name_cmp_total (map_of s xs) name q)) where
-              pushed : (b : Bool) (r : Option Place)
+              pushed : (b : Bool) (r : Option DuePlace)
                   → option_map (entry_at s) (cond b None r)
                   ≡ cond b None (option_map (entry_at s) r)
               pushed true r = refl

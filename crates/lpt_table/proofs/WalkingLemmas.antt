@@ -17,7 +17,7 @@ use Rattle.lpt_table.specs.EntriesOf.{entry_at, map_of}
 use Rattle.lpt_table.specs.Places.{by_moment, by_name, first_overdue, when_cmp}
 use Rattle.lpt_table.specs.Tables.{TableEntry, TableState}
 use Rattle.lpt_table.specs.Walking.{first_last, has_come, is_behind, is_nearer, least_last, lesser, nearer, nearest, next_due, IsNext, IsNextName}
-use Rattle.lpt_table.specs.declared.places.Place.{Place}
+use Rattle.lpt_table.specs.declared.places.DuePlace.{DuePlace}
 use Rattle.lpt_table.proofs.FirstLemmas.{first_overdue-is}
 use Rattle.lpt_table.proofs.ListingLemmas.{get-map_of}
 use Rattle.lpt_table.proofs.SpotLemmas.{none}
@@ -105,17 +105,18 @@ module _ (after : Option Name) (x : Name) (test : Name → Bool) where
 -- ---- the places
 
 -- whether a place has this name
-abbrev stands : List Place → Name → Bool
+abbrev stands : List DuePlace → Name → Bool
 stands [] q = false
 stands (x ∷ xs) q = same_name q x.name || stands xs q
 
-nearest-is : (after : Option Name) (xs : List Place) → IsNext (stands xs) after (nearest after xs)
+nearest-is : (after : Option Name) (xs : List DuePlace)
+    → IsNext (stands xs) after (nearest after xs)
 nearest-is after [] = λ q h. absurd (true≢false (sym h))
 nearest-is after (x ∷ xs) =
     one_more after x.name (stands xs) (nearest after xs) (nearest-is after xs)
 
 -- one place more at the front
-pub nearest-step : (after : Option Name) (xs : List Place) (at : ℕ)
+pub nearest-step : (after : Option Name) (xs : List DuePlace) (at : ℕ)
     → 0 < at
     → at ≤ length xs
     → nearest after (drop (at - 1) xs)
@@ -125,7 +126,8 @@ nearest-step after xs at some within =
     ap (nearest after) (drop-cons xs (at - 1) none (omega arith))
     ∙ ap (λ n. nearer after (get_or xs (at - 1) none).name (nearest after (drop n xs))) next
 
-found-stands : (xs : List Place) (q : Name) → is_some (find name_cmp q (by_name xs)) ≡ stands xs q
+found-stands : (xs : List DuePlace) (q : Name) → is_some (find name_cmp q (by_name xs))
+    ≡ stands xs q
 found-stands [] q = refl
 found-stands (x ∷ xs) q =
     ap (λ b. is_some (cond b (Some x) (find name_cmp q (by_name xs)))) (name_tied q x.name)
@@ -136,16 +138,16 @@ found-stands (x ∷ xs) q =
       go true h = refl
       go false h = h
 
-open-stands : (s : Slab Received) (xs : List Place) (q : Name)
+open-stands : (s : Slab Received) (xs : List DuePlace) (q : Name)
     → is_some (maps.get (map_of s xs) q) ≡ stands xs q
 open-stands s xs q =
     ap is_some (get-map_of s xs q) ∙ mapped (find name_cmp q (by_name xs)) ∙ found-stands xs q where
-      mapped : (r : Option Place) → is_some (option_map (entry_at s) r) ≡ is_some r
+      mapped : (r : Option DuePlace) → is_some (option_map (entry_at s) r) ≡ is_some r
       mapped None = refl
       mapped (Some y) = refl
 
 -- the nearest name is the least of an open reception behind another
-pub nearest-open : (after : Option Name) (s : Slab Received) (xs : List Place)
+pub nearest-open : (after : Option Name) (s : Slab Received) (xs : List DuePlace)
     → IsNext (λ q. is_some (maps.get (map_of s xs) q)) after (nearest after xs)
 nearest-open after s xs =
     subst (λ (test : Name → Bool). IsNext test after (nearest after xs))
@@ -153,7 +155,7 @@ nearest-open after s xs =
 
 -- ---- the first place
 
-first_comes : (timeout now : ℕ) (xs : List Place)
+first_comes : (timeout now : ℕ) (xs : List DuePlace)
     → is_some (first_overdue timeout now xs)
     ≡ has_come (option_map (λ last. last + timeout) (first_last xs)) now
 first_comes timeout now [] = refl
@@ -163,7 +165,7 @@ first_comes timeout now (x ∷ xs) = go (nat_le (x.last + timeout) now) where
   go false = refl
 
 -- a reception is overdue once the first place's is
-first-due : (timeout now : ℕ) (s : Slab Received) (xs : List Place)
+first-due : (timeout now : ℕ) (s : Slab Received) (xs : List DuePlace)
     → T (maps.is_sorted when_cmp (by_moment xs))
     → is_some (option_map (λ (b : Name × ℕ). b.0)
     (soonest timeout now (maps.entries (map_of s xs))))
@@ -232,7 +234,7 @@ comes-alone (Some a) (Some b) h =
     ap Some same
 
 -- the first place's last tick is the least one
-pub first-least : (s : Slab Received) (xs : List Place)
+pub first-least : (s : Slab Received) (xs : List DuePlace)
     → T (maps.is_sorted when_cmp (by_moment xs))
     → first_last xs ≡ least_last (maps.entries (map_of s xs))
 first-least s xs up =

@@ -75,8 +75,8 @@ at_gap t name =
 
 -- what an offer of part n of a transaction comes to, and what it makes of the table, where there is
 -- memory for the part
-unfoldable pub offered : TableState → Name → ℕ → KeptPart → ℕ → OfferKind × TableState
-offered t name n x now =
+unfoldable pub part_offered : TableState → Name → ℕ → KeptPart → ℕ → OfferKind × TableState
+part_offered t name n x now =
     if is_full t name then (NoRoom, t)
     else if contradicts (parts_at t name) n x then (Conflict reason.Conflict, taken_out t name)
     else if is_some (map.get (parts_at t name) n)

@@ -7,14 +7,14 @@ use Rattle.std.specs.Ordering.{nat_cmp, on, then_cmp}
 use Rattle.std.specs.declared.cmp.Ordering.{Ordering}
 use Rattle.std.specs.FinMap.Entries.{by_order, find}
 use Rattle.lpt_packet.specs.Names.{Name, name_cmp}
-use Rattle.lpt_table.specs.declared.places.Place.{Place}
+use Rattle.lpt_table.specs.declared.places.DuePlace.{DuePlace}
 
 -- the places under their names
-abbrev pub by_name : List Place → List (Name × Place)
+abbrev pub by_name : List DuePlace → List (Name × DuePlace)
 by_name xs = map (λ x. (x.name, x)) xs
 
 -- the places under their last ticks and names
-abbrev pub by_moment : List Place → List ((ℕ × Name) × ℕ)
+abbrev pub by_moment : List DuePlace → List ((ℕ × Name) × ℕ)
 by_moment xs = map (λ x. ((x.last, x.name), x.key)) xs
 
 -- which of two last ticks is the earlier, and of equal ones which name is before the other
@@ -33,8 +33,8 @@ rank R k [] = 0
 rank R k (e ∷ es) = by_order (R k e.0) 0 (suc (rank R k es)) (suc (rank R k es))
 
 -- the places, with this one in place of the one at a place, where it belongs among the others
-abbrev pub renewed : List Place → ℕ → Place → List Place
-renewed xs at x =
+abbrev pub place_renewed : List DuePlace → ℕ → DuePlace → List DuePlace
+place_renewed xs at x =
     insert (remove xs at) (rank when_cmp (x.last, x.name) (by_moment (remove xs at))) x
 
 -- no key stands twice
@@ -43,6 +43,6 @@ AreApart R [] = Unit {0}
 AreApart R (e ∷ es) = (find R e.0 es ≡ None) × AreApart R es
 
 -- the name at the first place, where the reception there is overdue
-abbrev pub first_overdue : ℕ → ℕ → List Place → Option Name
+abbrev pub first_overdue : ℕ → ℕ → List DuePlace → Option Name
 first_overdue timeout now [] = None
 first_overdue timeout now (x ∷ xs) = if nat_le (x.last + timeout) now then Some x.name else None

@@ -2,7 +2,7 @@
 use Rattle.std.specs.Prelude.{ℕ, ◌-◌, Bool, true, nat_le, map as mapped}
 use Rattle.std.specs.Option.{option_map_or}
 use Rattle.std.specs.FinMap as map
-use Rattle.lpt_table.specs.declared.places.Place.{Place}
+use Rattle.lpt_table.specs.declared.places.DuePlace.{DuePlace}
 use Rattle.lpt_table.specs.Tables.{Entries, TableEntry, TableState}
 use Rattle.lpt_table.specs.Walking.{least_last}
 
@@ -23,5 +23,5 @@ abbrev pub reaches_back : (ticks : ℕ) → Entries → Bool
 reaches_back ticks m = option_map_or (λ last. nat_le ticks last) (least_last (map.entries m)) true
 
 -- the place of a reception so
-abbrev pub place_earlier : (ticks : ℕ) → Place → Place
+abbrev pub place_earlier : (ticks : ℕ) → DuePlace → DuePlace
 place_earlier ticks x = record x { last = x.last - ticks }

@@ -4,7 +4,7 @@ use Rattle.std.specs.FinMap as map
 use Rattle.std.specs.Option.{option_map}
 use Rattle.lpt_packet.specs.Names.{Name, name_before}
 use Rattle.lpt_reception.specs.Received.{Received}
-use Rattle.lpt_table.specs.declared.places.Place.{Place}
+use Rattle.lpt_table.specs.declared.places.DuePlace.{DuePlace}
 use Rattle.lpt_table.specs.Tables.{TableEntry, TableState}
 
 -- what is kept under a name, where a reception of it is open
@@ -65,11 +65,11 @@ abbrev pub nearer : (after : Option Name) → Name → (found : Option Name) →
 nearer after name found = if is_behind after name && is_nearer name found then Some name else found
 
 -- the least name behind another among those of places
-abbrev pub nearest : (after : Option Name) → List Place → Option Name
+abbrev pub nearest : (after : Option Name) → List DuePlace → Option Name
 nearest after [] = None
 nearest after (x ∷ xs) = nearer after x.name (nearest after xs)
 
 -- the last tick of the first place
-abbrev pub first_last : List Place → Option ℕ
+abbrev pub first_last : List DuePlace → Option ℕ
 first_last [] = None
 first_last (x ∷ xs) = Some x.last

@@ -3,13 +3,13 @@
 ghost use Rattle.std.specs.Prelude.{◌≡◌, ◌≤◌, ◌<◌, ◌+◌, IfOk, IfNone, IfSome, IsTrue, MatchOption, Some, None, is_some, nat_le, if◌then◌else◌};
 ghost use Rattle.std.specs.FinMap as map;
 ghost use Rattle.std.specs.Option.{option_map};
-ghost use Rattle.lpt_reception.specs.Steps.{kept};
+ghost use Rattle.lpt_reception.specs.Steps.{part_kept};
 ghost use Rattle.lpt_table.specs.Deadlines.{soonest};
 ghost use Rattle.lpt_table.specs.EntryLists.{TakesIn, last_after};
 ghost use Rattle.lpt_table.specs.SettingBack.{reaches_back, set_back};
 ghost use Rattle.lpt_table.specs.Walking.{least_last, IsNext};
 
-use crate::places::{Place, first_due, first_last, nearest, rank_of, renew, set_back, spot_of};
+use crate::places::{DuePlace, first_due, first_last, nearest, rank_of, renew, set_back, spot_of};
 use lpt_packet::Name;
 use lpt_part::{Mode, Part};
 use lpt_reception::{Filling, Took};
@@ -32,7 +32,7 @@ pub(crate) struct Entry {
 pub(crate) struct EntryList {
     fillings: Slab<Filling>,
     // In the order of last ticks, and of names where those are equal.
-    places: Vec<Place>,
+    places: Vec<DuePlace>,
     limit: u32,
     p: u32,
 }
@@ -109,7 +109,7 @@ impl EntryList {
         ensures none { IfNone result (map.get self.old.entries name ≡ None) }
         ensures unchanged { IfNone result (self.new ≡ self.old) }
         ensures took { IfSome result (TakesIn mode self.old self.new name part.now.number now
-            (kept part.now)) }
+            (part_kept part.now)) }
         ensures len { map.len self.new.entries ≡ map.len self.old.entries }
     {
         let at = spot_of(&self.places, name)?;
@@ -161,7 +161,7 @@ impl EntryList {
         } = entry;
         let at = rank_of(&self.places, last, name);
         let key = self.fillings.insert_reserved(filling);
-        match self.places.insert(at, Place { last, name, key }) {
+        match self.places.insert(at, DuePlace { last, name, key }) {
             Ok(()) => {}
             Err(_) => unreachable!(),
         }

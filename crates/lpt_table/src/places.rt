@@ -3,7 +3,7 @@
 ghost use Rattle.std.specs.Prelude.{◌≡◌, ◌<◌, ◌≤◌, All, T, length, map as mapped, slice_index_or, vec_capacity};
 ghost use Rattle.std.specs.FinMap as map;
 ghost use Rattle.lpt_packet.specs.Names.{name_cmp};
-ghost use Rattle.lpt_table.specs.Places.{AreApart, spot, rank, when_cmp, by_name, by_moment, first_overdue, renewed};
+ghost use Rattle.lpt_table.specs.Places.{AreApart, spot, rank, when_cmp, by_name, by_moment, first_overdue, place_renewed};
 ghost use Rattle.lpt_table.specs.SettingBack.{place_earlier};
 ghost use Rattle.lpt_table.specs.Walking.{first_last, is_behind, is_nearer, nearer, nearest};
 
@@ -12,7 +12,7 @@ use std::cmp::Ordering;
 
 /// If an open reception is kept: the tick at which it last took a part, its name, and its key.
 #[derive(Clone, Copy)]
-pub(crate) struct Place {
+pub(crate) struct DuePlace {
     pub(crate) last: u32,
     pub(crate) name: Name,
     pub(crate) key: usize,
@@ -20,7 +20,7 @@ pub(crate) struct Place {
 
 // At which place a name stands, which stands but once. One that took a part just now is at the end,
 // so the search begins there.
-pub(crate) fn spot_of(places: &[Place], name: Name) -> Option<usize>
+pub(crate) fn spot_of(places: &[DuePlace], name: Name) -> Option<usize>
     requires { AreApart name_cmp (by_name places.now) }
     ensures { result ≡ spot name_cmp name (by_name places.now) }
 {
@@ -34,7 +34,7 @@ pub(crate) fn spot_of(places: &[Place], name: Name) -> Option<usize>
 
 // At which place one of this last tick and name belongs. One that took a part just now belongs at
 // the end, so the search begins there.
-pub(crate) fn rank_of(places: &[Place], last: u32, name: Name) -> usize
+pub(crate) fn rank_of(places: &[DuePlace], last: u32, name: Name) -> usize
     requires { T (map.is_sorted when_cmp (by_moment places.now)) }
     ensures { result ≡ rank when_cmp (last, name) (by_moment places.now) }
 {
@@ -52,17 +52,18 @@ pub(crate) fn rank_of(places: &[Place], last: u32, name: Name) -> usize
 // Gives the place at `at` this last tick, and puts it where it then belongs. One whose tick is the
 // same stays as it is; one that took a part just now mostly is at the end and stays there. It takes
 // no memory.
-pub(crate) fn renew(places: &mut Vec<Place>, at: usize, place: Place, last: u32)
+pub(crate) fn renew(places: &mut Vec<DuePlace>, at: usize, place: DuePlace, last: u32)
     requires within { at < length places.old.items }
     requires there { place ≡ slice_index_or places.old.items at place }
     requires ordered { T (map.is_sorted when_cmp (by_moment places.old.items)) }
-    ensures places { places.new.items ≡ renewed places.old.items at (record place { last = last }) }
+    ensures places { places.new.items ≡ place_renewed places.old.items at
+        (record place { last = last }) }
     ensures room { vec_capacity places.old ≤ vec_capacity places.new }
 {
     if last == place.last {
         return;
     }
-    let place = Place { last, ..place };
+    let place = DuePlace { last, ..place };
     if at + 1 == places.len() && rank_of(&places[..at], place.last, place.name) == at {
         places[at] = place;
         return;
@@ -76,7 +77,7 @@ pub(crate) fn renew(places: &mut Vec<Place>, at: usize, place: Place, last: u32)
 }
 
 // Sets the last tick of each place back by so many ticks.
-pub(crate) fn set_back(places: &mut [Place], ticks: u32)
+pub(crate) fn set_back(places: &mut [DuePlace], ticks: u32)
     requires { All (λ x. ticks ≤ x.last) places.old }
     ensures { places.new ≡ mapped (place_earlier ticks) places.old }
 {
@@ -86,7 +87,7 @@ pub(crate) fn set_back(places: &mut [Place], ticks: u32)
 }
 
 // The name at the first place, where the reception there is overdue.
-pub(crate) fn first_due(places: &[Place], timeout: u32, now: u32) -> Option<Name>
+pub(crate) fn first_due(places: &[DuePlace], timeout: u32, now: u32) -> Option<Name>
     ensures { result ≡ first_overdue timeout now places.now }
 {
     match places {
@@ -102,7 +103,7 @@ pub(crate) fn first_due(places: &[Place], timeout: u32, now: u32) -> Option<Name
 }
 
 // The least name behind another, where that is given.
-pub(crate) fn nearest(places: &[Place], after: Option<Name>) -> Option<Name>
+pub(crate) fn nearest(places: &[DuePlace], after: Option<Name>) -> Option<Name>
     ensures { result ≡ nearest after places.now }
 {
     let mut found = None;
@@ -144,7 +145,7 @@ fn is_nearer(name: Name, found: Option<Name>) -> bool
 }
 
 // The last tick of the first place.
-pub(crate) fn first_last(places: &[Place]) -> Option<u32>
+pub(crate) fn first_last(places: &[DuePlace]) -> Option<u32>
     ensures { result ≡ first_last places.now }
 {
     match places {

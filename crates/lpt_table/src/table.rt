@@ -4,10 +4,10 @@ ghost use Rattle.std.specs.Prelude.{◌≡◌, ◌<◌, ℕ, IfOk, IfSome, IsSom
 ghost use Rattle.std.specs.FinMap as map;
 ghost use Rattle.std.specs.Option.{option_map};
 ghost use Rattle.lpt_packet.specs.Names.{named_by};
-ghost use Rattle.lpt_reception.specs.Steps.{kept};
+ghost use Rattle.lpt_reception.specs.Steps.{part_kept};
 ghost use Rattle.lpt_reception.specs.Received.{is_gap, no_parts};
 ghost use Rattle.lpt_table.specs.Deadlines.{IsDue, due_of};
-ghost use Rattle.lpt_table.specs.Offering.{TakesOut, is_open, offered, put_back, received_at, with_entry};
+ghost use Rattle.lpt_table.specs.Offering.{TakesOut, is_open, part_offered, put_back, received_at, with_entry};
 ghost use Rattle.lpt_table.specs.SettingBack.{reaches_back, table_back};
 ghost use Rattle.lpt_table.specs.Tables.{IsTableSize, no_receptions};
 ghost use Rattle.lpt_table.specs.Walking.{due_at, has_come, next_due, reception_at, IsNext};
@@ -98,14 +98,15 @@ impl Table {
         requires p { part.now.p ≡ self.old.p }
         requires settled { self.old.out ≡ None }
         ensures answer { Offers self.old (named_by source part.now.id) part.now.number
-            (kept part.now) now result self.new }
+            (part_kept part.now) now result self.new }
 
         // A reception that comes out may be put back.
         ensures its { IsOfName (named_by source part.now.id) self.old.p result }
 
         // The same as a function, out of memory aside.
         ensures offered { IfSome (kind_of result) (λ k.
-            offered self.old (named_by source part.now.id) part.now.number (kept part.now) now
+            part_offered self.old (named_by source part.now.id) part.now.number (part_kept part.now)
+            now
             ≡ (k, self.new)) }
     {
         let name = Name {
@@ -120,7 +121,7 @@ impl Table {
         requires p { part.now.p ≡ self.old.p }
         requires settled { self.old.out ≡ None }
         requires named { name.id ≡ part.now.id }
-        ensures { Offers self.old name part.now.number (kept part.now) now result self.new }
+        ensures { Offers self.old name part.now.number (part_kept part.now) now result self.new }
     {
         match self.receptions.offer(self.mode, name, part, now) {
             None => self.offer_first(name, part, now),
@@ -161,7 +162,7 @@ impl Table {
         requires settled { self.old.out ≡ None }
         requires named { name.id ≡ part.now.id }
         requires absent { map.get self.old.entries name ≡ None }
-        ensures { Offers self.old name part.now.number (kept part.now) now result self.new }
+        ensures { Offers self.old name part.now.number (part_kept part.now) now result self.new }
     {
         if self.receptions.is_full() {
             return Offer::NoRoom;
@@ -182,7 +183,7 @@ impl Table {
     #[tactic(auto, using(crate::proofs::FirstParts::gap_alone))]
     fn skips(&self, part: &Part<'_>) -> bool
         ensures gap { result ≡ is_gap self.now.mode no_parts part.now.number }
-        ensures new { IsNew no_parts part.now.number (kept part.now) }
+        ensures new { IsNew no_parts part.now.number (part_kept part.now) }
     {
         match self.mode {
             Mode::Any => false,

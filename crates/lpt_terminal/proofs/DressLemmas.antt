@@ -3,11 +3,11 @@ use Rattle.std.proofs.Common.{◌≡◌, ◌∙◌, ap, sym, refl, ℕ, List, []
 use Rattle.std.proofs.lemmas.List.{append_assoc, append-nil}
 use Rattle.std.proofs.lemmas.Grind.{flat_map-append}
 use Rattle.lpt_terminal.specs.declared.look.Look.{Look}
-use Rattle.lpt_terminal.specs.Rows.{Bare, Dressed, IsDressed, Piece, looking, said_in, sent_for}
+use Rattle.lpt_terminal.specs.Rows.{Bare, Dressed, IsDressed, RowPiece, looking, said_in, sent_for}
 
 -- the pieces up to here were put, and this is left of the text
 pub record IsPut (text rest line : List ℕ) : Type 0 where
-  pub pieces : List Piece
+  pub pieces : List RowPiece
   pub says : flat_map said_in pieces ++ rest ≡ text
   pub shows : flat_map sent_for pieces ≡ line
 

@@ -29,23 +29,23 @@ abbrev pub looking : Look → List ℕ → List ℕ
 looking look b = code_of look ++ (b ++ plain_code)
 
 -- A piece of a row: as a terminal shows all, or with a look.
-pub data Piece : Type 0 where
-  Bare : List ℕ → Piece
-  Dressed : Look → List ℕ → Piece
+pub data RowPiece : Type 0 where
+  Bare : List ℕ → RowPiece
+  Dressed : Look → List ℕ → RowPiece
 
 -- its octets
-abbrev pub said_in : Piece → List ℕ
+abbrev pub said_in : RowPiece → List ℕ
 said_in (Bare b) = b
 said_in (Dressed look b) = b
 
 -- what a terminal is sent
-abbrev pub sent_for : Piece → List ℕ
+abbrev pub sent_for : RowPiece → List ℕ
 sent_for (Bare b) = b
 sent_for (Dressed look b) = looking look b
 
 -- what a terminal is sent is the text, of which some pieces have what begins a look in front and
 -- what ends it behind
 pub record IsDressed (text line : List ℕ) : Type 0 where
-  pub pieces : List Piece
+  pub pieces : List RowPiece
   pub says : flat_map said_in pieces ≡ text
   pub shows : flat_map sent_for pieces ≡ line

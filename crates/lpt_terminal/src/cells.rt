@@ -18,7 +18,7 @@ pub(crate) struct Cells<'t> {
 
 // What the next word of a line is.
 #[derive(Clone, Copy)]
-enum Turn {
+enum CellTurn {
     // The value of this column.
     Value(usize),
     // A word that stands last.
@@ -32,26 +32,26 @@ pub(crate) fn cells_of(alloc: Global, line: &str) -> Result<Cells<'_>, AllocErro
     let mut values = [""; COUNT];
     let mut others = Vec::new(alloc);
     let mut last = Vec::new(alloc);
-    let mut turn = Turn::Value(0);
+    let mut turn = CellTurn::Value(0);
     let mut next = 0;
     for word in line.split(' ') {
         let now = turn;
-        turn = Turn::Any;
+        turn = CellTurn::Any;
         match now {
-            Turn::Value(at) => {
+            CellTurn::Value(at) => {
                 put(&mut values, at, word);
                 next = at.saturating_add(1);
             }
-            Turn::Last => last.push(word)?,
-            Turn::Any => {
+            CellTurn::Last => last.push(word)?,
+            CellTurn::Any => {
                 if let Some(at) = column_of(word, next) {
-                    turn = Turn::Value(at);
+                    turn = CellTurn::Value(at);
                 } else if next <= TYPE && is_type(word) {
                     put(&mut values, TYPE, word);
                     next = TYPE + 1;
                 } else if is_last(word) {
                     last.push(word)?;
-                    turn = Turn::Last;
+                    turn = CellTurn::Last;
                 } else {
                     others.push(word)?;
                 }

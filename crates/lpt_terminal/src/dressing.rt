@@ -11,7 +11,7 @@ const ELLIPSIS: &str = "…";
 
 /// A piece of a row's text that looks otherwise: so many octets behind the one before, and so long.
 #[derive(Clone, Copy)]
-pub(crate) struct Mark {
+pub(crate) struct DressedMark {
     pub(crate) gap: usize,
     pub(crate) len: usize,
     pub(crate) look: Look,
@@ -44,7 +44,7 @@ pub(crate) fn dressed_text(
     alloc: Global,
     text: &[u8],
     tail: &[u8],
-    marks: &[Mark],
+    marks: &[DressedMark],
 ) -> Result<Vec<u8>, AllocError>
     ensures { IfOk result (λ line. IsDressed (text.now ++ tail.now) line.items) }
 {

@@ -6,7 +6,7 @@ ghost use Rattle.lpt_terminal.specs.Rows.{IsDressed, fitted_text};
 use crate::Screen;
 use crate::cells::Cells;
 use crate::column::{COLUMNS, PART};
-use crate::dressing::{Mark, dressed_text, fitted_text, plain_text};
+use crate::dressing::{DressedMark, dressed_text, fitted_text, plain_text};
 use crate::look::{Look, look_of, others_look};
 use std::alloc::{AllocError, Global};
 
@@ -14,7 +14,7 @@ use std::alloc::{AllocError, Global};
 #[derive(Drop)]
 pub(crate) struct Row {
     text: Vec<u8>,
-    marks: Vec<Mark>,
+    marks: Vec<DressedMark>,
     // Where the last of them ends.
     marked: usize,
 }
@@ -75,7 +75,7 @@ impl Row {
         let from = self.text.len();
         self.text.extend_from_slice(word.as_bytes())?;
         if let Some(look) = look {
-            self.marks.push(Mark {
+            self.marks.push(DressedMark {
                 gap: from.saturating_sub(self.marked),
                 len: word.len(),
                 look,

@@ -11,7 +11,7 @@ use Rattle.std.proofs.lemmas.List.Folds.{prefix_len-append}
 use Rattle.std.proofs.lemmas.List.Sums.{prefix_len-le-length, position_or_len_is}
 use Rattle.std.proofs.KnownBytes.{Consumes-trans}
 use Rattle.std.specs.Io.KnownBytes.{Consumes}
-use Rattle.lpt_text.specs.Lines.{held, line_end, Adds, IsCut, Fills, FindsLine}
+use Rattle.lpt_text.specs.Lines.{octets_held, line_end, Adds, IsCut, Fills, FindsLine}
 use Rattle.lpt_text.specs.declared.fault.StreamFault.{StreamFault}
 use Rattle.lpt_text.specs.declared.fault.StreamFault.TheVariants as faults
 use Rattle.lpt_text.specs.declared.lines.LineBuffer.{LineBuffer}
@@ -86,7 +86,7 @@ adds-more old mid new a b c read more over p q = record {
   consumed = subst (Consumes a c) (sym (append_assoc read more over))
       (Consumes-trans a b c read (more ++ over)
       (subst (Consumes a b) (append-nil read) p.consumed) q.consumed);
-  behind = q.behind ∙ ap (λ x. x ++ more) p.behind ∙ append_assoc (held old) read more;
+  behind = q.behind ∙ ap (λ x. x ++ more) p.behind ∙ append_assoc (octets_held old) read more;
   counted = grind (arith, common_steps, p.counted, q.counted);
 }
 
@@ -94,13 +94,13 @@ adds-more old mid new a b c read more over p q = record {
 pub fill-fault : (fault : StreamFault) (old mid new : LineBuffer) (a b c : Option (List ℕ))
     (read : List ℕ) (had told failed : Bool)
     → Adds old mid a b read []
-    → line_end (held mid) ≡ None
-    → length (held mid) ≤ 140000
+    → line_end (octets_held mid) ≡ None
+    → length (octets_held mid) ≤ 140000
     → told ≡ had
     → Fills (Err fault) mid new b c told failed
     → FindsLine (Err fault) old new a c had failed
 fill-fault faults.Read old mid new a b c read had told failed p none short same q =
-    let all : held new ≡ held mid = q.1.behind ∙ append-nil (held mid) in (
+    let all : octets_held new ≡ octets_held mid = q.1.behind ∙ append-nil (octets_held mid) in (
       read ++ [],
       q.0,
       adds-more old mid new a b c read [] q.0 p q.1,

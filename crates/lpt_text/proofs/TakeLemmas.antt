@@ -10,7 +10,7 @@ use Rattle.std.proofs.lemmas.List.Quantifiers.{position-Some}
 use Rattle.lpt_text.proofs.LineLemmas.{line_end-nowhere, line_end-split}
 use Rattle.lpt_text.proofs.RestLemmas.{last-piece, rest-nothing, rest-piece, rest_lines}
 use Rattle.lpt_text.proofs.StreamLemmas.{part_after, part_of_front, part_whole}
-use Rattle.lpt_text.specs.Lines.{held, room_of, line_end, Adds, FindsLine}
+use Rattle.lpt_text.specs.Lines.{octets_held, room_of, line_end, Adds, FindsLine}
 use Rattle.lpt_text.specs.Reading.{EndsLine, EndsLong, IsWithin}
 use Rattle.lpt_text.specs.Streams.{AppendsPart, ReadFails}
 use Rattle.lpt_text.specs.Taking.{BreaksLine, IsTaken, LinesTaken, Stories, Story, TakesText, behind, failures, is_last, unless_last}
@@ -103,19 +103,19 @@ takes_start story first rest room old a b none all nothing = record {
 -- more was read
 pub takes_read : {T X : Type 0} (story : Stories T X) (first t : T) (is_taken : Bool) (n failed : ℕ)
     (before after : LineBuffer) (read : List ℕ) (old now next a b c : Option (List ℕ))
-    → Takes story first t is_taken n failed (held before) (room_of before) old now a b
+    → Takes story first t is_taken n failed (octets_held before) (room_of before) old now a b
     → Adds before after now next read []
     → Keeps b c
-    → Takes story first t is_taken n failed (held after) (room_of after) old next a c
+    → Takes story first t is_taken n failed (octets_held after) (room_of after) old next a c
 takes_read story first t is_taken n failed before after read old now next a b c takes adds keeps =
     record {
       given = takes.given;
       done = takes.done;
       consumed = subst (Consumes old next)
-          (ap (λ x. (takes.given ++ held before) ++ x) (append-nil read)
-          ∙ append_assoc takes.given (held before) read
+          (ap (λ x. (takes.given ++ octets_held before) ++ x) (append-nil read)
+          ∙ append_assoc takes.given (octets_held before) read
           ∙ ap (λ x. takes.given ++ x) (sym adds.behind))
-          (Consumes-trans old now next (takes.given ++ held before)
+          (Consumes-trans old now next (takes.given ++ octets_held before)
           (read ++ []) takes.consumed adds.consumed);
       ends = takes.ends;
       counted = grind (arith, common_steps, takes.counted, adds.counted, adds.behind);
@@ -142,8 +142,8 @@ takes_within story first t is_taken n failed text room old now a b takes = (
 pub found : (place : Option ℕ) (before after : LineBuffer) (now next : Option (List ℕ))
     (was failed : Bool)
     → FindsLine (Ok place) before after now next was failed
-    → (read : List ℕ) × Adds before after now next read [] × (line_end (held after) ≡ place)
-    × (is_none place ≡ true → IsAtEnd next ⊎ (140000 < length (held after))) × (failed ≡ was)
+    → (read : List ℕ) × Adds before after now next read [] × (line_end (octets_held after) ≡ place)
+    × (is_none place ≡ true → IsAtEnd next ⊎ (140000 < length (octets_held after))) × (failed ≡ was)
 found (Some n) before after now next was failed p = (p.0, p.1, p.2, (λ e. cc), p.4)
 found None before after now next was failed p = (p.0, p.1, p.2, (λ e. p.3), p.4)
 
@@ -287,15 +287,15 @@ takes_next story first t v is_taken n failed place text line rest len room taken
 pub takes_smaller : (before after : LineBuffer) (read rest : List ℕ) (now next : Option (List ℕ))
     (len room : ℕ)
     → Adds before after now next read []
-    → (0 < len) × (len ≤ length (held after))
-    → rest ≡ drop len (held after)
+    → (0 < len) × (len ≤ length (octets_held after))
+    → rest ≡ drop len (octets_held after)
     → room ≡ room_of after
-    → length rest + room < length (held before) + room_of before
+    → length rest + room < length (octets_held before) + room_of before
 takes_smaller before after read rest now next len room adds size is same =
-    let grown : length (held after) ≡ length (held before) + length read =
-    ap length adds.behind ∙ length-append (held before) read in
-    let left : length rest ≡ length (held after) - len = ap length is
-    ∙ length-drop len (held after) in
+    let grown : length (octets_held after) ≡ length (octets_held before) + length read =
+    ap length adds.behind ∙ length-append (octets_held before) read in
+    let left : length rest ≡ length (octets_held after) - len = ap length is
+    ∙ length-drop len (octets_held after) in
     omega (arith, adds.counted, grown, left, same, size.0, size.1)
 
 -- a place is none, by what is said of some
@@ -538,7 +538,7 @@ takes_broken story first t v is_taken n failed place fault text line len room ol
 pub takes_cut : {T X : Type 0} (story : Stories T X) (first t : T) (is_taken : Bool) (n failed : ℕ)
     (before after : LineBuffer) (fault : StreamFault) (old now next a b c : Option (List ℕ))
     (over was read_failed : Bool)
-    → Takes story first t is_taken n failed (held before) (room_of before) old now a b
+    → Takes story first t is_taken n failed (octets_held before) (room_of before) old now a b
     → FindsLine (Err fault) before after now next was read_failed
     → Keeps b c
     → over ≡ false
@@ -562,16 +562,16 @@ takes_cut story first t is_taken n failed before after fault old now next a b c 
         (part_whole a c takes.done written))
 
     behind_held : (lost : List ℕ) → Consumes now next lost
-        → Consumes old next (takes.given ++ (held before ++ lost))
+        → Consumes old next (takes.given ++ (octets_held before ++ lost))
     behind_held lost p =
-        subst (Consumes old next) (append_assoc takes.given (held before) lost)
-        (Consumes-trans old now next (takes.given ++ held before) lost takes.consumed p)
+        subst (Consumes old next) (append_assoc takes.given (octets_held before) lost)
+        (Consumes-trans old now next (takes.given ++ octets_held before) lost takes.consumed p)
 
     by_fault : (fault : StreamFault) → FindsLine (Err fault) before after now next was read_failed
         → LinesTaken story first t over (Err fault) old next a c read_failed
     by_fault faults.Write q = (
       takes.given,
-      held before ++ q.0,
+      octets_held before ++ q.0,
       behind_held q.0 q.1,
       inr
           (any_front is_taken takes.given takes.ends),
@@ -580,7 +580,7 @@ takes_cut story first t is_taken n failed before after fault old now next a b c 
     )
     by_fault faults.Memory q = (
       takes.given,
-      held before ++ q.0,
+      octets_held before ++ q.0,
       behind_held q.0 q.1,
       inr
           (any_front is_taken takes.given takes.ends),
@@ -588,18 +588,18 @@ takes_cut story first t is_taken n failed before after fault old now next a b c 
       part,
     )
     by_fault faults.Read q =
-        let grown : length (held after) ≡ length (held before) + length q.0 =
-        ap length q.2.behind ∙ length-append (held before) q.0 in (
+        let grown : length (octets_held after) ≡ length (octets_held before) + length q.0 =
+        ap length q.2.behind ∙ length-append (octets_held before) q.0 in (
           going,
           (
             takes.given,
-            held after,
+            octets_held after,
             q.1,
             subst (Consumes old next)
-                (append_assoc takes.given (held before) (q.0 ++ q.1)
-                ∙ ap (λ x. takes.given ++ x) (sym (append_assoc (held before) q.0 q.1)
+                (append_assoc takes.given (octets_held before) (q.0 ++ q.1)
+                ∙ ap (λ x. takes.given ++ x) (sym (append_assoc (octets_held before) q.0 q.1)
                 ∙ ap (λ x. x ++ q.1) (sym q.2.behind)))
-                (Consumes-trans old now next (takes.given ++ held before)
+                (Consumes-trans old now next (takes.given ++ octets_held before)
                 (q.0 ++ q.1) takes.consumed q.2.consumed),
             any_front is_taken takes.given takes.ends,
             q.3,
@@ -610,11 +610,11 @@ takes_cut story first t is_taken n failed before after fault old now next a b c 
           ),
         )
       where
-        cut : length (held after) ≡ length (held before) + length q.0
+        cut : length (octets_held after) ≡ length (octets_held before) + length q.0
             → (((q.1 ≡ []) × (read_failed ≡ true))
             ⊎ ((room_of after ≡ 0) × (0 < length q.1) × (read_failed ≡ was)))
             → (((q.1 ≡ []) × (read_failed ≡ true))
-            ⊎ ((length takes.given + length (held after) ≡ 16777216) × (0 < length q.1)))
+            ⊎ ((length takes.given + length (octets_held after) ≡ 16777216) × (0 < length q.1)))
         cut grown (inl p) = inl p
         cut grown (inr p) = inr (omega (arith, takes.counted, grown, q.2.counted, p.0), p.1)
 

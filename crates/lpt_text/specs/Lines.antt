@@ -7,8 +7,8 @@ use Rattle.lpt_text.specs.declared.fault.StreamFault.TheVariants as faults
 use Rattle.lpt_text.specs.declared.lines.LineBuffer.{LineBuffer}
 
 -- the octets that were read and not passed over yet
-abbrev pub held : LineBuffer → List ℕ
-held b = drop b.start b.octets.items
+abbrev pub octets_held : LineBuffer → List ℕ
+octets_held b = drop b.start b.octets.items
 
 -- how many more octets the text may have
 abbrev pub room_of : LineBuffer → ℕ
@@ -22,7 +22,7 @@ line_end text = position (λ b. b == 10) text
 pub record Adds (old new : LineBuffer) (before after : Option (List ℕ))
     (read over : List ℕ) : Type 0 where
   pub consumed : Consumes before after (read ++ over)
-  pub behind : held new ≡ held old ++ read
+  pub behind : octets_held new ≡ octets_held old ++ read
   pub counted : room_of new + length read ≡ room_of old
 
 -- why no more is read: a read failed, or octets came over the limit
@@ -50,14 +50,15 @@ abbrev pub FindsLine :
     Result (Option ℕ) StreamFault → (old new : LineBuffer) → (before after : Option (List ℕ))
     → (had failed : Bool) → Type 0
 FindsLine (Ok (Some n)) old new before after had failed =
-    (read : List ℕ) × Adds old new before after read [] × (line_end (held new) ≡ Some n)
-    × (n < length (held new)) × (failed ≡ had)
+    (read : List ℕ) × Adds old new before after read [] × (line_end (octets_held new) ≡ Some n)
+    × (n < length (octets_held new)) × (failed ≡ had)
 FindsLine (Ok None) old new before after had failed =
-    (read : List ℕ) × Adds old new before after read [] × (line_end (held new) ≡ None)
-    × (IsAtEnd after ⊎ (longest_line < length (held new))) × (failed ≡ had)
+    (read : List ℕ) × Adds old new before after read [] × (line_end (octets_held new) ≡ None)
+    × (IsAtEnd after ⊎ (longest_line < length (octets_held new))) × (failed ≡ had)
 FindsLine (Err faults.Read) old new before after had failed =
     (read : List ℕ) × (over : List ℕ) × Adds old new before after read over
-    × (line_end (held new) ≡ None) × (length (held new) ≤ longest_line) × IsCut new over had failed
+    × (line_end (octets_held new) ≡ None) × (length (octets_held new) ≤ longest_line)
+    × IsCut new over had failed
 FindsLine (Err faults.Write) old new before after had failed =
     (lost : List ℕ) × Consumes before after lost × (failed ≡ had)
 FindsLine (Err faults.Memory) old new before after had failed =

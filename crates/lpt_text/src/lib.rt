@@ -25,4 +25,4 @@ pub use lines::LineBuffer;
 pub use reading::{End, read_text};
 pub use stream::{FromStd, Sink, Source, flush_out, write_out};
 pub use taking::{LineTaker, Taken, each_line};
-pub use texts::{LONGEST_LINE, LONGEST_TEXT, ended, split_line};
+pub use texts::{LONGEST_LINE, LONGEST_TEXT, ended_line, split_line};

@@ -26,13 +26,13 @@ pub struct LineBuffer {
 impl LineBuffer {
     ghost use Rattle.std.specs.Prelude.{◌≡◌, ◌≢◌, ◌⊎◌, ◌+◌, ◌++◌, [], drop, Err, IfErr, OnOk};
     ghost use Rattle.std.specs.Io.KnownBytes.{Keeps};
-    ghost use Rattle.lpt_text.specs.Lines.{held, room_of, Fills, FindsLine};
+    ghost use Rattle.lpt_text.specs.Lines.{octets_held, room_of, Fills, FindsLine};
     ghost use Rattle.lpt_text.specs.Streams.{WriteEnds};
     ghost use Rattle.lpt_text.specs.Texts.{longest_text};
 
     /// A text of which nothing was read.
     pub fn new(alloc: Global) -> Self
-        ensures held { held result ≡ [] }
+        ensures held { octets_held result ≡ [] }
         ensures room { room_of result ≡ longest_text }
     {
         LineBuffer {
@@ -43,16 +43,16 @@ impl LineBuffer {
     }
 
     /// The octets that were read and not passed over yet.
-    pub fn held(&self) -> &[u8]
-        ensures { result.now ≡ held self.now }
+    pub fn octets_held(&self) -> &[u8]
+        ensures { result.now ≡ octets_held self.now }
     {
         &self.octets[self.start..]
     }
 
     /// Passes over so many of the octets that are held.
     pub fn skip(&mut self, count: usize)
-        requires { count ≤ length (held self.old) }
-        ensures held { held self.new ≡ drop count (held self.old) }
+        requires { count ≤ length (octets_held self.old) }
+        ensures held { octets_held self.new ≡ drop count (octets_held self.old) }
         ensures room { room_of self.new ≡ room_of self.old }
     {
         self.start += count;
@@ -82,9 +82,9 @@ impl LineBuffer {
     {
         let mut searched = 0;
         loop {
-            match first_line_end(&self.held()[searched..]) {
+            match first_line_end(&self.octets_held()[searched..]) {
                 Some(place) => return Ok(Some(searched + place)),
-                None => searched = self.held().len(),
+                None => searched = self.octets_held().len(),
             }
             if searched > LONGEST_LINE {
                 return Ok(None);
@@ -124,7 +124,7 @@ impl LineBuffer {
     // Holds octets behind the rest.
     fn push(&mut self, octets: &[u8]) -> Result<(), StreamFault>
         requires { length octets.now ≤ room_of self.old }
-        ensures held { OnOk result (held self.new ≡ held self.old ++ octets.now) }
+        ensures held { OnOk result (octets_held self.new ≡ octets_held self.old ++ octets.now) }
         ensures room { OnOk result (room_of self.new + length octets.now ≡ room_of self.old) }
         ensures fault { IfErr result (λ e. e ≡ StreamFault.Memory) }
     {
@@ -138,7 +138,7 @@ impl LineBuffer {
 
     // Gives up the octets that were passed over.
     fn compact(&mut self)
-        ensures held { held self.new ≡ held self.old }
+        ensures held { octets_held self.new ≡ octets_held self.old }
         ensures room { room_of self.new ≡ room_of self.old }
     {
         let left = self.octets.len() - self.start;

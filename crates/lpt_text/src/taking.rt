@@ -10,7 +10,7 @@ ghost use Rattle.lpt_text.specs.TakingInside.{IsPiece, TakesPiece};
 use crate::fault::StreamFault;
 use crate::lines::LineBuffer;
 use crate::stream::{Sink, Source};
-use crate::texts::{LONGEST_LINE, ended};
+use crate::texts::{LONGEST_LINE, ended_line};
 use std::alloc::Global;
 
 /// What became of a line.
@@ -117,7 +117,7 @@ pub fn each_line<S: Source, K: Sink, T: LineTaker>(
             Ok(place) => place,
             Err(fault) => return Err(fault),
         };
-        let held = lines.held();
+        let held = lines.octets_held();
         if held.is_empty() {
             return Ok(failed);
         }
@@ -176,7 +176,7 @@ fn front_line(held: &[u8], place: Option<usize>) -> (&[u8], usize)
     ensures { IsPiece place held.now result.0.now result.1 }
 {
     match place {
-        Some(len) => (ended(&held[..len]), len + 1),
+        Some(len) => (ended_line(&held[..len]), len + 1),
         None => (held, held.len()),
     }
 }

@@ -27,14 +27,14 @@ pub fn split_line(text: &[u8]) -> Option<(&[u8], &[u8])>
         return None;
     }
     match first_place(text, b'\n') {
-        Some(end) => Some((ended(&text[..end]), &text[end + 1..])),
+        Some(end) => Some((ended_line(&text[..end]), &text[end + 1..])),
         None => Some((text, &[])),
     }
 }
 
 /// The line that a line feed ends: the octets before it, without one carriage return directly
 /// before it; what has more than 140,000 octets with that keeps it, and is too long to be read.
-pub fn ended(piece: &[u8]) -> &[u8]
+pub fn ended_line(piece: &[u8]) -> &[u8]
     ensures { result.now ≡ ended_line piece.now }
 {
     if piece.len() > LONGEST_LINE {

@@ -24,28 +24,28 @@ abbrev pub success_if : Bool → ℕ → ℕ → List EncodedReport
 success_if asked request subtype = if asked then success request subtype ∷ [] else []
 
 -- successful acceptance verification report
-abbrev pub accepted : ℕ → ℕ → List EncodedReport
-accepted request flags = success_if (asks flags 1) request 1
+abbrev pub acceptance_reports : ℕ → ℕ → List EncodedReport
+acceptance_reports request flags = success_if (asks flags 1) request 1
 
 -- successful start of execution verification report
-abbrev pub started : ℕ → ℕ → List EncodedReport
-started request flags = success_if (asks flags 2) request 3
+abbrev pub start_reports : ℕ → ℕ → List EncodedReport
+start_reports request flags = success_if (asks flags 2) request 3
 
 -- successful completion of execution verification report
-abbrev pub completed : ℕ → ℕ → List EncodedReport
-completed request flags = success_if (asks flags 8) request 7
+abbrev pub completion_reports : ℕ → ℕ → List EncodedReport
+completion_reports request flags = success_if (asks flags 8) request 7
 
 -- what comes before the data report: codes 1 and 2 are failed acceptances and are reported alone,
 -- all others are failed starts of execution
 abbrev pub reports_before : ℕ → ℕ → Option ℕ → List EncodedReport
-reports_before request flags None = accepted request flags ++ started request flags
+reports_before request flags None = acceptance_reports request flags ++ start_reports request flags
 reports_before request flags (Some code) =
     if nat_le code 2 then failure request 2 code ∷ []
-    else accepted request flags ++ failure request 4 code ∷ []
+    else acceptance_reports request flags ++ failure request 4 code ∷ []
 
 -- what comes after the data report
 abbrev pub reports_after : ℕ → ℕ → Option ℕ → List EncodedReport
-reports_after request flags None = completed request flags
+reports_after request flags None = completion_reports request flags
 reports_after request flags (Some code) = []
 
 -- all reports of a request but its data report, in their order

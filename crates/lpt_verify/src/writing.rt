@@ -54,13 +54,13 @@ pub fn reports(
         (all_reports request.value flags (option_map number_of code) ≢ []) }
 {
     match code {
-        None => succeeded(alloc, request, flags),
-        Some(code) => failed(alloc, request, flags, code),
+        None => success_reports(alloc, request, flags),
+        Some(code) => failure_reports(alloc, request, flags, code),
     }
 }
 
 // The reports of a request that was carried out.
-fn succeeded(alloc: Global, request: RequestId, flags: u8) -> Result<Reports, AllocError>
+fn success_reports(alloc: Global, request: RequestId, flags: u8) -> Result<Reports, AllocError>
     ensures before { IfOk result (λ r. r.before.items ≡ reports_before request.value flags None) }
     ensures after { IfOk result (λ r. r.after.items ≡ reports_after request.value flags None) }
     ensures memory { OnErr result (all_reports request.value flags None ≢ []) }
@@ -80,7 +80,7 @@ fn succeeded(alloc: Global, request: RequestId, flags: u8) -> Result<Reports, Al
 }
 
 // The reports of a request that failed.
-fn failed(
+fn failure_reports(
     alloc: Global,
     request: RequestId,
     flags: u8,

@@ -3,7 +3,7 @@ use Rattle.std.proofs.Common.{arith, ◌≡◌, ◌∙◌, ap, refl, ◌+◌, �
 use Rattle.std.proofs.lemmas.List.{reverse-append, length-append, length-reverse, length-map, length-drop, map-append}
 use Rattle.lpt_memory.specs.Memories.{Contents}
 use Rattle.lpt_jobs.specs.declared.job.Job.{Job as QueuedJob}
-use Rattle.lpt_jobs.specs.Jobs.{numbered}
+use Rattle.lpt_jobs.specs.Jobs.{jobs_numbered}
 use Rattle.lpt_events.specs.declared.config.Config.{Config}
 use Rattle.lpt_events.specs.declared.entry.Entry.{Entry}
 use Rattle.lpt_events.specs.declared.entry.Release.{Release}
@@ -14,7 +14,7 @@ use Rattle.lpt_events.specs.declared.side.Side.TheVariants.{Ground, Craft}
 use Rattle.lpt_journal.specs.Jobs.{jobs, ticket}
 use Rattle.lpt_journal.specs.Journal.{History, with_all}
 use Rattle.lpt_journal.specs.Releases.{released_by}
-use Rattle.lpt_journal.specs.Replies.{recorded}
+use Rattle.lpt_journal.specs.Replies.{history_after}
 use Rattle.lpt_journal.specs.Senders.{restarts}
 use Rattle.lpt_journal.proofs.BootLemmas.{boot_few}
 use Rattle.lpt_journal.proofs.HeadlineLemmas.{every}
@@ -39,7 +39,8 @@ events_of-push j x =
     ap reverse (map-append (λ (y : Entry). act_of y.event) j (x ∷ []))
     ∙ reverse-append (events j) (act_of x.event ∷ [])
 
-length-recorded : (c : Config) (first : Contents) (es : List Act) → length (recorded c first es)
+length-recorded : (c : Config) (first : Contents) (es : List Act)
+    → length (history_after c first es)
     ≡ length es
 length-recorded c first [] = refl
 length-recorded c first (e ∷ es) = ap (λ n. suc n) (length-recorded c first es)
@@ -130,7 +131,7 @@ length-jobs_from job n (m ∷ ms) = ap (λ k. suc k) (length-jobs_from job (suc 
 pub numbered_few : (c : Config) (first : Contents) (s : State) (j : List Entry)
     → IsTold c first j
     → Shows s (views c first (history_of c first j))
-    → numbered s.on_craft.jobs ≤ length j
+    → jobs_numbered s.on_craft.jobs ≤ length j
 numbered_few c first s j told shows =
     let h = history_of c first j in
     let v = jobs_view c first h in

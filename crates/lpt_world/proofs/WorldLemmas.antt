@@ -26,7 +26,7 @@ use Rattle.lpt_journal.specs.Link.{sent}
 use Rattle.lpt_events.specs.Configs.{IsConfig}
 use Rattle.lpt_journal.specs.Legal.{Legal}
 use Rattle.lpt_journal.specs.Events.{refusal, reply, entry, IsEnabled}
-use Rattle.lpt_journal.specs.Replies.{recorded}
+use Rattle.lpt_journal.specs.Replies.{history_after}
 use Rattle.lpt_refinement.specs.Shows.{Shows, sent_packet}
 use Rattle.lpt_model.specs.Events.{after, refusal_of, IsReady}
 use Rattle.lpt_model.specs.State.{State, no_state}
@@ -76,7 +76,7 @@ told_push c first j x told enabled is seated =
           map-append (λ (y : Entry). y.reply) j (x ∷ [])
           ∙ ap (λ rs. rs ++ x.reply ∷ []) told.replies
           ∙ ap (λ a. replies_of h ++ a ∷ []) is
-          ∙ sym (ap (λ es. replies_of (recorded c first es)) (events_of-push j x)
+          ∙ sym (ap (λ es. replies_of (history_after c first es)) (events_of-push j x)
           ∙ reverse-append (r ∷ []) (map (λ (y : Recorded). y.reply) h));
       seats = All-push (λ (y : Entry). y.seat ≤ 10) j x told.seats seated;
     }
@@ -128,7 +128,7 @@ shown_push e e' first j x k seated ranged free done same =
     ap (λ n. (after c n (state_of e) x.event).0) (length-history_of c first j)
     ∙ sym (ap (λ (y : State × Reply). y.0) done) in
     let longer : history_of c first (j ++ x ∷ []) ≡ entry c first h x.event ∷ h =
-    ap (recorded c first) (events_of-push j x) in
+    ap (history_after c first) (events_of-push j x) in
     let shows : Shows (state_of e') (views c first (history_of c first (j ++ x ∷ []))) =
     subst (λ (g : History). Shows (state_of e') (views c first g)) (sym longer)
     (subst (λ (s : State). Shows s (views c first (entry c first h x.event ∷ h))) state goes.shown)

@@ -20,7 +20,7 @@ use Rattle.lpt_journal.specs.Headline.{Holds}
 use Rattle.lpt_journal.specs.Legal.{Legal}
 use Rattle.lpt_journal.specs.Whole.{WholeIsReleased}
 use Rattle.lpt_journal.specs.Work.{WorkKeepsItsBoot}
-use Rattle.lpt_journal.specs.Replies.{recorded}
+use Rattle.lpt_journal.specs.Replies.{history_after}
 use Rattle.lpt_journal.specs.Events.{refusal, reply}
 
 -- the configuration, the memories as they were first, and the journal with its oldest entry first
@@ -39,7 +39,7 @@ events_of j = reverse (map (λ x. act_of x.event) j)
 
 -- what a journal tells under a configuration, over the first content of memories
 abbrev pub history_of : Config → Contents → List Entry → History
-history_of c first j = recorded c first (events_of j)
+history_of c first j = history_after c first (events_of j)
 
 -- what a world's journal tells
 abbrev pub history : Shown → History
@@ -88,10 +88,10 @@ with_entry w seat e r =
 -- ---- runs
 
 -- the world after these events of one seat, each of which was accepted
-abbrev pub entered : Shown → ℕ → List Event → Shown
-entered w seat [] = w
-entered w seat (e ∷ es) =
-    entered (with_entry w seat e (reply w.config w.first (history w) e)) seat es
+abbrev pub events_entered : Shown → ℕ → List Event → Shown
+events_entered w seat [] = w
+events_entered w seat (e ∷ es) =
+    events_entered (with_entry w seat e (reply w.config w.first (history w) e)) seat es
 
 -- each of these events is accepted after those before it
 abbrev pub AllAccepted : Shown → ℕ → List Event → Type 0

@@ -250,7 +250,7 @@ impl World {
         requires { refusal_at self.now seat (Event.Claim worker) ≡ None }
         ensures { IfOk result (λ t. job_given self.now.config (history self.now) ≡ Some t) }
     {
-        let Some((job, message)) = self.system.on_craft.unclaimed() else {
+        let Some((job, message)) = self.system.on_craft.oldest_unclaimed() else {
             unreachable!()
         };
         Ok(Ticket::new(self.system.on_craft.boot(), job, message.copy()?))

@@ -4,7 +4,7 @@ ghost use Rattle.std.specs.Prelude.{◌≡◌, ◌-◌, length, slice_get, IfOk}
 ghost use Rattle.std.specs.Option.{option_map, option_copied};
 ghost use Rattle.lpt_journal.specs.Hands.{hand};
 ghost use Rattle.lpt_journal.specs.Headline.{EachIsLastOpened, AtMostOncePerOpening, EachWasAsked, EachIsOfGround, MemoriesFollow};
-ghost use Rattle.lpt_journal.specs.Jobs.{jobs, claimed, applied, ticket};
+ghost use Rattle.lpt_journal.specs.Jobs.{jobs, jobs_claimed, jobs_applied, ticket};
 ghost use Rattle.lpt_journal.specs.Link.{sent, is_held};
 ghost use Rattle.lpt_journal.specs.Receivers.{clock};
 ghost use Rattle.lpt_journal.specs.Releases.{releases};
@@ -156,7 +156,7 @@ impl World {
     /// none has claimed it.
     pub fn jobs_left(&self) -> u64
         ensures { result
-            ≡ length (jobs self.now.config (history self.now)) - claimed (history self.now) }
+            ≡ length (jobs self.now.config (history self.now)) - jobs_claimed (history self.now) }
     {
         self.system.on_craft.waiting()
     }
@@ -165,8 +165,8 @@ impl World {
     /// ones among them.
     pub fn jobs_queued(&self) -> u64
         ensures { result
-            ≡ length (jobs self.now.config (history self.now)) - applied (history self.now) }
+            ≡ length (jobs self.now.config (history self.now)) - jobs_applied (history self.now) }
     {
-        self.system.on_craft.queued()
+        self.system.on_craft.jobs_queued()
     }
 }

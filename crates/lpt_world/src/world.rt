@@ -3,7 +3,7 @@
 ghost use Rattle.std.specs.Prelude.{◌≡◌, ◌≤◌, length, take, slice_get, None, IfOk, IfErr, IfSome};
 ghost use Rattle.lpt_events.specs.Configs.{config_fault, ConfigRefusedBy};
 ghost use Rattle.lpt_journal.specs.Events.{reply};
-ghost use Rattle.lpt_world.specs.Worlds.{Promised, new_world, history, refusal_at, RefusedBy, with_entry, entered, AllAccepted, IsFaultOf};
+ghost use Rattle.lpt_world.specs.Worlds.{Promised, new_world, history, refusal_at, RefusedBy, with_entry, events_entered, AllAccepted, IsFaultOf};
 
 use lpt_events::{Config, ConfigFault, Entry, Event, Refused, Reply, RunEnd, StepFault};
 use lpt_memory::Memories;
@@ -129,7 +129,7 @@ impl World {
     pub fn run(&mut self, events: &[Event]) -> RunEnd
         ensures done { result.done ≤ length events.now }
         ensures accepted { AllAccepted self.old 0 (take result.done events.now) }
-        ensures entered { self.new ≡ entered self.old 0 (take result.done events.now) }
+        ensures entered { self.new ≡ events_entered self.old 0 (take result.done events.now) }
         ensures all { result.refused ≡ None → result.done ≡ length events.now }
         ensures refused { IfSome result.refused (λ f. IsFaultOf self.new 0 (slice_get events.now result.done) f) }
         ensures promised { Promised self.new }

@@ -6,7 +6,7 @@ use Rattle.lpt_jobs.specs.Jobs.{after_commit, head_by, head_of}
 use Rattle.lpt_memory.specs.Memories.{Contents, sizes_of}
 use Rattle.lpt_memory.specs.Readings.{Source}
 use Rattle.lpt_node.specs.declared.fault.NodeFault.TheVariants.{NotReady}
-use Rattle.lpt_node.specs.Jobs.{FrontIsFor, committed, refusal_apply, refusal_apply_of}
+use Rattle.lpt_node.specs.Jobs.{FrontIsFor, job_committed, refusal_apply, refusal_apply_of}
 use Rattle.lpt_node.specs.Nodes.{NodeData}
 
 module _ (r : Source) (apid : ℕ) (ms : Contents) (its : r.apid ≡ apid) (sizes : r.sizes ≡ sizes_of ms) where
@@ -40,7 +40,7 @@ module _ (r : Source) (apid : ℕ) (ms : Contents) (its : r.apid ≡ apid) (size
   -- where none was committed before, the front has this reading, or none
   pub front_is_for : (d e : NodeData) (boot job : ℕ) (b : Bool)
       → refusal_apply d ≡ Some NotReady
-      → (e, b) ≡ committed d boot job r
+      → (e, b) ≡ job_committed d boot job r
       → FrontIsFor (head_of e.jobs.jobs) apid ms
   front_is_for d e boot job b h is =
       subst (λ (x : NodeData × Bool). FrontIsFor (head_of x.0.jobs.jobs) apid ms) (sym is)

@@ -3,7 +3,7 @@
 
 use crate::names::ID_7;
 use crate::packets::{FIRST_DOWN, FIRST_UP, MIDDLE_DOWN, MIDDLE_UP};
-use crate::playing::{Packet, Play, Row, play_all};
+use crate::playing::{Packet, Play, PlayRow, play_all};
 use crate::stations::PASS;
 use lpt_events::Outcome::{self, *};
 use lpt_events::Side::{self, Craft, Ground};
@@ -149,10 +149,10 @@ static PLAYS: [Play; 11] = [
         sides: &BOTH,
         config: PASS,
         rows: &[
-            Row::Hears(FIRST, Kept(ID_7, 1), &[]),
-            Row::Hears(OTHER, BROKEN, &REPORT),
-            Row::Hears(MIDDLE, CLOSED, &[]),
-            Row::Receives(ID_7, false),
+            PlayRow::Hears(FIRST, Kept(ID_7, 1), &[]),
+            PlayRow::Hears(OTHER, BROKEN, &REPORT),
+            PlayRow::Hears(MIDDLE, CLOSED, &[]),
+            PlayRow::Receives(ID_7, false),
         ],
     },
     Play {
@@ -160,10 +160,10 @@ static PLAYS: [Play; 11] = [
         sides: &BOTH,
         config: PASS,
         rows: &[
-            Row::Hears(FIRST, Kept(ID_7, 1), &[]),
-            Row::Hears(LAST_3, Kept(ID_7, 3), &[]),
-            Row::Hears(LAST_2, BROKEN, &REPORT),
-            Row::Hears(FIRST, CLOSED, &[]),
+            PlayRow::Hears(FIRST, Kept(ID_7, 1), &[]),
+            PlayRow::Hears(LAST_3, Kept(ID_7, 3), &[]),
+            PlayRow::Hears(LAST_2, BROKEN, &REPORT),
+            PlayRow::Hears(FIRST, CLOSED, &[]),
         ],
     },
     Play {
@@ -171,9 +171,9 @@ static PLAYS: [Play; 11] = [
         sides: &BOTH,
         config: PASS,
         rows: &[
-            Row::Hears(MIDDLE_3, Kept(ID_7, 3), &[]),
-            Row::Hears(LAST_2, BROKEN, &REPORT),
-            Row::Hears(FIRST, CLOSED, &[]),
+            PlayRow::Hears(MIDDLE_3, Kept(ID_7, 3), &[]),
+            PlayRow::Hears(LAST_2, BROKEN, &REPORT),
+            PlayRow::Hears(FIRST, CLOSED, &[]),
         ],
     },
     Play {
@@ -181,9 +181,9 @@ static PLAYS: [Play; 11] = [
         sides: &BOTH,
         config: PASS,
         rows: &[
-            Row::Hears(LAST_2, Kept(ID_7, 2), &[]),
-            Row::Hears(MIDDLE_3, BROKEN, &REPORT),
-            Row::Hears(FIRST, CLOSED, &[]),
+            PlayRow::Hears(LAST_2, Kept(ID_7, 2), &[]),
+            PlayRow::Hears(MIDDLE_3, BROKEN, &REPORT),
+            PlayRow::Hears(FIRST, CLOSED, &[]),
         ],
     },
     Play {
@@ -191,9 +191,9 @@ static PLAYS: [Play; 11] = [
         sides: &BOTH,
         config: PASS,
         rows: &[
-            Row::Hears(LAST_3, Kept(ID_7, 3), &[]),
-            Row::Hears(MIDDLE_3, BROKEN, &REPORT),
-            Row::Hears(FIRST, CLOSED, &[]),
+            PlayRow::Hears(LAST_3, Kept(ID_7, 3), &[]),
+            PlayRow::Hears(MIDDLE_3, BROKEN, &REPORT),
+            PlayRow::Hears(FIRST, CLOSED, &[]),
         ],
     },
     Play {
@@ -201,8 +201,8 @@ static PLAYS: [Play; 11] = [
         sides: &BOTH,
         config: PASS,
         rows: &[
-            Row::Hears(MIDDLE_65535, BAD, &[]),
-            Row::Hears(FIRST, Kept(ID_7, 1), &[]),
+            PlayRow::Hears(MIDDLE_65535, BAD, &[]),
+            PlayRow::Hears(FIRST, Kept(ID_7, 1), &[]),
         ],
     },
     Play {
@@ -210,8 +210,8 @@ static PLAYS: [Play; 11] = [
         sides: &BOTH,
         config: PASS,
         rows: &[
-            Row::Hears(LONG_8193, BAD, &[]),
-            Row::Hears(FIRST, Kept(ID_7, 1), &[]),
+            PlayRow::Hears(LONG_8193, BAD, &[]),
+            PlayRow::Hears(FIRST, Kept(ID_7, 1), &[]),
         ],
     },
     Play {
@@ -219,8 +219,8 @@ static PLAYS: [Play; 11] = [
         sides: &BOTH,
         config: PASS,
         rows: &[
-            Row::Hears(LAST_8193, Kept(ID_7, 8193), &[]),
-            Row::Hears(FIRST, Kept(ID_7, 1), &[]),
+            PlayRow::Hears(LAST_8193, Kept(ID_7, 8193), &[]),
+            PlayRow::Hears(FIRST, Kept(ID_7, 1), &[]),
         ],
     },
     Play {
@@ -228,10 +228,10 @@ static PLAYS: [Play; 11] = [
         sides: &BOTH,
         config: STRICT,
         rows: &[
-            Row::Hears(FIRST, Kept(ID_7, 1), &[]),
-            Row::Hears(MIDDLE_3, GAP, &GAP_REPORT),
-            Row::Hears(MIDDLE, CLOSED, &[]),
-            Row::Receives(ID_7, false),
+            PlayRow::Hears(FIRST, Kept(ID_7, 1), &[]),
+            PlayRow::Hears(MIDDLE_3, GAP, &GAP_REPORT),
+            PlayRow::Hears(MIDDLE, CLOSED, &[]),
+            PlayRow::Receives(ID_7, false),
         ],
     },
     Play {
@@ -239,9 +239,9 @@ static PLAYS: [Play; 11] = [
         sides: &BOTH,
         config: STRICT,
         rows: &[
-            Row::Hears(MIDDLE, GAP, &GAP_REPORT),
-            Row::Hears(FIRST, CLOSED, &[]),
-            Row::Receives(ID_7, false),
+            PlayRow::Hears(MIDDLE, GAP, &GAP_REPORT),
+            PlayRow::Hears(FIRST, CLOSED, &[]),
+            PlayRow::Receives(ID_7, false),
         ],
     },
     Play {
@@ -249,10 +249,10 @@ static PLAYS: [Play; 11] = [
         sides: &BOTH,
         config: STRICT,
         rows: &[
-            Row::Hears(FIRST, Kept(ID_7, 1), &[]),
-            Row::Hears(MIDDLE, Kept(ID_7, 2), &[]),
-            Row::Hears(FIRST, Again(ID_7, 1), &[]),
-            Row::Hears(OTHER, BROKEN, &REPORT),
+            PlayRow::Hears(FIRST, Kept(ID_7, 1), &[]),
+            PlayRow::Hears(MIDDLE, Kept(ID_7, 2), &[]),
+            PlayRow::Hears(FIRST, Again(ID_7, 1), &[]),
+            PlayRow::Hears(OTHER, BROKEN, &REPORT),
         ],
     },
 ];

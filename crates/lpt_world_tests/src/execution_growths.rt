@@ -4,7 +4,7 @@
 
 use crate::names::ID_0;
 use crate::packets::LOAD;
-use crate::rows::{CONFIG, Content, ONE, Path, Row, Shown};
+use crate::rows::{CONFIG, Content, EventRow, ONE, Path, Shown};
 use crate::walking::walk;
 use lpt_events::Applied;
 use lpt_events::Lane::S1;
@@ -36,33 +36,33 @@ const ZEROS: [u8; 6] = [0; 6];
 const LOADED: [u8; 6] = [0, 0xab, 0xcd, 0xef, 0x01, 0];
 
 /// A load is carried out, a dump is answered by a packet, and one of an octet more by a message.
-const EXECUTED: [Row; 26] = [
-    Row::Requests(0, 2, &LOAD, 0),
-    Row::Takes(S1, 0),
-    Row::Gives(S1, PlainReleased(27)),
-    Row::Claims(0),
-    Row::Commits(0),
-    Row::Shows(Shown::Memory(15, &ZEROS)),
-    Row::Applies(Applied::Done(None), 0),
-    Row::Shows(Shown::Memory(15, &LOADED)),
-    Row::Shows(Shown::First(15, &ZEROS)),
-    Row::Requests(0, 5, &DUMP, 1),
-    Row::Takes(S1, 1),
-    Row::Gives(S1, PlainReleased(21)),
-    Row::Claims(1),
-    Row::Commits(1),
-    Row::Applies(Applied::Done(None), 1),
-    Row::Shows(Shown::Packet(2, Some(&DUMPED))),
-    Row::Requests(0, 5, &LARGE, 3),
-    Row::Takes(S1, 3),
-    Row::Gives(S1, PlainReleased(21)),
-    Row::Claims(2),
-    Row::Commits(2),
-    Row::Shows(Shown::Sender(Down, ID_0, State::Free)),
-    Row::Applies(Applied::Done(Some(ID_0)), 0),
-    Row::Shows(Shown::Sender(Down, ID_0, State::Open)),
-    Row::Shows(Shown::Packets(4)),
-    Row::Shows(Shown::Memory(15, &LOADED)),
+const EXECUTED: [EventRow; 26] = [
+    EventRow::Requests(0, 2, &LOAD, 0),
+    EventRow::Takes(S1, 0),
+    EventRow::Gives(S1, PlainReleased(27)),
+    EventRow::Claims(0),
+    EventRow::Commits(0),
+    EventRow::Shows(Shown::Memory(15, &ZEROS)),
+    EventRow::Applies(Applied::Done(None), 0),
+    EventRow::Shows(Shown::Memory(15, &LOADED)),
+    EventRow::Shows(Shown::First(15, &ZEROS)),
+    EventRow::Requests(0, 5, &DUMP, 1),
+    EventRow::Takes(S1, 1),
+    EventRow::Gives(S1, PlainReleased(21)),
+    EventRow::Claims(1),
+    EventRow::Commits(1),
+    EventRow::Applies(Applied::Done(None), 1),
+    EventRow::Shows(Shown::Packet(2, Some(&DUMPED))),
+    EventRow::Requests(0, 5, &LARGE, 3),
+    EventRow::Takes(S1, 3),
+    EventRow::Gives(S1, PlainReleased(21)),
+    EventRow::Claims(2),
+    EventRow::Commits(2),
+    EventRow::Shows(Shown::Sender(Down, ID_0, State::Free)),
+    EventRow::Applies(Applied::Done(Some(ID_0)), 0),
+    EventRow::Shows(Shown::Sender(Down, ID_0, State::Open)),
+    EventRow::Shows(Shown::Packets(4)),
+    EventRow::Shows(Shown::Memory(15, &LOADED)),
 ];
 
 static PATHS: [Path; 1] = [Path {

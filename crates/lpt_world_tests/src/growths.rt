@@ -4,29 +4,29 @@
 
 use crate::names::ID_7;
 use crate::packets::{FIRST_UP, LAST_UP};
-use crate::rows::{CONFIG, Content, ONE, Path, Row, Shown};
+use crate::rows::{CONFIG, Content, EventRow, ONE, Path, Shown};
 use crate::walking::walk;
 use lpt_events::Lane::S1;
 use lpt_events::Outcome;
 use lpt_packet::Direction::Up;
 
 /// The first path: a message is opened, its three parts are sent and delivered as 3, 1, 2.
-const FIRST_PATH: [Row; 15] = [
-    Row::Opens(Up, ID_7, 20, 3),
-    Row::Shows(Shown::Packet(0, None)),
-    Row::Sends(Up, ID_7, 1, 0),
-    Row::Shows(Shown::Packet(0, Some(&FIRST_UP))),
-    Row::Sends(Up, ID_7, 2, 1),
-    Row::Sends(Up, ID_7, 3, 2),
-    Row::Takes(S1, 2),
-    Row::Gives(S1, Outcome::Kept(ID_7, 3)),
-    Row::Takes(S1, 0),
-    Row::Gives(S1, Outcome::Kept(ID_7, 1)),
-    Row::Takes(S1, 1),
-    Row::Gives(S1, Outcome::Released(ID_7, 20)),
-    Row::Shows(Shown::Packet(0, Some(&FIRST_UP))),
-    Row::Shows(Shown::Packet(2, Some(&LAST_UP))),
-    Row::Shows(Shown::Packet(3, None)),
+const FIRST_PATH: [EventRow; 15] = [
+    EventRow::Opens(Up, ID_7, 20, 3),
+    EventRow::Shows(Shown::Packet(0, None)),
+    EventRow::Sends(Up, ID_7, 1, 0),
+    EventRow::Shows(Shown::Packet(0, Some(&FIRST_UP))),
+    EventRow::Sends(Up, ID_7, 2, 1),
+    EventRow::Sends(Up, ID_7, 3, 2),
+    EventRow::Takes(S1, 2),
+    EventRow::Gives(S1, Outcome::Kept(ID_7, 3)),
+    EventRow::Takes(S1, 0),
+    EventRow::Gives(S1, Outcome::Kept(ID_7, 1)),
+    EventRow::Takes(S1, 1),
+    EventRow::Gives(S1, Outcome::Released(ID_7, 20)),
+    EventRow::Shows(Shown::Packet(0, Some(&FIRST_UP))),
+    EventRow::Shows(Shown::Packet(2, Some(&LAST_UP))),
+    EventRow::Shows(Shown::Packet(3, None)),
 ];
 
 pub(crate) static PATHS: [Path; 1] = [Path {

@@ -3,7 +3,9 @@
 
 use crate::names::ID_7;
 use crate::packets::{FIRST_UP, LAST_UP, LOAD, LOADING, LOADING_AGAIN};
-use crate::rows::{Asked, CONFIG, Content, ONE, Path, Read, Row, SEAT, Shown, Step, octets_of};
+use crate::rows::{
+    AskedOf, CONFIG, Content, EventRow, ONE, Path, Read, RowStep, SEAT, Shown, octets_of,
+};
 use crate::walking::{shape_of, walk};
 use lpt_events::Lane::S1;
 use lpt_events::Worker::W1;
@@ -19,20 +21,20 @@ use std::alloc::{AllocError, Global};
 pub(crate) fn comes_outside(
     alloc: Global,
     world: &mut World,
-    step: &Step,
+    step: &RowStep,
 ) -> Result<Option<bool>, AllocError> {
     let (_, asked, _, _) = *step;
     Ok(match asked {
-        Asked::TakeOut(number, octets) => Some(takes(world, step, number, octets)),
-        Asked::DeliverRead(octets) => Some(delivers(alloc, world, step, octets)?),
-        Asked::ClaimOut(job, message) => Some(claims(world, step, job, message)),
-        Asked::CommitRead(read) => Some(commits(alloc, world, step, &read)?),
+        AskedOf::TakeOut(number, octets) => Some(takes(world, step, number, octets)),
+        AskedOf::DeliverRead(octets) => Some(delivers(alloc, world, step, octets)?),
+        AskedOf::ClaimOut(job, message) => Some(claims(world, step, job, message)),
+        AskedOf::CommitRead(read) => Some(commits(alloc, world, step, &read)?),
         _ => None,
     })
 }
 
 // Takes a packet.
-fn takes(world: &mut World, step: &Step, number: u64, octets: &[u8]) -> bool {
+fn takes(world: &mut World, step: &RowStep, number: u64, octets: &[u8]) -> bool {
     let (seat, _, want, _) = *step;
     match world.take_out(seat, S1, number) {
         Ok((reply, copy)) => want == Ok(reply.answer) && copy.as_slice() == octets,
@@ -44,7 +46,7 @@ fn takes(world: &mut World, step: &Step, number: u64, octets: &[u8]) -> bool {
 fn delivers(
     alloc: Global,
     world: &mut World,
-    step: &Step,
+    step: &RowStep,
     octets: &[u8],
 ) -> Result<bool, AllocError> {
     let (seat, _, want, _) = *step;
@@ -61,7 +63,7 @@ fn delivers(
 }
 
 // Claims a job.
-fn claims(world: &mut World, step: &Step, job: u64, message: &[u8]) -> bool {
+fn claims(world: &mut World, step: &RowStep, job: u64, message: &[u8]) -> bool {
     let (seat, _, want, _) = *step;
     match world.claim_out(seat, W1) {
         Ok((reply, ticket)) => {
@@ -74,7 +76,12 @@ fn claims(world: &mut World, step: &Step, job: u64, message: &[u8]) -> bool {
 }
 
 // Reads a job, and commits the reading.
-fn commits(alloc: Global, world: &mut World, step: &Step, read: &Read) -> Result<bool, AllocError> {
+fn commits(
+    alloc: Global,
+    world: &mut World,
+    step: &RowStep,
+    read: &Read,
+) -> Result<bool, AllocError> {
     let (boot, job, message, apid, memories) = *read;
     let shape = match memories {
         Some(items) => shape_of(alloc, items)?,
@@ -90,7 +97,7 @@ fn commits(alloc: Global, world: &mut World, step: &Step, read: &Read) -> Result
     }
 }
 
-fn is_committed(world: &mut World, step: &Step, prepared: Prepared) -> bool {
+fn is_committed(world: &mut World, step: &RowStep, prepared: Prepared) -> bool {
     let (seat, _, want, _) = *step;
     match world.commit_with(seat, W1, prepared) {
         Ok(reply) => want == Ok(reply.answer),
@@ -102,13 +109,13 @@ fn is_committed(world: &mut World, step: &Step, prepared: Prepared) -> bool {
 }
 
 /// The first part is taken and delivered, and the last part isn't, of which the lane has nothing.
-const DELIVERED: [Row; 5] = [
-    Row::Opens(Up, ID_7, 20, 3),
-    Row::Sends(Up, ID_7, 1, 0),
-    Row::Answers(Asked::TakeOut(0, &FIRST_UP), Answer::Took(0), 0),
-    Row::Refuses(SEAT, Asked::DeliverRead(&LAST_UP), StepFault::NotYours),
-    Row::Answers(
-        Asked::DeliverRead(&FIRST_UP),
+const DELIVERED: [EventRow; 5] = [
+    EventRow::Opens(Up, ID_7, 20, 3),
+    EventRow::Sends(Up, ID_7, 1, 0),
+    EventRow::Answers(AskedOf::TakeOut(0, &FIRST_UP), Answer::Took(0), 0),
+    EventRow::Refuses(SEAT, AskedOf::DeliverRead(&LAST_UP), StepFault::NotYours),
+    EventRow::Answers(
+        AskedOf::DeliverRead(&FIRST_UP),
         Answer::Delivered(Outcome::Kept(ID_7, 1)),
         0,
     ),
@@ -116,22 +123,22 @@ const DELIVERED: [Row; 5] = [
 
 /// Two loads are released: the first asks for no reports, the second for two. The first is claimed, and
 /// what was read of it for the world's own memories is committed.
-const COMMITTED: [Row; 11] = [
-    Row::Requests(0, 2, &LOAD, 0),
-    Row::Takes(S1, 0),
-    Row::Gives(S1, Outcome::PlainReleased(27)),
-    Row::Requests(5, 2, &LOAD, 1),
-    Row::Takes(S1, 1),
-    Row::Gives(S1, Outcome::PlainReleased(27)),
-    Row::Shows(Shown::Jobs(2, 2, None)),
-    Row::Answers(Asked::ClaimOut(0, &LOADING), Answer::Claimed(0, 0), 0),
-    Row::Shows(Shown::Jobs(1, 2, Some((0, 0)))),
-    Row::Answers(
-        Asked::CommitRead((0, 0, &LOADING, 100, None)),
+const COMMITTED: [EventRow; 11] = [
+    EventRow::Requests(0, 2, &LOAD, 0),
+    EventRow::Takes(S1, 0),
+    EventRow::Gives(S1, Outcome::PlainReleased(27)),
+    EventRow::Requests(5, 2, &LOAD, 1),
+    EventRow::Takes(S1, 1),
+    EventRow::Gives(S1, Outcome::PlainReleased(27)),
+    EventRow::Shows(Shown::Jobs(2, 2, None)),
+    EventRow::Answers(AskedOf::ClaimOut(0, &LOADING), Answer::Claimed(0, 0), 0),
+    EventRow::Shows(Shown::Jobs(1, 2, Some((0, 0)))),
+    EventRow::Answers(
+        AskedOf::CommitRead((0, 0, &LOADING, 100, None)),
         Answer::Committed(0, 0),
         0,
     ),
-    Row::Shows(Shown::Jobs(1, 2, None)),
+    EventRow::Shows(Shown::Jobs(1, 2, None)),
 ];
 
 /// A memory of another size.
@@ -139,52 +146,52 @@ const OTHER: [(u8, &[u8]); 1] = [(1, &[0; 512])];
 
 /// What isn't the reading of the worker's own job isn't taken: it is of another job, boot, message, APID
 /// or memory.
-const NOT_ITS: [Row; 15] = [
-    Row::Requests(0, 2, &LOAD, 0),
-    Row::Takes(S1, 0),
-    Row::Gives(S1, Outcome::PlainReleased(27)),
-    Row::Requests(5, 2, &LOAD, 1),
-    Row::Takes(S1, 1),
-    Row::Gives(S1, Outcome::PlainReleased(27)),
-    Row::Answers(Asked::ClaimOut(0, &LOADING), Answer::Claimed(0, 0), 0),
-    Row::Refuses(
+const NOT_ITS: [EventRow; 15] = [
+    EventRow::Requests(0, 2, &LOAD, 0),
+    EventRow::Takes(S1, 0),
+    EventRow::Gives(S1, Outcome::PlainReleased(27)),
+    EventRow::Requests(5, 2, &LOAD, 1),
+    EventRow::Takes(S1, 1),
+    EventRow::Gives(S1, Outcome::PlainReleased(27)),
+    EventRow::Answers(AskedOf::ClaimOut(0, &LOADING), Answer::Claimed(0, 0), 0),
+    EventRow::Refuses(
         SEAT,
-        Asked::CommitRead((0, 1, &LOADING_AGAIN, 100, Some(&ONE))),
+        AskedOf::CommitRead((0, 1, &LOADING_AGAIN, 100, Some(&ONE))),
         StepFault::NotYours,
     ),
-    Row::Refuses(
+    EventRow::Refuses(
         SEAT,
-        Asked::CommitRead((1, 0, &LOADING, 100, Some(&ONE))),
+        AskedOf::CommitRead((1, 0, &LOADING, 100, Some(&ONE))),
         StepFault::NotYours,
     ),
-    Row::Refuses(
+    EventRow::Refuses(
         SEAT,
-        Asked::CommitRead((0, 1, &LOADING, 100, Some(&ONE))),
+        AskedOf::CommitRead((0, 1, &LOADING, 100, Some(&ONE))),
         StepFault::NotYours,
     ),
-    Row::Refuses(
+    EventRow::Refuses(
         SEAT,
-        Asked::CommitRead((0, 0, &LOADING_AGAIN, 100, Some(&ONE))),
+        AskedOf::CommitRead((0, 0, &LOADING_AGAIN, 100, Some(&ONE))),
         StepFault::NotYours,
     ),
-    Row::Refuses(
+    EventRow::Refuses(
         SEAT,
-        Asked::CommitRead((0, 0, &LOADING, 101, Some(&ONE))),
+        AskedOf::CommitRead((0, 0, &LOADING, 101, Some(&ONE))),
         StepFault::NotYours,
     ),
-    Row::Refuses(
+    EventRow::Refuses(
         SEAT,
-        Asked::CommitRead((0, 0, &LOADING, 100, Some(&OTHER))),
+        AskedOf::CommitRead((0, 0, &LOADING, 100, Some(&OTHER))),
         StepFault::NotYours,
     ),
-    Row::Answers(
-        Asked::CommitRead((0, 0, &LOADING, 100, Some(&ONE))),
+    EventRow::Answers(
+        AskedOf::CommitRead((0, 0, &LOADING, 100, Some(&ONE))),
         Answer::Committed(0, 0),
         0,
     ),
-    Row::Refuses(
+    EventRow::Refuses(
         SEAT,
-        Asked::CommitRead((0, 0, &LOADING, 100, Some(&ONE))),
+        AskedOf::CommitRead((0, 0, &LOADING, 100, Some(&ONE))),
         StepFault::HandEmpty,
     ),
 ];

@@ -3,83 +3,83 @@
 use crate::identifiers::{DUE_BY_SOURCE, TWO_SOURCES};
 use crate::names::{ID_7, ID_8, ID_9};
 use crate::packets::LAST_OCTET;
-use crate::rows::{Asked, CONFIG, Content, ONE, Path, Row, SEAT, Shown};
+use crate::rows::{AskedOf, CONFIG, Content, EventRow, ONE, Path, SEAT, Shown};
 use crate::sources;
 use crate::walking::walk;
 use lpt_events::Lane::{G1, S1, S2};
 use lpt_events::{Config, Outcome, StepFault, Why};
 use lpt_packet::Direction::{Down, Up};
 
-const RELEASED_ONCE: [Row; 18] = [
-    Row::Opens(Up, ID_7, 20, 3),
-    Row::Sends(Up, ID_7, 1, 0),
-    Row::Sends(Up, ID_7, 2, 1),
-    Row::Sends(Up, ID_7, 3, 2),
-    Row::Takes(S1, 0),
-    Row::Gives(S1, Outcome::Kept(ID_7, 1)),
-    Row::Takes(S1, 1),
-    Row::Gives(S1, Outcome::Kept(ID_7, 2)),
-    Row::Takes(S1, 0),
-    Row::Gives(S1, Outcome::Again(ID_7, 1)),
-    Row::Takes(S1, 2),
-    Row::Gives(S1, Outcome::Released(ID_7, 20)),
-    Row::Takes(S1, 0),
-    Row::Gives(S1, Outcome::Ignored(Why::Closed)),
-    Row::Takes(S1, 1),
-    Row::Gives(S1, Outcome::Ignored(Why::Closed)),
-    Row::Takes(S1, 2),
-    Row::Gives(S1, Outcome::Ignored(Why::Closed)),
+const RELEASED_ONCE: [EventRow; 18] = [
+    EventRow::Opens(Up, ID_7, 20, 3),
+    EventRow::Sends(Up, ID_7, 1, 0),
+    EventRow::Sends(Up, ID_7, 2, 1),
+    EventRow::Sends(Up, ID_7, 3, 2),
+    EventRow::Takes(S1, 0),
+    EventRow::Gives(S1, Outcome::Kept(ID_7, 1)),
+    EventRow::Takes(S1, 1),
+    EventRow::Gives(S1, Outcome::Kept(ID_7, 2)),
+    EventRow::Takes(S1, 0),
+    EventRow::Gives(S1, Outcome::Again(ID_7, 1)),
+    EventRow::Takes(S1, 2),
+    EventRow::Gives(S1, Outcome::Released(ID_7, 20)),
+    EventRow::Takes(S1, 0),
+    EventRow::Gives(S1, Outcome::Ignored(Why::Closed)),
+    EventRow::Takes(S1, 1),
+    EventRow::Gives(S1, Outcome::Ignored(Why::Closed)),
+    EventRow::Takes(S1, 2),
+    EventRow::Gives(S1, Outcome::Ignored(Why::Closed)),
 ];
 
-const SPLIT: [Row; 10] = [
-    Row::Refuses(SEAT, Asked::Open(Up, ID_7, 8), StepFault::Short),
-    Row::Opens(Up, ID_7, 9, 2),
-    Row::Sends(Up, ID_7, 2, 0),
-    Row::Opens(Up, ID_8, 16, 2),
-    Row::Refuses(SEAT, Asked::Open(Up, ID_9, 65543), StepFault::Long),
-    Row::Opens(Up, ID_9, 65542, 8193),
-    Row::Refuses(SEAT, Asked::Send(Up, ID_9, 0), StepFault::NoSuchPart),
-    Row::Refuses(SEAT, Asked::Send(Up, ID_9, 8194), StepFault::NoSuchPart),
-    Row::Sends(Up, ID_9, 8193, 1),
-    Row::Shows(Shown::Packet(0, Some(&LAST_OCTET))),
+const SPLIT: [EventRow; 10] = [
+    EventRow::Refuses(SEAT, AskedOf::Open(Up, ID_7, 8), StepFault::Short),
+    EventRow::Opens(Up, ID_7, 9, 2),
+    EventRow::Sends(Up, ID_7, 2, 0),
+    EventRow::Opens(Up, ID_8, 16, 2),
+    EventRow::Refuses(SEAT, AskedOf::Open(Up, ID_9, 65543), StepFault::Long),
+    EventRow::Opens(Up, ID_9, 65542, 8193),
+    EventRow::Refuses(SEAT, AskedOf::Send(Up, ID_9, 0), StepFault::NoSuchPart),
+    EventRow::Refuses(SEAT, AskedOf::Send(Up, ID_9, 8194), StepFault::NoSuchPart),
+    EventRow::Sends(Up, ID_9, 8193, 1),
+    EventRow::Shows(Shown::Packet(0, Some(&LAST_OCTET))),
 ];
 
-const BOTH_DIRECTIONS: [Row; 19] = [
-    Row::Opens(Up, ID_7, 20, 3),
-    Row::Opens(Down, ID_7, 9, 2),
-    Row::Sends(Up, ID_7, 1, 0),
-    Row::Sends(Down, ID_7, 1, 1),
-    Row::Sends(Up, ID_7, 2, 2),
-    Row::Sends(Down, ID_7, 2, 3),
-    Row::Sends(Up, ID_7, 3, 4),
-    Row::Refuses(SEAT, Asked::Take(S1, 1), StepFault::NotHeld),
-    Row::Refuses(SEAT, Asked::Take(G1, 0), StepFault::NotHeld),
-    Row::Takes(S1, 0),
-    Row::Takes(G1, 3),
-    Row::Takes(S2, 4),
-    Row::Gives(G1, Outcome::Kept(ID_7, 2)),
-    Row::Gives(S2, Outcome::Kept(ID_7, 3)),
-    Row::Takes(G1, 1),
-    Row::Gives(S1, Outcome::Kept(ID_7, 1)),
-    Row::Gives(G1, Outcome::Released(ID_7, 9)),
-    Row::Takes(S2, 2),
-    Row::Gives(S2, Outcome::Released(ID_7, 20)),
+const BOTH_DIRECTIONS: [EventRow; 19] = [
+    EventRow::Opens(Up, ID_7, 20, 3),
+    EventRow::Opens(Down, ID_7, 9, 2),
+    EventRow::Sends(Up, ID_7, 1, 0),
+    EventRow::Sends(Down, ID_7, 1, 1),
+    EventRow::Sends(Up, ID_7, 2, 2),
+    EventRow::Sends(Down, ID_7, 2, 3),
+    EventRow::Sends(Up, ID_7, 3, 4),
+    EventRow::Refuses(SEAT, AskedOf::Take(S1, 1), StepFault::NotHeld),
+    EventRow::Refuses(SEAT, AskedOf::Take(G1, 0), StepFault::NotHeld),
+    EventRow::Takes(S1, 0),
+    EventRow::Takes(G1, 3),
+    EventRow::Takes(S2, 4),
+    EventRow::Gives(G1, Outcome::Kept(ID_7, 2)),
+    EventRow::Gives(S2, Outcome::Kept(ID_7, 3)),
+    EventRow::Takes(G1, 1),
+    EventRow::Gives(S1, Outcome::Kept(ID_7, 1)),
+    EventRow::Gives(G1, Outcome::Released(ID_7, 9)),
+    EventRow::Takes(S2, 2),
+    EventRow::Gives(S2, Outcome::Released(ID_7, 20)),
 ];
 
-const ROOM_AGAIN: [Row; 13] = [
-    Row::Opens(Up, ID_7, 9, 2),
-    Row::Opens(Up, ID_8, 9, 2),
-    Row::Sends(Up, ID_7, 1, 0),
-    Row::Sends(Up, ID_7, 2, 1),
-    Row::Sends(Up, ID_8, 1, 2),
-    Row::Takes(S1, 0),
-    Row::Gives(S1, Outcome::Kept(ID_7, 1)),
-    Row::Takes(S1, 2),
-    Row::Gives(S1, Outcome::Ignored(Why::NoRoom)),
-    Row::Takes(S1, 1),
-    Row::Gives(S1, Outcome::Released(ID_7, 9)),
-    Row::Takes(S1, 2),
-    Row::Gives(S1, Outcome::Kept(ID_8, 1)),
+const ROOM_AGAIN: [EventRow; 13] = [
+    EventRow::Opens(Up, ID_7, 9, 2),
+    EventRow::Opens(Up, ID_8, 9, 2),
+    EventRow::Sends(Up, ID_7, 1, 0),
+    EventRow::Sends(Up, ID_7, 2, 1),
+    EventRow::Sends(Up, ID_8, 1, 2),
+    EventRow::Takes(S1, 0),
+    EventRow::Gives(S1, Outcome::Kept(ID_7, 1)),
+    EventRow::Takes(S1, 2),
+    EventRow::Gives(S1, Outcome::Ignored(Why::NoRoom)),
+    EventRow::Takes(S1, 1),
+    EventRow::Gives(S1, Outcome::Released(ID_7, 9)),
+    EventRow::Takes(S1, 2),
+    EventRow::Gives(S1, Outcome::Kept(ID_8, 1)),
 ];
 
 static PATHS: [Path; 8] = [
@@ -112,7 +112,7 @@ static PATHS: [Path; 8] = [
             ..CONFIG
         },
         memories: &ONE,
-        rows: &[Row::Opens(Down, ID_9, 65542, 16386)],
+        rows: &[EventRow::Opens(Down, ID_9, 65542, 16386)],
         opened: &[(0, Some((Down, ID_9)), Content::Counting(65542))],
         released: &[],
     },

@@ -18,14 +18,14 @@ pub(crate) struct Play {
     pub(crate) name: &'static str,
     pub(crate) sides: &'static [Side],
     pub(crate) config: Config,
-    pub(crate) rows: &'static [Row],
+    pub(crate) rows: &'static [PlayRow],
 }
 
 /// Octets that come to the spacecraft, and those that come to ground.
 pub(crate) type Packet = (&'static [u8], &'static [u8]);
 
 /// What is asked of a node and what comes of it, or what it shows.
-pub(crate) enum Row {
+pub(crate) enum PlayRow {
     /// A message of so many octets, which count from 0, is to be sent under this name: the fault's
     /// number, or 0 if it is taken.
     Opens(Name, usize, u16),
@@ -98,29 +98,30 @@ fn goes(
 }
 
 // Whether a row comes as it says.
-fn comes(alloc: Global, station: &mut Station, row: &Row) -> Result<bool, AllocError> {
+fn comes(alloc: Global, station: &mut Station, row: &PlayRow) -> Result<bool, AllocError> {
     Ok(match *row {
-        Row::Opens(name, octets, fault) => station.opens(name, counting(alloc, octets)?) == fault,
-        Row::Sends(name, part, want) => sends(station, name, part, want),
-        Row::Counts(part, at, first, last) => counts(station, part, at, first, last),
-        Row::Finishes(name) => station.node.finish(name).is_ok(),
-        Row::Requests(flags, service, subtype, body, want) => {
+        PlayRow::Opens(name, octets, fault) => station.opens(name, counting(alloc, octets)?)
+            == fault,
+        PlayRow::Sends(name, part, want) => sends(station, name, part, want),
+        PlayRow::Counts(part, at, first, last) => counts(station, part, at, first, last),
+        PlayRow::Finishes(name) => station.node.finish(name).is_ok(),
+        PlayRow::Requests(flags, service, subtype, body, want) => {
             requests(station, flags, service, subtype, body, want)
         }
-        Row::Hears(packet, outcome, gives) => hears(alloc, station, packet, outcome, gives)?,
-        Row::Ticks(clock) => station.node.tick().is_ok() && station.node.clock() == clock,
-        Row::Expires(want) => expires(station, want),
-        Row::GivesUp(name, want) => gives_up(station, name, want),
-        Row::SetsBack(ticks, want) => sets_back(station, ticks) == want,
-        Row::Restarts(boot) => restarts(station, boot),
-        Row::Retires(name) => retires(station, name),
-        Row::Executes => executes(alloc, station)?,
-        Row::ComesTooLate(boot, job) => is_too_late(alloc, station, boot, job)?,
-        Row::Refuses(ref ask, fault) => station.node.refusal(ask) == fault,
-        Row::Sender(name, state) => station.node.sender(name) == state,
-        Row::Receives(name, open) => station.node.is_open_reception(name) == open,
-        Row::Clock(clock) => station.node.clock() == clock,
-        Row::Jobs(boot, jobs) => station.node.boot() == boot && station.node.jobs() == jobs,
+        PlayRow::Hears(packet, outcome, gives) => hears(alloc, station, packet, outcome, gives)?,
+        PlayRow::Ticks(clock) => station.node.tick().is_ok() && station.node.clock() == clock,
+        PlayRow::Expires(want) => expires(station, want),
+        PlayRow::GivesUp(name, want) => gives_up(station, name, want),
+        PlayRow::SetsBack(ticks, want) => sets_back(station, ticks) == want,
+        PlayRow::Restarts(boot) => restarts(station, boot),
+        PlayRow::Retires(name) => retires(station, name),
+        PlayRow::Executes => executes(alloc, station)?,
+        PlayRow::ComesTooLate(boot, job) => is_too_late(alloc, station, boot, job)?,
+        PlayRow::Refuses(ref ask, fault) => station.node.refusal(ask) == fault,
+        PlayRow::Sender(name, state) => station.node.sender(name) == state,
+        PlayRow::Receives(name, open) => station.node.is_open_reception(name) == open,
+        PlayRow::Clock(clock) => station.node.clock() == clock,
+        PlayRow::Jobs(boot, jobs) => station.node.boot() == boot && station.node.jobs() == jobs,
     })
 }
 

@@ -3,7 +3,7 @@
 
 use crate::names::{ID_7, ID_8};
 use crate::packets::{FIRST_UP, FOREIGN, IDLE, REPORT};
-use crate::rows::{Asked, CONFIG, Content, ONE, Path, Row, SEAT, Shown};
+use crate::rows::{AskedOf, CONFIG, Content, EventRow, ONE, Path, SEAT, Shown};
 use crate::walking::{memories_of, walk};
 use lpt_events::Lane::{S1, S2};
 use lpt_events::{Answer, Config, ConfigFault, Outcome, StepFault, Why};
@@ -11,27 +11,27 @@ use lpt_packet::Direction::{Down, Up};
 use lpt_world::World;
 use std::alloc::{AllocError, Global};
 
-const MOSTLY_REFUSED: [Row; 20] = [
-    Row::Opens(Up, ID_7, 20, 3),
-    Row::Sends(Up, ID_7, 1, 0),
-    Row::Takes(S1, 0),
-    Row::Refuses(0, Asked::Open(Up, ID_7, 8), StepFault::InUse),
-    Row::Refuses(0, Asked::Open(Up, ID_8, 8), StepFault::Short),
-    Row::Refuses(0, Asked::Open(Up, ID_8, 65543), StepFault::Long),
-    Row::Refuses(0, Asked::Open(Up, ID_8, 20), StepFault::TooMany),
-    Row::Refuses(0, Asked::Send(Up, ID_8, 0), StepFault::NotOpen),
-    Row::Refuses(0, Asked::Send(Down, ID_7, 1), StepFault::NotOpen),
-    Row::Refuses(0, Asked::Send(Up, ID_7, 0), StepFault::NoSuchPart),
-    Row::Refuses(0, Asked::Send(Up, ID_7, 4), StepFault::NoSuchPart),
-    Row::Refuses(0, Asked::Take(S2, 1), StepFault::NotHeld),
-    Row::Refuses(0, Asked::Take(S1, 1), StepFault::HandFull),
-    Row::Refuses(10, Asked::Deliver(S2), StepFault::HandEmpty),
-    Row::Refuses(11, Asked::Open(Up, ID_7, 8), StepFault::NoSuchSeat),
-    Row::Refuses(11, Asked::Send(Up, ID_8, 0), StepFault::NoSuchSeat),
-    Row::Refuses(11, Asked::Take(S1, 1), StepFault::NoSuchSeat),
-    Row::Refuses(11, Asked::Deliver(S1), StepFault::NoSuchSeat),
-    Row::Gives(S1, Outcome::Kept(ID_7, 1)),
-    Row::Shows(Shown::Packet(1, None)),
+const MOSTLY_REFUSED: [EventRow; 20] = [
+    EventRow::Opens(Up, ID_7, 20, 3),
+    EventRow::Sends(Up, ID_7, 1, 0),
+    EventRow::Takes(S1, 0),
+    EventRow::Refuses(0, AskedOf::Open(Up, ID_7, 8), StepFault::InUse),
+    EventRow::Refuses(0, AskedOf::Open(Up, ID_8, 8), StepFault::Short),
+    EventRow::Refuses(0, AskedOf::Open(Up, ID_8, 65543), StepFault::Long),
+    EventRow::Refuses(0, AskedOf::Open(Up, ID_8, 20), StepFault::TooMany),
+    EventRow::Refuses(0, AskedOf::Send(Up, ID_8, 0), StepFault::NotOpen),
+    EventRow::Refuses(0, AskedOf::Send(Down, ID_7, 1), StepFault::NotOpen),
+    EventRow::Refuses(0, AskedOf::Send(Up, ID_7, 0), StepFault::NoSuchPart),
+    EventRow::Refuses(0, AskedOf::Send(Up, ID_7, 4), StepFault::NoSuchPart),
+    EventRow::Refuses(0, AskedOf::Take(S2, 1), StepFault::NotHeld),
+    EventRow::Refuses(0, AskedOf::Take(S1, 1), StepFault::HandFull),
+    EventRow::Refuses(10, AskedOf::Deliver(S2), StepFault::HandEmpty),
+    EventRow::Refuses(11, AskedOf::Open(Up, ID_7, 8), StepFault::NoSuchSeat),
+    EventRow::Refuses(11, AskedOf::Send(Up, ID_8, 0), StepFault::NoSuchSeat),
+    EventRow::Refuses(11, AskedOf::Take(S1, 1), StepFault::NoSuchSeat),
+    EventRow::Refuses(11, AskedOf::Deliver(S1), StepFault::NoSuchSeat),
+    EventRow::Gives(S1, Outcome::Kept(ID_7, 1)),
+    EventRow::Shows(Shown::Packet(1, None)),
 ];
 
 /// The first part's packet, with another last octet.
@@ -46,21 +46,21 @@ const CUT: [u8; 12] = [
 ];
 
 /// What noise left of packets, or nothing of one, is put on the link, and ignored.
-const DAMAGED: [Row; 5] = [
-    Row::Answers(Asked::Damage(Up, &LAST_CHANGED), Answer::Put(0), 1),
-    Row::Answers(Asked::Damage(Down, &[]), Answer::Put(1), 1),
-    Row::Answers(Asked::Damage(Up, &CUT), Answer::Put(2), 1),
-    Row::Takes(S1, 0),
-    Row::Gives(S1, Outcome::Ignored(Why::Unreadable)),
+const DAMAGED: [EventRow; 5] = [
+    EventRow::Answers(AskedOf::Damage(Up, &LAST_CHANGED), Answer::Put(0), 1),
+    EventRow::Answers(AskedOf::Damage(Down, &[]), Answer::Put(1), 1),
+    EventRow::Answers(AskedOf::Damage(Up, &CUT), Answer::Put(2), 1),
+    EventRow::Takes(S1, 0),
+    EventRow::Gives(S1, Outcome::Ignored(Why::Unreadable)),
 ];
 
 /// A part, a packet of a foreign APID, an idle one, telemetry up, and 32 octets, one too many.
-const WHOLE: [Row; 5] = [
-    Row::Refuses(SEAT, Asked::Damage(Up, &FIRST_UP), StepFault::LooksWhole),
-    Row::Refuses(SEAT, Asked::Damage(Up, &FOREIGN), StepFault::LooksWhole),
-    Row::Refuses(SEAT, Asked::Damage(Down, &IDLE), StepFault::LooksWhole),
-    Row::Refuses(SEAT, Asked::Damage(Up, &REPORT), StepFault::LooksWhole),
-    Row::Refuses(SEAT, Asked::Damage(Up, &[0; 32]), StepFault::Long),
+const WHOLE: [EventRow; 5] = [
+    EventRow::Refuses(SEAT, AskedOf::Damage(Up, &FIRST_UP), StepFault::LooksWhole),
+    EventRow::Refuses(SEAT, AskedOf::Damage(Up, &FOREIGN), StepFault::LooksWhole),
+    EventRow::Refuses(SEAT, AskedOf::Damage(Down, &IDLE), StepFault::LooksWhole),
+    EventRow::Refuses(SEAT, AskedOf::Damage(Up, &REPORT), StepFault::LooksWhole),
+    EventRow::Refuses(SEAT, AskedOf::Damage(Up, &[0; 32]), StepFault::Long),
 ];
 
 static PATHS: [Path; 3] = [
@@ -146,9 +146,9 @@ fn config_fault(alloc: Global, config: Config) -> Result<Option<u16>, AllocError
 }
 
 /// A fault, its number and its name.
-type Named = (StepFault, u16, &'static str);
+type NamedRows = (StepFault, u16, &'static str);
 
-static STEP_FAULTS: [Named; 18] = [
+static STEP_FAULTS: [NamedRows; 18] = [
     (StepFault::InUse, 41, "InUse"),
     (StepFault::Short, 42, "Short"),
     (StepFault::Long, 43, "Long"),

@@ -6,7 +6,7 @@
 use crate::identifiers::{GROUND_IN_ORDER, TWO_SOURCES};
 use crate::names::ID_7;
 use crate::packets::{LOAD, LOADING};
-use crate::rows::{Asked, CONFIG, Content, ONE, Path, Row, SEAT, Shown};
+use crate::rows::{AskedOf, CONFIG, Content, EventRow, ONE, Path, SEAT, Shown};
 use crate::walking::walk;
 use lpt_events::Lane::{S1, S2};
 use lpt_events::{Answer, Outcome, StepFault, Why};
@@ -20,50 +20,50 @@ const LAST_OCTET_LATER: [u8; 18] = [
 
 /// A message is released while a lane has a copy of its second part in its hand. Its transaction is
 /// retired once its sender is closed and no packet of it is left, and its name is used again.
-const RETIRING: [Row; 29] = [
-    Row::Opens(Up, ID_7, 20, 3),
-    Row::Sends(Up, ID_7, 1, 0),
-    Row::Sends(Up, ID_7, 2, 1),
-    Row::Sends(Up, ID_7, 3, 2),
-    Row::Takes(S2, 1),
-    Row::Takes(S1, 0),
-    Row::Gives(S1, Outcome::Kept(ID_7, 1)),
-    Row::Takes(S1, 1),
-    Row::Gives(S1, Outcome::Kept(ID_7, 2)),
-    Row::Takes(S1, 2),
-    Row::Gives(S1, Outcome::Released(ID_7, 20)),
-    Row::Answers(Asked::Lose(0), Answer::Lost, 0),
-    Row::Answers(Asked::Lose(1), Answer::Lost, 0),
-    Row::Answers(Asked::Lose(2), Answer::Lost, 0),
-    Row::Refuses(SEAT, Asked::Retire(Up, ID_7), StepFault::StillOpen),
-    Row::Answers(Asked::Finish(Up, ID_7), Answer::Finished, 0),
-    Row::Refuses(SEAT, Asked::Retire(Up, ID_7), StepFault::NotClear),
-    Row::Shows(Shown::Clear(Up, ID_7, false)),
-    Row::Gives(S2, Outcome::Ignored(Why::Closed)),
-    Row::Shows(Shown::Clear(Up, ID_7, true)),
-    Row::Answers(Asked::Retire(Up, ID_7), Answer::Retired, 0),
-    Row::Opens(Up, ID_7, 9, 2),
-    Row::Sends(Up, ID_7, 1, 3),
-    Row::Sends(Up, ID_7, 2, 4),
-    Row::Takes(S1, 3),
-    Row::Gives(S1, Outcome::Kept(ID_7, 1)),
-    Row::Takes(S1, 4),
-    Row::Gives(S1, Outcome::Released(ID_7, 9)),
-    Row::Shows(Shown::Packet(4, Some(&LAST_OCTET_LATER))),
+const RETIRING: [EventRow; 29] = [
+    EventRow::Opens(Up, ID_7, 20, 3),
+    EventRow::Sends(Up, ID_7, 1, 0),
+    EventRow::Sends(Up, ID_7, 2, 1),
+    EventRow::Sends(Up, ID_7, 3, 2),
+    EventRow::Takes(S2, 1),
+    EventRow::Takes(S1, 0),
+    EventRow::Gives(S1, Outcome::Kept(ID_7, 1)),
+    EventRow::Takes(S1, 1),
+    EventRow::Gives(S1, Outcome::Kept(ID_7, 2)),
+    EventRow::Takes(S1, 2),
+    EventRow::Gives(S1, Outcome::Released(ID_7, 20)),
+    EventRow::Answers(AskedOf::Lose(0), Answer::Lost, 0),
+    EventRow::Answers(AskedOf::Lose(1), Answer::Lost, 0),
+    EventRow::Answers(AskedOf::Lose(2), Answer::Lost, 0),
+    EventRow::Refuses(SEAT, AskedOf::Retire(Up, ID_7), StepFault::StillOpen),
+    EventRow::Answers(AskedOf::Finish(Up, ID_7), Answer::Finished, 0),
+    EventRow::Refuses(SEAT, AskedOf::Retire(Up, ID_7), StepFault::NotClear),
+    EventRow::Shows(Shown::Clear(Up, ID_7, false)),
+    EventRow::Gives(S2, Outcome::Ignored(Why::Closed)),
+    EventRow::Shows(Shown::Clear(Up, ID_7, true)),
+    EventRow::Answers(AskedOf::Retire(Up, ID_7), Answer::Retired, 0),
+    EventRow::Opens(Up, ID_7, 9, 2),
+    EventRow::Sends(Up, ID_7, 1, 3),
+    EventRow::Sends(Up, ID_7, 2, 4),
+    EventRow::Takes(S1, 3),
+    EventRow::Gives(S1, Outcome::Kept(ID_7, 1)),
+    EventRow::Takes(S1, 4),
+    EventRow::Gives(S1, Outcome::Released(ID_7, 9)),
+    EventRow::Shows(Shown::Packet(4, Some(&LAST_OCTET_LATER))),
 ];
 
 /// A load is claimed before the spacecraft restarts: its reading comes too late, there is no request
 /// to be claimed, and nothing was loaded.
-const STARTING_ANEW: [Row; 9] = [
-    Row::Requests(0, 2, &LOAD, 0),
-    Row::Takes(S1, 0),
-    Row::Gives(S1, Outcome::PlainReleased(27)),
-    Row::Claims(0),
-    Row::Answers(Asked::Restart, Answer::Restarted(1), 0),
-    Row::Answers(Asked::Commit, Answer::Stale(0, 0), 0),
-    Row::Refuses(SEAT, Asked::Claim, StepFault::NoJob),
-    Row::Shows(Shown::Packet(0, Some(&LOADING))),
-    Row::Shows(Shown::Memory(16, &[0; 4])),
+const STARTING_ANEW: [EventRow; 9] = [
+    EventRow::Requests(0, 2, &LOAD, 0),
+    EventRow::Takes(S1, 0),
+    EventRow::Gives(S1, Outcome::PlainReleased(27)),
+    EventRow::Claims(0),
+    EventRow::Answers(AskedOf::Restart, Answer::Restarted(1), 0),
+    EventRow::Answers(AskedOf::Commit, Answer::Stale(0, 0), 0),
+    EventRow::Refuses(SEAT, AskedOf::Claim, StepFault::NoJob),
+    EventRow::Shows(Shown::Packet(0, Some(&LOADING))),
+    EventRow::Shows(Shown::Memory(16, &[0; 4])),
 ];
 
 static PATHS: [Path; 4] = [

@@ -2,7 +2,7 @@
 
 use crate::names::ID_7;
 use crate::packets::*;
-use crate::playing::{Packet, Play, Row, play_all};
+use crate::playing::{Packet, Play, PlayRow, play_all};
 use crate::stations::PASS;
 use lpt_events::Outcome::{self, *};
 use lpt_events::Side::{Craft, Ground};
@@ -26,14 +26,14 @@ static PLAYS: [Play; 3] = [
         sides: &[Ground],
         config: PASS,
         rows: &[
-            Row::Opens(ID_7, 20, 0),
-            Row::Restarts(1),
-            Row::Clock(9),
-            Row::Sender(ID_7, State::Closed),
-            Row::Retires(ID_7),
-            Row::Sender(ID_7, State::Free),
-            Row::Opens(ID_7, 20, 0),
-            Row::Sends(ID_7, 1, Ok(&FIRST_UP)),
+            PlayRow::Opens(ID_7, 20, 0),
+            PlayRow::Restarts(1),
+            PlayRow::Clock(9),
+            PlayRow::Sender(ID_7, State::Closed),
+            PlayRow::Retires(ID_7),
+            PlayRow::Sender(ID_7, State::Free),
+            PlayRow::Opens(ID_7, 20, 0),
+            PlayRow::Sends(ID_7, 1, Ok(&FIRST_UP)),
         ],
     },
     // A reception is dropped, and what is closed stays so until it is retired.
@@ -42,16 +42,16 @@ static PLAYS: [Play; 3] = [
         sides: &[Craft],
         config: PASS,
         rows: &[
-            Row::Hears(FIRST, Kept(ID_7, 1), &[]),
-            Row::Restarts(1),
-            Row::Receives(ID_7, false),
-            Row::Hears(FIRST, Kept(ID_7, 1), &[]),
-            Row::Hears(LAST, Released(ID_7, 9), &NINE),
-            Row::Hears(FIRST, CLOSED, &[]),
-            Row::Restarts(2),
-            Row::Hears(FIRST, CLOSED, &[]),
-            Row::Retires(ID_7),
-            Row::Hears(FIRST, Kept(ID_7, 1), &[]),
+            PlayRow::Hears(FIRST, Kept(ID_7, 1), &[]),
+            PlayRow::Restarts(1),
+            PlayRow::Receives(ID_7, false),
+            PlayRow::Hears(FIRST, Kept(ID_7, 1), &[]),
+            PlayRow::Hears(LAST, Released(ID_7, 9), &NINE),
+            PlayRow::Hears(FIRST, CLOSED, &[]),
+            PlayRow::Restarts(2),
+            PlayRow::Hears(FIRST, CLOSED, &[]),
+            PlayRow::Retires(ID_7),
+            PlayRow::Hears(FIRST, Kept(ID_7, 1), &[]),
         ],
     },
     // A load is done, and the next one is stale once the node has restarted.
@@ -60,13 +60,13 @@ static PLAYS: [Play; 3] = [
         sides: &[Craft],
         config: PASS,
         rows: &[
-            Row::Hears((&LOADING, &[]), PlainReleased(27), &[]),
-            Row::Jobs(0, 1),
-            Row::Executes,
-            Row::Hears((&LOADING_AGAIN, &[]), PlainReleased(27), &[]),
-            Row::ComesTooLate(0, 1),
-            Row::Jobs(1, 0),
-            Row::Refuses(Ask::Claim, Some(NodeFault::NoJob)),
+            PlayRow::Hears((&LOADING, &[]), PlainReleased(27), &[]),
+            PlayRow::Jobs(0, 1),
+            PlayRow::Executes,
+            PlayRow::Hears((&LOADING_AGAIN, &[]), PlainReleased(27), &[]),
+            PlayRow::ComesTooLate(0, 1),
+            PlayRow::Jobs(1, 0),
+            PlayRow::Refuses(Ask::Claim, Some(NodeFault::NoJob)),
         ],
     },
 ];

@@ -29,7 +29,7 @@ pub(crate) struct Path {
     pub(crate) config: Config,
     /// The identifiers and the first octets of the memories.
     pub(crate) memories: &'static [(u8, &'static [u8])],
-    pub(crate) rows: &'static [Row],
+    pub(crate) rows: &'static [EventRow],
     pub(crate) opened: &'static [Message],
     pub(crate) released: &'static [Message],
 }
@@ -53,7 +53,7 @@ pub(crate) enum Content {
 /// What is asked for. The spacecraft restarts, and if nothing else is said the clock and the
 /// receptions are its own; the worker is worker 1. What is done outside is done for lane s1.
 #[derive(Clone, Copy)]
-pub(crate) enum Asked {
+pub(crate) enum AskedOf {
     /// The opening of a message of so many octets, which count from 0.
     Open(Direction, Name, usize),
     /// The opening of these octets.
@@ -96,7 +96,7 @@ pub(crate) type Read = (
 );
 
 /// A row of a path. Seat 3 asks, if nothing else is said.
-pub(crate) enum Row {
+pub(crate) enum EventRow {
     /// The opening of a message of so many octets, which has so many parts.
     Opens(Direction, Name, usize, u16),
     /// The sending of a part, which gets the packet of this number.
@@ -116,9 +116,9 @@ pub(crate) enum Row {
     /// An execution, which puts so many packets on the link.
     Applies(Applied, u64),
     /// What is answered so, and puts so many packets on the link.
-    Answers(Asked, Answer, u64),
+    Answers(AskedOf, Answer, u64),
     /// What a seat asks for in vain.
-    Refuses(u8, Asked, StepFault),
+    Refuses(u8, AskedOf, StepFault),
     /// What the world shows now.
     Shows(Shown),
 }
@@ -146,73 +146,73 @@ pub(crate) enum Shown {
 }
 
 /// Which seat asks for what, what comes of it, and how many packets that puts.
-pub(crate) type Step = (u8, Asked, Result<Answer, StepFault>, u64);
+pub(crate) type RowStep = (u8, AskedOf, Result<Answer, StepFault>, u64);
 
 /// The step of a row that asks for something.
-pub(crate) fn step_of(row: &Row) -> Option<Step> {
+pub(crate) fn step_of(row: &EventRow) -> Option<RowStep> {
     let (asked, answer, packets) = match *row {
-        Row::Opens(direction, name, octets, parts) => {
+        EventRow::Opens(direction, name, octets, parts) => {
             (
-                Asked::Open(direction, name, octets),
+                AskedOf::Open(direction, name, octets),
                 Answer::Opened(parts),
                 0,
             )
         }
-        Row::Sends(direction, name, part, number) => {
-            (Asked::Send(direction, name, part), Answer::Put(number), 1)
+        EventRow::Sends(direction, name, part, number) => {
+            (AskedOf::Send(direction, name, part), Answer::Put(number), 1)
         }
-        Row::Requests(flags, subtype, body, number) => {
+        EventRow::Requests(flags, subtype, body, number) => {
             (
-                Asked::Plain(1, flags, subtype, body),
+                AskedOf::Plain(1, flags, subtype, body),
                 Answer::Put(number),
                 1,
             )
         }
-        Row::Takes(lane, number) => (Asked::Take(lane, number), Answer::Took(number), 0),
-        Row::Gives(lane, outcome) => (Asked::Deliver(lane), Answer::Delivered(outcome), 0),
-        Row::Ticks(clock) => (Asked::Tick, Answer::Clock(clock), 0),
-        Row::Claims(job) => (Asked::Claim, Answer::Claimed(0, job), 0),
-        Row::Commits(job) => (Asked::Commit, Answer::Committed(0, job), 0),
-        Row::Applies(applied, packets) => (Asked::Apply, Answer::Applied(applied), packets),
-        Row::Answers(asked, answer, packets) => (asked, answer, packets),
-        Row::Refuses(seat, asked, fault) => return Some((seat, asked, Err(fault), 0)),
-        Row::Shows(_) => return None,
+        EventRow::Takes(lane, number) => (AskedOf::Take(lane, number), Answer::Took(number), 0),
+        EventRow::Gives(lane, outcome) => (AskedOf::Deliver(lane), Answer::Delivered(outcome), 0),
+        EventRow::Ticks(clock) => (AskedOf::Tick, Answer::Clock(clock), 0),
+        EventRow::Claims(job) => (AskedOf::Claim, Answer::Claimed(0, job), 0),
+        EventRow::Commits(job) => (AskedOf::Commit, Answer::Committed(0, job), 0),
+        EventRow::Applies(applied, packets) => (AskedOf::Apply, Answer::Applied(applied), packets),
+        EventRow::Answers(asked, answer, packets) => (asked, answer, packets),
+        EventRow::Refuses(seat, asked, fault) => return Some((seat, asked, Err(fault), 0)),
+        EventRow::Shows(_) => return None,
     };
     Some((SEAT, asked, Ok(answer), packets))
 }
 
 /// The event that is asked for.
-pub(crate) fn event_of(alloc: Global, asked: Asked) -> Result<Event, AllocError> {
+pub(crate) fn event_of(alloc: Global, asked: AskedOf) -> Result<Event, AllocError> {
     Ok(match asked {
-        Asked::Open(direction, name, octets) => Event::Open(
+        AskedOf::Open(direction, name, octets) => Event::Open(
             direction,
             name,
             counting(alloc, octets)?,
         ),
-        Asked::OpenOf(direction, name, octets) => {
+        AskedOf::OpenOf(direction, name, octets) => {
             Event::Open(direction, name, octets_of(alloc, octets)?)
         }
-        Asked::Send(direction, name, part) => Event::Send(direction, name, part),
-        Asked::Plain(source, flags, subtype, body) => {
+        AskedOf::Send(direction, name, part) => Event::Send(direction, name, part),
+        AskedOf::Plain(source, flags, subtype, body) => {
             let flags = AckFlags::new(flags).ok_or(AllocError)?;
             Event::Plain(source, flags, 6, subtype, octets_of(alloc, body)?)
         }
-        Asked::Finish(direction, name) => Event::Finish(direction, name),
-        Asked::Lose(number) => Event::Lose(number),
-        Asked::Damage(direction, octets) => Event::Damage(direction, octets_of(alloc, octets)?),
-        Asked::Take(lane, number) => Event::Take(lane, number),
-        Asked::Deliver(lane) => Event::Deliver(lane),
-        Asked::Tick => Event::Tick(Side::Craft),
-        Asked::Expire => Event::Expire(Side::Craft),
-        Asked::GroundTick => Event::Tick(Side::Ground),
-        Asked::GroundExpire => Event::Expire(Side::Ground),
-        Asked::Claim | Asked::ClaimOut(_, _) => Event::Claim(Worker::W1),
-        Asked::Commit | Asked::CommitRead(_) => Event::Commit(Worker::W1),
-        Asked::Apply => Event::Apply,
-        Asked::Retire(direction, name) => Event::Retire(direction, name),
-        Asked::Restart => Event::Restart(Side::Craft),
-        Asked::TakeOut(number, _) => Event::Take(S1, number),
-        Asked::DeliverRead(_) => Event::Deliver(S1),
+        AskedOf::Finish(direction, name) => Event::Finish(direction, name),
+        AskedOf::Lose(number) => Event::Lose(number),
+        AskedOf::Damage(direction, octets) => Event::Damage(direction, octets_of(alloc, octets)?),
+        AskedOf::Take(lane, number) => Event::Take(lane, number),
+        AskedOf::Deliver(lane) => Event::Deliver(lane),
+        AskedOf::Tick => Event::Tick(Side::Craft),
+        AskedOf::Expire => Event::Expire(Side::Craft),
+        AskedOf::GroundTick => Event::Tick(Side::Ground),
+        AskedOf::GroundExpire => Event::Expire(Side::Ground),
+        AskedOf::Claim | AskedOf::ClaimOut(_, _) => Event::Claim(Worker::W1),
+        AskedOf::Commit | AskedOf::CommitRead(_) => Event::Commit(Worker::W1),
+        AskedOf::Apply => Event::Apply,
+        AskedOf::Retire(direction, name) => Event::Retire(direction, name),
+        AskedOf::Restart => Event::Restart(Side::Craft),
+        AskedOf::TakeOut(number, _) => Event::Take(S1, number),
+        AskedOf::DeliverRead(_) => Event::Deliver(S1),
     })
 }
 

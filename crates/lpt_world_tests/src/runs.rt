@@ -2,7 +2,7 @@
 
 use crate::growths::PATHS;
 use crate::names::{ID_7, ID_8};
-use crate::rows::{CONFIG, ONE, Row, event_of, step_of};
+use crate::rows::{CONFIG, EventRow, ONE, event_of, step_of};
 use crate::walking::memories_of;
 use lpt_events::{Event, StepFault};
 use lpt_packet::Direction::Up;
@@ -10,10 +10,10 @@ use lpt_world::World;
 use std::alloc::{AllocError, Global};
 
 /// The second row isn't accepted.
-static NOT_OPEN: [Row; 3] = [
-    Row::Opens(Up, ID_7, 20, 3),
-    Row::Sends(Up, ID_8, 1, 0),
-    Row::Sends(Up, ID_7, 1, 0),
+static NOT_OPEN: [EventRow; 3] = [
+    EventRow::Opens(Up, ID_7, 20, 3),
+    EventRow::Sends(Up, ID_8, 1, 0),
+    EventRow::Sends(Up, ID_7, 1, 0),
 ];
 
 /// How many events of a run were accepted, why the next was refused, if one was, and how many events
@@ -29,13 +29,13 @@ fn runs_events_up_to_the_first_that_is_refused(rt: HostRuntime) {
 }
 
 // Runs a new world through the events of rows.
-fn run(alloc: Global, rows: &[Row]) -> Result<Ran, AllocError> {
+fn run(alloc: Global, rows: &[EventRow]) -> Result<Ran, AllocError> {
     let events = events_of(alloc, rows)?;
     let memories = memories_of(alloc, &ONE)?;
     match World::new(alloc, CONFIG, memories) {
         Ok(mut world) => {
             let end = world.run(events.as_slice());
-            let told = answered(&world, rows);
+            let told = rows_answered(&world, rows);
             drop(world);
             Ok((end.done, end.refused, told))
         }
@@ -44,7 +44,7 @@ fn run(alloc: Global, rows: &[Row]) -> Result<Ran, AllocError> {
 }
 
 // The events of rows.
-fn events_of(alloc: Global, rows: &[Row]) -> Result<Vec<Event>, AllocError> {
+fn events_of(alloc: Global, rows: &[EventRow]) -> Result<Vec<Event>, AllocError> {
     let mut events = Vec::new(alloc);
     for row in rows {
         if let Some((_, asked, _, _)) = step_of(row) {
@@ -55,7 +55,7 @@ fn events_of(alloc: Global, rows: &[Row]) -> Result<Vec<Event>, AllocError> {
 }
 
 // How many events of rows were answered as the rows say.
-fn answered(world: &World, rows: &[Row]) -> usize {
+fn rows_answered(world: &World, rows: &[EventRow]) -> usize {
     let mut entries = world.journal().iter();
     let mut told = 0usize;
     for row in rows {

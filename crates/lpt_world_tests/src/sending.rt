@@ -5,7 +5,7 @@
 
 use crate::names::{ID_7, ID_8, ID_9};
 use crate::packets::*;
-use crate::playing::{Play, Row, play_all};
+use crate::playing::{Play, PlayRow, play_all};
 use crate::stations::PASS;
 use lpt_events::Config;
 use lpt_events::Side::{Craft, Ground};
@@ -17,10 +17,10 @@ static PLAYS: [Play; 7] = [
         sides: &[Ground],
         config: PASS,
         rows: &[
-            Row::Opens(ID_7, 20, 0),
-            Row::Sends(ID_7, 1, Ok(&FIRST_UP)),
-            Row::Sends(ID_7, 2, Ok(&MIDDLE_UP)),
-            Row::Sends(ID_7, 3, Ok(&LAST_UP)),
+            PlayRow::Opens(ID_7, 20, 0),
+            PlayRow::Sends(ID_7, 1, Ok(&FIRST_UP)),
+            PlayRow::Sends(ID_7, 2, Ok(&MIDDLE_UP)),
+            PlayRow::Sends(ID_7, 3, Ok(&LAST_UP)),
         ],
     },
     Play {
@@ -28,10 +28,10 @@ static PLAYS: [Play; 7] = [
         sides: &[Craft],
         config: PASS,
         rows: &[
-            Row::Opens(ID_7, 20, 0),
-            Row::Sends(ID_7, 1, Ok(&FIRST_DOWN)),
-            Row::Sends(ID_7, 2, Ok(&MIDDLE_DOWN)),
-            Row::Sends(ID_7, 3, Ok(&LAST_DOWN)),
+            PlayRow::Opens(ID_7, 20, 0),
+            PlayRow::Sends(ID_7, 1, Ok(&FIRST_DOWN)),
+            PlayRow::Sends(ID_7, 2, Ok(&MIDDLE_DOWN)),
+            PlayRow::Sends(ID_7, 3, Ok(&LAST_DOWN)),
         ],
     },
     Play {
@@ -39,9 +39,9 @@ static PLAYS: [Play; 7] = [
         sides: &[Ground, Craft],
         config: PASS,
         rows: &[
-            Row::Opens(ID_7, 20, 0),
-            Row::Counts(1, 2, 0xc000, 0xffff),
-            Row::Counts(1, 2, 0xc000, 0xc000),
+            PlayRow::Opens(ID_7, 20, 0),
+            PlayRow::Counts(1, 2, 0xc000, 0xffff),
+            PlayRow::Counts(1, 2, 0xc000, 0xc000),
         ],
     },
     Play {
@@ -49,13 +49,13 @@ static PLAYS: [Play; 7] = [
         sides: &[Craft],
         config: PASS,
         rows: &[
-            Row::Opens(ID_7, 20, 0),
-            Row::Counts(3, 9, 0, 1),
-            Row::Counts(1, 9, 0, 65535),
-            Row::Counts(1, 9, 0, 0),
-            Row::Counts(3, 9, 2, 65535),
-            Row::Counts(3, 9, 0, 0),
-            Row::Counts(1, 9, 1, 1),
+            PlayRow::Opens(ID_7, 20, 0),
+            PlayRow::Counts(3, 9, 0, 1),
+            PlayRow::Counts(1, 9, 0, 65535),
+            PlayRow::Counts(1, 9, 0, 0),
+            PlayRow::Counts(3, 9, 2, 65535),
+            PlayRow::Counts(3, 9, 0, 0),
+            PlayRow::Counts(1, 9, 1, 1),
         ],
     },
     Play {
@@ -63,14 +63,14 @@ static PLAYS: [Play; 7] = [
         sides: &[Craft],
         config: PASS,
         rows: &[
-            Row::Opens(ID_7, 9, 0),
-            Row::Opens(ID_7, 0, 41),
-            Row::Opens(ID_8, 8, 42),
-            Row::Opens(ID_8, 65543, 43),
-            Row::Opens(ID_8, 65542, 0),
-            Row::Opens(ID_9, 20, 44),
-            Row::Finishes(ID_7),
-            Row::Opens(ID_7, 20, 41),
+            PlayRow::Opens(ID_7, 9, 0),
+            PlayRow::Opens(ID_7, 0, 41),
+            PlayRow::Opens(ID_8, 8, 42),
+            PlayRow::Opens(ID_8, 65543, 43),
+            PlayRow::Opens(ID_8, 65542, 0),
+            PlayRow::Opens(ID_9, 20, 44),
+            PlayRow::Finishes(ID_7),
+            PlayRow::Opens(ID_7, 20, 41),
         ],
     },
     Play {
@@ -81,15 +81,15 @@ static PLAYS: [Play; 7] = [
             ..PASS
         },
         rows: &[
-            Row::Opens(ID_7, 20, 0),
-            Row::Refuses(Ask::Open(ID_7, 0), Some(NodeFault::InUse)),
-            Row::Refuses(Ask::Send(ID_7, 3), None),
-            Row::Refuses(Ask::Send(ID_7, 0), Some(NodeFault::NoSuchPart)),
-            Row::Refuses(Ask::Send(ID_9, 0), Some(NodeFault::NotOpen)),
-            Row::Refuses(Ask::Finish(ID_9), Some(NodeFault::NotOpen)),
-            Row::Refuses(Ask::Tick, Some(NodeFault::ClockEnd)),
-            Row::Refuses(Ask::Expire, Some(NodeFault::NothingDue)),
-            Row::Sends(ID_7, 4, Err(NodeFault::NoSuchPart)),
+            PlayRow::Opens(ID_7, 20, 0),
+            PlayRow::Refuses(Ask::Open(ID_7, 0), Some(NodeFault::InUse)),
+            PlayRow::Refuses(Ask::Send(ID_7, 3), None),
+            PlayRow::Refuses(Ask::Send(ID_7, 0), Some(NodeFault::NoSuchPart)),
+            PlayRow::Refuses(Ask::Send(ID_9, 0), Some(NodeFault::NotOpen)),
+            PlayRow::Refuses(Ask::Finish(ID_9), Some(NodeFault::NotOpen)),
+            PlayRow::Refuses(Ask::Tick, Some(NodeFault::ClockEnd)),
+            PlayRow::Refuses(Ask::Expire, Some(NodeFault::NothingDue)),
+            PlayRow::Sends(ID_7, 4, Err(NodeFault::NoSuchPart)),
         ],
     },
     Play {
@@ -97,11 +97,11 @@ static PLAYS: [Play; 7] = [
         sides: &[Ground],
         config: PASS,
         rows: &[
-            Row::Requests(0, 6, 2, &LOAD, Ok(&LOADING)),
-            Row::Requests(0, 13, 11, &[0; 19], Err(NodeFault::PartRequest)),
-            Row::Requests(0, 6, 2, &[0; 19], Err(NodeFault::Long)),
-            Row::Requests(5, 6, 2, &LOAD, Ok(&LOADING_AGAIN)),
-            Row::Refuses(Ask::Plain(13, 12, 18), None),
+            PlayRow::Requests(0, 6, 2, &LOAD, Ok(&LOADING)),
+            PlayRow::Requests(0, 13, 11, &[0; 19], Err(NodeFault::PartRequest)),
+            PlayRow::Requests(0, 6, 2, &[0; 19], Err(NodeFault::Long)),
+            PlayRow::Requests(5, 6, 2, &LOAD, Ok(&LOADING_AGAIN)),
+            PlayRow::Refuses(Ask::Plain(13, 12, 18), None),
         ],
     },
 ];

@@ -1,15 +1,15 @@
 //! What worlds show.
 
 use crate::names::{ID_0, ID_7};
-use crate::rows::{Content, Message, Row, Shown};
+use crate::rows::{Content, EventRow, Message, Shown};
 use lpt_events::{Side, Worker};
 use lpt_packet::Direction::{self, Down, Up};
 use lpt_packet::{Name, Octets, crc16};
 use lpt_world::World;
 
 /// Whether a world shows what a row says.
-pub(crate) fn shows(world: &World, row: &Row) -> bool {
-    let Row::Shows(shown) = row else {
+pub(crate) fn shows(world: &World, row: &EventRow) -> bool {
+    let EventRow::Shows(shown) = row else {
         return false;
     };
     match *shown {

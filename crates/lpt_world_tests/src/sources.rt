@@ -2,7 +2,7 @@
 //! 1, and a plain one. The packets were written by hand, and their checksums computed elsewhere.
 
 use crate::names::{ID_0, ID_7, OF_5};
-use crate::rows::{Asked, CONFIG, Content, ONE, Path, Row, Shown};
+use crate::rows::{AskedOf, CONFIG, Content, EventRow, ONE, Path, Shown};
 use lpt_events::Lane::S1;
 use lpt_events::{Answer, Applied, Outcome};
 use lpt_ledger::State;
@@ -46,35 +46,35 @@ const DUMPED_AGAIN: [u8; 32] = [
 ];
 
 /// The plain request asks for no report of verification.
-const ROWS: [Row; 28] = [
-    Row::Answers(Asked::OpenOf(Up, ID_7, &DUMPING), Answer::Opened(3), 0),
-    Row::Sends(Up, ID_7, 1, 0),
-    Row::Sends(Up, ID_7, 2, 1),
-    Row::Sends(Up, ID_7, 3, 2),
-    Row::Takes(S1, 0),
-    Row::Gives(S1, Outcome::Kept(ID_7, 1)),
-    Row::Takes(S1, 1),
-    Row::Gives(S1, Outcome::Kept(ID_7, 2)),
-    Row::Takes(S1, 2),
-    Row::Gives(S1, Outcome::Released(ID_7, 21)),
-    Row::Claims(0),
-    Row::Commits(0),
-    Row::Applies(Applied::Done(Some(OF_5)), 3),
-    Row::Shows(Shown::Packet(3, Some(&ACCEPTED))),
-    Row::Shows(Shown::Packet(4, Some(&STARTED))),
-    Row::Shows(Shown::Packet(5, Some(&COMPLETED))),
-    Row::Shows(Shown::Sender(Down, OF_5, State::Open)),
-    Row::Shows(Shown::Sender(Down, ID_0, State::Free)),
-    Row::Answers(Asked::Finish(Down, OF_5), Answer::Finished, 0),
-    Row::Answers(Asked::Retire(Down, OF_5), Answer::Retired, 0),
-    Row::Answers(Asked::Plain(5, 0, 5, &THREE), Answer::Put(6), 1),
-    Row::Takes(S1, 6),
-    Row::Gives(S1, Outcome::PlainReleased(21)),
-    Row::Claims(1),
-    Row::Commits(1),
-    Row::Applies(Applied::Done(Some(OF_5)), 0),
-    Row::Shows(Shown::Sender(Down, ID_0, State::Free)),
-    Row::Shows(Shown::Packets(7)),
+const ROWS: [EventRow; 28] = [
+    EventRow::Answers(AskedOf::OpenOf(Up, ID_7, &DUMPING), Answer::Opened(3), 0),
+    EventRow::Sends(Up, ID_7, 1, 0),
+    EventRow::Sends(Up, ID_7, 2, 1),
+    EventRow::Sends(Up, ID_7, 3, 2),
+    EventRow::Takes(S1, 0),
+    EventRow::Gives(S1, Outcome::Kept(ID_7, 1)),
+    EventRow::Takes(S1, 1),
+    EventRow::Gives(S1, Outcome::Kept(ID_7, 2)),
+    EventRow::Takes(S1, 2),
+    EventRow::Gives(S1, Outcome::Released(ID_7, 21)),
+    EventRow::Claims(0),
+    EventRow::Commits(0),
+    EventRow::Applies(Applied::Done(Some(OF_5)), 3),
+    EventRow::Shows(Shown::Packet(3, Some(&ACCEPTED))),
+    EventRow::Shows(Shown::Packet(4, Some(&STARTED))),
+    EventRow::Shows(Shown::Packet(5, Some(&COMPLETED))),
+    EventRow::Shows(Shown::Sender(Down, OF_5, State::Open)),
+    EventRow::Shows(Shown::Sender(Down, ID_0, State::Free)),
+    EventRow::Answers(AskedOf::Finish(Down, OF_5), Answer::Finished, 0),
+    EventRow::Answers(AskedOf::Retire(Down, OF_5), Answer::Retired, 0),
+    EventRow::Answers(AskedOf::Plain(5, 0, 5, &THREE), Answer::Put(6), 1),
+    EventRow::Takes(S1, 6),
+    EventRow::Gives(S1, Outcome::PlainReleased(21)),
+    EventRow::Claims(1),
+    EventRow::Commits(1),
+    EventRow::Applies(Applied::Done(Some(OF_5)), 0),
+    EventRow::Shows(Shown::Sender(Down, ID_0, State::Free)),
+    EventRow::Shows(Shown::Packets(7)),
 ];
 
 pub(crate) const PATH: Path = Path {

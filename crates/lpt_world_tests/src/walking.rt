@@ -3,7 +3,7 @@
 
 use crate::callers::is_last_opened;
 use crate::outside::comes_outside;
-use crate::rows::{Path, Row, Step, event_of, octets_of, step_of};
+use crate::rows::{EventRow, Path, RowStep, event_of, octets_of, step_of};
 use crate::shown::{has_opened, has_released, shows, sight_of};
 use lpt_events::{ConfigFault, Entry, Event, Puts, Refused, Reply, StepFault};
 use lpt_memory::{Memories, Shape};
@@ -83,7 +83,7 @@ fn comes(
     world: &mut World,
     path: &Path,
     done: usize,
-    row: &Row,
+    row: &EventRow,
 ) -> Result<(bool, bool), AllocError> {
     let Some(step) = step_of(row) else {
         return Ok((false, shows(world, row)));
@@ -115,7 +115,7 @@ fn is_back(world: &World, refused: &Refused, event: Event) -> bool {
 
 // Whether a growth failed, and whether an event is refused as its step says, or accepted at the second
 // try, where so many packets had been put.
-fn accepts(world: &mut World, refused: Refused, step: &Step, packets: u64) -> (bool, bool) {
+fn accepts(world: &mut World, refused: Refused, step: &RowStep, packets: u64) -> (bool, bool) {
     let (seat, _, want, _) = *step;
     if refused.fault != StepFault::Memory {
         return (false, want == Err(refused.fault));
@@ -127,7 +127,7 @@ fn accepts(world: &mut World, refused: Refused, step: &Step, packets: u64) -> (b
 }
 
 // Whether a reply is that of a step, where so many packets had been put.
-fn is_reply(reply: Reply, step: &Step, packets: u64) -> bool {
+fn is_reply(reply: Reply, step: &RowStep, packets: u64) -> bool {
     let (_, _, want, count) = *step;
     want == Ok(reply.answer) && reply.puts == puts_of(packets, count)
 }
@@ -149,7 +149,7 @@ fn tells(alloc: Global, world: &World, path: &Path, done: usize) -> Result<bool,
 fn is_told(
     alloc: Global,
     journal: &[Entry],
-    rows: &[Row],
+    rows: &[EventRow],
     done: usize,
 ) -> Result<bool, AllocError> {
     let (mut place, mut packets) = (0, 0);

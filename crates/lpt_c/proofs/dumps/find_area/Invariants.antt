@@ -2,7 +2,7 @@
 use Rattle.std.proofs.Common.{◌≡◌, ◌+◌, ◌-◌, ◌≤◌, drop, length, option_map, None, IfSome}
 use Rattle.lpt_memory.specs.Fields.{all_areas}
 use Rattle.lpt_memory.specs.Requests.{front_load_area}
-use Rattle.lpt_c.specs.Dumps.{place_in, placed}
+use Rattle.lpt_c.specs.Dumps.{place_in, area_placed}
 use Rattle.lpt_c.proofs.DumpLemmas.{left}
 use Rattle.lpt_c.proofs.dumps.find_area.Given as goal
 
@@ -15,5 +15,5 @@ invariant-loop-k l = record {
   read :
       left front_load_area (option_map (place_in l.body) l.found) l.at (l.number - l.k)
       (l.areas - l.k) (drop l.at l.body)
-      ≡ option_map (placed 2 l.number) (all_areas front_load_area l.areas (drop 2 l.body));
+      ≡ option_map (area_placed 2 l.number) (all_areas front_load_area l.areas (drop 2 l.body));
 }

@@ -1,6 +1,6 @@
 -- The pieces are as long as the data field that they make, and behind them the buffer is as it was.
 use Rattle.std.proofs.Common.{◌≡◌, ◌∙◌, ap, subst, ℕ, ◌+◌, List, ◌++◌, length, drop, arith, length-append}
-use Rattle.lpt_packet.specs.Packets.{fields_of, header_of, sealed, spelling}
+use Rattle.lpt_packet.specs.Packets.{fields_of, header_of, octets_sealed, spelling}
 use Rattle.lpt_c.specs.Standing.{rest_in, rest_len}
 use Rattle.lpt_c.proofs.RestLemmas.{length_rest, rest_front}
 use Rattle.lpt_c.proofs.filling.write_packet_into.Goals as goal
@@ -22,7 +22,7 @@ returns c =
     ap (rest_in r at) c.split_at_mut-packet.ensures.front
     ∙ rest_front r at n old (omega (arith, len)) (omega (arith, len, c.requires.room)) in
     let Sealed : List ℕ → List ℕ → Type 0
-    = λ primary rest. c.seal_into.new.out ≡ sealed (primary ++ h ++ rest) in
+    = λ primary rest. c.seal_into.new.out ≡ octets_sealed (primary ++ h ++ rest) in
     let primary = header_of c.args.kind c.args.apid c.args.count (length (h ++ b)) in
     let front = subst (λ rest. Sealed primary rest) stands
     (subst (λ primary. Sealed primary (rest_in r at c.split_at_mut-packet.result.0.now))

@@ -2,7 +2,7 @@
 use Rattle.std.proofs.Common.{◌≡◌, ◌∙◌, ap, sym, rules, arith, ℕ, ◌==◌, true, false, length, Some}
 use Rattle.std.proofs.lemmas.Bool.Decides.{nat_tests}
 use Rattle.lpt_part.specs.Parts.{length_test, number_test}
-use Rattle.lpt_c.specs.Buffers.{Text, code_for, left_by, needed_by}
+use Rattle.lpt_c.specs.Buffers.{BufferText, code_for, left_by, needed_by}
 use Rattle.lpt_c.specs.Parts.{is_part_size, kind_named}
 use Rattle.lpt_c.specs.Standing.{rest_in}
 use Rattle.lpt_c.proofs.PartLemmas.{part_with}
@@ -21,7 +21,7 @@ returns-then-not-length_fits-clause-code c =
     let tested : number_test k c.args.number ≡ true = search rules in
     let len : length o ≡ c.len.result = length_rest c.args.octets 4 old ∙ sym c.len.ensures in
     let short : length_test k c.args.number c.len.result c.args.part_size ≡ false = search rules in
-    sym (ap (λ (t : Text). code_for t old)
+    sym (ap (λ (t : BufferText). code_for t old)
     (part_with (kind_named c.args.kind) k c.args.id c.args.number c.args.part_size o false named
     size some tested
     (ap (λ (n : ℕ). length_test k c.args.number n c.args.part_size) len ∙ short)))
@@ -39,7 +39,7 @@ returns-clause-code c =
     let len : length o ≡ c.len.result = length_rest c.args.octets 4 old ∙ sym c.len.ensures in
     let fits : length_test k c.args.number c.len.result c.args.part_size ≡ true = search rules in
     c.fill_part.ensures.code
-    ∙ sym (ap (λ (t : Text). code_for t old)
+    ∙ sym (ap (λ (t : BufferText). code_for t old)
     (part_with (kind_named c.args.kind) k c.args.id c.args.number c.args.part_size o true named
     size some tested
     (ap (λ (n : ℕ). length_test k c.args.number n c.args.part_size) len ∙ fits)))
@@ -57,7 +57,7 @@ returns-clause-buffer c =
     let len : length o ≡ c.len.result = length_rest c.args.octets 4 old ∙ sym c.len.ensures in
     let fits : length_test k c.args.number c.len.result c.args.part_size ≡ true = search rules in
     c.fill_part.ensures.buffer
-    ∙ sym (ap (λ (t : Text). left_by t old)
+    ∙ sym (ap (λ (t : BufferText). left_by t old)
     (part_with (kind_named c.args.kind) k c.args.id c.args.number c.args.part_size o true named
     size some tested
     (ap (λ (n : ℕ). length_test k c.args.number n c.args.part_size) len ∙ fits)))
@@ -75,7 +75,7 @@ returns-clause-needed c =
     length_rest c.args.octets 4 c.args.out.now ∙ sym c.len.ensures in
     let fits : length_test k c.args.number c.len.result c.args.part_size ≡ true = search rules in
     c.fill_part.ensures.needed
-    ∙ sym (ap (λ (t : Text). needed_by t c.args.needed.now)
+    ∙ sym (ap (λ (t : BufferText). needed_by t c.args.needed.now)
     (part_with (kind_named c.args.kind) k c.args.id c.args.number c.args.part_size o true named
     size some tested
     (ap (λ (n : ℕ). length_test k c.args.number n c.args.part_size) len ∙ fits)))

@@ -17,9 +17,9 @@ returns-in-Ok-new-clause-done c = λ done.
     c.in-Ok-new.made.value c.joining-archive.result (c.hand_out.ensures.done done)
     c.in-Ok-new.ensures.ok
     (new_join c.args.direction c.args.apid c.args.any c.args.part_size c.args.layout.now
-    c.in-Ok.layouts c.direction_from-direction.result c.tailored.result.now
+    c.in-Ok.layouts c.direction_from-direction.result c.tailored_in.result.now
     c.reading_of-reading.result c.joining-archive.result c.direction_from-direction.ensures
-    c.tailored.ensures c.reading_of-reading.ensures c.in-Ok.ensures.ok
+    c.tailored_in.ensures c.reading_of-reading.ensures c.in-Ok.ensures.ok
     c.joining-archive.ensures.layouts c.joining-archive.ensures.told c.joining-archive.ensures.open
     c.joining-archive.ensures.reading c.joining-archive.ensures.cut
     c.joining-archive.ensures.joins c.joining-archive.ensures.news)

@@ -1,7 +1,7 @@
 -- The three ways in which a header is read.
 use Rattle.std.proofs.Common.{◌∙◌, ap, sym, [], arith}
 use Rattle.lpt_capture.specs.declared.fault.CaptureFault.TheVariants.{LinkType}
-use Rattle.lpt_capture.specs.Captured.{broken}
+use Rattle.lpt_capture.specs.Captured.{broken_finding}
 use Rattle.lpt_capture.proofs.CaptureLemmas.{capture_short, capture_other, capture_records}
 use Rattle.lpt_capture.proofs.place.behind_file_header.Goals as goal
 
@@ -18,7 +18,7 @@ returns-then-link_type-ne-LINK_TYPE-clause-found c = λ b end.
     capture_other c.args.turned c.args.head.now b c.requires
     (omega (arith, c.if-head-lt-FILE_HEADER.false))
     (λ e. c.if-link_type-ne-LINK_TYPE.true (said ∙ e))
-    ∙ ap (λ n. broken [] (LinkType n)) (sym said)
+    ∙ ap (λ n. broken_finding [] (LinkType n)) (sym said)
 
 pub returns-clause-found : goal.returns-clause-found
 returns-clause-found c = λ b end.

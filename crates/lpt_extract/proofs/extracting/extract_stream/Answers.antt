@@ -8,7 +8,7 @@ use Rattle.lpt_text.specs.declared.fault.StreamFault.TheVariants as faults
 use Rattle.std.specs.Io.KnownBytes.{Appends}
 use Rattle.lpt_text.specs.Streams.{AppendsPart}
 use Rattle.lpt_extract.specs.Extracts.{areas_in, cut_of, notices_in, written_first, ExtractLeaves, ExtractsTo, LeavesFront}
-use Rattle.lpt_extract.specs.ExtractsInside.{written_last, EndsAs, Held}
+use Rattle.lpt_extract.specs.ExtractsInside.{written_last, EndsAs, HeldAreas}
 use Rattle.lpt_extract.specs.Notices.{Hears}
 use Rattle.lpt_extract.specs.declared.wanted.Wanted.{Wanted}
 use Rattle.lpt_extract.proofs.GiveLemmas.{ends-by, first-none, hears-nothing, leaves-first, leaves-last}
@@ -40,7 +40,8 @@ returns-clause-ends g c =
     let ps = read.1 in
     let taken = read.5.0 in
     let areas = areas_in w (packets_of ps) in
-    let held = subst (λ (v : Wanted). Held v.at (areas_in v (packets_of ps)) (notices_in v 0 ps)
+    let held =
+    subst (λ (v : Wanted). HeldAreas v.at (areas_in v (packets_of ps)) (notices_in v 0 ps)
     last.holding) taken.same taken.held in
     let told = subst (λ (v : Wanted). Hears heard hears (notices_in v 0 ps)) taken.same
     taken.hears_is in
@@ -72,7 +73,8 @@ returns-clause-leaves g c =
     let ps = read.1 in
     let taken = read.5.0 in
     let areas = areas_in w (packets_of ps) in
-    let held = subst (λ (v : Wanted). Held v.at (areas_in v (packets_of ps)) (notices_in v 0 ps)
+    let held =
+    subst (λ (v : Wanted). HeldAreas v.at (areas_in v (packets_of ps)) (notices_in v 0 ps)
     last.holding) taken.same taken.held in
     if-err (λ e. e ≡ faults.Write) (λ e. AppendsPart mid new (written_last w.at areas))
     (λ e. ExtractLeaves w e a d old new) c.end_extract.result

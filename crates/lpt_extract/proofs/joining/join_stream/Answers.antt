@@ -11,7 +11,7 @@ use Rattle.lpt_stream.proofs.EndLemmas.{other-fault, reader-all, reader-kept}
 use Rattle.lpt_stream.proofs.TakeLemmas.{all-as, leave-all, leave-as}
 use Rattle.lpt_extract.specs.declared.wanted.Wanted.{Wanted}
 use Rattle.lpt_extract.specs.Extracts.{areas_in, written_first, LeavesFront}
-use Rattle.lpt_extract.specs.ExtractsInside.{written_last, Held}
+use Rattle.lpt_extract.specs.ExtractsInside.{written_last, HeldAreas}
 use Rattle.lpt_extract.specs.Joined.{joined_in, reads, JoinedLeaves}
 use Rattle.lpt_extract.specs.Notices.{Hears}
 use Rattle.lpt_extract.proofs.GiveLemmas.{first-none, hears-nothing, leaves-first, leaves-last}
@@ -88,7 +88,8 @@ returns-clause-ends g c =
     let new = g.K.Sink.contents c.end_extract.new.out in
     let heard = g.L.Listener.heard first.listener in
     let hears = g.L.Listener.heard c.take_pieces.new.lent.listener in
-    let held = subst (λ (v : Wanted). Held v.at (areas_in v (reads r bs)) (joined_in v r [] 0 ps)
+    let held =
+    subst (λ (v : Wanted). HeldAreas v.at (areas_in v (reads r bs)) (joined_in v r [] 0 ps)
     last.holding) taken.0.same taken.0.held in
     let hear = subst (λ (v : Wanted). Hears heard hears (joined_in v r [] 0 ps)) taken.0.same
     taken.0.hears_is in
@@ -120,7 +121,8 @@ returns-clause-leaves g c =
     let mid = g.K.Sink.contents c.take_pieces.new.out in
     let new = g.K.Sink.contents c.end_extract.new.out in
     let areas = areas_in w (reads r bs) in
-    let held = subst (λ (v : Wanted). Held v.at (areas_in v (reads r bs)) (joined_in v r [] 0 ps)
+    let held =
+    subst (λ (v : Wanted). HeldAreas v.at (areas_in v (reads r bs)) (joined_in v r [] 0 ps)
     last.holding) taken.0.same taken.0.held in
     if-err (λ e. e ≡ faults.Write) (λ e. AppendsPart mid new (written_last w.at areas))
     (λ e. JoinedLeaves cut w r e _ _ old new) c.end_extract.result

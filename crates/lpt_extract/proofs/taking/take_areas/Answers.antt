@@ -5,7 +5,7 @@ use Rattle.std.specs.Io.KnownBytes.{Appends}
 use Rattle.lpt_text.specs.Streams.{AppendsPart}
 use Rattle.lpt_stream.proofs.EndLemmas.{writer-after}
 use Rattle.lpt_extract.specs.Extracts.{written_first}
-use Rattle.lpt_extract.specs.ExtractsInside.{given, told_of}
+use Rattle.lpt_extract.specs.ExtractsInside.{areas_given, told_of}
 use Rattle.lpt_extract.specs.Notices.{Hears}
 use Rattle.lpt_extract.proofs.GiveLemmas.{given-more, given-split, told-more, held-as, held-more, hears-more, part-before, part-more, wrote-more}
 use Rattle.lpt_extract.proofs.taking.take_areas.Goals as goal
@@ -19,13 +19,13 @@ returns-in-Err-clause-part g c =
     let old = g.K.Sink.contents c.args.out.now in
     let mid = g.K.Sink.contents c.loop-seen.out in
     let new = g.K.Sink.contents c.take_area.new.out in
-    let more : given (take i xs) ++ given (x ∷ []) ≡ given (take (i + 1) xs) =
-    ap (λ y. given (take i xs) ++ given (y ∷ [])) c.seen-item.is
+    let more : areas_given (take i xs) ++ areas_given (x ∷ []) ≡ areas_given (take (i + 1) xs) =
+    ap (λ y. areas_given (take i xs) ++ areas_given (y ∷ [])) c.seen-item.is
     ∙ sym (given-more xs i x c.loop-seen-test.true) in
     subst (λ areas. AppendsPart old new (written_first at areas)) (given-split (i + 1) xs)
-    (part-before at old new (given (take (i + 1) xs)) (given (drop (i + 1) xs))
+    (part-before at old new (areas_given (take (i + 1) xs)) (areas_given (drop (i + 1) xs))
     (subst (λ areas. AppendsPart old new (written_first at areas)) more
-    (part-more at old mid new (given (take i xs)) (given (x ∷ []))
+    (part-more at old mid new (areas_given (take i xs)) (areas_given (x ∷ []))
     c.loop-seen.invariant.wrote c.in-Err.ensures.part)))
 
 pub returns-in-Err-clause-writer : goal.returns-in-Err-clause-writer
@@ -40,21 +40,23 @@ loop-seen-preserved g c =
     let x = c.seen-item.result in
     let m = c.args.memory in
     let n = c.args.place in
-    let more : given (take (i + 1) xs) ≡ given (take i xs) ++ given (x ∷ []) =
-    given-more xs i x c.loop-seen-test.true ∙ ap (λ y. given (take i xs) ++ given (y ∷ [])) (sym c.seen-item.is) in
+    let more : areas_given (take (i + 1) xs) ≡ areas_given (take i xs) ++ areas_given (x ∷ []) =
+    given-more xs i x c.loop-seen-test.true
+    ∙ ap (λ y. areas_given (take i xs) ++ areas_given (y ∷ [])) (sym c.seen-item.is) in
     let told : told_of m n (take (i + 1) xs) ≡ told_of m n (take i xs) ++ told_of m n (x ∷ []) =
     told-more m n xs i x c.loop-seen-test.true ∙ ap (λ y. told_of m n (take i xs) ++ told_of m n (y ∷ [])) (sym c.seen-item.is) in
     record {
       held = λ before ns h.
-          held-more at before (given (take i xs)) (given (x ∷ [])) (given (take (i + 1) xs)) ns
+          held-more at before (areas_given (take i xs)) (areas_given (x ∷ []))
+          (areas_given (take (i + 1) xs)) ns
           (told_of m n (take i xs)) (told_of m n (x ∷ [])) (told_of m n (take (i + 1) xs))
           c.take_area.new.holding more told
-          (c.in-Ok.ensures.held (before ++ given (take i xs)) (ns ++ told_of m n (take i xs))
+          (c.in-Ok.ensures.held (before ++ areas_given (take i xs)) (ns ++ told_of m n (take i xs))
           (c.loop-seen.invariant.held before ns h));
       wrote = subst (λ areas. Appends (g.K.Sink.contents c.args.out.now) (g.K.Sink.contents c.take_area.new.out)
           (written_first at areas)) (sym more)
           (wrote-more at (g.K.Sink.contents c.args.out.now) (g.K.Sink.contents c.loop-seen.out)
-          (g.K.Sink.contents c.take_area.new.out) (given (take i xs)) (given (x ∷ []))
+          (g.K.Sink.contents c.take_area.new.out) (areas_given (take i xs)) (areas_given (x ∷ []))
           c.loop-seen.invariant.wrote c.in-Ok.ensures.wrote);
       heard = subst (Hears (g.L.Listener.heard c.args.listener.now) (g.L.Listener.heard c.take_area.new.listener))
           (sym told)
@@ -69,6 +71,6 @@ returns-clause-held g c = λ before ns h.
     let xs = c.args.areas.now in
     let all : take c.loop-seen.seen-index xs ≡ xs = take_all c.loop-seen.seen-index xs (omega arith) in
     held-as c.args.wanted.now.at _ _ _ _ c.loop-seen.holding
-    (ap (λ ys. before ++ given ys) all)
+    (ap (λ ys. before ++ areas_given ys) all)
     (ap (λ ys. ns ++ told_of c.args.memory c.args.place ys) all)
     (c.loop-seen.invariant.held before ns h)

@@ -1,7 +1,7 @@
 -- One packet more.
 use Rattle.std.proofs.Common.{◌≡◌, ◌∙◌, ap, sym, ◌++◌, List, ℕ, subst, drop, take-append-drop}
 use Rattle.lpt_stream.specs.Streams.{IsFramed}
-use Rattle.lpt_ground.specs.Passes.{heard, state_of}
+use Rattle.lpt_ground.specs.Passes.{octets_heard, state_of}
 use Rattle.lpt_ground_run.proofs.KeepingLemmas.{heard-more}
 use Rattle.lpt_ground_run.proofs.keeping.hear_kept.Goals as goal
 
@@ -21,6 +21,7 @@ loop-len-preserved c =
           ∙ ap (λ (l : List ℕ). front ++ l) (sym c.split_at.ensures.back))
           (subst IsFramed (sym c.split_at.ensures.front) c.in-Some.ensures.framed)
           (c.hear.ensures.state
-          ∙ ap (λ (o : List ℕ). heard c.loop-len.pass.terms (state_of c.loop-len.pass) o) same);
+          ∙ ap (λ (o : List ℕ). octets_heard c.loop-len.pass.terms (state_of c.loop-len.pass) o)
+          same);
       terms = c.hear.ensures.terms ∙ c.loop-len.invariant.terms;
     }

@@ -3,7 +3,7 @@ use Rattle.std.proofs.Common.{◌≡◌, ◌∙◌, ap, sym, subst, arith}
 use Rattle.std.specs.Option.{option_map}
 use Rattle.lpt_packet.specs.Numbers.{IsOctets}
 use Rattle.lpt_part.specs.Parts.{piece}
-use Rattle.lpt_events.specs.NamedParts.{named}
+use Rattle.lpt_events.specs.NamedParts.{part_named}
 use Rattle.lpt_stream.specs.declared.piece_kind.PieceKind.{PieceKind}
 use Rattle.lpt_skips.specs.declared.why.Why.TheVariants.{Taken}
 use Rattle.lpt_skips.specs.Skipping.{why_of}
@@ -19,4 +19,4 @@ returns-in-Some-clause-why c =
     subst (λ (k : PieceKind). why_of (reading_of c.args.transaction.now None) k b ≡ Taken)
     (sym c.in-Whole.is)
     (any-why c.the_own_skips.ensures c.args.transaction.now b octets
-    (named c.in-Some.source (piece c.in-Some.part)) c.in-Some.ensures.part)
+    (part_named c.in-Some.source (piece c.in-Some.part)) c.in-Some.ensures.part)

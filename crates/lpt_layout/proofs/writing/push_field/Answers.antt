@@ -2,7 +2,7 @@
 use Rattle.std.proofs.Common.{◌≡◌, ◌∙◌, ap, ℕ, ◌+◌, ◌*◌, List, [], ◌∷◌, ◌++◌}
 use Rattle.lpt_packet.specs.Numbers.{be}
 use Rattle.lpt_layout.specs.Layouts.{version_number}
-use Rattle.lpt_layout.specs.Messages.{said}
+use Rattle.lpt_layout.specs.Messages.{message_said}
 use Rattle.lpt_layout.specs.Numbers.{octets_of}
 use Rattle.lpt_layout.proofs.MessageLemmas.{field_of-behind}
 use Rattle.lpt_layout.proofs.writing.push_field.Goals as goal
@@ -10,7 +10,7 @@ use Rattle.lpt_layout.proofs.writing.push_field.Goals as goal
 pub returns : goal.returns
 returns c =
     let l = c.args.layout.now in
-    let m = said c.args.message.now in
+    let m = message_said c.args.message.now in
     let old : List ℕ = c.args.octets.now.items in
     let head : List ℕ =
     (16 * version_number l.version + m.flags) ∷ m.service ∷ m.subtype ∷ [] in

@@ -1,7 +1,7 @@
 -- Name after name, until none is left.
 use Rattle.std.proofs.Common.{◌≡◌, refl, ◌<◌, true, false, List, [], ◌∷◌, length, arith}
 use Rattle.lpt_stream.proofs.EndLemmas.{any-err}
-use Rattle.lpt_layout_each.specs.Eaches.{held}
+use Rattle.lpt_layout_each.specs.Eaches.{course_held}
 use Rattle.lpt_layout_each.proofs.TellLemmas.{left-all, left-first, left-next, left-part}
 use Rattle.lpt_layout_each.proofs.leaving.leave_as.Goals as goal
 
@@ -25,7 +25,7 @@ loop-name-preserved g c = λ r any bs h.
     (g.T.TakerAs.heard c.args.taker.now) (g.T.TakerAs.heard c.loop-name.taker)
     (g.T.TakerAs.heard c.tell_left.new.taker) was c.in-Some.ensures.removal
     c.in-Some.ensures.updates.0
-    (c.in_ok-tell_left.ensures.told (held r any name bs)
+    (c.in_ok-tell_left.ensures.told (course_held r any name bs)
     (was.holds name c.in-Some.held c.in-Some.ensures.value))
 
 pub returns-clause-told : goal.returns-clause-told
@@ -42,5 +42,5 @@ returns-in_err-tell_left-clause-left g c = λ r any bs h.
     (left-part r any bs c.args.helds c.loop-name.kept c.pop_first.new.self name c.in-Some.held
     (g.T.TakerAs.heard c.args.taker.now) (g.T.TakerAs.heard c.loop-name.taker)
     (g.T.TakerAs.heard c.tell_left.new.taker) h was c.in-Some.ensures.removal
-    (c.in_err-tell_left.ensures.left (held r any name bs)
+    (c.in_err-tell_left.ensures.left (course_held r any name bs)
     (was.holds name c.in-Some.held c.in-Some.ensures.value)))

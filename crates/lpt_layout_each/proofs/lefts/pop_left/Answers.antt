@@ -1,7 +1,7 @@
 -- Name after name, until something is left of one.
 use Rattle.std.proofs.Common.{◌∙◌, ap, sym, List, ◌++◌}
 use Rattle.lpt_layout_each.specs.declared.helds.HeldsAs.{HeldsAs}
-use Rattle.lpt_layout_each.specs.Eaches.{held}
+use Rattle.lpt_layout_each.specs.Eaches.{course_held}
 use Rattle.lpt_layout_each.specs.Lefts.{left_yet}
 use Rattle.lpt_layout_each.specs.News.{Event}
 use Rattle.lpt_layout_each.specs.Told.{events_of}
@@ -24,7 +24,7 @@ loop-name-preserved c = λ r any bs h.
     let old = c.loop-name.helds in
     let new : HeldsAs = record { kept = c.pop_first.new.self; counts = old.counts } in
     let name = c.in-Some.name in
-    let none = sym (c.left_in.ensures (held r any name bs)
+    let none = sym (c.left_in.ensures (course_held r any name bs)
     (was.0 name c.in-Some.held c.in-Some.ensures.value)) ∙ ap events_of c.in-None.is in (
       yet-next r any bs old new name c.in-Some.ensures.updates.0 was.0,
       was.1 ∙ left-split r any bs old new name c.in-Some.held c.in-Some.ensures.removal

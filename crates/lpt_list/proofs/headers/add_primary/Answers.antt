@@ -5,7 +5,7 @@ use Rattle.std.specs.String.{string_bytes}
 use Rattle.lpt_packet.specs.Packets.{fields_of}
 use Rattle.lpt_list.specs.declared.form.Form.{Form}
 use Rattle.lpt_list.specs.declared.form.Form.TheVariants.{Json, Text}
-use Rattle.lpt_list.specs.Items.{Alone, Item, Number, items_text, named, primary_items}
+use Rattle.lpt_list.specs.Items.{Alone, Item, Number, items_text, json_name, primary_items}
 use Rattle.lpt_list.proofs.headers.add_primary.Goals as goal
 
 -- an APID and a count
@@ -36,7 +36,7 @@ returns-in-Json c = subst
     ≡ string_bytes c.args.text.now ++ items_text Json (worded l c.args.apid c.args.count)))
     c.type_word-kind.ensures (subst
     (λ (l : List ℕ). OnOk c.write-in-Json.result (string_bytes c.write-in-Json.new.self
-    ≡ string_bytes c.args.text.now ++ (named (codes "packet_type") ++ (34 ∷ l))))
+    ≡ string_bytes c.args.text.now ++ (json_name (codes "packet_type") ++ (34 ∷ l))))
     (sym (append_assoc c.type_word-kind.result.now (34 ∷ [])
     (items_text Json (numbered c.args.apid c.args.count))))
     c.write-in-Json.ensures.bytes))

@@ -2,7 +2,7 @@
 use Rattle.std.proofs.Common.{◌≡◌, sym, subst, ◌++◌, ℕ, List, OnOk}
 use Rattle.std.specs.String.{string_bytes}
 use Rattle.lpt_list.specs.declared.form.Form.{Form}
-use Rattle.lpt_list.specs.Items.{Word, item_text, quoted}
+use Rattle.lpt_list.specs.Items.{Word, item_text, in_quotes}
 use Rattle.lpt_list.proofs.ItemLemmas.{name_before}
 use Rattle.lpt_list.proofs.headers.add_word.Goals as goal
 
@@ -14,4 +14,4 @@ returns-in-Json c = subst
     (sym c.in-Json.is)
     (subst (λ (l : List ℕ). OnOk c.write-in-Json.result (string_bytes c.write-in-Json.new.self
     ≡ string_bytes c.args.text.now ++ l))
-    (name_before c.args.word.now (quoted c.args.value.now)) c.write-in-Json.ensures.bytes)
+    (name_before c.args.word.now (in_quotes c.args.value.now)) c.write-in-Json.ensures.bytes)

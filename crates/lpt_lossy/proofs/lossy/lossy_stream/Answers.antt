@@ -3,7 +3,7 @@ use Rattle.std.proofs.Common.{◌≡◌, ◌∙◌, List, ℕ, Some, None, ◌==
 use Rattle.std.proofs.KnownBytes.{Consumes-nil}
 use Rattle.lpt_stream.specs.Streams.{all_octets}
 use Rattle.lpt_lossy.specs.Ends.{CarriesPart}
-use Rattle.lpt_frames.specs.Buffers.{held}
+use Rattle.lpt_frames.specs.Buffers.{octets_held}
 use Rattle.lpt_lossy.specs.Ways.{crossings}
 use Rattle.lpt_lossy.proofs.CarryLemmas.{at-end, at-end-part, at-fault, at-lost, at-more, at-most, at-next, at-none, at-part, none-carried}
 use Rattle.lpt_lossy.proofs.FrontLemmas.{front-frame, front-none, none-ends}
@@ -90,11 +90,12 @@ returns-in-None-clause-ends g c =
     at-end g.D.Decider.decides c.args.most_later first c.loop.decider a after k0 k2 k3 b2
     c.loop.turns c.loop.counts
     c.loop.place c.loop.counter c.stray_at-stray.result at
-    (none-ends (held b2) (length (all_octets at.frames)) c.loop.place c.stray_at-stray.result after
+    (none-ends (octets_held b2) (length (all_octets at.frames)) c.loop.place c.stray_at-stray.result
+    after
     at.place_is
     (c.stray_at-stray.ensures
-    ∙ ap (λ (o : List ℕ). if length o == 0 then None else Some c.loop.place) c.held.ensures)
-    (front-none c.in_ok-front.front (held b2) after (sym c.in-None.ensures) found.2))
+    ∙ ap (λ (o : List ℕ). if length o == 0 then None else Some c.loop.place) c.octets_held.ensures)
+    (front-none c.in_ok-front.front (octets_held b2) after (sym c.in-None.ensures) found.2))
     c.in_ok-end_run-in-None.ensures.ok
 
 -- a packet
@@ -105,7 +106,7 @@ carry-requires-clause-turn g c =
       turns_are c.args.most_later (crossings g.D.Decider.decides c.args.decider.now
           c.loop.invariant.at.frames) c.loop.turns
           c.loop.invariant.at.holds,
-      c.settled-way.ensures.most,
+      c.fate_settled-way.ensures.most,
     )
 
 pub returns-in_err-carry-clause-leaves : goal.returns-in_err-carry-clause-leaves
@@ -131,10 +132,10 @@ returns-in_err-carry-clause-leaves g c =
     (at-part g.D.Decider.decides c.args.most_later first c.loop.decider c.decide.new.self a after
     k0 k2 k3 b2 c.loop.turns
     c.loop.counts c.loop.place c.loop.counter len c.decide.result
-    (take len c.held-in-loop.result.now)
-    c.settled-way.result
-    at (front-frame c.in_ok-front.front len (held b2) after (sym c.in-Some.ensures) found.2)
-    (ap (take len) c.held-in-loop.ensures) c.decide.ensures c.settled-way.ensures.way
+    (take len c.octets_held-in-loop.result.now)
+    c.fate_settled-way.result
+    at (front-frame c.in_ok-front.front len (octets_held b2) after (sym c.in-Some.ensures) found.2)
+    (ap (take len) c.octets_held-in-loop.ensures) c.decide.ensures c.fate_settled-way.ensures.way
     c.in_err-carry.ensures.part)
 
 pub loop-preserved : goal.loop-preserved
@@ -150,7 +151,7 @@ loop-preserved g c =
     let b = c.loop.frames in
     let b2 = c.find_frame.new.self in
     let len = c.in-Some.len in
-    let o = take len c.held-in-loop.result.now in
+    let o = take len c.octets_held-in-loop.result.now in
     let found = c.in_ok-front.ensures.finds in
     let at = at-more g.D.Decider.decides c.args.most_later first c.loop.decider a mid after k0 k1
     k2 b b2 c.loop.turns
@@ -160,13 +161,15 @@ loop-preserved g c =
       at = at-next g.D.Decider.decides c.args.most_later first c.loop.decider c.decide.new.self a
           after k0 k2 k3 b2
           c.skip.new.self c.loop.turns c.carry.new.turns c.loop.counts c.add.new.self c.loop.place
-          c.saturating_add-place.result c.loop.counter len c.decide.result o c.settled-way.result at
+          c.saturating_add-place.result c.loop.counter len c.decide.result o
+          c.fate_settled-way.result at
           record {
-            front = front-frame c.in_ok-front.front len (held b2) after (sym c.in-Some.ensures)
+            front =
+                front-frame c.in_ok-front.front len (octets_held b2) after (sym c.in-Some.ensures)
                 found.2;
-            octets_are = ap (take len) c.held-in-loop.ensures;
+            octets_are = ap (take len) c.octets_held-in-loop.ensures;
             fate_is = c.decide.ensures;
-            way_is = c.settled-way.ensures.way;
+            way_is = c.fate_settled-way.ensures.way;
             written = c.in_ok-carry.ensures.ok;
             held_is = c.in_ok-carry.ensures.turns;
             added = c.add.ensures;

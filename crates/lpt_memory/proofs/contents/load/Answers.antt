@@ -1,6 +1,6 @@
 -- The memory that was found is the one that a load changes, and its size stays.
 use Rattle.std.proofs.Common.{◌∙◌, ap, length, ◌<◌, arith}
-use Rattle.lpt_memory.specs.Memories.{Contents, sizes_of, loaded}
+use Rattle.lpt_memory.specs.Memories.{Contents, sizes_of, memories_loaded}
 use Rattle.lpt_memory.specs.Seen.{areas_in}
 use Rattle.lpt_memory.proofs.MemoriesLemmas.{loaded-found, sizes_of-set}
 use Rattle.lpt_memory.proofs.contents.load.Goals as goal
@@ -12,7 +12,7 @@ returns-then-known-id-clause-loaded c =
     let within : c.loop-known.known-index < length ms = omega arith in
     loaded-found c.args.id areas ms c.loop-known.known-index c.known-item.result
     c.put_all.new.content within (cc) c.put_all.ensures.put c.loop-known.invariant.loaded
-    ∙ ap (λ (xs : Contents). loaded c.args.id areas xs) c.loop-known.invariant.same
+    ∙ ap (λ (xs : Contents). memories_loaded c.args.id areas xs) c.loop-known.invariant.same
 
 pub returns-then-known-id-clause-sizes : goal.returns-then-known-id-clause-sizes
 returns-then-known-id-clause-sizes c =

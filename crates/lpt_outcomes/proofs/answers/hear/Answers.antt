@@ -8,5 +8,5 @@ use Rattle.lpt_outcomes.proofs.answers.hear.Goals as goal
 pub returns-in-Some : goal.returns-in-Some
 returns-in-Some c = λ k.
     heard-put c.args.news.now c.key.result k (get key_cmp c.args.outcomes.now) c.in-Some.outcome.now
-    c.told.result _ c.key.ensures c.told.ensures (search rules)
+    c.with_news.result _ c.key.ensures c.with_news.ensures (search rules)
     (((c.get_mut.follows.holds _).3 (search rules)).0 k)

@@ -1,7 +1,7 @@
 -- Place after place.
 use Rattle.std.proofs.Common.{◌∙◌, ◌++◌, [], List, ap, get_or, map, refl, sym}
 use Rattle.std.proofs.lemmas.List.{map-append}
-use Rattle.lpt_requests.specs.declared.reading.Place.{Place}
+use Rattle.lpt_requests.specs.declared.reading.AreaPlace.{AreaPlace}
 use Rattle.lpt_requests.specs.Cuts.{Asked, as_read, place_faults, view}
 use Rattle.lpt_requests.proofs.CutLemmas.{else-none, place-fault, places-done, places-next}
 use Rattle.lpt_requests.proofs.reading.cut_places.Goals as goal
@@ -16,8 +16,8 @@ pub loop-place-preserved : goal.loop-place-preserved
 loop-place-preserved c =
     let places = c.args.places.now in
     let i = c.loop-place.place-index in
-    let d : Place = record { address = 0; len = 0 } in
-    let p : Place = get_or places i d in
+    let d : AreaPlace = record { address = 0; len = 0 } in
+    let p : AreaPlace = get_or places i d in
     let ask = as_read c.args.what c.args.memory in
     let was = c.loop-place.invariant.cut in
     let new = c.in_ok-cut_place.ensures in

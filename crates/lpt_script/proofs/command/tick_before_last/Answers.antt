@@ -1,5 +1,5 @@
 use Rattle.std.proofs.Common.{rules, ◌+◌, ◌-◌, ◌∙◌, sym, ap}
-use Rattle.lpt_script.specs.Scripts.{ticked}
+use Rattle.lpt_script.specs.Scripts.{clock_ticked}
 use Rattle.lpt_script.proofs.TickLemmas.{ticked_more, tick_ends}
 use Rattle.lpt_script.proofs.command.tick_before_last.Goals as goal
 
@@ -14,7 +14,9 @@ pub loop-preserved : goal.loop-preserved
 loop-preserved c =
     let more = ticked_more (c.args.count + 1 - c.loop.counter) (c.args.count + 1 - (c.loop.counter + 1)) c.args.side c.loop.world
     (search rules) (search rules) c.in-Ok.ensures.ok.0 in (
-      c.loop.invariant.0 ∙ more ∙ sym (ap (ticked (c.args.count + 1 - (c.loop.counter + 1)) c.args.side) c.in-Ok.ensures.ok.1),
+      c.loop.invariant.0 ∙ more ∙ sym
+          (ap (clock_ticked (c.args.count + 1 - (c.loop.counter + 1)) c.args.side)
+          c.in-Ok.ensures.ok.1),
       search rules,
       search rules,
     )

@@ -7,7 +7,7 @@ pub returns-in-Some : goal.returns-in-Some
 returns-in-Some c =
     let entries = c.args.table.now.entries in
     let found = table_get c.get.result (codes "memory") entries c.get.ensures.value in
-    rw (← rw c.in-Some.is at found) c.listed.ensures
+    rw (← rw c.in-Some.is at found) c.memories_listed.ensures
 
 -- the key is absent
 pub returns-in-None : goal.returns-in-None

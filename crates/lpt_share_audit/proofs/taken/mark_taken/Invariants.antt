@@ -1,11 +1,11 @@
 -- The marks so far, with those of the rest, are all, and all were fresh where those so far were.
 use Rattle.std.proofs.Common.{◌≡◌, ◌&&◌, length}
-use Rattle.lpt_share_audit.specs.FinishedInside.{are_fresh, marked}
+use Rattle.lpt_share_audit.specs.FinishedInside.{are_fresh, packets_marked}
 use Rattle.lpt_share_audit.proofs.taken.mark_taken.Given as goal
 
 abbrev pub invariant-loop-entry : goal.invariant-loop-entry
 invariant-loop-entry l =
-    (marked l.rest l.marks.items ≡ marked l.fn.entries l.fn.marks.items)
+    (packets_marked l.rest l.marks.items ≡ packets_marked l.fn.entries l.fn.marks.items)
     × (length l.marks.items ≡ length l.fn.marks.items)
     × ((l.once && are_fresh l.rest l.marks.items) ≡ are_fresh l.fn.entries l.fn.marks.items)
 

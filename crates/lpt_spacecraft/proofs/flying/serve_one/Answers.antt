@@ -1,14 +1,14 @@
 -- The ticks that are due, and a packet.
 use Rattle.std.proofs.Common.{◌≡◌, ◌∙◌, ◌+◌, ◌<◌, subst, sym, Some}
-use Rattle.lpt_jobs.specs.Jobs.{numbered, Jobs}
-use Rattle.lpt_spacecraft.specs.Flights.{Made, came_with, counted_on, served}
+use Rattle.lpt_jobs.specs.Jobs.{jobs_numbered, Jobs}
+use Rattle.lpt_spacecraft.specs.Flights.{Made, came_with, counted_on, inputs_served}
 use Rattle.lpt_spacecraft.specs.Streams.{flight_of, plain, Breaks, Flies}
 use Rattle.lpt_spacecraft.proofs.FoldLemmas.{any-err, behind-ticks, breaks-behind, breaks-ticks}
 use Rattle.lpt_spacecraft.proofs.flying.serve_one.Goals as goal
 
 pub take_next-requires-clause-room : goal.take_next-requires-clause-room
 take_next-requires-clause-room g c =
-    subst (λ (j : Jobs). numbered j + 1 < 18446744073709551616)
+    subst (λ (j : Jobs). jobs_numbered j + 1 < 18446744073709551616)
     (sym c.in_ok-tick_all.ensures.jobs) c.requires.room
 
 -- both are done
@@ -20,9 +20,9 @@ returns-clause-ok g c =
     let r = c.tick_all.new.course in
     let b = c.args.octets.now in
     let ticked = c.in_ok-tick_all.ensures in
-    let same : served mid.config (flight_of mid r) (came_with r.pace.every r.since b)
-    ≡ served s.config (flight_of mid r) (came_with q.pace.every q.since b) =
-    λ i. served (ticked.config i) (flight_of mid r)
+    let same : inputs_served mid.config (flight_of mid r) (came_with r.pace.every r.since b)
+    ≡ inputs_served s.config (flight_of mid r) (came_with q.pace.every q.since b) =
+    λ i. inputs_served (ticked.config i) (flight_of mid r)
     (came_with (ticked.pace i).every (ticked.since i) b) in
     behind-ticks s.config (flight_of s q) mid c.take_next.new.craft r c.take_next.new.course
     c.args.due (came_with q.pace.every q.since b) (g.K.Sink.contents c.args.out.now)
@@ -60,9 +60,9 @@ returns-in_err-take_next-clause-breaks g c =
     let r = c.tick_all.new.course in
     let b = c.args.octets.now in
     let ticked = c.in_ok-tick_all.ensures in
-    let same : served mid.config (flight_of mid r) (came_with r.pace.every r.since b)
-    ≡ served s.config (flight_of mid r) (came_with q.pace.every q.since b) =
-    λ i. served (ticked.config i) (flight_of mid r)
+    let same : inputs_served mid.config (flight_of mid r) (came_with r.pace.every r.since b)
+    ≡ inputs_served s.config (flight_of mid r) (came_with q.pace.every q.since b) =
+    λ i. inputs_served (ticked.config i) (flight_of mid r)
     (came_with (ticked.pace i).every (ticked.since i) b) in
     any-err _ c.from_residual-in_err-take_next.result
     (breaks-behind s.config (flight_of s q) mid r c.args.due

@@ -2,7 +2,7 @@
 use Rattle.std.proofs.Common.{◌≡◌, ◌∙◌, ap, sym, subst, List, [], ◌∷◌, ◌++◌, Some}
 use Rattle.lpt_stream.specs.Streams.{all_octets}
 use Rattle.lpt_text.proofs.StreamLemmas.{part_whole}
-use Rattle.lpt_spacecraft.specs.Flights.{Made, Cleared, Ticked, cleared, served, step}
+use Rattle.lpt_spacecraft.specs.Flights.{Made, Cleared, Ticked, names_cleared, inputs_served, step}
 use Rattle.lpt_spacecraft.specs.Serving.{beaten}
 use Rattle.lpt_spacecraft.specs.Streams.{flight_of, onboard, Flies}
 use Rattle.lpt_spacecraft.specs.Telling.{given_up}
@@ -27,10 +27,11 @@ returns-in-Ok-clear-clause-ok g c =
     c.in-Ok-note_all.ensures.pace c.in-Ok.ensures.ok.0 c.in-Ok.ensures.ok.1 same
     c.in-Ok-note_all.ensures.uses c.in-Ok-note_all.ensures.told in
     let frees = clearing-flies mid c.clear.new.craft r c.clear.new.self
-    (cleared r.pace.reuse mid.node.at r.uses.items) new c.note_all.new.told.items
+    (names_cleared r.pace.reuse mid.node.at r.uses.items) new c.note_all.new.told.items
     c.clear.new.told.items c.in-Ok-clear.ensures.pace c.in-Ok-clear.ensures.memories
     c.in-Ok-clear.ensures.node c.in-Ok-clear.ensures.uses c.in-Ok-clear.ensures.told in
-    flies-then (step s.config (flight_of s q) Ticked) (λ f. served s.config f (Cleared ∷ [])) mid
+    flies-then (step s.config (flight_of s q) Ticked) (λ f. inputs_served s.config f (Cleared ∷ []))
+    mid
     c.clear.new.craft r c.clear.new.self old new new (Some c.args.told.now.items)
     (Some c.note_all.new.told.items) (Some c.clear.new.told.items) ticks
     (subst (λ (x : Made). Flies x c.clear.new.craft c.clear.new.self new new

@@ -2,7 +2,7 @@
 use Rattle.std.proofs.Common.{◌≡◌, ◌∙◌, ap, sym, subst, refl, inr, ◌+◌, ◌-◌, ◌^◌, min, Ok, Err, [], ◌++◌, take, drop, arith}
 use Rattle.lpt_text.specs.Streams.{ReadFails}
 use Rattle.lpt_stream.specs.Streams.{IsUnfinished}
-use Rattle.lpt_frames.specs.Buffers.{held, FindsFrame, RunsTo}
+use Rattle.lpt_frames.specs.Buffers.{octets_held, FindsFrame, RunsTo}
 use Rattle.lpt_frames.specs.declared.front.Front.{Front}
 use Rattle.lpt_spacecraft.specs.Streams.{end_at, StopsAt}
 use Rattle.lpt_spacecraft.specs.Waiting.{HandsOver, IsUnending}
@@ -21,7 +21,7 @@ returns-then-not-passing-clause-hands g c =
     let at = relayed-more c.args.passing (g.P.Peer.remaining c.args.peer.now)
     (g.P.Peer.remaining c.loop-count.peer) (g.P.Peer.remaining c.find_frame.new.peer)
     (g.R.Relay.handed c.args.relay.now) (g.R.Relay.handed c.loop-count.relay)
-    (held c.loop-count.buffer) (held c.find_frame.new.self) found.0 c.loop-count.count
+    (octets_held c.loop-count.buffer) (octets_held c.find_frame.new.self) found.0 c.loop-count.count
     c.loop-count.place c.loop-count.invariant.handed found.1.consumed found.1.behind in
     hands-stop c.args.passing _ _ _ _ _ c.loop-count.count c.loop-count.place
     (Stray c.loop-count.place) at (at.place_is, found.2, c.if-not-passing.true)
@@ -36,7 +36,7 @@ returns-in-Err-find_again-clause-hands g c =
     let at = relayed-more c.args.passing (g.P.Peer.remaining c.args.peer.now)
     (g.P.Peer.remaining c.loop-count.peer) (g.P.Peer.remaining c.find_frame.new.peer)
     (g.R.Relay.handed c.args.relay.now) (g.R.Relay.handed c.loop-count.relay)
-    (held c.loop-count.buffer) (held c.find_frame.new.self) found.0 c.loop-count.count
+    (octets_held c.loop-count.buffer) (octets_held c.find_frame.new.self) found.0 c.loop-count.count
     c.loop-count.place c.loop-count.invariant.handed found.1.consumed found.1.behind in
     subst (λ f. HandsOver c.args.passing (Err f) (g.P.Peer.remaining c.args.peer.now)
     (g.P.Peer.remaining c.find_again.new.peer) (g.R.Relay.handed c.args.relay.now)
@@ -54,7 +54,7 @@ returns-in-Err-find_again-clause-reader g c =
     let at = relayed-more c.args.passing (g.P.Peer.remaining c.args.peer.now)
     (g.P.Peer.remaining c.loop-count.peer) (g.P.Peer.remaining c.find_frame.new.peer)
     (g.R.Relay.handed c.args.relay.now) (g.R.Relay.handed c.loop-count.relay)
-    (held c.loop-count.buffer) (held c.find_frame.new.self) found.0 c.loop-count.count
+    (octets_held c.loop-count.buffer) (octets_held c.find_frame.new.self) found.0 c.loop-count.count
     c.loop-count.place c.loop-count.invariant.handed found.1.consumed found.1.behind in
     subst (λ f. ReadFails (IsUnending c.args.passing (g.P.Peer.remaining c.args.peer.now)
     (g.P.Peer.remaining c.find_again.new.peer)) f (g.P.Peer.failed c.args.peer.now)
@@ -73,17 +73,18 @@ returns-then-not-hand-clause-hands g c =
     let at = relayed-more c.args.passing (g.P.Peer.remaining c.args.peer.now)
     (g.P.Peer.remaining c.loop-count.peer) (g.P.Peer.remaining c.find_frame.new.peer)
     (g.R.Relay.handed c.args.relay.now) (g.R.Relay.handed c.loop-count.relay)
-    (held c.loop-count.buffer) (held c.find_frame.new.self) found.0 c.loop-count.count
+    (octets_held c.loop-count.buffer) (octets_held c.find_frame.new.self) found.0 c.loop-count.count
     c.loop-count.place c.loop-count.invariant.handed found.1.consumed found.1.behind in
     let again = c.in-Ok.ensures.finds in
-    let left = held c.find_frame.new.self ++ again.0 in
+    let left = octets_held c.find_frame.new.self ++ again.0 in
     let both = relayed-more c.args.passing (g.P.Peer.remaining c.args.peer.now)
     (g.P.Peer.remaining c.find_frame.new.peer) (g.P.Peer.remaining c.find_again.new.peer)
     (g.R.Relay.handed c.args.relay.now) (g.R.Relay.handed c.loop-count.relay)
-    (held c.find_frame.new.self) left again.0 c.loop-count.count c.loop-count.place at again.1 refl
+    (octets_held c.find_frame.new.self) left again.0 c.loop-count.count c.loop-count.place at
+    again.1 refl
     in
     let len = c.in-Ok.run'.len in
-    hands-run c.args.passing _ _ _ _ _ left (held c.find_again.new.self) c.loop-count.count
+    hands-run c.args.passing _ _ _ _ _ left (octets_held c.find_again.new.self) c.loop-count.count
     c.loop-count.place len (λ n rest. Unit) both c.if-not-passing.false
     (run-here c.in-Ok.run'.is_end len left _ again.3) again.2 c.hand.ensures.handed (λ n e. tt)
 
@@ -97,26 +98,27 @@ returns-then-run-clause-hands g c =
     let at = relayed-more c.args.passing (g.P.Peer.remaining c.args.peer.now)
     (g.P.Peer.remaining c.loop-count.peer) (g.P.Peer.remaining c.find_frame.new.peer)
     (g.R.Relay.handed c.args.relay.now) (g.R.Relay.handed c.loop-count.relay)
-    (held c.loop-count.buffer) (held c.find_frame.new.self) found.0 c.loop-count.count
+    (octets_held c.loop-count.buffer) (octets_held c.find_frame.new.self) found.0 c.loop-count.count
     c.loop-count.place c.loop-count.invariant.handed found.1.consumed found.1.behind in
     let again = c.in-Ok.ensures.finds in
-    let left = held c.find_frame.new.self ++ again.0 in
+    let left = octets_held c.find_frame.new.self ++ again.0 in
     let both = relayed-more c.args.passing (g.P.Peer.remaining c.args.peer.now)
     (g.P.Peer.remaining c.find_frame.new.peer) (g.P.Peer.remaining c.find_again.new.peer)
     (g.R.Relay.handed c.args.relay.now) (g.R.Relay.handed c.loop-count.relay)
-    (held c.find_frame.new.self) left again.0 c.loop-count.count c.loop-count.place at again.1 refl
+    (octets_held c.find_frame.new.self) left again.0 c.loop-count.count c.loop-count.place at
+    again.1 refl
     in
     let len = c.in-Ok.run'.len in
     let run = subst (λ b. RunsTo b len left (g.P.Peer.remaining c.find_again.new.peer))
     c.if-run.true again.3 in
-    hands-run c.args.passing _ _ _ _ _ left (held c.find_again.new.self) c.loop-count.count
+    hands-run c.args.passing _ _ _ _ _ left (octets_held c.find_again.new.self) c.loop-count.count
     c.loop-count.place len (λ n rest. StopsAt c.args.passing c.end_at.result n rest
     (g.P.Peer.remaining c.find_again.new.peer)) both c.if-not-passing.false run.0 again.2
     c.hand.ensures.handed
-    (λ n e. subst (λ x. StopsAt c.args.passing x n (held c.find_again.new.self)
+    (λ n e. subst (λ x. StopsAt c.args.passing x n (octets_held c.find_again.new.self)
     (g.P.Peer.remaining c.find_again.new.peer))
-    (sym (c.end_at.ensures ∙ ap (end_at c.saturating_add-place.result) c.held.ensures))
-    (ends-at c.args.passing c.saturating_add-place.result n (held c.find_again.new.self) _
+    (sym (c.end_at.ensures ∙ ap (end_at c.saturating_add-place.result) c.octets_held.ensures))
+    (ends-at c.args.passing c.saturating_add-place.result n (octets_held c.find_again.new.self) _
     (c.saturating_add-place.ensures ∙ e) (subst IsUnfinished (sym again.2) run.1.0) run.2))
 
 -- a packet stands behind it
@@ -129,20 +131,21 @@ loop-count-preserved-in-Ok-Stray g c =
     let at = relayed-more c.args.passing (g.P.Peer.remaining c.args.peer.now)
     (g.P.Peer.remaining c.loop-count.peer) (g.P.Peer.remaining c.find_frame.new.peer)
     (g.R.Relay.handed c.args.relay.now) (g.R.Relay.handed c.loop-count.relay)
-    (held c.loop-count.buffer) (held c.find_frame.new.self) found.0 c.loop-count.count
+    (octets_held c.loop-count.buffer) (octets_held c.find_frame.new.self) found.0 c.loop-count.count
     c.loop-count.place c.loop-count.invariant.handed found.1.consumed found.1.behind in
     let again = c.in-Ok.ensures.finds in
-    let left = held c.find_frame.new.self ++ again.0 in
+    let left = octets_held c.find_frame.new.self ++ again.0 in
     let both = relayed-more c.args.passing (g.P.Peer.remaining c.args.peer.now)
     (g.P.Peer.remaining c.find_frame.new.peer) (g.P.Peer.remaining c.find_again.new.peer)
     (g.R.Relay.handed c.args.relay.now) (g.R.Relay.handed c.loop-count.relay)
-    (held c.find_frame.new.self) left again.0 c.loop-count.count c.loop-count.place at again.1 refl
+    (octets_held c.find_frame.new.self) left again.0 c.loop-count.count c.loop-count.place at
+    again.1 refl
     in
     let len = c.in-Ok.run'.len in
     let run = subst (λ b. RunsTo b len left (g.P.Peer.remaining c.find_again.new.peer))
     c.if-run.false again.3 in
     record {
-      handed = relayed-run c.args.passing _ _ _ _ _ left (held c.find_again.new.self)
+      handed = relayed-run c.args.passing _ _ _ _ _ left (octets_held c.find_again.new.self)
           c.loop-count.count c.loop-count.place len _ both c.if-not-passing.false run again.2
           c.hand.ensures.handed c.saturating_add-place.ensures;
       reader = again.4 ∙ (found.3 ∙ c.loop-count.invariant.reader);
@@ -168,7 +171,7 @@ returns-in_default-clause-hands g c =
     let at = relayed-more c.args.passing (g.P.Peer.remaining c.args.peer.now)
     (g.P.Peer.remaining c.loop-count.peer) (g.P.Peer.remaining c.find_frame.new.peer)
     (g.R.Relay.handed c.args.relay.now) (g.R.Relay.handed c.loop-count.relay)
-    (held c.loop-count.buffer) (held c.find_frame.new.self) found.0 c.loop-count.count
+    (octets_held c.loop-count.buffer) (octets_held c.find_frame.new.self) found.0 c.loop-count.count
     c.loop-count.place c.loop-count.invariant.handed found.1.consumed found.1.behind in
     ([], hands-front c.args.passing _ _ _ _ _ c.loop-count.count c.loop-count.place at)
 
@@ -182,14 +185,14 @@ returns-then-not-hand-2-clause-hands g c =
     let at = relayed-more c.args.passing (g.P.Peer.remaining c.args.peer.now)
     (g.P.Peer.remaining c.loop-count.peer) (g.P.Peer.remaining c.find_frame.new.peer)
     (g.R.Relay.handed c.args.relay.now) (g.R.Relay.handed c.loop-count.relay)
-    (held c.loop-count.buffer) (held c.find_frame.new.self) found.0 c.loop-count.count
+    (octets_held c.loop-count.buffer) (octets_held c.find_frame.new.self) found.0 c.loop-count.count
     c.loop-count.place c.loop-count.invariant.handed found.1.consumed found.1.behind in
     let len = c.in-Ok-Frame.len in
-    let is : c.from_vec.result ≡ take len (held c.find_frame.new.self) =
+    let is : c.from_vec.result ≡ take len (octets_held c.find_frame.new.self) =
     c.from_vec.ensures ∙ c.in-Ok-from_slice.ensures.items
-    ∙ ap (take len) c.held-in-loop-count.ensures in
-    hands-front c.args.passing _ _ _ _ (drop len (held c.find_frame.new.self)) _ _
-    (relayed-frame c.args.passing _ _ _ _ _ (held c.find_frame.new.self) _ c.from_vec.result
+    ∙ ap (take len) c.octets_held-in-loop-count.ensures in
+    hands-front c.args.passing _ _ _ _ (drop len (octets_held c.find_frame.new.self)) _ _
+    (relayed-frame c.args.passing _ _ _ _ _ (octets_held c.find_frame.new.self) _ c.from_vec.result
     c.loop-count.count c.loop-count.place len (min (c.loop-count.place + len) (2 ^ 64 - 1)) at
     found.2.1 found.2.0 is c.hand-in-loop-count.ensures.handed refl refl)
 
@@ -203,14 +206,14 @@ loop-count-preserved g c =
     let at = relayed-more c.args.passing (g.P.Peer.remaining c.args.peer.now)
     (g.P.Peer.remaining c.loop-count.peer) (g.P.Peer.remaining c.find_frame.new.peer)
     (g.R.Relay.handed c.args.relay.now) (g.R.Relay.handed c.loop-count.relay)
-    (held c.loop-count.buffer) (held c.find_frame.new.self) found.0 c.loop-count.count
+    (octets_held c.loop-count.buffer) (octets_held c.find_frame.new.self) found.0 c.loop-count.count
     c.loop-count.place c.loop-count.invariant.handed found.1.consumed found.1.behind in
     let len = c.in-Ok-Frame.len in
-    let is : c.from_vec.result ≡ take len (held c.find_frame.new.self) =
+    let is : c.from_vec.result ≡ take len (octets_held c.find_frame.new.self) =
     c.from_vec.ensures ∙ c.in-Ok-from_slice.ensures.items
-    ∙ ap (take len) c.held-in-loop-count.ensures in
+    ∙ ap (take len) c.octets_held-in-loop-count.ensures in
     record {
-      handed = relayed-frame c.args.passing _ _ _ _ _ (held c.find_frame.new.self) _
+      handed = relayed-frame c.args.passing _ _ _ _ _ (octets_held c.find_frame.new.self) _
           c.from_vec.result c.loop-count.count c.loop-count.place len _ at found.2.1 found.2.0 is
           c.hand-in-loop-count.ensures.handed c.saturating_add-place-in-loop-count.ensures
           c.skip.ensures;

@@ -2,7 +2,7 @@
 use Rattle.std.proofs.Common.{◌≡◌, ◌∙◌, ap, sym, subst, refl, inl, inr, take, ◌++◌, Ok, Err, List, Option, arith}
 use Rattle.std.proofs.lemmas.Result.{err_from_is_err_and}
 use Rattle.lpt_frames.specs.declared.front.Front.{Front}
-use Rattle.lpt_frames.specs.Buffers.{held, FindsFrame, RunsTo}
+use Rattle.lpt_frames.specs.Buffers.{octets_held, FindsFrame, RunsTo}
 use Rattle.lpt_stream.specs.Streams.{IsUnfinished}
 use Rattle.lpt_stream.proofs.EndLemmas.{other-fault, reader-after, reader-all, reader-kept, writer-after, writer-all}
 use Rattle.lpt_spacecraft.specs.Streams.{end_at, length_of, ServesTo, StopsAt}
@@ -18,7 +18,7 @@ loop-count-init g c = record {
   served = served-none c.args.pace c.args.craft.now c.new-course.result
       (g.P.Peer.remaining c.args.peer.now) (g.K.Sink.contents c.args.out.now)
       (g.C.Clock.answers c.args.clock.now) (g.L.Listener.heard c.args.listener.now)
-      (held c.new-buffer.result) c.new-buffer.ensures c.new-course.ensures.pace
+      (octets_held c.new-buffer.result) c.new-buffer.ensures c.new-course.ensures.pace
       c.new-course.ensures.since c.new-course.ensures.uses;
   idle = c.requires.idle;
   kept = c.requires.kept;
@@ -108,22 +108,24 @@ returns-then-run-clause-ends g c =
     c.in-Ok-Stray.ensures.same in
     let again = c.in_ok-run-in-Ok-Stray.ensures.finds in
     let both = served-more c.args.pace c.args.craft.now c.loop-count.craft c.loop-count.course _ _
-    _ (held c.find_frame.new.self) (held c.find_frame.new.self ++ again.0) again.0 _ _ at again.1
+    _ (octets_held c.find_frame.new.self) (octets_held c.find_frame.new.self ++ again.0) again.0 _ _
+    at again.1
     refl c.in_ok-run-in-Ok-Stray.ensures.same in
     let len = c.in_ok-run-in-Ok-Stray.run'.len in
-    let run = subst (λ b. RunsTo b len (held c.find_frame.new.self ++ again.0)
+    let run = subst (λ b. RunsTo b len (octets_held c.find_frame.new.self ++ again.0)
     (g.P.Peer.remaining c.find_again.new.peer)) c.if-run.true again.3 in
     let done = passed-last c.args.pace c.args.craft.now c.loop-count.craft c.loop-count.course _ _
-    (held c.find_frame.new.self ++ again.0) (held c.find_again.new.self) _ _ len _
+    (octets_held c.find_frame.new.self ++ again.0) (octets_held c.find_again.new.self) _ _ len _
     both (is-set c.args.pace.passing c.if-not-pace.false) run.0 again.2 c.tell.ensures
     c.saturating_add-place.ensures in
     serve-stop c.stop_at-then-run.result _ c.args.pace _ _ _ _ _ _ _
     c.stop_at-then-run.ensures.stop c.stop_at-then-run.ensures.fault done
     c.stop_at-then-run.ensures.same
     (subst (λ x. StopsAt c.args.pace.passing x (length_of done.events)
-    (held c.find_again.new.self) (g.P.Peer.remaining c.find_again.new.peer))
-    (sym (c.end_at.ensures ∙ ap (end_at c.saturating_add-place.result) c.held.ensures))
-    (ends-at c.args.pace.passing c.saturating_add-place.result _ (held c.find_again.new.self) _
+    (octets_held c.find_again.new.self) (g.P.Peer.remaining c.find_again.new.peer))
+    (sym (c.end_at.ensures ∙ ap (end_at c.saturating_add-place.result) c.octets_held.ensures))
+    (ends-at c.args.pace.passing c.saturating_add-place.result _ (octets_held c.find_again.new.self)
+    _
     done.place_is (subst IsUnfinished (sym again.2) run.1.0) run.2))
 
 pub returns-then-run-clause-reader : goal.returns-then-run-clause-reader
@@ -153,14 +155,15 @@ loop-count-preserved-in-Ok-Stray g c =
     c.in-Ok-Stray.ensures.same in
     let again = c.in_ok-run-in-Ok-Stray.ensures.finds in
     let both = served-more c.args.pace c.args.craft.now c.loop-count.craft c.loop-count.course _ _
-    _ (held c.find_frame.new.self) (held c.find_frame.new.self ++ again.0) again.0 _ _ at again.1
+    _ (octets_held c.find_frame.new.self) (octets_held c.find_frame.new.self ++ again.0) again.0 _ _
+    at again.1
     refl c.in_ok-run-in-Ok-Stray.ensures.same in
     let len = c.in_ok-run-in-Ok-Stray.run'.len in
-    let run = subst (λ b. RunsTo b len (held c.find_frame.new.self ++ again.0)
+    let run = subst (λ b. RunsTo b len (octets_held c.find_frame.new.self ++ again.0)
     (g.P.Peer.remaining c.find_again.new.peer)) c.if-run.false again.3 in
     record {
       served = served-passed c.args.pace c.args.craft.now c.loop-count.craft c.loop-count.course _ _
-          (held c.find_frame.new.self ++ again.0) (held c.find_again.new.self) _ _
+          (octets_held c.find_frame.new.self ++ again.0) (octets_held c.find_again.new.self) _ _
           len _ both (is-set c.args.pace.passing c.if-not-pace.false) run again.2
           c.tell.ensures c.saturating_add-place.ensures;
       idle = c.loop-count.invariant.idle;
@@ -186,9 +189,10 @@ returns-in-Ok-End-clause-ends g c =
     c.stop_at-in-Ok-End.ensures.stop c.stop_at-in-Ok-End.ensures.fault
     here c.stop_at-in-Ok-End.ensures.same
     (subst (λ x. StopsAt c.args.pace.passing x (length_of here.events)
-    (held c.find_frame.new.self) (g.P.Peer.remaining c.find_frame.new.peer))
-    (sym (c.end_at-in-Ok-End.ensures ∙ ap (end_at c.loop-count.place) c.held-in-Ok-End.ensures))
-    (ends-at c.args.pace.passing c.loop-count.place _ (held c.find_frame.new.self) _
+    (octets_held c.find_frame.new.self) (g.P.Peer.remaining c.find_frame.new.peer))
+    (sym (c.end_at-in-Ok-End.ensures
+    ∙ ap (end_at c.loop-count.place) c.octets_held-in-Ok-End.ensures))
+    (ends-at c.args.pace.passing c.loop-count.place _ (octets_held c.find_frame.new.self) _
     here.place_is found.2.0 found.2.1))
 
 pub returns-in-Ok-End-clause-reader : goal.returns-in-Ok-End-clause-reader
@@ -234,7 +238,7 @@ returns-then-is_full-clause-ends g c =
     _ _ found.0 _ _ c.loop-count.invariant.served found.1.consumed found.1.behind
     c.in-Ok-Frame.ensures.same in
     serve-read c.args.pace c.args.craft.now c.loop-count.craft c.loop-count.course _
-    (held c.find_frame.new.self) _ _ at
+    (octets_held c.find_frame.new.self) _ _ at
 
 pub returns-then-is_full-clause-reader : goal.returns-then-is_full-clause-reader
 returns-then-is_full-clause-reader g c =
@@ -262,10 +266,11 @@ returns-in-Err-serve_packet-clause-ends g c =
     (sym c.in-Err-serve_packet.ensures.untold)
     (serve-broken c.in-Err-serve_packet.fault c.args.pace c.args.craft.now c.loop-count.craft
     c.serve_packet.new.craft c.loop-count.course c.loop-count.craft.config _ _ _
-    (held c.find_frame.new.self) (take c.in-Ok-Frame.len c.held-in-loop-count.result.now)
+    (octets_held c.find_frame.new.self)
+    (take c.in-Ok-Frame.len c.octets_held-in-loop-count.result.now)
     c.due_by-due.result c.loop-count.count c.loop-count.place c.in-Ok-Frame.len
     c.in-Err-serve_packet.ensures.fault at c.loop-count.invariant.config found.2.1
-    (ap (take c.in-Ok-Frame.len) c.held-in-loop-count.ensures) c.due_by-due.ensures
+    (ap (take c.in-Ok-Frame.len) c.octets_held-in-loop-count.ensures) c.due_by-due.ensures
     c.in-Err-serve_packet.ensures.breaks)
 
 pub returns-in-Err-serve_packet-clause-reader : goal.returns-in-Err-serve_packet-clause-reader
@@ -296,11 +301,11 @@ loop-count-preserved g c =
     record {
       served = served-next c.args.pace c.args.craft.now c.loop-count.craft c.serve_packet.new.craft
           c.loop-count.course c.serve_packet.new.course c.loop-count.craft.config _ _ _ _
-          (held c.find_frame.new.self) _
-          (take c.in-Ok-Frame.len c.held-in-loop-count.result.now) c.due_by-due.result
+          (octets_held c.find_frame.new.self) _
+          (take c.in-Ok-Frame.len c.octets_held-in-loop-count.result.now) c.due_by-due.result
           c.loop-count.count c.loop-count.place c.in-Ok-Frame.len _ at
           c.loop-count.invariant.config found.2.1 found.2.0
-          (ap (take c.in-Ok-Frame.len) c.held-in-loop-count.ensures) c.due_by-due.ensures
+          (ap (take c.in-Ok-Frame.len) c.octets_held-in-loop-count.ensures) c.due_by-due.ensures
           c.in-Ok.ensures.ok c.in-Ok.ensures.since c.in-Ok.ensures.pace
           c.saturating_add-place-in-loop-count.ensures c.skip.ensures;
       idle = c.in-Ok.ensures.idle;

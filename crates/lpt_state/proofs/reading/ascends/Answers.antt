@@ -1,6 +1,6 @@
 -- One run is looked at after the other.
 use Rattle.std.proofs.Common.{◌≡◌, ◌∙◌, ap, sym, rules, ℕ, ◌+◌, ◌≤◌, ◌&&◌, true, false, List, ◌∷◌, length, arith}
-use Rattle.lpt_ledger.specs.declared.run.Run.{Run}
+use Rattle.lpt_ledger.specs.declared.run.NameRun.{NameRun}
 use Rattle.lpt_ledger.specs.Runs.{has_name, stands}
 use Rattle.lpt_state.specs.Verdicts.{run_at, runs_in}
 use Rattle.lpt_state.proofs.RunLemmas.{ascend_end, ascend_step, next_run, no_run}
@@ -10,7 +10,7 @@ pub loop-six-preserved : goal.loop-six-preserved
 loop-six-preserved c =
     let left : List ℕ = c.loop-six.left.now in
     let rest : List ℕ = c.in-Some.rest.now in
-    let this : Run = c.run_from-this.result in
+    let this : NameRun = c.run_from-this.result in
     let long : 6 ≤ length left = omega (arith, c.in-Some.ensures.cases.2) in
     let next : runs_in left ≡ this ∷ runs_in rest =
     next_run left this long (c.run_from-this.ensures ∙ ap run_at c.in-Some.ensures.cases.0)
@@ -24,7 +24,7 @@ pub returns-then-not-goes_on : goal.returns-then-not-goes_on
 returns-then-not-goes_on c =
     let left : List ℕ = c.loop-six.left.now in
     let rest : List ℕ = c.in-Some.rest.now in
-    let this : Run = c.run_from-this.result in
+    let this : NameRun = c.run_from-this.result in
     let long : 6 ≤ length left = omega (arith, c.in-Some.ensures.cases.2) in
     let next : runs_in left ≡ this ∷ runs_in rest =
     next_run left this long (c.run_from-this.ensures ∙ ap run_at c.in-Some.ensures.cases.0)

@@ -4,7 +4,7 @@ use Rattle.std.proofs.lemmas.List.{drop-drop}
 use Rattle.lpt_packet.specs.Checksums.{checksum}
 use Rattle.lpt_packet.specs.Numbers.{be}
 use Rattle.lpt_state.specs.Lastings.{lasting_of}
-use Rattle.lpt_state.specs.Spellings.{spelled, spelling, unsealed}
+use Rattle.lpt_state.specs.Spellings.{state_spelled, spelling, state_unsealed}
 use Rattle.lpt_state.proofs.LawLemmas.{length_of}
 use Rattle.lpt_state.proofs.PuttingLemmas.{back_of, front_of, length-put}
 use Rattle.lpt_state.proofs.SpellingLemmas.{length-front}
@@ -19,10 +19,10 @@ pub split_at_mut-seal-requires : goal.split_at_mut-seal-requires
 split_at_mut-seal-requires c =
     let v = c.args.node.now in
     let out : List ℕ = c.args.out.now in
-    let fits : length (unsealed v) ≤ length out =
+    let fits : length (state_unsealed v) ≤ length out =
     omega (arith, c.requires, length_of v, length-front v.side v.config (lasting_of v.at)) in
     let long : length c.put_unsealed-end.new.out ≡ length out =
-    ap length c.put_unsealed-end.ensures.octets ∙ length-put (unsealed v) out fits in
+    ap length c.put_unsealed-end.ensures.octets ∙ length-put (state_unsealed v) out fits in
     omega (
       arith,
       c.requires,
@@ -38,7 +38,7 @@ unfolding spelling
 returns c =
     let v = c.args.node.now in
     let out : List ℕ = c.args.out.now in
-    let u : List ℕ = unsealed v in
+    let u : List ℕ = state_unsealed v in
     let end : ℕ = c.put_unsealed-end.result in
     let front : c.split_at_mut-before.result.0.now ≡ u =
     c.split_at_mut-before.ensures.front
@@ -47,14 +47,14 @@ returns c =
     let seal : c.copy_from_slice.new.self ≡ be (checksum u) 2 =
     c.copy_from_slice.ensures.after ∙ c.to_be_bytes.ensures
     ∙ ap (λ (n : ℕ). be n 2) (c.crc16.ensures ∙ ap checksum front) in
-    let size : end + 2 ≡ length (spelled v) =
+    let size : end + 2 ≡ length (state_spelled v) =
     omega (
       arith,
       length_of v,
       length-front v.side v.config (lasting_of v.at),
       c.put_unsealed-end.ensures.len,
     ) in
-    let behind : c.split_at_mut-seal.result.1.now ≡ drop (length (spelled v)) out =
+    let behind : c.split_at_mut-seal.result.1.now ≡ drop (length (state_spelled v)) out =
     c.split_at_mut-seal.ensures.back
     ∙ ap (λ (xs : List ℕ). drop 2 xs) (c.split_at_mut-before.ensures.back
     ∙ ap (λ (xs : List ℕ). drop end xs) c.put_unsealed-end.ensures.octets
@@ -62,4 +62,4 @@ returns c =
     ∙ drop-drop 2 end out
     ∙ ap (λ (k : ℕ). drop k out) size in
     (λ i. front i ++ (seal i ++ behind i))
-    ∙ sym (append_assoc u (be (checksum u) 2) (drop (length (spelled v)) out))
+    ∙ sym (append_assoc u (be (checksum u) 2) (drop (length (state_spelled v)) out))

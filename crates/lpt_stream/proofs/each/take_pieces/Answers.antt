@@ -7,7 +7,7 @@ use Rattle.std.specs.Io.KnownBytes.{Appends, Consumes}
 use Rattle.lpt_text.specs.declared.fault.StreamFault.TheVariants as faults
 use Rattle.lpt_text.specs.Streams.{AppendsPart}
 use Rattle.lpt_text.proofs.StreamLemmas.{part_whole}
-use Rattle.lpt_stream.specs.Buffers.{held, is_in_step, found_piece}
+use Rattle.lpt_stream.specs.Buffers.{octets_held, is_in_step, found_piece}
 use Rattle.lpt_stream.specs.Pieces.{Piece, IsSealedBy, keeps_step, octets_in, up_to_limit}
 use Rattle.lpt_stream.proofs.BufferLemmas.{finds_as, passing-lost, passing-open}
 use Rattle.lpt_stream.proofs.CutLemmas.{read-endless, read-front, read-end, read-leads, read-more, read-next, read-none, read-open, told-behind}
@@ -66,8 +66,8 @@ take-requires-clause-sealed g c =
     let now = c.find_piece_passing.new.self in
     let found = finds_as _ _ _ _ _ _ _ _ c.in-Some.is c.in_ok-found.ensures.finds in
     subst (λ o. IsSealedBy (g.T.Taker.cut c.loop-count.taker) f.kind (take f.len o))
-    (sym c.held.ensures)
-    (subst (λ x. IsSealedBy x f.kind (take f.len (held now)))
+    (sym c.octets_held.ensures)
+    (subst (λ x. IsSealedBy x f.kind (take f.len (octets_held now)))
     (found.1.added.cut ∙ c.loop-count.invariant.read.2.is ∙ sym c.loop-count.invariant.same)
     (found_sealed now f found.2))
 
@@ -139,18 +139,18 @@ loop-count-preserved g c =
     let step : Q (read.pieces ++ piece ∷ []) = (
       subst (λ o. g.T.Taker.takes c.args.from first c.in_ok-taker.taker lent c.take.new.lent
           (read.pieces ++ record { kind = f.kind; octets = take f.len o } ∷ []))
-          c.held.ensures
+          c.octets_held.ensures
           (c.in_ok-taker.ensures.taken c.args.from first lent read.pieces read.gives.0
           read.gives.2),
       subst (λ o. Appends old new (g.T.Taker.writes c.args.from first
           (read.pieces ++ record { kind = f.kind; octets = take f.len o } ∷ [])))
-          c.held.ensures
+          c.octets_held.ensures
           (c.in_ok-taker.ensures.wrote c.args.from first lent read.pieces old read.gives.0
           read.gives.2 wrote),
       told-behind c.args.from read.pieces piece c.loop-count.place c.saturating_add-place.result
           f.len
           read.gives.2
-          (length-take-le f.len (held now) found.2.within) c.saturating_add-place.ensures,
+          (length-take-le f.len (octets_held now) found.2.within) c.saturating_add-place.ensures,
     ) in
     record {
       read = (
@@ -187,7 +187,7 @@ returns-in_err-found-clause-leaves g c =
       others = lost.0;
       pieces = was.2.pieces;
       in_step = is_in_step c.loop-count.buffer;
-      rest = held c.loop-count.buffer;
+      rest = octets_held c.loop-count.buffer;
       consumed = Consumes-trans a b d was.0 lost.0 was.1 lost.1;
       leads = read-leads
           (g.T.Taker.cut c.args.first) _ c.loop-count.buffer was.0 c.loop-count.count was.2;
@@ -249,11 +249,11 @@ returns-in_err-taker-clause-leaves g c =
       front = (
         inr (subst (λ o. g.T.Taker.leaves c.args.from first lent c.take.new.lent
             (read.pieces ++ record { kind = f.kind; octets = take f.len o } ∷ []))
-            c.held.ensures
+            c.octets_held.ensures
             (c.in_err-taker.ensures.left c.args.from first lent read.pieces read.gives.0)),
         subst (λ o. AppendsPart old new (g.T.Taker.writes c.args.from first
             (read.pieces ++ record { kind = f.kind; octets = take f.len o } ∷ [])))
-            c.held.ensures
+            c.octets_held.ensures
             (c.in_err-taker.ensures.part c.args.from first lent read.pieces old read.gives.0
             read.gives.2 wrote),
       );
@@ -289,7 +289,7 @@ returns-clause-leaves g c =
       others = [];
       pieces = was.2.pieces;
       in_step = is_in_step c.loop-count.buffer;
-      rest = held c.loop-count.buffer;
+      rest = octets_held c.loop-count.buffer;
       consumed = nothing-behind (g.P.Peer.remaining c.args.source.now)
           (g.P.Peer.remaining c.loop-count.source) was.0 was.1;
       leads = read-leads
@@ -335,7 +335,7 @@ returns-in_err-found-clause-settled g c =
       stream = was.0 ++ found.0;
       pieces = was.2.pieces;
       in_step = is_in_step c.find_piece_passing.new.self;
-      rest = held c.find_piece_passing.new.self;
+      rest = octets_held c.find_piece_passing.new.self;
       consumed = Consumes-trans a b d was.0 found.0 was.1 found.1.consumed;
       leads = stays.0;
       waits = stays.1;
@@ -362,7 +362,7 @@ returns-then-not-is_open-clause-taken g c =
       stream = was.0;
       pieces = was.2.pieces;
       in_step = is_in_step c.loop-count.buffer;
-      rest = held c.loop-count.buffer;
+      rest = octets_held c.loop-count.buffer;
       consumed = was.1;
       leads = read-leads (g.T.Taker.cut c.args.first) _ c.loop-count.buffer was.0
           c.loop-count.count was.2;

@@ -1,6 +1,6 @@
 use Rattle.std.proofs.Common.{◌≡◌, ◌∙◌, ◌+◌, ◌-◌, arith, sym, slice_index_or, Less}
 use Rattle.lpt_packet.specs.Names.{no_name}
-use Rattle.lpt_table.specs.declared.places.Place.{Place}
+use Rattle.lpt_table.specs.declared.places.DuePlace.{DuePlace}
 use Rattle.lpt_table.specs.Places.{by_moment, rank, when_cmp}
 use Rattle.lpt_table.proofs.RankLemmas.{beside, rank-at-most, rank-beyond}
 use Rattle.lpt_table.proofs.PuttingLemmas.{belongs-within}
@@ -8,7 +8,7 @@ use Rattle.lpt_table.proofs.places.rank_of.Goals as goal
 use Rattle.lpt_table.proofs.places.rank_of.Goals.{After-then}
 
 -- what a place is that isn't there
-abbrev none : Place
+abbrev none : DuePlace
 none = record { last = 0; name = no_name; key = 0 }
 
 -- the place was compared

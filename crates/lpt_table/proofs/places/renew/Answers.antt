@@ -2,7 +2,7 @@
 -- taken out and put where it belongs.
 use Rattle.std.proofs.Common.{◌≡◌, ◌∙◌, ap, subst, sym, arith, ◌+◌, T, length, take}
 use Rattle.std.specs.FinMap as map
-use Rattle.lpt_table.specs.Places.{rank, when_cmp, by_moment, renewed}
+use Rattle.lpt_table.specs.Places.{rank, when_cmp, by_moment, place_renewed}
 use Rattle.lpt_table.proofs.PuttingLemmas.{belongs-within}
 use Rattle.lpt_table.proofs.RenewingLemmas.{remove-last, sorted-without, renewed-last, renewed-same}
 use Rattle.lpt_table.proofs.places.renew.Goals as goal
@@ -13,7 +13,7 @@ returns-then-last-place-clause-places c =
     let xs = c.args.places.now.items in
     let x = c.args.place in
     sym (renewed-same xs c.args.at x c.requires.ordered c.requires.within c.requires.there)
-    ∙ ap (λ last. renewed xs c.args.at (record x { last = last })) (sym c.if-last-place.true)
+    ∙ ap (λ last. place_renewed xs c.args.at (record x { last = last })) (sym c.if-last-place.true)
 
 -- the places before the last one are in order
 pub rank_of-requires : goal.rank_of-requires

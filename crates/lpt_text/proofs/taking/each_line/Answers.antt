@@ -3,7 +3,7 @@ use Rattle.std.proofs.Common.{◌≡◌, ◌∙◌, ◌+◌, ◌<◌, ◌≤◌,
 use Rattle.std.proofs.KnownBytes.{Appends-nil}
 use Rattle.std.proofs.lemmas.Bool.Decides.{nat_tests}
 use Rattle.std.proofs.lemmas.Grind.{common_steps}
-use Rattle.lpt_text.specs.Lines.{held, room_of}
+use Rattle.lpt_text.specs.Lines.{octets_held, room_of}
 use Rattle.lpt_text.specs.Taking.{IsTaken, TakesText, failures, is_last}
 use Rattle.lpt_text.specs.TakingInside.{IsPiece}
 use Rattle.lpt_text.proofs.TakeLemmas.{found, none_is, over_by, piece_size, takes_broken, takes_cut, takes_last, takes_next, takes_nothing, takes_read, takes_smaller, takes_start, takes_within}
@@ -12,7 +12,7 @@ use Rattle.lpt_text.proofs.taking.each_line.Goals as goal
 -- nothing was read
 pub loop-place-init : goal.loop-place-init
 loop-place-init g c = record {
-  takes = takes_start g.T.LineTaker.story c.args.taker.now (held c.new-lines.result)
+  takes = takes_start g.T.LineTaker.story c.args.taker.now (octets_held c.new-lines.result)
       (room_of c.new-lines.result)
       (g.S.Source.remaining c.args.source.now) (g.K.Sink.contents c.args.out.now)
       (g.K.Sink.contents c.args.out.now)
@@ -44,7 +44,7 @@ returns-then-is_empty-clause-ends g c =
     let story = g.T.LineTaker.story in
     let first = c.args.taker.now in
     let t = c.loop-place.taker in
-    let text = held c.find_line.new.self in
+    let text = octets_held c.find_line.new.self in
     let old = g.S.Source.remaining c.args.source.now in
     let now = g.S.Source.remaining c.loop-place.source in
     let next = g.S.Source.remaining c.find_line.new.source in
@@ -64,7 +64,7 @@ returns-then-is_empty-clause-ends g c =
       arith,
       common_steps,
       nat_tests,
-      c.held-held.ensures,
+      c.octets_held-held.ensures,
       c.is_empty.ensures,
       c.if-is_empty.true,
     ) in
@@ -88,7 +88,7 @@ returns-then-is_empty-clause-within g c =
     (g.S.Source.failed c.loop-place.source)
     (g.S.Source.failed c.find_line.new.source) c.in-Ok.ensures.finds in
     takes_within story first t c.loop-place.is_taken c.loop-place.number c.loop-place.failed
-    (held c.find_line.new.self)
+    (octets_held c.find_line.new.self)
     (room_of c.find_line.new.self) old next a b
     (takes_read story first t c.loop-place.is_taken c.loop-place.number c.loop-place.failed
     c.loop-place.lines
@@ -101,7 +101,7 @@ returns-then-is_at_end-clause-ends g c =
     let story = g.T.LineTaker.story in
     let first = c.args.taker.now in
     let t = c.loop-place.taker in
-    let text = held c.find_line.new.self in
+    let text = octets_held c.find_line.new.self in
     let old = g.S.Source.remaining c.args.source.now in
     let now = g.S.Source.remaining c.loop-place.source in
     let next = g.S.Source.remaining c.find_line.new.source in
@@ -121,14 +121,14 @@ returns-then-is_at_end-clause-ends g c =
       arith,
       common_steps,
       nat_tests,
-      c.held-held.ensures,
+      c.octets_held-held.ensures,
       c.is_empty.ensures,
       c.if-is_empty.false,
     ) in
     let line = c.front_line-len.result.0.now in
     let len = c.front_line-len.result.1 in
     let piece =
-    subst (λ x. IsPiece place x line len) c.held-held.ensures c.front_line-len.ensures in
+    subst (λ x. IsPiece place x line len) c.octets_held-held.ensures c.front_line-len.ensures in
     let d = g.K.Sink.contents c.take_front.new.out in
     let v = c.take_front.new.taker in
     let taken = c.in-Ok-take_front.taken in
@@ -158,7 +158,7 @@ returns-then-is_at_end-clause-within g c =
     (g.S.Source.failed c.loop-place.source)
     (g.S.Source.failed c.find_line.new.source) c.in-Ok.ensures.finds in
     takes_within story first t c.loop-place.is_taken c.loop-place.number c.loop-place.failed
-    (held c.find_line.new.self)
+    (octets_held c.find_line.new.self)
     (room_of c.find_line.new.self) old next a b
     (takes_read story first t c.loop-place.is_taken c.loop-place.number c.loop-place.failed
     c.loop-place.lines
@@ -171,7 +171,7 @@ returns-in-Err-take_front-clause-ends g c =
     let story = g.T.LineTaker.story in
     let first = c.args.taker.now in
     let t = c.loop-place.taker in
-    let text = held c.find_line.new.self in
+    let text = octets_held c.find_line.new.self in
     let old = g.S.Source.remaining c.args.source.now in
     let now = g.S.Source.remaining c.loop-place.source in
     let next = g.S.Source.remaining c.find_line.new.source in
@@ -191,14 +191,14 @@ returns-in-Err-take_front-clause-ends g c =
       arith,
       common_steps,
       nat_tests,
-      c.held-held.ensures,
+      c.octets_held-held.ensures,
       c.is_empty.ensures,
       c.if-is_empty.false,
     ) in
     let line = c.front_line-len.result.0.now in
     let len = c.front_line-len.result.1 in
     let piece =
-    subst (λ x. IsPiece place x line len) c.held-held.ensures c.front_line-len.ensures in
+    subst (λ x. IsPiece place x line len) c.octets_held-held.ensures c.front_line-len.ensures in
     let d = g.K.Sink.contents c.take_front.new.out in
     let v = c.take_front.new.taker in
     takes_broken story first t v c.loop-place.is_taken c.loop-place.number c.loop-place.failed place
@@ -214,7 +214,7 @@ loop-place-smaller g c =
     let story = g.T.LineTaker.story in
     let first = c.args.taker.now in
     let t = c.loop-place.taker in
-    let text = held c.find_line.new.self in
+    let text = octets_held c.find_line.new.self in
     let old = g.S.Source.remaining c.args.source.now in
     let now = g.S.Source.remaining c.loop-place.source in
     let next = g.S.Source.remaining c.find_line.new.source in
@@ -234,18 +234,18 @@ loop-place-smaller g c =
       arith,
       common_steps,
       nat_tests,
-      c.held-held.ensures,
+      c.octets_held-held.ensures,
       c.is_empty.ensures,
       c.if-is_empty.false,
     ) in
     let line = c.front_line-len.result.0.now in
     let len = c.front_line-len.result.1 in
     let piece =
-    subst (λ x. IsPiece place x line len) c.held-held.ensures c.front_line-len.ensures in
+    subst (λ x. IsPiece place x line len) c.octets_held-held.ensures c.front_line-len.ensures in
     let d = g.K.Sink.contents c.take_front.new.out in
     let v = c.take_front.new.taker in
     takes_smaller c.loop-place.lines c.find_line.new.self finds.0
-    (held c.skip.new.self) now next len (room_of c.skip.new.self)
+    (octets_held c.skip.new.self) now next len (room_of c.skip.new.self)
     finds.1 (piece_size place text line len finds.2 some piece) c.skip.ensures.held
     c.skip.ensures.room
 
@@ -254,7 +254,7 @@ loop-place-preserved g c =
     let story = g.T.LineTaker.story in
     let first = c.args.taker.now in
     let t = c.loop-place.taker in
-    let text = held c.find_line.new.self in
+    let text = octets_held c.find_line.new.self in
     let old = g.S.Source.remaining c.args.source.now in
     let now = g.S.Source.remaining c.loop-place.source in
     let next = g.S.Source.remaining c.find_line.new.source in
@@ -274,14 +274,14 @@ loop-place-preserved g c =
       arith,
       common_steps,
       nat_tests,
-      c.held-held.ensures,
+      c.octets_held-held.ensures,
       c.is_empty.ensures,
       c.if-is_empty.false,
     ) in
     let line = c.front_line-len.result.0.now in
     let len = c.front_line-len.result.1 in
     let piece =
-    subst (λ x. IsPiece place x line len) c.held-held.ensures c.front_line-len.ensures in
+    subst (λ x. IsPiece place x line len) c.octets_held-held.ensures c.front_line-len.ensures in
     let d = g.K.Sink.contents c.take_front.new.out in
     let v = c.take_front.new.taker in
     let taken = c.in-Ok-take_front.taken in
@@ -289,7 +289,7 @@ loop-place-preserved g c =
     record {
       takes = takes_next story first t v c.loop-place.is_taken c.loop-place.number
           c.loop-place.failed place text line
-          (held c.skip.new.self) len (room_of c.find_line.new.self) taken old next a b d
+          (octets_held c.skip.new.self) len (room_of c.find_line.new.self) taken old next a b d
           c.is_none-is_taken.result (c.loop-place.number + c.from-number.result)
           (c.loop-place.failed + c.failures-failed.result)
           (room_of c.skip.new.self) takes finds.2 some piece goes.1 c.in-Ok-take_front.ensures.takes

@@ -1,11 +1,13 @@
-use Rattle.std.proofs.Common.{◌≡◌, ◌⊎◌, Err, IfErr, inl, subst, sym}
+use Rattle.std.proofs.Common.{◌≡◌, ◌∙◌, ◌⊎◌, ◌++◌, Err, IfErr, ap, inl, subst, sym}
 use Rattle.lpt_text.specs.Streams.{WriteEnds}
 use Rattle.lpt_text.specs.declared.fault.StreamFault.TheVariants as streams
 use Rattle.lpt_script.specs.Scripts.{left_of}
-use Rattle.lpt_tool.specs.Ends.{GoesOn}
+use Rattle.lpt_tool.specs.Ends.{GoesOn, shown_text}
+use Rattle.std.specs.Io.KnownBytes.{Appends}
 use Rattle.lpt_tool.specs.Faults.{streams_end}
+use Rattle.lpt_tool.specs.Full.{full_seats}
 use Rattle.lpt_tool.specs.declared.threads_end.ThreadsEnd.{ThreadsEnd}
-use Rattle.lpt_tool.proofs.ThreadLemmas.{grown_kept, shown_fault, text_write}
+use Rattle.lpt_tool.proofs.ThreadLemmas.{grown_kept, shown_fault, shown_passed, text_write}
 use Rattle.lpt_tool.proofs.threads.go_on.Goals as goal
 
 -- no memory for the seats that reached their limit
@@ -66,3 +68,21 @@ returns-in-Ok-clause-writer g c =
     (sym c.from-in-Err-shown.ensures)
     (text_write ThreadsEnd c.in-Err-shown.fault had wrote
     (subst (λ r. WriteEnds r had wrote) c.in-Err-shown.is c.show_left-shown.ensures.writer))
+
+-- all of it was printed and passed on
+pub returns-in-Ok-full-clause-ends : goal.returns-in-Ok-full-clause-ends
+returns-in-Ok-full-clause-ends g c =
+    let written = g.K.Sink.contents in
+    let p = c.in-Ok-shown.ensures.all in
+    shown_passed c.args.turns (left_of c.args.world c.args.kept.items)
+    (record { refused = c.args.refused; full = c.in-Ok-full.full }) c.in-Ok.world
+    (written c.args.out.now) (written c.show_left-shown.new.out) (written c.flush_out.new.out)
+    (g.K.Sink.failed c.flush_out.new.out)
+    (c.in-Ok-full.ensures ∙ ap (full_seats c.args.turns.per_seat) c.journal.ensures.shown)
+    c.in-Ok.ensures (
+      p.0,
+      p.1,
+      subst (λ ks. Appends (written c.args.out.now) (written c.show_left-shown.new.out)
+          (p.0 ++ shown_text ks c.in-Ok.world)) c.as_slice.ensures.value p.2,
+    )
+    c.flush_out.ensures.same

@@ -5,7 +5,7 @@ use Rattle.std.specs.List.{find}
 use Rattle.std.specs.Option.{option_or}
 use Rattle.std.proofs.lemmas.List.Folds.{find-append}
 use Rattle.lpt_ledger.proofs.RunsLemmas.{names_in-runs_of_names}
-use Rattle.lpt_ledger.specs.declared.run.Run.{Run}
+use Rattle.lpt_ledger.specs.declared.run.NameRun.{NameRun}
 use Rattle.lpt_ledger.specs.Runs.{names_in, names_of, runs_of}
 use Rattle.lpt_packet.specs.Names.{Name}
 use Rattle.lpt_c_end.specs.Closed.{is_sought, names_at}
@@ -26,9 +26,9 @@ pub returns-in-Some-closed_in : goal.returns-in-Some-closed_in
 unfolding names_in
 returns-in-Some-closed_in c =
     let p : Name → Bool = is_sought c.args.direction c.args.from c.args.self.now in
-    let rest : List Run = c.next.new.self in
+    let rest : List NameRun = c.next.new.self in
     sym (c.loop-run.invariant
-    ∙ ap (λ (rs : List Run). find p (names_in rs)) c.in-Some.ensures.steps
+    ∙ ap (λ (rs : List NameRun). find p (names_in rs)) c.in-Some.ensures.steps
     ∙ find-append p (names_of c.in-Some.run') (names_in rest)
     ∙ ap (λ (o : Option Name). option_or o (find p (names_in rest)))
     (sym c.closed_in.ensures ∙ c.in-Some-closed_in.is))
@@ -37,9 +37,9 @@ pub loop-run-preserved : goal.loop-run-preserved
 unfolding names_in
 loop-run-preserved c =
     let p : Name → Bool = is_sought c.args.direction c.args.from c.args.self.now in
-    let rest : List Run = c.next.new.self in
+    let rest : List NameRun = c.next.new.self in
     c.loop-run.invariant
-    ∙ ap (λ (rs : List Run). find p (names_in rs)) c.in-Some.ensures.steps
+    ∙ ap (λ (rs : List NameRun). find p (names_in rs)) c.in-Some.ensures.steps
     ∙ find-append p (names_of c.in-Some.run') (names_in rest)
     ∙ ap (λ (o : Option Name). option_or o (find p (names_in rest)))
     (sym c.closed_in.ensures ∙ c.in_default.is)
@@ -49,4 +49,4 @@ unfolding names_in
 returns c =
     let p : Name → Bool = is_sought c.args.direction c.args.from c.args.self.now in
     sym (c.loop-run.invariant
-    ∙ ap (λ (rs : List Run). find p (names_in rs)) c.in-None.ensures.steps.0)
+    ∙ ap (λ (rs : List NameRun). find p (names_in rs)) c.in-None.ensures.steps.0)

@@ -19,7 +19,7 @@ returns-in-Some-clause-finds g c = (
   c.loop-front.invariant.read.0,
   c.loop-front.invariant.read.1,
   subst (λ b. Stands c.args.in_step c.in-Some.front b (g.P.Peer.remaining c.loop-front.peer))
-      c.held.ensures
+      c.octets_held.ensures
       (found-stands c.args.in_step c.in-Some.front _ _ c.in-Some.ensures.found),
   c.loop-front.invariant.told,
 )
@@ -31,7 +31,8 @@ loop-front-smaller g c =
     (g.P.Peer.failed c.loop-front.peer) (g.P.Peer.failed c.fill.new.peer))
     c.in-Ok-true.field-0-test c.in-Ok-true.ensures in
     nearer c.loop-front.self c.fill.new.self _ _ filled.0
-    (subst (λ b. length b < 65542) c.held.ensures (c.in-None.ensures.few refl)) filled.1 filled.2
+    (subst (λ b. length b < 65542) c.octets_held.ensures (c.in-None.ensures.few refl)) filled.1
+    filled.2
 
 pub loop-front-preserved : goal.loop-front-preserved
 loop-front-preserved g c =
@@ -61,7 +62,7 @@ returns-in-Ok-false-clause-finds g c =
     c.in-Ok-false.field-0-test c.in-Ok-false.ensures in
     end-found c.args.in_step c.args.self.now c.loop-front.self c.fill.new.self _ _ _ _ _ _ _
     c.loop-front.invariant.read.1 c.loop-front.invariant.told
-    (subst (IsLast c.args.in_step) c.held.ensures (c.in-None.ensures.last refl)) filled
+    (subst (IsLast c.args.in_step) c.octets_held.ensures (c.in-None.ensures.last refl)) filled
 
 -- a read failed, or memory ran out
 pub returns-in-Err-clause-finds : goal.returns-in-Err-clause-finds

@@ -1,6 +1,6 @@
 use Rattle.std.proofs.Common.{◌≡◌, ◌-◌, ℕ, List, length}
 use Rattle.std.specs.Io.KnownBytes.{Keeps}
-use Rattle.lpt_frames.specs.Buffers.{held, Adds}
+use Rattle.lpt_frames.specs.Buffers.{octets_held, Adds}
 use Rattle.lpt_frames.proofs.buffer.FrameBuffer.find.Given as goal
 
 -- what was read is held behind the rest
@@ -15,4 +15,4 @@ invariant-loop-front g l = record {
 
 -- each read brings so much as is looked at nearer
 abbrev pub decreases-loop-front : goal.decreases-loop-front
-decreases-loop-front g l = 65542 - length (held l.self)
+decreases-loop-front g l = 65542 - length (octets_held l.self)

@@ -3,7 +3,7 @@ use Rattle.std.proofs.Common.{◌≡◌, ◌∙◌, ◌<◌, ap, sym, refl, arit
 use Rattle.std.specs.Vec.{vec_len}
 use Rattle.lpt_glance.specs.declared.mark.Key.{Key}
 use Rattle.lpt_glance.specs.declared.row.Row.{Row}
-use Rattle.lpt_glance.specs.Looks.{stepped}
+use Rattle.lpt_glance.specs.Looks.{row_stepped}
 use Rattle.lpt_glance.proofs.RowLemmas.{finds-set, its-name, its-place, its-step}
 use Rattle.lpt_glance.proofs.rows.Rows.take.Goals as goal
 
@@ -45,7 +45,7 @@ returns-clause-rows c =
     let step = its-step d n rows c.in_ok-rows.rows.list.items c.in_ok-rows.row
     c.in_ok-rows.ensures.rows c.in_ok-rows.ensures.row f c.index_mut.result.now refl refl
     c.index_mut.ensures.value in
-    let made : c.take-key.new.self ≡ (stepped f rows).0 =
+    let made : c.take-key.new.self ≡ (row_stepped f rows).0 =
     c.take-key.ensures.row ∙ ap (λ (s : Row × Key). s.0) step in
     λ j. slice_set (c.in_ok-rows.ensures.rows j) (c.in_ok-rows.ensures.row j) (made j)
 

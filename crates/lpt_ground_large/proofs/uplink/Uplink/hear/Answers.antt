@@ -1,7 +1,7 @@
 -- The reception was given up: the parts go under the next name, and the request's pass has heard.
 use Rattle.std.proofs.Common.{◌∙◌, List, ap, sym, ℕ}
 use Rattle.lpt_ground.specs.declared.asked.Terms.{Terms}
-use Rattle.lpt_ground.specs.Passes.{State, state_of}
+use Rattle.lpt_ground.specs.Passes.{PassState, state_of}
 use Rattle.lpt_ground_large.specs.Parts.{id_of}
 use Rattle.lpt_ground_large.specs.Uplinks.{is_abort, under_next_name, way_of}
 use Rattle.lpt_ground_large.proofs.UplinkLemmas.{heard-abort}
@@ -13,7 +13,7 @@ returns-then-is_abort-clause-way c =
     let w = way_of c.args.self.now (state_of c.args.pass.now) in
     let terms = c.args.pass.now.terms in
     c.rename.ensures.way (state_of c.hear.new.self)
-    ∙ ap (λ (s : State). under_next_name l (way_of c.args.self.now s)) c.hear.ensures.state
+    ∙ ap (λ (s : PassState). under_next_name l (way_of c.args.self.now s)) c.hear.ensures.state
     ∙ sym (heard-abort l terms w c.args.octets
     (ap (λ (t : Terms). is_abort t (id_of l w.used) c.args.octets) (sym c.terms.ensures)
     ∙ ap (λ (o : List ℕ). is_abort c.terms.result (id_of l w.used) o) (sym c.as_slice.ensures.same)

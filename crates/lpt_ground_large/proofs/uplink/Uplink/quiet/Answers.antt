@@ -1,7 +1,7 @@
 -- The name is used up: the parts go under the next one.
 use Rattle.std.proofs.Common.{◌∙◌, ◌+◌, ap, sym}
 use Rattle.std.proofs.lemmas.Bool.{le-ltb}
-use Rattle.lpt_ground.specs.Passes.{State, state_of}
+use Rattle.lpt_ground.specs.Passes.{PassState, state_of}
 use Rattle.lpt_ground_large.specs.Parts.{patience}
 use Rattle.lpt_ground_large.specs.Uplinks.{under_next_name, way_of}
 use Rattle.lpt_ground_large.proofs.UplinkLemmas.{waited-out}
@@ -12,6 +12,6 @@ returns-else-self-clause-way c =
     let l = c.args.self.now.large in
     let w = way_of c.args.self.now (state_of c.args.pass.now) in
     c.rename.ensures.way (state_of c.quiet.new.self)
-    ∙ ap (λ (s : State). under_next_name l (way_of c.args.self.now s)) c.quiet.ensures.state
+    ∙ ap (λ (s : PassState). under_next_name l (way_of c.args.self.now s)) c.quiet.ensures.state
     ∙ sym (waited-out l c.args.pass.now.terms w
     (le-ltb (c.args.self.now.rounds + 1) (patience c.args.self.now.used) c.if-self.false))

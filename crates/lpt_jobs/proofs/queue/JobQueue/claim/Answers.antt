@@ -4,7 +4,7 @@ use Rattle.std.proofs.Common.{◌∙◌, ap, sym, ℕ, ◌<◌, ◌+◌, List, l
 use Rattle.std.specs.Option.{option_map}
 use Rattle.lpt_jobs.specs.declared.job.Job.{Job}
 use Rattle.lpt_jobs.specs.declared.job.Job.TheVariants.{Claimed}
-use Rattle.lpt_jobs.specs.Jobs.{Jobs, was_claimed, message_in, unclaimed, after_claim}
+use Rattle.lpt_jobs.specs.Jobs.{Jobs, was_claimed, message_in, oldest_unclaimed, after_claim}
 use Rattle.lpt_jobs.proofs.JobsLemmas.{kept-claim, some-within, unclaimed-at}
 use Rattle.lpt_jobs.proofs.queue.JobQueue.claim.Goals as goal
 
@@ -30,7 +30,7 @@ returns-clause-job c =
     let some : q.claimed < length q.jobs.items = search (rules, some-within) in
     let numbered : Job → Option (ℕ × List ℕ)
     = λ j. option_map (λ m. (q.first + q.claimed, m)) (message_in j) in
-    sym (ap unclaimed c.self.view_is)
+    sym (ap oldest_unclaimed c.self.view_is)
     ∙ unclaimed-at jobs q.claimed c.index_mut.result.now c.self.invariant.count some
     c.index_mut.ensures.value
     ∙ ap numbered (sym c.in-Waiting.ensures.value)

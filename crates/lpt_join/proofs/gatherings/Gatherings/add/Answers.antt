@@ -3,7 +3,7 @@ use Rattle.std.proofs.Common.{◌≡◌, ◌∙◌, sym, subst, ◌++◌, ◌∷
 use Rattle.lpt_part.specs.Parts.{piece}
 use Rattle.lpt_stream.specs.declared.piece_kind.PieceKind.TheVariants.{Whole}
 use Rattle.lpt_join.specs.Gatherings.{Gives, IsJoiningOf}
-use Rattle.lpt_join.specs.Offers.{offered, part_of_piece}
+use Rattle.lpt_join.specs.Offers.{part_offered, part_of_piece}
 use Rattle.lpt_join.proofs.SeveralLemmas.{each-more, each-part, named-name, offered-named}
 use Rattle.lpt_join.proofs.gatherings.Gatherings.add.Goals as goal
 
@@ -37,5 +37,5 @@ returns c = λ pieces octets h at some.
     c.of_name.ensures (c.in_ok-gathering.ensures pieces record { kind = Whole; octets = octets }
     (subst (λ t. Gives t pieces c.in-Some.gathering) (sym c.of_name.ensures)
     (c.in-Some.ensures.given t pieces h)) at
-    (subst (λ t. Some (part_of_piece p) ≡ offered t octets) (sym c.of_name.ensures)
+    (subst (λ t. Some (part_of_piece p) ≡ part_offered t octets) (sym c.of_name.ensures)
     (offered-named t name p octets c.requires.id some)))) h

@@ -1,7 +1,7 @@
 -- A piece more.
 use Rattle.std.proofs.Common.{None, refl}
 use Rattle.lpt_part.specs.Parts.{piece}
-use Rattle.lpt_events.specs.NamedParts.{named}
+use Rattle.lpt_events.specs.NamedParts.{part_named}
 use Rattle.lpt_stream.specs.Pieces.{Piece}
 use Rattle.lpt_join.specs.Several.{reading_of}
 use Rattle.lpt_join.proofs.GatherLemmas.{noted-next}
@@ -29,7 +29,7 @@ returns-in-Ok-clause-taken c = λ first old pieces h at.
     let was = c.args.self in
     let r = reading_of was.transaction None in
     let p : Piece = record { kind = c.args.kind; octets = c.args.octets.now } in
-    let q = named c.in-Some.name.source (piece c.in-Some.part) in
+    let q = part_named c.in-Some.name.source (piece c.in-Some.part) in
     record {
       same = h.same;
       gives = each-packet was.transaction pieces p.kind p.octets q c.in-Ok.gatherings c.in-Some.ensures.part

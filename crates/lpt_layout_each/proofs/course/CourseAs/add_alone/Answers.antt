@@ -7,11 +7,11 @@ use Rattle.lpt_layout_join.specs.declared.last_part.LastPart.{LastPart}
 use Rattle.lpt_layout_join.specs.declared.order.Order.{Order}
 use Rattle.lpt_layout_join.specs.Came.{last_of}
 use Rattle.lpt_layout_join.specs.CameInside.{Shows}
-use Rattle.lpt_layout_join.specs.Orders.{is_in_order, ordered}
+use Rattle.lpt_layout_join.specs.Orders.{is_in_order, order_after}
 use Rattle.lpt_layout_join.specs.Writes.{unfit}
-use Rattle.lpt_layout_each.specs.Eaches.{alone, begun, fresh, more}
+use Rattle.lpt_layout_each.specs.Eaches.{alone, held_begun, fresh, more}
 use Rattle.lpt_layout_each.specs.Helds.{Follows, broken_course, first_course, goes_on}
-use Rattle.lpt_layout_each.specs.News.{Given, Unfit, dropped}
+use Rattle.lpt_layout_each.specs.News.{Given, Unfit, parts_dropped}
 use Rattle.lpt_layout_each.proofs.AloneLemmas.{alone-broken, alone-gives, alone-steps, alone-unfit, alone-waits, alone_run, is-alone, ordered-some}
 use Rattle.lpt_layout_each.proofs.StepLemmas.{dropped-shown}
 use Rattle.lpt_layout_each.proofs.course.CourseAs.add_alone.Goals as goal
@@ -30,11 +30,11 @@ returns-then-is_some c = λ k h.
     let shows = c.in_ok-take_from.ensures.came k.held.new
     (subst (λ (s : CameAs). Shows k.held.new s) (sym c.into_new-came.ensures) h.held.new) in
     alone-steps r any now q o k.held.new w.1 a.2 k _
-    (broken_course (begun None (alone q)), Some (dropped d)) a.0
+    (broken_course (held_begun None (alone q)), Some (parts_dropped d)) a.0
     (alone-broken r any now q o k.held.new w.1 a.2
     (sym (ap is_some (c.against.ensures d shows)) ∙ sym c.is_some.ensures ∙ c.if-is_some.true))
     (record {
-      follows = c.with_held.ensures (begun None (alone q)) (c.in_ok-held.ensures None tt);
+      follows = c.with_held.ensures (held_begun None (alone q)) (c.in_ok-held.ensures None tt);
       tells = ap Some (dropped-shown d c.take_from.new.self shows);
     })
 
@@ -56,7 +56,7 @@ returns-in_default c = λ k h.
       grind (arith, c.in_default.not-Some),
     ) in
     alone-steps r any now q o k.held.new w.1 a.2 k _
-    (first_course (ordered o q.number now) d, None) a.0
+    (first_course (order_after o q.number now) d, None) a.0
     (alone-waits r any now q o k.held.new w.1 a.2
     (sym (ap is_some (c.against.ensures d shows)) ∙ sym c.is_some.ensures ∙ c.if-is_some.false)
     (sym (c.in_ok-message.ensures d shows) ∙ none))

@@ -1,6 +1,6 @@
 -- A packet more, by what it carries.
 use Rattle.std.proofs.Common.{subst}
-use Rattle.lpt_carried.specs.Carried.{name_of, named}
+use Rattle.lpt_carried.specs.Carried.{name_of, part_named}
 use Rattle.lpt_stream.specs.Pieces.{packets_of}
 use Rattle.lpt_stream.proofs.EndLemmas.{any-err}
 use Rattle.lpt_layout_join.proofs.StreamLemmas.{noted-taken}
@@ -40,7 +40,7 @@ returns-clause-told g c = λ first heard ps h.
     let hear = g.T.TakerAs.heard c.args.taker.now in
     let hears = g.T.TakerAs.heard c.take_part.new.taker in
     let some = c.in-Ok.ensures.exact in
-    let part = named c.in-Ok.part in
+    let part = part_named c.in-Ok.part in
     told-packet first was heard hear ps h b c.in_ok-helds.helds c.pass.new.self hears
     (c.in_ok-helds.ensures.held bs h.held some)
     (c.in_ok-helds.ensures.told bs h.held some)

@@ -6,7 +6,7 @@ use Rattle.lpt_layout_each.specs.declared.news.NewsAs.TheVariants as said
 use Rattle.lpt_layout_each.specs.declared.turn.Turn as code
 use Rattle.lpt_layout_each.specs.Eaches.{Held, all_turn, alone, more, seed, turn}
 use Rattle.lpt_layout_each.specs.Helds.{IsTurn, Takes}
-use Rattle.lpt_layout_each.specs.News.{News, Unfit, dropped}
+use Rattle.lpt_layout_each.specs.News.{News, Unfit, parts_dropped}
 use Rattle.lpt_layout_each.proofs.StepLemmas.{dropped-shown, step-gives, step-gives_up, step-old, step-waits}
 use Rattle.lpt_layout_each.proofs.held.HeldAs.take.Goals as goal
 
@@ -51,7 +51,7 @@ returns-in_ok-held-in-Broken c = λ h k.
     (c.in_ok-new.ensures h.new k.new again) in
     subst (λ (s : Held × Option News).
     Takes (c.in_ok-held-in-Broken.held, Some (said.Dropped c.in-Broken.came)) s)
-    (step-gives_up r any again h q (dropped (more h.new q)) (alone q)
+    (step-gives_up r any again h q (parts_dropped (more h.new q)) (alone q)
     (sym (c.is_old-old.ensures h.last k.last) ∙ c.if-old.false) w.1)
     (record {
       holds = c.in_ok-held-in-Broken.ensures h.last k.last;

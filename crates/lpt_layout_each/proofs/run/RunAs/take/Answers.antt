@@ -4,7 +4,7 @@ use Rattle.std.specs.Prelude.{Option, is_some}
 use Rattle.lpt_layout.specs.Parts.{piece}
 use Rattle.lpt_layout_join.specs.declared.last_part.LastPart.{LastPart}
 use Rattle.lpt_layout_join.specs.Came.{last_of}
-use Rattle.lpt_layout_join.specs.Orders.{is_in_order, ordered}
+use Rattle.lpt_layout_join.specs.Orders.{is_in_order, order_after}
 use Rattle.lpt_layout_each.specs.Eaches.{Ends, more, no_run, run_before}
 use Rattle.lpt_layout_each.proofs.RunLemmas.{run-broken, run-joins, run-past}
 use Rattle.lpt_layout_each.proofs.run.RunAs.take.Goals as goal
@@ -45,7 +45,7 @@ returns-in-None c = λ r h.
     omega (arith, c.if-from.false, c.from.ensures, c.from-2.ensures) in
     let d = more (run_before r q.number).came q in
     let shows = c.in_ok-take.ensures.came (run_before r q.number).came b.came in (
-      record { order = ordered c.before-run.result.order q.number c.args.missing; came = d },
+      record { order = order_after c.before-run.result.order q.number c.args.missing; came = d },
       record { order = c.with-order.ensures; came = shows },
       run-joins r c.args.missing q c.before-run.result b None next
           (sym c.if-is_some.false ∙ c.is_some.ensures ∙ ap is_some (c.against.ensures d shows))

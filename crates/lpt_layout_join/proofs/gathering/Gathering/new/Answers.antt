@@ -1,10 +1,10 @@
 -- Nothing gives nothing.
 use Rattle.std.proofs.Common.{refl}
-use Rattle.lpt_layout_join.specs.Gathered.{gathered}
+use Rattle.lpt_layout_join.specs.Gathered.{parts_gathered}
 use Rattle.lpt_layout_join.proofs.gathering.Gathering.new.Goals as goal
 
 pub returns : goal.returns
-unfolding gathered
+unfolding parts_gathered
 returns c = λ r n. record {
   came_is = c.new.ensures;
   order_is = c.none.ensures;

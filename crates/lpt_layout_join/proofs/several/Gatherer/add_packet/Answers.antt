@@ -1,6 +1,6 @@
 -- A packet more, by what it carries.
 use Rattle.std.proofs.Common.{◌∙◌, refl}
-use Rattle.lpt_carried.specs.Carried.{named}
+use Rattle.lpt_carried.specs.Carried.{part_named}
 use Rattle.lpt_stream.specs.declared.piece_kind.PieceKind.TheVariants.{Whole}
 use Rattle.lpt_layout_join.proofs.SeveralLemmas.{each-other}
 use Rattle.lpt_layout_join.proofs.StreamLemmas.{gathers-packet, missing-packet, noted-taken}
@@ -22,7 +22,7 @@ pub returns-clause-added : goal.returns-clause-added
 returns-clause-added c = λ first ps h at.
     let was = c.args.self in
     let b = c.args.octets.now in
-    let part = named c.in-Some.part in
+    let part = part_named c.in-Some.part in
     gathers-packet first was ps h b c.in_ok-gatherings.gatherings c.take.new.self c.pass.new.self
     c.in_ok-take.ensures
     (c.in_ok-gatherings.ensures was.wanted.reading was.wanted.name ps b h.gives

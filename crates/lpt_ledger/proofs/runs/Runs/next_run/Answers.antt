@@ -1,7 +1,7 @@
 -- Name by name the run gets longer, until one isn't the next.
 use Rattle.std.proofs.Common.{◌≡◌, ◌∙◌, ap, sym, rules, true, false, Option}
 use Rattle.lpt_packet.specs.Names.{Name}
-use Rattle.lpt_ledger.specs.declared.run.Run.{Run}
+use Rattle.lpt_ledger.specs.declared.run.NameRun.{NameRun}
 use Rattle.lpt_ledger.specs.Runs.{is_next, runs_from}
 use Rattle.lpt_ledger.specs.RunsInside.{runs_left}
 use Rattle.lpt_ledger.proofs.RunsLemmas.{run_begins, run_ends, run_goes_on, run_is_last}
@@ -10,7 +10,7 @@ use Rattle.lpt_ledger.proofs.runs.Runs.next_run.Goals as goal
 pub loop-name-init : goal.loop-name-init
 loop-name-init c =
     let names = c.self.inside.names in
-    ap (λ (r : Run). runs_from r names) c.lone-run.ensures
+    ap (λ (r : NameRun). runs_from r names) c.lone-run.ensures
     ∙ run_begins c.in_ok-self.field-0 names
     ∙ ap (λ (o : Option Name). runs_left o names) (sym c.in_ok-self.was)
     ∙ c.self.view_is

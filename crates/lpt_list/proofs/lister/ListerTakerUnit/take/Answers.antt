@@ -12,7 +12,7 @@ pub returns-clause-taken : goal.returns-clause-taken
 returns-clause-taken g c = λ from first old pieces h at.
     let p : Piece = record { kind = c.args.kind; octets = c.args.octets.now } in
     listed_next from c.args.place first c.args.self pieces p h at _ _ refl refl refl refl
-    c.goes_on.ensures c.in-Ok.ensures.kind c.counted.ensures
+    c.goes_on.ensures c.in-Ok.ensures.kind c.tally_with.ensures
     c.stopped_with.ensures
 
 pub returns-clause-wrote : goal.returns-clause-wrote

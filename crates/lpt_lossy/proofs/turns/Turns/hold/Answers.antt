@@ -2,7 +2,7 @@
 use Rattle.std.proofs.Common.{◌≡◌, ◌∙◌, ◌<◌, ◌++◌, ℕ, ap, length, map, set, arith}
 use Rattle.std.proofs.lemmas.List.{length-map}
 use Rattle.std.proofs.lemmas.Result.{IfOk-weaker}
-use Rattle.lpt_lossy.specs.TurnsInside.{behind_turn, repeated, turn_octets}
+use Rattle.lpt_lossy.specs.TurnsInside.{behind_turn, octets_repeated, turn_octets}
 use Rattle.lpt_lossy.proofs.PartLemmas.{held-set}
 use Rattle.lpt_lossy.proofs.turns.Turns.hold.Goals as goal
 
@@ -10,7 +10,7 @@ pub returns : goal.returns
 returns c =
     let vs = c.args.self.now.turns.items in
     let os = turn_octets c.args.self.now in
-    let more = repeated c.args.is_twice c.args.octets.now in
+    let more = octets_repeated c.args.is_twice c.args.octets.now in
     let held = c.index_mut.result.now in
     let within : c.from.result < length vs
     = omega (arith, c.from.ensures, c.requires, length-map vs (λ v. v.items)) in

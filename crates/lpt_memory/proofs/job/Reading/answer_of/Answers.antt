@@ -7,8 +7,8 @@ use Rattle.lpt_memory.specs.Given.{answer_of, octets_read, read_length}
 use Rattle.lpt_memory.specs.Meanings.{Meaning, Sizes}
 use Rattle.lpt_memory.specs.Memories.{Contents, sizes_of}
 use Rattle.lpt_memory.specs.Ranges.{MeaningFits}
-use Rattle.lpt_memory.specs.Readings.{meant}
-use Rattle.lpt_memory.specs.Seen.{body_of, seen}
+use Rattle.lpt_memory.specs.Readings.{source_meaning}
+use Rattle.lpt_memory.specs.Seen.{body_of, plan_meaning}
 use Rattle.lpt_memory.proofs.AnswerLemmas.{reply-short}
 use Rattle.lpt_memory.proofs.GivenLemmas.{answer_of-held, given-fits, read_length-any}
 use Rattle.lpt_memory.proofs.MeaningLemmas.{meaning-fits}
@@ -40,17 +40,19 @@ returns-clause-fits c =
     let short = subst (λ (m : Meaning). IfSome (reply_length m) (λ n. n ≤ 65523)) c.plan.ensures.seen
     (reply-short c.plan.result.now own r.sizes c.plan.ensures.counted
     (subst (MeaningFits r.sizes) (sym c.plan.ensures.seen) fits)) in
-    if_ok_by c.answer_of.result (λ (e : Effect). e ≡ answer_of (meant r) c.args.octets.now) AnswerFits
-    (λ e is. subst AnswerFits (sym is) (given-fits (meant r) c.args.octets.now r.sizes fits short c.requires))
+    if_ok_by c.answer_of.result (λ (e : Effect). e ≡ answer_of (source_meaning r) c.args.octets.now)
+    AnswerFits
+    (λ e is. subst AnswerFits (sym is)
+    (given-fits (source_meaning r) c.args.octets.now r.sizes fits short c.requires))
     (returns-clause-answer c)
 
 pub returns-clause-over : goal.returns-clause-over
 returns-clause-over c = λ ms same held.
     let r = c.args.self.now in
-    let fits = subst (λ (s : Sizes). MeaningFits s (meant r)) same
+    let fits = subst (λ (s : Sizes). MeaningFits s (source_meaning r)) same
     (meaning-fits r.apid r.sizes r.message) in
     subst (λ (a : Effect). IfOk c.answer_of.result (λ e. e ≡ a))
-    (ap (answer_of (meant r)) (sym held) ∙ answer_of-held (meant r) ms fits)
+    (ap (answer_of (source_meaning r)) (sym held) ∙ answer_of-held (source_meaning r) ms fits)
     (returns-clause-answer c)
 
 pub returns-clause-no_reply : goal.returns-clause-no_reply

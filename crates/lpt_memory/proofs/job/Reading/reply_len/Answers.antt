@@ -3,7 +3,7 @@ use Rattle.std.proofs.Common.{◌∙◌, ap, sym, subst, Option, IfSome, ℕ, �
 use Rattle.lpt_memory.specs.Effects.{reply_length}
 use Rattle.lpt_memory.specs.Meanings.{Meaning, Sizes}
 use Rattle.lpt_memory.specs.Ranges.{MeaningFits}
-use Rattle.lpt_memory.specs.Readings.{meant}
+use Rattle.lpt_memory.specs.Readings.{source_meaning}
 use Rattle.lpt_memory.specs.Seen.{body_of}
 use Rattle.lpt_memory.proofs.AnswerLemmas.{replied-answer, reply-short}
 use Rattle.lpt_memory.proofs.MeaningLemmas.{meaning-fits}
@@ -16,9 +16,9 @@ returns-clause-meant c =
 pub returns-clause-answer : goal.returns-clause-answer
 returns-clause-answer c = λ ms same.
     let r = c.args.self.now in
-    let fits = subst (λ (s : Sizes). MeaningFits s (meant r)) same
+    let fits = subst (λ (s : Sizes). MeaningFits s (source_meaning r)) same
     (meaning-fits r.apid r.sizes r.message) in
-    replied-answer (meant r) ms fits ∙ sym (returns-clause-meant c)
+    replied-answer (source_meaning r) ms fits ∙ sym (returns-clause-meant c)
 
 pub returns-clause-fits : goal.returns-clause-fits
 returns-clause-fits c =

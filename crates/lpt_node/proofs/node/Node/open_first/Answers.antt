@@ -4,7 +4,7 @@ use Rattle.lpt_packet.specs.Names.{Name}
 use Rattle.lpt_ledger.specs.LeastFree.{least_free_in}
 use Rattle.lpt_execution.specs.Reporting.{opened_of}
 use Rattle.lpt_node.specs.Nodes.{NodeView}
-use Rattle.lpt_node.specs.Sending.{opened}
+use Rattle.lpt_node.specs.Sending.{message_opened}
 use Rattle.lpt_node.proofs.SenderLemmas.{sound-begun}
 use Rattle.lpt_node.proofs.node.Node.open_first.Goals as goal
 
@@ -48,8 +48,10 @@ returns-clause-at c =
       boot = c.self.inside.boot;
       jobs = c.self.inside.jobs;
     })
-    ∙ ap (λ (n : NodeView). opened n.at c.in-Some-least_free.name c.in-Some.message) c.self.view_is
-    ∙ ap (λ (m : List ℕ). opened c.args.self.now.at c.in-Some-least_free.name m) (sym c.in_ok-copy.ensures)
+    ∙ ap (λ (n : NodeView). message_opened n.at c.in-Some-least_free.name c.in-Some.message)
+    c.self.view_is
+    ∙ ap (λ (m : List ℕ). message_opened c.args.self.now.at c.in-Some-least_free.name m)
+    (sym c.in_ok-copy.ensures)
 
 pub returns-clause-opened : goal.returns-clause-opened
 returns-clause-opened c =

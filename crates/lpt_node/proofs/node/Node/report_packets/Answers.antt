@@ -2,7 +2,7 @@
 use Rattle.std.proofs.Common.{◌≡◌, ◌∙◌, ◌∷◌, ap, sym, subst, suc, All, arith, rules}
 use Rattle.lpt_execution.specs.Ranges.{ReportFits}
 use Rattle.lpt_node.specs.Executions.{with_counts}
-use Rattle.lpt_node.specs.Jobs.{reported}
+use Rattle.lpt_node.specs.Jobs.{reports_made}
 use Rattle.lpt_node.specs.Nodes.{Sending}
 use Rattle.lpt_node.proofs.ExecutionLemmas.{link-added, large-added}
 use Rattle.lpt_node.proofs.node.Node.report_packets.Goals as goal
@@ -25,8 +25,8 @@ loop-report-preserved c =
           c.in_ok-add_report.ensures.large c.in_ok-add_report.ensures.counts
           ∙ c.loop-report.invariant.large;
       counts =
-          ap (λ (sending : Sending). reported sending rest) c.in_ok-add_report.ensures.counts
-          ∙ ap (reported s) (sym items)
+          ap (λ (sending : Sending). reports_made sending rest) c.in_ok-add_report.ensures.counts
+          ∙ ap (reports_made s) (sym items)
           ∙ c.loop-report.invariant.counts;
       fits = c.in_ok-add_report.ensures.fits c.loop-report.invariant.fits;
       left = λ k d within.

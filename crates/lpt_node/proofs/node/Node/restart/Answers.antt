@@ -1,6 +1,6 @@
 -- Each part of the node is as after a restart.
 use Rattle.std.proofs.Common.{ap}
-use Rattle.lpt_node.specs.Restarts.{restarted}
+use Rattle.lpt_node.specs.Restarts.{node_restarted}
 use Rattle.lpt_node.specs.NodeInside.{OpenMessages}
 use Rattle.lpt_node.specs.Nodes.{NodeView}
 use Rattle.lpt_node.specs.Receivers.{ReceiverState}
@@ -12,5 +12,5 @@ returns-clause-at c =
       ap (λ (o : OpenMessages). o.messages) c.close_open.ensures.empty,
       ap (λ (r : ReceiverState). r.ledger) c.clear.ensures,
       ap (λ (r : ReceiverState). r.entries) c.clear.ensures,
-      ap (λ (n : NodeView). restarted n.at) c.self.view_is,
+      ap (λ (n : NodeView). node_restarted n.at) c.self.view_is,
     )

@@ -3,7 +3,7 @@ use Rattle.std.proofs.Common.{[], ap, rules}
 use Rattle.std.specs.Option.{option_map}
 use Rattle.lpt_packet.specs.Names.{named_by}
 use Rattle.lpt_part.specs.Parts.{piece}
-use Rattle.lpt_events.specs.NamedParts.{named}
+use Rattle.lpt_events.specs.NamedParts.{part_named}
 use Rattle.lpt_pus.specs.Telemetry.{telemetry, as_written}
 use Rattle.lpt_reception.specs.Received.{Ended, BrokenOff}
 use Rattle.lpt_node.proofs.ReceiverLemmas.{received-closed, received-kept, received-again, received-no_room, received-whole, received-broken, received-gap, grows-gap, grows-kept, grows-whole, grows-broken}
@@ -12,7 +12,8 @@ use Rattle.lpt_node.proofs.receiver.Receiver.accept.Goals as goal
 
 pub returns-then-ne-clause-ok : goal.returns-then-ne-clause-ok
 returns-then-ne-clause-ok c =
-    received-closed (option_map (λ h. as_written (telemetry h [])) c.args.head) c.args.self.now (named c.args.source (piece c.args.part.now)) c.args.now
+    received-closed (option_map (λ h. as_written (telemetry h [])) c.args.head) c.args.self.now
+    (part_named c.args.source (piece c.args.part.now)) c.args.now
     (search rules)
 
 pub invariant_of-self : goal.invariant_of-self
@@ -58,7 +59,7 @@ invariant_of-self-in-Conflict c =
 pub returns-in-Kept-clause-ok : goal.returns-in-Kept-clause-ok
 returns-in-Kept-clause-ok c =
     received-kept (option_map (λ h. as_written (telemetry h [])) c.args.head) c.self.inside.ledger c.self.inside.table c.offer.new.self
-    (named c.args.source (piece c.args.part.now)) c.args.now c.args.self.now
+    (part_named c.args.source (piece c.args.part.now)) c.args.now c.args.self.now
     c.self.view_is
     c.self.invariant
     (search rules)
@@ -69,7 +70,7 @@ returns-in-Kept-clause-ok c =
 pub returns-in-Again-clause-ok : goal.returns-in-Again-clause-ok
 returns-in-Again-clause-ok c =
     received-again (option_map (λ h. as_written (telemetry h [])) c.args.head) c.self.inside.ledger c.self.inside.table c.offer.new.self
-    (named c.args.source (piece c.args.part.now)) c.args.now c.args.self.now
+    (part_named c.args.source (piece c.args.part.now)) c.args.now c.args.self.now
     c.self.view_is
     c.self.invariant
     (search rules)
@@ -80,7 +81,7 @@ returns-in-Again-clause-ok c =
 pub returns-in-NoRoom-clause-ok : goal.returns-in-NoRoom-clause-ok
 returns-in-NoRoom-clause-ok c =
     received-no_room (option_map (λ h. as_written (telemetry h [])) c.args.head) c.self.inside.ledger c.self.inside.table c.offer.new.self
-    (named c.args.source (piece c.args.part.now)) c.args.now c.args.self.now
+    (part_named c.args.source (piece c.args.part.now)) c.args.now c.args.self.now
     c.self.view_is
     c.self.invariant
     (search rules)
@@ -90,7 +91,7 @@ returns-in-NoRoom-clause-ok c =
 pub returns-in-Whole-clause-ok : goal.returns-in-Whole-clause-ok
 returns-in-Whole-clause-ok c =
     received-whole (option_map (λ h. as_written (telemetry h [])) c.args.head) c.self.inside.ledger c.self.inside.table c.offer.new.self
-    (named c.args.source (piece c.args.part.now)) c.args.now c.args.self.now
+    (part_named c.args.source (piece c.args.part.now)) c.args.now c.args.self.now
     c.self.view_is
     c.self.invariant
     (search rules)
@@ -106,7 +107,7 @@ returns-in-Whole-clause-ok c =
 pub returns-in-Conflict-clause-ok : goal.returns-in-Conflict-clause-ok
 returns-in-Conflict-clause-ok c =
     received-broken (option_map (λ h. as_written (telemetry h [])) c.args.head) c.self.inside.ledger c.self.inside.table c.offer.new.self
-    (named c.args.source (piece c.args.part.now)) c.args.now c.args.self.now
+    (part_named c.args.source (piece c.args.part.now)) c.args.now c.args.self.now
     c.self.view_is
     c.self.invariant
     (search rules)
@@ -121,7 +122,7 @@ returns-in-Conflict-clause-ok c =
 pub returns-in-Memory-clause-memory : goal.returns-in-Memory-clause-memory
 returns-in-Memory-clause-memory c =
     grows-kept (option_map (λ h. as_written (telemetry h [])) c.args.head) c.self.inside.ledger c.self.inside.table c.offer.new.self
-    (named c.args.source (piece c.args.part.now)) c.args.now c.args.self.now
+    (part_named c.args.source (piece c.args.part.now)) c.args.now c.args.self.now
     c.self.view_is
     c.self.invariant
     (search rules)
@@ -130,7 +131,7 @@ returns-in-Memory-clause-memory c =
 pub returns-in-Whole-clause-memory : goal.returns-in-Whole-clause-memory
 returns-in-Whole-clause-memory c =
     grows-whole (option_map (λ h. as_written (telemetry h [])) c.args.head) c.self.inside.ledger c.self.inside.table c.offer.new.self
-    (named c.args.source (piece c.args.part.now)) c.args.now c.args.self.now
+    (part_named c.args.source (piece c.args.part.now)) c.args.now c.args.self.now
     c.self.view_is
     c.self.invariant
     (search rules)
@@ -140,7 +141,7 @@ returns-in-Whole-clause-memory c =
 pub returns-in-Conflict-clause-memory : goal.returns-in-Conflict-clause-memory
 returns-in-Conflict-clause-memory c =
     grows-broken (option_map (λ h. as_written (telemetry h [])) c.args.head) c.self.inside.ledger c.self.inside.table c.offer.new.self
-    (named c.args.source (piece c.args.part.now)) c.args.now c.args.self.now
+    (part_named c.args.source (piece c.args.part.now)) c.args.now c.args.self.now
     c.self.view_is
     c.self.invariant
     (search rules)
@@ -160,7 +161,7 @@ invariant_of-self-in-Gap c =
 pub returns-in-Gap-clause-ok : goal.returns-in-Gap-clause-ok
 returns-in-Gap-clause-ok c =
     received-gap (option_map (λ h. as_written (telemetry h [])) c.args.head) c.self.inside.ledger c.self.inside.table c.offer.new.self
-    (named c.args.source (piece c.args.part.now)) c.args.now c.args.self.now
+    (part_named c.args.source (piece c.args.part.now)) c.args.now c.args.self.now
     c.self.view_is
     c.self.invariant
     (search rules)
@@ -174,7 +175,7 @@ returns-in-Gap-clause-ok c =
 pub returns-in-Gap-clause-memory : goal.returns-in-Gap-clause-memory
 returns-in-Gap-clause-memory c =
     grows-gap (option_map (λ h. as_written (telemetry h [])) c.args.head) c.self.inside.ledger c.self.inside.table c.offer.new.self
-    (named c.args.source (piece c.args.part.now)) c.args.now c.args.self.now
+    (part_named c.args.source (piece c.args.part.now)) c.args.now c.args.self.now
     c.self.view_is
     c.self.invariant
     (search rules)

@@ -11,5 +11,5 @@ returns-in-Some c =
     let a = c.args.self.now in
     let told : get key_cmp c.args.outcomes.now (key_of a) ≡ Some c.in-Some.outcome.now =
     ap (get key_cmp c.args.outcomes.now) (sym c.key.ensures) ∙ search rules in
-    ap (λ (o : Outcome). record a { outcome = o }) c.joined-self.ensures
+    ap (λ (o : Outcome). record a { outcome = o }) c.with_later-self.ensures
     ∙ sym (ap (with_told a) told)

@@ -1,7 +1,7 @@
 -- Part after part.
 use Rattle.std.proofs.Common.{◌∙◌, ap, sym, ℕ, ◌+◌, List, arith}
 use Rattle.lpt_node.specs.Nodes.{NodeData}
-use Rattle.lpt_node.specs.Sending.{sent}
+use Rattle.lpt_node.specs.Sending.{part_sent}
 use Rattle.lpt_spacecraft.specs.Serving.{first_sent}
 use Rattle.lpt_spacecraft.proofs.ServingLemmas.{first_sent-next, sent-jobs, sent-next, sent-part, sent-some}
 use Rattle.lpt_spacecraft.proofs.spacecraft.Spacecraft.send_parts.Goals as goal
@@ -14,7 +14,7 @@ loop-k-preserved g c =
     let k = c.loop-k.k in
     let before = first_sent s.config s.node.at name k in
     let step = c.in-Ok.ensures.ok
-    ∙ (λ i. sent (c.loop-k.self.same_side i) ((c.loop-k.self.same_config ∙ was.config) i)
+    ∙ (λ i. part_sent (c.loop-k.self.same_side i) ((c.loop-k.self.same_config ∙ was.config) i)
     (was.node i) name (k + 1)) in
     record {
       node = ap (λ (x : NodeData × List ℕ). x.0) step
@@ -46,7 +46,7 @@ returns-in-Err-clause-part g c =
     let was = c.loop-k.invariant in
     let k = c.loop-k.k in
     let step = c.in-Ok.ensures.ok
-    ∙ (λ i. sent (c.loop-k.self.same_side i) ((c.loop-k.self.same_config ∙ was.config) i)
+    ∙ (λ i. part_sent (c.loop-k.self.same_side i) ((c.loop-k.self.same_config ∙ was.config) i)
     (was.node i) name (k + 1)) in
     sent-part s.config s.node.at name k c.args.total _ _ _ c.as_slice.result.now (omega arith)
     was.written

@@ -5,7 +5,7 @@ use Rattle.lpt_stream.specs.Streams.{all_octets}
 use Rattle.lpt_events.specs.declared.config.Config.{Config}
 use Rattle.lpt_memory.specs.Memories.{Contents}
 use Rattle.lpt_memory.specs.Readings.{ReadJob, Job as Ticket}
-use Rattle.lpt_node.specs.Jobs.{Execution, executed}
+use Rattle.lpt_node.specs.Jobs.{Execution, job_executed}
 use Rattle.lpt_node.specs.Nodes.{NodeData}
 use Rattle.lpt_spacecraft.specs.Serving.{all_sent}
 use Rattle.lpt_spacecraft.specs.Streams.{onboard}
@@ -31,7 +31,7 @@ returns-in-Ok-send_opened-clause-ok g c =
     c.commit.ensures.committed in
     let config = c.commit.ensures.config ∙ c.claim.ensures.config ∙ s.same_config in
     let runs = c.in-Ok-apply_front.ensures.ok
-    ∙ ap (λ (k : Config). executed k c.commit.new.self.at s.memories) config in
+    ∙ ap (λ (k : Config). job_executed k c.commit.new.self.at s.memories) config in
     let sent = c.in-Ok-send_opened.ensures.ok in
     worked-writes s.config (onboard s) (onboard c.send_opened.new.self)
     c.commit.new.self.at _ _ _ _
@@ -57,7 +57,7 @@ returns-in-Ok-send_opened-clause-done g c =
     c.commit.ensures.committed in
     let config = c.commit.ensures.config ∙ c.claim.ensures.config ∙ s.same_config in
     let runs = c.in-Ok-apply_front.ensures.ok
-    ∙ ap (λ (k : Config). executed k c.commit.new.self.at s.memories) config in
+    ∙ ap (λ (k : Config). job_executed k c.commit.new.self.at s.memories) config in
     let alone = ap (λ (d : NodeData). d.jobs.jobs) over
     ∙ read_over-jobs s.config s.memories s.node.at c.requires.0 c.requires.1 in
     let claims = ap (λ (x : NodeData × Ticket). x.1.message) c.in-Ok-claim.ensures.ok
@@ -89,7 +89,7 @@ returns-in-Ok-send_opened-clause-idle g c =
     c.commit.ensures.committed in
     let config = c.commit.ensures.config ∙ c.claim.ensures.config ∙ s.same_config in
     let runs = c.in-Ok-apply_front.ensures.ok
-    ∙ ap (λ (k : Config). executed k c.commit.new.self.at s.memories) config in
+    ∙ ap (λ (k : Config). job_executed k c.commit.new.self.at s.memories) config in
     let alone = ap (λ (d : NodeData). d.jobs.jobs) over
     ∙ read_over-jobs s.config s.memories s.node.at c.requires.0 c.requires.1 in
     ap (λ q. q.jobs) c.in-Ok-send_opened.ensures.jobs ∙ ap (λ (x : (NodeData × Execution) ×
@@ -115,7 +115,7 @@ returns-in-Err-write_all-clause-breaks g c =
     c.commit.ensures.committed in
     let config = c.commit.ensures.config ∙ c.claim.ensures.config ∙ s.same_config in
     let runs = c.in-Ok-apply_front.ensures.ok
-    ∙ ap (λ (k : Config). executed k c.commit.new.self.at s.memories) config in
+    ∙ ap (λ (k : Config). job_executed k c.commit.new.self.at s.memories) config in
     worked-breaks s.config (onboard s) c.commit.new.self.at _ c.apply_front.new.memories
     (g.K.Sink.contents c.args.out.now) (g.K.Sink.contents c.write_all.new.out) over runs refl
     (part-first (g.K.Sink.contents c.args.out.now) (g.K.Sink.contents c.write_all.new.out)
@@ -143,7 +143,7 @@ returns-clause-breaks g c =
     c.commit.ensures.committed in
     let config = c.commit.ensures.config ∙ c.claim.ensures.config ∙ s.same_config in
     let runs = c.in-Ok-apply_front.ensures.ok
-    ∙ ap (λ (k : Config). executed k c.commit.new.self.at s.memories) config in
+    ∙ ap (λ (k : Config). job_executed k c.commit.new.self.at s.memories) config in
     worked-breaks s.config (onboard s) c.commit.new.self.at _
     c.send_opened.new.self.memories
     (g.K.Sink.contents c.args.out.now) (g.K.Sink.contents c.send_opened.new.out) over runs

@@ -3,7 +3,7 @@ use Rattle.std.proofs.Common.{◌≡◌, ◌∙◌, ◌<◌, ◌≤◌, ◌+◌,
 use Rattle.std.proofs.lemmas.List.{length-take, length-take-le}
 use Rattle.lpt_search.specs.Searches.{Knows}
 use Rattle.lpt_search.proofs.SearchLemmas.{knows-more}
-use Rattle.lpt_stream.specs.Buffers.{held}
+use Rattle.lpt_stream.specs.Buffers.{octets_held}
 use Rattle.lpt_stream.specs.Pieces.{most_kept}
 use Rattle.lpt_stream.proofs.BufferLemmas.{filled, more_given}
 use Rattle.lpt_stream.proofs.KnownLemmas.{refilled, unread}
@@ -80,5 +80,5 @@ invariant_of-self-2 g c =
           (sym (filled b.start b.end n b.octets.len b.octets.items c.deref_mut.result.now buf _ _
           (c.in-Ok.ensures.front ∙ c.compact.ensures.front) c.deref_mut.ensures.value b.within
           call.bound fits))
-          (knows-more b.search (held b) (take n buf) b.known);
+          (knows-more b.search (octets_held b) (take n buf) b.known);
     }

@@ -1,7 +1,7 @@
 -- What is known of the octets that are held rules a packet out.
 use Rattle.std.proofs.Common.{◌∙◌, ◌-◌, ap, sym, subst, take, drop}
 use Rattle.lpt_search.specs.Searches.{Knows}
-use Rattle.lpt_stream.specs.Buffers.{cut_of, held}
+use Rattle.lpt_stream.specs.Buffers.{cut_of, octets_held}
 use Rattle.lpt_stream.specs.Pieces.{begins_by, lookahead}
 use Rattle.lpt_stream.proofs.ByLemmas.{none_out}
 use Rattle.lpt_stream.proofs.KnownLemmas.{none_shown, sliced}
@@ -24,9 +24,10 @@ invariant_of-self-clause-known c =
 pub returns-in-Some-clause-none : goal.returns-in-Some-clause-none
 returns-in-Some-clause-none c = λ shown.
     let b = c.args.self.now in
-    ap (λ s. begins_by (cut_of b) s (take lookahead (held b))) c.if-self.false
-    ∙ none_out (cut_of b) (take lookahead (held b))
-    (none_shown (held b) (take (b.end - b.start) (drop b.start c.deref.result.now)) c.min.result
+    ap (λ s. begins_by (cut_of b) s (take lookahead (octets_held b))) c.if-self.false
+    ∙ none_out (cut_of b) (take lookahead (octets_held b))
+    (none_shown (octets_held b) (take (b.end - b.start) (drop b.start c.deref.result.now))
+    c.min.result
     c.in-Some.len c.may_fit.result
     (sliced b.start b.end b.octets.items c.deref.result.now b.ordered c.deref.ensures.value)
     c.min.ensures c.in-Some.ensures.within c.in-Some.ensures.none c.may_fit.ensures.never shown)

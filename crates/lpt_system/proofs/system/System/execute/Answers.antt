@@ -8,7 +8,10 @@ use Rattle.lpt_system.proofs.system.System.execute.Goals as goal
 
 pub put_reports-requires : goal.put_reports-requires
 put_reports-requires c =
-    let told : length c.in-Ok.executed.packets.items ≡ length (Rattle.lpt_node.specs.Jobs.executed c.args.self.now.on_craft.config c.args.self.now.on_craft.at c.args.self.now.memories).0.1.packets =
+    let told : length c.in-Ok.executed.packets.items
+    ≡ length
+    (Rattle.lpt_node.specs.Jobs.job_executed c.args.self.now.on_craft.config
+    c.args.self.now.on_craft.at c.args.self.now.memories).0.1.packets =
     ap (λ (x : (NodeData × Execution) × Contents). length x.0.1.packets) c.in-Ok.ensures.ok in
     omega (
       arith,

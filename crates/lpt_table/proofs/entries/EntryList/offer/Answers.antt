@@ -6,7 +6,7 @@ use Rattle.std.specs.Vec.{vec_capacity}
 use Rattle.slab.specs.Slab.{with_value}
 use Rattle.lpt_packet.specs.Names.{name_cmp}
 use Rattle.lpt_reception.specs.Received.{Received}
-use Rattle.lpt_reception.specs.Steps.{kept, Takes}
+use Rattle.lpt_reception.specs.Steps.{part_kept, Takes}
 use Rattle.lpt_table.specs.declared.entries.Entry.{Entry}
 use Rattle.lpt_table.specs.EntriesOf.{map_of, IsEntry}
 use Rattle.lpt_table.specs.EntryLists.{Listing, last_after}
@@ -102,7 +102,7 @@ invariant_of-self c =
     let d = (goal.at.invariant_of-self c).After-index_mut in
     let e = is_entry d in
     let keeps = takes_keeps c.args.mode c.index_mut.result.now c.take-took.new.self
-    c.args.part.now.number (kept c.args.part.now) c.take-took.result c.take-took.ensures
+    c.args.part.now.number (part_kept c.args.part.now) c.take-took.result c.take-took.ensures
     in
     rw c.renew.ensures.places
     (renewed-listed k.limit k.p (vec_capacity k.places) k.fillings k.places.items c.self.invariant
@@ -120,7 +120,7 @@ returns-clause-took c =
     let t = with_value k.fillings c.index-place.result.now.key g in
     let e = is_entry d in
     let keeps = takes_keeps c.args.mode c.index_mut.result.now c.take-took.new.self
-    c.args.part.now.number (kept c.args.part.now) c.take-took.result c.take-took.ensures
+    c.args.part.now.number (part_kept c.args.part.now) c.take-took.result c.take-took.ensures
     in
     let size = ap (λ (l : Listing). l.p) c.self.view_is in
     let was : f ≡ record { id = name.id; p = c.args.self.now.p; parts = f.parts } =
@@ -132,10 +132,10 @@ returns-clause-took c =
       parts = g.parts;
       was = ap (λ (l : Listing). map.get l.entries name) (sym c.self.view_is) ∙ e.found;
       takes = subst (λ (r : Received). Takes c.args.mode r c.args.part.now.number
-          (kept c.args.part.now) c.take-took.result
+          (part_kept c.args.part.now) c.take-took.result
           (record { id = name.id; p = c.args.self.now.p; parts = g.parts })) was
           (subst (λ (r : Received). Takes c.args.mode f c.args.part.now.number
-          (kept c.args.part.now) c.take-took.result r) becomes c.take-took.ensures);
+          (part_kept c.args.part.now) c.take-took.result r) becomes c.take-took.ensures);
       becomes = changed k.limit k.p (map_of k.fillings k.places.items)
           (map_of t c.renew.new.places.items) c.args.self.now
           (λ m. map.insert m name (record { parts = g.parts; last = last_after c.take-took.result c.index-place.result.now.last c.args.now })) c.self.view_is

@@ -1,16 +1,16 @@
 use Rattle.std.proofs.Common.{◌∙◌, ◌++◌, [], None, Some, Ok, ap, subst, inl, inr, arith, append-nil}
 use Rattle.std.proofs.lemmas.Grind.{common_steps}
 use Rattle.std.proofs.KnownBytes.{Keeps-trans}
-use Rattle.lpt_text.specs.Lines.{held, line_end, Fills}
+use Rattle.lpt_text.specs.Lines.{octets_held, line_end, Fills}
 use Rattle.lpt_text.proofs.LineLemmas.{line_end-from, line_end-none, line_end-rest, line_end-kept, adds-more, fill-fault}
 use Rattle.lpt_text.proofs.lines.LineBuffer.find_line.Goals as goal
 
 -- a line end is held
 pub returns-in-Some-clause-finds : goal.returns-in-Some-clause-finds
 returns-in-Some-clause-finds g c =
-    let text = held c.loop-place.self in
-    let here = line_end-rest c.held.result.now text c.loop-place.searched
-    (Some c.in-Some.place) c.held.ensures c.in-Some.ensures.at in (
+    let text = octets_held c.loop-place.self in
+    let here = line_end-rest c.octets_held.result.now text c.loop-place.searched
+    (Some c.in-Some.place) c.octets_held.ensures c.in-Some.ensures.at in (
       c.loop-place.invariant.added.0,
       c.loop-place.invariant.added.1,
       line_end-from text c.loop-place.searched c.in-Some.place c.loop-place.invariant.within
@@ -23,9 +23,9 @@ returns-in-Some-clause-finds g c =
 pub returns-then-searched-gt-LONGEST_LINE-clause-finds :
     goal.returns-then-searched-gt-LONGEST_LINE-clause-finds
 returns-then-searched-gt-LONGEST_LINE-clause-finds g c =
-    let text = held c.loop-place.self in
+    let text = octets_held c.loop-place.self in
     let here =
-    line_end-rest c.held.result.now text c.loop-place.searched None c.held.ensures
+    line_end-rest c.octets_held.result.now text c.loop-place.searched None c.octets_held.ensures
     c.in-None.ensures.at in (
       c.loop-place.invariant.added.0,
       c.loop-place.invariant.added.1,
@@ -37,9 +37,9 @@ returns-then-searched-gt-LONGEST_LINE-clause-finds g c =
 -- the text is at its end
 pub returns-then-not-more-clause-finds : goal.returns-then-not-more-clause-finds
 returns-then-not-more-clause-finds g c =
-    let text = held c.loop-place.self in
+    let text = octets_held c.loop-place.self in
     let here =
-    line_end-rest c.held.result.now text c.loop-place.searched None c.held.ensures
+    line_end-rest c.octets_held.result.now text c.loop-place.searched None c.octets_held.ensures
     c.in-None.ensures.at in
     let a = g.S.Source.remaining c.args.source.now in
     let b = g.S.Source.remaining c.loop-place.source in
@@ -61,9 +61,9 @@ returns-then-not-more-clause-finds g c =
 -- more was read
 pub loop-place-preserved : goal.loop-place-preserved
 loop-place-preserved g c =
-    let text = held c.loop-place.self in
+    let text = octets_held c.loop-place.self in
     let here =
-    line_end-rest c.held.result.now text c.loop-place.searched None c.held.ensures
+    line_end-rest c.octets_held.result.now text c.loop-place.searched None c.octets_held.ensures
     c.in-None.ensures.at in
     let a = g.S.Source.remaining c.args.source.now in
     let b = g.S.Source.remaining c.loop-place.source in
@@ -73,8 +73,8 @@ loop-place-preserved g c =
     subst (λ more. Fills (Ok more) c.loop-place.self c.fill.new.self b d
     (g.S.Source.failed c.loop-place.source)
     (g.S.Source.failed c.fill.new.source)) c.if-not-more.false c.in-Ok.ensures in
-    let kept = line_end-kept c.held-searched.result.now text more.0
-    (held c.fill.new.self) c.held-searched.ensures more.1.behind
+    let kept = line_end-kept c.octets_held-searched.result.now text more.0
+    (octets_held c.fill.new.self) c.octets_held-searched.ensures more.1.behind
     (line_end-none text c.loop-place.searched c.loop-place.invariant.none here) in
     record {
       added = (
@@ -95,9 +95,9 @@ loop-place-preserved g c =
 -- a read failed, or was cut
 pub returns-in-Err-clause-finds : goal.returns-in-Err-clause-finds
 returns-in-Err-clause-finds g c =
-    let text = held c.loop-place.self in
+    let text = octets_held c.loop-place.self in
     let here =
-    line_end-rest c.held.result.now text c.loop-place.searched None c.held.ensures
+    line_end-rest c.octets_held.result.now text c.loop-place.searched None c.octets_held.ensures
     c.in-None.ensures.at in
     fill-fault c.in-Err.fault c.args.self.now c.loop-place.self c.fill.new.self
     (g.S.Source.remaining c.args.source.now) (g.S.Source.remaining c.loop-place.source)

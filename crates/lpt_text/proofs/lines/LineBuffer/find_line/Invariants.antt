@@ -1,6 +1,6 @@
 use Rattle.std.proofs.Common.{◌≡◌, ◌≤◌, ◌⊎◌, ℕ, List, [], None, length, take}
 use Rattle.std.specs.Io.KnownBytes.{Keeps}
-use Rattle.lpt_text.specs.Lines.{held, room_of, line_end, Adds}
+use Rattle.lpt_text.specs.Lines.{octets_held, room_of, line_end, Adds}
 use Rattle.lpt_text.proofs.lines.LineBuffer.find_line.Given as goal
 
 -- what was searched has no line end
@@ -12,8 +12,8 @@ invariant-loop-place g l = record {
   same : Keeps (g.K.Sink.contents l.fn.out) (g.K.Sink.contents l.out);
   passed : (l.source ≡ l.fn.source) ⊎ (g.K.Sink.flushed l.out ≡ g.K.Sink.contents l.out);
   written : g.K.Sink.failed l.out ≡ g.K.Sink.failed l.fn.out;
-  within : l.searched ≤ length (held l.self);
-  none : line_end (take l.searched (held l.self)) ≡ None;
+  within : l.searched ≤ length (octets_held l.self);
+  none : line_end (take l.searched (octets_held l.self)) ≡ None;
 }
 
 -- each read takes some of the room

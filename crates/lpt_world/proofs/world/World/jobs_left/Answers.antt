@@ -1,6 +1,6 @@
 -- As many jobs wait as the journal says.
 use Rattle.std.proofs.Common.{◌∙◌, ap, ◌-◌, length}
-use Rattle.lpt_journal.specs.Jobs.{jobs, claimed}
+use Rattle.lpt_journal.specs.Jobs.{jobs, jobs_claimed}
 use Rattle.lpt_system.specs.SystemInside.{state_of}
 use Rattle.lpt_world.specs.Worlds.{Shown, history, history_of}
 use Rattle.lpt_world.proofs.WaitingLemmas.{waiting_shown}
@@ -15,4 +15,5 @@ returns c =
     c.waiting.ensures
     ∙ waiting_shown e.config first (state_of e) (history_of e.config first j)
     c.self.invariant.shows (jobs_fit e.config first j c.self.invariant.told)
-    ∙ ap (λ (w : Shown). length (jobs w.config (history w)) - claimed (history w)) c.self.view_is
+    ∙ ap (λ (w : Shown). length (jobs w.config (history w)) - jobs_claimed (history w))
+    c.self.view_is

@@ -2,7 +2,7 @@
 use Rattle.std.proofs.Common.{◌≡◌, ◌∙◌, ap, sym, Some}
 use Rattle.std.specs.Option.{option_map}
 use Rattle.lpt_events.specs.declared.event.Event.TheVariants.{Claim}
-use Rattle.lpt_jobs.specs.Jobs.{unclaimed}
+use Rattle.lpt_jobs.specs.Jobs.{oldest_unclaimed}
 use Rattle.lpt_model.specs.Tickets.{ticket_of}
 use Rattle.lpt_system.specs.SystemInside.{state_of}
 use Rattle.lpt_journal.specs.Jobs.{job_given}
@@ -16,7 +16,7 @@ pub unreachable-requires : goal.unreachable-requires
 unreachable-requires c =
     let e = c.self.inside.system in
     let event = Claim c.args.worker in
-    not_none (unclaimed e.on_craft.at.jobs)
+    not_none (oldest_unclaimed e.on_craft.at.jobs)
     (one_waits e.on_craft.at (ticket_of (state_of e).tickets c.args.worker)
     (free_shown e c.self.inside.first c.self.inside.journal.items c.args.seat event c.self.invariant
     (sym (ap (λ (w : Shown). refusal_at w c.args.seat event) c.self.view_is ∙ c.requires))))
