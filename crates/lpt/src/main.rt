@@ -95,32 +95,41 @@ fn do_command<T: Threads + Wait + Clock + Copy + Drop + Send + Sync + 'static>(
         Command::Run(script) => run(rt, threads, settings, RunKind::Run, script),
         Command::Threads(script) => run(rt, threads, settings, RunKind::Threads, script),
         Command::Shell => answer(rt, terminals.input, settings),
-        Command::Chart(words) if words.stream => glance(
-            rt,
-            voice,
-            &config_of(rt, settings)?,
-            words,
-        ),
-        Command::Chart(words) => chart(rt, settings, words),
+        Command::Chart(words) if !words.stream => chart(rt, settings, words),
         Command::Lint(script) => lint(rt, script),
-        Command::Decode(words) => decode(rt, config_of(rt, settings)?, words),
-        Command::List(words) => {
-            let screen = screen_of(rt, terminals);
-            list(rt, voice, screen, &config_of(rt, settings)?, words)
-        }
-        Command::Split(words) => split(rt, &config_of(rt, settings)?, words),
-        Command::SplitEach(words) => split_all(rt, &config_of(rt, settings)?, words),
-        Command::JoinLayout(words) => join_layout(rt, voice, &config_of(rt, settings)?, words),
-        Command::Join(words) => do_join(rt, voice, &config_of(rt, settings)?, words),
         Command::Link(words) => link(rt, voice, words),
-        Command::Extract(words) => extract(rt, voice, &config_of(rt, settings)?, words),
-        Command::Request(words) => request(rt, &config_of(rt, settings)?, words),
         Command::Ground(words) => ground(rt, threads, process, voice, settings, words),
         Command::Pass(words) => pass(rt, threads, process, voice, settings, words),
         Command::Spacecraft(words) => spacecraft(rt, threads, process, settings, words),
         Command::Verify(words) => verify(rt, voice, words),
-        Command::Compare(words) => compare(rt, voice, &config_of(rt, settings)?, words),
         Command::Checksum(words) => checksum(rt, words),
+        command => do_on_packets(rt, terminals, voice, &config_of(rt, settings)?, command),
+    }
+}
+
+// Does a command on packets under their configuration.
+fn do_on_packets<R: Machine + Env>(
+    rt: &R,
+    terminals: Terminals,
+    voice: Voice,
+    config: &Config,
+    command: &Command<'_>,
+) -> Result<Status, Failure>
+    requires { IsConfig config.now }
+{
+    match command {
+        Command::Chart(words) => glance(rt, voice, config, words),
+        Command::Decode(words) => decode(rt, *config, words),
+        Command::List(words) => list(rt, voice, screen_of(rt, terminals), config, words),
+        Command::Split(words) => split(rt, config, words),
+        Command::SplitEach(words) => split_all(rt, config, words),
+        Command::JoinLayout(words) => join_layout(rt, voice, config, words),
+        Command::Join(words) => do_join(rt, voice, config, words),
+        Command::Extract(words) => extract(rt, voice, config, words),
+        Command::Request(words) => request(rt, config, words),
+        Command::Compare(words) => compare(rt, voice, config, words),
+        // The others have none.
+        _ => Ok(Status::Refused),
     }
 }
 

@@ -47,9 +47,10 @@ man/lpt.1 is the manual page.";
 /// The program and its commands, or that one alone whose name is asked for, if there is one. The
 /// only error is out of memory.
 pub(crate) fn program<'a>(alloc: Global, asked: Option<&str>) -> Result<Command<'a>, AllocError> {
-    let mut commands = commands_named(alloc, asked)?;
+    let mut commands = Vec::new(alloc);
+    add_meant(alloc, asked, &mut commands)?;
     if commands.is_empty() {
-        commands = commands_named(alloc, None)?;
+        add_meant(alloc, None, &mut commands)?;
     }
     Command::new(alloc, "lpt")
         .version("0.1.0")
@@ -61,19 +62,21 @@ pub(crate) fn program<'a>(alloc: Global, asked: Option<&str>) -> Result<Command<
         .subcommands(commands)
 }
 
-// The commands of the program of this name, or all.
-fn commands_named<'a>(alloc: Global, name: Option<&str>) -> Result<Vec<Command<'a>>, AllocError> {
-    let mut commands = Vec::new(alloc);
+// Adds the commands of the program of this name, or all.
+fn add_meant<'a>(
+    alloc: Global,
+    asked: Option<&str>,
+    commands: &mut Vec<Command<'a>>,
+) -> Result<(), AllocError> {
     let scripts = [&RUN, &THREADS, &SHELL, &LINT, &CHART];
-    add_commands(alloc, name, &mut commands, &scripts, &[])?;
+    add_commands(alloc, asked, commands, &scripts, &[])?;
     let packets = [&DECODE, &LIST, &SPLIT, &JOIN, &EXTRACT];
-    add_commands(alloc, name, &mut commands, &packets, &[])?;
+    add_commands(alloc, asked, commands, &packets, &[])?;
     let passes = [&SPACECRAFT, &LINK, &VERIFY, &COMPARE, &CHECKSUM];
-    add_commands(alloc, name, &mut commands, &passes, &[])?;
-    add_ground(alloc, name, &mut commands)?;
-    add_pass(alloc, name, &mut commands)?;
-    add_request(alloc, name, &mut commands)?;
-    Ok(commands)
+    add_commands(alloc, asked, commands, &passes, &[])?;
+    add_ground(alloc, asked, commands)?;
+    add_pass(alloc, asked, commands)?;
+    add_request(alloc, asked, commands)
 }
 
 // Adds `ground`.

@@ -1,19 +1,19 @@
 //! What the words of the command line ask for.
 
 use crate::building::program;
-use crate::compare_words::{ChecksumWords, CompareWords, checksum_words, compare_words};
-use crate::extract_words::{ExtractWords, extract_words};
-use crate::file_words::{JoinWords, ListWords, check_order, join_words, list_words};
-use crate::ground_words::{GroundWords, ground_words};
-use crate::layout_words::{DecodeWords, decode_words, layout_in};
-use crate::link_words::{LinkWords, link_words};
-use crate::pass_words::{PassWords, pass_words};
-use crate::request_words::{RequestWords, request_words};
+use crate::compare_words::{ChecksumWords, CompareWords, checksum_command, compare_command};
+use crate::extract_words::{ExtractWords, extract_command};
+use crate::file_words::{JoinWords, ListWords, check_order, join_command, list_command};
+use crate::ground_words::{GroundWords, ground_command};
+use crate::layout_words::{DecodeWords, decode_command, layout_in};
+use crate::link_words::{LinkWords, link_command};
+use crate::pass_words::{PassWords, pass_command};
+use crate::request_words::{RequestWords, request_command};
 use crate::setting_words::{SettingWords, setting_words};
-use crate::spacecraft_words::{SpacecraftWords, spacecraft_words};
-use crate::split_words::{SplitEachWords, SplitOneWords, split_each_words, split_words};
-use crate::tailored_words::{JoinLayoutWords, join_layout_words};
-use crate::verify_words::{VerifyWords, verify_words};
+use crate::spacecraft_words::{SpacecraftWords, spacecraft_command};
+use crate::split_words::{SplitEachWords, SplitOneWords, split_command, split_each_command};
+use crate::tailored_words::{JoinLayoutWords, join_layout_command};
+use crate::verify_words::{VerifyWords, verify_command};
 use crate::word_fault::WordFault;
 use clap::{ArgMatches, Error};
 use std::alloc::{AllocError, Global};
@@ -135,14 +135,15 @@ fn words_meant<'a>(
     alloc: Global,
     matches: &ArgMatches<'a>,
 ) -> Result<CommandLine<'a>, WordFault<'a>> {
-    let (name, inner) = matches.subcommand().ok_or(WordFault::Missing)?;
-    let (words, command) = match inner.subcommand() {
-        None => (inner, command_of(alloc, name, inner)?),
-        Some((below, words)) => (words, Some(command_below(alloc, name, below, words)?)),
+    let Some((name, inner)) = matches.subcommand() else {
+        return Err(WordFault::Missing);
     };
-    let command = command.ok_or(WordFault::Missing)?;
+    let (words, command) = match inner.subcommand() {
+        None => (inner, command_of(alloc, name, inner)),
+        Some((below, words)) => (words, command_below(alloc, name, below, words)),
+    };
     Ok(CommandLine {
-        command,
+        command: command?,
         settings: setting_words(words),
         quiet: words.get_flag("quiet"),
     })
@@ -156,61 +157,72 @@ fn command_below<'a>(
     words: &ArgMatches<'a>,
 ) -> Result<Command<'a>, WordFault<'a>> {
     match above {
-        "ground" => Ok(Command::Ground(ground_words(alloc, name, words)?)),
-        "pass" => Ok(Command::Pass(pass_words(alloc, name, words)?)),
-        _ => Ok(Command::Request(request_words(alloc, name, words)?)),
+        "ground" => ground_command(alloc, name, words),
+        "pass" => pass_command(alloc, name, words),
+        _ => request_command(alloc, name, words),
     }
 }
 
-// What the words of a command of this name ask for, where none that is required is missing.
+// What the words of a command of this name ask for.
 fn command_of<'a>(
     alloc: Global,
     name: &str,
     words: &ArgMatches<'a>,
-) -> Result<Option<Command<'a>>, WordFault<'a>> {
+) -> Result<Command<'a>, WordFault<'a>> {
+    match name {
+        "run" | "threads" | "lint" => script_command(name, words),
+        "shell" => Ok(Command::Shell),
+        "chart" => chart_command(words),
+        "list" => list_command(alloc, words),
+        "join" if words.get_str("layout").is_some() => join_layout_command(alloc, words),
+        "split" if words.get_flag("each") => split_each_command(alloc, words),
+        "split" => split_command(words),
+        "join" => join_command(alloc, words),
+        "link" => link_command(alloc, words),
+        "extract" => extract_command(alloc, words),
+        "verify" => verify_command(alloc, words),
+        "compare" => compare_command(alloc, words),
+        "checksum" => checksum_command(words),
+        "spacecraft" => spacecraft_command(alloc, words),
+        _ => decode_command(words),
+    }
+}
+
+// What the words of a command that takes a script alone ask for.
+//
+// Errors: `Missing`.
+fn script_command<'a>(name: &str, words: &ArgMatches<'a>) -> Result<Command<'a>, WordFault<'a>> {
+    let Some(script) = words.get_str("SCRIPT") else {
+        return Err(WordFault::Missing);
+    };
     Ok(match name {
-        "run" => words.get_str("SCRIPT").map(Command::Run),
-        "threads" => words.get_str("SCRIPT").map(Command::Threads),
-        "shell" => Some(Command::Shell),
-        "lint" => words.get_str("SCRIPT").map(Command::Lint),
-        "chart" => Some(Command::Chart(chart_words(words)?)),
-        "list" => Some(Command::List(list_words(alloc, words)?)),
-        "join" if words.get_str("layout").is_some() => {
-            Some(Command::JoinLayout(join_layout_words(alloc, words)?))
-        }
-        "split" if words.get_flag("each") => {
-            Some(Command::SplitEach(split_each_words(alloc, words)?))
-        }
-        "split" => Some(Command::Split(split_words(words)?)),
-        "join" => Some(Command::Join(join_words(alloc, words)?)),
-        "link" => Some(Command::Link(link_words(alloc, words)?)),
-        "extract" => Some(Command::Extract(extract_words(alloc, words)?)),
-        "verify" => Some(Command::Verify(verify_words(alloc, words)?)),
-        "compare" => Some(Command::Compare(compare_words(alloc, words)?)),
-        "checksum" => Some(Command::Checksum(checksum_words(words)?)),
-        "spacecraft" => Some(Command::Spacecraft(spacecraft_words(alloc, words)?)),
-        _ => Some(Command::Decode(decode_words(words)?)),
+        "run" => Command::Run(script),
+        "threads" => Command::Threads(script),
+        _ => Command::Lint(script),
     })
 }
 
 // What the words of `chart` ask for.
 //
 // Errors: `Missing`, `Beside`, `Wanted`, `Order`.
-fn chart_words<'a>(words: &ArgMatches<'a>) -> Result<ChartWords<'a>, WordFault<'a>> {
+fn chart_command<'a>(words: &ArgMatches<'a>) -> Result<Command<'a>, WordFault<'a>> {
+    let Some(script) = words.get_str("FILE") else {
+        return Err(WordFault::Missing);
+    };
     let chart = ChartWords {
-        script: words.get_str("FILE").ok_or(WordFault::Missing)?,
+        script,
         stream: words.get_flag("stream"),
         from: words.get_one("from"),
         to: words.get_one("to"),
         refused: words.get_flag("refused"),
         layout: layout_in(words),
     };
-    if chart.stream && chart.refused {
-        return Err(WordFault::Beside("--stream", "--refused"));
+    match (chart.stream, chart.refused, chart.layout) {
+        (true, true, _) => Err(WordFault::Beside("--stream", "--refused")),
+        (false, _, Some(_)) => Err(WordFault::Wanted("--stream")),
+        _ => {
+            check_order(chart.from, chart.to)?;
+            Ok(Command::Chart(chart))
+        }
     }
-    if chart.layout.is_some() && !chart.stream {
-        return Err(WordFault::Wanted("--stream"));
-    }
-    check_order(chart.from, chart.to)?;
-    Ok(chart)
 }

@@ -1,8 +1,8 @@
 //! The words of the commands that compare a file with check reports.
 
+use crate::command_line::Command;
 use crate::file_words::{STANDARD, paths_in};
 use crate::layout_words::layout_in;
-use crate::number_words::number_in;
 use crate::request_words::{address_in, length_in};
 use crate::word_fault::WordFault;
 use clap::ArgMatches;
@@ -37,37 +37,42 @@ pub struct ChecksumWords<'a> {
 /// What the words of `compare` ask for.
 ///
 /// Errors: `Missing`, `Address`, `Twice`, `Memory`.
-pub fn compare_words<'a>(
+pub(crate) fn compare_command<'a>(
     alloc: Global,
     matches: &ArgMatches<'a>,
-) -> Result<CompareWords<'a>, WordFault<'a>> {
-    let memory = matches.get_one("MEMORY").ok_or(WordFault::Missing)?;
-    let address = address_in(matches.get_str("ADDRESS").ok_or(WordFault::Missing)?)?;
-    let file = matches.get_str("FILE").ok_or(WordFault::Missing)?;
+) -> Result<Command<'a>, WordFault<'a>> {
+    let (Some(memory), Some(address), Some(file)) = (
+        matches.get_one("MEMORY"),
+        matches.get_str("ADDRESS"),
+        matches.get_str("FILE"),
+    ) else {
+        return Err(WordFault::Missing);
+    };
+    let address = address_in(address)?;
     let reports = paths_in(alloc, matches, "REPORTS")?;
     if file == STANDARD && reports.contains(&STANDARD) {
         return Err(WordFault::Twice);
     }
-    Ok(CompareWords {
+    Ok(Command::Compare(CompareWords {
         memory,
         address,
         file,
         reports,
         layout: layout_in(matches),
-    })
+    }))
 }
 
 /// What the words of `checksum` ask for.
 ///
 /// Errors: `Missing`, `Address`, `Length`.
-pub fn checksum_words<'a>(matches: &ArgMatches<'a>) -> Result<ChecksumWords<'a>, WordFault<'a>> {
-    let from = matches.get_str("from").ok_or(WordFault::Missing)?;
-    Ok(ChecksumWords {
-        file: matches.get_str("FILE").ok_or(WordFault::Missing)?,
-        from: number_in(from).ok_or(WordFault::Address(from))?,
-        len: match matches.get_str("length") {
-            Some(word) => Some(length_in(word)?),
-            None => None,
-        },
-    })
+pub(crate) fn checksum_command<'a>(matches: &ArgMatches<'a>) -> Result<Command<'a>, WordFault<'a>> {
+    let (Some(from), Some(file)) = (matches.get_str("from"), matches.get_str("FILE")) else {
+        return Err(WordFault::Missing);
+    };
+    let from = address_in(from)?;
+    let len = match matches.get_str("length") {
+        Some(word) => Some(length_in(word)?),
+        None => None,
+    };
+    Ok(Command::Checksum(ChecksumWords { file, from, len }))
 }

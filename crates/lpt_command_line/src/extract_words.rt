@@ -1,5 +1,6 @@
 //! The words of the command that extracts the octets of dump reports.
 
+use crate::command_line::Command;
 use crate::file_words::files_in;
 use crate::layout_words::layout_in;
 use crate::number_words::number_in;
@@ -29,19 +30,20 @@ pub struct ExtractWords<'a> {
 /// What the words of `extract` ask for.
 ///
 /// Errors: `Missing`, `Memory`, `Address`.
-pub fn extract_words<'a>(
+pub(crate) fn extract_command<'a>(
     alloc: Global,
     matches: &ArgMatches<'a>,
-) -> Result<ExtractWords<'a>, WordFault<'a>> {
-    Ok(ExtractWords {
-        files: files_in(alloc, matches)?,
+) -> Result<Command<'a>, WordFault<'a>> {
+    let files = files_in(alloc, matches)?;
+    Ok(Command::Extract(ExtractWords {
+        files,
         at: matches.get_one("at"),
         from: from_in(matches)?,
         fill: matches.get_one("fill"),
         whole: matches.get_flag("whole"),
         join: matches.get_flag("join"),
         layout: layout_in(matches),
-    })
+    }))
 }
 
 // The address at which the image begins, where one is given.

@@ -2,6 +2,7 @@
 
 ghost use Rattle.std.specs.Prelude.{◌≤◌, IfSome};
 
+use crate::command_line::Command;
 use crate::layout_words::layout_in;
 use crate::word_fault::WordFault;
 use clap::ArgMatches;
@@ -90,44 +91,54 @@ pub(crate) fn each_in<'a>(
     named: bool,
     first: bool,
 ) -> Result<Option<&'a str>, WordFault<'a>> {
-    let each = matches.get_str("each");
-    if each.is_some() && named {
-        return Err(WordFault::Beside("--each <DIR>", "--id <ID>"));
+    match (matches.get_str("each"), named, first) {
+        (Some(_), true, _) => Err(WordFault::Beside("--each <DIR>", "--id <ID>")),
+        (Some(_), _, true) => Err(WordFault::Beside("--each <DIR>", "--first")),
+        (each, _, _) => Ok(each),
     }
-    if each.is_some() && first {
-        return Err(WordFault::Beside("--each <DIR>", "--first"));
-    }
-    Ok(each)
 }
 
 /// What the words of `join` ask for.
 ///
 /// Errors: `Missing`; `Id` if what should name the message doesn't; `Beside`, `Order`, `Memory`.
-pub fn join_words<'a>(
+pub(crate) fn join_command<'a>(
     alloc: Global,
     matches: &ArgMatches<'a>,
-) -> Result<JoinWords<'a>, WordFault<'a>> {
-    let direction = direction_in(matches).ok_or(WordFault::Missing)?;
-    let name = match matches.get_str("id") {
-        Some(word) => Some(name_in(word).ok_or(WordFault::Id {
-            place: "--id <ID>",
-            word,
-            most: 65_535,
-            source: 65_535,
-        })?),
-        None => None,
+) -> Result<Command<'a>, WordFault<'a>> {
+    let Some(direction) = direction_in(matches) else {
+        return Err(WordFault::Missing);
     };
+    let name = id_in(matches)?;
     let first = matches.get_flag("first");
     let each = each_in(matches, name.is_some(), first)?;
-    Ok(JoinWords {
+    let span = span_in(matches)?;
+    Ok(Command::Join(JoinWords {
         direction,
         name,
         any: matches.get_flag("any"),
         first,
         each,
-        span: span_in(matches)?,
+        span,
         files: files_in(alloc, matches)?,
-    })
+    }))
+}
+
+// What names the message, where that is given.
+//
+// Errors: `Id`.
+fn id_in<'a>(matches: &ArgMatches<'a>) -> Result<Option<GivenName>, WordFault<'a>> {
+    let Some(word) = matches.get_str("id") else {
+        return Ok(None);
+    };
+    match name_in(word) {
+        Some(name) => Ok(Some(name)),
+        None => Err(WordFault::Id {
+            place: "--id <ID>",
+            word,
+            most: 65_535,
+            source: 65_535,
+        }),
+    }
 }
 
 // Which octets are read.
@@ -189,17 +200,18 @@ pub(crate) fn name_in(word: &str) -> Option<GivenName> {
 /// What the words of `list` ask for.
 ///
 /// Errors: `Missing`, `Order`, `Memory`.
-pub fn list_words<'a>(
+pub(crate) fn list_command<'a>(
     alloc: Global,
     matches: &ArgMatches<'a>,
-) -> Result<ListWords<'a>, WordFault<'a>> {
-    Ok(ListWords {
+) -> Result<Command<'a>, WordFault<'a>> {
+    let span = span_in(matches)?;
+    Ok(Command::List(ListWords {
         json: matches.get_flag("json"),
         strict: matches.get_flag("strict"),
         layout: layout_in(matches),
-        span: span_in(matches)?,
+        span,
         files: files_in(alloc, matches)?,
-    })
+    }))
 }
 
 // The sequence count.

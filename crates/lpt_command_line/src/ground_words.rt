@@ -1,5 +1,6 @@
 //! The words of the commands that carry what is asked of a memory to its end.
 
+use crate::command_line::Command;
 use crate::file_words::{STANDARD, count_in};
 use crate::request_words::{address_in, length_in};
 use crate::word_fault::WordFault;
@@ -95,7 +96,18 @@ pub enum Job {
 /// What the words of the command of this name below `ground` ask for.
 ///
 /// Errors: what is wrong with them, and out of memory.
-pub fn ground_words<'a>(
+pub(crate) fn ground_command<'a>(
+    alloc: Global,
+    name: &str,
+    matches: &ArgMatches<'a>,
+) -> Result<Command<'a>, WordFault<'a>> {
+    Ok(Command::Ground(ground_words(alloc, name, matches)?))
+}
+
+/// What these words ask ground for, also in a pass.
+///
+/// Errors: what is wrong with them, and out of memory.
+pub(crate) fn ground_words<'a>(
     alloc: Global,
     name: &str,
     matches: &ArgMatches<'a>,
@@ -106,10 +118,7 @@ pub fn ground_words<'a>(
         "dump" => dumped_areas(alloc, matches)?,
         _ => filed_areas(alloc, matches)?,
     };
-    let large = match name {
-        "load" => large_in(matches)?,
-        _ => None,
-    };
+    let large = large_in(name, matches)?;
     ground_with(name, matches, source, areas, large).ok_or(WordFault::Missing)
 }
 
@@ -121,14 +130,17 @@ fn ground_with<'a>(
     areas: Vec<AreaWords<'a>>,
     large: Option<LargeWords>,
 ) -> Option<GroundWords<'a>> {
+    let (Some(count), Some(wait)) = (count_in(matches), matches.get_one("wait")) else {
+        return None;
+    };
     Some(GroundWords {
         job: job_in(name, matches),
         areas,
         list: matches.get_str("LIST"),
         large,
         source,
-        count: count_in(matches)?,
-        wait: matches.get_one("wait")?,
+        count,
+        wait,
         tries: matches.get_one("tries").unwrap_or(TRIES),
         up: matches.get_str("up"),
         kept: matches.get_str("job"),
@@ -138,28 +150,27 @@ fn ground_with<'a>(
     })
 }
 
-// Under which names what is loaded goes as one large message, if it does: then it is one file's,
-// and no job's file keeps it.
-fn large_in<'a>(matches: &ArgMatches<'a>) -> Result<Option<LargeWords>, WordFault<'a>> {
-    let first = matches.get_one("name");
-    let many = matches.get_one("names");
-    if !matches.get_flag("large") {
-        if first.is_some() || many.is_some() {
-            return Err(WordFault::Wanted("--large"));
-        }
+// Under which names what the command of this name loads goes as one large message, if it does: then
+// it is one file's, and no job's file keeps it.
+fn large_in<'a>(name: &str, matches: &ArgMatches<'a>) -> Result<Option<LargeWords>, WordFault<'a>> {
+    if name != "load" {
         return Ok(None);
     }
-    if matches.get_strs("area").is_some() {
-        return Err(WordFault::Beside("--large", "--area <ADDRESS> <FILE>"));
+    let first = matches.get_one("name");
+    let many = matches.get_one("names");
+    let is_named = first.is_some() || many.is_some();
+    let is_kept = matches.get_str("job").is_some();
+    match (matches.get_flag("large"), matches.get_strs("area")) {
+        (false, _) if is_named => Err(WordFault::Wanted("--large")),
+        (false, _) => Ok(None),
+        (true, Some(_)) => Err(WordFault::Beside("--large", "--area <ADDRESS> <FILE>")),
+        (true, None) if is_kept => Err(WordFault::Beside("--large", "--job <FILE>")),
+        (true, None) => Ok(Some(LargeWords {
+            first: first.unwrap_or(0),
+            many: many.unwrap_or(NAMES),
+            tries: matches.get_one("tries").unwrap_or(u32::MAX),
+        })),
     }
-    if matches.get_str("job").is_some() {
-        return Err(WordFault::Beside("--large", "--job <FILE>"));
-    }
-    Ok(Some(LargeWords {
-        first: first.unwrap_or(0),
-        many: many.unwrap_or(NAMES),
-        tries: matches.get_one("tries").unwrap_or(u32::MAX),
-    }))
 }
 
 // Where the pass has its own source from.
@@ -189,26 +200,35 @@ fn filed_areas<'a>(
     alloc: Global,
     matches: &ArgMatches<'a>,
 ) -> Result<Vec<AreaWords<'a>>, WordFault<'a>> {
-    let mut areas = Vec::new(alloc);
-    let (Some(address), Some(file)) = (matches.get_str("ADDRESS"), matches.get_str("FILE")) else {
+    let (Some(memory), Some(address), Some(file)) = (
+        matches.get_one("MEMORY"),
+        matches.get_str("ADDRESS"),
+        matches.get_str("FILE"),
+    ) else {
         return Err(WordFault::Missing);
     };
-    let memory = matches.get_one("MEMORY").ok_or(WordFault::Missing)?;
-    add_area(&mut areas, filed_area(memory, address, file)?)?;
-    for pair in matches.get_strs("area").unwrap_or(&[]).chunks(2) {
-        let [address, file] = pair else {
-            return Err(WordFault::Missing);
-        };
-        add_area(&mut areas, filed_area(memory, address, file)?)?;
-    }
+    let first = filed_area(memory, address, file)?;
+    let mut areas = Vec::from_slice(alloc, &[first])?;
+    add_filed(&mut areas, memory, matches.get_strs("area").unwrap_or(&[]))?;
     Ok(areas)
 }
 
-fn add_area<'a>(areas: &mut Vec<AreaWords<'a>>, area: AreaWords<'a>) -> Result<(), WordFault<'a>> {
-    match areas.push(area) {
-        Ok(()) => Ok(()),
-        Err(_) => Err(WordFault::Memory),
+// Adds the areas of a memory that words name.
+fn add_filed<'a>(
+    areas: &mut Vec<AreaWords<'a>>,
+    memory: u8,
+    more: &[&'a str],
+) -> Result<(), WordFault<'a>> {
+    for pair in more.chunks(2) {
+        let [address, file] = pair else {
+            return Err(WordFault::Missing);
+        };
+        let area = filed_area(memory, address, file)?;
+        if areas.push(area).is_err() {
+            return Err(WordFault::Memory);
+        }
     }
+    Ok(())
 }
 
 // The area of a file at an address; standard input can't be it, since it is what comes down.
@@ -220,10 +240,9 @@ fn filed_area<'a>(
     if file == STANDARD {
         return Err(WordFault::NoInput);
     }
-    let address = address_in(address)?;
     Ok(AreaWords {
         memory,
-        address,
+        address: address_in(address)?,
         len: 0,
         file,
     })
@@ -234,29 +253,51 @@ fn dumped_areas<'a>(
     alloc: Global,
     matches: &ArgMatches<'a>,
 ) -> Result<Vec<AreaWords<'a>>, WordFault<'a>> {
-    let mut areas = Vec::new(alloc);
-    let (Some(address), Some(len)) = (matches.get_str("ADDRESS"), matches.get_str("LENGTH")) else {
+    let (Some(memory), Some(address), Some(len)) = (
+        matches.get_one("MEMORY"),
+        matches.get_str("ADDRESS"),
+        matches.get_str("LENGTH"),
+    ) else {
         return Err(WordFault::Missing);
     };
     let Some(file) = matches.get_str("to") else {
         return Err(WordFault::Wanted("--to <FILE>"));
     };
-    let memory = matches.get_one("MEMORY").ok_or(WordFault::Missing)?;
-    add_area(&mut areas, dumped_area(memory, address, len, file)?)?;
-    for words in matches.get_strs("area").unwrap_or(&[]).chunks(3) {
+    let first = dumped_area(memory, address, len, file)?;
+    let mut areas = Vec::from_slice(alloc, &[first])?;
+    add_dumped(&mut areas, memory, matches.get_strs("area").unwrap_or(&[]))?;
+    Ok(areas)
+}
+
+// Adds the areas of a memory that words name.
+fn add_dumped<'a>(
+    areas: &mut Vec<AreaWords<'a>>,
+    memory: u8,
+    more: &[&'a str],
+) -> Result<(), WordFault<'a>> {
+    for words in more.chunks(3) {
         let [address, len, file] = words else {
             return Err(WordFault::Missing);
         };
         let area = dumped_area(memory, address, len, file)?;
-        if areas
-            .iter()
-            .any(|known: &AreaWords| known.file == area.file)
-        {
+        if has_file(areas, area.file) {
             return Err(WordFault::SameFile(area.file));
         }
-        add_area(&mut areas, area)?;
+        if areas.push(area).is_err() {
+            return Err(WordFault::Memory);
+        }
     }
-    Ok(areas)
+    Ok(())
+}
+
+// Whether one of these areas becomes this file.
+fn has_file(areas: &[AreaWords<'_>], file: &str) -> bool {
+    for area in areas {
+        if area.file == file {
+            return true;
+        }
+    }
+    false
 }
 
 // The area of so many octets at an address that becomes a file.
@@ -266,10 +307,13 @@ fn dumped_area<'a>(
     len: &'a str,
     file: &'a str,
 ) -> Result<AreaWords<'a>, WordFault<'a>> {
-    Ok(AreaWords {
-        memory,
-        address: address_in(address)?,
-        len: length_in(len)?,
-        file,
-    })
+    match (address_in(address), length_in(len)) {
+        (Ok(address), Ok(len)) => Ok(AreaWords {
+            memory,
+            address,
+            len,
+            file,
+        }),
+        (Err(fault), _) | (Ok(_), Err(fault)) => Err(fault),
+    }
 }

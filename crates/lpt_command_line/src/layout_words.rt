@@ -1,5 +1,6 @@
 //! The word that gives a mission's layouts, and the command that takes it for octets.
 
+use crate::command_line::Command;
 use crate::commands::TEXT;
 use crate::row::NamedRow;
 use crate::word_fault::WordFault;
@@ -40,12 +41,15 @@ pub struct DecodeWords<'a> {
 /// What the words of `decode` ask for.
 ///
 /// Errors: `Missing`.
-pub fn decode_words<'a>(matches: &ArgMatches<'a>) -> Result<DecodeWords<'a>, WordFault<'a>> {
-    Ok(DecodeWords {
-        hex: matches.get_str("HEX").ok_or(WordFault::Missing)?,
+pub(crate) fn decode_command<'a>(matches: &ArgMatches<'a>) -> Result<Command<'a>, WordFault<'a>> {
+    let Some(hex) = matches.get_str("HEX") else {
+        return Err(WordFault::Missing);
+    };
+    Ok(Command::Decode(DecodeWords {
+        hex,
         more: matches.get_flag("more"),
         layout: layout_in(matches),
-    })
+    }))
 }
 
 // The path of the layouts, where one is given.

@@ -4,9 +4,9 @@
 //! the help. The main type is `CommandLine`, and the first call `read_words`, which gives one, or why
 //! nothing is to be done.
 //!
-//! A new command is a row in `src/commands.rt`, which `src/building.rt` adds; a case of `Command` in
-//! `src/command_line.rt`, with a line in `command_of`, which makes that case of the words that were
-//! read; and a line in `done` of `lpt/src/main.rt`, which does the work.
+//! A new command is a row in `src/commands.rt`, which `src/building.rt` adds; a case of `Command`
+//! in `src/command_line.rt`, with a line in `command_of`, and a function which makes that case of
+//! the words that were read; and a line in `do_command` of `lpt/src/main.rt`, which does the work.
 #![tactic(auto)]
 
 mod asking;

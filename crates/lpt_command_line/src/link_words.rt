@@ -1,5 +1,6 @@
 //! The words of the command that carries packets over a link that loses.
 
+use crate::command_line::Command;
 use crate::word_fault::WordFault;
 use clap::ArgMatches;
 use std::alloc::Global;
@@ -34,32 +35,42 @@ pub struct OddsWords {
 /// What the words of `link` ask for.
 ///
 /// Errors: `Missing`; `Odds` for a word that is no percentage; `Memory`.
-pub fn link_words<'a>(
+pub(crate) fn link_command<'a>(
     alloc: Global,
     matches: &ArgMatches<'a>,
-) -> Result<LinkWords<'a>, WordFault<'a>> {
-    let files = matches.get_strs("FILE").ok_or(WordFault::Missing)?;
-    Ok(LinkWords {
+) -> Result<Command<'a>, WordFault<'a>> {
+    let Some(files) = matches.get_strs("FILE") else {
+        return Err(WordFault::Missing);
+    };
+    Ok(Command::Link(LinkWords {
         files: Vec::from_slice(alloc, files)?,
         odds: odds_words(matches)?,
-    })
+    }))
 }
 
 // What is to become of packets on a link.
 pub(crate) fn odds_words<'a>(matches: &ArgMatches<'a>) -> Result<OddsWords, WordFault<'a>> {
+    let lose = odds_in(matches, "lose")?;
+    let repeat = odds_in(matches, "repeat")?;
+    let damage = odds_in(matches, "damage")?;
+    let (Some(delay), Some(seed)) = (matches.get_one("delay"), matches.get_one("seed")) else {
+        return Err(WordFault::Missing);
+    };
     Ok(OddsWords {
-        lose: odds_in(matches, "lose")?,
-        repeat: odds_in(matches, "repeat")?,
-        damage: odds_in(matches, "damage")?,
-        delay: matches.get_one("delay").ok_or(WordFault::Missing)?,
-        seed: matches.get_one("seed").ok_or(WordFault::Missing)?,
+        lose,
+        repeat,
+        damage,
+        delay,
+        seed,
     })
 }
 
 // The odds that the word of this name says.
 fn odds_in<'a>(matches: &ArgMatches<'a>, name: &str) -> Result<u32, WordFault<'a>> {
-    let word = matches.get_str(name).ok_or(WordFault::Missing)?;
-    millionths(word).ok_or(WordFault::Odds(word))
+    match matches.get_str(name) {
+        None => Err(WordFault::Missing),
+        Some(word) => millionths(word).ok_or(WordFault::Odds(word)),
+    }
 }
 
 // A percentage of 0 to 100 with four digits at most behind the point, in millionths.

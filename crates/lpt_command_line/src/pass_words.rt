@@ -1,5 +1,6 @@
 //! The words of the commands that carry a job to a spacecraft in one process.
 
+use crate::command_line::Command;
 use crate::ground_words::{GroundWords, ground_words};
 use crate::link_words::{OddsWords, odds_words};
 use crate::spacecraft_words::{SpacecraftWords, passed_words};
@@ -21,17 +22,17 @@ pub struct PassWords<'a> {
 /// What the words of the command of this name below `pass` ask for.
 ///
 /// Errors: what is wrong with them, and out of memory.
-pub(crate) fn pass_words<'a>(
+pub(crate) fn pass_command<'a>(
     alloc: Global,
     name: &str,
     matches: &ArgMatches<'a>,
-) -> Result<PassWords<'a>, WordFault<'a>> {
+) -> Result<Command<'a>, WordFault<'a>> {
     let odds = odds_words(matches)?;
     let craft = passed_words(alloc, matches)?;
     let ground = ground_words(alloc, name, matches)?;
-    Ok(PassWords {
+    Ok(Command::Pass(PassWords {
         ground,
         craft,
         odds,
-    })
+    }))
 }

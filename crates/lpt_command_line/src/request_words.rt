@@ -2,6 +2,7 @@
 
 ghost use Rattle.std.specs.Prelude.{◌<◌, ◌≤◌, IfOk};
 
+use crate::command_line::Command;
 use crate::file_words::{STANDARD, count_in};
 use crate::number_words::number_in;
 use crate::word_fault::WordFault;
@@ -43,11 +44,11 @@ pub enum What<'a> {
 /// What the words of the command of this name below `request` ask for.
 ///
 /// Errors: what is wrong with them, and out of memory.
-pub fn request_words<'a>(
+pub(crate) fn request_command<'a>(
     alloc: Global,
     name: &str,
     matches: &ArgMatches<'a>,
-) -> Result<RequestWords<'a>, WordFault<'a>> {
+) -> Result<Command<'a>, WordFault<'a>> {
     let (each, cut) = each_in(name, matches)?;
     let what = match name {
         "load" => What::Load(areas_in(alloc, matches)?),
@@ -86,17 +87,30 @@ fn request_with<'a>(
     what: What<'a>,
     each: u16,
     cut: bool,
-) -> Option<RequestWords<'a>>
+) -> Option<Command<'a>>
     requires { 0 < each }
 {
-    Some(RequestWords {
-        memory: matches.get_one("MEMORY")?,
+    let flags = flags_in(matches);
+    let (Some(memory), Some(count), Some(flags)) = (
+        matches.get_one("MEMORY"),
+        count_in(matches),
+        flags,
+    ) else {
+        return None;
+    };
+    Some(Command::Request(RequestWords {
+        memory,
         what,
         each,
         cut,
-        count: count_in(matches)?,
-        flags: AckFlags::new(matches.get_one("ack")?)?,
-    })
+        count,
+        flags,
+    }))
+}
+
+// The acknowledgement flags.
+fn flags_in(matches: &ArgMatches<'_>) -> Option<AckFlags> {
+    AckFlags::new(matches.get_one("ack")?)
 }
 
 // The addresses and the files of a load.
@@ -104,33 +118,40 @@ fn areas_in<'a>(
     alloc: Global,
     matches: &ArgMatches<'a>,
 ) -> Result<Vec<(u32, &'a str)>, WordFault<'a>> {
-    let mut areas = Vec::new(alloc);
     let (Some(address), Some(file)) = (matches.get_str("ADDRESS"), matches.get_str("FILE")) else {
         return Err(WordFault::Missing);
     };
-    if areas.push((address_in(address)?, file)).is_err() {
-        return Err(WordFault::Memory);
-    }
-    if let Some(more) = matches.get_strs("area") {
-        for pair in more.chunks(2) {
-            let [address, file] = pair else {
-                return Err(WordFault::Missing);
-            };
-            let address = address_in(address)?;
-            if *file == STANDARD && has_input(&areas) {
-                return Err(WordFault::SharedInput);
-            }
-            if areas.push((address, *file)).is_err() {
-                return Err(WordFault::Memory);
-            }
+    let address = address_in(address)?;
+    let mut areas = Vec::from_slice(alloc, &[(address, file)])?;
+    add_areas(&mut areas, matches.get_strs("area").unwrap_or(&[]))?;
+    Ok(areas)
+}
+
+// Adds the areas that words name, of which one alone is loaded from standard input.
+fn add_areas<'a>(areas: &mut Vec<(u32, &'a str)>, more: &[&'a str]) -> Result<(), WordFault<'a>> {
+    for pair in more.chunks(2) {
+        let [address, file] = pair else {
+            return Err(WordFault::Missing);
+        };
+        let address = address_in(address)?;
+        if *file == STANDARD && has_input(areas) {
+            return Err(WordFault::SharedInput);
+        }
+        if areas.push((address, *file)).is_err() {
+            return Err(WordFault::Memory);
         }
     }
-    Ok(areas)
+    Ok(())
 }
 
 // Whether one of these areas is loaded from standard input.
 fn has_input(areas: &[(u32, &str)]) -> bool {
-    areas.iter().any(|(_, file)| *file == STANDARD)
+    for (_, file) in areas {
+        if *file == STANDARD {
+            return true;
+        }
+    }
+    false
 }
 
 // The places of a dump or a check.
@@ -138,22 +159,32 @@ fn places_in<'a>(
     alloc: Global,
     matches: &ArgMatches<'a>,
 ) -> Result<Vec<(u32, u32)>, WordFault<'a>> {
-    let mut places = Vec::new(alloc);
     let Some(words) = matches.get_strs("PLACE") else {
         return Err(WordFault::Missing);
     };
+    let mut places = Vec::new(alloc);
+    add_places(&mut places, words)?;
+    Ok(places)
+}
+
+// Adds the places that words name.
+fn add_places<'a>(places: &mut Vec<(u32, u32)>, words: &[&'a str]) -> Result<(), WordFault<'a>> {
     for pair in words.chunks(2) {
-        if places.push(place_in(pair)?).is_err() {
+        let place = place_in(pair)?;
+        if places.push(place).is_err() {
             return Err(WordFault::Memory);
         }
     }
-    Ok(places)
+    Ok(())
 }
 
 // The place that two words name.
 fn place_in<'a>(pair: &[&'a str]) -> Result<(u32, u32), WordFault<'a>> {
     match pair {
-        [address, len] => Ok((address_in(address)?, length_in(len)?)),
+        [address, len] => match (address_in(address), length_in(len)) {
+            (Ok(address), Ok(len)) => Ok((address, len)),
+            (Err(fault), _) | (Ok(_), Err(fault)) => Err(fault),
+        },
         [address] => Err(WordFault::NoLength(address)),
         _ => Err(WordFault::Missing),
     }

@@ -1,5 +1,6 @@
 //! The words of the spacecraft's end.
 
+use crate::command_line::Command;
 use crate::word_fault::WordFault;
 use clap::ArgMatches;
 use std::alloc::Global;
@@ -28,16 +29,16 @@ pub struct SpacecraftWords<'a> {
 /// What the words of `spacecraft` ask for.
 ///
 /// Errors: `Beside`, `Memory`, and what is wrong with a memory's word.
-pub fn spacecraft_words<'a>(
+pub(crate) fn spacecraft_command<'a>(
     alloc: Global,
     matches: &ArgMatches<'a>,
-) -> Result<SpacecraftWords<'a>, WordFault<'a>> {
+) -> Result<Command<'a>, WordFault<'a>> {
     let every: Option<u64> = matches.get_one("tick-every");
     let tick: Option<u32> = matches.get_one("tick");
     if every.is_some() && tick.is_some() {
         return Err(WordFault::Beside("--tick <MS>", "--tick-every <N>"));
     }
-    Ok(SpacecraftWords {
+    Ok(Command::Spacecraft(SpacecraftWords {
         memories: memories_in(alloc, matches)?,
         save: matches.get_flag("save"),
         tick_every: every.unwrap_or(0),
@@ -46,7 +47,7 @@ pub fn spacecraft_words<'a>(
         resync: matches.get_flag("resync"),
         log: matches.get_flag("log"),
         state: matches.get_str("state"),
-    })
+    }))
 }
 
 /// What the words of a pass ask of its spacecraft: it goes on behind damage, and its clock stands.

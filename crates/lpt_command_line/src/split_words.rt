@@ -2,6 +2,7 @@
 
 ghost use Rattle.std.specs.Prelude.{◌≤◌};
 
+use crate::command_line::Command;
 use crate::file_words::{count_in, direction_in, list_in};
 use crate::layout_words::layout_in;
 use crate::tailored_words::{WideName, wide_name_in};
@@ -83,50 +84,58 @@ impl<'a> GivenPick<'a> {
 /// What the words of `split` ask for, and the list of the parts.
 ///
 /// Errors: `Missing`; `Id` if what should name the message doesn't; `Beside`.
-pub fn split_words<'a>(matches: &ArgMatches<'a>) -> Result<SplitOneWords<'a>, WordFault<'a>> {
-    Ok(SplitOneWords {
-        split: common_words(matches)?,
-        parts: list_in(matches)?,
-    })
+pub(crate) fn split_command<'a>(matches: &ArgMatches<'a>) -> Result<Command<'a>, WordFault<'a>> {
+    let split = common_words(matches)?;
+    let parts = list_in(matches)?;
+    Ok(Command::Split(SplitOneWords { split, parts }))
 }
 
 /// What the words of `split --each` ask for.
 ///
 /// Errors: `Missing`; `Id` if what should name the first message doesn't; `Beside`,
 /// `Pick`, `PickedTwice`, `Memory`.
-pub fn split_each_words<'a>(
+pub(crate) fn split_each_command<'a>(
     alloc: Global,
     matches: &ArgMatches<'a>,
-) -> Result<SplitEachWords<'a>, WordFault<'a>> {
+) -> Result<Command<'a>, WordFault<'a>> {
     if matches.get_flag("pcap") {
         return Err(WordFault::Beside("--each", "--pcap"));
     }
-    let lists = matches.get_strs("parts").ok_or(WordFault::Missing)?;
+    let Some(lists) = matches.get_strs("parts") else {
+        return Err(WordFault::Missing);
+    };
     let split = common_words(matches)?;
     let most = if split.layout.is_some() {
         u32::MAX
     } else {
         MOST
     };
-    Ok(SplitEachWords {
+    Ok(Command::SplitEach(SplitEachWords {
         split,
         picks: picks_in(alloc, lists, most)?,
-    })
+    }))
 }
 
 // What both ask for.
 fn common_words<'a>(matches: &ArgMatches<'a>) -> Result<SplitWords<'a>, WordFault<'a>> {
-    let name = matches.get_str("ID").ok_or(WordFault::Missing)?;
+    let (Some(name), Some(direction), Some(file), Some(first)) = (
+        matches.get_str("ID"),
+        direction_in(matches),
+        matches.get_str("FILE"),
+        count_in(matches),
+    ) else {
+        return Err(WordFault::Missing);
+    };
     let layout = layout_in(matches);
     if layout.is_none() {
         name_within("<ID>", name, MOST, MOST)?;
     }
     Ok(SplitWords {
         layout,
-        direction: direction_in(matches).ok_or(WordFault::Missing)?,
+        direction,
         name,
-        file: matches.get_str("FILE").ok_or(WordFault::Missing)?,
-        first: count_in(matches).ok_or(WordFault::Missing)?,
+        file,
+        first,
         whole: matches.get_flag("whole"),
         pcap: matches.get_flag("pcap"),
     })

@@ -1,5 +1,6 @@
 //! The words of the command that joins a message from packets of a mission's layout.
 
+use crate::command_line::Command;
 use crate::file_words::{Span, direction_in, each_in, files_in, span_in};
 use crate::layout_words::layout_in;
 use crate::word_fault::WordFault;
@@ -42,23 +43,27 @@ pub struct JoinLayoutWords<'a> {
 /// What the words of `join --layout` ask for.
 ///
 /// Errors: `Missing`, `Beside`, `Order`, `Memory`.
-pub fn join_layout_words<'a>(
+pub(crate) fn join_layout_command<'a>(
     alloc: Global,
     matches: &ArgMatches<'a>,
-) -> Result<JoinLayoutWords<'a>, WordFault<'a>> {
+) -> Result<Command<'a>, WordFault<'a>> {
+    let (Some(layout), Some(direction)) = (layout_in(matches), direction_in(matches)) else {
+        return Err(WordFault::Missing);
+    };
     let name = matches.get_str("id");
     let first = matches.get_flag("first");
     let each = each_in(matches, name.is_some(), first)?;
-    Ok(JoinLayoutWords {
-        layout: layout_in(matches).ok_or(WordFault::Missing)?,
-        direction: direction_in(matches).ok_or(WordFault::Missing)?,
+    let span = span_in(matches)?;
+    Ok(Command::JoinLayout(JoinLayoutWords {
+        layout,
+        direction,
         name,
         any: matches.get_flag("any"),
         first,
         each,
-        span: span_in(matches)?,
+        span,
         files: files_in(alloc, matches)?,
-    })
+    }))
 }
 
 // What a word names, as `ID` or as `SOURCE/ID`.

@@ -1,5 +1,6 @@
 //! The words of the command that matches requests with reports.
 
+use crate::command_line::Command;
 use crate::file_words::{STANDARD, paths_in};
 use crate::layout_words::layout_in;
 use crate::word_fault::WordFault;
@@ -24,27 +25,42 @@ pub struct VerifyWords<'a> {
 /// What the words of `verify` ask for.
 ///
 /// Errors: `Missing`, `Beside`, `Twice`, `Memory`.
-pub fn verify_words<'a>(
+pub(crate) fn verify_command<'a>(
     alloc: Global,
     matches: &ArgMatches<'a>,
-) -> Result<VerifyWords<'a>, WordFault<'a>> {
-    let requests = matches.get_str("REQUESTS").ok_or(WordFault::Missing)?;
+) -> Result<Command<'a>, WordFault<'a>> {
+    let Some(requests) = matches.get_str("REQUESTS") else {
+        return Err(WordFault::Missing);
+    };
     let reports = paths_in(alloc, matches, "REPORTS")?;
     let (json, open) = (matches.get_flag("json"), matches.get_flag("open"));
-    if requests == STANDARD && open {
-        return Err(WordFault::Beside(STANDARD, "--open"));
+    if let Some(fault) = verify_fault(requests, &reports, json, open) {
+        return Err(fault);
     }
-    if requests == STANDARD && reports.contains(&STANDARD) {
-        return Err(WordFault::Twice);
-    }
-    if json && open {
-        return Err(WordFault::Beside("--json", "--open"));
-    }
-    Ok(VerifyWords {
+    Ok(Command::Verify(VerifyWords {
         requests,
         reports,
         json,
         open,
         layout: layout_in(matches),
-    })
+    }))
+}
+
+// What is wrong with these words beside each other, if anything is.
+fn verify_fault(
+    requests: &str,
+    reports: &[&str],
+    json: bool,
+    open: bool,
+) -> Option<WordFault<'static>> {
+    let is_input = requests == STANDARD;
+    if is_input && open {
+        Some(WordFault::Beside(STANDARD, "--open"))
+    } else if is_input && reports.contains(&STANDARD) {
+        Some(WordFault::Twice)
+    } else if json && open {
+        Some(WordFault::Beside("--json", "--open"))
+    } else {
+        None
+    }
 }

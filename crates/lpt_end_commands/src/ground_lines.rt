@@ -24,6 +24,8 @@ pub enum Became {
     Failed(u16),
     /// Somewhere among them the memory has others.
     Unlike,
+    /// From the first of them on the memory has others, of which some may be alike.
+    UnlikeFrom,
 }
 
 /// What became of these octets. The only error is out of memory.
@@ -38,41 +40,72 @@ pub fn became_line(
         address,
         octets,
     } = stretch;
-    let mut line = front_of(alloc, json, became)?;
     if json {
-        line.write(format_args!(
-            "\"memory\":{memory},\"address\":{address},\"octets\":{octets}}}"
-        ))?;
-        return Ok(line);
+        return became_object(alloc, became, stretch);
     }
-    let within = match became {
-        Became::Unlike => "within ",
-        _ => "",
-    };
     let word = octets_word(octets as usize);
-    line.write(format_args!("memory {memory} from {address} on, {within}{octets} {word}"))?;
-    Ok(line)
-}
-
-// The front of such a line.
-fn front_of(alloc: Global, json: bool, became: Became) -> Result<String, AllocError> {
     match became {
-        Became::Failed(code) => failed_front(alloc, json, code),
-        Became::Open if json => format!(in alloc; "{{\"state\":\"open\","),
-        Became::Open => format!(in alloc; "open: "),
-        Became::Unlike if json => format!(in alloc; "{{\"state\":\"differs\","),
-        Became::Unlike => format!(in alloc; "differs: "),
+        Became::Open => {
+            format!(in alloc; "open: memory {memory} from {address} on, {octets} {word}")
+        }
+        Became::Failed(code) => failed_line(alloc, code, stretch),
+        Became::Unlike => unlike_line(alloc, stretch),
+        Became::UnlikeFrom => {
+            format!(in alloc; "differs: memory {memory}, first at address {address}")
+        }
     }
 }
 
-// The front of one of requests that failed with this code.
-fn failed_front(alloc: Global, json: bool, code: u16) -> Result<String, AllocError> {
+// The same as an object of JSON.
+fn became_object(alloc: Global, became: Became, stretch: Stretch) -> Result<String, AllocError> {
+    let Stretch {
+        memory,
+        address,
+        octets,
+    } = stretch;
+    let state = match became {
+        Became::Failed(code) => return failed_object(alloc, code, stretch),
+        Became::Open => "open",
+        Became::Unlike | Became::UnlikeFrom => "differs",
+    };
+    format!(in alloc;
+        "{{\"state\":\"{state}\",\"memory\":{memory},\"address\":{address},\"octets\":{octets}}}"
+    )
+}
+
+// That requests of these octets failed with this code.
+fn failed_line(alloc: Global, code: u16, stretch: Stretch) -> Result<String, AllocError> {
+    let Stretch {
+        memory,
+        address,
+        octets,
+    } = stretch;
+    let (why, word) = (sentence(code), octets_word(octets as usize));
+    format!(in alloc; "failed {code} {why}: memory {memory} from {address} on, {octets} {word}")
+}
+
+// The same as an object of JSON.
+fn failed_object(alloc: Global, code: u16, stretch: Stretch) -> Result<String, AllocError> {
+    let Stretch {
+        memory,
+        address,
+        octets,
+    } = stretch;
     let why = sentence(code);
-    if json {
-        format!(in alloc; "{{\"state\":\"failed\",\"code\":{code},\"reason\":\"{why}\",")
-    } else {
-        format!(in alloc; "failed {code} {why}: ")
+    format!(in alloc;
+        "{{\"state\":\"failed\",\"code\":{code},\"reason\":\"{why}\",\"memory\":{memory},\
+         \"address\":{address},\"octets\":{octets}}}"
+    )
+}
+
+// That a memory has others somewhere among these octets.
+fn unlike_line(alloc: Global, stretch: Stretch) -> Result<String, AllocError> {
+    let (memory, address) = (stretch.memory, stretch.address);
+    if stretch.octets <= 1 {
+        return format!(in alloc; "differs: memory {memory}, address {address}");
     }
+    let last = address.saturating_add(stretch.octets.saturating_sub(1));
+    format!(in alloc; "differs: memory {memory}, somewhere in addresses {address}-{last}")
 }
 
 // What a failure code says.
@@ -102,10 +135,10 @@ pub fn done_line(
 ) -> Result<String, AllocError> {
     let (put, rounds, came) = (counts.up, counts.rounds, counts.down);
     if json {
-        let mut line = format!(in alloc; "{{\"end\":\"{noun}\",\"completed\":{done},")?;
-        line.write(format_args!("\"requests\":{many},"))?;
-        line.write(format_args!("\"packets\":{put},\"rounds\":{rounds},\"came\":{came}}}"))?;
-        return Ok(line);
+        return format!(in alloc;
+            "{{\"end\":\"{noun}\",\"completed\":{done},\"requests\":{many},\"packets\":{put},\
+             \"rounds\":{rounds},\"came\":{came}}}"
+        );
     }
     let s = if many == 1 { "" } else { "s" };
     let packets = if put == 1 { "packet" } else { "packets" };

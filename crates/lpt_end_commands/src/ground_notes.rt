@@ -192,11 +192,13 @@ fn line_of(alloc: Global, title: &str, pass: &Pass) -> Result<String, AllocError
 // That the file at this path isn't this job's.
 fn foreign(rt: &impl AllocGlobal, path: &str, octets: &[u8]) -> Failure {
     let line = octets.split(|octet| *octet == b'\n').next().unwrap_or(&[]);
-    let place = match std::str::from_utf8(line) {
-        Ok(line) if line.starts_with(FRONT) => {
-            format!(in rt.alloc(); "{path}: it is the file of another job: {line}")
-        }
-        _ => format!(in rt.alloc(); "{path}: it is no file of a job"),
+    let line = std::str::from_utf8(line).unwrap_or("");
+    let place = match line.strip_prefix(FRONT) {
+        Some(title) => format!(in rt.alloc();
+            "{path}: it is the file of a job with other requests (address, octets, --source, \
+             --count, --ack, APID or part size): {title}"
+        ),
+        None => format!(in rt.alloc(); "{path}: it is no file of a job"),
     };
     Failure::at(Fault::Read, place)
 }

@@ -172,7 +172,7 @@ impl Teller {
             return content.len() == octets.len();
         };
         let behind = content.len().saturating_sub(first);
-        self.tell_became(rt, Became::Unlike, behind_of(places, first, behind));
+        self.tell_became(rt, Became::UnlikeFrom, behind_of(places, first, behind));
         false
     }
 }

@@ -172,8 +172,8 @@ fn stands(places: &Places, asked: &[Asked], content: &[u8], held: &[u8]) -> bool
 fn memory_lost(rt: &impl AllocGlobal, path: &str, places: &Places) -> Failure {
     let (memory, address) = (places.memory, places.address);
     let place = format!(in rt.alloc();
-        "{path}: memory {memory} doesn't have what was loaded from {address} on: give the \
-         spacecraft that this job was flown with, or begin another job"
+        "{path}: memory {memory} doesn't have what was loaded from {address} on: give the state \
+         or the memories that this job was run with, or begin another job"
     );
     Failure::at(Fault::Read, place)
 }

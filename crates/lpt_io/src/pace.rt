@@ -5,6 +5,9 @@ ghost use Rattle.lpt_io.specs.Paces.{percent, rest_at, seconds_left};
 
 use std::alloc::{AllocError, Global};
 
+/// Clears what stands on the terminal's line, from the cursor on.
+pub(crate) const CLEAR: &str = "\x1b[K";
+
 /// In the first so many milliseconds it isn't said how long a reading still takes.
 const QUIET_MILLIS: u64 = 2_000;
 
@@ -40,26 +43,40 @@ fn seconds_of(done: u64, whole: u64, millis: u64) -> Option<u128>
     seconds_at(rate, whole.saturating_sub(done))
 }
 
-/// What is told of a reading of which so many octets came in so many milliseconds, of so many if
-/// that is known. The only error is out of memory.
-pub(crate) fn pace_text(
+/// The line that tells of a reading of which so many octets came in so many milliseconds, of so many
+/// if that is known. It clears what stands behind it, and leaves the cursor at the line's front. The
+/// only error is out of memory.
+pub(crate) fn pace_line(
     alloc: Global,
     done: u64,
     whole: Option<u64>,
     millis: u64,
 ) -> Result<String, AllocError> {
     let Some(whole) = whole else {
-        return format!(in alloc; "{done} octets");
+        return format!(in alloc; "lpt: {done} octets{CLEAR}\r");
     };
     let percent = percent_of(done, whole);
-    let mut text = format!(in alloc; "{done} of {whole} octets, {percent}%")?;
-    if let Some(seconds) = seconds_of(done, whole, millis) {
-        let (minutes, rest) = (seconds / 60, seconds % 60);
-        if minutes == 0 {
-            text.write(format_args!(", {rest} s left"))?;
-        } else {
-            text.write(format_args!(", {minutes}:{rest:02} min left"))?;
-        }
+    match seconds_of(done, whole, millis) {
+        None => format!(in alloc; "lpt: {done} of {whole} octets, {percent}%{CLEAR}\r"),
+        Some(seconds) => timed_line(alloc, done, whole, percent, seconds),
     }
-    Ok(text)
+}
+
+// The same of a reading that takes so many seconds more. The only error is out of memory.
+fn timed_line(
+    alloc: Global,
+    done: u64,
+    whole: u64,
+    percent: u128,
+    seconds: u128,
+) -> Result<String, AllocError> {
+    let (minutes, rest) = (seconds / 60, seconds % 60);
+    if minutes == 0 {
+        return format!(in alloc;
+            "lpt: {done} of {whole} octets, {percent}%, {rest} s left{CLEAR}\r"
+        );
+    }
+    format!(in alloc;
+        "lpt: {done} of {whole} octets, {percent}%, {minutes}:{rest:02} min left{CLEAR}\r"
+    )
 }

@@ -4,13 +4,10 @@ ghost use Rattle.std.specs.Prelude.{◌≡◌, ◌&&◌, not};
 ghost use Rattle.lpt_io.specs.Voices.{is_apart, is_paced, tells_of};
 
 use crate::machine::Terminals;
-use crate::pace::pace_text;
+use crate::pace::{CLEAR, pace_line};
 use std::io::{self, Read};
 use std::rt::Clock;
 use std::time::{Duration, Instant};
-
-/// Clears what stands on the terminal's line, from the cursor on.
-const CLEAR: &str = "\x1b[K";
 
 /// What standard error is told beside what is wrong.
 #[derive(Clone, Copy)]
@@ -133,11 +130,7 @@ impl<R: Clock + Eprint + AllocGlobal> Pace<R> {
     fn tell(&self, taken: Duration) {
         let whole = self.of.filter(|of| self.done <= *of);
         let millis = u64::try_from(taken.as_millis()).unwrap_or(u64::MAX);
-        let alloc = self.rt.alloc();
-        let Ok(text) = pace_text(alloc, self.done, whole, millis) else {
-            return;
-        };
-        if let Ok(line) = format!(in alloc; "lpt: {text}{CLEAR}\r") {
+        if let Ok(line) = pace_line(self.rt.alloc(), self.done, whole, millis) {
             let _ = self.rt.eprint(line.as_str());
         }
     }

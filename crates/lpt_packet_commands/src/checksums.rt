@@ -1,7 +1,9 @@
 //! The checksum that a check report has of a file's octets.
 
 use lpt_command_line::ChecksumWords;
-use lpt_io::{Failure, Fault, Machine, Status, file_at, finish, output, tell_place};
+use lpt_io::{
+    Failure, Fault, Machine, STANDARD, Status, file_at, finish, octets_word, output, tell_text,
+};
 use lpt_packet::crc16;
 use lpt_text::write_out;
 
@@ -22,14 +24,7 @@ fn write_checksum(
     octets: &[u8],
 ) -> Result<Status, Failure> {
     let Some(named) = named_in(words, octets) else {
-        let size = octets.len();
-        let text = match size {
-            1 => format!(in rt.alloc(); "it has only 1 octet"),
-            _ => format!(in rt.alloc(); "it has only {size} octets"),
-        };
-        if let Ok(text) = text {
-            tell_place(rt, text.as_str());
-        }
+        tell_short(rt, words.file, octets.len());
         return Ok(Status::Refused);
     };
     let checksum = crc16(named);
@@ -41,6 +36,18 @@ fn write_checksum(
     finish(rt, out)?;
     put?;
     Ok(Status::Done)
+}
+
+// Tells that what is read at this path has only so many octets.
+fn tell_short(rt: &(impl Eprint + AllocGlobal), path: &str, size: usize) {
+    let name = if path == STANDARD {
+        "standard input"
+    } else {
+        "the file"
+    };
+    let octets = octets_word(size);
+    let text = format!(in rt.alloc(); "{name} has only {size} {octets}");
+    tell_text(rt, text);
 }
 
 // The octets that the words name, where they are there.

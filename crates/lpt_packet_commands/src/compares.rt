@@ -9,7 +9,7 @@ use lpt_compare::{Checked, Checks, Image, read_checks};
 use lpt_events::Config;
 use lpt_io::{
     Failure, Machine, Output, Status, Voice, file_at, finish, name_of, opened_packets, output,
-    packets_end, tell_no_packets, tell_place,
+    packets_end, tell_no_packets, tell_text,
 };
 use lpt_text::{StreamFault, write_out};
 use std::alloc::{AllocError, Global};
@@ -89,9 +89,7 @@ fn tell_checks(
     tell_passed(rt, unread, parts);
     let open = image.first_open(areas);
     if let Some(text) = lacking(rt.alloc(), words, octets, open) {
-        if let Ok(text) = text {
-            tell_place(rt, text.as_str());
-        }
+        tell_text(rt, text);
     }
     let sound = damaged == 0 && stray == 0 && unread == 0 && parts == 0;
     Ok(if agree && sound && open.is_none() && !octets.is_empty() {
@@ -105,18 +103,15 @@ fn tell_checks(
 fn tell_passed(rt: &(impl Eprint + AllocGlobal), unread: u64, parts: u64) {
     if unread != 0 {
         let reports = if unread == 1 { "report" } else { "reports" };
-        if let Ok(text) = format!(in rt.alloc(); "{unread} check {reports} can't be read") {
-            tell_place(rt, text.as_str());
-        }
+        let text = format!(in rt.alloc(); "{unread} check {reports} can't be read");
+        tell_text(rt, text);
     }
     if parts != 0 {
         let word = if parts == 1 { "part" } else { "parts" };
         let text = format!(in rt.alloc();
             "{parts} {word} of messages: lpt join down --each DIR joins what may be check reports"
         );
-        if let Ok(text) = text {
-            tell_place(rt, text.as_str());
-        }
+        tell_text(rt, text);
     }
 }
 

@@ -8,7 +8,7 @@ use lpt_command_line::DecodeWords;
 use lpt_events::{Config, part_kind};
 use lpt_io::{
     Failure, Fault, Incoming, Machine, STANDARD, Status, finish, layouts_at, open_input, output,
-    read_failure, status_of, tell_place,
+    read_failure, status_of, tell_text,
 };
 use lpt_list::{Form, decode_layouts, hint_of, is_read, print_refused};
 use lpt_packet::{Direction, Octets, Packet, PacketFault, PacketKind, Seen, read_packet};
@@ -237,9 +237,7 @@ fn octets_in(
 // Says on standard error that a text isn't octets, and where.
 fn refuse_hex(rt: &impl Eprint, place: Result<String, AllocError>) {
     let _ = rt.eprintln("hex refused");
-    if let Ok(place) = place {
-        tell_place(rt, place.as_str());
-    }
+    tell_text(rt, place);
 }
 
 // Says on standard error where octets carry a part that isn't read for parts of `p` octets, but
@@ -264,9 +262,7 @@ fn tell_size(rt: &(impl Eprint + AllocGlobal), octets: &[u8], p: u32)
         let text = format!(in rt.alloc();
             "the part isn't read: its {len} octets don't fit part_size = {p}, but part_size = {own}"
         );
-        if let Ok(text) = text {
-            tell_place(rt, text.as_str());
-        }
+        tell_text(rt, text);
     }
 }
 

@@ -4,7 +4,7 @@ ghost use Rattle.lpt_carried.specs.Layouts.{SizesFit};
 
 use lpt_carried::Layouts;
 use lpt_events::part_kind;
-use lpt_io::{Failure, layouts_at, tell_place};
+use lpt_io::{Failure, layouts_at, tell_text};
 use lpt_list::{Hint, Told, told_in};
 use lpt_packet::Direction;
 use lpt_part::Kind;
@@ -45,12 +45,7 @@ pub fn tell_front(rt: &(impl Eprint + AllocGlobal), layouts: &Layouts, octets: &
 /// The same by this project's profile.
 pub fn tell_own_front(rt: &(impl Eprint + AllocGlobal), octets: &[u8]) {
     let hint = fit_hint(told_in(&Layouts::own(), octets));
-    tell_other(
-        rt,
-        "the profile",
-        " for its table in a file for --layout",
-        hint,
-    );
+    tell_other(rt, "the profile", " in a file for --layout", hint);
 }
 
 /// The kind of part whose message type stands in a packet of the profile, and how long the
@@ -76,21 +71,28 @@ fn fit_hint(told: Told) -> Option<Hint> {
     }
 }
 
-// Says that a part isn't read by a layout, but would be by another, and where that stands.
-fn tell_other(rt: &(impl Eprint + AllocGlobal), layout: &str, place: &str, hint: Option<Hint>) {
-    let text = match hint {
-        Some(Hint::Time(octets)) => format!(in rt.alloc();
-            "a part isn't read by {layout}, but would be with time = {octets}{place}"
-        ),
-        Some(Hint::Spare(octets)) => format!(in rt.alloc();
-            "a part isn't read by {layout}, but would be with spare = {octets}{place}"
-        ),
-        Some(Hint::Bare) => format!(in rt.alloc();
-            "a part isn't read by {layout}, but would be with checksum = false{place}"
-        ),
-        None => return,
+// Says that a part isn't read by a layout, but would be by another, and in which file that stands.
+fn tell_other(rt: &(impl Eprint + AllocGlobal), layout: &str, file: &str, hint: Option<Hint>) {
+    let Some(hint) = hint else {
+        return;
     };
-    if let Ok(text) = text {
-        tell_place(rt, text.as_str());
-    }
+    let (key, octets) = match hint {
+        Hint::Time(octets) => ("time = ", Some(octets)),
+        Hint::Spare(octets) => ("spare = ", Some(octets)),
+        Hint::Bare => ("checksum = false", None),
+    };
+    let table = match hint {
+        Hint::Time(_) => "[telemetry]",
+        Hint::Spare(_) => "[telecommands]",
+        Hint::Bare => "[telemetry] or [telecommands]",
+    };
+    let text = match octets {
+        Some(octets) => format!(in rt.alloc();
+            "a part isn't read by {layout}, but would be with {key}{octets} below {table}{file}"
+        ),
+        None => format!(in rt.alloc();
+            "a part isn't read by {layout}, but would be with {key} below {table}{file}"
+        ),
+    };
+    tell_text(rt, text);
 }

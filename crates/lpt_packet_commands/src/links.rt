@@ -3,7 +3,7 @@
 use lpt_command_line::LinkWords;
 use lpt_io::{
     Failure, Machine, Packets, Status, Voice, finish, first_failure, opened_packets, output,
-    packets_end, tell_place,
+    packets_end, tell_text,
 };
 use lpt_lossy::{CrossingCounts, Dice, LossyEnd, Odds, lossy_stream};
 use lpt_text::StreamFault;
@@ -55,11 +55,10 @@ fn link_status(rt: &(impl Eprint + AllocGlobal), voice: Voice, end: LossyEnd) ->
     match end.stray {
         None => Status::Done,
         Some(place) => {
-            if let Ok(text) = format!(in rt.alloc();
+            let text = format!(in rt.alloc();
                 "octet {place}: no packet begins here, so reading ended"
-            ) {
-                tell_place(rt, text.as_str());
-            }
+            );
+            tell_text(rt, text);
             Status::Refused
         }
     }
@@ -74,9 +73,8 @@ fn tell_counts(rt: &(impl Eprint + AllocGlobal), counts: &CrossingCounts) {
         damaged,
         passed,
     } = *counts;
-    if let Ok(text) = format!(in rt.alloc();
+    let text = format!(in rt.alloc();
         "lost {lost}, repeated {repeated}, delayed {delayed}, damaged {damaged}, passed {passed}"
-    ) {
-        tell_place(rt, text.as_str());
-    }
+    );
+    tell_text(rt, text);
 }

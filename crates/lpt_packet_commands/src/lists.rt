@@ -11,7 +11,7 @@ use lpt_command_line::ListWords;
 use lpt_events::Config;
 use lpt_io::{
     Failure, Machine, Output, Packets, Status, Voice, finish, first_failure, opened_packets,
-    output, own_or_read, packets_end, tell_place,
+    output, own_or_read, packets_end, tell_text,
 };
 use lpt_list::{Form, ListEnd, Listed, Tally, list_stream};
 use lpt_packet::{ERROR_CONTROL, PRIMARY_HEADER, Seen, read_packet};
@@ -23,7 +23,7 @@ use lpt_terminal::{Screen, Table};
 use lpt_text::{FromStd, StreamFault};
 
 /// So many octets in front are looked at for parts of another layout.
-const FRONT: usize = 131_072;
+pub const FRONT: usize = 131_072;
 
 /// Lists the packets of a stream: by the layouts of a file if one is given, else by the profile. At
 /// a terminal the lines become rows of a table.
@@ -74,7 +74,14 @@ fn list_packets<R: Machine>(
     match listed {
         Ok(listed) => {
             if voice.tells() {
-                tell_others(rt, config.part_size, words, layouts, source.octets_kept());
+                let is_given = words.layout.is_some();
+                tell_others(
+                    rt,
+                    config.part_size,
+                    is_given,
+                    layouts,
+                    source.octets_kept(),
+                );
             }
             let is_short = source.source().before() > 0;
             match list_status(rt, voice, listed) {
@@ -120,19 +127,19 @@ fn listed_to<'r, R: Machine>(
     }
 }
 
-// Tells by which other layout or part size parts at the front of a stream would be read that
-// aren't.
-fn tell_others(
+/// Tells by which other layout or part size parts at the front of a stream would be read that
+/// aren't by these, which are given, or are the profile's.
+pub fn tell_others(
     rt: &(impl Eprint + AllocGlobal),
     p: u32,
-    words: &ListWords<'_>,
+    is_given: bool,
     layouts: &Layouts,
     front: &[u8],
 )
     requires size { IsPartSize p }
     requires sizes { SizesFit layouts.now }
 {
-    if words.layout.is_some() {
+    if is_given {
         tell_front(rt, layouts, front);
     } else {
         tell_own_front(rt, front);
@@ -151,11 +158,10 @@ fn tell_size(rt: &(impl Eprint + AllocGlobal), octets: &[u8], p: u32)
             return;
         };
         if let Some(size) = other_size(&rest[..len], p) {
-            if let Ok(text) = format!(in rt.alloc();
+            let text = format!(in rt.alloc();
                 "a part doesn't fit part_size = {p}, but part_size = {size}"
-            ) {
-                tell_place(rt, text.as_str());
-            }
+            );
+            tell_text(rt, text);
             return;
         }
         rest = &rest[len..];
@@ -204,11 +210,10 @@ fn list_status(rt: &(impl Eprint + AllocGlobal), voice: Voice, listed: Listed) -
             Status::Done
         }
         ListEnd::Stopped(place) => {
-            if let Ok(text) = format!(in rt.alloc();
+            let text = format!(in rt.alloc();
                 "octet {place}: no sound packet begins here, so reading ended"
-            ) {
-                tell_place(rt, text.as_str());
-            }
+            );
+            tell_text(rt, text);
             Status::Refused
         }
     }
@@ -220,9 +225,8 @@ fn tell_tally(rt: &(impl Eprint + AllocGlobal), tally: Tally) {
     if damaged == 0 && stray == 0 {
         return;
     }
-    if let Ok(text) = format!(in rt.alloc();
+    let text = format!(in rt.alloc();
         "damaged packets: {damaged}, octets that are no packet: {stray}"
-    ) {
-        tell_place(rt, text.as_str());
-    }
+    );
+    tell_text(rt, text);
 }

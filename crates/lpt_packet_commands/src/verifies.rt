@@ -153,7 +153,8 @@ fn told_beside(
     };
     if shared != 0 {
         let text = format!(in rt.alloc();
-            "{shared} requests share source and ID with another: no report tells them apart"
+            "{shared} requests share source and ID with another (or are repeats): no report tells \
+             them apart"
         );
         tell_text(rt, text);
     }
