@@ -1,6 +1,9 @@
-//! Tests of the crates below the node that no script of tests/ can make: of receptions, tables, ledgers
-//! and links (`lpt_reception`, `lpt_table`, `lpt_ledger`, `lpt_link`), of missions' layouts
-//! (`lpt_layout`), of faults, and of values.
+//! Tests that no script of tests/ can make: of receptions, tables, ledgers and links
+//! (`lpt_reception`, `lpt_table`, `lpt_ledger`, `lpt_link`), of missions' layouts (`lpt_layout`),
+//! of faults, and of values; of a node's state, whose octets were made outside (`lpt_state`); and
+//! of the spacecraft's end over a stream (`lpt_spacecraft`): what it writes, what its memory holds,
+//! where it stops, and what is kept of it. `state_laws` has worked states, which the definitions
+//! compute.
 //!
 //! They stand apart so that each of those crates is proved once, and not again with its tests, and in
 //! one crate since each crate of tests loads and compiles the libraries anew. A function that makes a
@@ -9,6 +12,14 @@
 //! proved each time, field by field; what goes to `drop` is proved once for its type.
 #![tactic(auto)]
 
+#[cfg(test)]
+mod craft_kept;
+#[cfg(test)]
+mod craft_streams;
+#[cfg(test)]
+mod craft_waiting;
+#[cfg(test)]
+mod craft_worked;
 #[cfg(test)]
 mod faults;
 #[cfg(test)]
@@ -19,6 +30,13 @@ mod ledgers;
 mod links;
 #[cfg(test)]
 mod receptions;
+pub mod state_laws;
+#[cfg(test)]
+mod state_octets;
+#[cfg(test)]
+mod states;
+#[cfg(test)]
+mod states_refused;
 #[cfg(test)]
 mod statuses;
 #[cfg(test)]

@@ -1,4 +1,6 @@
-//! Tests of nodes and worlds: worked rows, what no clause says, and growths of memory that fail.
+//! Tests of nodes and worlds, and of what stands above a world (its lock, runs of threads, the
+//! tool): worked rows, what no clause says and no script of tests/ sees, and growths of memory that
+//! fail.
 //!
 //! Most tests are rows in statics: `walking` goes paths of rows through new worlds, in which a growth
 //! may fail, and `playing` plays rows to lone nodes. So a case costs nothing but its row.
@@ -14,19 +16,31 @@
 #[cfg(test)]
 mod callers;
 #[cfg(test)]
+mod calls;
+#[cfg(test)]
 mod carrying;
 #[cfg(test)]
 mod contradictions;
+#[cfg(test)]
+mod edges;
 #[cfg(test)]
 mod executing;
 #[cfg(test)]
 mod execution_growths;
 #[cfg(test)]
+mod gate;
+#[cfg(test)]
 mod growths;
 #[cfg(test)]
 mod identifiers;
 #[cfg(test)]
+mod meeting;
+#[cfg(test)]
 mod names;
+#[cfg(test)]
+mod origins;
+#[cfg(test)]
+mod outcomes;
 #[cfg(test)]
 mod outside;
 #[cfg(test)]
@@ -50,6 +64,10 @@ mod rows;
 #[cfg(test)]
 mod runs;
 #[cfg(test)]
+mod scenes;
+#[cfg(test)]
+mod script_growths;
+#[cfg(test)]
 mod sending;
 #[cfg(test)]
 mod shown;
@@ -57,6 +75,14 @@ mod shown;
 mod sources;
 #[cfg(test)]
 mod stations;
+#[cfg(test)]
+mod thread_growths;
+#[cfg(test)]
+mod thread_names;
+#[cfg(test)]
+mod thread_runs;
+#[cfg(test)]
+mod usual;
 #[cfg(test)]
 mod walk_growths;
 #[cfg(test)]

@@ -3,8 +3,8 @@
 ghost use Rattle.std.specs.Prelude.{◌≡◌, Some};
 ghost use Rattle.lpt_share.specs.Origins.{Continues};
 
-use crate::names::ID_5;
 use crate::scenes::{CONFIG, SceneAsked, world_after};
+use crate::thread_names::ID_5;
 use lpt_events::{Event, SeatLog, Side};
 use lpt_packet::Direction::Up;
 use lpt_share::{Origin, Shared};

@@ -7,7 +7,7 @@ ghost use Rattle.lpt_part.specs.declared.mode.Mode.TheVariants.{Strict};
 ghost use Rattle.lpt_state.specs.declared.fault.StateFault.TheVariants as fault;
 ghost use Rattle.lpt_state.specs.Spellings.{spelling};
 ghost use Rattle.lpt_state.specs.Verdicts.{verdict};
-ghost use Rattle.lpt_state_tests.specs.Worked.{config, mixed_state, mixed_octets, names_sent};
+ghost use Rattle.lpt_core_tests.specs.Worked.{config, mixed_state, mixed_octets, names_sent};
 
 /// A worked state has these octets, and they are read as it, at an end of its side and its
 /// configuration, whatever the limits and the first clock.

@@ -2,8 +2,8 @@
 //!
 //! `tests/growths` has each growth fail in turn, in the tests as they are built.
 
-use crate::runs::{TURNS, are_done, loads};
 use crate::scenes::{CONFIG, Free, world_after};
+use crate::thread_runs::{TURNS, are_done, loads};
 use lpt_events::{Event, Side};
 use lpt_share::{ShareEnd, run_threads};
 use std::alloc::Global;

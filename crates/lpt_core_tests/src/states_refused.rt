@@ -1,6 +1,6 @@
 //! Octets that are no state, and what each is refused for.
 
-use crate::octets::{FOLLOWING_RUNS, LAST_BOOT, MIXED, SAME_RUNS, SOURCES_FALL, TURNED_RUN};
+use crate::state_octets::{FOLLOWING_RUNS, LAST_BOOT, MIXED, SAME_RUNS, SOURCES_FALL, TURNED_RUN};
 use crate::states::{CONFIG, read};
 use lpt_events::{Config, Side};
 use lpt_part::Mode;

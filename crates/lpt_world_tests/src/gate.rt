@@ -1,7 +1,7 @@
 //! The lock is free at each point of the gate.
 
-use crate::names::ID_5;
 use crate::scenes::{CONFIG, MESSAGE, SceneAsked, world_after};
+use crate::thread_names::ID_5;
 use lpt_events::{Config, Event, Lane, SeatLog, Side, Worker};
 use lpt_packet::Direction::Up;
 use lpt_share::{Gate, Point, Shared};

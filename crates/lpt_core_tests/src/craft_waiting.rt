@@ -1,16 +1,17 @@
 //! A spacecraft that ticks while nothing comes, and a stream that is handed over to it.
 
 ghost use Rattle.std.specs.Prelude.{None, true, false};
+ghost use Rattle.lpt_spacecraft.specs.Streams.{IsIdle};
 
-use crate::streams::{Counted, craft};
-use crate::worked::{BROKEN_OFF, PART_AND_NOISE};
+use crate::craft_streams::{Counted, craft};
+use crate::craft_worked::{BROKEN_OFF, PART_AND_NOISE};
 use lpt_spacecraft::{
-    Clock, Happening, Inlet, Octets, Pace, Relay, Sink, Stop, StreamFault, Unkept, relay_stream,
-    serve_waiting,
+    Clock, Happening, Inlet, Octets, Pace, Relay, Sink, Spacecraft, Stop, StreamFault, Unkept,
+    relay_stream, serve_waiting,
 };
 use lpt_text::FromStd;
 use std::alloc::Global;
-use std::test::Fail;
+use std::process::Abort;
 
 /// How many octets the part has in front of the noise.
 const PART: usize = 33;
@@ -83,15 +84,21 @@ impl Relay for Tally {
 }
 
 #[test]
-fn expires_while_nothing_comes(rt: HostRuntime) -> Result<(), Fail> {
-    let Some(mut craft) = craft(rt.alloc()) else {
-        return Err(Fail::from("no memory"));
-    };
-    let mut inlet = PartAlone {
-        alloc: rt.alloc(),
-        given: 0,
-    };
-    let mut out = FromStd::new(Vec::new(rt.alloc()));
+fn expires_while_nothing_comes(rt: HostRuntime) {
+    let crafted = craft(rt.alloc());
+    assert!(rt; crafted.is_some());
+    if let Some(mut craft) = crafted {
+        wait_in_vain(&rt, rt.alloc(), &mut craft);
+        drop(craft);
+    }
+}
+
+// Hears the part alone: its reception expires.
+fn wait_in_vain(rt: &impl Abort, alloc: Global, craft: &mut Spacecraft)
+    requires { IsIdle craft.old }
+{
+    let mut inlet = PartAlone { alloc, given: 0 };
+    let mut out = FromStd::new(Vec::new(alloc));
     let mut counted = Counted(0);
     let pace = Pace {
         every: 0,
@@ -100,7 +107,7 @@ fn expires_while_nothing_comes(rt: HostRuntime) -> Result<(), Fail> {
         passing: false,
     };
     let ended = serve_waiting(
-        &mut craft,
+        craft,
         pace,
         &mut inlet,
         &mut Later(0),
@@ -112,23 +119,24 @@ fn expires_while_nothing_comes(rt: HostRuntime) -> Result<(), Fail> {
     let written = out.into_inner();
     assert!(rt; written.as_slice() == BROKEN_OFF);
     assert!(rt; counted.0 == 2);
-    Ok(())
 }
 
 #[test]
-fn hands_over_what_comes(rt: HostRuntime) -> Result<(), Fail> {
-    let left = PART_AND_NOISE.len().saturating_sub(PART);
-    let cases = [(false, Stop::Stray(33), 0), (true, Stop::End, left as u64)];
-    for (passing, stop, skipped) in cases {
-        let mut tally = Tally {
-            octets: 0,
-            skipped: 0,
-        };
-        let mut source = FromStd::new(PART_AND_NOISE);
-        let ended = relay_stream(rt.alloc(), passing, &mut source, &mut tally);
-        assert!(rt; ended == Ok(Some(stop)));
-        assert!(rt; tally.octets == PART);
-        assert!(rt; tally.skipped == skipped);
-    }
-    Ok(())
+fn hands_over_what_comes(rt: HostRuntime) {
+    let left = PART_AND_NOISE.len().saturating_sub(PART) as u64;
+    hand_over(&rt, rt.alloc(), false, Stop::Stray(33), 0);
+    hand_over(&rt, rt.alloc(), true, Stop::End, left);
+}
+
+// Hands over the part and the noise, of which so many octets are passed over.
+fn hand_over(rt: &impl Abort, alloc: Global, passing: bool, stop: Stop, skipped: u64) {
+    let mut tally = Tally {
+        octets: 0,
+        skipped: 0,
+    };
+    let mut source = FromStd::new(PART_AND_NOISE);
+    let ended = relay_stream(alloc, passing, &mut source, &mut tally);
+    assert!(rt; ended == Ok(Some(stop)));
+    assert!(rt; tally.octets == PART);
+    assert!(rt; tally.skipped == skipped);
 }

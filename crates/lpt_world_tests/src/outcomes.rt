@@ -1,6 +1,6 @@
 //! What is told of outcomes, threads and faults: texts and values that no line of a script shows.
 
-use crate::names::{ID_7, ID_65535, OTHER_7};
+use crate::thread_names::{ID_7, ID_65535, OTHER_7};
 use lpt_events::{Outcome, Turns, Why};
 use lpt_packet::Direction;
 use lpt_part::Reason;

@@ -1,6 +1,6 @@
 //! States that are read, and written again.
 
-use crate::octets::{EMPTY, EMPTY_AGAIN, MANY, MANY_AGAIN, MIXED, MIXED_AGAIN};
+use crate::state_octets::{EMPTY, EMPTY_AGAIN, MANY, MANY_AGAIN, MIXED, MIXED_AGAIN};
 use lpt_events::{Config, Side};
 use lpt_ledger::State;
 use lpt_node::Node;

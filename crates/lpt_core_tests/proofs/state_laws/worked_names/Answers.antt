@@ -1,7 +1,7 @@
 -- Each side is computed.
 use Rattle.std.proofs.Common.{refl}
 use Rattle.lpt_ledger.specs.Runs.{names_in, runs_from, runs_of_names, some_names}
-use Rattle.lpt_state_tests.proofs.laws.worked_names.Goals as goal
+use Rattle.lpt_core_tests.proofs.state_laws.worked_names.Goals as goal
 
 pub returns-clause-runs : goal.returns-clause-runs
 unfolding runs_of_names runs_from

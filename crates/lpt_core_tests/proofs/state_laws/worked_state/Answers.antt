@@ -4,7 +4,7 @@ use Rattle.lpt_packet.specs.Checksums.{checksum, octets_in, shift_all}
 use Rattle.lpt_ledger.specs.Runs.{ascend_behind}
 use Rattle.lpt_state.specs.Spellings.{spelling}
 use Rattle.lpt_state.specs.Verdicts.{runs_in, verdict}
-use Rattle.lpt_state_tests.proofs.laws.worked_state.Goals as goal
+use Rattle.lpt_core_tests.proofs.state_laws.worked_state.Goals as goal
 
 pub returns-clause-spelled : goal.returns-clause-spelled
 unfolding spelling checksum octets_in shift_all

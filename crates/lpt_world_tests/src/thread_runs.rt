@@ -1,7 +1,7 @@
 //! A run of ten threads: what is to be done, and that it is done.
 
-use crate::names::{ID_1, ID_2, ID_3, ID_4, ID_9, OTHER_1};
 use crate::scenes::{MESSAGE, SceneAsked};
+use crate::thread_names::{ID_1, ID_2, ID_3, ID_4, ID_9, OTHER_1};
 use lpt_events::{Answer, SeatLog, Turns};
 use lpt_packet::Direction::{self, Down, Up};
 use lpt_packet::Name;

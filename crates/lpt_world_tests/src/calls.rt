@@ -1,7 +1,7 @@
 //! Calls and turns of one thread, and logs beside the journal.
 
-use crate::names::{ID_5, ID_7, ID_9};
 use crate::scenes::{CONFIG, Free, MESSAGE, SceneAsked, octets, world_after};
+use crate::thread_names::{ID_5, ID_7, ID_9};
 use lpt_events::{Answer, Config, Event, Lane, SeatLog, Side, StepFault, Worker};
 use lpt_packet::Direction::{Down, Up};
 use lpt_share::{CallFault, Done, ShareFault, Shared};

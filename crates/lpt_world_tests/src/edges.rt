@@ -1,7 +1,7 @@
 //! A run in which logs are full.
 
-use crate::runs::{TURNS, loads};
 use crate::scenes::{Free, run};
+use crate::thread_runs::{TURNS, loads};
 use lpt_events::{SeatLog, Turns};
 use std::test::Fail;
 
