@@ -5,8 +5,7 @@ use Rattle.lpt_part.specs.declared.kind.Kind.TheVariants.{First, Middle, Last}
 use Rattle.lpt_part.specs.Parts.{same_kind}
 use Rattle.lpt_part.specs.Splitting.{part_count}
 use Rattle.lpt_join.specs.declared.transaction.Transaction.{Transaction}
-use Rattle.lpt_join.specs.PartNumbersInside.{IsHighest}
-use Rattle.lpt_join.specs.Laws.{AllBelong, Belongs, came, has_ended, is_part, is_end}
+use Rattle.lpt_join.specs.Laws.{AllBelong, Belongs, IsHighest, came, has_ended, is_part, is_end}
 use Rattle.lpt_join.specs.Offers.{part_offered}
 
 last_by : (one same : Bool)

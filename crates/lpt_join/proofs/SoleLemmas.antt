@@ -12,10 +12,9 @@ use Rattle.lpt_join.specs.Joins.{Joined, Missing, Complete, join_part, joined_fr
 use Rattle.lpt_join.specs.Laws.{AllMadeOrNone, AllMadeOrOther, EachIsAmong, IsMadeOrNone, IsMadeOrOther, IsSending}
 use Rattle.lpt_join.specs.Offers.{part_offered, part_of_name, part_of_piece, piece_in}
 use Rattle.lpt_join.specs.Several.{is_carried, of_name}
-use Rattle.lpt_join.proofs.GatherLemmas.{join_none}
+use Rattle.lpt_join.proofs.GatherLemmas.{join_none, not_some}
 use Rattle.lpt_join.proofs.OtherLemmas.{apart_carried, none_carried}
 use Rattle.lpt_join.proofs.SentLemmas.{carries, sent_joined}
-use Rattle.lpt_join.proofs.SeveralLemmas.{not_some}
 
 -- nothing is joined where no part is carried
 joined-none : (t : Transaction) (j : Joined) (bs : List (List ℕ))

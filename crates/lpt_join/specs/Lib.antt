@@ -1,15 +1,7 @@
-pub mod PartNumbersInside
 pub mod Contradictions
-pub mod Gatherings
 pub mod Joins
 pub mod Laws
 pub mod Messages
-pub mod Missing
-pub mod MissingLists
 pub mod Offers
-pub mod Only
-pub mod Readers
 pub mod Several
-pub mod SeveralInside
-pub mod Writes
 pub mod Wide

@@ -1,5 +1,5 @@
 -- When octets are a message of a direction, and which parts are a message's.
-use Rattle.std.specs.Prelude.{◌≡◌, ℕ, Bool, ◌&&◌, nat_lt, nat_le, List, length, Option, Some, None, Result, Ok, Err}
+use Rattle.std.specs.Prelude.{◌≡◌, ℕ, Bool, ◌&&◌, nat_lt, nat_le, if◌then◌else◌, List, length, Option, Some, None, Result, Ok, Err}
 use Rattle.lpt_packet.specs.declared.direction.Direction.{Direction}
 use Rattle.lpt_packet.specs.declared.direction.Direction.TheVariants.{Up, Down}
 use Rattle.lpt_packet.specs.declared.fault.PacketFault.{PacketFault}
@@ -10,8 +10,8 @@ use Rattle.lpt_packet.specs.Sizes.{longest_packet}
 use Rattle.lpt_part.specs.Splitting.{part_count}
 use Rattle.lpt_reception.specs.PartsOf.{kept_of}
 use Rattle.lpt_reception.specs.Received.{Kept, same_kept}
-use Rattle.lpt_join.specs.declared.messages.Misfit.{Misfit}
-use Rattle.lpt_join.specs.declared.messages.Misfit.TheVariants.{NoPacket, OtherKind}
+use Rattle.lpt_join.specs.declared.misfit.Misfit.{Misfit}
+use Rattle.lpt_join.specs.declared.misfit.Misfit.TheVariants.{NoPacket, OtherKind}
 
 -- whether the part of this number is one of the message, for parts of p octets: of the same kind, and
 -- octet for octet; what is no longer than a part, or longer than a packet, has no parts
@@ -46,7 +46,6 @@ sight_misfit d (Err e) = Some (NoPacket e)
 abbrev pub misfit : Direction → List ℕ → Option Misfit
 misfit d m = sight_misfit d (verdict m)
 
--- this is what was found
-abbrev pub Finding : Option Misfit → Result Unit Misfit → Type 0
-Finding o (Ok _) = o ≡ None
-Finding o (Err e) = o ≡ Some e
+-- the same, where not any octets are taken
+abbrev pub unfit : Direction → (any : Bool) → List ℕ → Option Misfit
+unfit d any m = if any then None else misfit d m

@@ -6,8 +6,6 @@ use Rattle.lpt_events.specs.Arrivals.{Arrival, APart, arrival}
 use Rattle.lpt_events.specs.NamedParts.{NamedPart, bare}
 use Rattle.lpt_events.specs.Sides.{receiver_side}
 use Rattle.lpt_reception.specs.Received.{Kept}
-use Rattle.lpt_stream.specs.declared.piece_kind.PieceKind.{PieceKind}
-use Rattle.lpt_stream.specs.declared.piece_kind.PieceKind.TheVariants.{Whole, Damaged, Stray}
 use Rattle.lpt_join.specs.declared.transaction.Transaction.{Transaction}
 
 -- the part that has arrived, where one has
@@ -19,12 +17,6 @@ piece_of _ = None
 -- the node that receives in that direction
 abbrev pub piece_in : Transaction → List ℕ → Option NamedPart
 piece_in t b = piece_of (arrival (receiver_side t.direction) t.apid t.part_size b)
-
--- the same of a piece of a stream, where it is a packet that carries one
-abbrev pub named_in : Transaction → PieceKind → List ℕ → Option NamedPart
-named_in t Whole b = piece_in t b
-named_in t Damaged b = None
-named_in t Stray b = None
 
 -- a part without its transaction: its number, and what is kept of it
 abbrev pub part_of_piece : Piece → ℕ × Kept

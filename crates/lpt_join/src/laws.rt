@@ -1,8 +1,9 @@
 //! The law of joining, proved of all streams: functions whose bodies only call laws from below.
 
-ghost use Rattle.std.specs.Prelude.{◌≡◌, ◌≢◌, ◌<◌, ◌≤◌, ℕ, List, length, None, Some, is_some, true};
+ghost use Rattle.std.specs.Prelude.{◌≡◌, ◌≢◌, ◌<◌, ◌≤◌, ℕ, List, length, None, Some, is_some, true, false};
 ghost use Rattle.std.specs.FinMap as map;
 ghost use Rattle.lpt_packet.specs.Bursts.{DifferInBurst};
+ghost use Rattle.lpt_packet.specs.Names.{Name, same_name};
 ghost use Rattle.lpt_packet.specs.Packets.{Fields, IdlePacket, APacket, IsPacket, packet_seen};
 ghost use Rattle.lpt_part.specs.Splitting.{part_count};
 ghost use Rattle.lpt_events.specs.declared.config.Config.{Config};
@@ -14,11 +15,11 @@ ghost use Rattle.lpt_stream.specs.Pieces.{Finds, Piece, packets_of};
 ghost use Rattle.lpt_stream.specs.Streams.{all_octets};
 ghost use Rattle.lpt_split.specs.Splits.{AreNumbers, split_of};
 ghost use Rattle.lpt_join.specs.declared.transaction.Transaction.{Transaction};
-ghost use Rattle.lpt_join.specs.PartNumbersInside.{IsHighest};
 ghost use Rattle.lpt_join.specs.Contradictions.{first_against};
 ghost use Rattle.lpt_join.specs.Joins.{Missing, Complete, packets_joined};
-ghost use Rattle.lpt_join.specs.Laws.{AllBelong, AllCame, came, has_ended, IsSending, AllMadeOrOther, EachIsAmong, IsThere, HasNumber};
+ghost use Rattle.lpt_join.specs.Laws.{AllBelong, AllCame, came, has_ended, IsSending, AllMadeOrNone, AllMadeOrOther, EachIsAmong, IsHighest, IsThere, HasNumber};
 ghost use Rattle.lpt_join.specs.Offers.{part_offered, piece_in};
+ghost use Rattle.lpt_join.specs.Several.{is_carried, of_name};
 ghost use Rattle.lpt_events.specs.Counts.{AreCounts};
 
 use lpt_reception::laws::whole_is_split;
@@ -46,6 +47,18 @@ pub fn made_is_joined()
     ensures { (t : Transaction) (c : Config) (m : List ℕ) (packets : List (List ℕ))
         → IsSending t c m → AllMadeOrOther t c m packets → EachIsAmong t c m packets
         → packets_joined t packets ≡ Complete m }
+{}
+
+/// Over packets each of which is made of a part of the message, or carries no part of any
+/// transaction that is read alike: once a packet of each part is there, exactly the message is
+/// joined, and no part came of another transaction.
+pub fn made_alone_is_joined()
+    ensures message { (t : Transaction) (c : Config) (m : List ℕ) (packets : List (List ℕ))
+        → IsSending t c m → AllMadeOrNone t c m packets → EachIsAmong t c m packets
+        → packets_joined t packets ≡ Complete m }
+    ensures alone { (t : Transaction) (c : Config) (m : List ℕ) (n : Name)
+        (packets : List (List ℕ)) → IsSending t c m → same_name t.name n ≡ false
+        → AllMadeOrNone t c m packets → is_carried (of_name t n) packets ≡ false }
 {}
 
 /// Over packets each of which carries a part of the message, or no part of its transaction, in

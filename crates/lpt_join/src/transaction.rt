@@ -2,10 +2,7 @@
 
 ghost use Rattle.lpt_part.specs.Splitting.{IsPartSize};
 
-use crate::wide;
-use lpt_carried::Reading;
 use lpt_packet::{Direction, Name};
-use lpt_skips::Wanted;
 
 /// Which transaction, and how its packets are read.
 #[derive(Clone, Copy, Debug)]
@@ -19,35 +16,4 @@ pub struct Transaction {
     /// The part size in octets, 4 to 1024.
     pub part_size: u32,
     ghost size: { IsPartSize part_size },
-}
-
-impl Transaction {
-    ghost use Rattle.std.specs.Prelude.{◌≡◌};
-    ghost use Rattle.lpt_join.specs.Several.{of_name, reading_of};
-
-    /// The transaction of another name, whose packets are read alike.
-    pub fn of_name(&self, name: Name) -> Transaction
-        ensures { result ≡ of_name self.now name }
-    {
-        Transaction {
-            direction: self.direction,
-            name,
-            apid: self.apid,
-            part_size: self.part_size,
-        }
-    }
-
-    /// How its parts are read, if parts of this name alone are wanted, or of any.
-    pub fn reading(&self, name: Option<Name>) -> Wanted
-        ensures { result ≡ reading_of self.now name }
-    {
-        let name = match name {
-            Some(name) => Some(wide(name)),
-            None => None,
-        };
-        Wanted {
-            reading: Reading::own(self.direction, self.apid, self.part_size),
-            name,
-        }
-    }
 }

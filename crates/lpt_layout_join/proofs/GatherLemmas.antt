@@ -12,7 +12,7 @@ use Rattle.lpt_stream.proofs.CutLemmas.{packets-next}
 use Rattle.lpt_carried.specs.declared.name.Name.{Name}
 use Rattle.lpt_carried.specs.declared.reading.Reading.{Reading}
 use Rattle.lpt_carried.specs.Carried.{part_carried, part_of}
-use Rattle.lpt_join.specs.PartNumbersInside.{has, is_ended}
+use Rattle.lpt_layout_join.specs.PartNumbersInside.{has, is_ended}
 use Rattle.lpt_join.proofs.GatherLemmas.{any-next}
 use Rattle.lpt_layout_join.specs.declared.gathering.Gathering.{Gathering}
 use Rattle.lpt_layout_join.specs.declared.order.Order.{Order}

@@ -1,5 +1,6 @@
 pub mod BridgeLemmas
 pub mod CameLemmas
+mod CopyLemmas
 pub mod CountLemmas
 pub mod EvenLemmas
 pub mod GatherLemmas
@@ -10,6 +11,7 @@ pub mod MadeLemmas
 pub mod MoreLemmas
 pub mod NameLemmas
 pub mod OwnLemmas
+mod OwnWrittenLemmas
 pub mod PartsLemmas
 mod PutLemmas
 pub mod SeveralLemmas
@@ -18,3 +20,4 @@ pub mod StreamLemmas
 pub mod SureLemmas
 pub mod WholeLemmas
 pub mod WriteLemmas
+mod WrittenLemmas

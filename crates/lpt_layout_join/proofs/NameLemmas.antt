@@ -1,7 +1,7 @@
 -- The facts through which proofs speak of names.
-use Rattle.std.proofs.Common.{◌≡◌, ◌∙◌, refl, ◌&&◌, Less, Equal, Greater}
+use Rattle.std.proofs.Common.{◌≡◌, ◌∙◌, ap, sym, refl, ◌&&◌, Less, Equal, Greater}
 use Rattle.std.specs.declared.cmp.Ordering.{Ordering}
-use Rattle.std.specs.Cmp.{unsigned_tied}
+use Rattle.std.specs.Cmp.{IsTotalOrder, nat_cmp_total, on_total, then_total, tied_itself, unsigned_tied}
 use Rattle.std.specs.Ordering.{eq_by_cmp, is_eq, nat_cmp, ordering_then}
 use Rattle.lpt_carried.specs.declared.name.Name.{Name}
 use Rattle.lpt_carried.specs.Carried.{same_name}
@@ -17,3 +17,13 @@ pub name_tied : (a b : Name) → eq_by_cmp name_cmp a b ≡ same_name a b
 name_tied a b =
     tied_both (nat_cmp a.user b.user) (nat_cmp a.id b.id)
     ∙ (λ i. unsigned_tied a.user b.user i && unsigned_tied a.id b.id i)
+
+-- it is a total order
+pub name_cmp_total : IsTotalOrder name_cmp
+name_cmp_total =
+    then_total (on_total (λ (n : Name). n.user) nat_cmp_total)
+    (on_total (λ (n : Name). n.id) nat_cmp_total)
+
+-- which tells of a name and itself that they are equal
+pub name_cmp-same : (a b : Name) → a ≡ b → name_cmp a b ≡ Equal
+name_cmp-same a b h = ap (name_cmp a) (sym h) ∙ tied_itself name_cmp_total a

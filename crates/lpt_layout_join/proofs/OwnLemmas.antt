@@ -37,7 +37,6 @@ use Rattle.lpt_join.specs.Messages.{is_part_of}
 use Rattle.lpt_join.specs.Offers.{part_offered, part_of_name, part_of_piece, piece_of}
 use Rattle.lpt_join.specs.Several as profile_names
 use Rattle.lpt_join.specs.Wide.{wide}
-use Rattle.lpt_join.specs.Writes as profile_end
 use Rattle.lpt_join.proofs.FitLemmas.{offered-fits}
 use Rattle.lpt_join.proofs.GatherLemmas.{against_none, join_none}
 use Rattle.lpt_layout_join.specs.Came.{Came, contradicts, message_of, nothing_came, step}
@@ -118,7 +117,7 @@ module _ (t : Transaction) where
 
   -- ---- what is fit
 
-  sight-own : (v : Result Sight PacketFault)
+  pub sight-own : (v : Result Sight PacketFault)
       → sight_misfit r v ≡ option_map misfit_as (profile_message.sight_misfit t.direction v)
   sight-own (Err e) = refl
   sight-own (Ok IdlePacket) = refl
@@ -126,7 +125,7 @@ module _ (t : Transaction) where
 
   pub unfit-own : ((m : List ℕ) → verdict_as true m ≡ verdict m)
       → (any sure : Bool) (m : List ℕ)
-      → unfit r any sure m ≡ option_map misfit_as (profile_end.unfit t.direction any m)
+      → unfit r any sure m ≡ option_map misfit_as (profile_message.unfit t.direction any m)
   unfit-own packets true sure m = refl
   unfit-own packets false sure m =
       ap (λ h. option_or (sight_misfit r (verdict_as h m))

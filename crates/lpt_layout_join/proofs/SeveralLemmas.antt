@@ -1,5 +1,5 @@
 -- What is kept of each transaction, a piece further.
-use Rattle.std.proofs.Common.{◌≡◌, ◌∙◌, ap, sym, subst, refl, inl, inr, ◌⊎◌, ℕ, ◌+◌, ◌≤◌, Bool, true, false, if◌then◌else◌, ◌||◌, List, [], ◌∷◌, ◌++◌, length, Option, Some, None, is_some, append-nil, append_assoc, arith, cond, Ok}
+use Rattle.std.proofs.Common.{◌≡◌, ◌∙◌, ap, sym, subst, refl, inl, inr, ◌⊎◌, ℕ, ◌+◌, ◌≤◌, ◌<◌, Bool, true, false, if◌then◌else◌, ◌||◌, List, [], ◌∷◌, ◌++◌, length, Option, Some, None, is_some, append-nil, append_assoc, arith, cond, Ok}
 use Rattle.std.specs.BTreeMap.{is_at}
 use Rattle.std.specs.Map.{lookup}
 use Rattle.std.specs.Ordering.{is_eq}
@@ -7,16 +7,17 @@ use Rattle.std.proofs.lemmas.Bool.{or_parts}
 use Rattle.lpt_part.specs.Parts as part
 use Rattle.lpt_stream.specs.declared.piece_kind.PieceKind.{PieceKind}
 use Rattle.lpt_stream.specs.declared.piece_kind.PieceKind.TheVariants.{Whole, Damaged, Stray}
-use Rattle.lpt_stream.specs.Pieces.{Piece, packet_before, packets_of}
+use Rattle.lpt_stream.specs.Pieces.{Piece, octets_in, packet_before, packets_of, up_to_limit}
 use Rattle.lpt_carried.specs.declared.name.Name.{Name}
 use Rattle.lpt_carried.specs.declared.reading.Reading.{Reading}
 use Rattle.lpt_carried.specs.Carried.{Named, part_carried, name_of, part_of, same_name}
 use Rattle.lpt_carried.proofs.NameLemmas.{same_name-refl, same_name-true}
 use Rattle.lpt_layout_join.specs.declared.gathering.Gathering.{Gathering}
 use Rattle.lpt_layout_join.specs.declared.gatherings.Gatherings.{Gatherings}
+use Rattle.lpt_layout_join.specs.Counts.{all_counted, nothing_counted}
 use Rattle.lpt_layout_join.specs.Gathered.{carry, part_in}
 use Rattle.lpt_layout_join.specs.Gatherings.{Gives, GivesEach, IsKept, IsLone, LoneIs, is_wanted, kept_of}
-use Rattle.lpt_layout_join.specs.GatheringsInside.{HasPlace, IsFull}
+use Rattle.lpt_layout_join.specs.GatheringsInside.{IsAdded}
 use Rattle.lpt_layout_join.specs.Names.{name_cmp}
 use Rattle.lpt_layout_join.proofs.GatherLemmas.{any-piece, gives-other}
 use Rattle.lpt_layout_join.proofs.NameLemmas.{name_tied}
@@ -29,7 +30,7 @@ not_some None h = refl
 not_some (Some x) h = absurd (no_true h)
 
 -- the packet
-abbrev packet : List ℕ → Piece
+abbrev pub packet : List ℕ → Piece
 packet b = record { kind = Whole; octets = b }
 
 -- ---- of one name
@@ -100,33 +101,39 @@ each-other r w ps p g none h = record {
   full = h.full;
 }
 
-full_size : (old new : Gatherings)
-    → IsFull old new
-    → length old.kept.entries ≤ 64
-    → (old.has_more ≡ true → length old.kept.entries ≡ 64)
-    → length new.kept.entries ≡ 64
-full_size old new h most full = ap length h.0 ∙ go h.1 where
-  go : (old.has_more ≡ true) ⊎ (64 ≤ length old.kept.entries) → length old.kept.entries ≡ 64
-  go (inl more) = full more
-  go (inr many) = omega arith
+-- nothing of a transaction was kept, and there was room for it; or something was
+abbrev pub HasPlace : Name → (old new : Gatherings) → Type 0
+HasPlace n old new =
+    ((x : Gathering) × (kept_of old n ≡ Some x)
+    × (length new.kept.entries ≡ length old.kept.entries))
+    ⊎ ((kept_of old n ≡ None) × (length new.kept.entries ≡ length old.kept.entries + 1)
+    × (old.has_more ≡ false) × (length old.kept.entries < 64))
 
-module _ (old taken new : Gatherings)
-    (place : HasPlace old taken)
-    (size : length new.kept.entries ≡ length taken.kept.entries + 1) where
+-- nothing was, and there was no room
+abbrev pub IsFull : Gatherings → Type 0
+IsFull g = (g.has_more ≡ true) ⊎ (64 ≤ length g.kept.entries)
+
+full_size : (g : Gatherings)
+    → IsFull g
+    → length g.kept.entries ≤ 64
+    → (g.has_more ≡ true → length g.kept.entries ≡ 64)
+    → length g.kept.entries ≡ 64
+full_size g (inl more) most full = full more
+full_size g (inr many) most full = omega arith
+
+module _ (n : Name) (old new : Gatherings) (place : HasPlace n old new) where
   place_most : length old.kept.entries ≤ 64 → length new.kept.entries ≤ 64
   place_most most = elim place [
-    | inl h ↦ omega arith
-    | inr h ↦
-        let same : length taken.kept.entries ≡ length old.kept.entries = ap length h.0 in
-        omega (arith, h.2)
+    | inl h ↦ omega (arith, h.2)
+    | inr h ↦ omega (arith, h.1, h.3)
   ]
 
   place_full : (old.has_more ≡ true → length old.kept.entries ≡ 64)
       → old.has_more ≡ true
       → length new.kept.entries ≡ 64
   place_full full more = elim place [
-    | inl h ↦ let same = full more in omega arith
-    | inr h ↦ absurd (no_true (sym more ∙ h.1))
+    | inl h ↦ h.2 ∙ full more
+    | inr h ↦ absurd (no_true (sym more ∙ h.2))
   ]
 
 -- ---- where one is wanted
@@ -150,20 +157,20 @@ at-one m e g h = by (is_eq (name_cmp m e.0)) refl where
   by false is =
       absurd (some_none g (sym h ∙ ap (λ (t : Bool). cond t (Some e.1) None) is))
 
--- nothing is left of one that is taken out
-taken-none : (m : Name) (old taken : Gatherings)
+-- of the one that is wanted something is kept now, and of no other
+lone-size : (m : Name) (old new : Gatherings)
     → IsLone m old
-    → HasPlace old taken
-    → kept_of taken m ≡ None
-    → length taken.kept.entries ≡ 0
-taken-none m old taken lone place none = elim lone.1 [
-  | inl empty ↦ elim place [
-    | inl h ↦ let size = ap length empty in absurd (omega arith)
-    | inr h ↦ ap length (h.0 ∙ empty)
+    → HasPlace m old new
+    → length new.kept.entries ≡ 1
+lone-size m old new lone place = elim place [
+  | inl h ↦ elim lone.1 [
+    | inl empty ↦ absurd (some_none h.0 (sym h.1 ∙ ap (at_name m) empty))
+    | inr one ↦ h.2 ∙ ap length one.1
   ]
-  | inr one ↦ elim place [
-    | inl h ↦ let size = ap length one.1 in omega arith
-    | inr h ↦ absurd (some_none one.0 (sym (ap (at_name m) (h.0 ∙ one.1) ∙ at-own m one.0) ∙ none))
+  | inr h ↦ elim lone.1 [
+    | inl empty ↦ h.1 ∙ ap (λ (es : List (Name × Gathering)). length es + 1) empty
+    | inr one ↦
+        absurd (some_none one.0 (sym (ap (at_name m) one.1 ∙ at-own m one.0) ∙ h.0))
   ]
 ]
 
@@ -175,16 +182,15 @@ one-entry m g [] size at = absurd (omega (arith, size))
 one-entry m g (e ∷ []) size at = (e.1, λ i. (sym (at-one m e g at) i, e.1) ∷ [])
 one-entry m g (e ∷ f ∷ es) size at = absurd (omega (arith, size))
 
-module _ (name : Name) (old taken new : Gatherings) (g : Gathering)
-    (place : HasPlace old taken)
-    (none : kept_of taken name ≡ None)
+module _ (name : Name) (old new : Gatherings) (g : Gathering)
+    (place : HasPlace name old new)
     (some : kept_of new name ≡ Some g)
-    (more : new.has_more ≡ old.has_more)
-    (size : length new.kept.entries ≡ length taken.kept.entries + 1) where
+    (more : new.has_more ≡ old.has_more) where
   lone-own : IsLone name old → IsLone name new
-  lone-own lone =
-      let empty = taken-none name old taken lone place none in
-      (more ∙ lone.0, inr (one-entry name g new.kept.entries (omega arith) some))
+  lone-own lone = (
+    more ∙ lone.0,
+    inr (one-entry name g new.kept.entries (lone-size name old new lone place) some),
+  )
 
   lone-part : (w : Option Name) → is_wanted w name ≡ true → LoneIs w old → LoneIs w new
   lone-part None its lone = tt
@@ -194,12 +200,12 @@ module _ (name : Name) (old taken new : Gatherings) (g : Gathering)
       (lone-own (subst (λ (k : Name). IsLone k old) (sym same) lone))
 
 -- there is room for it
-lone-room : (w : Option Name) (old taken : Gatherings)
-    → LoneIs w old
-    → IsFull old taken
-    → LoneIs w (record taken { has_more = true })
-lone-room None old taken lone full = tt
-lone-room (Some m) old taken lone full = absurd (elim full.1 [
+lone-room : (w : Option Name) (g : Gatherings)
+    → LoneIs w g
+    → IsFull g
+    → LoneIs w (record g { has_more = true })
+lone-room None g lone full = tt
+lone-room (Some m) g lone full = absurd (elim full [
   | inl h ↦ no_true (sym h ∙ lone.0)
   | inr many ↦ elim lone.1 [
     | inl empty ↦ let size = ap length empty in omega arith
@@ -251,41 +257,70 @@ module _ (r : Reading) (w : Option Name) (b : List ℕ) (c : Named)
   rises_more ps more n (Some g) h = h
 
   -- nothing is kept of it
-  pub each-more : (ps : List Piece) (old taken : Gatherings)
-      → ((n : Name) → same_name name n ≡ false → kept_of taken n ≡ kept_of old n)
-      → kept_of taken name ≡ None
-      → IsFull old taken
+  pub each-more : (ps : List Piece) (old : Gatherings)
+      → kept_of old name ≡ None
+      → IsFull old
       → GivesEach r w ps old
-      → GivesEach r w (ps ++ packet b ∷ []) (record taken { has_more = true })
-  each-more ps old taken others none is h =
-      let new = record taken { has_more = true } in
-      let size = full_size old taken is h.most h.full in record {
-        each = each-next ps old new others
+      → GivesEach r w (ps ++ packet b ∷ []) (record old { has_more = true })
+  each-more ps old none is h =
+      let new = record old { has_more = true } in
+      let size = full_size old is h.most h.full in record {
+        each = each-next ps old new (λ n other. refl)
             (λ n o k. rises_more (ps ++ packet b ∷ []) old.has_more n o k)
             (subst (λ o. IsKept r name (ps ++ packet b ∷ []) true o) (sym none)
             (λ few. absurd (no_true few))) h;
-        lone = lone-room w old taken h.lone is;
+        lone = lone-room w old h.lone is;
         most = omega arith;
         full = λ more. size;
       }
 
   -- this is
-  pub each-part : (ps : List Piece) (old taken new : Gatherings) (g : Gathering)
+  pub each-part : (ps : List Piece) (old new : Gatherings) (g : Gathering)
       → ((n : Name) → same_name name n ≡ false → kept_of new n ≡ kept_of old n)
-      → kept_of taken name ≡ None
       → kept_of new name ≡ Some g
       → new.has_more ≡ old.has_more
-      → HasPlace old taken
-      → length new.kept.entries ≡ length taken.kept.entries + 1
+      → HasPlace name old new
       → Gives r name (ps ++ packet b ∷ []) g
       → GivesEach r w ps old
       → GivesEach r w (ps ++ packet b ∷ []) new
-  each-part ps old taken new g others none its more place size gives h = record {
+  each-part ps old new g others its more place gives h = record {
     each = each-next ps old new others
         (λ n o k. subst (λ (m : Bool). IsKept r n (ps ++ packet b ∷ []) m o) (sym more) k)
         (subst (λ o. IsKept r name (ps ++ packet b ∷ []) new.has_more o) (sym its)
         (kept-part r name ps b new.has_more c.piece g part-its gives)) h;
-    lone = lone-part name old taken new g place none its more size w wanted h.lone;
-    most = place_most old taken new place size h.most;
-    full = λ is. place_full old taken new place size h.full (sym more ∙ is);
+    lone = lone-part name old new g place its more w wanted h.lone;
+    most = place_most name old new place h.most;
+    full = λ is. place_full name old new place h.full (sym more ∙ is);
   }
+
+  -- it is added to what was kept of it
+  pub each-added : (ps : List Piece) (missing place : ℕ) (old new : Gatherings)
+      → missing ≡ (all_counted r nothing_counted (packets_of ps ++ b ∷ [])).missing
+      → place ≡ up_to_limit (octets_in ps)
+      → IsAdded name missing place c.piece old new
+      → GivesEach r w ps old
+      → GivesEach r w (ps ++ packet b ∷ []) new
+  each-added ps missing place old new counts at added h =
+      let was : IsKept r name ps old.has_more (Some added.was) =
+      subst (λ o. IsKept r name ps old.has_more o) added.there (h.each name wanted) in
+      each-part ps old new added.now added.others added.kept added.more
+      (inl (added.was, added.there, added.size))
+      (added.gains r ps b was.0 counts at part-its) h
+
+  -- nothing was kept of it, and it is added to what nothing gives
+  pub each-begun : (ps : List Piece) (old new : Gatherings) (empty g : Gathering)
+      → kept_of old name ≡ None
+      → (old.has_more ≡ false) × (length old.kept.entries < 64)
+      → Gives r name [] empty
+      → (Gives r name ps empty → Gives r name (ps ++ packet b ∷ []) g)
+      → ((n : Name) → same_name name n ≡ false → kept_of new n ≡ kept_of old n)
+      → kept_of new name ≡ Some g
+      → new.has_more ≡ old.has_more
+      → length new.kept.entries ≡ length old.kept.entries + 1
+      → GivesEach r w ps old
+      → GivesEach r w (ps ++ packet b ∷ []) new
+  each-begun ps old new empty g none room start adds others its more size h =
+      let few : IsKept r name ps old.has_more None =
+      subst (λ o. IsKept r name ps old.has_more o) none (h.each name wanted) in
+      each-part ps old new g others its more (inr (none, size, room.0, room.1))
+      (adds (gives-none r name ps empty start (few room.0))) h

@@ -37,7 +37,7 @@ use Rattle.lpt_stream.specs.Pieces.{Piece, packets_of}
 use Rattle.lpt_stream.proofs.CutLemmas.{packets-next}
 use Rattle.lpt_layout_join.specs.declared.counts.Counts as declared
 use Rattle.lpt_layout_join.specs.declared.gatherings.Gatherings.{Gatherings}
-use Rattle.lpt_layout_join.specs.declared.several.Gatherer.{Gatherer}
+use Rattle.lpt_layout_join.specs.declared.several.Findings.{Findings}
 use Rattle.lpt_layout_join.specs.Counts.{Counted, all_counted, packet_counted, nothing_counted}
 use Rattle.lpt_layout_join.specs.CountsInside.{counts_shown}
 use Rattle.lpt_layout_join.specs.Gatherings.{GivesEach, is_wanted}
@@ -158,10 +158,7 @@ noted-taken w b c was now some its =
 
 -- ---- a piece further
 
-module _ (first was : Gatherer) (ps : List Piece) (h : Gathers first was ps) where
-  abbrev w : Wanted
-  w = was.wanted
-
+module _ (w : Wanted) (was : Findings) (ps : List Piece) (h : Gathers w was ps) where
   skips-next : (p : Piece) (s : Skips) → s ≡ piece_noted w was.skips p → s
       ≡ skips_of w (ps ++ p ∷ [])
   skips-next p s notes =
@@ -173,10 +170,9 @@ module _ (first was : Gatherer) (ps : List Piece) (h : Gathers first was ps) whe
       → counts_shown k ≡ packet_counted w.reading (counts_shown was.counts) b
       → GivesEach w.reading w.name (ps ++ record { kind = Whole; octets = b } ∷ []) gs
       → s ≡ piece_noted w was.skips (record { kind = Whole; octets = b })
-      → Gathers first (record { wanted = w; gatherings = gs; counts = k; skips = s })
+      → Gathers w (record { gatherings = gs; counts = k; skips = s })
       (ps ++ record { kind = Whole; octets = b } ∷ [])
   gathers-packet b gs k s counts gives notes = record {
-    same = h.same;
     gives = gives;
     counts_are = counts ∙ ap (λ (c : Counted). packet_counted w.reading c b) h.counts_are
         ∙ sym (counted-more w.reading nothing_counted (packets_of ps) b)
@@ -199,12 +195,11 @@ module _ (first was : Gatherer) (ps : List Piece) (h : Gathers first was ps) whe
   pub gathers-other : (k : PieceKind) (b : List ℕ) (s : Skips)
       → (k ≡ Whole → ⊥)
       → s ≡ piece_noted w was.skips (record { kind = k; octets = b })
-      → Gathers first
-      (record { wanted = w; gatherings = was.gatherings; counts = was.counts; skips = s })
+      → Gathers w
+      (record { gatherings = was.gatherings; counts = was.counts; skips = s })
       (ps ++ record { kind = k; octets = b } ∷ [])
   gathers-other Whole b s other notes = absurd (other refl)
   gathers-other Damaged b s other notes = record {
-    same = h.same;
     gives = each-other w.reading w.name ps (record { kind = Damaged; octets = b }) was.gatherings
         (λ n its. refl) h.gives;
     counts_are = h.counts_are ∙ sym (ap (all_counted w.reading nothing_counted)
@@ -212,7 +207,6 @@ module _ (first was : Gatherer) (ps : List Piece) (h : Gathers first was ps) whe
     skips_are = skips-next (record { kind = Damaged; octets = b }) s notes;
   }
   gathers-other Stray b s other notes = record {
-    same = h.same;
     gives = each-other w.reading w.name ps (record { kind = Stray; octets = b }) was.gatherings
         (λ n its. refl) h.gives;
     counts_are = h.counts_are ∙ sym (ap (all_counted w.reading nothing_counted)

@@ -116,7 +116,9 @@ module _ (r : Reading) (n : Name) where
       ∙ ap (λ (o : Option part.Piece). (with_part (with_counts r g b) o).came)
       (not_some (part_of n (part_carried r b)) parts.0)
 
-  none-came : (bs : List (List ℕ)) → carry r n bs ≡ false → (parts_gathered r n bs).came
+  pub none-came : (bs : List (List ℕ))
+      → carry r n bs ≡ false
+      → (parts_gathered r n bs).came
       ≡ nothing_came
   unfolding parts_gathered
   none-came bs h = none-all nothing_gathered bs h

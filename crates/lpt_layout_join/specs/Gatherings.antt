@@ -1,11 +1,11 @@
 -- What is kept of a stream's packets.
 use Rattle.std.specs.Prelude.{◌≡◌, ◌⊎◌, ◌≤◌, ℕ, Bool, true, false, List, [], ◌∷◌, length, Option, Some, None}
-use Rattle.std.specs.BTreeMap.{get}
+use Rattle.std.specs.BTreeMap.{IsOrdered, get}
 use Rattle.std.specs.Option.{option_map}
 use Rattle.lpt_carried.specs.declared.name.Name.{Name}
 use Rattle.lpt_carried.specs.declared.reading.Reading.{Reading}
 use Rattle.lpt_carried.specs.Carried.{same_name}
-use Rattle.lpt_join.specs.PartNumbersInside.{has, is_ended}
+use Rattle.lpt_layout_join.specs.PartNumbersInside.{has, is_ended}
 use Rattle.lpt_stream.specs.Pieces.{Piece, packets_of, up_to_limit}
 use Rattle.lpt_layout_join.specs.declared.gathering.Gathering.{Gathering}
 use Rattle.lpt_layout_join.specs.declared.gatherings.Gatherings.{Gatherings}
@@ -63,6 +63,11 @@ pub record IsOnly (gs : Gatherings) (n : Name) (g : Gathering) : Type 0 where
   pub is : gs.kept.entries ≡ (n, g) ∷ []
   pub all : gs.has_more ≡ false
 
+-- there isn't just one; what is kept stands by the names, each once
+abbrev pub NoneIsOnly : Gatherings → Type 0
+NoneIsOnly gs =
+    ((n : Name) (g : Gathering) → IsOnly gs n g → ⊥) × IsOrdered name_cmp gs.kept
+
 -- this is what is kept of the transaction of this name, or of the only one
 abbrev pub IsChosen : Gatherings → (name : Option Name) → Gathering → Type 0
 IsChosen gs (Some n) g = kept_of gs n ≡ Some g
@@ -71,7 +76,7 @@ IsChosen gs None g = (n : Name) × IsOnly gs n g
 -- nothing is
 abbrev pub NoneIsChosen : Gatherings → (name : Option Name) → Type 0
 NoneIsChosen gs (Some n) = kept_of gs n ≡ None
-NoneIsChosen gs None = (n : Name) (g : Gathering) → IsOnly gs n g → ⊥
+NoneIsChosen gs None = NoneIsOnly gs
 
 -- it shows what packets gave
 pub record ShowsGathered (g : Gathered) (x : Gathering) : Type 0 where

@@ -7,9 +7,12 @@ pub mod Gatherings
 pub mod GatheringsInside
 pub mod InOrder
 pub mod Laws
+pub mod Missing
+pub mod MissingLists
 pub mod Names
 pub mod Orders
 pub mod Own
+pub mod PartNumbersInside
 pub mod Readers
 pub mod Slots
 pub mod Writes

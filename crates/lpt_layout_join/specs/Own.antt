@@ -3,12 +3,12 @@ use Rattle.std.specs.Prelude.{ℕ, Bool, true, false, List, Option, Some, None}
 use Rattle.std.specs.Option.{option_map}
 use Rattle.lpt_packet.specs.declared.direction.Direction.{Direction}
 use Rattle.lpt_carried.specs.declared.reading.Reading.{Reading}
-use Rattle.lpt_join.specs.declared.messages.Misfit.{Misfit}
-use Rattle.lpt_join.specs.declared.messages.Misfit.TheVariants as misfit
+use Rattle.lpt_join.specs.declared.misfit.Misfit.{Misfit}
+use Rattle.lpt_join.specs.declared.misfit.Misfit.TheVariants as misfit
 use Rattle.lpt_join.specs.declared.transaction.Transaction.{Transaction}
 use Rattle.lpt_join.specs.Joins.{Joined, Missing, Complete, Broken}
 use Rattle.lpt_join.specs.Several.{reading_of}
-use Rattle.lpt_join.specs.Writes as profile
+use Rattle.lpt_join.specs.Messages as profile
 use Rattle.lpt_layout_join.specs.declared.ending.JoinEnd.{JoinEnd}
 use Rattle.lpt_layout_join.specs.declared.ending.MisfitAs.{MisfitAs}
 use Rattle.lpt_layout_join.specs.declared.ending.MisfitAs.TheVariants.{NoPacket, OtherKind}

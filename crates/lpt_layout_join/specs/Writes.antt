@@ -27,7 +27,7 @@ use Rattle.lpt_layout_join.specs.declared.ending.MisfitAs.{MisfitAs}
 use Rattle.lpt_layout_join.specs.declared.ending.MisfitAs.TheVariants.{NoPacket, OtherKind, Unsure}
 use Rattle.lpt_layout_join.specs.Came.{message_of}
 use Rattle.lpt_layout_join.specs.Gathered.{Gathered, parts_gathered}
-use Rattle.lpt_layout_join.specs.Gatherings.{GivesEach, IsOnly}
+use Rattle.lpt_layout_join.specs.Gatherings.{GivesEach, IsOnly, NoneIsOnly}
 
 -- ---- what is fit
 
@@ -112,8 +112,7 @@ abbrev pub EndsOnly : Reading → (any : Bool) → List Piece → Gatherings →
 EndsOnly r any ps gs (Some end) old new =
     (n : Name) × (g : Gathering) × IsOnly gs n g
     × Ends r any (parts_gathered r n (packets_of ps)) end old new
-EndsOnly r any ps gs None old new =
-    ((n : Name) (g : Gathering) → IsOnly gs n g → ⊥) × (new ≡ old)
+EndsOnly r any ps gs None old new = NoneIsOnly gs × (new ≡ old)
 
 -- how the join of the transaction ends that was asked for, or of the only one
 abbrev pub EndsAs : Wanted → (any : Bool) → (name : Option Name) → List Piece → Gatherings

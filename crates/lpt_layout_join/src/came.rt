@@ -90,6 +90,23 @@ impl CameAs {
         self.began
     }
 
+    /// The same parts in memory of their own. The only error is out of memory.
+    pub fn copy(&self, alloc: Global) -> Result<CameAs, AllocError>
+        ensures came { (c : Came) → Shows c self.now → IfOk result (Shows c) }
+        ensures began { IfOk result (λ s. s.began ≡ self.now.began) }
+    {
+        let _small = (self.size, self.last);
+        let slots = self.slots.copy(alloc)?;
+        Ok(CameAs {
+            slots,
+            missing: self.missing,
+            size: self.size,
+            last: self.last,
+            against: self.against,
+            began: self.began,
+        })
+    }
+
     // Whether a part contradicts those that came.
     fn contradicts(&self, part: &PartAs<'_>) -> bool
         requires number { 1 ≤ part.now.number }

@@ -1,6 +1,6 @@
 //! What is kept of a stream's packets.
 
-ghost use Rattle.std.specs.Prelude.{◌≡◌, ◌≤◌, ◌∷◌, ◌++◌, ℕ, List, [], length, Some, IfOk, true};
+ghost use Rattle.std.specs.Prelude.{◌≡◌, ◌≤◌, ◌∷◌, ◌++◌, ℕ, List, [], length, Some, OnOk};
 ghost use Rattle.lpt_packet.specs.Sizes.{longest_packet};
 ghost use Rattle.lpt_layout.specs.Parts.{piece};
 ghost use Rattle.lpt_carried.specs.declared.name.Name.{Name};
@@ -11,8 +11,7 @@ ghost use Rattle.lpt_stream.specs.Pieces.{Piece, octets_in, packets_of, up_to_li
 ghost use Rattle.lpt_layout_join.specs.Counts.{all_counted, nothing_counted};
 ghost use Rattle.lpt_layout_join.specs.Gathered.{order_by, place_if, place_or};
 
-use crate::{CameAs, Order};
-use lpt_join::PartNumbers;
+use crate::{CameAs, Order, PartNumbers};
 use lpt_layout::PartAs;
 use std::alloc::{AllocError, Global};
 
@@ -55,35 +54,25 @@ impl Gathering {
     /// Adds a part of the transaction that a packet carries which stands at a place of the stream,
     /// or beyond 2^64 - 1 if it is that, and up to which so many sequence counts are missing.
     /// The only error is out of memory.
-    pub fn add(self, missing: u64, place: u64, part: &PartAs<'_>) -> Result<Gathering, AllocError>
+    pub fn add(&mut self, missing: u64, place: u64, part: &PartAs<'_>) -> Result<(), AllocError>
         requires number { 1 ≤ part.now.number }
         requires within { part.now.number ≤ longest_packet }
         requires short { length part.now.octets.now ≤ longest_packet }
-        ensures { (r : Reading) (n : Name) (ps : List Piece) (b : List ℕ) → Gives r n ps self
+        ensures { (r : Reading) (n : Name) (ps : List Piece) (b : List ℕ) → Gives r n ps self.old
             → missing ≡ (all_counted r nothing_counted (packets_of ps ++ b ∷ [])).missing
             → place ≡ up_to_limit (octets_in ps)
             → part_of n (part_carried r b) ≡ Some (piece part.now)
-            → IfOk result (Gives r n (ps ++ record { kind = Whole; octets = b } ∷ [])) }
+            → OnOk result (Gives r n (ps ++ record { kind = Whole; octets = b } ∷ []) self.new) }
     {
-        let Gathering {
-            mut came,
-            order,
-            sure,
-            mut numbers,
-            against,
-        } = self;
-        came.take(0, part)?;
-        numbers.add(part.number, part.kind)?;
-        let is_against = came.against().is_some();
-        let order = order_with(order, is_against, part.number, missing);
-        let sure = sure || order.is_whole(came.last());
-        Ok(Gathering {
-            came,
-            order,
-            sure,
-            numbers,
-            against: first_of(against, is_against, place),
-        })
+        self.came.take(0, part)?;
+        self.numbers.add(part.number, part.kind)?;
+        let is_against = self.came.against().is_some();
+        let order = order_with(self.order, is_against, part.number, missing);
+        let sure = self.sure || order.is_whole(self.came.last());
+        self.order = order;
+        self.sure = sure;
+        self.against = first_of(self.against, is_against, place);
+        Ok(())
     }
 }
 

@@ -1,7 +1,8 @@
 //! What is kept of each transaction among a stream's packets.
 
-ghost use Rattle.std.specs.Prelude.{◌≡◌, ◌≤◌, ◌<◌, ◌+◌, ◌⊎◌, ℕ, List, [], ◌∷◌, ◌++◌, length, true, false, Option, Some, None, IfOk, IfSome, OnOk, IfNone, Ok};
+ghost use Rattle.std.specs.Prelude.{◌≡◌, ◌≤◌, ◌<◌, ◌+◌, ◌⊎◌, ℕ, List, [], ◌∷◌, ◌++◌, length, true, false, Option, Some, None, IfOk, OnOk, Ok};
 ghost use Rattle.lpt_packet.specs.Sizes.{longest_packet};
+ghost use Rattle.lpt_layout.specs.Parts.{piece};
 ghost use Rattle.lpt_carried.specs.declared.name.Name.{Name};
 ghost use Rattle.lpt_carried.specs.declared.reading.Reading.{Reading};
 ghost use Rattle.lpt_carried.specs.Carried.{part_carried, name_of, part_named, same_name};
@@ -10,6 +11,7 @@ ghost use Rattle.lpt_layout_join.specs.Counts.{all_counted, nothing_counted};
 
 use crate::Gathering;
 use lpt_carried::{CarriedPart, Name};
+use lpt_layout::PartAs;
 use std::alloc::{AllocError, Global};
 use std::collections::BTreeMap;
 
@@ -29,8 +31,8 @@ pub struct Gatherings {
 impl Gatherings {
     ghost use Rattle.lpt_stream.specs.declared.piece_kind.PieceKind.TheVariants.{Whole};
     ghost use Rattle.lpt_stream.specs.Pieces.{Piece, octets_in, packets_of, up_to_limit};
-    ghost use Rattle.lpt_layout_join.specs.Gatherings.{Gives, GivesEach, is_wanted, kept_of};
-    ghost use Rattle.lpt_layout_join.specs.GatheringsInside.{HasPlace, IsFull};
+    ghost use Rattle.lpt_layout_join.specs.Gatherings.{GivesEach, is_wanted, kept_of};
+    ghost use Rattle.lpt_layout_join.specs.GatheringsInside.{IsAddedTo};
 
     /// Nothing has come.
     pub fn new(alloc: Global) -> Gatherings
@@ -46,52 +48,58 @@ impl Gatherings {
     /// if it is that, and up to which so many sequence counts are missing. The only error is out
     /// of memory.
     pub fn add(
-        self,
+        &mut self,
         alloc: Global,
         missing: u64,
         place: u64,
         part: &CarriedPart<'_>,
-    ) -> Result<Gatherings, AllocError>
+    ) -> Result<(), AllocError>
         requires number { 1 ≤ part.now.part.number }
         requires within { part.now.part.number ≤ longest_packet }
         requires short { length part.now.part.octets.now ≤ longest_packet }
         ensures { (r : Reading) (w : Option Name) (ps : List Piece) (b : List ℕ)
-            → GivesEach r w ps self → is_wanted w (name_of (part_named part.now)) ≡ true
+            → GivesEach r w ps self.old → is_wanted w (name_of (part_named part.now)) ≡ true
             → missing ≡ (all_counted r nothing_counted (packets_of ps ++ b ∷ [])).missing
             → place ≡ up_to_limit (octets_in ps)
             → part_carried r b ≡ Ok (part_named part.now)
-            → IfOk result (GivesEach r w (ps ++ record { kind = Whole; octets = b } ∷ [])) }
+            → OnOk result (GivesEach r w (ps ++ record { kind = Whole; octets = b } ∷ [])
+            self.new) }
     {
         let name = part.name();
-        let mut gatherings = self;
-        let Some(gathering) = gatherings.take_out(alloc, name) else {
-            gatherings.has_more = true;
-            return Ok(gatherings);
-        };
-        let gathering = gathering.add(missing, place, &part.part)?;
-        gatherings.put(name, gathering)?;
-        Ok(gatherings)
+        if self.add_to_kept(name, missing, place, &part.part)? {
+            return Ok(());
+        }
+        if !self.has_room() {
+            self.has_more = true;
+            return Ok(());
+        }
+        let mut gathering = Gathering::new(alloc);
+        gathering.add(missing, place, &part.part)?;
+        self.put(name, gathering)?;
+        Ok(())
     }
 
-    // What is kept of a transaction, taken out, or what nothing has given; none where nothing is
-    // kept of it, and nothing can be.
-    fn take_out(&mut self, alloc: Global, name: Name) -> Option<Gathering>
-        ensures given { (r : Reading) (w : Option Name) (ps : List Piece)
-            → GivesEach r w ps self.old → is_wanted w name ≡ true
-            → IfSome result (Gives r name ps) }
-        ensures others { (n : Name) → same_name name n ≡ false
-            → kept_of self.new n ≡ kept_of self.old n }
-        ensures none { kept_of self.new name ≡ None }
-        ensures more { self.new.has_more ≡ self.old.has_more }
-
-        // There is room for it, and nothing is kept of no more than there is room for.
-        ensures room { IfSome result (λ _. HasPlace self.old self.new) }
-        ensures full { IfNone result (IsFull self.old self.new) }
+    // Adds a part to what is kept of its transaction, where something is, and says whether it is.
+    // The only error is out of memory.
+    fn add_to_kept(
+        &mut self,
+        name: Name,
+        missing: u64,
+        place: u64,
+        part: &PartAs<'_>,
+    ) -> Result<bool, AllocError>
+        requires number { 1 ≤ part.now.number }
+        requires within { part.now.number ≤ longest_packet }
+        requires short { length part.now.octets.now ≤ longest_packet }
+        ensures { IfOk result (λ kept. IsAddedTo name missing place (piece part.now)
+            self.old self.new kept) }
     {
-        match self.kept.remove(&name) {
-            Some(gathering) => Some(gathering),
-            None if self.has_room() => Some(Gathering::new(alloc)),
-            None => None,
+        match self.kept.get_mut(&name) {
+            Some(gathering) => {
+                gathering.add(missing, place, part)?;
+                Ok(true)
+            }
+            None => Ok(false),
         }
     }
 

@@ -1,11 +1,14 @@
 //! What the definitions say of the parts of one message: functions with empty bodies.
 
-ghost use Rattle.std.specs.Prelude.{◌≡◌, ◌⊎◌, ◌≤◌, ℕ, Bool, false, List, Option, Some, None, Ok, length};
+ghost use Rattle.std.specs.Prelude.{◌≡◌, ◌⊎◌, ◌≤◌, ℕ, Bool, true, false, List, Option, Some, None, Ok, length};
 ghost use Rattle.std.specs.List.{AllByRecursion};
+ghost use Rattle.std.specs.Io.KnownBytes.{Appends};
+ghost use Rattle.lpt_events.specs.declared.config.Config.{Config};
 ghost use Rattle.lpt_events.specs.Arrivals.{part_subtype};
 ghost use Rattle.lpt_layout.specs.Messages.{Said, HeadFits};
 ghost use Rattle.lpt_layout.specs.Parts.{PieceFits, body_as};
 ghost use Rattle.lpt_layout.specs.Writes.{octets_as};
+ghost use Rattle.lpt_packet.specs.Names as names;
 ghost use Rattle.lpt_packet.specs.Numbers.{IsOctets};
 ghost use Rattle.lpt_packet.specs.Sizes.{longest_packet};
 ghost use Rattle.lpt_part.specs.Parts.{nth_part};
@@ -13,11 +16,13 @@ ghost use Rattle.lpt_part.specs.Splitting.{kind_at, part_count};
 ghost use Rattle.lpt_carried.specs.declared.name.Name.{Name};
 ghost use Rattle.lpt_carried.specs.declared.reading.Reading.{Reading};
 ghost use Rattle.lpt_stream.specs.declared.cut.Cut.TheVariants.{Sealed};
-ghost use Rattle.lpt_stream.specs.Pieces.{Piece};
+ghost use Rattle.lpt_skips.specs.declared.wanted.Wanted.{Wanted};
+ghost use Rattle.lpt_stream.specs.Pieces.{Finds, Piece, packets_of};
 ghost use Rattle.lpt_join.specs.declared.transaction.Transaction.{Transaction};
 ghost use Rattle.lpt_join.specs.Contradictions as contradictions;
 ghost use Rattle.lpt_join.specs.Joins.{packets_joined};
 ghost use Rattle.lpt_join.specs.Laws as profile;
+ghost use Rattle.lpt_join.specs.Messages.{IsFit};
 ghost use Rattle.lpt_join.specs.Several as several;
 ghost use Rattle.lpt_join.specs.Wide.{wide};
 ghost use Rattle.lpt_layout_join.specs.Came.{message_of, octets_of};
@@ -25,11 +30,13 @@ ghost use Rattle.lpt_carried.specs.Carried.{part_carried, cut, kind_to, same_nam
 ghost use Rattle.lpt_layout_join.specs.Gathered.{came, carry, has_ended, first_against, parts_gathered};
 ghost use Rattle.lpt_layout_join.specs.Own.{message_in, own_end, own_reading};
 ghost use Rattle.lpt_layout_join.specs.declared.ending.JoinEnd.TheVariants.{Written};
+ghost use Rattle.lpt_layout_join.specs.declared.ending.JoinReport.{JoinReport};
 ghost use Rattle.lpt_layout_join.specs.InOrder.{IsInOrder};
 ghost use Rattle.lpt_layout_join.specs.Laws.{AreOneOrOther, EachIsAmong, HasItsLength, IsAsked, IsSplit, part_named};
-ghost use Rattle.lpt_layout_join.specs.Writes.{end_of, end_whole, unfit};
+ghost use Rattle.lpt_layout_join.specs.Writes.{JoinsTo, Reports, end_of, end_whole, misfit, unfit};
 
 use lpt_carried::laws::the_own_parts;
+use lpt_join::laws::{made_alone_is_joined, made_is_joined};
 use lpt_layout::laws::{the_own_layouts, written_is_read};
 use lpt_reception::laws::whole_is_split;
 
@@ -47,6 +54,18 @@ pub fn split_is_joined()
         ≡ end_whole m (unfit r any (parts_gathered r n bs).sure m) }
     ensures alone { (r : Reading) (n k : Name) (p : ℕ) (m : List ℕ) (bs : List (List ℕ))
         → AreOneOrOther r None n p m bs → same_name n k ≡ false → carry r k bs ≡ false }
+{}
+
+/// Over pieces whose packets carry a message's parts, in any order and with repeats, and others in
+/// between, a join writes just that message once each part is among them; if it is fit. If no
+/// transaction was asked for, it is the only one.
+pub fn split_is_written()
+    ensures { (w : Wanted) (n : Name) (p : ℕ) (m : List ℕ) (any : Bool) (ps : List Piece)
+        (j : JoinReport) (old new : Option (List ℕ)) → IsSplit p m → IsAsked w.name n
+        → AreOneOrOther w.reading w.name n p m (packets_of ps)
+        → EachIsAmong w.reading n p m (packets_of ps)
+        → unfit w.reading any (parts_gathered w.reading n (packets_of ps)).sure m ≡ None
+        → Reports w any ps j old new → Appends old new m }
 {}
 
 /// Of whatever packets: what is written of a layout without a checksum, but with `any`, is joined
@@ -106,4 +125,34 @@ pub fn the_own_joins()
     the_own_layouts();
     the_own_parts();
     whole_is_split();
+}
+
+/// At the profile's own layouts, over a stream of packets that are made of a message, and others
+/// that carry no part of its transaction, in any order and with repeats, a join writes exactly that
+/// message once each part is among them; if it is a packet of the direction, or any octets are
+/// taken. So it does if none was asked for, and the others carry no part of any. Octets that are
+/// fit are a packet of the direction.
+pub fn the_own_message_is_written()
+    ensures asked { (t : Transaction) (c : Config) (any : Bool) (m stream : List ℕ)
+        (packets : List (List ℕ)) (j : JoinReport) (after old new : Option (List ℕ))
+        → JoinsTo (several.reading_of t (Some t.name)) any j (Some stream) after old new
+        → Finds stream packets → AllByRecursion IsOctets packets → profile.IsSending t c m
+        → profile.AllMadeOrOther t c m packets → profile.EachIsAmong t c m packets
+        → (any ≡ true) ⊎ IsFit t.direction m → Appends old new m }
+    ensures only { (t : Transaction) (name : names.Name) (c : Config) (any : Bool)
+        (m stream : List ℕ) (packets : List (List ℕ)) (j : JoinReport)
+        (after old new : Option (List ℕ))
+        → JoinsTo (several.reading_of t None) any j (Some stream) after old new
+        → Finds stream packets → AllByRecursion IsOctets packets
+        → profile.IsSending (several.of_name t name) c m
+        → profile.AllMadeOrNone (several.of_name t name) c m packets
+        → profile.EachIsAmong (several.of_name t name) c m packets
+        → (any ≡ true) ⊎ IsFit t.direction m → Appends old new m }
+    ensures fit { (t : Transaction) (m : List ℕ) → IsOctets m
+        → misfit (own_reading t) m ≡ None → IsFit t.direction m }
+{
+    the_own_layouts();
+    the_own_joins();
+    made_is_joined();
+    made_alone_is_joined();
 }

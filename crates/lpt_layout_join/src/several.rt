@@ -37,20 +37,20 @@ pub fn gather_stream<S: Source>(
         (S.remaining source.new)) result (S.failed source.old) (S.failed source.new) }
     ensures fault { IfErr result (λ e. (e ≡ StreamFault.Read) ⊎ (e ≡ StreamFault.Memory)) }
 {
-    let first = Gatherer {
-        wanted: *wanted,
+    let mut findings = Findings {
         gatherings: Gatherings::new(alloc),
         counts: Counts::new(alloc),
         skips: Skips::new(),
     };
+    let first = Gatherer { wanted };
     let mut out = Nowhere { failed: false };
-    match take_pieces(alloc, 0, source, first, &mut out, &mut ()) {
-        Ok(last) => {
-            let Gatherer {
+    match take_pieces(alloc, 0, source, first, &mut out, &mut findings) {
+        Ok(_) => {
+            let Findings {
                 gatherings,
                 skips,
                 ..
-            } = last;
+            } = findings;
             Ok((gatherings, skips))
         }
         Err(StreamFault::Read) => Err(StreamFault::Read),
@@ -62,87 +62,64 @@ pub fn gather_stream<S: Source>(
 
 // What a stream's pieces have given of each transaction so far.
 #[derive(Drop)]
-struct Gatherer {
-    wanted: Wanted,
+struct Findings {
     gatherings: Gatherings,
     counts: Counts,
     // What was passed over.
     skips: Skips,
 }
 
-impl Gatherer {
-    ghost use Rattle.std.specs.Prelude.{◌≢◌, ◌∷◌, ◌++◌, [], List};
+impl Findings {
+    ghost use Rattle.std.specs.Prelude.{◌∷◌, ◌++◌, [], List, OnOk};
     ghost use Rattle.lpt_stream.specs.declared.piece_kind.PieceKind.TheVariants.{Whole};
     ghost use Rattle.lpt_stream.specs.Pieces.{Piece, IsSealedBy, octets_in, up_to_limit};
     ghost use Rattle.lpt_layout_join.specs.Readers.{Gathers};
 
     // Adds the next piece. The only error is out of memory.
     fn add(
-        self,
+        &mut self,
         alloc: Global,
+        wanted: &Wanted,
         place: u64,
         kind: PieceKind,
         octets: &[u8],
-    ) -> Result<Gatherer, AllocError>
-        requires sealed { IsSealedBy (cut self.wanted.reading) kind octets.now }
-        ensures same { IfOk result (λ g. g.wanted ≡ self.wanted) }
-        ensures added { (first : Gatherer) (ps : List Piece) → Gathers first self ps
-            → place ≡ up_to_limit (octets_in ps) → IfOk result (λ g.
-            Gathers first g (ps ++ record { kind = kind; octets = octets.now } ∷ [])) }
+    ) -> Result<(), AllocError>
+        requires { IsSealedBy (cut wanted.now.reading) kind octets.now }
+        ensures { (ps : List Piece) → Gathers wanted.now self.old ps
+            → place ≡ up_to_limit (octets_in ps) → OnOk result (Gathers wanted.now self.new
+            (ps ++ record { kind = kind; octets = octets.now } ∷ [])) }
     {
         match kind {
-            PieceKind::Whole => self.add_packet(alloc, place, octets),
-            PieceKind::Damaged => Ok(self.pass(PieceKind::Damaged, octets)),
-            PieceKind::Stray => Ok(self.pass(PieceKind::Stray, octets)),
+            PieceKind::Whole => self.add_packet(alloc, wanted, place, octets),
+            PieceKind::Damaged | PieceKind::Stray => {
+                self.skips.note(wanted, kind, octets);
+                Ok(())
+            }
         }
     }
 
-    // Passes over the next piece, which is no packet.
-    fn pass(self, kind: PieceKind, octets: &[u8]) -> Gatherer
-        requires other { kind ≢ Whole }
-        requires sealed { IsSealedBy (cut self.wanted.reading) kind octets.now }
-        ensures same { result.wanted ≡ self.wanted }
-        ensures passed { (first : Gatherer) (ps : List Piece) → Gathers first self ps
-            → Gathers first result (ps ++ record { kind = kind; octets = octets.now } ∷ []) }
-    {
-        let mut gatherer = self;
-        let wanted = gatherer.wanted;
-        gatherer.skips.note(&wanted, kind, octets);
-        gatherer
-    }
-
     // Adds the next piece, which is a packet. The only error is out of memory.
-    fn add_packet(self, alloc: Global, place: u64, octets: &[u8]) -> Result<Gatherer, AllocError>
-        requires sealed { IsSealedBy (cut self.wanted.reading) Whole octets.now }
-        ensures same { IfOk result (λ g. g.wanted ≡ self.wanted) }
-        ensures added { (first : Gatherer) (ps : List Piece) → Gathers first self ps
-            → place ≡ up_to_limit (octets_in ps) → IfOk result (λ g.
-            Gathers first g (ps ++ record { kind = Whole; octets = octets.now } ∷ [])) }
+    fn add_packet(
+        &mut self,
+        alloc: Global,
+        wanted: &Wanted,
+        place: u64,
+        octets: &[u8],
+    ) -> Result<(), AllocError>
+        requires { IsSealedBy (cut wanted.now.reading) Whole octets.now }
+        ensures { (ps : List Piece) → Gathers wanted.now self.old ps
+            → place ≡ up_to_limit (octets_in ps) → OnOk result (Gathers wanted.now self.new
+            (ps ++ record { kind = Whole; octets = octets.now } ∷ [])) }
     {
-        let Gatherer {
-            wanted,
-            gatherings,
-            mut counts,
-            mut skips,
-        } = self;
-        counts.take(&wanted.reading, octets)?;
-        let Some(part) = wanted_part(&wanted, octets) else {
-            skips.note(&wanted, PieceKind::Whole, octets);
-            return Ok(Gatherer {
-                wanted,
-                gatherings,
-                counts,
-                skips,
-            });
+        self.counts.take(&wanted.reading, octets)?;
+        let Some(part) = wanted_part(wanted, octets) else {
+            self.skips.note(wanted, PieceKind::Whole, octets);
+            return Ok(());
         };
-        skips.pass(octets);
-        let gatherings = gatherings.add(alloc, counts.missing(), place, &part)?;
-        Ok(Gatherer {
-            wanted,
-            gatherings,
-            counts,
-            skips,
-        })
+        self.skips.pass(octets);
+        let missing = self.counts.missing();
+        self.gatherings.add(alloc, missing, place, &part)?;
+        Ok(())
     }
 }
 
@@ -178,17 +155,23 @@ fn is_wanted(wanted: Option<Name>, name: Name) -> bool
     }
 }
 
-impl Taker<Nowhere, ()> for Gatherer {
+// It lets each piece add to what was found before. It is small, since it is moved at each piece.
+#[derive(Drop)]
+struct Gatherer<'a> {
+    wanted: &'a Wanted,
+}
+
+impl Taker<Nowhere, Findings> for Gatherer<'_> {
     ghost use Rattle.std.specs.Prelude.{◌≡◌, [], true, ⊤};
     ghost use Rattle.lpt_text.specs.declared.fault.StreamFault.TheVariants as faults;
     ghost use Rattle.lpt_carried.specs.Carried as carried;
-    ghost use Rattle.lpt_layout_join.specs.Readers.{Gathers};
+    ghost use Rattle.lpt_layout_join.specs.Readers.{Takes};
 
-    ghost cut = { λ g. carried.cut g.wanted.reading };
+    ghost cut = { λ g. carried.cut g.wanted.now.reading };
 
     ghost is_open = { λ _. true };
 
-    ghost takes = { λ from first now old new pieces. (from ≡ 0) × Gathers first now pieces };
+    ghost takes = { λ from first now old new pieces. Takes from first now new pieces };
 
     ghost leaves = { λ from first old new pieces. ⊤ };
 
@@ -208,13 +191,13 @@ impl Taker<Nowhere, ()> for Gatherer {
         self,
         alloc: Global,
         _out: &mut Nowhere,
-        _lent: &mut (),
+        lent: &mut Findings,
         place: u64,
         kind: PieceKind,
         octets: &[u8],
-    ) -> Result<Gatherer, StreamFault> {
-        match self.add(alloc, place, kind, octets) {
-            Ok(gatherer) => Ok(gatherer),
+    ) -> Result<Self, StreamFault> {
+        match lent.add(alloc, self.wanted, place, kind, octets) {
+            Ok(()) => Ok(self),
             Err(_) => Err(StreamFault::Memory),
         }
     }

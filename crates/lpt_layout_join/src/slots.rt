@@ -70,6 +70,23 @@ impl Slots {
         Ok(())
     }
 
+    // The same in memory of its own. The only error is out of memory.
+    pub(crate) fn copy(&self, alloc: Global) -> Result<Slots, AllocError>
+        ensures octets { IfOk result (λ s. s.octets.items ≡ self.now.octets.items) }
+        ensures spans { IfOk result (λ s. s.spans.items ≡ self.now.spans.items) }
+        ensures count { IfOk result (λ s. s.count ≡ self.now.count) }
+    {
+        let mut octets = Vec::with_capacity(alloc, self.octets.len())?;
+        octets.extend_from_slice(&self.octets)?;
+        let mut spans = Vec::with_capacity(alloc, self.spans.len())?;
+        spans.extend_from_slice(&self.spans)?;
+        Ok(Slots {
+            octets,
+            spans,
+            count: self.count,
+        })
+    }
+
     // The octets at a place, where a part came.
     pub(crate) fn part_at(&self, place: usize) -> Option<&[u8]>
         ensures some { IfSome result (λ o. at self.now place ≡ Some o.now) }

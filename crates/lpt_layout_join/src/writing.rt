@@ -8,7 +8,7 @@ ghost use Rattle.lpt_stream.specs.Pieces.{Piece};
 ghost use Rattle.lpt_stream.specs.Reads.{IsEndlessBy};
 ghost use Rattle.lpt_layout_join.specs.declared.gathering.Gathering.{Gathering};
 ghost use Rattle.lpt_layout_join.specs.Gathered.{Gathered};
-ghost use Rattle.lpt_layout_join.specs.Gatherings.{GivesEach, IsChosen, IsOnly, NoneIsChosen, ShowsGathered};
+ghost use Rattle.lpt_layout_join.specs.Gatherings.{GivesEach, IsChosen, IsOnly, NoneIsChosen, NoneIsOnly, ShowsGathered};
 ghost use Rattle.lpt_layout_join.specs.Writes.{ChosenFails, Ends, EndsAs, EndsFailed, JoinLeaves, JoinsTo, WritesEnd, WritesFit, end_missing, end_of, end_whole, kind_misfit, misfit, unfit, unsure};
 
 use crate::{Gathering, Gatherings, JoinEnd, JoinReport, MisfitAs, gather_stream};
@@ -116,7 +116,7 @@ fn chosen_gathering(gatherings: &Gatherings, name: Option<Name>) -> Option<&Gath
 // What is kept of the only transaction, where there is only one.
 fn only(gatherings: &Gatherings) -> Option<&Gathering>
     ensures some { IfSome result (λ g. (n : Name) × IsOnly gatherings.now n g.now) }
-    ensures none { result ≡ None → (n : Name) (g : Gathering) → IsOnly gatherings.now n g → ⊥ }
+    ensures none { result ≡ None → NoneIsOnly gatherings.now }
 {
     if gatherings.kept.len() != 1 || gatherings.has_more {
         return None;

@@ -3,8 +3,7 @@
 ghost use Rattle.std.specs.Prelude.{◌≡◌, IfErr};
 ghost use Rattle.lpt_events.specs.Configs.{IsConfig};
 
-use crate::joins::tell;
-use crate::layout_joins::{tell_skips, unfit_text, who};
+use crate::joins::{tell, tell_skips, unfit_text, who};
 use lpt_carried::{Name, Reading};
 use lpt_command_line::{JoinWords, Span};
 use lpt_each_files::{Shelf, write_messages};
@@ -12,8 +11,8 @@ use lpt_events::Config;
 use lpt_io::{
     Failure, Fault, Machine, Packets, Status, Voice, opened_packets, packets_end, write_beside,
 };
-use lpt_join::{PartNumbers, missing_list};
 use lpt_layout_each::{CameAs, NewsAs};
+use lpt_layout_join::{PartNumbers, missing_list};
 use lpt_part::Kind;
 use lpt_skips::{Skips, Wanted};
 use lpt_text::StreamFault;

@@ -2,31 +2,39 @@
 
 ghost use Rattle.lpt_events.specs.Configs.{IsConfig};
 
-use lpt_command_line::JoinWords;
-use lpt_events::{Config, name_word};
+use lpt_carried::{Name, Reading};
+use lpt_command_line::{JoinWords, Span};
+use lpt_events::Config;
 use lpt_io::{
-    Failure, Fault, Machine, Output, Packets, Status, Voice, finish, first_failure, opened_packets,
-    output, packets_end, tell_place,
+    Failure, Fault, Machine, Packets, Status, Voice, finish, first_failure, octets_word,
+    opened_packets, output, packets_end, tell_place,
 };
-use lpt_join::{
-    Gatherings, JoinEnd, JoinReport, Joining, Misfit, PartNumbers, Transaction, check_message,
-    join_message, join_only, missing_list,
+use lpt_layout::Width;
+use lpt_layout_join::{
+    Gathering, JoinEnd, JoinReport, MisfitAs, PartNumbers, end_of, join_as, missing_list,
 };
-use lpt_packet::{Direction, Name};
-use lpt_skips::{Skips, Wanted};
+use lpt_skips::{Skips, Wanted, name_text};
 use lpt_text::StreamFault;
 use std::alloc::{AllocError, Global};
 
-/// What became of the packets of a file.
-#[derive(Drop)]
-enum JoinedMessages {
-    /// Of the transaction that was asked for.
-    One(Name, JoinReport),
-    /// Of all, if none was.
-    Each(Option<JoinEnd>, Gatherings, Skips),
+/// How a message is asked for.
+#[derive(Clone, Copy)]
+pub struct OneWords<'a> {
+    /// The source that is configured.
+    pub user: u32,
+    /// How parts are read, and which are wanted.
+    pub wanted: Wanted,
+    /// Whether what is joined needn't be a packet.
+    pub any: bool,
+    /// Whether the first whole message is taken for good.
+    pub first: bool,
+    /// Which octets of the packets are read.
+    pub span: Span,
+    /// The paths of the packets.
+    pub files: &'a [&'a str],
 }
 
-/// Writes the message that packets carry.
+/// Writes the message that packets of the profile carry.
 ///
 /// Errors: `Read` if the packets can't be opened or read, or their capture is wrong; `Write`,
 /// `Memory`.
@@ -40,27 +48,54 @@ pub fn join<R: Machine>(
 {
     let span = words.span;
     let mut source = opened_packets(rt, voice, &words.files, span.from, span.to)?;
-    let status = join_from(rt, voice, config, words, &mut source);
+    let words = OneWords {
+        user: u32::from(config.source),
+        wanted: wanted_of(config, words),
+        any: words.any,
+        first: words.first,
+        span,
+        files: words.files.as_slice(),
+    };
+    let status = join_from(rt, voice, &words, &mut source);
     drop(source);
     status
 }
 
-// The same of packets that were opened.
-fn join_from<R: Machine>(
-    rt: &R,
-    voice: Voice,
-    config: &Config,
-    words: &JoinWords<'_>,
-    source: &mut Packets<R>,
-) -> Result<Status, Failure>
+// How the profile's parts are read, and which are wanted.
+fn wanted_of(config: &Config, words: &JoinWords<'_>) -> Wanted
     requires { IsConfig config.now }
 {
+    let name = match words.name {
+        Some(given) => {
+            let name = given.under(config.source);
+            Some(Name {
+                user: u32::from(name.source),
+                id: u32::from(name.id),
+            })
+        }
+        None => None,
+    };
+    Wanted {
+        reading: Reading::own(words.direction, config.apid, config.part_size),
+        name,
+    }
+}
+
+/// The same of packets that were opened.
+///
+/// Errors: `Read` if they can't be read, or their capture is wrong; `Write`, `Memory`.
+pub fn join_from<R: Machine>(
+    rt: &R,
+    voice: Voice,
+    words: &OneWords<'_>,
+    source: &mut Packets<R>,
+) -> Result<Status, Failure> {
     let mut out = output(rt)?;
-    let joined = join_packets(rt.alloc(), config, words, source, &mut out);
+    let joined = join_as(rt.alloc(), &words.wanted, words.any, source, &mut out);
     let failed = matches!(joined, Err(StreamFault::Read));
-    let failure = packets_end(rt, voice, source, &words.files, failed);
+    let failure = packets_end(rt, voice, source, words.files, failed);
     let finished = first_failure(finish(rt, out), failure);
-    let status = status_of(rt, config, words, finished, &joined);
+    let status = status_of(rt, words, finished, &joined);
     drop(joined);
     status
 }
@@ -68,53 +103,17 @@ fn join_from<R: Machine>(
 // The status of a join that ended so, where its output was finished.
 fn status_of(
     rt: &(impl Eprint + AllocGlobal),
-    config: &Config,
-    words: &JoinWords<'_>,
+    words: &OneWords<'_>,
     finished: Result<(), Failure>,
-    joined: &Result<JoinedMessages, StreamFault>,
-) -> Result<Status, Failure>
-    requires { IsConfig config.now }
-{
+    joined: &Result<JoinReport, StreamFault>,
+) -> Result<Status, Failure> {
     finished?;
     match joined {
-        Ok(joined) => match tell_outcome(rt, config, words, joined) {
+        Ok(report) => match tell_outcome(rt, words, report) {
             Ok(status) => Ok(status),
             Err(_) => Err(Failure::from(Fault::Memory)),
         },
         Err(fault) => Err(Failure::from(*fault)),
-    }
-}
-
-// Joins the packets of a source.
-fn join_packets<R: Machine>(
-    alloc: Global,
-    config: &Config,
-    words: &JoinWords<'_>,
-    source: &mut Packets<R>,
-    out: &mut Output<'_, R>,
-) -> Result<JoinedMessages, StreamFault>
-    requires { IsConfig config.now }
-{
-    let given = words.name.map(|name| name.under(config.source));
-    let name = given.unwrap_or(Name { source: 0, id: 0 });
-    let transaction = transaction_of(config, words, name);
-    if given.is_some() {
-        let report = join_message(alloc, &transaction, words.any, source, out)?;
-        return Ok(JoinedMessages::One(name, report));
-    }
-    let (end, gatherings, skips) = join_only(alloc, &transaction, words.any, source, out)?;
-    Ok(JoinedMessages::Each(end, gatherings, skips))
-}
-
-// The transaction of a name, in the direction that is asked for.
-fn transaction_of(config: &Config, words: &JoinWords<'_>, name: Name) -> Transaction
-    requires { IsConfig config.now }
-{
-    Transaction {
-        direction: words.direction,
-        name,
-        apid: config.apid,
-        part_size: config.part_size,
     }
 }
 
@@ -123,205 +122,198 @@ fn transaction_of(config: &Config, words: &JoinWords<'_>, name: Name) -> Transac
 // out of memory.
 fn tell_outcome(
     rt: &(impl Eprint + AllocGlobal),
-    config: &Config,
-    words: &JoinWords<'_>,
-    joined: &JoinedMessages,
-) -> Result<Status, AllocError>
-    requires { IsConfig config.now }
-{
-    let (status, end, name, skips) = match joined {
-        JoinedMessages::One(name, report) => {
-            let (came, against) = (&report.came, report.against);
-            let status = tell_end(rt, config, words, *name, report.end, came, against)?;
-            (status, Some(report.end), Some(*name), &report.skips)
+    words: &OneWords<'_>,
+    report: &JoinReport,
+) -> Result<Status, AllocError> {
+    let wanted = &words.wanted;
+    let status = match (report.end, wanted.name) {
+        (Some(end), Some(name)) => {
+            let gathering = report.gatherings.kept.get(&name);
+            tell_end(rt, words, name, end, gathering)?
         }
-        JoinedMessages::Each(end, gatherings, skips) => {
-            let status = tell_only(rt, config, words, *end, gatherings)?;
-            (status, *end, None, skips)
+        (Some(end), None) => match report.gatherings.kept.first_key_value() {
+            Some((name, gathering)) => tell_end(rt, words, *name, end, Some(gathering))?,
+            None => Status::Refused,
+        },
+        (None, _) => {
+            tell_each(rt, words, report)?;
+            Status::Refused
         }
     };
-    let loses = skips.loses(&wanted_of(config, words, name));
-    if !loses && matches!(end, Some(JoinEnd::Written(_))) {
+    let loses = report.skips.loses(wanted);
+    if !loses && matches!(report.end, Some(JoinEnd::Written(_))) {
         return Ok(status);
     }
-    tell_skips(rt, config, words, name, skips)?;
+    tell_skips(rt, words.user, wanted, words.span.from, &report.skips)?;
     Ok(if loses { Status::Refused } else { status })
 }
 
-/// How parts are read, if those of this name are wanted, or of any.
-pub fn wanted_of(config: &Config, words: &JoinWords<'_>, name: Option<Name>) -> Wanted
-    requires { IsConfig config.now }
-{
-    transaction_of(config, words, Name { source: 0, id: 0 }).reading(name)
-}
-
-/// Says on standard error what was passed over, and why, if parts of this name were wanted, or
-/// of any. The only error is out of memory.
+/// Says on standard error what was passed over, and why, if these parts were wanted, this source is
+/// configured and packets are taken from this octet on. The only error is out of memory.
 pub fn tell_skips(
     rt: &(impl Eprint + AllocGlobal),
-    config: &Config,
-    words: &JoinWords<'_>,
-    name: Option<Name>,
+    source: u32,
+    wanted: &Wanted,
+    from: Option<u64>,
     skips: &Skips,
-) -> Result<(), AllocError>
-    requires { IsConfig config.now }
-{
-    let wanted = wanted_of(config, words, name);
-    let from = words.span.from.unwrap_or(0);
-    for line in skips.lines(rt.alloc(), &wanted, u32::from(config.source), from)? {
+) -> Result<(), AllocError> {
+    let source = source_of(source, &wanted.reading);
+    for line in skips.lines(rt.alloc(), wanted, source, from.unwrap_or(0))? {
         tell_place(rt, line.as_str());
     }
     Ok(())
 }
 
-// What is told of a join that takes the only transaction there is. The only error is out of memory.
-fn tell_only(
-    rt: &(impl Eprint + AllocGlobal),
-    config: &Config,
-    words: &JoinWords<'_>,
-    end: Option<JoinEnd>,
-    gatherings: &Gatherings,
-) -> Result<Status, AllocError> {
-    let only = gatherings.kept.first_key_value();
-    if let (Some(end), Some((name, gathering))) = (end, only) {
-        let came = &gathering.came;
-        return tell_end(rt, config, words, *name, end, came, gathering.against);
-    }
-    tell_each(rt, config, words, gatherings)?;
-    Ok(Status::Refused)
-}
-
 // Says of each transaction what isn't whole. The only error is out of memory.
 fn tell_each(
     rt: &(impl Eprint + AllocGlobal),
-    config: &Config,
-    words: &JoinWords<'_>,
-    gatherings: &Gatherings,
+    words: &OneWords<'_>,
+    report: &JoinReport,
 ) -> Result<(), AllocError> {
-    let direction = words.direction.word();
-    if gatherings.kept.is_empty() {
+    let alloc = rt.alloc();
+    let reading = &words.wanted.reading;
+    let direction = reading.direction.word();
+    if report.gatherings.kept.is_empty() {
         return tell(
             rt,
-            format!(in rt.alloc(); "{direction}: no part of a message came"),
+            format!(in alloc; "{direction}: no part of a message came"),
         );
     }
-    for (name, gathering) in gatherings.kept.iter() {
-        let end = end_of(words, &gathering.joining);
+    for (name, gathering) in report.gatherings.kept.iter() {
+        let end = end_of(alloc, reading, words.any, gathering)?;
         if let JoinEnd::Written(_) = end {
-            let id = name_word(config.source, *name);
-            let text = format!(in rt.alloc(); "whole, --id {id} writes it");
-            tell_of(rt, config, words.direction, *name, text)?;
+            let id = name_text(alloc, source_of(words.user, reading), *name)?;
+            let text = format!(in alloc; "{direction} {id}: whole, --id {id} writes it");
+            tell(rt, text)?;
         }
-        let came = &gathering.came;
-        tell_end(rt, config, words, *name, end, came, gathering.against)?;
+        tell_end(rt, words, *name, end, Some(gathering))?;
     }
-    if gatherings.has_more {
+    if report.gatherings.has_more {
         let text = "parts of more messages came: --id ID chooses one";
-        return tell(rt, format!(in rt.alloc(); "{direction}: {text}"));
+        return tell(rt, format!(in alloc; "{direction}: {text}"));
     }
     Ok(())
 }
 
-// How the join of a transaction would end.
-fn end_of(words: &JoinWords<'_>, joining: &Joining) -> JoinEnd {
-    match joining {
-        Joining::Nothing | Joining::Missing(_) => JoinEnd::Missing,
-        Joining::BrokenOff => JoinEnd::BrokenOff,
-        Joining::Complete(message) => {
-            let octets = message.as_slice();
-            match check_message(words.direction, octets) {
-                Err(misfit) if !words.any => JoinEnd::Unfit(misfit),
-                _ => JoinEnd::Written(octets.len()),
-            }
-        }
-    }
-}
-
-// Says how the join of a transaction ended, where not all of it is well, and gives the status of
-// that. The only error is out of memory.
+// Says how the join of a transaction ended of which this is kept, where not all of it is well, and
+// gives the status of that. The only error is out of memory.
 fn tell_end(
     rt: &(impl Eprint + AllocGlobal),
-    config: &Config,
-    words: &JoinWords<'_>,
+    words: &OneWords<'_>,
     name: Name,
     end: JoinEnd,
-    came: &PartNumbers,
-    against: Option<u64>,
+    gathering: Option<&Gathering>,
 ) -> Result<Status, AllocError> {
+    let alloc = rt.alloc();
+    let reading = &words.wanted.reading;
+    let who = who(alloc, words.user, reading, Some(name))?;
+    let against = tell_size(rt, reading, &who, gathering)?;
     match end {
         JoinEnd::Written(_) if words.first => return Ok(Status::Done),
         JoinEnd::Written(_) if against.is_none() => return Ok(Status::Done),
         JoinEnd::Written(_) | JoinEnd::BrokenOff => {}
-        JoinEnd::Unfit(misfit) => tell_unfit(rt, config, words.direction, name, misfit)?,
-        JoinEnd::Missing => tell_missing(rt, config, words.direction, name, came)?,
+        JoinEnd::Unfit(misfit) => tell(rt, unfit_text(alloc, &who, misfit))?,
+        JoinEnd::Missing => tell(rt, missing_text(alloc, &who, gathering))?,
     }
     if let Some(behind) = against {
         let place = behind.saturating_add(words.span.from.unwrap_or(0));
         let text = match end {
-            JoinEnd::BrokenOff => contradicting(rt.alloc(), place),
-            _ => foreign(rt.alloc(), place),
+            JoinEnd::BrokenOff => contradicting(alloc, place)?,
+            _ => foreign(alloc, place)?,
         };
-        tell_of(rt, config, words.direction, name, text)?;
+        tell(rt, format!(in alloc; "{who}: {text}"))?;
     }
     Ok(Status::Refused)
 }
 
-/// That the part at this place broke a message off.
-pub fn contradicting(alloc: Global, place: u64) -> Result<String, AllocError> {
+// That the part at this place broke a message off.
+fn contradicting(alloc: Global, place: u64) -> Result<String, AllocError> {
     format!(in alloc; "broken off: the part at octet {place} contradicts those before it")
 }
 
-/// That the parts from this place on aren't all of the message.
-pub fn foreign(alloc: Global, place: u64) -> Result<String, AllocError> {
+// That the parts from this place on aren't all of the message.
+fn foreign(alloc: Global, place: u64) -> Result<String, AllocError> {
     format!(in alloc; "parts of another message of this name come from octet {place} on")
 }
 
-/// Says on standard error that what was joined isn't written, and why. The only error is out of
-/// memory.
-pub fn tell_unfit(
+// Says the part size of a transaction, where that isn't known before, and gives the place of the
+// first part that contradicts those before it. The only error is out of memory.
+fn tell_size(
     rt: &(impl Eprint + AllocGlobal),
-    config: &Config,
-    direction: Direction,
-    name: Name,
-    misfit: Misfit,
-) -> Result<(), AllocError> {
-    let joined = "the joined message is no packet";
-    let text = match misfit {
-        Misfit::NoPacket(fault) => {
-            let code = fault.code();
-            let word = fault.name();
-            format!(in rt.alloc(); "{joined}: fault {code} {word}")
-        }
-        Misfit::OtherKind => format!(in rt.alloc(); "{joined} of its direction"),
+    reading: &Reading,
+    who: &str,
+    gathering: Option<&Gathering>,
+) -> Result<Option<u64>, AllocError> {
+    let Some(gathering) = gathering else {
+        return Ok(None);
     };
-    tell_of(rt, config, direction, name, text)
+    if let (None, Some(size)) = (reading.part_size, gathering.came.size()) {
+        let octets = octets_word(size);
+        tell(
+            rt,
+            format!(in rt.alloc(); "{who}: parts of {size} {octets}"),
+        )?;
+    }
+    Ok(gathering.against)
 }
 
-// Says which parts are missing, as a list for `split`. The only error is out of memory.
-fn tell_missing(
-    rt: &(impl Eprint + AllocGlobal),
-    config: &Config,
-    direction: Direction,
-    name: Name,
-    came: &PartNumbers,
-) -> Result<(), AllocError> {
-    let list = missing_list(rt.alloc(), came)?;
-    let text = format!(in rt.alloc(); "missing parts: {list}");
-    tell_of(rt, config, direction, name, text)
+/// What names a transaction if this source is configured, behind its direction.
+pub fn who(
+    alloc: Global,
+    source: u32,
+    reading: &Reading,
+    name: Option<Name>,
+) -> Result<String, AllocError> {
+    let direction = reading.direction.word();
+    match name {
+        Some(name) => {
+            let word = name_text(alloc, source_of(source, reading), name)?;
+            format!(in alloc; "{direction} {word}")
+        }
+        None => format!(in alloc; "{direction}"),
+    }
 }
 
-/// Says this of a transaction on standard error, if there was memory for it.
-pub fn tell_of(
-    rt: &(impl Eprint + AllocGlobal),
-    config: &Config,
-    direction: Direction,
-    name: Name,
-    text: Result<String, AllocError>,
-) -> Result<(), AllocError> {
-    let text = text?;
-    let direction = direction.word();
-    let id = name_word(config.source, name);
-    tell(rt, format!(in rt.alloc(); "{direction} {id}: {text}"))
+// The source that is meant where none is said: 0 where the layout has no field for it.
+fn source_of(source: u32, reading: &Reading) -> u32 {
+    match reading.layout.user {
+        Width::Absent => 0,
+        _ => source,
+    }
+}
+
+/// Why what was joined isn't written.
+pub fn unfit_text(alloc: Global, who: &str, misfit: MisfitAs) -> Result<String, AllocError> {
+    let joined = "the joined message is no packet";
+    match misfit {
+        MisfitAs::OtherKind => format!(in alloc; "{who}: {joined} of its direction"),
+        MisfitAs::Unsure => format!(in alloc;
+            "{who}: whole, but its parts didn't come in order, or sequence counts are missing \
+             between them: join --any writes it"
+        ),
+        MisfitAs::NoPacket(fault) => {
+            let (code, word) = (fault.code(), fault.name());
+            format!(in alloc; "{who}: {joined}: fault {code} {word}")
+        }
+    }
+}
+
+// Which parts are missing, as a list for `split`. The only error is out of memory.
+fn missing_text(
+    alloc: Global,
+    who: &str,
+    gathering: Option<&Gathering>,
+) -> Result<String, AllocError> {
+    let list = match gathering {
+        Some(gathering) => missing_list(alloc, &gathering.numbers)?,
+        None => {
+            let none = PartNumbers::new(alloc);
+            let list = missing_list(alloc, &none);
+            drop(none);
+            list?
+        }
+    };
+    format!(in alloc; "{who}: missing parts: {list}")
 }
 
 /// Says this on standard error, if there was memory for it.
