@@ -5,7 +5,6 @@ mod GiveLemmas
 mod ImageLemmas
 mod JoinedLemmas
 mod LayoutJoinLemmas
-mod OwnJoinLemmas
 mod OwnLemmas
 mod PartLemmas
 mod ReadLemmas

@@ -9,7 +9,6 @@ pub mod JoinedInside
 pub mod LayoutJoined
 pub mod Notices
 pub mod Own
-pub mod OwnJoined
 pub mod Reports
 pub mod ReportsInside
 pub mod Tallies

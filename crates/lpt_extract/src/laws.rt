@@ -1,23 +1,15 @@
 //! What the definitions say of dump reports: functions whose bodies only call laws from below.
 
 ghost use Rattle.std.specs.Prelude.{◌≡◌, ℕ, List};
-ghost use Rattle.std.specs.List.{AllByRecursion};
 ghost use Rattle.lpt_packet.specs.Numbers.{IsOctets};
 ghost use Rattle.lpt_stream.specs.declared.cut.Cut.TheVariants.{Sealed};
 ghost use Rattle.lpt_layout.specs.Own.{own_tm};
-ghost use Rattle.lpt_carried.specs.Carried.{cut};
-ghost use Rattle.lpt_join.specs.declared.transaction.Transaction.{Transaction};
-ghost use Rattle.lpt_layout_join.specs.Own.{own_reading};
 ghost use Rattle.lpt_extract.specs.declared.wanted.Wanted.{Wanted};
 ghost use Rattle.lpt_extract.specs.Extracts.{cut_of};
-ghost use Rattle.lpt_extract.specs.LayoutJoined.{layout_reads};
 ghost use Rattle.lpt_extract.specs.Own.{packet_said};
-ghost use Rattle.lpt_extract.specs.OwnJoined.{own_reads};
 ghost use Rattle.lpt_extract.specs.Reports.{report_in};
 
-use lpt_carried::laws::the_own_parts;
 use lpt_layout::laws::the_own_layouts;
-use lpt_layout_each::laws::the_own_eaches;
 use lpt_packet::laws::seen_is_read;
 
 /// At the profile's own layout of telemetry octets say what the profile's own readers read in them,
@@ -29,17 +21,4 @@ pub fn the_own_reports()
 {
     the_own_layouts();
     seen_is_read();
-}
-
-/// Where dump reports of the profile may come in parts, what is read in place of a packet, behind
-/// whatever others, is what the profile reads: the packet itself, or the message that becomes whole
-/// with its part. The stream is cut by checksums.
-pub fn the_own_joined()
-    ensures reads { (t : Transaction) (before : List (List ℕ)) (b : List ℕ)
-        → AllByRecursion IsOctets before → IsOctets b
-        → layout_reads (own_reading t) before b ≡ own_reads t before b }
-    ensures cut { (t : Transaction) → cut (own_reading t) ≡ Sealed }
-{
-    the_own_eaches();
-    the_own_parts();
 }

@@ -1,7 +1,7 @@
 -- Parts that came alone: in their order, and nothing else of their name.
 use Rattle.std.proofs.Common.{◌≡◌, ◌∙◌, ap, sym, subst, refl, ℕ, ◌+◌, ◌≤◌, ◌==◌, ◌&&◌, ◌||◌, nat_le, nat_lt, Bool, true, false, not, if◌then◌else◌, List, Option, Some, None, arith}
 use Rattle.std.specs.Prelude.{is_some}
-use Rattle.std.specs.Option.{option_or}
+use Rattle.std.specs.Option.{option_map, option_or}
 use Rattle.std.proofs.lemmas.Bool.Decides.{nat_tests}
 use Rattle.lpt_part.specs.Parts.{Piece}
 use Rattle.lpt_carried.specs.declared.reading.Reading.{Reading}
@@ -10,15 +10,16 @@ use Rattle.lpt_layout_join.specs.declared.ending.MisfitAs.{MisfitAs}
 use Rattle.lpt_layout_join.specs.declared.ending.MisfitAs.TheVariants.{Unsure}
 use Rattle.lpt_layout_join.specs.declared.order.Order.{Order}
 use Rattle.lpt_layout_join.specs.Came.{Came, last_of, message_of, nothing_came}
+use Rattle.lpt_layout_join.specs.CameInside.{Shows}
 use Rattle.lpt_layout_join.specs.Orders.{is_in_order, no_order, order_after, with_next}
 use Rattle.lpt_layout_join.specs.Writes.{misfit, unfit}
 use Rattle.lpt_layout_each.specs.declared.course.CourseAs.{CourseAs}
 use Rattle.lpt_layout_each.specs.declared.news.NewsAs.{NewsAs}
 use Rattle.lpt_layout_each.specs.declared.run.RunAs.{RunAs}
-use Rattle.lpt_layout_each.specs.Eaches.{Course, GivesUp, Goes, Held, Run, RunTurn, Turn, after, alone, held_begun, course_by, end_by, fresh, gather, gave_before, go_on, is_empty, more, no_run, run_by, run_joined, run_turn, staleness, step, turn, turn_by, turn_fit, turn_joined}
-use Rattle.lpt_layout_each.specs.Helds.{IsRun, IsRunOf, ShowsSome, Steps, broken_course, first_course, goes_on}
+use Rattle.lpt_layout_each.specs.Eaches.{Course, GivesUp, Goes, Held, Run, RunTurn, Turn, Waits, after_all, all_turn, alone, held_begun, course_by, end_by, fresh, gather, gave_before, go_on, is_empty, is_old, is_same, more, no_run, run_by, run_joined, run_turn, staleness, step, turn, turn_by, turn_fit, turn_joined}
+use Rattle.lpt_layout_each.specs.Helds.{AreKept, Follows, Holds, IsRun, ShowsSome, Steps, broken_course, course_alone, goes_on}
 use Rattle.lpt_layout_each.specs.News.{News, Given, Unfit, parts_dropped}
-use Rattle.lpt_layout_each.proofs.StepLemmas.{step-ends, step-goes_on, step-unfit}
+use Rattle.lpt_layout_each.proofs.StepLemmas.{step-ends, step-gives_up, step-goes_on, step-unfit, step-waits}
 
 -- ---- what a part makes of the run
 
@@ -33,28 +34,6 @@ module _ (now : ℕ) (q : Piece) where
   turn-if : (r : Run) (b : Bool) → (q.number == 1) ≡ b → run_turn r now q ≡ turn_if b r
   unfolding run_turn
   turn-if r b is = ap (λ (b : Bool). turn_if b r) is
-
-  -- where it doesn't go on, the parts don't matter
-  pub run-apart : (o : Order) (c d : Came)
-      → goes_on o q.number ≡ false
-      → run_turn (record { order = o; came = c }) now q
-      ≡ run_turn (record { order = o; came = d }) now q
-  run-apart o c d h = go (q.number == 1) refl h where
-    go : (b : Bool)
-        → (q.number == 1) ≡ b
-        → (if b then o.count == 0 else nat_le q.number (o.count + 1)) ≡ false
-        → run_turn (record { order = o; came = c }) now q
-        ≡ run_turn (record { order = o; came = d }) now q
-    go true is h =
-        turn-if (record { order = o; came = c }) true is
-        ∙ sym (turn-if (record { order = o; came = d }) true is)
-    go false is h =
-        turn-if (record { order = o; came = c }) false is
-        ∙ ap (λ (t : Bool). if t then run_by (order_after o q.number now) (more c q)
-        else Goes no_run) h
-        ∙ sym (ap (λ (t : Bool). if t then run_by (order_after o q.number now) (more d q)
-        else Goes no_run) h)
-        ∙ sym (turn-if (record { order = o; came = d }) false is)
 
   -- where it goes on, it is added
   pub run-next : (o : Order) (c : Came)
@@ -110,10 +89,11 @@ ordered-some o n now least h =
 
 -- ---- a step
 
-module _ (r : Reading) (any : Bool) (now : ℕ) (q : Piece) (o : Order) (c : Came)
-    (h : goes_on o q.number ≡ true) (none : o.count ≡ 0 → c ≡ nothing_came) where
+module _ (r : Reading) (any : Bool) (now : ℕ) (q : Piece) (l : Option Came) (o : Order) (c : Came)
+    (h : goes_on o q.number ≡ true) (new : is_old l q ≡ false)
+    (none : o.count ≡ 0 → c ≡ nothing_came) where
   abbrev first : Course
-  first = first_course o c
+  first = course_alone l o c
 
   abbrev with_part : Came
   with_part = more c q
@@ -147,11 +127,25 @@ module _ (r : Reading) (any : Bool) (now : ℕ) (q : Piece) (o : Order) (c : Cam
     go true = refl
     go false = refl
 
-  -- of the new parts alone
-  gathers : (again : Bool)
-      → gather r any again (held_begun None c) q ≡ after None (turn r any again c q) None
-  unfolding gather
-  gathers again = refl
+  -- all parts wait as the new ones do
+  all_wait : (m : Option Came) (d : Came) (t : Turn)
+      → t ≡ Waits d
+      → after_all m d (option_map (λ _. t) m) ≡ (held_begun m d, None)
+  all_wait None d t e = refl
+  all_wait (Some x) d t e = ap (λ (u : Turn). after_all (Some x) d (Some u)) e
+
+  both : (again : Bool) (m : Option Came)
+      → all_turn r any again (option_map (λ _. c) m) q ≡ option_map (λ _. turn r any again c q) m
+  both again None = refl
+  both again (Some x) = refl
+
+  gather-waits : (again : Bool) (d : Came)
+      → turn r any again c q ≡ Waits d
+      → gather r any again (held_begun l c) q ≡ (held_begun l d, None)
+  gather-waits again d e =
+      sym (step-waits r any again (held_begun l c) q d new e)
+      ∙ ap (λ (u : Option Turn). after_all l d u) (both again l)
+      ∙ all_wait l d (turn r any again c q) e
 
   turns : (again : Bool) → turn r any again c q ≡ turn_by r any again q with_part
   unfolding turn
@@ -159,7 +153,7 @@ module _ (r : Reading) (any : Bool) (now : ℕ) (q : Piece) (o : Order) (c : Cam
 
   -- with this run, and this made of the others
   goes : (again : Bool) (run : Run) (g : Held × Option News)
-      → gather r any again (held_begun None c) q ≡ g
+      → gather r any again (held_begun l c) q ≡ g
       → go_on r any again (record first { run = run }) q
       ≡ (course_by run false false g.0 g.1, g.1)
   goes again run g is =
@@ -194,28 +188,27 @@ module _ (r : Reading) (any : Bool) (now : ℕ) (q : Piece) (o : Order) (c : Cam
   -- it contradicts them
   pub alone-broken : is_some with_part.against ≡ true
       → step r any now first q
-      ≡ (broken_course (held_begun None (alone q)), Some (parts_dropped with_part))
+      ≡ (broken_course (held_begun l (alone q)), Some (parts_dropped with_part))
   alone-broken against =
       sym (step-goes_on r any now first q no_run
       (run-next now q o c h none
       ∙ ap (λ (b : Bool). if b then Goes no_run
       else run_joined order with_part (message_of with_part.parts)) against))
-      ∙ goes true no_run (held_begun None (alone q), Some (parts_dropped with_part))
-      (gathers true
-      ∙ ap (λ (t : Turn). after None t None) (turns true
+      ∙ goes true no_run (held_begun l (alone q), Some (parts_dropped with_part))
+      (sym (step-gives_up r any true (held_begun l c) q (parts_dropped with_part) (alone q) new
+      (turns true
       ∙ ap (λ (b : Bool). if b then GivesUp (parts_dropped with_part) (alone q)
-      else turn_joined r any true q with_part (message_of with_part.parts)) against))
+      else turn_joined r any true q with_part (message_of with_part.parts)) against)))
 
   -- parts are missing
   pub alone-waits : is_some with_part.against ≡ false
       → message_of with_part.parts ≡ None
-      → step r any now first q ≡ (first_course order with_part, None)
+      → step r any now first q ≡ (course_alone l order with_part, None)
   alone-waits agrees missing =
       let run : Run = record { order = order; came = with_part } in
       sym (step-goes_on r any now first q run (joined-run agrees None missing))
-      ∙ goes true run (held_begun None with_part, None)
-      (gathers true
-      ∙ ap (λ (t : Turn). after None t None) (joined-turn true None agrees missing))
+      ∙ goes true run (held_begun l with_part, None)
+      (gather-waits true with_part (joined-turn true None agrees missing))
 
   -- the message
   pub alone-gives : (m : List ℕ)
@@ -226,8 +219,8 @@ module _ (r : Reading) (any : Bool) (now : ℕ) (q : Piece) (o : Order) (c : Cam
   alone-gives m agrees whole fit =
       sym (step-ends r any now first q with_part m (is_in_order (last_of with_part.parts) order)
       (joined-run agrees (Some m) whole) fit)
-      ∙ ap (λ (s : Bool). end_by r any (record first { run = no_run }) q with_part m (s && false))
-      not_given
+      ∙ ap (λ (s : Bool). end_by r any (record first { run = no_run }) q with_part m
+      (s && is_same l m)) not_given
 
   -- no message that may be given out
   unfit-any : (sure : Bool) (m : List ℕ) (e : MisfitAs)
@@ -249,60 +242,94 @@ module _ (r : Reading) (any : Bool) (now : ℕ) (q : Piece) (o : Order) (c : Cam
       → is_some with_part.against ≡ false
       → message_of with_part.parts ≡ Some m
       → unfit r any (is_in_order (last_of with_part.parts) order) m ≡ Some e
-      → step r any now first q ≡ (fresh None, Some (Unfit e))
+      → step r any now first q ≡ (fresh l, Some (Unfit e))
   alone-unfit m e agrees whole misfits =
       let sure = is_in_order (last_of with_part.parts) order in
       sym (step-unfit r any now first q with_part m sure e
       (joined-run agrees (Some m) whole) misfits)
-      ∙ goes false no_run (held_begun None nothing_came, Some (Unfit e))
-      (gathers false
-      ∙ ap (λ (t : Turn). after None t None) (joined-turn false (Some m) agrees whole
-      ∙ ap (turn_fit false q with_part m) (unfit-any sure m e misfits)))
+      ∙ goes false no_run (held_begun l nothing_came, Some (Unfit e))
+      (sym (step-gives_up r any false (held_begun l c) q (Unfit e) nothing_came new
+      (joined-turn false (Some m) agrees whole
+      ∙ ap (turn_fit false q with_part m) (unfit-any sure m e misfits))))
 
 -- ---- what is kept
 
 -- nothing came behind a message, or at all
-pub fresh-run : (l : Option Came) (last : Option CameAs) (alone : Bool) (run : RunAs)
-    → is_some last ≡ not alone
-    → ShowsSome l last
-    → IsRun no_run run
-    → IsRunOf alone (fresh l) run
-fresh-run None None true run is h none =
-    (ap (λ (o : Order). first_course o nothing_came) (sym none.order), none.came, λ zero. refl)
-fresh-run None None false run is h none = absurd cc
-fresh-run None (Some s) alone run is h none = absurd h
-fresh-run (Some c) None alone run is h none = absurd h
-fresh-run (Some c) (Some s) true run is h none = absurd cc
-fresh-run (Some c) (Some s) false run is h none = none
+pub fresh-kept : (l : Option Came) (g : RunAs)
+    → IsRun no_run g
+    → (fresh l ≡ course_alone l g.order nothing_came)
+    × (g.order.count ≡ 0 → ◌≡◌ {A = Came} nothing_came nothing_came)
+fresh-kept l g none =
+    (ap (λ (o : Order). course_alone l o nothing_came) (sym none.order), λ zero. refl)
 
 -- what goes on alone
-pub is-alone : (alone d : Bool) → (alone && d) ≡ true → (alone ≡ true) × (d ≡ true)
-is-alone true true h = (refl, refl)
-is-alone true false h = absurd cc
-is-alone false d h = absurd cc
+pub is-alone : (alone next old : Bool)
+    → (alone && next && not old) ≡ true
+    → (alone ≡ true) × (next ≡ true) × (old ≡ false)
+is-alone true true false h = (refl, refl, refl)
+is-alone true true true h = absurd cc
+is-alone true false old h = absurd cc
+is-alone false next old h = absurd cc
 
-pub alone_run : (alone : Bool) (c : Course) (g : RunAs)
-    → alone ≡ true
-    → IsRunOf alone c g
-    → IsRunOf true c g
-alone_run alone c g is h = subst (λ (a : Bool). IsRunOf a c g) is h
+pub kept-alone : (c : Course) (g : CourseAs)
+    → g.alone ≡ true
+    → Follows c g
+    → AreKept true c g
+kept-alone c g is h = subst (λ (a : Bool). AreKept a c g) is h.kept
+
+-- with these parts and this order it is kept alone
+pub alone-next : (k : Course) (g : CourseAs) (o p : Order) (d : Came) (s : CameAs)
+    → g.alone ≡ true
+    → Follows k g
+    → o ≡ p
+    → 1 ≤ p.count
+    → Shows d s
+    → Follows (course_alone k.held.last p d) (record {
+      held = record { last = g.held.last; all = g.held.all; rest = s };
+      run = record { order = o; came = g.run.came };
+      alone = g.alone;
+      stale = g.stale;
+      gave = g.gave;
+    })
+alone-next k g o p d s is h order least shows =
+    let a = kept-alone k g is h in
+    let none : o.count ≡ 0 → d ≡ nothing_came = λ zero.
+    absurd (omega (arith, subst (λ (q : Order). 1 ≤ q.count) (sym order) least, zero)) in
+    record {
+      last = h.last;
+      new = shows;
+      stale = h.stale ∙ ap (λ (c : Course). c.stale) a.0;
+      gave = h.gave ∙ ap (λ (c : Course). c.gave) a.0;
+      kept = subst (λ (b : Bool). AreKept b (course_alone k.held.last p d) (record {
+        held = record { last = g.held.last; all = g.held.all; rest = s };
+        run = record { order = o; came = g.run.came };
+        alone = g.alone;
+        stale = g.stale;
+        gave = g.gave;
+      })) (sym is)
+          (ap (λ (q : Order). course_alone k.held.last q d) (sym order), none);
+    }
 
 -- what isn't kept alone
-pub run-kept : (alone : Bool) (c : Course) (g : RunAs)
-    → alone ≡ false
-    → IsRunOf alone c g
-    → IsRun c.run g
-run-kept alone c g is h = subst (λ (a : Bool). IsRunOf a c g) is h
+pub kept-apart : (c : Course) (g : CourseAs)
+    → g.alone ≡ false
+    → Follows c g
+    → Holds c.held g.held × IsRun c.run g.run
+kept-apart c g is h =
+    let k = subst (λ (a : Bool). AreKept a c g) is h.kept in
+    (record { last = h.last; all = k.0; new = h.new }, k.1)
 
--- where a part doesn't go on, it makes the same of these
-pub run-other : (alone : Bool) (c : Course) (g : RunAs) (now : ℕ) (q : Piece)
-    → IsRunOf alone c g
-    → (alone && goes_on g.order q.number) ≡ false
-    → (k : Run) × IsRun k g × (run_turn c.run now q ≡ run_turn k now q)
-run-other false c g now q h other = (c.run, h, refl)
-run-other true c g now q h other = (
-  record { order = g.order; came = nothing_came },
-  record { order = refl; came = h.1 },
-  ap (λ (d : Course). run_turn d.run now q) h.0
-      ∙ run-apart now q g.order c.held.new nothing_came other,
-)
+pub follows-apart : (c : Course) (g : CourseAs)
+    → g.alone ≡ false
+    → Holds c.held g.held
+    → IsRun c.run g.run
+    → g.stale ≡ c.stale
+    → g.gave ≡ c.gave
+    → Follows c g
+follows-apart c g is held run stale gave = record {
+  last = held.last;
+  new = held.new;
+  stale = stale;
+  gave = gave;
+  kept = subst (λ (a : Bool). AreKept a c g) (sym is) (held.all, run);
+}

@@ -1,5 +1,6 @@
 -- What is kept of each name, a packet further.
-use Rattle.std.proofs.Common.{◌≡◌, ◌∙◌, ap, sym, subst, refl, ℕ, Bool, true, false, if◌then◌else◌, List, [], ◌∷◌, ◌++◌, append-nil, append_assoc, Option, Some, None, Ok, Err}
+use Rattle.std.proofs.Common.{◌≡◌, ◌∙◌, ap, sym, subst, refl, ℕ, Bool, true, false, if◌then◌else◌, List, [], ◌∷◌, ◌++◌, append-nil, append_assoc, Option, Some, None, Result, Ok, Err}
+use Rattle.std.specs.Prelude.{IfOk}
 use Rattle.std.specs.Option.{option_map}
 use Rattle.std.specs.BTreeMap.{BTreeMap, get, IsOrdered}
 use Rattle.lpt_part.specs.Parts.{Piece}
@@ -14,7 +15,7 @@ use Rattle.lpt_layout_join.specs.Came.{nothing_came}
 use Rattle.lpt_layout_join.specs.Counts.{Counted, all_counted, packet_counted, nothing_counted}
 use Rattle.lpt_layout_join.specs.CountsInside.{counts_shown}
 use Rattle.lpt_layout_each.specs.Eaches.{Course, counts_of, course_held, held_from, news_listed, missing_at, news_from, nothing, step, step_of}
-use Rattle.lpt_layout_each.specs.Helds.{Follows, HoldsEach, IsHeld}
+use Rattle.lpt_layout_each.specs.Helds.{Follows, HoldsEach, IsHeld, Steps, StepsAt}
 use Rattle.lpt_layout_join.specs.Names.{name_cmp}
 use Rattle.lpt_layout_each.specs.News.{News}
 use Rattle.lpt_layout_each.specs.Streams.{of, events_told, told_by, waiting}
@@ -86,6 +87,15 @@ module _ (r : Reading) (any : Bool) (n : Name) where
 -- nothing is left of a name of which nothing came
 pub waiting-none : waiting nothing_came ≡ record { count = 0; highest = 0 }
 waiting-none = refl
+
+-- what is kept then at a name
+pub steps-at : {E : Type 0} (n : Name) (m : BTreeMap Name CourseAs) (k : CourseAs)
+    (result : Result (Option NewsAs) E) (c : Course × Option News)
+    → get name_cmp m n ≡ Some k
+    → IfOk result (λ news. Steps (k, news) c)
+    → IfOk result (λ news. StepsAt n m news c)
+steps-at n m k (Ok news) c is h = (k, is, h)
+steps-at n m k (Err e) c is h = tt
 
 -- ---- of each
 

@@ -1,19 +1,21 @@
 mod AloneLemmas
 pub mod EachLemmas
 pub mod FitLemmas
+mod FrontLemmas
 pub mod HeldsLemmas
+mod InnerLemmas
+mod KeptLemmas
 pub mod LeftLemmas
 mod OrderLemmas
-mod OwnCourseLemmas
-mod OwnEachLemmas
-mod OwnHeldLemmas
-mod OwnLawLemmas
-mod OwnRunLemmas
-mod OwnTurnLemmas
-mod OwnWholeLemmas
+mod OwnGoodLemmas
+mod OwnInOrderLemmas
+mod OwnSentLemmas
+mod PartLemmas
 mod RestrictLemmas
 mod RunLemmas
+mod SentLemmas
 mod SoundLemmas
+mod SplitLemmas
 mod StepLemmas
 mod SureLemmas
 pub mod TellLemmas

@@ -12,18 +12,20 @@ use Rattle.lpt_layout_join.specs.Came.{Came, message_of, nothing_came}
 use Rattle.lpt_carried.specs.Carried.{part_carried, part_of}
 use Rattle.lpt_layout_join.specs.declared.ending.MisfitAs.{MisfitAs}
 use Rattle.lpt_layout_join.specs.declared.order.Order.{Order}
-use Rattle.lpt_layout_join.specs.Counts.{Counted, all_counted, packet_counted}
+use Rattle.lpt_layout_join.specs.Counts.{Counted, all_counted, nothing_counted, packet_counted}
 use Rattle.lpt_layout_join.specs.Orders.{no_order, order_after, with_next}
 use Rattle.lpt_layout_join.specs.Writes.{unfit}
-use Rattle.lpt_layout_each.specs.Eaches.{Course, Ends, Gives, GivesUp, Goes, Held, Run, Turn, Waits, after, after_all, all_turn, alone, are_own, end_by, end_run, gather, gave_before, go_on, held_from, is_given, is_old, is_same, news_listed, missing_at, more, new_turn, news_from, no_run, repeats, run_before, run_by, run_joined, run_turn, spells, step, step_by, step_of, told_in_order, turn, turn_fit, turn_joined}
+use Rattle.lpt_layout_each.specs.Eaches.{Course, Ends, Gives, GivesUp, Goes, Held, Run, Turn, Waits, after, after_all, all_turn, alone, are_own, counts_of, course_held, end_by, end_run, gather, gave_before, go_on, held_from, is_given, is_old, is_same, news, news_left, news_listed, missing_at, more, new_turn, news_from, no_run, nothing, repeats, run_before, run_by, run_joined, run_turn, spells, step, step_by, step_of, told_in_order, turn, turn_fit, turn_joined}
 use Rattle.lpt_layout_each.specs.Laws.{Continues, InOrder, Runs, higher}
 use Rattle.lpt_layout_each.specs.News.{News, parts_dropped, messages_in, messages_of}
 use Rattle.lpt_layout_each.proofs.FitLemmas.{fit-any}
+use Rattle.lpt_layout_each.proofs.HeldsLemmas.{news_from-append}
 
 no_true : true ≡ false → ⊥
 no_true h = cc
 
-messages-append : (vs ws : List News) → messages_in (vs ++ ws) ≡ messages_in vs ++ messages_in ws
+pub messages-append : (vs ws : List News)
+    → messages_in (vs ++ ws) ≡ messages_in vs ++ messages_in ws
 messages-append vs ws = flat_map-append messages_of vs ws
 
 -- ---- what the others make of a part
@@ -398,3 +400,40 @@ module _ (r : Reading) (any : Bool) (n : Name) where
       ∙ ap (λ (o : Option Piece). messages_in front_news ++ messages_in
       (news_listed (step_of r any (missing_at r at last) behind o).1)) h.ends))
       told
+
+  -- and whatever comes behind
+  pub order_kept : (before front behind : List (List ℕ)) (last m : List ℕ)
+      → InOrder r any n m front last
+      → (earlier : List (List ℕ)) × (later : List (List ℕ)) × (after : List (List ℕ))
+      × (messages_in (news_from r any n (counts_of r before) (course_held r any n before)
+      (front ++ last ∷ []))
+      ≡ earlier ++ m ∷ later)
+      × (messages_in (news r any n (before ++ (front ++ last ∷ []) ++ behind))
+      ≡ messages_in (news_from r any n nothing_counted nothing before)
+      ++ (earlier ++ m ∷ later) ++ after)
+  order_kept before front behind last m h =
+      let here = front ++ last ∷ [] in
+      let k = counts_of r before in
+      let c = course_held r any n before in
+      let a = news_from r any n nothing_counted nothing before in
+      let x = news_from r any n k c here in
+      let all = before ++ here in
+      let b = news_from r any n (counts_of r all) (course_held r any n all) behind in
+      let l = news_left (course_held r any n (before ++ here ++ behind)) in
+      let given = order_given k c front last m h in (
+        given.0,
+        given.1,
+        messages_in b ++ messages_in l,
+        given.2,
+        messages-append (news_from r any n nothing_counted nothing (before ++ here ++ behind)) l
+            ∙ ap (λ (ws : List News). messages_in ws ++ messages_in l)
+            (news_from-append r any n nothing_counted nothing (before ++ here) behind
+            ∙ ap (λ (ws : List News). ws ++ b)
+            (news_from-append r any n nothing_counted nothing before here))
+            ∙ ap (λ (ms : List (List ℕ)). ms ++ messages_in l)
+            (messages-append (a ++ x) b
+            ∙ ap (λ (ms : List (List ℕ)). ms ++ messages_in b) (messages-append a x))
+            ∙ append_assoc (messages_in a ++ messages_in x) (messages_in b) (messages_in l)
+            ∙ ap (λ (ms : List (List ℕ)).
+            (messages_in a ++ ms) ++ (messages_in b ++ messages_in l)) given.2,
+      )

@@ -1,5 +1,5 @@
 -- What is given out is joined of parts that stand among the packets.
-use Rattle.std.proofs.Common.{◌≡◌, sym, subst, refl, inl, inr, ℕ, ◌+◌, ◌==◌, nat_le, Bool, true, false, if◌then◌else◌, List, [], ◌∷◌, ◌++◌, Option, Some, None, Result, Ok, Err}
+use Rattle.std.proofs.Common.{◌≡◌, sym, subst, refl, inl, inr, ℕ, ◌+◌, ◌==◌, nat_le, Bool, true, false, if◌then◌else◌, List, [], ◌∷◌, ◌++◌, append-nil, append_assoc, Option, Some, None, Result, Ok, Err}
 use Rattle.std.specs.List.{AllByRecursion}
 use Rattle.std.specs.Prelude.{is_some}
 use Rattle.lpt_part.specs.Parts.{Piece}
@@ -14,7 +14,7 @@ use Rattle.lpt_layout_join.specs.Counts.{nothing_counted}
 use Rattle.lpt_layout_join.specs.Orders.{order_after}
 use Rattle.lpt_layout_join.specs.Writes.{unfit}
 use Rattle.lpt_layout_each.specs.Eaches.{Held, Turn, Waits, GivesUp, Gives, after, after_all, all_turn, alone, held_begun, counts_of, course_held, is_old, missing_at, news_listed, more, new_turn, nothing, step, step_of, turn, turn_fit, turn_joined, Course, Ends, Goes, Run, RunTurn, are_own, end_by, end_run, gather, go_on, no_run, repeats, run_before, run_by, run_joined, run_turn, seed, step_by, told_in_order}
-use Rattle.lpt_layout_each.specs.Laws.{IsGood, IsThere}
+use Rattle.lpt_layout_each.specs.Laws.{AreAgreed, IsGood, IsThere}
 use Rattle.lpt_layout_each.specs.News.{Event, News, Given, Dropped, Unfit, Overtaken, parts_dropped, messages_of}
 use Rattle.lpt_layout_each.specs.Streams.{events_from, of, told_by}
 use Rattle.lpt_layout_each.proofs.FitLemmas.{fit-sure}
@@ -35,9 +35,9 @@ module _ (r : Reading) (any : Bool) (all : List (List ℕ)) where
     IsTold None = Unit {0}
     IsTold (Some w) = IsSound n w
 
-    -- all parts that are kept are there
+    -- all parts that are kept are there, and agree
     abbrev IsFrom : Came → Type 0
-    IsFrom c = AllByRecursion (IsThere r n all) c.parts
+    IsFrom c = AllByRecursion (IsThere r n all) c.parts × AreAgreed [] c.parts
 
     abbrev SomeFrom : Option Came → Type 0
     SomeFrom None = Unit {0}
@@ -62,18 +62,32 @@ module _ (r : Reading) (any : Bool) (all : List (List ℕ)) where
     parts-more [] q h here = (here, tt)
     parts-more (p ∷ qs) q h here = (h.0, parts-more qs q h.1 here)
 
+    agree-more : (before qs : List Piece) (q : Piece)
+        → AreAgreed before qs
+        → contradicts (before ++ qs) q ≡ false
+        → AreAgreed before (qs ++ q ∷ [])
+    agree-more before [] q h e =
+        (subst (λ (xs : List Piece). contradicts xs q ≡ false) (append-nil before) e, tt)
+    agree-more before (p ∷ qs) q h e = (
+      h.0,
+      agree-more (before ++ p ∷ []) qs q h.1
+          (subst (λ (xs : List Piece). contradicts xs q ≡ false)
+          (sym (append_assoc before (p ∷ []) qs)) e),
+    )
+
     more-from : (c : Came) (q : Piece) → IsFrom c → IsThere r n all q → IsFrom (more c q)
-    more-from c q h here = go (is_some c.against) (contradicts c.parts q) where
+    more-from c q h here = go (is_some c.against) (contradicts c.parts q) refl where
       go : (a b : Bool)
+          → contradicts c.parts q ≡ b
           → IsFrom (if a then c else if b then record c { against = Some 0 }
           else record c { parts = c.parts ++ q ∷ [] })
-      go true b = h
-      go false true = h
-      go false false = parts-more c.parts q h here
+      go true b e = h
+      go false true e = h
+      go false false e = (parts-more c.parts q h.0 here, agree-more [] c.parts q h.1 e)
 
     seed-from : (again : Bool) (q : Piece) → IsThere r n all q → IsFrom (seed again q)
-    seed-from true q here = more-from nothing_came q tt here
-    seed-from false q here = tt
+    seed-from true q here = more-from nothing_came q (tt, tt) here
+    seed-from false q here = (tt, tt)
 
     fit-from : (again : Bool) (q : Piece) (c : Came) (m : List ℕ) (o : Option MisfitAs)
         → unfit r any false m ≡ o
@@ -83,7 +97,8 @@ module _ (r : Reading) (any : Bool) (all : List (List ℕ)) where
         → TurnFrom (turn_fit again q c m o)
     fit-from again q c m None e is h here = record {
       parts = c.parts;
-      there = h;
+      there = h.0;
+      agree = h.1;
       joined = is;
       fit = fit-sure r any false m e;
     }
@@ -107,7 +122,7 @@ module _ (r : Reading) (any : Bool) (all : List (List ℕ)) where
       go : (a : Bool)
           → TurnFrom (if a then GivesUp (parts_dropped (more c q)) (alone q)
           else turn_joined r any again q (more c q) (message_of (more c q).parts))
-      go true = (tt, more-from nothing_came q tt here)
+      go true = (tt, more-from nothing_came q (tt, tt) here)
       go false = joined-from again q (more c q) (message_of (more c q).parts) refl
           (more-from c q h here) here
 
@@ -138,7 +153,7 @@ module _ (r : Reading) (any : Bool) (all : List (List ℕ)) where
     after_all-from last c None new old = ((tt, new), tt)
     after_all-from last c (Some (Waits a)) new old = ((old, new), tt)
     after_all-from last c (Some (GivesUp w a)) new old = ((tt, new), tt)
-    after_all-from last c (Some (Gives a m)) new old = ((tt, tt), old)
+    after_all-from last c (Some (Gives a m)) new old = (((tt, tt), (tt, tt)), old)
 
     after-from : (last : Option Came) (t : Turn) (o : Option Turn)
         → TurnFrom t
@@ -146,7 +161,7 @@ module _ (r : Reading) (any : Bool) (all : List (List ℕ)) where
         → HeldFrom (after last t o).0 × IsTold (after last t o).1
     after-from last (Waits c) o new old = after_all-from last c o new old
     after-from last (GivesUp w c) o new old = (begun-from last c new.1, new.0)
-    after-from last (Gives c m) o new old = ((tt, tt), new)
+    after-from last (Gives c m) o new old = (((tt, tt), (tt, tt)), new)
 
     gather-from : (again : Bool) (h : Held) (q : Piece)
         → HeldFrom h
@@ -177,7 +192,7 @@ module _ (r : Reading) (any : Bool) (all : List (List ℕ)) where
     run_by-from at c h = go (is_some c.against) where
       go : (a : Bool)
           → RunTurnFrom (if a then Goes no_run else run_joined at c (message_of c.parts))
-      go true = tt
+      go true = (tt, tt)
       go false = run_joined-from at c (message_of c.parts) refl h
 
     run-from : (run : Run) (now : ℕ) (q : Piece)
@@ -189,7 +204,7 @@ module _ (r : Reading) (any : Bool) (all : List (List ℕ)) where
         go (run_before run q.number) (nat_le q.number ((run_before run q.number).order.count + 1))
         (before (q.number == 1)) where
           before : (one : Bool) → IsFrom (if one then no_run else run).came
-          before true = tt
+          before true = (tt, tt)
           before false = h
 
           go : (run : Run) (next : Bool)
@@ -200,7 +215,7 @@ module _ (r : Reading) (any : Bool) (all : List (List ℕ)) where
           go run true h =
               run_by-from (order_after run.order q.number now) (more run.came q)
               (more-from run.came q h here)
-          go run false h = tt
+          go run false h = (tt, tt)
 
     go_on-from : (again : Bool) (c : Course) (q : Piece)
         → CourseFrom c
@@ -222,7 +237,7 @@ module _ (r : Reading) (any : Bool) (all : List (List ℕ)) where
         → CourseFrom (end_by r any c q d m again).0 × IsTold (end_by r any c q d m again).1
     end_by-from c q d m true k good here = go_on-from false c q k here
     end_by-from c q d m false k good here =
-        (((tt, tt), tt), in_order-sound (are_own c d) c.held.new m good)
+        ((((tt, tt), (tt, tt)), (tt, tt)), in_order-sound (are_own c d) c.held.new m good)
 
     end_run-from : (c : Course) (q : Piece) (d : Came) (m : List ℕ) (sure : Bool)
         (o : Option MisfitAs)
@@ -234,7 +249,13 @@ module _ (r : Reading) (any : Bool) (all : List (List ℕ)) where
         → CourseFrom (end_run r any c q d m o).0 × IsTold (end_run r any c q d m o).1
     end_run-from c q d m sure None e k from is here =
         end_by-from c q d m (repeats c q.number m) k
-        (record { parts = d.parts; there = from; joined = is; fit = fit-sure r any sure m e }) here
+        (record {
+          parts = d.parts;
+          there = from.0;
+          agree = from.1;
+          joined = is;
+          fit = fit-sure r any sure m e;
+        }) here
     end_run-from c q d m sure (Some f) e k from is here = go_on-from false c q k here
 
     step_by-from : (c : Course) (q : Piece) (t : RunTurn)
@@ -245,7 +266,8 @@ module _ (r : Reading) (any : Bool) (all : List (List ℕ)) where
     step_by-from c q (Goes run) k from here =
         go_on-from true (record c { run = run }) q (k.0, from) here
     step_by-from c q (Ends d m sure) k from here =
-        end_run-from (record c { run = no_run }) q d m sure (unfit r any sure m) refl (k.0, tt)
+        end_run-from (record c { run = no_run }) q d m sure (unfit r any sure m) refl
+        (k.0, (tt, tt))
         from.0 from.1 here
 
     step_of-from : (now : ℕ) (c : Course) (o : Option Piece)
@@ -353,4 +375,4 @@ given_good r any bs n m front back w is gives =
     told_good r any bs n m w
     (sound-there r any bs front back (n, w)
     (subst (AllByRecursion (IsSoundEvent r any bs)) is
-    (events-sound r any bs [] bs (λ k. ((tt, tt), tt)) (λ k. are_in r k bs)))) gives
+    (events-sound r any bs [] bs (λ k. ((tt, (tt, tt)), (tt, tt))) (λ k. are_in r k bs)))) gives

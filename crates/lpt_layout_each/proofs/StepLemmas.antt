@@ -89,87 +89,107 @@ dropped-shown c s h =
 
 -- ---- by what a part makes of all
 
-module _ (again : Bool) (l a : Option Came) (c : Came) (q : Piece) (last : Option CameAs)
-    (new : CameAs) where
+module _ (again : Bool) (l a : Option Came) (c : Came) (q : Piece) (g : HeldAs) where
+  abbrev with_part : Option Came
+  with_part = option_map (λ d. more d q) a
+
   -- they aren't kept
   pub after_none : (o : Option Turn)
-      → ShowsSome l last
-      → Shows c new
+      → ShowsSome l g.last
+      → ShowsSome with_part g.all
+      → Shows c g.rest
       → IsTurnOfAll again a q None o
-      → Takes (record { last = last; all = None; new = new }, None) (after_all l c o)
-  after_none None h k t = record { holds = record { last = h; all = tt; new = k }; tells = refl }
-  after_none (Some now) h k t = absurd t
+      → Takes (g, None) (after_all l c o)
+  after_none o h all k t = go a o all t where
+    go : (b : Option Came) (o : Option Turn)
+        → ShowsSome (option_map (λ d. more d q) b) g.all
+        → IsTurnOfAll again b q None o
+        → Takes (g, None) (after_all l c o)
+    go None None all u =
+        record { holds = record { last = h; all = all; new = k }; tells = refl }
+    go None (Some now) all u = absurd u
+    go (Some d) None all u = absurd u
+    go (Some d) (Some now) all u = absurd u
 
   -- parts are missing
-  pub after_waits : (s : CameAs) (o : Option Turn)
-      → ShowsSome l last
-      → Shows c new
-      → IsTurnOfAll again a q (Some (code.Waits s)) o
-      → Takes (record { last = last; all = Some s; new = new }, None) (after_all l c o)
-  after_waits s None h k t = absurd t
-  after_waits s (Some now) h k t = go a t where
-    go : (b : Option Came)
-        → IsTurnOfAll again b q (Some (code.Waits s)) (Some now)
-        → Takes (record { last = last; all = Some s; new = new }, None) (after_all l c (Some now))
-    go None u = absurd u
-    go (Some d) u =
-        subst (λ (n : Turn). Takes (record { last = last; all = Some s; new = new }, None)
-        (after_all l c (Some n))) (sym u.1)
-        (record { holds = record { last = h; all = u.0; new = k }; tells = refl })
+  pub after_waits : (o : Option Turn)
+      → ShowsSome l g.last
+      → ShowsSome with_part g.all
+      → Shows c g.rest
+      → IsTurnOfAll again a q (Some code.Waits) o
+      → Takes (g, None) (after_all l c o)
+  after_waits o h all k t = go a o all t where
+    go : (b : Option Came) (o : Option Turn)
+        → ShowsSome (option_map (λ d. more d q) b) g.all
+        → IsTurnOfAll again b q (Some code.Waits) o
+        → Takes (g, None) (after_all l c o)
+    go None None all u = absurd u
+    go None (Some now) all u = absurd u
+    go (Some d) None all u = absurd u
+    go (Some d) (Some now) all u =
+        subst (λ (n : Turn). Takes (g, None) (after_all l c (Some n))) (sym u)
+        (record { holds = record { last = h; all = all; new = k }; tells = refl })
 
   -- they are given up
-  given_up : (o : Option Turn) (w : News) (d : Came)
-      → o ≡ Some (GivesUp w d)
-      → ShowsSome l last
-      → Shows c new
-      → Takes (record { last = last; all = None; new = new }, None) (after_all l c o)
-  given_up o w d is h k =
-      subst (λ (p : Option Turn). Takes (record { last = last; all = None; new = new }, None)
-      (after_all l c p)) (sym is)
+  abbrev without : HeldAs
+  without = record { last = g.last; all = None; rest = g.rest }
+
+  given_up : (now : Turn) (w : News) (d : Came)
+      → now ≡ GivesUp w d
+      → ShowsSome l g.last
+      → Shows c g.rest
+      → Takes (without, None) (after_all l c (Some now))
+  given_up now w d is h k =
+      subst (λ (n : Turn). Takes (without, None) (after_all l c (Some n))) (sym is)
       (record { holds = record { last = h; all = tt; new = k }; tells = refl })
 
-  pub after_broken : (s : CameAs) (o : Option Turn)
-      → ShowsSome l last
-      → Shows c new
-      → IsTurnOfAll again a q (Some (code.Broken s)) o
-      → Takes (record { last = last; all = None; new = new }, None) (after_all l c o)
-  after_broken s None h k t = absurd t
-  after_broken s (Some now) h k t = go a t where
-    go : (b : Option Came)
-        → IsTurnOfAll again b q (Some (code.Broken s)) (Some now)
-        → Takes (record { last = last; all = None; new = new }, None) (after_all l c (Some now))
-    go None u = absurd u
-    go (Some d) u = given_up (Some now) (parts_dropped (more d q)) (alone q) (ap Some u.1) h k
+  pub after_broken : (o : Option Turn)
+      → ShowsSome l g.last
+      → Shows c g.rest
+      → IsTurnOfAll again a q (Some code.Broken) o
+      → Takes (without, None) (after_all l c o)
+  after_broken o h k t = go a o t where
+    go : (b : Option Came) (o : Option Turn)
+        → IsTurnOfAll again b q (Some code.Broken) o
+        → Takes (without, None) (after_all l c o)
+    go None None u = absurd u
+    go None (Some now) u = absurd u
+    go (Some d) None u = absurd u
+    go (Some d) (Some now) u = given_up now (parts_dropped (more d q)) (alone q) u h k
 
   pub after_unfit : (e : MisfitAs) (o : Option Turn)
-      → ShowsSome l last
-      → Shows c new
+      → ShowsSome l g.last
+      → Shows c g.rest
       → IsTurnOfAll again a q (Some (code.Unfit e)) o
-      → Takes (record { last = last; all = None; new = new }, None) (after_all l c o)
-  after_unfit e None h k t = absurd t
-  after_unfit e (Some now) h k t = go a t where
-    go : (b : Option Came)
-        → IsTurnOfAll again b q (Some (code.Unfit e)) (Some now)
-        → Takes (record { last = last; all = None; new = new }, None) (after_all l c (Some now))
-    go None u = absurd u
-    go (Some d) u = given_up (Some now) (Unfit e) (seed again q) (ap Some u) h k
+      → Takes (without, None) (after_all l c o)
+  after_unfit e o h k t = go a o t where
+    go : (b : Option Came) (o : Option Turn)
+        → IsTurnOfAll again b q (Some (code.Unfit e)) o
+        → Takes (without, None) (after_all l c o)
+    go None None u = absurd u
+    go None (Some now) u = absurd u
+    go (Some d) None u = absurd u
+    go (Some d) (Some now) u = given_up now (Unfit e) (seed again q) u h k
 
 -- they are joined to a message
-pub after_gives : (again : Bool) (l a : Option Came) (c : Came) (q : Piece) (s : CameAs)
+pub after_gives : (again : Bool) (l a : Option Came) (c : Came) (q : Piece) (s : Option CameAs)
     (m : List ℕ) (g : HeldAs)
     (o : Option Turn)
-    → ((b : Option Came) → ShowsSome b (Some s) → Holds (held_begun b nothing_came) g)
-    → IsTurnOfAll again a q (Some (code.Gives s m)) o
+    → ((b : Option Came) → ShowsSome b s → Holds (held_begun b nothing_came) g)
+    → ShowsSome (option_map (λ d. more d q) a) s
+    → IsTurnOfAll again a q (Some (code.Gives m)) o
     → Takes (g, Some (said.Given m)) (after_all l c o)
-after_gives again l a c q s m g None holds t = absurd t
-after_gives again l a c q s m g (Some now) holds t = go a t where
-  go : (b : Option Came)
-      → IsTurnOfAll again b q (Some (code.Gives s m)) (Some now)
-      → Takes (g, Some (said.Given m)) (after_all l c (Some now))
-  go None u = absurd u
-  go (Some d) u =
-      subst (λ (n : Turn). Takes (g, Some (said.Given m)) (after_all l c (Some n))) (sym u.1)
-      (record { holds = holds (Some (more d q)) u.0; tells = refl })
+after_gives again l a c q s m g o holds all t = go a o all t where
+  go : (b : Option Came) (o : Option Turn)
+      → ShowsSome (option_map (λ d. more d q) b) s
+      → IsTurnOfAll again b q (Some (code.Gives m)) o
+      → Takes (g, Some (said.Given m)) (after_all l c o)
+  go None None all u = absurd u
+  go None (Some now) all u = absurd u
+  go (Some d) None all u = absurd u
+  go (Some d) (Some now) all u =
+      subst (λ (n : Turn). Takes (g, Some (said.Given m)) (after_all l c (Some n))) (sym u)
+      (record { holds = holds (Some (more d q)) all; tells = refl })
 
 -- ---- by the run
 

@@ -294,3 +294,8 @@ news_from r any n k c (b ∷ bs) =
 -- what is told at the end: of new parts that are left, which are numbered from 1
 abbrev pub news_left : Course → List News
 news_left c = if is_empty c.held.new then [] else parts_dropped c.held.new ∷ []
+
+-- all that is told of a name over the packets of a stream
+abbrev pub news : Reading → (any : Bool) → Name → List (List ℕ) → List News
+news r any n bs =
+    news_from r any n nothing_counted nothing bs ++ news_left (course_held r any n bs)

@@ -1,7 +1,7 @@
 -- What is kept, as the code has it.
-use Rattle.std.specs.Prelude.{◌≡◌, ℕ, ◌+◌, ◌==◌, ◌&&◌, nat_le, Bool, true, false, if◌then◌else◌, List, Option, Some, None}
+use Rattle.std.specs.Prelude.{◌≡◌, ℕ, ◌+◌, ◌==◌, ◌&&◌, nat_le, Bool, true, false, not, if◌then◌else◌, List, Option, Some, None}
 use Rattle.std.specs.Option.{option_map}
-use Rattle.std.specs.BTreeMap.{get, IsOrdered}
+use Rattle.std.specs.BTreeMap.{BTreeMap, get, IsOrdered}
 use Rattle.lpt_part.specs.Parts.{Piece}
 use Rattle.lpt_layout_join.specs.declared.came.CameAs.{CameAs}
 use Rattle.lpt_layout_join.specs.declared.order.Order.{Order}
@@ -19,7 +19,7 @@ use Rattle.lpt_layout_each.specs.declared.run.RunTurnAs.{RunTurnAs}
 use Rattle.lpt_layout_each.specs.declared.run.RunTurnAs.TheVariants as ran
 use Rattle.lpt_layout_each.specs.declared.turn.Turn as code
 use Rattle.lpt_layout_each.specs.declared.turn.Turn.TheVariants as turned
-use Rattle.lpt_layout_each.specs.Eaches.{Course, Ends, Goes, Held, Run, RunTurn, Turn, Waits, GivesUp, Gives, alone, held_begun, counts_of, course_held, more, no_run, nothing, seed}
+use Rattle.lpt_layout_each.specs.Eaches.{Course, Ends, Goes, Held, Run, RunTurn, Turn, Waits, GivesUp, Gives, alone, held_begun, counts_of, course_held, is_old, more, no_run, nothing, seed}
 use Rattle.lpt_layout_join.specs.Names.{name_cmp}
 use Rattle.lpt_layout_each.specs.News.{News, Unfit, parts_dropped}
 use Rattle.lpt_layout_each.specs.Told.{news_of}
@@ -33,26 +33,23 @@ ShowsSome (Some c) (Some s) = Shows c s
 
 -- a part made this turn of others
 abbrev pub IsTurn : (again : Bool) → Came → Piece → code.Turn → Turn → Type 0
-IsTurn again c q (turned.Waits s) now = Shows (more c q) s × (now ≡ Waits (more c q))
-IsTurn again c q (turned.Broken s) now =
-    Shows (more c q) s × (now ≡ GivesUp (parts_dropped (more c q)) (alone q))
+IsTurn again c q turned.Waits now = now ≡ Waits (more c q)
+IsTurn again c q turned.Broken now = now ≡ GivesUp (parts_dropped (more c q)) (alone q)
 IsTurn again c q (turned.Unfit e) now = now ≡ GivesUp (Unfit e) (seed again q)
-IsTurn again c q (turned.Gives s m) now = Shows (more c q) s × (now ≡ Gives (more c q) m)
+IsTurn again c q (turned.Gives m) now = now ≡ Gives (more c q) m
 
 -- the same of all parts, where they are kept
 abbrev pub IsTurnOfAll : (again : Bool) → Option Came → Piece → Option code.Turn → Option Turn
     → Type 0
-IsTurnOfAll again all q None None = Unit {0}
-IsTurnOfAll again all q None (Some now) = ⊥
-IsTurnOfAll again all q (Some t) None = ⊥
-IsTurnOfAll again None q (Some t) (Some now) = ⊥
+IsTurnOfAll again None q None None = Unit {0}
 IsTurnOfAll again (Some c) q (Some t) (Some now) = IsTurn again c q t now
+IsTurnOfAll _ _ _ _ _ = ⊥
 
 -- this is kept of a name
 pub record Holds (h : Held) (g : HeldAs) : Type 0 where
   pub last : ShowsSome h.last g.last
   pub all : ShowsSome h.all g.all
-  pub new : Shows h.new g.new
+  pub new : Shows h.new g.rest
 
 -- and this is told
 pub record Takes (g : HeldAs × Option NewsAs) (h : Held × Option News) : Type 0 where
@@ -64,15 +61,16 @@ pub record IsRun (r : Run) (g : RunAs) : Type 0 where
   pub order : g.order ≡ r.order
   pub came : Shows r.came g.came
 
--- a part made this of them
-abbrev pub IsRunTurn : RunTurnAs → RunTurn → Type 0
-IsRunTurn (ran.Goes g) now = (r : Run) × IsRun r g × (now ≡ Goes r)
-IsRunTurn (ran.Ends s m sure) now = (c : Came) × Shows c s × (now ≡ Ends c m sure)
+-- a part made this of them, which is kept
+abbrev pub IsRunTurn : RunAs → RunTurnAs → RunTurn → Type 0
+IsRunTurn g ran.Goes now = (r : Run) × IsRun r g × (now ≡ Goes r)
+IsRunTurn g (ran.Ends m sure) now = (c : Came) × Shows c g.came × (now ≡ Ends c m sure)
 
--- what is held of a name, of which these parts came alone: in this order, and nothing else
-abbrev pub first_course : Order → Came → Course
-first_course o c = record {
-  held = held_begun None c;
+-- what is kept of a name, of which behind this message these parts came alone: in this order, and
+-- nothing else
+abbrev pub course_alone : (last : Option Came) → Order → Came → Course
+course_alone l o c = record {
+  held = held_begun l c;
   run = record { order = o; came = c };
   stale = false;
   gave = false;
@@ -82,26 +80,29 @@ first_course o c = record {
 abbrev pub broken_course : Held → Course
 broken_course h = record { held = h; run = no_run; stale = false; gave = false }
 
--- these parts came in their order: those that are kept so, or all that are held
-abbrev pub IsRunOf : (alone : Bool) → Course → RunAs → Type 0
-IsRunOf false c g = IsRun c.run g
-IsRunOf true c g =
-    (c ≡ first_course g.order c.held.new) × Shows nothing_came g.came
-    × (g.order.count ≡ 0 → c.held.new ≡ nothing_came)
+-- All parts, and those that came in their order, are kept too; or those that are held are all these,
+-- and are kept once.
+abbrev pub AreKept : (alone : Bool) → Course → CourseAs → Type 0
+AreKept false c g = ShowsSome c.held.all g.held.all × IsRun c.run g.run
+AreKept true c g =
+    (c ≡ course_alone c.held.last g.run.order c.held.new)
+    × (g.run.order.count ≡ 0 → c.held.new ≡ nothing_came)
 
 -- whether a part of this number is the next of those that came alone, or one of these again
 abbrev pub goes_on : Order → (number : ℕ) → Bool
 goes_on o n = if n == 1 then o.count == 0 else nat_le n (o.count + 1)
 
-abbrev pub goes_on_alone : CourseAs → (number : ℕ) → Bool
-goes_on_alone g n = g.alone && goes_on g.run.order n
+-- and none of the last message
+abbrev pub goes_on_alone : CourseAs → (last : Option Came) → Piece → Bool
+goes_on_alone g l q = g.alone && goes_on g.run.order q.number && not (is_old l q)
 
 -- this is kept, by its order too
 pub record Follows (c : Course) (g : CourseAs) : Type 0 where
-  pub held : Holds c.held g.held
-  pub run : IsRunOf g.alone c g.run
+  pub last : ShowsSome c.held.last g.held.last
+  pub new : Shows c.held.new g.held.rest
   pub stale : g.stale ≡ c.stale
   pub gave : g.gave ≡ c.gave
+  pub kept : AreKept g.alone c g
 
 -- and this is told
 pub record Steps (g : CourseAs × Option NewsAs) (c : Course × Option News) : Type 0 where
@@ -112,6 +113,10 @@ pub record Steps (g : CourseAs × Option NewsAs) (c : Course × Option News) : T
 abbrev pub IsHeld : Course → Option CourseAs → Type 0
 IsHeld c None = c ≡ nothing
 IsHeld c (Some g) = Follows c g
+
+-- of a name this is kept then, and this is told
+abbrev pub StepsAt : Name → BTreeMap Name CourseAs → Option NewsAs → Course × Option News → Type 0
+StepsAt n m news c = (k : CourseAs) × (get name_cmp m n ≡ Some k) × Steps (k, news) c
 
 -- of each name this is kept behind the packets, and their counts
 pub record HoldsEach (r : Reading) (any : Bool) (bs : List (List ℕ)) (g : HeldsAs) : Type 0 where

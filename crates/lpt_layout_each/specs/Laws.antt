@@ -1,10 +1,10 @@
 -- What is given out of any packets.
-use Rattle.std.specs.Prelude.{◌≡◌, ◌⊎◌, ℕ, ◌+◌, ◌≤◌, Bool, true, false, nat_lt, if◌then◌else◌, List, [], ◌∷◌, Some, None, is_some}
+use Rattle.std.specs.Prelude.{◌≡◌, ◌⊎◌, ℕ, ◌+◌, ◌≤◌, Bool, true, false, nat_lt, if◌then◌else◌, List, [], ◌∷◌, ◌++◌, Some, None, is_some}
 use Rattle.std.specs.List.{AllByRecursion, flat_map}
 use Rattle.lpt_part.specs.Parts.{Piece}
 use Rattle.lpt_carried.specs.declared.name.Name.{Name}
 use Rattle.lpt_carried.specs.declared.reading.Reading.{Reading}
-use Rattle.lpt_layout_join.specs.Came.{Came, message_of, nothing_came}
+use Rattle.lpt_layout_join.specs.Came.{Came, contradicts, message_of, nothing_came}
 use Rattle.lpt_carried.specs.Carried.{part_carried, part_of, same_name}
 use Rattle.lpt_layout_join.specs.Writes.{unfit}
 use Rattle.lpt_layout_each.specs.Eaches.{more}
@@ -15,12 +15,18 @@ abbrev pub IsThere : Reading → Name → List (List ℕ) → Piece → Type 0
 IsThere r n [] q = ⊥
 IsThere r n (b ∷ bs) q = (part_of n (part_carried r b) ≡ Some q) ⊎ IsThere r n bs q
 
--- a message to which parts of a name are joined, each of which one of these packets carries; it may
--- be given out
+-- each of these parts agrees with those before it
+abbrev pub AreAgreed : (before qs : List Piece) → Type 0
+AreAgreed before [] = Unit {0}
+AreAgreed before (q ∷ qs) = (contradicts before q ≡ false) × AreAgreed (before ++ q ∷ []) qs
+
+-- a message to which parts of a name are joined that agree, each of which one of these packets
+-- carries; it may be given out
 pub record IsGood (r : Reading) (any : Bool) (bs : List (List ℕ)) (n : Name)
     (m : List ℕ) : Type 0 where
   pub parts : List Piece
   pub there : AllByRecursion (IsThere r n bs) parts
+  pub agree : AreAgreed [] parts
   pub joined : message_of parts ≡ Some m
   pub fit : unfit r any true m ≡ None
 

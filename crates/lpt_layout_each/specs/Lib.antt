@@ -4,6 +4,7 @@ pub mod Laws
 pub mod Lefts
 pub mod News
 pub mod Own
+pub mod Sends
 pub mod Streams
 pub mod Tellers
 pub mod Told

@@ -8,7 +8,7 @@ ghost use Rattle.lpt_carried.specs.declared.reading.Reading.{Reading};
 ghost use Rattle.lpt_layout_join.specs.Came.{Came};
 ghost use Rattle.lpt_layout_join.specs.CameInside.{Shows};
 ghost use Rattle.lpt_layout_each.specs.Eaches as each;
-ghost use Rattle.lpt_layout_each.specs.Helds.{Follows, Holds, IsRun, ShowsSome, Steps, goes_on_alone};
+ghost use Rattle.lpt_layout_each.specs.Helds.{Follows, Holds, IsRun, ShowsSome, Steps};
 ghost use Rattle.lpt_layout_each.specs.Streams.{waiting};
 ghost use Rattle.lpt_layout_each.specs.Told.{news_of};
 
@@ -19,6 +19,7 @@ use lpt_carried::Reading;
 use lpt_layout::{Octets, PartAs};
 use lpt_layout_join::{CameAs, unfit};
 use std::alloc::{AllocError, Global};
+use std::mem;
 
 /// What is kept of one name.
 #[derive(Drop)]
@@ -27,8 +28,8 @@ pub(crate) struct CourseAs {
     pub(crate) held: HeldAs,
     // What came in the order of its numbers.
     pub(crate) run: RunAs,
-    // Whether nothing else came of the name: its parts are what is held, and aren't kept a second
-    // time.
+    // Whether nothing else came behind the last message: its parts are the rest of what is held, and
+    // are kept nowhere else.
     pub(crate) alone: bool,
     // Whether some of what came behind the last message came before that.
     pub(crate) stale: bool,
@@ -41,11 +42,10 @@ impl CourseAs {
     pub(crate) fn behind(alloc: Global, last: Option<CameAs>) -> CourseAs
         ensures { (l : Option Came) → ShowsSome l last → Follows (each.fresh l) result }
     {
-        let alone = last.is_none();
         CourseAs {
             held: HeldAs::behind(alloc, last),
             run: RunAs::none(alloc),
-            alone,
+            alone: true,
             stale: false,
             gave: false,
         }
@@ -67,7 +67,7 @@ impl CourseAs {
 
     // What is left.
     pub(crate) fn into_new(self) -> CameAs
-        ensures { result ≡ self.held.new }
+        ensures { result ≡ self.held.rest }
     {
         self.held.into_new()
     }
@@ -75,70 +75,49 @@ impl CourseAs {
     // Takes a part of the name, at this place, up to which so many counts are missing, and gives
     // what is told of it. The only error is out of memory.
     pub(crate) fn take(
-        self,
+        &mut self,
         alloc: Global,
         reading: &Reading,
         any: bool,
         missing: u64,
         place: u64,
         part: &PartAs<'_>,
-    ) -> Result<(CourseAs, Option<NewsAs>), AllocError>
+    ) -> Result<Option<NewsAs>, AllocError>
         requires number { 1 ≤ part.now.number }
         requires short { length part.now.octets.now ≤ longest_packet }
-        ensures { (c : each.Course) → Follows c self → IfOk result (λ r.
-            Steps r (each.step reading.now any missing c (piece part.now))) }
+        ensures { (c : each.Course) → Follows c self.old → IfOk result (λ news.
+            Steps (self.new, news) (each.step reading.now any missing c (piece part.now))) }
     {
-        if self.goes_on_alone(part.number) {
+        if self.goes_on_alone(part) {
             return self.add_alone(alloc, reading, any, missing, place, part);
         }
+        self.spread(alloc)?;
         self.take_apart(alloc, reading, any, missing, place, part)
     }
 
-    // Takes a part of a name of which others came than a run. The only error is out of memory.
+    // Takes a part of a name of which others came too. The only error is out of memory.
     fn take_apart(
-        self,
+        &mut self,
         alloc: Global,
         reading: &Reading,
         any: bool,
         missing: u64,
         place: u64,
         part: &PartAs<'_>,
-    ) -> Result<(CourseAs, Option<NewsAs>), AllocError>
+    ) -> Result<Option<NewsAs>, AllocError>
         requires number { 1 ≤ part.now.number }
         requires short { length part.now.octets.now ≤ longest_packet }
-        requires apart { goes_on_alone self part.now.number ≡ false }
-        ensures { (c : each.Course) → Follows c self → IfOk result (λ r.
-            Steps r (each.step reading.now any missing c (piece part.now))) }
+        requires apart { self.old.alone ≡ false }
+        ensures { (c : each.Course) → Follows c self.old → IfOk result (λ news.
+            Steps (self.new, news) (each.step reading.now any missing c (piece part.now))) }
     {
-        let CourseAs {
-            held,
-            run,
-            alone: _,
-            stale,
-            gave,
-        } = self;
-        match run.take(alloc, missing, part)? {
-            RunTurnAs::Goes(run) => {
-                let course = CourseAs {
-                    held,
-                    run,
-                    alone: false,
-                    stale,
-                    gave,
-                };
-                course.go_on(alloc, reading, any, true, place, part)
-            }
-            RunTurnAs::Ends(came, message, sure) => {
-                let course = CourseAs {
-                    held,
-                    run: RunAs::none(alloc),
-                    alone: false,
-                    stale,
-                    gave,
-                };
+        match self.run.take(alloc, missing, part)? {
+            RunTurnAs::Goes => self.go_on(alloc, reading, any, true, place, part),
+            RunTurnAs::Ends(message, sure) => {
+                let run = mem::replace(&mut self.run, RunAs::none(alloc));
                 match unfit(reading, any, sure, message.as_slice()) {
-                    None => course.end_by(alloc, reading, any, (came, message), place, part),
-                    Some(_) => course.go_on(alloc, reading, any, false, place, part),
+                    None => self.end_by(alloc, reading, any, (run.came, message), place, part),
+                    Some(_) => self.go_on(alloc, reading, any, false, place, part),
                 }
             }
         }
@@ -147,57 +126,72 @@ impl CourseAs {
     // Takes a part with which no message is given out whose parts came in their order. The only
     // error is out of memory.
     fn go_on(
-        self,
+        &mut self,
         alloc: Global,
         reading: &Reading,
         any: bool,
         again: bool,
         place: u64,
         part: &PartAs<'_>,
-    ) -> Result<(CourseAs, Option<NewsAs>), AllocError>
+    ) -> Result<Option<NewsAs>, AllocError>
         requires number { 1 ≤ part.now.number }
         requires short { length part.now.octets.now ≤ longest_packet }
-        requires apart { self.alone ≡ false }
-        ensures { (c : each.Course) → Follows c self → IfOk result (λ o.
-            Steps o (each.go_on reading.now any again c (piece part.now))) }
+        requires apart { self.old.alone ≡ false }
+        ensures { (c : each.Course) → Follows c self.old → IfOk result (λ news.
+            Steps (self.new, news) (each.go_on reading.now any again c (piece part.now))) }
     {
-        let CourseAs {
-            held,
-            run,
-            alone: _,
-            stale,
-            gave,
-        } = self;
-        let stale = staleness(&held, stale, part.number);
-        let gave = since(gave, part.number);
-        let (held, news) = held.take(alloc, reading, any, again, place, part)?;
-        Ok((course_by(held, run, stale, gave, &news), news))
+        let stale = staleness(&self.held, self.stale, part.number);
+        let gave = since(self.gave, part.number);
+        let news = self.held.take(alloc, reading, any, again, place, part)?;
+        self.note(stale, gave, &news);
+        Ok(news)
+    }
+
+    // Notes what was told: of that no new part is left that came before the run.
+    fn note(&mut self, stale: bool, gave: bool, news: &Option<NewsAs>)
+        ensures { (h : each.Held) (r : each.Run) → Holds h self.old.held → IsRun r self.old.run
+            → self.old.alone ≡ false
+            → Follows (each.course_by r stale gave h (option_map news_of news.now)) self.new }
+    {
+        match news {
+            None => {
+                self.stale = stale;
+                self.gave = gave;
+            }
+            Some(told) => {
+                self.stale = false;
+                self.gave = gave || is_given(told);
+            }
+        }
     }
 
     // Takes a part with which parts are joined to this message that came in their order, where it
     // may be given out: it is, where it wasn't yet. The only error is out of memory.
     fn end_by(
-        self,
+        &mut self,
         alloc: Global,
         reading: &Reading,
         any: bool,
         whole: (CameAs, Octets),
         place: u64,
         part: &PartAs<'_>,
-    ) -> Result<(CourseAs, Option<NewsAs>), AllocError>
+    ) -> Result<Option<NewsAs>, AllocError>
         requires number { 1 ≤ part.now.number }
         requires short { length part.now.octets.now ≤ longest_packet }
-        requires apart { self.alone ≡ false }
-        ensures { (c : each.Course) (d : Came) → Follows c self → Shows d whole.0
-            → IfOk result (λ o. Steps o (each.end_by reading.now any c (piece part.now) d whole.1
+        requires apart { self.old.alone ≡ false }
+        ensures { (c : each.Course) (d : Came) → Follows c self.old → Shows d whole.0
+            → IfOk result (λ news. Steps (self.new, news)
+            (each.end_by reading.now any c (piece part.now) d whole.1
             (each.repeats c part.now.number whole.1))) }
     {
         let (came, message) = whole;
         if self.repeats(alloc, part.number, &message)? {
             return self.go_on(alloc, reading, any, false, place, part);
         }
-        let news = overtake(self.held, self.stale, message, &came);
-        Ok((CourseAs::behind(alloc, Some(came)), Some(news)))
+        let held = mem::replace(&mut self.held, HeldAs::behind(alloc, None));
+        let news = overtake(held, self.stale, message, &came);
+        *self = CourseAs::behind(alloc, Some(came));
+        Ok(Some(news))
     }
 
     // Whether this is the last message, and was given out since its parts began, of which one of
@@ -234,29 +228,6 @@ fn since(gave: bool, number: u32) -> bool
     false
 }
 
-// What is kept by what was told: of that no new part is left that came before the run.
-fn course_by(held: HeldAs, run: RunAs, stale: bool, gave: bool, news: &Option<NewsAs>) -> CourseAs
-    ensures { (h : each.Held) (r : each.Run) → Holds h held → IsRun r run
-        → Follows (each.course_by r stale gave h (option_map news_of news.now)) result }
-{
-    match news {
-        None => CourseAs {
-            held,
-            run,
-            alone: false,
-            stale,
-            gave,
-        },
-        Some(told) => CourseAs {
-            held,
-            run,
-            alone: false,
-            stale: false,
-            gave: gave || is_given(told),
-        },
-    }
-}
-
 // Whether this tells of a message.
 fn is_given(news: &NewsAs) -> bool
     ensures { result ≡ each.is_given (Some (news_of news.now)) }
@@ -275,7 +246,7 @@ fn overtake(held: HeldAs, stale: bool, message: Octets, whole: &CameAs) -> NewsA
         → Shows d whole.now
         → news_of result ≡ each.told_in_order (each.are_own c d) c.held.new message }
 {
-    if !stale || held.new.are_of(whole) {
+    if !stale || held.rest.are_of(whole) {
         return NewsAs::Given(message);
     }
     NewsAs::Overtaken(held.into_new(), message)

@@ -1,6 +1,7 @@
 //! What is kept of one name.
 
-ghost use Rattle.std.specs.Prelude.{◌≡◌, ◌≤◌, ◌==◌, Bool, Option, None, length, IfOk};
+ghost use Rattle.std.specs.Prelude.{◌≡◌, ◌≤◌, ◌==◌, Bool, Option, None, length, IfOk, OnOk};
+ghost use Rattle.std.specs.Option.{option_map};
 ghost use Rattle.lpt_packet.specs.Sizes.{longest_packet};
 ghost use Rattle.lpt_part.specs.Parts.{Piece};
 ghost use Rattle.lpt_layout.specs.Parts.{piece};
@@ -17,6 +18,7 @@ use lpt_carried::Reading;
 use lpt_layout::{Octets, PartAs};
 use lpt_layout_join::CameAs;
 use std::alloc::{AllocError, Global};
+use std::mem;
 
 /// The last message of a name, and what came behind it in any order.
 #[derive(Drop)]
@@ -26,7 +28,7 @@ pub(crate) struct HeldAs {
     // All parts that came behind it, as long as they may be parts of one message.
     pub(crate) all: Option<CameAs>,
     // Those of them that aren't parts of it.
-    pub(crate) new: CameAs,
+    pub(crate) rest: CameAs,
 }
 
 impl HeldAs {
@@ -42,80 +44,95 @@ impl HeldAs {
         HeldAs {
             last,
             all,
-            new: CameAs::new(alloc),
-        }
-    }
-
-    // These came, and no message before them.
-    pub(crate) fn first(new: CameAs) -> HeldAs
-        ensures { (c : Came) → Shows c new → Holds (each.held_begun None c) result }
-    {
-        HeldAs {
-            last: None,
-            all: None,
-            new,
+            rest: CameAs::new(alloc),
         }
     }
 
     // Whether nothing is left of what came.
     pub(crate) fn is_empty(&self) -> bool
-        ensures { (h : each.Held) → Holds h self.now → result ≡ (highest h.new.parts == 0) }
+        ensures { (c : Came) → Shows c self.now.rest → result ≡ (highest c.parts == 0) }
     {
-        self.new.highest() == 0
+        self.rest.highest() == 0
     }
 
     // How much is left.
     pub(crate) fn waiting(&self) -> WaitingAs
-        ensures { (h : each.Held) → Holds h self.now → result ≡ waiting h.new }
+        ensures { (c : Came) → Shows c self.now.rest → result ≡ waiting c }
     {
         WaitingAs {
-            count: self.new.count(),
-            highest: self.new.highest(),
+            count: self.rest.count(),
+            highest: self.rest.highest(),
         }
     }
 
     // What is left.
     pub(crate) fn into_new(self) -> CameAs
-        ensures { result ≡ self.new }
+        ensures { result ≡ self.rest }
     {
-        self.new
+        self.rest
     }
 
     // Takes a part of the name, and gives what is told of it. The only error is out of memory.
     pub(crate) fn take(
-        self,
+        &mut self,
         alloc: Global,
         reading: &Reading,
         any: bool,
         again: bool,
         place: u64,
         part: &PartAs<'_>,
-    ) -> Result<(HeldAs, Option<NewsAs>), AllocError>
+    ) -> Result<Option<NewsAs>, AllocError>
         requires number { 1 ≤ part.now.number }
         requires short { length part.now.octets.now ≤ longest_packet }
-        ensures { (h : each.Held) → Holds h self → IfOk result (λ r.
-            Takes r (each.gather reading.now any again h (piece part.now))) }
+        ensures { (h : each.Held) → Holds h self.old → IfOk result (λ news.
+            Takes (self.new, news) (each.gather reading.now any again h (piece part.now))) }
     {
-        let HeldAs { last, all, new } = self;
-        let old = is_old(&last, part);
-        let all = turn_of_all(alloc, reading, any, place, all, part)?;
+        let old = is_old(&self.last, part);
+        let all = turn_of_all(alloc, reading, any, place, &mut self.all, part)?;
         if old {
-            return Ok(after_all(alloc, last, new, all));
+            return Ok(self.go_by_all(alloc, all));
         }
-        match turn_with(alloc, reading, any, place, new, part)? {
-            Turn::Waits(new) => Ok(after_all(alloc, last, new, all)),
-            Turn::Broken(came) => {
-                let held = begin(alloc, last, place, part)?;
-                Ok((held, Some(NewsAs::Dropped(came))))
+        match turn_with(alloc, reading, any, place, &mut self.rest, part)? {
+            Turn::Waits => Ok(self.go_by_all(alloc, all)),
+            Turn::Broken => {
+                let next = begin(alloc, self.last.take(), place, part)?;
+                let before = mem::replace(self, next);
+                Ok(Some(NewsAs::Dropped(before.rest)))
             }
             Turn::Unfit(misfit) => {
-                let held = begin_after(alloc, again, last, place, part)?;
-                Ok((held, Some(NewsAs::Unfit(misfit))))
+                *self = begin_after(alloc, again, self.last.take(), place, part)?;
+                Ok(Some(NewsAs::Unfit(misfit)))
             }
-            Turn::Gives(came, message) => Ok((
-                HeldAs::behind(alloc, Some(came)),
-                Some(NewsAs::Given(message)),
-            )),
+            Turn::Gives(message) => {
+                let came = mem::replace(&mut self.rest, CameAs::new(alloc));
+                *self = HeldAs::behind(alloc, Some(came));
+                Ok(Some(NewsAs::Given(message)))
+            }
+        }
+    }
+
+    // Goes on with the new parts, and tells what a part made of all, of which these are kept.
+    fn go_by_all(&mut self, alloc: Global, all: Option<Turn>) -> Option<NewsAs>
+        ensures { (l a : Option Came) (c : Came) (q : Piece) (o : Option each.Turn) (again : Bool)
+            → ShowsSome l self.old.last → ShowsSome (option_map (λ d. each.more d q) a) self.old.all
+            → Shows c self.old.rest → IsTurnOfAll again a q all o
+            → Takes (self.new, result) (each.after_all l c o) }
+    {
+        match all {
+            Some(Turn::Gives(message)) => {
+                *self = HeldAs::behind(alloc, self.all.take());
+                Some(NewsAs::Given(message))
+            }
+            Some(Turn::Waits) => None,
+            Some(Turn::Broken) => {
+                self.all = None;
+                None
+            }
+            Some(Turn::Unfit(_misfit)) => {
+                self.all = None;
+                None
+            }
+            None => None,
         }
     }
 
@@ -143,7 +160,7 @@ fn spells(alloc: Global, came: &CameAs, message: &Octets) -> Result<bool, AllocE
 }
 
 // Whether it is a part of the last message.
-fn is_old(last: &Option<CameAs>, part: &PartAs<'_>) -> bool
+pub(crate) fn is_old(last: &Option<CameAs>, part: &PartAs<'_>) -> bool
     requires number { 1 ≤ part.now.number }
     requires short { length part.now.octets.now ≤ longest_packet }
     ensures { (l : Option Came) → ShowsSome l last.now
@@ -161,12 +178,14 @@ fn turn_of_all(
     reading: &Reading,
     any: bool,
     place: u64,
-    all: Option<CameAs>,
+    all: &mut Option<CameAs>,
     part: &PartAs<'_>,
 ) -> Result<Option<Turn>, AllocError>
     requires number { 1 ≤ part.now.number }
     requires short { length part.now.octets.now ≤ longest_packet }
-    ensures { (l : Option Came) → ShowsSome l all → IfOk result (λ o. (again : Bool) →
+    ensures came { (l : Option Came) → ShowsSome l all.old → OnOk result
+        (ShowsSome (option_map (λ c. each.more c (piece part.now)) l) all.new) }
+    ensures turn { (l : Option Came) → ShowsSome l all.old → IfOk result (λ o. (again : Bool) →
         IsTurnOfAll again l (piece part.now) o
         (each.all_turn reading.now any again l (piece part.now))) }
 {
@@ -192,8 +211,8 @@ pub(crate) fn begin(
         None => None,
         Some(_) => Some(alone(alloc, place, part)?),
     };
-    let new = alone(alloc, place, part)?;
-    Ok(HeldAs { last, all, new })
+    let rest = alone(alloc, place, part)?;
+    Ok(HeldAs { last, all, rest })
 }
 
 // With the part that made a whole that isn't given out, or with nothing. The only error is out of
@@ -214,34 +233,4 @@ fn begin_after(
         return begin(alloc, last, place, part);
     }
     Ok(HeldAs::behind(alloc, last))
-}
-
-// What is kept and told by what a part made of all, where it left these new ones.
-fn after_all(
-    alloc: Global,
-    last: Option<CameAs>,
-    new: CameAs,
-    all: Option<Turn>,
-) -> (HeldAs, Option<NewsAs>)
-    ensures { (l a : Option Came) (c : Came) (q : Piece) (o : Option each.Turn) (again : Bool)
-        → ShowsSome l last → Shows c new → IsTurnOfAll again a q all o
-        → Takes result (each.after_all l c o) }
-{
-    match all {
-        Some(Turn::Gives(came, message)) => {
-            let held = HeldAs::behind(alloc, Some(came));
-            (held, Some(NewsAs::Given(message)))
-        }
-        Some(Turn::Waits(came)) => (held_with(last, Some(came), new), None),
-        Some(Turn::Broken(_came)) => (held_with(last, None, new), None),
-        Some(Turn::Unfit(_misfit)) => (held_with(last, None, new), None),
-        None => (held_with(last, None, new), None),
-    }
-}
-
-// These are kept.
-fn held_with(last: Option<CameAs>, all: Option<CameAs>, new: CameAs) -> HeldAs
-    ensures { result ≡ record { last = last; all = all; new = new } }
-{
-    HeldAs { last, all, new }
 }

@@ -6,9 +6,10 @@ ghost use Rattle.lpt_packet.specs.Sizes.{longest_packet};
 ghost use Rattle.lpt_carried.specs.declared.name.Name.{Name};
 ghost use Rattle.lpt_carried.specs.declared.reading.Reading.{Reading};
 ghost use Rattle.lpt_carried.specs.declared.skip.Skip.{Skip};
-ghost use Rattle.lpt_carried.specs.Carried.{part_carried, part_named, same_name};
-ghost use Rattle.lpt_layout_each.specs.Eaches.{course_held};
-ghost use Rattle.lpt_layout_each.specs.Helds.{Follows, HoldsEach};
+ghost use Rattle.lpt_layout.specs.Parts.{piece};
+ghost use Rattle.lpt_carried.specs.Carried.{name_of, part_carried, part_named, same_name};
+ghost use Rattle.lpt_layout_each.specs.Eaches.{Course, step};
+ghost use Rattle.lpt_layout_each.specs.Helds.{HoldsEach, IsHeld, StepsAt};
 ghost use Rattle.lpt_layout_join.specs.Names.{name_cmp};
 ghost use Rattle.lpt_layout_each.specs.Streams.{told_by, waiting_of};
 ghost use Rattle.lpt_layout_each.specs.Told.{events_of};
@@ -22,7 +23,8 @@ use std::alloc::{AllocError, Global};
 use std::collections::BTreeMap;
 
 /// What is kept of each name while the packets of a stream come. Of a name it takes as much memory
-/// as four `CameAs`; as one, while its parts come in their order and nothing else came of it.
+/// as four `CameAs`; as two, the last message's and the next one's, while parts come in their order
+/// and none of them is a part of the last message.
 #[derive(Drop)]
 pub struct HeldsAs {
     pub(crate) kept: BTreeMap<Name, CourseAs>,
@@ -67,11 +69,9 @@ impl HeldsAs {
     {
         let name = part.name();
         let mut helds = self;
-        let held = helds.take_out(alloc, name);
         helds.counts.take(reading, octets)?;
         let missing = helds.counts.missing();
-        let (held, news) = held.take(alloc, reading, any, missing, place, &part.part)?;
-        helds.put(name, held)?;
+        let news = helds.step(alloc, reading, any, missing, place, part)?;
         match news {
             None => Ok((helds, None)),
             Some(news) => Ok((helds, Some((name, news)))),
@@ -108,29 +108,50 @@ impl HeldsAs {
         }
     }
 
-    // What is kept of a name, taken out.
-    fn take_out(&mut self, alloc: Global, name: Name) -> CourseAs
-        ensures given { (r : Reading) (any : Bool) (bs : List (List ℕ))
-            → HoldsEach r any bs self.old → Follows (course_held r any name bs) result }
-        ensures others { (n : Name) → same_name name n ≡ false
-            → get name_cmp self.new.kept n ≡ get name_cmp self.old.kept n }
+    // Takes a part of a name, up to which so many counts are missing, and gives what it tells of
+    // it. The only error is out of memory.
+    fn step(
+        &mut self,
+        alloc: Global,
+        reading: &Reading,
+        any: bool,
+        missing: u64,
+        place: u64,
+        part: &CarriedPart<'_>,
+    ) -> Result<Option<NewsAs>, AllocError>
+        requires number { 1 ≤ part.now.part.number }
+        requires short { length part.now.part.octets.now ≤ longest_packet }
+        ensures steps { (c : Course)
+            → IsHeld c (get name_cmp self.old.kept (name_of (part_named part.now)))
+            → IfOk result (λ news. StepsAt (name_of (part_named part.now)) self.new.kept news
+            (step reading.now any missing c (piece part.now.part))) }
+        ensures others { OnOk result ((n : Name)
+            → same_name (name_of (part_named part.now)) n ≡ false
+            → get name_cmp self.new.kept n ≡ get name_cmp self.old.kept n) }
+        ensures in_order { IsOrdered name_cmp self.new.kept }
         ensures counts { self.new.counts ≡ self.old.counts }
     {
-        match self.kept.remove(&name) {
-            Some(held) => held,
-            None => CourseAs::behind(alloc, None),
+        let name = part.name();
+        match self.kept.get_mut(&name) {
+            Some(course) => course.take(alloc, reading, any, missing, place, &part.part),
+            None => {
+                let mut course = CourseAs::behind(alloc, None);
+                let news = course.take(alloc, reading, any, missing, place, &part.part)?;
+                self.put(name, course)?;
+                Ok(news)
+            }
         }
     }
 
     // Keeps this of a name. The only error is out of memory.
-    fn put(&mut self, name: Name, held: CourseAs) -> Result<(), AllocError>
-        ensures kept { OnOk result (get name_cmp self.new.kept name ≡ Some held) }
+    fn put(&mut self, name: Name, course: CourseAs) -> Result<(), AllocError>
+        ensures kept { OnOk result (get name_cmp self.new.kept name ≡ Some course) }
         ensures others { OnOk result ((n : Name) → same_name name n ≡ false
             → get name_cmp self.new.kept n ≡ get name_cmp self.old.kept n) }
         ensures in_order { IsOrdered name_cmp self.new.kept }
         ensures counts { self.new.counts ≡ self.old.counts }
     {
-        self.kept.insert(name, held)?;
+        self.kept.insert(name, course)?;
         Ok(())
     }
 }

@@ -1,6 +1,5 @@
 //! The messages of a mission's layout, or of the profile's, among the packets of a stream, each of
-//! every name, in the order in which they become whole, and what never becomes whole. `lpt_each`
-//! says the same in the profile's words.
+//! every name, in the order in which they become whole, and what never becomes whole.
 //!
 //! A name is used again: behind a whole message the next one begins. Parts of the last message that
 //! come again late do no harm, and a next message that has parts of the last one is joined too.

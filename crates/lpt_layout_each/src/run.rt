@@ -21,10 +21,10 @@ pub(crate) struct RunAs {
 /// What a further part makes of them.
 #[derive(Drop)]
 pub(crate) enum RunTurnAs {
-    /// It goes on, with these.
-    Goes(RunAs),
+    /// It goes on.
+    Goes,
     /// They are the message's, with few counts missing between them or not.
-    Ends(CameAs, Octets, bool),
+    Ends(Octets, bool),
 }
 
 impl RunAs {
@@ -41,42 +41,42 @@ impl RunAs {
     // Takes a part of the name, up to which so many counts are missing. The only error is out of
     // memory.
     pub(crate) fn take(
-        self,
+        &mut self,
         alloc: Global,
         missing: u64,
         part: &PartAs<'_>,
     ) -> Result<RunTurnAs, AllocError>
         requires number { 1 ≤ part.now.number }
         requires short { length part.now.octets.now ≤ longest_packet }
-        ensures { (r : each.Run) → IsRun r self → IfOk result (λ o.
-            IsRunTurn o (each.run_turn r missing (piece part.now))) }
+        ensures { (r : each.Run) → IsRun r self.old → IfOk result (λ o.
+            IsRunTurn self.new o (each.run_turn r missing (piece part.now))) }
     {
-        let run = self.before(alloc, part.number);
-        if u64::from(part.number) > u64::from(run.order.count) + 1 {
-            return Ok(RunTurnAs::Goes(RunAs::none(alloc)));
+        self.begin(alloc, part.number);
+        if u64::from(part.number) > u64::from(self.order.count) + 1 {
+            *self = RunAs::none(alloc);
+            return Ok(RunTurnAs::Goes);
         }
-        let RunAs { order, mut came } = run;
-        let order = order.with(part.number, missing);
-        came.take(0, part)?;
-        if came.against().is_some() {
-            return Ok(RunTurnAs::Goes(RunAs::none(alloc)));
+        self.order = self.order.with(part.number, missing);
+        self.came.take(0, part)?;
+        if self.came.against().is_some() {
+            *self = RunAs::none(alloc);
+            return Ok(RunTurnAs::Goes);
         }
-        match came.message(alloc)? {
-            None => Ok(RunTurnAs::Goes(RunAs { order, came })),
+        match self.came.message(alloc)? {
+            None => Ok(RunTurnAs::Goes),
             Some(message) => {
-                let sure = order.is_whole(came.last());
-                Ok(RunTurnAs::Ends(came, message, sure))
+                let sure = self.order.is_whole(self.came.last());
+                Ok(RunTurnAs::Ends(message, sure))
             }
         }
     }
 
-    // Those behind which a part of this number comes: a first part begins anew.
-    fn before(self, alloc: Global, number: u32) -> RunAs
-        ensures { (r : each.Run) → IsRun r self → IsRun (each.run_before r number) result }
+    // Begins anew if a first part comes, of this number.
+    fn begin(&mut self, alloc: Global, number: u32)
+        ensures { (r : each.Run) → IsRun r self.old → IsRun (each.run_before r number) self.new }
     {
         if number == 1 {
-            return RunAs::none(alloc);
+            *self = RunAs::none(alloc);
         }
-        self
     }
 }

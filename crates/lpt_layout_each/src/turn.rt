@@ -1,11 +1,11 @@
 //! What a further part makes of those that came before it.
 
-ghost use Rattle.std.specs.Prelude.{◌≤◌, Bool, length, IfOk};
+ghost use Rattle.std.specs.Prelude.{◌≤◌, Bool, length, IfOk, OnOk};
 ghost use Rattle.lpt_packet.specs.Sizes.{longest_packet};
 ghost use Rattle.lpt_layout.specs.Parts.{piece};
 ghost use Rattle.lpt_layout_join.specs.Came.{Came};
 ghost use Rattle.lpt_layout_join.specs.CameInside.{Shows};
-ghost use Rattle.lpt_layout_each.specs.Eaches.{alone, turn};
+ghost use Rattle.lpt_layout_each.specs.Eaches.{alone, more, turn};
 ghost use Rattle.lpt_layout_each.specs.Helds.{IsTurn};
 
 use lpt_carried::Reading;
@@ -17,13 +17,13 @@ use std::alloc::{AllocError, Global};
 #[derive(Drop)]
 pub(crate) enum Turn {
     /// Parts are missing.
-    Waits(CameAs),
+    Waits,
     /// It contradicts them.
-    Broken(CameAs),
+    Broken,
     /// What they are joined to isn't given out.
     Unfit(MisfitAs),
     /// They are whole, and joined to this message.
-    Gives(CameAs, Octets),
+    Gives(Octets),
 }
 
 // Adds a part, at this place, to others. The only error is out of memory.
@@ -32,24 +32,25 @@ pub(crate) fn turn_with(
     reading: &Reading,
     any: bool,
     place: u64,
-    came: CameAs,
+    came: &mut CameAs,
     part: &PartAs<'_>,
 ) -> Result<Turn, AllocError>
     requires number { 1 ≤ part.now.number }
     requires short { length part.now.octets.now ≤ longest_packet }
-    ensures { (c : Came) → Shows c came → IfOk result (λ t.
+    ensures came { (c : Came) → Shows c came.old
+        → OnOk result (Shows (more c (piece part.now)) came.new) }
+    ensures turn { (c : Came) → Shows c came.old → IfOk result (λ t.
         (again : Bool)
         → IsTurn again c (piece part.now) t (turn reading.now any again c (piece part.now))) }
 {
-    let mut came = came;
     came.take_from(place, part)?;
     if came.against().is_some() {
-        return Ok(Turn::Broken(came));
+        return Ok(Turn::Broken);
     }
     match came.message(alloc)? {
-        None => Ok(Turn::Waits(came)),
+        None => Ok(Turn::Waits),
         Some(message) => match unfit(reading, any, false, message.as_slice()) {
-            None => Ok(Turn::Gives(came, message)),
+            None => Ok(Turn::Gives(message)),
             Some(misfit) => Ok(Turn::Unfit(misfit)),
         },
     }

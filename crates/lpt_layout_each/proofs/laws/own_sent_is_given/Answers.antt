@@ -1,14 +1,11 @@
--- The profile's law, of the same news.
-use Rattle.lpt_layout_each.proofs.OwnLawLemmas.{all-given, own-news}
+-- The law of all layouts, of the same packets.
+use Rattle.lpt_join.specs.Wide.{wide}
+use Rattle.lpt_layout_join.specs.Own.{own_reading}
+use Rattle.lpt_layout_each.proofs.OwnSentLemmas.{sends-own}
 use Rattle.lpt_layout_each.proofs.laws.own_sent_is_given.Goals as goal
 
 pub returns : goal.returns
 returns c = λ t any messages packets octets sends.
-    all-given (λ m. m) messages _ _
-    (own-news t
-    (λ p s size fit agree whole. (
-      c.whole_is_split.ensures.message p s size fit agree whole,
-      c.whole_is_split.ensures.split p s size fit agree whole,
-    ))
-    c.the_own_layouts.ensures.packet c.the_own_parts.ensures any packets octets)
-    (c.sent_is_given.ensures t any messages packets sends)
+    c.sent_is_given.ensures (own_reading t) any (wide t.name) messages packets
+    (sends-own t c.the_own_layouts.ensures.packet c.the_own_parts.ensures any messages packets
+    octets sends)

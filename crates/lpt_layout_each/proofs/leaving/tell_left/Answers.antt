@@ -14,7 +14,7 @@ returns-clause-told g c = λ h k.
     (g.T.TakerAs.heard c.take.new.self) es)
     (left-told c.args.name _ h
     (dropped-shown h.held.new c.into_new.result
-    (subst (λ (s : CameAs). Shows h.held.new s) (sym c.into_new.ensures) k.held.new))
+    (subst (λ (s : CameAs). Shows h.held.new s) (sym c.into_new.ensures) k.new))
     (sym (c.is_empty.ensures h k) ∙ c.if-is_empty.false))
     c.in_ok-take.ensures.heard
 
@@ -25,6 +25,6 @@ returns-in_err-take-clause-left g c = λ h k.
     (g.T.TakerAs.heard c.take.new.self) es)
     (left-told c.args.name _ h
     (dropped-shown h.held.new c.into_new.result
-    (subst (λ (s : CameAs). Shows h.held.new s) (sym c.into_new.ensures) k.held.new))
+    (subst (λ (s : CameAs). Shows h.held.new s) (sym c.into_new.ensures) k.new))
     (sym (c.is_empty.ensures h k) ∙ c.if-is_empty.false))
     c.in_err-take.ensures.left)

@@ -15,5 +15,5 @@ pub returns : goal.returns
 returns c = λ h k.
     left-told c.args.name _ h
     (dropped-shown h.held.new c.into_new.result
-    (subst (λ (s : CameAs). Shows h.held.new s) (sym c.into_new.ensures) k.held.new))
+    (subst (λ (s : CameAs). Shows h.held.new s) (sym c.into_new.ensures) k.new))
     (sym (c.is_empty.ensures h k) ∙ c.if-is_empty.false)

@@ -1,4 +1,0 @@
-pub mod Eaches
-pub mod Laws
-pub mod News
-pub mod Streams
