@@ -1,19 +1,17 @@
 -- Octets that are as many as their header says, and no packet, give no area.
-use Rattle.std.proofs.Common.{◌≡◌, ◌∙◌, ap, sym, subst, refl, ℕ, ◌+◌, ◌≤◌, ◌&&◌, Bool, true, false, if◌then◌else◌, List, [], ◌∷◌, ◌++◌, length, take, drop, flat_map, Option, Some, None, Result, Ok, Err, arith}
+use Rattle.std.proofs.Common.{◌≡◌, ◌∙◌, ap, sym, refl, ℕ, ◌+◌, ◌≤◌, ◌&&◌, Bool, true, false, if◌then◌else◌, List, [], ◌∷◌, ◌++◌, length, take, drop, None, Result, Ok, Err, arith}
 use Rattle.std.specs.Prelude.{option_and_then}
 use Rattle.std.specs.Result.{result_ok}
 use Rattle.std.proofs.lemmas.List.{length-take, take-take}
 use Rattle.lpt_carried.specs.Carried.{cut_for}
 use Rattle.lpt_extract.specs.Extracts.{areas_in, areas_of}
-use Rattle.lpt_extract.specs.Reports.{DumpOrPart, dump_by, dump_in, report_in, said_in}
+use Rattle.lpt_extract.specs.Reports.{dump_by, dump_in, report_in, said_in}
 use Rattle.lpt_extract.specs.declared.wanted.Wanted.{Wanted}
 use Rattle.lpt_layout.specs.Packets.{verdict_as}
 use Rattle.lpt_layout.specs.declared.layout.Layout.{Layout}
-use Rattle.lpt_memory.specs.declared.request.Area.{Area}
 use Rattle.lpt_packet.specs.Numbers.{word_at}
 use Rattle.lpt_packet.specs.Packets.{Sight, IdlePacket, APacket, verdict}
 use Rattle.lpt_packet.specs.declared.fault.PacketFault.{PacketFault}
-use Rattle.lpt_reader.specs.Items.{Telling, told_from, told_kind}
 use Rattle.lpt_stream.proofs.PieceLemmas.{framed_fits}
 use Rattle.lpt_stream.specs.Pieces.{LeadsBy, Piece, begins, ends_in_checksum, frame, is_framed, is_passed, is_taken, is_version, keeps_step, kind_by, lookahead, packet_before, packets_of, piece_by, size_in}
 use Rattle.lpt_stream.specs.declared.cut.Cut.{Cut}

@@ -1,23 +1,19 @@
 -- What was laid of all that was shown is what `lpt extract` writes.
-use Rattle.std.proofs.Common.{◌≡◌, ◌⊎◌, ◌∙◌, ap, sym, subst, refl, inl, inr, ℕ, ◌+◌, ◌-◌, ◌<◌, ◌≤◌, ◌==◌, max, Bool, true, false, if◌then◌else◌, List, [], ◌∷◌, ◌++◌, length, take, map, replicate, flat_map, Option, Some, None, append-nil, append_assoc, arith}
+use Rattle.std.proofs.Common.{◌≡◌, ◌∙◌, ap, sym, subst, refl, inl, inr, ℕ, ◌+◌, ◌-◌, ◌≤◌, ◌==◌, max, Bool, true, false, if◌then◌else◌, List, [], ◌∷◌, ◌++◌, length, take, map, flat_map, Option, Some, None, append-nil, append_assoc, arith}
 use Rattle.std.specs.Io.KnownBytes.{Appends, Consumes, IsAtEnd}
 use Rattle.std.specs.Prelude.{nat_le}
-use Rattle.lpt_carried.specs.Carried.{cut, cut_for}
+use Rattle.lpt_carried.specs.Carried.{cut_for}
 use Rattle.lpt_carried.specs.declared.layouts.Layouts.{Layouts}
 use Rattle.lpt_carried.specs.declared.reading.Reading.{Reading}
-use Rattle.lpt_extract.specs.Areas.{extent, image}
+use Rattle.lpt_extract.specs.Areas.{extent}
 use Rattle.lpt_extract.specs.Extracts.{AreMissing, Ends, ExtractsTo, areas_in, areas_of, cut_of, is_unbroken}
 use Rattle.lpt_extract.specs.Gaps.{gaps_in, is_given, AreGaps}
-use Rattle.lpt_extract.specs.Reports.{Saying, Other, APart, Foreign, Unread, Areas, dump_in, report_in, said_in}
-use Rattle.lpt_extract.specs.declared.extracted.ExtractEnd.{ExtractEnd}
-use Rattle.lpt_extract.specs.declared.extracted.ExtractEnd.TheVariants as ends
+use Rattle.lpt_extract.specs.Reports.{Saying, Other, APart, Foreign, Unread, Areas, report_in}
 use Rattle.lpt_extract.specs.declared.extracted.Extracted.{Extracted}
 use Rattle.lpt_extract.specs.declared.notice.Notice.{Notice}
-use Rattle.lpt_extract.specs.declared.wanted.ImagePlace.{ImagePlace}
-use Rattle.lpt_extract.specs.declared.wanted.Wanted.{Wanted}
 use Rattle.lpt_memory.specs.declared.request.Area.{Area}
 use Rattle.lpt_packet.proofs.Readings.{eq_false}
-use Rattle.lpt_reader.specs.Items.{Entry, Telling, TellsWhole, told_from, told_kind, untold}
+use Rattle.lpt_reader.specs.Items.{Telling, told_from, told_kind, untold}
 use Rattle.lpt_reader.specs.Readers.{state_of, HasTold}
 use Rattle.lpt_stream.specs.declared.cut.Cut.{Cut}
 use Rattle.lpt_stream.specs.declared.piece_kind.PieceKind.{PieceKind}
@@ -25,8 +21,8 @@ use Rattle.lpt_stream.specs.declared.piece_kind.PieceKind.TheVariants.{Whole, Da
 use Rattle.lpt_stream.specs.Pieces.{CutsBy, LeadsBy, Piece, packets_of, up_to_limit}
 use Rattle.lpt_c_reader.specs.Begun.{cut_with}
 use Rattle.lpt_c_reader.specs.Codes.{all_done, room}
-use Rattle.lpt_c_reader.specs.ItemRuns.{ItemCall, Fed, Unfed, Ended, Shown as AnItem, Unshown, IsItemCall, ItemRuns, octets_fed, shown_in}
-use Rattle.lpt_c_reader.specs.Images.{ImageCall, Other as ACall, Longer, Laid, Unlaid, ImageRuns, IsCutDown, IsImage, Lays, LaysArchive, end_told, is_marked, items_in, laid_in, passed_told, texts_in, texts_of, image_wanted}
+use Rattle.lpt_c_reader.specs.ItemRuns.{ItemCall, Fed, Unfed, Ended, Shown as AnItem, Unshown, IsItemCall, ItemRuns, octets_fed}
+use Rattle.lpt_c_reader.specs.Images.{ImageCall, Other as ACall, Longer, Laid, Unlaid, ImageRuns, IsCutDown, IsImage, Lays, LaysArchive, end_told, is_marked, items_in, laid_in, passed_told, texts_in, image_wanted}
 use Rattle.lpt_c_reader.specs.Lays.{areas_for, has_room, laid_as, laid_of, lay_all, with_marks, saying}
 use Rattle.lpt_c_reader.specs.declared.archives.Archive.{Archive}
 use Rattle.lpt_c_reader.specs.declared.laying.LptImage.{LptImage}
@@ -34,7 +30,7 @@ use Rattle.lpt_c_reader.specs.declared.laying.LptLaid.{LptLaid}
 use Rattle.lpt_c_reader.proofs.DamagedLemmas.{shown-give, shown_before, shown_of}
 use Rattle.lpt_c_reader.proofs.PassedLemmas.{notices-pass, passed_of, shown-pass}
 use Rattle.lpt_c_reader.proofs.MarkLemmas.{gaps-as, marks-say}
-use Rattle.lpt_c_reader.proofs.ImageLemmas.{octets_in, octets-append, Reads, ReadsAll, runs-on}
+use Rattle.lpt_c_reader.proofs.ImageLemmas.{octets_in, octets-append, runs-on}
 use Rattle.lpt_c_reader.proofs.LayLemmas.{IsLaidOf, areas-laid, as-append, extent-append, extent-as, image-laid, longer-laid, none-laid}
 
 -- ---- the calls on the reader

@@ -1,16 +1,13 @@
 -- Calls on a reader and on an image: what is shown, what is laid, and what `lpt extract` writes.
-use Rattle.std.proofs.Common.{◌≡◌, ◌∙◌, ap, sym, subst, refl, ℕ, ◌+◌, ◌-◌, List, [], ◌∷◌, ◌++◌, Option, Some, None, append-nil, append_assoc}
-use Rattle.lpt_carried.specs.Carried.{cut}
+use Rattle.std.proofs.Common.{◌≡◌, ◌∙◌, ap, sym, subst, refl, ℕ, List, [], ◌∷◌, ◌++◌, Option, Some, None, append-nil, append_assoc}
 use Rattle.lpt_carried.specs.declared.layouts.Layouts.{Layouts}
 use Rattle.lpt_carried.specs.declared.reading.Reading.{Reading}
-use Rattle.lpt_extract.specs.declared.extracted.ExtractEnd.TheVariants as ends
 use Rattle.lpt_reader.specs.Fronts.{cut_by}
 use Rattle.lpt_reader.specs.Items.{Entry, Telling, TellsWhole}
 use Rattle.lpt_reader.specs.Readers.{state_of, told_by, HasTold, IsRight, State}
 use Rattle.lpt_reader.specs.declared.item.Shown.{Shown}
 use Rattle.lpt_reader.specs.declared.item.Shown.TheVariants as shown
 use Rattle.lpt_stream.specs.declared.cut.Cut.{Cut}
-use Rattle.lpt_stream.specs.Pieces.{Piece}
 use Rattle.lpt_c_reader.specs.Begun.{cut_with}
 use Rattle.lpt_c_reader.specs.Calls.{code_of, some_text, Shows}
 use Rattle.lpt_c_reader.specs.Codes.{all_done}

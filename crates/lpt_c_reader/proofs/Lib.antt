@@ -18,5 +18,7 @@ mod NextLemmas
 mod PassedLemmas
 mod ReadLemmas
 mod RunLemmas
+mod WorkedJoins
 mod WorkedLemmas
+mod WorkedReader
 mod WrittenLemmas

@@ -1,19 +1,18 @@
 -- Marks that were laid say which octets came, and so which are missing.
-use Rattle.std.proofs.Common.{◌≡◌, ◌∙◌, ap, sym, subst, refl, inl, inr, ℕ, ◌+◌, ◌-◌, ◌<◌, ◌≤◌, ◌==◌, ◌&&◌, ◌||◌, Bool, true, false, List, [], ◌∷◌, ◌++◌, length, drop, get_or, map, replicate, arith}
+use Rattle.std.proofs.Common.{◌≡◌, ◌∙◌, ap, sym, refl, inl, inr, ℕ, ◌+◌, ◌-◌, ◌<◌, ◌≤◌, ◌==◌, ◌&&◌, ◌||◌, Bool, true, false, List, [], ◌∷◌, length, get_or, map, replicate, arith}
 use Rattle.std.proofs.lemmas.Bool.{cases_lt}
 use Rattle.std.proofs.lemmas.Bool.Decides.{nat_tests}
-use Rattle.std.proofs.lemmas.Grind.{common_steps}
 use Rattle.std.proofs.lemmas.List.{get_or-drop, get_or-replicate, get_or_past, length-replicate}
 use Rattle.std.specs.Prelude.{nat_le, nat_lt, slice_index}
-use Rattle.lpt_extract.specs.Areas.{end_of, extent}
-use Rattle.lpt_extract.specs.Gaps.{AreAll, AreGaps, Gap, IsGap, has, is_given}
+use Rattle.lpt_extract.specs.Areas.{end_of}
+use Rattle.lpt_extract.specs.Gaps.{AreAll, AreGaps, Gap, has, is_given}
 use Rattle.lpt_memory.specs.declared.request.Area.{Area}
 use Rattle.lpt_memory.specs.Memories.{put_at, put_all}
-use Rattle.lpt_memory.specs.Overlaps.{Covers, NoneCovers}
+use Rattle.lpt_memory.specs.Overlaps.{Covers}
 use Rattle.lpt_memory.specs.Ranges.{AreasFit}
 use Rattle.lpt_memory.proofs.PutLemmas.{AreasFit-put_at, put_all-last, put_all-untouched}
 use Rattle.lpt_c_reader.specs.Lays.{with_marks}
-use Rattle.lpt_c_reader.proofs.LayLemmas.{IsLaidOf, extent-fits, extent-marked}
+use Rattle.lpt_c_reader.proofs.LayLemmas.{IsLaidOf, extent-fits}
 
 -- ---- an area
 

@@ -1,5 +1,5 @@
 -- The areas of a dump report, read one after the other.
-use Rattle.std.proofs.Common.{◌≡◌, ◌∙◌, ap, sym, subst, refl, ℕ, suc, ◌+◌, ◌/◌, ◌==◌, max, cond, Bool, true, false, List, [], ◌∷◌, ◌++◌, length, map, option_map, Option, Some, None, Result, Ok, Err, arith}
+use Rattle.std.proofs.Common.{◌≡◌, ◌∙◌, ap, sym, subst, refl, ℕ, suc, ◌+◌, ◌/◌, ◌==◌, max, cond, true, false, List, [], ◌∷◌, ◌++◌, length, map, option_map, Option, Some, None, Result, Ok, Err, arith}
 use Rattle.std.proofs.lemmas.List.{map-append}
 use Rattle.std.proofs.lemmas.List.Elements.{filter-append}
 use Rattle.std.proofs.lemmas.List.Sums.{sum_by-append}
@@ -8,7 +8,7 @@ use Rattle.std.specs.Result.{result_ok}
 use Rattle.lpt_extract.specs.Areas.{extent}
 use Rattle.lpt_extract.specs.Extracts.{whole_areas}
 use Rattle.lpt_extract.specs.Notices.{is_taken}
-use Rattle.lpt_extract.specs.Reports.{DumpOrPart, dump_by, dump_in, dump_of}
+use Rattle.lpt_extract.specs.Reports.{dump_by, dump_in, dump_of}
 use Rattle.lpt_layout.specs.Layouts.{body_at, version_number}
 use Rattle.lpt_layout.specs.Messages.{Said, is_kind, message_verdict, said_at}
 use Rattle.lpt_layout.specs.Packets.{verdict_as}
@@ -16,7 +16,6 @@ use Rattle.lpt_layout.specs.declared.layout.Layout.{Layout}
 use Rattle.lpt_memory.specs.Fields.{all_areas}
 use Rattle.lpt_memory.specs.Meanings.{area}
 use Rattle.lpt_memory.specs.Requests.{LoadArea}
-use Rattle.lpt_memory.specs.declared.request.Area.{Area}
 use Rattle.lpt_memory.proofs.LoopLemmas.{all_areas-next, all_areas-none, with_front, with_front-none}
 use Rattle.lpt_packet.specs.Packets.{Fields, Sight, IdlePacket, APacket}
 use Rattle.lpt_packet.specs.declared.fault.PacketFault.{PacketFault}
@@ -25,7 +24,7 @@ use Rattle.lpt_packet.specs.declared.packet.PacketKind.TheVariants.{Tm, Tc}
 use Rattle.lpt_pus.specs.Messages.{headers_tested}
 use Rattle.lpt_pus.specs.declared.fault.PusFault.{PusFault}
 use Rattle.lpt_c_reader.specs.Lays.{is_untaken}
-use Rattle.lpt_c_reader.specs.LaysInside.{dump_typed, taken_of, typed_dump, with_areas}
+use Rattle.lpt_c_reader.specs.LaysInside.{dump_typed, taken_of, with_areas}
 use Rattle.lpt_c_reader.specs.Seen.{typed_as, typed_by, typed_in}
 use Rattle.lpt_c_reader.specs.declared.loaded.Sum.{Sum}
 use Rattle.lpt_c_reader.proofs.LayLemmas.{extent-append}

@@ -2,7 +2,6 @@
 use Rattle.std.proofs.Common.{◌≡◌, ◌⊎◌, ◌∙◌, sym, subst, refl, inl, inr, ℕ, ◌==◌, Bool, List, [], ◌∷◌, ◌++◌, Option, Some, None, append-nil, append_assoc}
 use Rattle.lpt_carried.specs.declared.reading.Reading.{Reading}
 use Rattle.lpt_layout_each.specs.News.{Event}
-use Rattle.lpt_layout_each.specs.Streams.{events}
 use Rattle.lpt_packet.specs.declared.direction.Direction.{Direction}
 use Rattle.lpt_reader.specs.Items.{Telling, untold}
 use Rattle.lpt_reader_each.specs.declared.joins.Joins.{Joins}

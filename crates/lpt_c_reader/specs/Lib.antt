@@ -22,3 +22,4 @@ pub mod Named
 pub mod Runs
 pub mod Seen
 pub mod WorkedItems
+pub mod WorkedMessages

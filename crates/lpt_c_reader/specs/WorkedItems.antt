@@ -1,7 +1,7 @@
 -- A worked run of a reader: an archive of one packet, which is listed, and laid over an image.
 use Rattle.std.specs.Prelude.{◌≡◌, ℕ, List, [], ◌∷◌, Some, Ok}
 use Rattle.lpt_c_reader.specs.ItemRuns.{ItemRuns, Listed, Fed, Ended, Shown}
-use Rattle.lpt_c_reader.specs.Images.{ImageCall, Other, Longer, Laid, LaysArchive}
+use Rattle.lpt_c_reader.specs.Images.{Other, Longer, Laid, LaysArchive}
 use Rattle.lpt_c_reader.specs.LayoutTexts.{IsNew}
 use Rattle.lpt_c_reader.specs.declared.archives.Archive.{Archive}
 use Rattle.lpt_c_reader.specs.declared.laying.LptImage.{LptImage}

@@ -8,7 +8,7 @@ ghost use Rattle.lpt_reader.specs.Fronts.{cut_by};
 ghost use Rattle.lpt_reader.specs.Readers.{state_of};
 ghost use Rattle.lpt_list.specs.Lists.{cut_for};
 ghost use Rattle.lpt_carried.specs.Carried.{cut};
-ghost use Rattle.lpt_c_reader.specs.Begun.{cut_with};
+ghost use Rattle.lpt_c_reader.specs.Begun.{cut_with, IsSealedAs};
 
 use lpt_carried::{Layouts, Reading};
 use lpt_reader::Reader;
@@ -27,6 +27,7 @@ pub struct Archive {
     ghost down: { IfSome layouts.telemetry.part_size IsPartSizeAs } by { Prim.hlevel props },
     ghost up: { IfSome layouts.telecommands.part_size IsPartSizeAs } by { Prim.hlevel props },
     ghost cut: { cut_by (state_of reader).sealed ≡ cut_with reading layouts },
+    ghost joined: { IfSome reading (λ r. IfSome joins (IsSealedAs r)) } by { Prim.hlevel props },
 }
 
 impl Archive {

@@ -1,6 +1,7 @@
 //! What becomes of messages in the octets that are fed.
 
-ghost use Rattle.std.specs.Prelude.{◌≡◌, None};
+ghost use Rattle.std.specs.Prelude.{◌≡◌, None, Some};
+ghost use Rattle.lpt_c_reader.specs.Begun.{IsSealedAs};
 ghost use Rattle.lpt_c_reader.specs.Calls.{code_of};
 ghost use Rattle.lpt_c_reader.specs.Copies.{code_for, left_by, needed_by};
 ghost use Rattle.lpt_c_reader.specs.Joining.{Becomes, MessageBy, TellsBy, message_told, parts_told};
@@ -11,9 +12,8 @@ use crate::codes::{DONE, EMPTY, MEMORY, MORE, NOTHING, RANGE};
 use crate::copying::copy_out;
 use crate::handle::{LptReader, put, take};
 use crate::messages::{LptMessage, message_by};
-use lpt_packet::Direction;
 use lpt_reader::Shown;
-use lpt_reader_each::{CameAs, Joins, Name, NewsAs};
+use lpt_reader_each::{CameAs, Joins, Name, NewsAs, Reading};
 use std::alloc::Global;
 
 /// Goes on behind what stands next in the archive, and tells what becomes of messages with it. At
@@ -90,7 +90,7 @@ impl Archive {
         };
         match self.joins.take() {
             None => MEMORY,
-            Some(joins) => self.join(alloc, reading.direction, joins, message),
+            Some(joins) => self.join(alloc, &reading, joins, message),
         }
     }
 
@@ -98,19 +98,22 @@ impl Archive {
     fn join(
         &mut self,
         alloc: Global,
-        direction: Direction,
+        reading: &Reading,
         joins: Joins,
         message: &mut LptMessage,
     ) -> u32
-        requires { self.old.joins ≡ None }
-        ensures { Becomes result message.old message.new direction joins self.old self.new }
+        requires taken { self.old.joins ≡ None }
+        requires reads { self.old.reading ≡ Some reading.now }
+        requires joined { IsSealedAs reading.now joins }
+        ensures { Becomes result message.old message.new reading.now.direction joins self.old
+            self.new }
     {
         let shown = self.reader.show();
         let (joins, event) = match joins.take(alloc, shown, self.reader.last()) {
             Ok(taken) => taken,
             Err(_) => return MEMORY,
         };
-        *message = message_by(direction, shown, &event, *message);
+        *message = message_by(reading.direction, shown, &event, *message);
         self.joins = Some(joins);
         note(shown, event, &mut self.news)
     }

@@ -4,6 +4,7 @@ ghost use Rattle.lpt_c_reader.specs.Images.{ImagesAsExtracted};
 ghost use Rattle.lpt_c_reader.specs.Laws.{MessagesAsEach, ToldOneWay};
 ghost use Rattle.lpt_c_reader.specs.Lines.{ListedAsItems};
 ghost use Rattle.lpt_c_reader.specs.WorkedItems.{ImagesCanBe, ItemsCanBe};
+ghost use Rattle.lpt_c_reader.specs.WorkedMessages.{MessagesCanBe};
 
 use lpt_reader::laws::told_one_way;
 use lpt_reader_each::laws::{each_is_told, leaving_begins};
@@ -59,4 +60,11 @@ pub fn items_can_be()
 /// area laid over four octets.
 pub fn images_can_be()
     ensures { ImagesCanBe }
+{}
+
+/// Of whatever new reader that joins telemetry of the profile: an archive of one packet, which
+/// carries no part, is fed and ended; it is told that nothing becomes of messages with it, and then
+/// the end.
+pub fn messages_can_be()
+    ensures { MessagesCanBe }
 {}

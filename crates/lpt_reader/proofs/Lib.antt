@@ -1,3 +1,4 @@
 pub mod FrontLemmas
 pub mod ToldLemmas
 pub mod StrayLemmas
+pub mod SealLemmas

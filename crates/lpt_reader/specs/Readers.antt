@@ -4,7 +4,8 @@ use Rattle.lpt_stream.specs.declared.found.Found.{Found}
 use Rattle.lpt_stream.specs.declared.piece_kind.PieceKind.{PieceKind}
 use Rattle.lpt_stream.specs.declared.piece_kind.PieceKind.TheVariants.{Whole, Damaged, Stray}
 use Rattle.lpt_stream.specs.Fronts.{found_in}
-use Rattle.lpt_stream.specs.Pieces.{Piece, LeadsBy, keeps_step, up_to_limit}
+use Rattle.lpt_stream.specs.declared.cut.Cut.{Cut}
+use Rattle.lpt_stream.specs.Pieces.{IsSealedBy, LeadsBy, Piece, keeps_step, up_to_limit}
 use Rattle.lpt_stream.specs.Strays.{is_octet_of_none, strays_in}
 use Rattle.lpt_packet.specs.Sizes.{longest_packet}
 use Rattle.lpt_reader.specs.declared.item.Shown.{Shown}
@@ -136,3 +137,9 @@ IsRight shown.Open fed t v = TellsAll (cut_by v.sealed) fed t × (v.ended ≡ fa
 IsRight (shown.End e) fed t v =
     TellsWhole (cut_by v.sealed) fed t × (v.ended ≡ true)
     × (e.place ≡ t.place) × (e.stray ≡ t.stray)
+
+-- a packet that is shown, with these octets, has no wrong checksum, where a cut looks at checksums
+abbrev pub IsShownSealed : Cut → Shown → List ℕ → Type 0
+IsShownSealed c (shown.Piece i) b = IsSealedBy c i.kind b
+IsShownSealed c shown.Open b = Unit {0}
+IsShownSealed c (shown.End e) b = Unit {0}

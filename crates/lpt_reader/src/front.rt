@@ -1,11 +1,11 @@
 //! The piece in front of octets that were fed.
 
-ghost use Rattle.std.specs.Prelude.{◌≡◌, ◌+◌, ◌<◌, ◌≤◌, length, true, false, None, IfSome};
+ghost use Rattle.std.specs.Prelude.{◌≡◌, ◌+◌, ◌<◌, ◌≤◌, length, take, true, false, None, IfSome};
 ghost use Rattle.lpt_packet.specs.Numbers.{word_at};
 ghost use Rattle.lpt_packet.specs.Sizes.{longest_packet};
 ghost use Rattle.lpt_stream.specs.declared.cut.Cut.{Cut};
 ghost use Rattle.lpt_stream.specs.Fronts.{found_in};
-ghost use Rattle.lpt_stream.specs.Pieces.{begins_by, is_version, waits_by};
+ghost use Rattle.lpt_stream.specs.Pieces.{IsSealed, IsSealedBy, begins_by, is_version, waits_by};
 ghost use Rattle.lpt_reader.specs.Fronts.{cut_by, IsOpen, StaysBy};
 
 use lpt_stream::{Found, PieceKind, piece_in_front, whole_length};
@@ -20,6 +20,8 @@ pub(crate) fn front_in(sealed: bool, octets: &[u8], in_step: bool, is_end: bool)
     ensures within { IfSome result (λ f. f.len ≤ length octets.now) }
     ensures stays { IfSome result (λ f.
         StaysBy (cut_by sealed) in_step is_end octets.now (found_in octets.now f)) }
+    ensures seal { IfSome result (λ f.
+        IsSealedBy (cut_by sealed) f.kind (take f.len octets.now)) }
     ensures none { result ≡ None → IsOpen (cut_by sealed) in_step is_end octets.now }
 {
     if sealed {
@@ -35,6 +37,7 @@ fn sealed_in(octets: &[u8], in_step: bool, is_end: bool) -> Option<Found>
     ensures within { IfSome result (λ f. f.len ≤ length octets.now) }
     ensures stays { IfSome result (λ f.
         StaysBy Cut.Sealed in_step is_end octets.now (found_in octets.now f)) }
+    ensures seal { IfSome result (λ f. IsSealed f.kind (take f.len octets.now)) }
     ensures none { result ≡ None → IsOpen Cut.Sealed in_step is_end octets.now }
 {
     piece_in_front(octets, in_step, is_end)

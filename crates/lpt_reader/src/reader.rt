@@ -36,9 +36,11 @@ pub struct Reader {
 }
 
 impl Reader {
-    ghost use Rattle.std.specs.Prelude.{List, ℕ, ◌<◌, true, false, [], ◌++◌, None, IfSome, OnOk, OnErr};
+    ghost use Rattle.std.specs.Prelude.{List, ℕ, ◌<◌, take, true, false, [], ◌++◌, None, IfSome, OnOk, OnErr};
+    ghost use Rattle.lpt_stream.specs.Pieces.{IsSealedBy};
+    ghost use Rattle.lpt_reader.specs.Fronts.{cut_by};
     ghost use Rattle.lpt_reader.specs.Items.{Telling, untold};
-    ghost use Rattle.lpt_reader.specs.Readers.{new_state, fed_with, over, behind_piece, state_of, strays_by, told_by, HasTold, IsInFront, IsRight, IsUnsettled};
+    ghost use Rattle.lpt_reader.specs.Readers.{new_state, fed_with, over, behind_piece, state_of, strays_by, told_by, HasTold, IsInFront, IsRight, IsShownSealed, IsUnsettled};
 
     /// A reader of a stream that begins, cut by checksums, or else by lengths alone.
     pub fn new(alloc: Global, sealed: bool) -> Reader
@@ -101,6 +103,10 @@ impl Reader {
             → HasTold fed (told_by result (state_of self.new) t) (state_of self.new) }
         ensures right { (fed : List ℕ) (t : Telling) → HasTold fed t (state_of self.old)
             → IsRight result fed (told_by result (state_of self.new) t) (state_of self.new) }
+
+        // The checksum of a packet was taken, if they have one, and is right.
+        ensures seal { IsShownSealed (cut_by (state_of self.old).sealed) result
+            (state_of self.new).last }
         ensures cut { (state_of self.new).sealed ≡ (state_of self.old).sealed }
         ensures ended { (state_of self.new).ended ≡ (state_of self.old).ended }
     {
@@ -135,6 +141,8 @@ impl Reader {
         ensures least { IfSome result (λ f. 0 < f.len) }
         ensures within { IfSome result (λ f. f.len ≤ length (state_of self.now).rest) }
         ensures stays { IfSome result (λ f. IsInFront (state_of self.now) f) }
+        ensures seal { IfSome result (λ f. IsSealedBy (cut_by (state_of self.now).sealed) f.kind
+            (take f.len (state_of self.now).rest)) }
         ensures none { result ≡ None → IsUnsettled (state_of self.now) }
     {
         front_in(self.sealed, self.rest(), self.in_step, self.ended)

@@ -2,16 +2,18 @@
 
 ghost use Rattle.std.specs.Prelude.{◌≡◌, ◌≤◌, ◌∷◌, ◌++◌, [], List, length, None, Some, Ok, Err, IfOk};
 ghost use Rattle.lpt_packet.specs.Sizes.{longest_packet};
-ghost use Rattle.lpt_carried.specs.Carried.{part_carried, part_named};
+ghost use Rattle.lpt_carried.specs.Carried.{cut, part_carried, part_named};
 ghost use Rattle.lpt_carried.specs.declared.skip.Skip.{Skip};
 ghost use Rattle.lpt_layout_each.specs.News.{Event};
 ghost use Rattle.lpt_layout_each.specs.Streams.{Tells};
 ghost use Rattle.lpt_layout_each.specs.Told.{events_of};
 ghost use Rattle.lpt_reader.specs.Items.{Entry};
+ghost use Rattle.lpt_reader.specs.Readers.{IsShownSealed};
 ghost use Rattle.lpt_reader_each.specs.Joins.{HasJoined, IsLeaving, Takes};
 ghost use Rattle.lpt_reader_each.specs.Told.{packets_in};
+ghost use Rattle.lpt_stream.specs.Pieces.{IsSealedBy};
 
-use lpt_carried::{CarriedPart, Name, Reading, part_carried};
+use lpt_carried::{CarriedPart, Name, Reading, carried_in};
 use lpt_layout_each::{HeldsAs, NewsAs, pop_left};
 use lpt_reader::Shown;
 use lpt_stream::PieceKind;
@@ -48,7 +50,8 @@ impl Joins {
 
     /// Takes what a reader of the stream showed next, with the octets of the packet, and gives what
     /// becomes of a message with it. At the stream's end it gives what is left of the next name,
-    /// in their order, until nothing is.
+    /// in their order, until nothing is. If its packets have a checksum, the reader has taken that
+    /// of the packet; it isn't taken again.
     ///
     /// The only error is out of memory.
     pub fn take(
@@ -57,6 +60,7 @@ impl Joins {
         shown: Shown,
         octets: &[u8],
     ) -> Result<(Joins, Option<(Name, NewsAs)>), AllocError>
+        requires { IsShownSealed (cut self.reading) shown octets.now }
         ensures { IfOk result (λ r. Takes shown octets.now self r.0 r.1) }
     {
         match shown {
@@ -74,6 +78,7 @@ impl Joins {
         kind: PieceKind,
         octets: &[u8],
     ) -> Result<(Joins, Option<(Name, NewsAs)>), AllocError>
+        requires { IsSealedBy (cut self.reading) kind octets.now }
         ensures same { IfOk result (λ r. (r.0.reading ≡ self.reading) × (r.0.any ≡ self.any)) }
         ensures joined { (entries : List Entry) (es : List Event) (e : Entry) → e.kind ≡ kind
             → e.octets ≡ octets.now → HasJoined entries es self
@@ -92,12 +97,13 @@ impl Joins {
         place: u64,
         octets: &[u8],
     ) -> Result<(Joins, Option<(Name, NewsAs)>), AllocError>
+        requires { IsSealedBy (cut self.reading) PieceKind.Whole octets.now }
         ensures same { IfOk result (λ r. (r.0.reading ≡ self.reading) × (r.0.any ≡ self.any)) }
         ensures joined { (entries : List Entry) (es : List Event) (e : Entry)
             → e.kind ≡ PieceKind.Whole → e.octets ≡ octets.now → HasJoined entries es self
             → IfOk result (λ r. HasJoined (entries ++ e ∷ []) (es ++ events_of r.1) r.0) }
     {
-        match part_carried(&self.reading, octets) {
+        match carried_in(&self.reading, PieceKind::Whole, octets) {
             Ok(part) => self.take_part(alloc, place, octets, &part),
             Err(_) => self.pass_over(octets),
         }

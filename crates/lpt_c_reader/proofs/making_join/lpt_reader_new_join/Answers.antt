@@ -1,4 +1,4 @@
-use Rattle.std.proofs.Common.{false, inr, refl, arith}
+use Rattle.std.proofs.Common.{inr, refl, arith}
 use Rattle.std.proofs.lemmas.Bool.Decides.{nat_tests}
 use Rattle.lpt_c_reader.specs.Joining.{IsNewJoin, is_refused}
 use Rattle.lpt_c_reader.proofs.MakingJoinLemmas.{if_held, join_answer, new_join}
