@@ -1,8 +1,8 @@
 pub mod EscapeLemmas
-pub mod EventFlights
 pub mod FlightLemmas
-pub mod JournalFlights
-pub mod PictureLemmas
+pub mod RowLemmas
 pub mod ShapeTags
+pub mod StoryLemmas
 pub mod TagLemmas
 pub mod ToldLemmas
+pub mod TrackLemmas

@@ -14,11 +14,11 @@ Tagged xs = is_tagged xs ≡ true
 
 -- ---- truth values
 
-and_fst : (a b : Bool) → (a && b) ≡ true → a ≡ true
+pub and_fst : (a b : Bool) → (a && b) ≡ true → a ≡ true
 and_fst true b p = refl
 and_fst false b p = absurd (true≢false (sym p))
 
-and_snd : (a b : Bool) → (a && b) ≡ true → b ≡ true
+pub and_snd : (a b : Bool) → (a && b) ≡ true → b ≡ true
 and_snd true b p = p
 and_snd false b p = absurd (true≢false (sym p))
 

@@ -1,28 +1,33 @@
 -- Which rows of a picture are drawn, and their heights.
-use Rattle.std.specs.Prelude.{◌≡◌, ℕ, ◌+◌, ◌*◌, ◌&&◌, Bool, min, nat_le, nat_lt, if◌then◌else◌, List, length, position, slice_get, is_none}
+use Rattle.std.specs.Prelude.{◌≡◌, ℕ, ◌+◌, ◌-◌, ◌*◌, ◌&&◌, Bool, min, nat_le, nat_lt, if◌then◌else◌, List, length, position, slice_get, is_none}
 use Rattle.std.specs.Option.{option_map_or}
-use Rattle.lpt_chart.specs.Types.{Choice, Frame, Row}
-use Rattle.lpt_chart.specs.Pictures.{Picture}
+use Rattle.lpt_packet.specs.declared.direction.Direction.{Direction}
+use Rattle.lpt_events.specs.Sides.{sender_side}
+use Rattle.lpt_events.specs.declared.side.Side.{Side}
+use Rattle.lpt_events.specs.declared.side.Side.TheVariants.{Ground, Craft}
+use Rattle.lpt_chart.specs.Types.{Choice, Frame, Picture, Row}
 
 -- how many rows above are left out: those of an earlier place
 abbrev pub hidden_above : Choice → List Row → ℕ
 hidden_above c rows =
-    option_map_or (λ from. option_map_or (λ i. i) (position (λ r. nat_le from r.place) rows) (length rows)) c.from 0
+    option_map_or (λ from. option_map_or (λ i. i) (position (λ r. nat_le from r.head.place) rows)
+    (length rows)) c.from 0
 
 -- how many rows there are up to the last that is drawn: 400 where nothing is chosen
 abbrev pub row_end : Choice → List Row → ℕ
 row_end c rows =
-    option_map_or (λ to. option_map_or (λ i. i) (position (λ r. nat_lt to r.place) rows) (length rows)) c.to
+    option_map_or (λ to. option_map_or (λ i. i) (position (λ r. nat_lt to r.head.place) rows)
+    (length rows)) c.to
     (if is_none c.from then min (length rows) 400 else length rows)
 
 -- the height of a row, or of the end
 abbrev pub height_of : Picture → ℕ → ℕ
-height_of p i = option_map_or (λ r. r.at) (slice_get p.rows i) p.next
+height_of p i = option_map_or (λ r. r.head.at) (slice_get p.rows.items i) p.next
 
 -- the heights that are drawn are those of the rows that are chosen
 pub record IsFrame (c : Choice) (p : Picture) (f : Frame) : Type 0 where
-  pub top : f.top ≡ height_of p (hidden_above c p.rows)
-  pub bottom : f.bottom ≡ height_of p (row_end c p.rows)
+  pub top : f.top ≡ height_of p (hidden_above c p.rows.items)
+  pub bottom : f.bottom ≡ height_of p (row_end c p.rows.items)
 
 -- a height in pixels: the middle of the row there
 unfoldable pub y_of : ℕ → ℕ
@@ -31,3 +36,21 @@ y_of at = 11 * at + 11
 -- whether some of these heights is drawn
 abbrev pub shows : Frame → (first last : ℕ) → Bool
 shows f first last = nat_le f.top last && nat_lt first f.bottom
+
+-- a node's line of life, where the words of its rows begin or end, and the middle of a column, of
+-- which the last stands for all beyond
+abbrev pub side_x : Frame → Side → ℕ
+side_x f Ground = f.left
+side_x f Craft = f.left + 380
+
+abbrev pub words_x : Frame → Side → ℕ
+words_x f Ground = f.words
+words_x f Craft = f.right
+
+abbrev pub column_x : Frame → Side → (column : ℕ) → ℕ
+column_x f Ground i = f.left - (30 + 12 * min i 63)
+column_x f Craft i = f.left + (410 + 12 * min i 63)
+
+-- where a packet that is put begins: noise has no sender, and begins in the middle of the link
+abbrev pub start_x : Frame → Direction → (noise : Bool) → ℕ
+start_x f d noise = if noise then f.left + 190 else side_x f (sender_side d)

@@ -1,9 +1,10 @@
 pub mod Charts
-pub mod Events
 pub mod Frames
-pub mod Pictures
-pub mod Rows
+pub mod Kinds
+pub mod Laws
 pub mod Shapes
-pub mod Styles
+pub mod Stories
+pub mod Telling
+pub mod Tracks
 pub mod Types
 pub mod Words

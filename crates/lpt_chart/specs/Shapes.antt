@@ -1,12 +1,15 @@
--- The text of shapes: each is an element, one behind the other; and which elements those are.
-use Rattle.std.specs.Prelude.{ℕ, ◌-◌, nat_lt, nat_le, not, ◌==◌, ◌||◌, ◌&&◌, Bool, true, false, if◌then◌else◌, List, [], ◌∷◌, ◌++◌, length, take, codes, decimal}
-use Rattle.std.specs.List.{flat_map}
+-- The text of shapes: each is an element, one behind the other; and which elements and attributes
+-- those have.
+use Rattle.std.specs.Prelude.{ℕ, ◌-◌, ◌*◌, nat_lt, nat_le, not, ◌==◌, ◌||◌, ◌&&◌, Bool, true, false, if◌then◌else◌, List, [], ◌∷◌, ◌++◌, length, take, codes, decimal, slice_get}
+use Rattle.std.specs.List.{flat_map, list_all}
+use Rattle.std.specs.Option.{option_map_or}
+use Rattle.lpt_chart.specs.declared.style.TheConstants.{BEADS, DOWNS, LETTERS, LOOKS, PLACE, SAID, UPS}
 use Rattle.lpt_chart.specs.declared.svg.TheConstants.{DESC_HEAD, LETTERS_HEAD}
-use Rattle.lpt_chart.specs.Types.{Shape, Sign}
-use Rattle.lpt_chart.specs.declared.shape.Shape.TheVariants.{Line, Box, Text, Group, GroupEnd, Part, PartEnd}
+use Rattle.lpt_chart.specs.Types.{Free, Shape, Sign, Stripe}
+use Rattle.lpt_chart.specs.declared.shape.Free.TheVariants.{Line, Box, Text, Zero, GroupEnd, Part, PartEnd}
+use Rattle.lpt_chart.specs.declared.shape.Free.TheVariants as free
 use Rattle.lpt_chart.specs.declared.shape.Shape.TheVariants as shape
 use Rattle.lpt_chart.specs.declared.shape.Sign.TheVariants.{HeadRight, HeadLeft, Cross, Hourglass}
-use Rattle.lpt_chart.specs.Styles.{letters_text, style_text}
 use Rattle.lpt_chart.specs.Words.{words_joined}
 
 -- an octet of a text: what has a meaning in an element is written by its name, and what isn't a
@@ -39,14 +42,39 @@ seen_text most t =
     ∷ codes ".." ∷ [])
     else text_escaped t
 
--- the end of an element
+-- the end of an element, and of a part
 abbrev pub end_text : List ℕ
 end_text = codes "/>" ++ 10 ∷ []
 
--- the attributes of a size
-abbrev pub size_text : (wide high : ℕ) → List ℕ
-size_text wide high = words_joined
-    (codes "width='" ∷ decimal wide ∷ codes "' height='" ∷ decimal high ∷ codes "'" ∷ [])
+abbrev pub closing_text : List ℕ
+closing_text = codes "</svg>" ++ 10 ∷ []
+
+-- the look at a place of the code's tables: of what has no direction, goes up, and goes down; of
+-- all three by their numbers; of letters that tell nothing; of packets' numbers; and of the words
+-- of rows
+unfoldable pub plain_text : ℕ → List ℕ
+plain_text i = option_map_or (λ s. s.now) (slice_get LOOKS i) []
+
+unfoldable pub up_text : ℕ → List ℕ
+up_text i = option_map_or (λ s. s.now) (slice_get UPS i) []
+
+unfoldable pub down_text : ℕ → List ℕ
+down_text i = option_map_or (λ s. s.now) (slice_get DOWNS i) []
+
+unfoldable pub look_text : ℕ → List ℕ
+look_text i =
+    if nat_lt i 20 then plain_text i
+    else if nat_lt i 35 then up_text (i - 20)
+    else down_text (i - 35)
+
+unfoldable pub letters_text : ℕ → List ℕ
+letters_text i = option_map_or (λ s. s.now) (slice_get LETTERS i) []
+
+unfoldable pub bead_text : ℕ → List ℕ
+bead_text i = option_map_or (λ s. s.now) (slice_get BEADS i) []
+
+unfoldable pub said_text : ℕ → List ℕ
+said_text i = option_map_or (λ s. s.now) (slice_get SAID i) []
 
 -- the steps of a sign, from its point on
 abbrev pub sign_steps : Sign → List ℕ
@@ -55,43 +83,66 @@ sign_steps HeadLeft = codes "l7 -4v8z"
 sign_steps Cross = codes "m-5 -5l10 10m0 -10l-10 10"
 sign_steps Hourglass = codes "m-5 -6h10l-10 12h10z"
 
+-- letters at a point, that look so
+unfoldable pub words_text : (x y : ℕ) → (look words : List ℕ) → List ℕ
+words_text x y look words =
+    words_joined
+    (codes "<text x='" ∷ decimal x ∷ codes "' y='" ∷ decimal y ∷ codes "' " ∷ look ∷ codes
+    ">" ∷ words
+    ∷ codes "</text>" ∷ (10 ∷ []) ∷ [])
+
 -- the size of a part, and the heights that it shows, from one on
 unfoldable pub view_text : (wide high top : ℕ) → List ℕ
 view_text wide high top =
-    words_joined
-    (codes " width='" ∷ decimal wide ∷ codes "' height='" ∷ decimal high ∷ codes "' viewBox='0 "
-    ∷ decimal top ∷ codes " " ∷ decimal wide ∷ codes " " ∷ decimal high ∷ codes "'>" ∷ (10 ∷ []) ∷ [])
+    words_joined (codes " width='" ∷ decimal wide ∷ codes "' height='" ∷ decimal high ∷ codes
+    "' viewBox='0 "
+    ∷ decimal top ∷ codes " " ∷ decimal wide ∷ codes " " ∷ decimal high ∷ codes "'>" ∷ (10 ∷ []) ∷
+    [])
 
--- the end of a part
-abbrev pub closing_text : List ℕ
-closing_text = codes "</svg>" ++ 10 ∷ []
+-- a shape that tells nothing
+unfoldable pub free_text : Free → List ℕ
+free_text (Line x0 y0 x1 y1 look) =
+    words_joined
+    (codes "<path d='M" ∷ decimal x0 ∷ codes " " ∷ decimal y0 ∷ codes "L" ∷ decimal x1 ∷
+    codes " " ∷ decimal y1
+    ∷ codes "' " ∷ look_text look ∷ end_text ∷ [])
+free_text (Box x y wide high round look) =
+    words_joined
+    (codes "<rect x='" ∷ decimal x ∷ codes "' y='" ∷ decimal y ∷ codes "' width='" ∷ decimal
+    wide ∷ codes "' height='"
+    ∷ decimal high ∷ codes "' rx='" ∷ decimal round ∷ codes "' " ∷ look_text look ∷ end_text ∷ [])
+free_text (free.Sign x y sign look) =
+    words_joined
+    (codes "<path d='M" ∷ decimal x ∷ codes " " ∷ decimal y ∷ sign_steps sign ∷ codes "' " ∷
+    look_text look ∷ end_text ∷ [])
+free_text (Text x y letters most t) = words_text x y (letters_text letters) (seen_text most t)
+free_text (Zero x y letters) = words_text x y (bead_text letters) (codes "0")
+free_text GroupEnd = codes "</g>" ++ 10 ∷ []
+free_text (Part y wide high top) =
+    words_joined (codes "<svg x='0' y='" ∷ decimal y ∷ codes "'" ∷ view_text wide high top ∷ [])
+free_text PartEnd = closing_text
+
+-- a stripe round its middle
+unfoldable pub stripe_text : Stripe → List ℕ
+stripe_text s =
+    words_joined
+    (codes "<rect x='" ∷ decimal (s.x - s.half) ∷ codes "' y='" ∷ decimal s.y ∷ codes "' width='"
+    ∷ decimal (2 * s.half) ∷ codes "' height='" ∷ decimal s.high ∷ codes "' rx='0' "
+    ∷ look_text s.look ∷ end_text ∷ [])
 
 -- a shape
 unfoldable pub shape_text : Shape → List ℕ
-shape_text (Line x0 y0 x1 y1 look) =
+shape_text (shape.Free f) = free_text f
+shape_text (shape.Number x y letters n) = words_text x y (bead_text letters) (decimal n)
+shape_text (shape.Beside x y letters n) = words_text x y (bead_text letters) (decimal n)
+shape_text (shape.Place y n) = words_text 52 y PLACE.now (decimal n)
+shape_text (shape.Said x y letters t) = words_text x y (said_text letters) (seen_text 60 t)
+shape_text (shape.Packet t n) =
     words_joined
-    (codes "<path d='M" ∷ decimal x0 ∷ codes " " ∷ decimal y0 ∷ codes "L" ∷ decimal x1 ∷ codes " "
-    ∷ decimal y1
-    ∷ codes "' " ∷ style_text look ∷ end_text ∷ [])
-shape_text (Box x y wide high round look) =
-    words_joined
-    (codes "<rect x='" ∷ decimal x ∷ codes "' y='" ∷ decimal y ∷ codes "' " ∷ size_text wide high
-    ∷ codes " rx='"
-    ∷ decimal round ∷ codes "' " ∷ style_text look ∷ end_text ∷ [])
-shape_text (shape.Sign x y sign look) =
-    words_joined
-    (codes "<path d='M" ∷ decimal x ∷ codes " " ∷ decimal y ∷ sign_steps sign ∷ codes "' "
-    ∷ style_text look ∷ end_text ∷ [])
-shape_text (Text x y letters most t) =
-    words_joined
-    (codes "<text x='" ∷ decimal x ∷ codes "' y='" ∷ decimal y ∷ codes "' " ∷ letters_text letters
-    ∷ codes ">"
-    ∷ seen_text most t ∷ codes "</text>" ∷ (10 ∷ []) ∷ [])
-shape_text (Group t) = words_joined (codes "<g><title>" ∷ text_escaped t ∷ codes "</title>" ∷ [])
-shape_text GroupEnd = codes "</g>" ++ 10 ∷ []
-shape_text (Part y wide high top) =
-    words_joined (codes "<svg x='0' y='" ∷ decimal y ∷ codes "'" ∷ view_text wide high top ∷ [])
-shape_text PartEnd = closing_text
+    (codes "<g><title>" ∷ text_escaped t ∷ codes ", packet " ∷ decimal n ∷ codes "</title>" ∷ [])
+shape_text (shape.Track t more s) =
+    words_joined (codes "<g><title>" ∷ text_escaped t ∷ text_escaped more ∷ codes "</title>"
+    ∷ stripe_text s ∷ [])
 
 -- the beginning of a picture: its size, its letters, its title, and what it shows
 unfoldable pub opening_text : (wide high : ℕ) → (title counts : List ℕ) → List ℕ
@@ -115,10 +166,34 @@ begins_one (w ∷ ws) bs = begins w bs || begins_one ws bs
 abbrev pub tags : List (List ℕ)
 tags =
     codes "svg " ∷ codes "/svg>" ∷ codes "title>" ∷ codes "/title>" ∷ codes "desc>"
-    ∷ codes "/desc>" ∷ codes "style>" ∷ codes "/style>" ∷ codes "g>" ∷ codes "/g>"
+    ∷ codes "/desc>" ∷ codes "style>" ∷ codes "/style>" ∷ codes "g>" ∷ codes "g " ∷ codes "/g>"
     ∷ codes "text " ∷ codes "/text>" ∷ codes "path " ∷ codes "rect " ∷ []
 
 -- whether each '<' of a text opens or closes one of them
 abbrev pub is_tagged : List ℕ → Bool
 is_tagged [] = true
 is_tagged (b ∷ bs) = (not (b == 60) || begins_one tags bs) && is_tagged bs
+
+-- the attributes of a look, each as it begins
+abbrev pub attributes : List (List ℕ)
+attributes =
+    codes "fill='" ∷ codes "stroke='" ∷ codes "stroke-width='" ∷ codes "stroke-dasharray='"
+    ∷ codes "stroke-linecap='" ∷ codes "font-family='" ∷ codes "font-size='"
+    ∷ codes "font-weight='" ∷ codes "text-anchor='" ∷ []
+
+-- whether a text, from where an attribute begins on, in one's name or in one's value, has no others
+abbrev pub is_look : (begin value : Bool) → List ℕ → Bool
+is_look begin value [] = not value
+is_look true false (b ∷ bs) = begins_one attributes (b ∷ bs) && is_look false false bs
+is_look false false (b ∷ bs) = is_look (b == 32) (b == 39) bs
+is_look begin true (b ∷ bs) = is_look false (not (b == 39)) bs
+
+-- whether that is so of each look
+abbrev pub looks_known : Bool
+looks_known =
+    list_all (λ s. is_look true false s.now) LOOKS && list_all (λ s. is_look true false s.now) UPS
+    && list_all (λ s. is_look true false s.now) DOWNS && list_all (λ s. is_look true false s.now)
+    LETTERS
+    && list_all (λ s. is_look true false s.now) BEADS && list_all (λ s. is_look true false s.now)
+    SAID
+    && is_look true false PLACE.now

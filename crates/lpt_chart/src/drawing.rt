@@ -1,36 +1,36 @@
 //! What each event draws.
 
-ghost use Rattle.std.specs.Prelude.{◌≡◌, ◌≤◌, fold, length, nat_lt, position, IfOk, IfSome, OnOk, [], string_bytes};
-ghost use Rattle.lpt_chart.specs.Events.{after, after_all, before, picture_closed, event_drawn, own_puts, packet_put, picture, refusal_row};
-ghost use Rattle.lpt_chart.specs.Pictures.{row_said, stage_tracked};
-ghost use Rattle.lpt_chart.specs.Words.{job_words};
+ghost use Rattle.std.specs.Prelude.{◌≡◌, ◌≤◌, false, fold, length, nat_lt, position, None, Some, IfOk, IfSome, OnOk};
+ghost use Rattle.lpt_events.specs.Lanes.{lane_direction};
+ghost use Rattle.lpt_events.specs.Sides.{receiver_side, sender_side};
+ghost use Rattle.lpt_chart.specs.Stories.{after, after_all, before, closed_story, comes_to, drawn_by, ends, loss_side, lost_now, node_restarted, own_puts, packet_put, refusal_row, said_row, story, story_of, taken_by};
 
-use crate::marks::{Kind, Mark, Opened, Refusal, Stage, Task, Thing};
+use crate::marks::{About, Known, Mark, Refusal, Saying, Sketch};
+use crate::packets::NOTHING;
 use crate::picture::Picture;
 use crate::style::{Style, Weight};
+use crate::svg::plural;
 use crate::task::{asked_from, asked_in};
-use crate::tracks::{parts, parts_kept, task};
-use crate::words::{job_words, lane_word, of_words, plural, refusal_words, request_words};
-use lpt_events::{Answer, Entry, Event, Lane, Puts, Side, Worker, name_word};
+use crate::tracks::{Stage, Thing};
+use crate::words::{job_words, lane_word, of_words, refusal_words, request_words};
+use lpt_events::{Answer, Entry, Event, Lane, Puts, Side, name_word};
 use lpt_packet::{Direction, Name, Octets};
 use std::alloc::{AllocError, Global};
 
 /// What is drawn of a journal and of the lines that were refused, by what is known beside it.
 pub(crate) fn draw_journal(
     alloc: Global,
-    source: u16,
-    kinds: &[Kind],
-    opened: &[Opened],
+    known: Known,
     journal: &[Entry],
     refused: &[Refusal],
 ) -> Result<Picture, AllocError>
-    ensures { IfOk result (λ p. p ≡ picture source kinds.now opened.now journal.now refused.now) }
+    ensures { IfOk result (λ p. story_of p ≡ story journal.now refused.now) }
 {
-    let mut drawn = Picture::new(alloc, source, kinds, opened)?;
-    match drawn.draw_all(journal, refused) {
-        Ok(()) => Ok(drawn),
+    let mut picture = Picture::new(alloc, known);
+    match picture.draw_all(journal, refused) {
+        Ok(()) => Ok(picture),
         Err(error) => {
-            drop(drawn);
+            drop(picture);
             Err(error)
         }
     }
@@ -57,10 +57,10 @@ fn before(place: u64, refused: &[Refusal]) -> usize
 
 impl Picture {
     // Draws all entries, and the lines that were refused between them.
-    #[tactic(auto, using(crate::proofs::PictureLemmas::entry_step))]
+    #[tactic(auto, using(crate::proofs::StoryLemmas::entry_step))]
     fn draw_all(&mut self, journal: &[Entry], refused: &[Refusal]) -> Result<(), AllocError>
-        ensures { OnOk result
-            (self.new ≡ picture_closed (after_all self.old 0 journal.now refused.now)) }
+        ensures { OnOk result (story_of self.new
+            ≡ closed_story (after_all (story_of self.old) 0 journal.now refused.now)) }
     {
         let mut rest = refused;
         for (place, entry) in journal.iter().enumerate() {
@@ -70,12 +70,13 @@ impl Picture {
             rest = back;
         }
         self.refuse(rest)?;
-        self.close()
+        self.settle()
     }
 
     // Draws refused lines.
     fn refuse(&mut self, refused: &[Refusal]) -> Result<(), AllocError>
-        ensures { OnOk result (self.new ≡ fold refusal_row self.old refused.now) }
+        ensures { OnOk result
+            (story_of self.new ≡ fold refusal_row (story_of self.old) refused.now) }
     {
         for refusal in refused {
             self.add_refusal(refusal)?;
@@ -85,26 +86,20 @@ impl Picture {
 
     // Draws a refused line.
     fn add_refusal(&mut self, refusal: &Refusal) -> Result<(), AllocError>
-        ensures { OnOk result (self.new ≡ refusal_row self.old refusal.now) }
+        ensures { OnOk result (story_of self.new ≡ refusal_row (story_of self.old) refusal.now) }
     {
-        let words = refusal_words(self.alloc(), refusal)?;
+        let says = Saying {
+            weight: Weight::Quiet,
+            sketch: Sketch::Refused,
+            words: refusal_words(self.alloc(), refusal)?,
+        };
         self.place = refusal.place;
-        let (at, side) = (self.next, refusal.side);
-        self.row(
-            at,
-            false,
-            false,
-            false,
-            side,
-            Weight::Quiet,
-            Mark::Refused,
-            words,
-        )
+        self.row(self.next, false, false, refusal.side, Mark::Nothing, says)
     }
 
     // Draws the entry of this place.
     fn add(&mut self, place: u64, entry: &Entry) -> Result<(), AllocError>
-        ensures { OnOk result (self.new ≡ after self.old place entry.now) }
+        ensures { OnOk result (story_of self.new ≡ after (story_of self.old) place entry.now) }
     {
         self.place = place;
         self.draw(&entry.event, entry.reply.answer)?;
@@ -113,8 +108,9 @@ impl Picture {
 
     // Draws an event by its answer.
     fn draw(&mut self, event: &Event, answer: Answer) -> Result<(), AllocError>
-        ensures { OnOk result (self.new ≡ event_drawn self.old event.now answer) }
+        ensures { OnOk result (story_of self.new ≡ drawn_by (story_of self.old) event.now answer) }
     {
+        let alloc = self.alloc();
         match (event, answer) {
             (Event::Open(direction, name, message), Answer::Opened(parts)) => {
                 self.open(*direction, *name, message, parts)
@@ -123,33 +119,50 @@ impl Picture {
                 self.send(*direction, *name, *part, number)
             }
             (Event::Plain(_, _, service, subtype, body), Answer::Put(number)) => {
-                let task = asked_from(*service, *subtype, body.as_slice(), 0);
-                let words = request_words(self.alloc(), *service, *subtype)?;
-                self.put_packet(Direction::Up, number, false, 0, Some(task), words)
+                let task = Some(asked_from(*service, *subtype, body.as_slice()));
+                let words = request_words(alloc, *service, *subtype)?;
+                self.put_packet(
+                    Direction::Up,
+                    number,
+                    false,
+                    About { parts: 0, task },
+                    words,
+                )
             }
             (Event::Finish(direction, name), Answer::Finished) => self.finish(*direction, *name),
             (Event::Lose(number), Answer::Lost) => self.lose_packet(*number),
             (Event::Damage(direction, octets), Answer::Put(number)) => {
-                self.damage(*direction, octets, number)
+                let octets = octets.as_slice().len();
+                let s = plural(octets as u64);
+                let words = format!(in alloc; "noise: {octets} octet{s}")?;
+                self.put_packet(*direction, number, true, NOTHING, words)
             }
             (Event::Take(lane, number), Answer::Took(_)) => self.take_packet(*lane, *number),
             (Event::Deliver(lane), Answer::Delivered(outcome)) => self.deliver(*lane, outcome),
             (Event::Tick(side), Answer::Clock(clock)) => self.tick(*side, clock),
             (Event::Expire(_), Answer::Expired(direction, name)) => self.expire(direction, name),
             (Event::Claim(worker), Answer::Claimed(boot, job)) => {
-                self.work(*worker, "claims", boot, job, Stage::Claimed)
+                let words = job_words(alloc, *worker, "claims", boot, job)?;
+                self.work(job, Stage::Claimed, words)
             }
             (Event::Commit(worker), Answer::Committed(boot, job)) => {
-                self.work(*worker, "commits", boot, job, Stage::Committed)
+                let words = job_words(alloc, *worker, "commits", boot, job)?;
+                self.work(job, Stage::Committed, words)
             }
             (Event::Commit(worker), Answer::Stale(boot, job)) => {
-                let words = job_words(self.alloc(), *worker, "hands in", boot, job, ": stale")?;
-                self.say(Side::Craft, Weight::Plain, Mark::Stale, words)
+                let words = job_words(alloc, *worker, "hands in", boot, job)?;
+                let words = format!(in alloc; "{words}: stale")?;
+                let side = Side::Craft;
+                self.say(Mark::Nothing, side, Weight::Plain, Sketch::Stale, words)
             }
             (Event::Apply, Answer::Applied(applied)) => self.execute(applied),
-            (Event::Retire(direction, name), Answer::Retired) => self.retire(*direction, *name),
+            (Event::Retire(direction, name), Answer::Retired) => {
+                let (way, word) = (direction.word(), name_word(self.known.source, *name));
+                let words = format!(in alloc; "retired {way} {word}")?;
+                let side = Side::sender(*direction);
+                self.say(Mark::Nothing, side, Weight::Plain, Sketch::Retired, words)
+            }
             (Event::Restart(side), Answer::Restarted(boot)) => self.restart(*side, boot),
-            // A new event is told of by `own_puts`, which names each.
             _ => Ok(()),
         }
     }
@@ -162,41 +175,23 @@ impl Picture {
         message: &Octets,
         parts: u16,
     ) -> Result<(), AllocError>
-        ensures { OnOk result
-            (self.new ≡ event_drawn self.old (Event.Open direction name message.now)
-            (Answer.Opened parts)) }
+        ensures { OnOk result (story_of self.new ≡ comes_to
+            (said_row (story_of self.old) (sender_side direction) Mark.Nothing)
+            (sender_side direction) (Thing.Sender name) Stage.Sending) }
     {
-        let (side, task) = (
-            Side::sender(direction),
-            asked_in(direction, message.as_slice()),
-        );
-        let (way, octets, word) = (
-            direction.word(),
-            message.as_slice().len(),
-            name_word(self.source, name),
-        );
+        let (side, octets) = (Side::sender(direction), message.as_slice().len());
+        let task = asked_in(direction, message.as_slice());
+        let (way, word) = (direction.word(), name_word(self.known.source, name));
         let words = format!(in self.alloc(); "open {way} {word}: {octets} octets, {parts} parts")?;
-        self.say(side, Weight::Plain, Mark::Square(Style::Opened), words)?;
-        self.track(side, Thing::Sender(name), Some(Stage::Sending(parts, task)))
-    }
-
-    // A packet is put by who sends in its direction.
-    fn put_packet(
-        &mut self,
-        direction: Direction,
-        number: u64,
-        noise: bool,
-        parts: u16,
-        task: Option<Task>,
-        words: String,
-    ) -> Result<(), AllocError>
-        ensures { OnOk result
-            (self.new ≡ packet_put self.old direction number noise parts task (string_bytes words)) }
-    {
-        let mark = Mark::Bead(direction, number, noise);
-        let copy = Octets::from_vec(Vec::from_slice(self.alloc(), words.as_bytes())?);
-        self.say(Side::sender(direction), Weight::Quiet, mark, words)?;
-        self.put(direction, copy, noise, parts, task)
+        self.say(
+            Mark::Nothing,
+            side,
+            Weight::Plain,
+            Sketch::Square(Style::Opened),
+            words,
+        )?;
+        let (thing, about) = (Some(Thing::Sender(name)), About { parts, task });
+        self.turn(side, thing, Some(Stage::Sending), 0, about)
     }
 
     // A part is put. Of how many, and what its message asks for, is known of the open sender.
@@ -208,129 +203,103 @@ impl Picture {
         number: u64,
     ) -> Result<(), AllocError>
         ensures { OnOk result
-            (self.new ≡ event_drawn self.old (Event.Send direction name part) (Answer.Put number)) }
+            (story_of self.new ≡ packet_put (story_of self.old) direction number false) }
     {
-        let stage = self.stage_of(Side::sender(direction), Thing::Sender(name));
-        let of = of_words(self.alloc(), parts(stage))?;
-        let (way, word) = (direction.word(), name_word(self.source, name));
+        let (_, about) = self.known_of(Side::sender(direction), Thing::Sender(name));
+        let of = of_words(self.alloc(), about.parts)?;
+        let (way, word) = (direction.word(), name_word(self.known.source, name));
         let words = format!(in self.alloc(); "{way} {word} part {part}{of}")?;
-        self.put_packet(direction, number, false, parts(stage), task(stage), words)
-    }
-
-    // Noise leaves so many octets.
-    fn damage(
-        &mut self,
-        direction: Direction,
-        octets: &Octets,
-        number: u64,
-    ) -> Result<(), AllocError>
-        ensures { OnOk result
-            (self.new ≡ event_drawn self.old (Event.Damage direction octets.now)
-            (Answer.Put number)) }
-    {
-        let octets = octets.as_slice().len() as u64;
-        let s = plural(octets);
-        let words = format!(in self.alloc(); "noise: {octets} octet{s}")?;
-        self.put_packet(direction, number, true, 0, None, words)
+        self.put_packet(direction, number, false, about, words)
     }
 
     // A sender is closed.
     fn finish(&mut self, direction: Direction, name: Name) -> Result<(), AllocError>
-        ensures { OnOk result
-            (self.new ≡ event_drawn self.old (Event.Finish direction name) Answer.Finished) }
+        ensures { OnOk result (story_of self.new ≡ ends
+            (said_row (story_of self.old) (sender_side direction) Mark.Nothing)
+            (sender_side direction) (Thing.Sender name)) }
     {
-        let (way, word) = (direction.word(), name_word(self.source, name));
-        let (side, mark) = (Side::sender(direction), Mark::Square(Style::Finished));
-        self.say(
-            side,
-            Weight::Plain,
-            mark,
-            format!(in self.alloc(); "finished {way} {word}")?,
-        )?;
-        self.track(side, Thing::Sender(name), None)
+        let (way, word) = (direction.word(), name_word(self.known.source, name));
+        let (side, sketch) = (Side::sender(direction), Sketch::Square(Style::Finished));
+        let words = format!(in self.alloc(); "finished {way} {word}")?;
+        self.say(Mark::Nothing, side, Weight::Plain, sketch, words)?;
+        self.end(side, Thing::Sender(name))
     }
 
     // A packet is lost. Its row stands at ground where there is no such packet.
     fn lose_packet(&mut self, number: u64) -> Result<(), AllocError>
-        ensures { OnOk result (self.new ≡ event_drawn self.old (Event.Lose number) Answer.Lost) }
+        ensures { OnOk result
+            (story_of self.new ≡ lost_now (said_row (story_of self.old)
+            (loss_side (story_of self.old) number) Mark.Nothing) number) }
     {
         let side = match self.sent.get(number as usize) {
             Some(sent) => Side::sender(sent.direction),
             None => Side::Ground,
         };
         let words = format!(in self.alloc(); "packet {number} is lost")?;
-        self.say(side, Weight::Plain, Mark::Nothing, words)?;
+        self.say(Mark::Nothing, side, Weight::Plain, Sketch::Nothing, words)?;
         self.lose(number)
     }
 
     // A lane takes a packet.
     fn take_packet(&mut self, lane: Lane, number: u64) -> Result<(), AllocError>
         ensures { OnOk result
-            (self.new ≡ event_drawn self.old (Event.Take lane number) (Answer.Took 0)) }
+            (story_of self.new ≡ taken_by (said_row (story_of self.old)
+            (receiver_side (lane_direction lane)) (Mark.Took lane)) lane number) }
     {
         let word = lane_word(lane);
         let words = format!(in self.alloc(); "{word} takes {number}")?;
-        self.say(lane.receiver(), Weight::Quiet, Mark::Took(lane), words)?;
+        self.say(
+            Mark::Took(lane),
+            lane.receiver(),
+            Weight::Quiet,
+            Sketch::Nothing,
+            words,
+        )?;
         self.take(lane, number);
         Ok(())
     }
 
     // A reception has expired.
     fn expire(&mut self, direction: Direction, name: Name) -> Result<(), AllocError>
-        ensures { OnOk result
-            (self.new ≡ event_drawn self.old (Event.Expire Side.Ground)
-            (Answer.Expired direction name)) }
+        ensures { OnOk result (story_of self.new ≡ ends
+            (said_row (story_of self.old) (receiver_side direction) Mark.Nothing)
+            (receiver_side direction) (Thing.Reception name)) }
     {
         let (side, thing) = (Side::receiver(direction), Thing::Reception(name));
-        let stage = self.stage_of(side, thing);
-        let of = of_words(self.alloc(), parts(stage))?;
-        let (way, word, kept) = (
-            direction.word(),
-            name_word(self.source, name),
-            parts_kept(stage),
-        );
+        let (kept, about) = self.known_of(side, thing);
+        let of = of_words(self.alloc(), about.parts)?;
+        let (way, word) = (direction.word(), name_word(self.known.source, name));
         let words = format!(in self.alloc(); "expired {way} {word}: {kept}{of}")?;
-        self.say(side, Weight::Strong, Mark::Expired, words)?;
-        self.track(side, thing, None)
+        self.say(Mark::Nothing, side, Weight::Strong, Sketch::Expired, words)?;
+        self.end(side, thing)
     }
 
     // A worker brings a job to a stage.
-    fn work(
-        &mut self,
-        worker: Worker,
-        does: &str,
-        boot: u64,
-        job: u64,
-        stage: Stage,
-    ) -> Result<(), AllocError>
-        ensures { OnOk result (self.new ≡ stage_tracked
-            (row_said self.old Side.Craft Weight.Plain Mark.Nothing
-            (job_words worker does.now boot job []))
-            Side.Craft (Thing.Job job) (Some stage)) }
+    fn work(&mut self, job: u64, stage: Stage, words: String) -> Result<(), AllocError>
+        ensures { OnOk result (story_of self.new ≡ comes_to
+            (said_row (story_of self.old) Side.Craft Mark.Nothing)
+            Side.Craft (Thing.Job job) stage) }
     {
-        let words = job_words(self.alloc(), worker, does, boot, job, "")?;
-        self.say(Side::Craft, Weight::Plain, Mark::Nothing, words)?;
-        self.track(Side::Craft, Thing::Job(job), Some(stage))
-    }
-
-    // A transaction is free at both ends.
-    fn retire(&mut self, direction: Direction, name: Name) -> Result<(), AllocError>
-        ensures { OnOk result
-            (self.new ≡ event_drawn self.old (Event.Retire direction name) Answer.Retired) }
-    {
-        let (way, word) = (direction.word(), name_word(self.source, name));
-        let words = format!(in self.alloc(); "retired {way} {word}")?;
-        self.say(Side::sender(direction), Weight::Plain, Mark::Retired, words)
+        let (side, thing) = (Side::Craft, Some(Thing::Job(job)));
+        self.say(Mark::Nothing, side, Weight::Plain, Sketch::Nothing, words)?;
+        self.turn(side, thing, Some(stage), 0, NOTHING)
     }
 
     // A node is restarted.
+    #[tactic(auto, unfolding(crate::specs::Stories::node_restarted))]
     fn restart(&mut self, side: Side, boot: u64) -> Result<(), AllocError>
-        ensures { OnOk result
-            (self.new ≡ event_drawn self.old (Event.Restart side) (Answer.Restarted boot)) }
+        ensures { OnOk result (story_of self.new
+            ≡ node_restarted (said_row (story_of self.old) side Mark.Nothing) side) }
     {
         let words = format!(in self.alloc(); "starts anew: boot {boot}")?;
-        self.say(side, Weight::Strong, Mark::Restarted, words)?;
-        self.clear(side)?;
+        self.say(
+            Mark::Nothing,
+            side,
+            Weight::Strong,
+            Sketch::Restarted,
+            words,
+        )?;
+        self.turn(side, None, None, 0, NOTHING)?;
         match side {
             Side::Ground => {}
             Side::Craft => {

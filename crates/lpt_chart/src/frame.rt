@@ -1,17 +1,18 @@
 //! Which rows are drawn, and where things stand in a picture, in whole pixels.
 
-ghost use Rattle.std.specs.Prelude.{◌≡◌, ◌<◌, ◌≤◌, ◌^◌, length, nat_le, nat_lt, position};
-ghost use Rattle.lpt_chart.specs.Frames.{IsFrame, height_of, hidden_above, row_end, shows, y_of};
+ghost use Rattle.std.specs.Prelude.{◌≡◌, ◌+◌, ◌<◌, ◌≤◌, ◌^◌, length, nat_le, nat_lt, position};
+ghost use Rattle.lpt_chart.specs.Frames.{IsFrame, column_x, height_of, hidden_above, row_end, shows, side_x, words_x, y_of};
 
 use crate::marks::{Choice, Row};
 use crate::picture::{Picture, is_side};
 use crate::title::{title_room, title_wide};
+use crate::tracks::Bar;
 use lpt_events::{Lane, Side};
 
 /// If the columns of a picture stand: the right edge of the words at ground's side; the middle of
-/// ground's line of life, from which the spacecraft's is 380 pixels right; the left edge of the words
-/// at the spacecraft's side; the width of all; the tops of the nodes' boxes above the rows, and of the
-/// rows; and the first height that is drawn, and that at which the drawing ends.
+/// ground's line of life, from which the spacecraft's is 380 pixels right; the left edge of the
+/// words at the spacecraft's side; the width of all; the tops of the nodes' boxes above the rows,
+/// and of the rows; and the first height that is drawn, and that at which the drawing ends.
 #[derive(Clone, Copy)]
 pub(crate) struct Frame {
     pub(crate) words: u32,
@@ -26,16 +27,16 @@ pub(crate) struct Frame {
 
 // Where the rows of this place or a later one begin, where there are some.
 fn found_from(place: u64, rows: &[Row]) -> Option<usize>
-    ensures { result ≡ position (λ r. nat_le place r.place) rows.now }
+    ensures { result ≡ position (λ r. nat_le place r.head.place) rows.now }
 {
-    rows.iter().position(|row| place <= row.place)
+    rows.iter().position(|row| place <= row.head.place)
 }
 
 // Where the rows of a later place begin, where there are some.
 fn found_behind(place: u64, rows: &[Row]) -> Option<usize>
-    ensures { result ≡ position (λ r. nat_lt place r.place) rows.now }
+    ensures { result ≡ position (λ r. nat_lt place r.head.place) rows.now }
 {
-    rows.iter().position(|row| place < row.place)
+    rows.iter().position(|row| place < row.head.place)
 }
 
 /// How many rows above are left out: those of an earlier place.
@@ -70,7 +71,7 @@ fn height_of(picture: &Picture, row: usize) -> u32
     ensures { result ≡ height_of picture.now row }
 {
     match picture.rows.get(row) {
-        Some(row) => row.at,
+        Some(row) => row.head.at,
         None => picture.next,
     }
 }
@@ -89,21 +90,34 @@ fn widest_at(side: Side, rows: &[Row]) -> u32
 {
     let mut widest = 16;
     for row in rows {
-        if is_side(side, row.side) {
-            widest = widest.max(row.words.as_slice().len().min(60) as u32);
+        if is_side(side, row.head.side) {
+            widest = widest.max(row.says.words.as_slice().len());
         }
     }
-    widest
+    widest.min(60) as u32
 }
 
-/// The frame of a picture. Its columns have 12 pixels each.
-pub(crate) fn frame_of(choice: Choice, title: &[u8], picture: &Picture) -> Frame
+// How many columns a node has, 64 at most.
+fn columns_at(side: Side, bars: &[Bar]) -> u32
+    ensures { result ≤ 64 }
+{
+    let mut columns = 0;
+    for bar in bars {
+        if is_side(side, bar.track.turn.side) {
+            columns = columns.max(bar.column.saturating_add(1));
+        }
+    }
+    columns.min(64) as u32
+}
+
+/// The frame of a picture with these pieces of tracks. Its columns have 12 pixels each.
+pub(crate) fn frame_of(choice: Choice, title: &[u8], bars: &[Bar], picture: &Picture) -> Frame
     ensures { IsFrame choice picture.now result }
 {
     let rows = picture.rows.as_slice();
     let words = 60 + wide_of(widest_at(Side::Ground, rows));
-    let left = words + (46 + 12 * (picture.ground.len().min(64) as u32));
-    let right = left + (420 + 12 * (picture.craft.len().min(64) as u32));
+    let left = words + (46 + 12 * columns_at(Side::Ground, bars));
+    let right = left + (420 + 12 * columns_at(Side::Craft, bars));
     let wide = right + (24 + wide_of(widest_at(Side::Craft, rows)));
     let room = title_room(title, title_wide(wide));
     Frame {
@@ -130,7 +144,8 @@ pub(crate) fn y_of(at: u32) -> u64
 
 /// A node's line of life.
 pub(crate) fn side_x(frame: Frame, side: Side) -> u64
-    ensures { result < 2 ^ 33 }
+    ensures value { result ≡ side_x frame side }
+    ensures small { result < 2 ^ 33 }
 {
     match side {
         Side::Ground => u64::from(frame.left),
@@ -138,9 +153,20 @@ pub(crate) fn side_x(frame: Frame, side: Side) -> u64
     }
 }
 
+/// Where the words of a node's rows end or begin.
+pub(crate) fn words_x(frame: Frame, side: Side) -> u64
+    ensures { result ≡ words_x frame side }
+{
+    match side {
+        Side::Ground => u64::from(frame.words),
+        Side::Craft => u64::from(frame.right),
+    }
+}
+
 /// The middle of the link.
 pub(crate) fn middle_x(frame: Frame) -> u64
-    ensures { result < 2 ^ 33 }
+    ensures value { result ≡ frame.left + 190 }
+    ensures small { result < 2 ^ 33 }
 {
     u64::from(frame.left) + 190
 }
@@ -157,14 +183,15 @@ pub(crate) fn lane_x(frame: Frame, lane: Lane) -> u64
     }
 }
 
-/// The left edge of a column.
-pub(crate) fn bar_x(frame: Frame, side: Side, column: u64) -> u64
-    ensures { result < 2 ^ 40 }
+/// The middle of a column; the last stands for all beyond.
+pub(crate) fn column_x(frame: Frame, side: Side, column: u64) -> u64
+    ensures value { result ≡ column_x frame side column }
+    ensures small { result < 2 ^ 40 }
 {
     let outward = 12 * column.min(63);
     match side {
-        Side::Ground => u64::from(frame.left).saturating_sub(34 + outward),
-        Side::Craft => u64::from(frame.left) + 406 + outward,
+        Side::Ground => u64::from(frame.left).saturating_sub(30 + outward),
+        Side::Craft => u64::from(frame.left) + (410 + outward),
     }
 }
 

@@ -4,22 +4,24 @@ ghost use Rattle.std.specs.Prelude.{◌≡◌, ℕ, List, true};
 ghost use Rattle.std.specs.List.{list_all};
 ghost use Rattle.lpt_events.specs.declared.entry.Entry.{Entry};
 ghost use Rattle.lpt_chart.specs.declared.marks.Choice.{Choice};
-ghost use Rattle.lpt_chart.specs.declared.marks.Kind.{Kind};
-ghost use Rattle.lpt_chart.specs.declared.marks.Opened.{Opened};
 ghost use Rattle.lpt_chart.specs.declared.marks.Refusal.{Refusal};
 ghost use Rattle.lpt_chart.specs.Charts.{IsChart};
-ghost use Rattle.lpt_chart.specs.Events.{DrawsDeliveries, DrawsReleases};
-ghost use Rattle.lpt_chart.specs.Shapes.{text_escaped, is_plain, is_tagged};
+ghost use Rattle.lpt_chart.specs.Laws.{DrawsDeliveries, DrawsEvents, DrawsReleases};
+ghost use Rattle.lpt_chart.specs.Shapes.{text_escaped, is_plain, is_tagged, looks_known};
 
-/// Each delivery of a journal is drawn exactly once, in order, and so is each release, whatever lines
-/// were refused.
+/// Each event of a journal but ticks has a row of its own, which shows its place, in order: packets
+/// put, lost and delivered, what receptions and jobs came to, restarts, and the others.
+pub fn each_event_has_its_row()
+    ensures { (journal : List Entry) (refused : List Refusal) → DrawsEvents journal refused }
+{}
+
+/// Each delivery of a journal is drawn exactly once, in order, and so is each release, whatever
+/// lines were refused.
 pub fn each_delivery_is_drawn_once()
-    ensures deliveries { (source : ℕ) (kinds : List Kind) (opened : List Opened)
-        (journal : List Entry) (refused : List Refusal)
-        → DrawsDeliveries source kinds opened journal refused }
-    ensures releases { (source : ℕ) (kinds : List Kind) (opened : List Opened)
-        (journal : List Entry) (refused : List Refusal)
-        → DrawsReleases source kinds opened journal refused }
+    ensures deliveries { (journal : List Entry) (refused : List Refusal)
+        → DrawsDeliveries journal refused }
+    ensures releases { (journal : List Entry) (refused : List Refusal)
+        → DrawsReleases journal refused }
 {}
 
 /// What is written of a text neither opens nor closes an element, and is ASCII that is seen.
@@ -28,10 +30,10 @@ pub fn escaped_texts_are_plain()
 {}
 
 /// Each '<' of a picture opens or closes one of these: `svg`, `title`, `desc`, `style`, `g`,
-/// `text`, `path` and `rect`.
+/// `text`, `path` and `rect`. Each attribute of a look is one of nine.
 pub fn each_element_is_known()
-    ensures { (source : ℕ) (c : Choice) (title : List ℕ) (kinds : List Kind) (opened : List Opened)
-        (journal : List Entry) (refused : List Refusal) (text : List ℕ)
-        → IsChart source c title kinds opened journal refused text
+    ensures elements { (source : ℕ) (c : Choice) (title : List ℕ) (journal : List Entry)
+        (refused : List Refusal) (text : List ℕ) → IsChart source c title journal refused text
         → is_tagged text ≡ true }
+    ensures attributes { looks_known ≡ true }
 {}

@@ -23,5 +23,5 @@ mod title;
 mod tracks;
 mod words;
 
-pub use marks::{Choice, Kind, Opened, Refusal};
-pub use svg::chart;
+pub use marks::{Choice, Kind, Known, Opened, Refusal};
+pub use svg::{chart, write_escaped};

@@ -4,7 +4,7 @@
 
 use crate::style::{Style, Weight};
 use lpt_events::{Lane, Outcome, Side, StepFault};
-use lpt_packet::{Direction, Name, Octets};
+use lpt_packet::{Direction, Octets};
 
 /// Which rows are drawn, by places of the journal: the first 400 if neither is given.
 #[derive(Clone, Copy)]
@@ -31,6 +31,17 @@ pub struct Opened {
     pub place: u64,
     /// How many parts it has.
     pub parts: u16,
+}
+
+/// What is known of a run beside its journal.
+#[derive(Drop)]
+pub struct Known {
+    /// The configured source, without which its names are written.
+    pub source: u16,
+    /// What each packet says that it is, at the place of its number.
+    pub kinds: Vec<Kind>,
+    /// The messages that were opened.
+    pub opened: Vec<Opened>,
 }
 
 /// A line of a script that asked for an event which was refused.
@@ -60,15 +71,20 @@ pub(crate) struct Task {
     pub(crate) octets: u16,
 }
 
-/// A packet that was put on the link: the height of its row, whether noise left it, of how many parts
-/// its message is, what that asks for, and whether a lane has taken it, or it was lost.
+/// Of how many parts the message of a packet is, and what that asks for.
+#[derive(Clone, Copy)]
+pub(crate) struct About {
+    pub(crate) parts: u16,
+    pub(crate) task: Option<Task>,
+}
+
+/// A packet that was put on the link: the height of its row, whether noise left it, and whether a
+/// lane has taken it, or it was lost.
 #[derive(Clone, Copy)]
 pub(crate) struct Sent {
     pub(crate) direction: Direction,
     pub(crate) at: u32,
     pub(crate) noise: bool,
-    pub(crate) parts: u16,
-    pub(crate) task: Option<Task>,
     pub(crate) gone: bool,
 }
 
@@ -100,53 +116,35 @@ pub(crate) struct Flight {
     pub(crate) outcome: Outcome,
 }
 
-/// What is open at a node: the sender or the reception of a transaction, or the job of a number.
-#[derive(Clone, Copy)]
-pub(crate) enum Thing {
-    Sender(Name),
-    Reception(Name),
-    Job(u64),
-}
-
-/// How far it has come: the sender of a message of so many parts, and what that asks for; so many
-/// parts kept, of how many; a job that waits, that a worker has, and whose reading was handed in.
-#[derive(Clone, Copy)]
-pub(crate) enum Stage {
-    Sending(u16, Option<Task>),
-    Kept(u16, u16),
-    Waits,
-    Claimed,
-    Committed,
-}
-
-/// Something open at a node, with the height from which it has been at its stage.
-#[derive(Clone, Copy)]
-pub(crate) struct Track {
-    pub(crate) thing: Thing,
-    pub(crate) from: u32,
-    pub(crate) stage: Stage,
-}
-
-/// A piece of a track, at one stage, up to a height; columns are counted outward, from 0 to 63.
-#[derive(Clone, Copy)]
-pub(crate) struct Bar {
-    pub(crate) side: Side,
-    pub(crate) column: u64,
-    pub(crate) track: Track,
-    pub(crate) to: u32,
-}
-
-/// The mark of a row: none; that a lane took a packet, which has none either; a square; the bead of
-/// the packet of a number that was put, and whether noise left it; so many ticks in a row; an expired
-/// reception; a reading of a job that isn't there any more; a job that failed; a transaction that is
-/// free at both ends; a restart; and a refused line.
+/// What a row tells beside its words: nothing; that a lane took a packet; the packet of a number
+/// that was put, and whether noise left it; and ticks of a node.
 #[derive(Clone, Copy)]
 pub(crate) enum Mark {
     Nothing,
     Took(Lane),
+    Put(Direction, u64, bool),
+    Ticks(Side),
+}
+
+/// What a row tells: its place in the journal, its height, whether it shows its place, at which
+/// node's side it stands, and its mark.
+#[derive(Clone, Copy)]
+pub(crate) struct Head {
+    pub(crate) place: u64,
+    pub(crate) at: u32,
+    pub(crate) numbered: bool,
+    pub(crate) side: Side,
+    pub(crate) mark: Mark,
+}
+
+/// What is drawn on the line of life of a row whose mark isn't drawn there: nothing; a square; that
+/// a clock goes on; an expired reception; a reading of a job that isn't there any more; a job that
+/// failed; a transaction that is free at both ends; a restart; and a refused line.
+#[derive(Clone, Copy)]
+pub(crate) enum Sketch {
+    Nothing,
     Square(Style),
-    Bead(Direction, u64, bool),
-    Ticks(u64),
+    Tick,
     Expired,
     Stale,
     Failed,
@@ -155,17 +153,20 @@ pub(crate) enum Mark {
     Refused,
 }
 
-/// A row: whether its ground is dark, whether it shows its place in the journal and has a line to its
-/// words, at which node's side and how these are drawn, and its mark.
+/// The words of a row, how they are drawn, and what is drawn on its line of life.
+#[derive(Drop)]
+pub(crate) struct Saying {
+    pub(crate) weight: Weight,
+    pub(crate) sketch: Sketch,
+    pub(crate) words: Octets,
+}
+
+/// A row: what it tells, its words, whether its ground is dark, and whether it has a line to its
+/// words.
 #[derive(Drop)]
 pub(crate) struct Row {
-    pub(crate) place: u64,
-    pub(crate) at: u32,
+    pub(crate) head: Head,
+    pub(crate) says: Saying,
     pub(crate) dark: bool,
-    pub(crate) numbered: bool,
     pub(crate) lined: bool,
-    pub(crate) side: Side,
-    pub(crate) weight: Weight,
-    pub(crate) mark: Mark,
-    pub(crate) words: Octets,
 }

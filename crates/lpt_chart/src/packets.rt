@@ -1,40 +1,91 @@
-//! Packets, and what is open at the nodes, as they are drawn.
+//! Packets, and what lanes have in their hands, as they are drawn.
 
-ghost use Rattle.std.specs.Prelude.{◌≡◌, [], ◌∷◌, ◌++◌, IfOk, OnOk, string_bytes};
-ghost use Rattle.lpt_chart.specs.Events.{picture_closed};
-ghost use Rattle.lpt_chart.specs.Pictures.{columns_cleared, flown, hand_in, held_now, packet_lost, open_at, own_put, own_words, put, reports_drawn, stage_of, packet_taken, stage_tracked, with_hand, with_job, without, without_job};
+ghost use Rattle.std.specs.Prelude.{◌≡◌, OnOk};
+ghost use Rattle.lpt_chart.specs.Stories.{flown_by, hand_in, held_now, lost_now, own_put, packet_put, put, own_rows, story_of, taken_by, with_hand, without};
 
-use crate::marks::{Flight, Hands, Held, Mark, Sent, Stage, Task, Thing, Track};
+use crate::marks::{About, Flight, Hands, Held, Mark, Saying, Sent, Sketch};
 use crate::picture::Picture;
 use crate::style::Weight;
-use crate::tracks::{add_tracks, end_all, move_track, stage_in};
 use crate::words::report_words;
 use lpt_events::{Lane, Outcome, Side};
 use lpt_packet::{Direction, Octets};
 use std::alloc::AllocError;
 
+/// That nothing is known of the message of a packet.
+pub(crate) const NOTHING: About = About {
+    parts: 0,
+    task: None,
+};
+
 impl Picture {
-    // A packet more; of how many parts its message is, and what that asks for.
-    #[tactic(auto, unfolding(crate::specs::Pictures::put))]
-    pub(crate) fn put(
+    // A packet more, and what it is.
+    #[tactic(auto, unfolding(crate::specs::Stories::put))]
+    fn put(
         &mut self,
         direction: Direction,
-        words: Octets,
         noise: bool,
-        parts: u16,
-        task: Option<Task>,
+        about: About,
+        words: Octets,
     ) -> Result<(), AllocError>
-        ensures { OnOk result (self.new ≡ put self.old direction words noise parts task) }
+        ensures { OnOk result (story_of self.new ≡ put (story_of self.old) direction noise) }
     {
         self.words.push(words)?;
+        self.about.push(about)?;
         self.sent.push(Sent {
             direction,
             at: self.here,
             noise,
-            parts,
-            task,
             gone: false,
         })?;
+        Ok(())
+    }
+
+    // A packet is put by who sends in its direction.
+    pub(crate) fn put_packet(
+        &mut self,
+        direction: Direction,
+        number: u64,
+        noise: bool,
+        about: About,
+        words: String,
+    ) -> Result<(), AllocError>
+        ensures { OnOk result
+            (story_of self.new ≡ packet_put (story_of self.old) direction number noise) }
+    {
+        let copy = Octets::from_vec(Vec::from_slice(self.alloc(), words.as_bytes())?);
+        let (mark, side) = (Mark::Put(direction, number, noise), Side::sender(direction));
+        self.say(mark, side, Weight::Quiet, Sketch::Nothing, words)?;
+        self.put(direction, noise, about, copy)
+    }
+
+    // A packet of the spacecraft's own, which is a report, with a row that goes on with the last.
+    #[tactic(auto, unfolding(crate::specs::Stories::own_put))]
+    fn put_own(&mut self) -> Result<(), AllocError>
+        ensures { OnOk result (story_of self.new ≡ own_put (story_of self.old)) }
+    {
+        let (service, subtype) = match self.known.kinds.get(self.sent.len()) {
+            Some(kind) => (kind.service, kind.subtype),
+            None => (0, 0),
+        };
+        let words = report_words(self.alloc(), service, subtype)?;
+        let words = Octets::from_vec(words.into_bytes());
+        let says = Saying {
+            weight: Weight::Quiet,
+            sketch: Sketch::Nothing,
+            words: words.copy()?,
+        };
+        let mark = Mark::Put(Direction::Down, self.sent.len() as u64, false);
+        self.row(self.next, true, false, Side::Craft, mark, says)?;
+        self.put(Direction::Down, false, NOTHING, words)
+    }
+
+    // So many packets of the spacecraft's own, each with a row.
+    pub(crate) fn report(&mut self, count: u64) -> Result<(), AllocError>
+        ensures { OnOk result (story_of self.new ≡ own_rows count (story_of self.old)) }
+    {
+        for _ in 0..count {
+            self.put_own()?;
+        }
         Ok(())
     }
 
@@ -52,7 +103,7 @@ impl Picture {
 
     // The packet of a number as it is held from here on.
     fn held_now(&self, number: u64) -> Option<Held>
-        ensures { result ≡ held_now self.now number }
+        ensures { result ≡ held_now (story_of self.now) number }
     {
         let sent = self.sent.get(number as usize).copied()?;
         Some(Held {
@@ -63,9 +114,9 @@ impl Picture {
     }
 
     // A lane takes a packet.
-    #[tactic(auto, unfolding(crate::specs::Pictures::packet_taken))]
+    #[tactic(auto, unfolding(crate::specs::Stories::taken_by))]
     pub(crate) fn take(&mut self, lane: Lane, number: u64)
-        ensures { self.new ≡ packet_taken self.old lane number }
+        ensures { story_of self.new ≡ taken_by (story_of self.old) lane number }
     {
         let held = self.held_now(number);
         mark_gone(self.sent.as_mut_slice(), number);
@@ -73,9 +124,9 @@ impl Picture {
     }
 
     // A delivery, which empties the hand.
-    #[tactic(auto, unfolding(crate::specs::Pictures::flown))]
+    #[tactic(auto, unfolding(crate::specs::Stories::flown_by))]
     pub(crate) fn fly(&mut self, lane: Lane, outcome: Outcome) -> Result<(), AllocError>
-        ensures { OnOk result (self.new ≡ flown self.old lane outcome) }
+        ensures { OnOk result (story_of self.new ≡ flown_by (story_of self.old) lane outcome) }
     {
         let held = self.hand(lane);
         self.flights.push(Flight {
@@ -90,9 +141,9 @@ impl Picture {
     }
 
     // A loss.
-    #[tactic(auto, unfolding(crate::specs::Pictures::packet_lost))]
+    #[tactic(auto, unfolding(crate::specs::Stories::lost_now))]
     pub(crate) fn lose(&mut self, number: u64) -> Result<(), AllocError>
-        ensures { OnOk result (self.new ≡ packet_lost self.old number) }
+        ensures { OnOk result (story_of self.new ≡ lost_now (story_of self.old) number) }
     {
         if let Some(held) = self.held_now(number) {
             self.losses.push(held)?;
@@ -101,133 +152,16 @@ impl Picture {
         Ok(())
     }
 
-    // What the next packet is, where it is the spacecraft's own: a report.
-    fn own_words(&self) -> Result<String, AllocError>
-        ensures { IfOk result (λ t. string_bytes t ≡ own_words self.now) }
-    {
-        match self.kinds.get(self.sent.len()).copied() {
-            Some(kind) => report_words(self.alloc(), kind.service, kind.subtype),
-            None => report_words(self.alloc(), 0, 0),
+    // What is known of the message of a packet in a hand.
+    pub(crate) fn about(&self, held: Option<Held>) -> About {
+        match held {
+            Some(held) => self
+                .about
+                .get(held.number as usize)
+                .copied()
+                .unwrap_or(NOTHING),
+            None => NOTHING,
         }
-    }
-
-    // A packet of the spacecraft's own, with a row that goes on with the last.
-    #[tactic(auto, unfolding(crate::specs::Pictures::own_put))]
-    fn put_own(&mut self) -> Result<(), AllocError>
-        ensures { OnOk result (self.new ≡ own_put self.old) }
-    {
-        let words = Octets::from_vec(self.own_words()?.into_bytes());
-        let (at, copy) = (self.next, words.copy()?);
-        let mark = Mark::Bead(Direction::Down, self.sent.len() as u64, false);
-        self.row(
-            at,
-            true,
-            false,
-            true,
-            Side::Craft,
-            Weight::Quiet,
-            mark,
-            copy,
-        )?;
-        self.put(Direction::Down, words, false, 0, None)
-    }
-
-    // So many packets of the spacecraft's own, each with a row.
-    pub(crate) fn report(&mut self, count: u64) -> Result<(), AllocError>
-        ensures { OnOk result (self.new ≡ reports_drawn count self.old) }
-    {
-        for _ in 0..count {
-            self.put_own()?;
-        }
-        Ok(())
-    }
-
-    // What a node has open, in its columns.
-    fn columns(&self, side: Side) -> &[Option<Track>]
-        ensures { result.now ≡ open_at self.now side }
-    {
-        match side {
-            Side::Ground => self.ground.as_slice(),
-            Side::Craft => self.craft.as_slice(),
-        }
-    }
-
-    // The stage of this thing's track at this node, where there is one.
-    #[tactic(auto, unfolding(crate::specs::Pictures::stage_of))]
-    pub(crate) fn stage_of(&self, side: Side, thing: Thing) -> Option<Stage>
-        ensures { result ≡ stage_of self.now side thing }
-    {
-        stage_in(self.columns(side), thing)
-    }
-
-    // A track comes to a stage, or to its end: its piece up to here is drawn.
-    #[tactic(auto, unfolding(crate::specs::Pictures::stage_tracked))]
-    pub(crate) fn track(
-        &mut self,
-        side: Side,
-        thing: Thing,
-        stage: Option<Stage>,
-    ) -> Result<(), AllocError>
-        ensures { OnOk result (self.new ≡ stage_tracked self.old side thing stage) }
-    {
-        let bars = &mut self.bars;
-        match side {
-            Side::Ground => move_track(bars, &mut self.ground, side, self.here, thing, stage),
-            Side::Craft => move_track(bars, &mut self.craft, side, self.here, thing, stage),
-        }
-    }
-
-    // All tracks of a node end.
-    #[tactic(auto, unfolding(crate::specs::Pictures::columns_cleared))]
-    pub(crate) fn clear(&mut self, side: Side) -> Result<(), AllocError>
-        ensures { OnOk result (self.new ≡ columns_cleared self.old side) }
-    {
-        match side {
-            Side::Ground => end_all(&mut self.bars, &mut self.ground, side, self.here),
-            Side::Craft => end_all(&mut self.bars, &mut self.craft, side, self.here),
-        }
-    }
-
-    // A job is released that asks for this.
-    #[tactic(auto, unfolding(crate::specs::Pictures::with_job, crate::specs::Pictures::stage_tracked))]
-    pub(crate) fn release(&mut self, task: Option<Task>) -> Result<(), AllocError>
-        ensures { OnOk result (self.new ≡ with_job self.old task) }
-    {
-        let job = self.tasks.len() as u64;
-        self.track(Side::Craft, Thing::Job(job), Some(Stage::Waits))?;
-        self.tasks.push(task)?;
-        Ok(())
-    }
-
-    // A job was executed.
-    #[tactic(auto, unfolding(crate::specs::Pictures::without_job, crate::specs::Pictures::stage_tracked))]
-    pub(crate) fn apply(&mut self) -> Result<(), AllocError>
-        ensures { OnOk result (self.new ≡ without_job self.old) }
-    {
-        self.track(Side::Craft, Thing::Job(self.applied), None)?;
-        self.applied = self.applied.saturating_add(1);
-        Ok(())
-    }
-
-    // The run ends here: what is open goes on to the last row.
-    pub(crate) fn close(&mut self) -> Result<(), AllocError>
-        ensures { OnOk result (self.new ≡ picture_closed self.old) }
-    {
-        if let Some(row) = self.last.take() {
-            self.rows.push(row)?;
-        }
-        add_tracks(
-            &mut self.bars,
-            self.ground.as_slice(),
-            Side::Ground,
-            self.next,
-        )?;
-        add_tracks(
-            &mut self.bars,
-            self.craft.as_slice(),
-            Side::Craft,
-            self.next,
-        )
     }
 }
 

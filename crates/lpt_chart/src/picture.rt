@@ -1,95 +1,61 @@
 //! What is drawn of a run, and what is remembered for what follows.
 
-ghost use Rattle.std.specs.Prelude.{◌≡◌, [], false, IfOk, OnOk, string_bytes};
+ghost use Rattle.std.specs.Prelude.{◌≡◌, false, OnOk};
 ghost use Rattle.std.specs.Option.{option_map_or};
 ghost use Rattle.lpt_events.specs.Lanes.{same_lane};
 ghost use Rattle.lpt_events.specs.Sides.{same_side};
-ghost use Rattle.lpt_chart.specs.Pictures.{blank, ground_of, row_hushed, flight_landed, retold, row_added, run_of, row_said, takes, clock_drawn};
+ghost use Rattle.lpt_chart.specs.Stories.{blank, closed_story, ends, landed_by, row_more, said_row, story_of, takes, tick_row, ticks, with_turn};
 
 use crate::marks::{
-    Bar, Flight, Hands, Held, Kind, Mark, Opened, Row, Sent, Stage, Task, Thing, Track,
+    About, Flight, Hands, Head, Held, Known, Mark, Row, Saying, Sent, Sketch, Task,
 };
+use crate::packets::NOTHING;
 use crate::style::Weight;
-use crate::words::tick_words;
+use crate::tracks::{Stage, Thing, Track, Turn, is_about};
 use lpt_events::{Lane, Side};
 use lpt_packet::Octets;
 use std::alloc::{AllocError, Global};
-use std::marker::Model;
 
-/// What was drawn of a run, and what is remembered for what follows.
+/// What was drawn of a run, and what is remembered for what follows: of packets what each is and
+/// what its message asks for, of jobs what they ask for, and how many of them were executed; and
+/// how many ticks the last row tells.
 #[derive(Drop)]
 pub(crate) struct Picture {
-    pub(crate) source: u16,
-    pub(crate) kinds: Vec<Kind>,
-    pub(crate) opened: Vec<Opened>,
+    pub(crate) known: Known,
     pub(crate) place: u64,
     pub(crate) here: u32,
     pub(crate) next: u32,
+    pub(crate) run: u64,
     pub(crate) last: Option<Row>,
     pub(crate) rows: Vec<Row>,
     pub(crate) sent: Vec<Sent>,
+    pub(crate) about: Vec<About>,
     pub(crate) words: Vec<Octets>,
     pub(crate) hands: Hands,
-    pub(crate) ground: Vec<Option<Track>>,
-    pub(crate) craft: Vec<Option<Track>>,
+    pub(crate) turns: Vec<Track>,
+    pub(crate) live: Vec<Track>,
     pub(crate) boot: u64,
     pub(crate) tasks: Vec<Option<Task>>,
     pub(crate) applied: u64,
     pub(crate) flights: Vec<Flight>,
     pub(crate) losses: Vec<Held>,
-    pub(crate) bars: Vec<Bar>,
-}
-
-impl Model for Picture {
-    ghost use Rattle.lpt_chart.specs.Pictures.{Picture as Seen};
-
-    ghost Value = { Seen };
-
-    ghost view = { λ p. record {
-      source = p.source;
-      kinds = p.kinds.items;
-      opened = p.opened.items;
-      place = p.place;
-      here = p.here;
-      next = p.next;
-      last = p.last;
-      rows = p.rows.items;
-      sent = p.sent.items;
-      words = p.words.items;
-      hands = p.hands;
-      ground = p.ground.items;
-      craft = p.craft.items;
-      boot = p.boot;
-      tasks = p.tasks.items;
-      applied = p.applied;
-      flights = p.flights.items;
-      losses = p.losses.items;
-      bars = p.bars.items;
-    } };
 }
 
 impl Picture {
     // Nothing was drawn, and this is known of what follows.
-    pub(crate) fn new(
-        alloc: Global,
-        source: u16,
-        kinds: &[Kind],
-        opened: &[Opened],
-    ) -> Result<Self, AllocError>
-        ensures { IfOk result (λ p. p ≡ blank source kinds.now opened.now) }
+    pub(crate) fn new(alloc: Global, known: Known) -> Self
+        ensures { story_of result ≡ blank }
     {
-        let kinds = Vec::from_slice(alloc, kinds)?;
-        let opened = Vec::from_slice(alloc, opened)?;
-        Ok(Picture {
-            source,
-            kinds,
-            opened,
+        Picture {
+            known,
             place: 0,
             here: 0,
             next: 0,
+            run: 0,
             last: None,
             rows: Vec::new(alloc),
             sent: Vec::new(alloc),
+            about: Vec::new(alloc),
             words: Vec::new(alloc),
             hands: Hands {
                 s1: None,
@@ -97,15 +63,14 @@ impl Picture {
                 g1: None,
                 g2: None,
             },
-            ground: Vec::new(alloc),
-            craft: Vec::new(alloc),
+            turns: Vec::new(alloc),
+            live: Vec::new(alloc),
             boot: 0,
             tasks: Vec::new(alloc),
             applied: 0,
             flights: Vec::new(alloc),
             losses: Vec::new(alloc),
-            bars: Vec::new(alloc),
-        })
+        }
     }
 
     // The allocator.
@@ -113,74 +78,77 @@ impl Picture {
         *self.rows.allocator()
     }
 
-    // A row more: whether it goes on with the last, shows its place, and has a line to its words.
-    #[tactic(auto, unfolding(crate::specs::Pictures::row_added))]
+    // The last row is one of the rows.
+    #[tactic(auto, using(crate::proofs::StoryLemmas::heads_more))]
+    pub(crate) fn settle(&mut self) -> Result<(), AllocError>
+        ensures { OnOk result (story_of self.new ≡ closed_story (story_of self.old)) }
+    {
+        if let Some(row) = self.last.take() {
+            self.rows.push(row)?;
+        }
+        Ok(())
+    }
+
+    // A row more, whose ground is dark where that of the last isn't, but if it goes on with the
+    // last. One that does neither that nor shows its place has no line to its words.
+    #[tactic(auto, unfolding(crate::specs::Stories::row_more))]
     pub(crate) fn row(
         &mut self,
         at: u32,
         on: bool,
         numbered: bool,
-        lined: bool,
         side: Side,
-        weight: Weight,
         mark: Mark,
-        words: Octets,
+        says: Saying,
     ) -> Result<(), AllocError>
         ensures { OnOk result
-            (self.new ≡ row_added self.old at on numbered lined side weight mark words) }
+            (story_of self.new ≡ row_more (story_of self.old) at numbered side mark) }
     {
-        let dark = self.ground_of(on);
-        if let Some(row) = self.last.take() {
-            self.rows.push(row)?;
-        }
+        let dark = match &self.last {
+            Some(row) => row.dark == on,
+            None => true,
+        };
+        self.settle()?;
         self.here = at;
         self.next = at.saturating_add(2);
-        self.last = Some(Row {
+        let head = Head {
             place: self.place,
             at,
-            dark,
             numbered,
-            lined,
             side,
-            weight,
             mark,
-            words,
+        };
+        self.last = Some(Row {
+            head,
+            says,
+            dark,
+            lined: on || numbered,
         });
         Ok(())
-    }
-
-    // The ground of a row, which goes on with the last or doesn't; the first is dark.
-    fn ground_of(&self, on: bool) -> bool
-        ensures { result ≡ ground_of self.now.last on }
-    {
-        match &self.last {
-            Some(row) if on => row.dark,
-            Some(row) => !row.dark,
-            None => true,
-        }
     }
 
     // An event's row.
     pub(crate) fn say(
         &mut self,
+        mark: Mark,
         side: Side,
         weight: Weight,
-        mark: Mark,
+        sketch: Sketch,
         words: String,
     ) -> Result<(), AllocError>
-        ensures { OnOk result (self.new ≡ row_said self.old side weight mark (string_bytes words)) }
+        ensures { OnOk result (story_of self.new ≡ said_row (story_of self.old) side mark) }
     {
-        let words = Octets::from_vec(words.into_bytes());
-        self.row(self.next, false, true, true, side, weight, mark, words)
+        let says = saying(weight, sketch, words);
+        self.row(self.next, false, true, side, mark, says)
     }
 
     // Whether the last row says that this lane took a packet.
     fn takes_last(&self, lane: Lane) -> bool
-        ensures { result ≡ option_map_or (λ r. takes lane r.mark) self.now.last false }
+        ensures { result ≡ option_map_or (λ r. takes lane r.mark) (story_of self.now).last false }
     {
         match &self.last {
-            Some(row) => match row.mark {
-                Mark::Took(taken) => is_lane(lane, taken),
+            Some(row) => match row.head.mark {
+                Mark::Took(other) => is_lane(lane, other),
                 _ => false,
             },
             None => false,
@@ -189,79 +157,138 @@ impl Picture {
 
     // Takes its words and the line to them from the last row.
     fn hush(&mut self, none: Octets)
-        requires { none ≡ [] }
-        ensures { self.new ≡ record self.old { last = row_hushed self.old.last } }
+        ensures { story_of self.new ≡ story_of self.old }
     {
         if let Some(row) = self.last.take() {
             self.last = Some(Row {
                 lined: false,
-                words: none,
+                says: Saying {
+                    words: none,
+                    ..row.says
+                },
                 ..row
             });
         }
     }
 
     // A delivery's row: right below that in which its lane took the packet, where that is the last.
-    #[tactic(auto, unfolding(crate::specs::Pictures::flight_landed))]
+    #[tactic(auto, unfolding(crate::specs::Stories::landed_by))]
     pub(crate) fn land(
         &mut self,
         lane: Lane,
-        side: Side,
         weight: Weight,
         words: String,
     ) -> Result<(), AllocError>
-        ensures { OnOk result
-            (self.new ≡ flight_landed self.old lane side weight (string_bytes words)) }
+        ensures { OnOk result (story_of self.new ≡ landed_by (story_of self.old) lane) }
     {
+        let (side, says) = (lane.receiver(), saying(weight, Sketch::Nothing, words));
         if !self.takes_last(lane) {
-            return self.say(side, weight, Mark::Nothing, words);
+            return self.row(self.next, false, true, side, Mark::Nothing, says);
         }
         self.hush(Octets::from_vec(Vec::new(self.alloc())));
-        let (at, words) = (
-            self.next.saturating_sub(1),
-            Octets::from_vec(words.into_bytes()),
-        );
-        self.row(at, true, true, true, side, weight, Mark::Nothing, words)
+        let at = self.next.saturating_sub(1);
+        self.row(at, true, true, side, Mark::Nothing, says)
     }
 
-    // How many ticks of this node the last row tells.
-    fn run(&self, side: Side) -> u64
-        ensures { result ≡ run_of side self.now.last }
+    // Whether the last row tells of ticks of this node.
+    fn ticks_last(&self, side: Side) -> bool
+        ensures { result ≡ option_map_or (λ r. ticks side r.mark) (story_of self.now).last false }
     {
         match &self.last {
-            Some(row) => match row.mark {
-                Mark::Ticks(run) if is_side(side, row.side) => run,
-                _ => 0,
+            Some(row) => match row.head.mark {
+                Mark::Ticks(other) => is_side(side, other),
+                _ => false,
             },
-            None => 0,
+            None => false,
         }
     }
 
-    // Has the last row tell of so many ticks.
-    fn retell(&mut self, run: u64, words: Octets)
-        ensures { self.new ≡ record self.old { last = retold self.old.last run words } }
+    // Has the last row say other words.
+    fn retell(&mut self, words: Octets)
+        ensures { story_of self.new ≡ story_of self.old }
     {
         if let Some(row) = self.last.take() {
             self.last = Some(Row {
-                mark: Mark::Ticks(run),
-                words,
+                says: Saying { words, ..row.says },
                 ..row
             });
         }
     }
 
     // A tick. Ticks of one node in a row are one row.
-    #[tactic(auto, unfolding(crate::specs::Pictures::clock_drawn))]
+    #[tactic(auto, unfolding(crate::specs::Stories::tick_row))]
     pub(crate) fn tick(&mut self, side: Side, clock: u32) -> Result<(), AllocError>
-        ensures { OnOk result (self.new ≡ clock_drawn self.old side clock) }
+        ensures { OnOk result (story_of self.new ≡ tick_row (story_of self.old) side) }
     {
-        let run = self.run(side).saturating_add(1);
-        let words = tick_words(self.alloc(), clock, run)?;
-        if run == 1 {
-            return self.say(side, Weight::Quiet, Mark::Ticks(run), words);
+        if !self.ticks_last(side) {
+            self.run = 1;
+            let words = format!(in self.alloc(); "clock {clock}")?;
+            return self.say(Mark::Ticks(side), side, Weight::Quiet, Sketch::Tick, words);
         }
-        self.retell(run, Octets::from_vec(words.into_bytes()));
+        self.run = self.run.saturating_add(1);
+        let run = self.run;
+        let words = format!(in self.alloc(); "clock {clock} ({run} ticks)")?;
+        self.retell(Octets::from_vec(words.into_bytes()));
         Ok(())
+    }
+
+    // How many parts are kept of a thing at a node, and what is known of its message, where it is
+    // open there.
+    pub(crate) fn known_of(&self, side: Side, thing: Thing) -> (u16, About) {
+        let turn = Turn {
+            at: self.here,
+            side,
+            thing: Some(thing),
+            stage: None,
+        };
+        match self.live.iter().find(|track| is_about(turn, track.turn)) {
+            Some(track) => (track.kept, track.about),
+            None => (0, NOTHING),
+        }
+    }
+
+    // A thing at a node, or all there, comes to a stage, or to its end.
+    #[tactic(auto, using(crate::proofs::StoryLemmas::turns_more))]
+    pub(crate) fn turn(
+        &mut self,
+        side: Side,
+        thing: Option<Thing>,
+        stage: Option<Stage>,
+        kept: u16,
+        about: About,
+    ) -> Result<(), AllocError>
+        ensures { OnOk result (story_of self.new ≡ with_turn (story_of self.old) side thing stage) }
+    {
+        let at = self.here;
+        let turn = Turn {
+            at,
+            side,
+            thing,
+            stage,
+        };
+        let track = Track { turn, kept, about };
+        self.live.retain(|other| !is_about(turn, other.turn));
+        if stage.is_some() {
+            self.live.push(track)?;
+        }
+        self.turns.push(track)?;
+        Ok(())
+    }
+
+    // A thing at a node comes to its end.
+    pub(crate) fn end(&mut self, side: Side, thing: Thing) -> Result<(), AllocError>
+        ensures { OnOk result (story_of self.new ≡ ends (story_of self.old) side thing) }
+    {
+        self.turn(side, Some(thing), None, 0, NOTHING)
+    }
+}
+
+// What a row says in these words.
+fn saying(weight: Weight, sketch: Sketch, words: String) -> Saying {
+    Saying {
+        weight,
+        sketch,
+        words: Octets::from_vec(words.into_bytes()),
     }
 }
 

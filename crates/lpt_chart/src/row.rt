@@ -1,38 +1,32 @@
 //! How rows and tracks are drawn: grounds, places, words, marks on the lines of life, and bars.
 
-ghost use Rattle.std.specs.Prelude.{◌≡◌, ◌<◌, ◌^◌, ◌==◌, ◌++◌, [], decimal, length, not, OnOk};
-ghost use Rattle.lpt_chart.specs.Frames.{y_of};
-ghost use Rattle.lpt_chart.specs.Rows.{At, Of, bar_told, mark_told, row_told, shapes_told, told_in, where_so};
+ghost use Rattle.std.specs.Prelude.{◌≡◌, ◌<◌, ◌^◌, ◌==◌, ◌++◌, length, not, OnOk};
+ghost use Rattle.lpt_chart.specs.Frames.{start_x, words_x};
+ghost use Rattle.lpt_chart.specs.Telling.{Place, Said, Track, bar_told, mark_told, row_told, tellings, where_so};
 
-use crate::frame::{Frame, bar_x, holds, middle_x, shows, side_x, y_of};
-use crate::marks::{Bar, Mark, Row, Stage};
-use crate::shape::{Shape, Sign, add, add_bead, add_number, add_text, draw, draw_if};
-use crate::style::{Letters, Style};
-use crate::words::{piece_words, sends, thing_words};
+use crate::frame::{Frame, column_x, holds, middle_x, shows, side_x, words_x, y_of};
+use crate::marks::{Mark, Row, Saying, Sketch};
+use crate::shape::{Free, Shape, Sign, Stripe, add, add_bead, draw};
+use crate::style::{Style, said_look};
+use crate::tracks::{Bar, Stage, Track};
+use crate::words::{direction_from, more_words, turn_words};
 use lpt_events::Side;
-use lpt_packet::{Direction, Octets};
+use lpt_packet::Direction;
 use std::alloc::AllocError;
 
 // A small square round a point.
-pub(crate) fn square(x: u64, at: u32, style: Style) -> Shape
-    ensures { told_in result ≡ [] }
-{
-    Shape::Box(x.saturating_sub(4), y_of(at) - 4, 8, 8, 0, style)
+pub(crate) fn square(x: u64, at: u32, style: Style) -> Free {
+    Free::Box(x.saturating_sub(4), y_of(at) - 4, 8, 8, 0, style.plain())
 }
 
 // A ring round a point.
-pub(crate) fn ring(x: u64, at: u32, style: Style) -> Shape
-    ensures { told_in result ≡ [] }
-{
-    Shape::Box(x.saturating_sub(5), y_of(at) - 5, 10, 10, 5, style)
+pub(crate) fn ring(x: u64, at: u32, style: Style) -> Free {
+    Free::Box(x.saturating_sub(5), y_of(at) - 5, 10, 10, 5, style.plain())
 }
 
-// Adds a ring with a cross, of a refused line.
-pub(crate) fn add_crossed(out: &mut Vec<Shape>, x: u64, at: u32) -> Result<(), AllocError>
-    ensures { OnOk result (shapes_told out.new.items ≡ shapes_told out.old.items) }
-{
-    draw(out, ring(x, at, Style::Refused))?;
-    draw(out, Shape::Sign(x, y_of(at), Sign::Cross, Style::Life))
+// A cross round a point, but not of a loss.
+pub(crate) fn cross(x: u64, at: u32) -> Free {
+    Free::Sign(x, y_of(at), Sign::Cross, Style::Life.plain())
 }
 
 // Adds a double line, of a restart.
@@ -42,16 +36,17 @@ pub(crate) fn add_double(
     to: u64,
     at: u32,
 ) -> Result<(), AllocError>
-    ensures { OnOk result (shapes_told out.new.items ≡ shapes_told out.old.items) }
+    ensures { OnOk result (tellings out.new.items ≡ tellings out.old.items) }
 {
-    let (upper, lower) = (y_of(at) - 2, y_of(at) + 2);
-    draw(out, Shape::Line(from, upper, to, upper, Style::Restart))?;
-    draw(out, Shape::Line(from, lower, to, lower, Style::Restart))
+    let (upper, lower, look) = (y_of(at) - 2, y_of(at) + 2, Style::Restart.plain());
+    draw(out, Free::Line(from, upper, to, upper, look))?;
+    draw(out, Free::Line(from, lower, to, lower, look))
 }
 
 // Where a packet that is put begins. Noise has no sender, and begins in the middle of the link.
 pub(crate) fn start_x(frame: Frame, direction: Direction, noise: bool) -> u64
-    ensures { result < 2 ^ 33 }
+    ensures value { result ≡ start_x frame direction noise }
+    ensures small { result < 2 ^ 33 }
 {
     if noise {
         middle_x(frame)
@@ -60,152 +55,143 @@ pub(crate) fn start_x(frame: Frame, direction: Direction, noise: bool) -> u64
     }
 }
 
-// The mark of a row on a line of life. That of a refused line stands in place of a row's place.
-#[tactic(auto, unfolding(crate::specs::Rows::mark_told))]
-fn add_mark(
+// The mark of a row, where it has one that is drawn.
+#[tactic(auto, unfolding(crate::specs::Telling::mark_told))]
+fn add_mark(out: &mut Vec<Shape>, frame: Frame, at: u32, mark: Mark) -> Result<(), AllocError>
+    ensures { OnOk result
+        (tellings out.new.items ≡ tellings out.old.items ++ mark_told frame at mark) }
+{
+    let Mark::Put(direction, number, noise) = mark else {
+        return Ok(());
+    };
+    let (x, letters) = (start_x(frame, direction, noise), direction as u8);
+    if noise {
+        add_bead(out, x, at, number, 0, Style::Noise.way(direction), letters)
+    } else {
+        add_bead(out, x, at, number, 7, Style::Hollow.way(direction), letters)
+    }
+}
+
+// What is drawn on a row's line of life. That of a refused line stands in place of a row's place.
+fn add_sketch(
     out: &mut Vec<Shape>,
     frame: Frame,
     at: u32,
     side: Side,
-    mark: Mark,
+    sketch: Sketch,
 ) -> Result<(), AllocError>
-    ensures { OnOk result
-        (shapes_told out.new.items ≡ shapes_told out.old.items ++ mark_told at mark) }
+    ensures { OnOk result (tellings out.new.items ≡ tellings out.old.items) }
 {
     let (x, y) = (side_x(frame, side), y_of(at));
-    match mark {
-        Mark::Square(style) => draw(out, square(x, at, style)),
-        Mark::Bead(direction, number, noise) => {
-            let (x, letters) = (start_x(frame, direction, noise), Letters::Bead(direction));
-            if noise {
-                add_bead(out, x, at, number, 0, Style::Noise(direction), letters)
-            } else {
-                add_bead(out, x, at, number, 7, Style::Hollow(direction), letters)
-            }
-        }
-        Mark::Ticks(_) => draw(
+    match sketch {
+        Sketch::Nothing => Ok(()),
+        Sketch::Square(style) => draw(out, square(x, at, style)),
+        Sketch::Tick => draw(
             out,
-            Shape::Line(x.saturating_sub(5), y, x + 5, y, Style::Tick),
+            Free::Line(x.saturating_sub(5), y, x + 5, y, Style::Tick.plain()),
         ),
-        Mark::Expired => draw(out, Shape::Sign(x, y, Sign::Hourglass, Style::Expired)),
-        Mark::Stale => draw(out, Shape::Sign(x, y, Sign::Cross, Style::Life)),
-        Mark::Failed => {
+        Sketch::Expired => draw(
+            out,
+            Free::Sign(x, y, Sign::Hourglass, Style::Expired.plain()),
+        ),
+        Sketch::Stale => draw(out, cross(x, at)),
+        Sketch::Failed => {
             draw(out, square(x, at, Style::InkEdge))?;
-            draw(out, Shape::Sign(x, y, Sign::Cross, Style::Life))
+            draw(out, cross(x, at))
         }
-        Mark::Retired => {
+        Sketch::Retired => {
             let (ground, craft) = (side_x(frame, Side::Ground), side_x(frame, Side::Craft));
-            draw(out, Shape::Line(ground, y, craft, y, Style::Retiring))?;
+            draw(
+                out,
+                Free::Line(ground, y, craft, y, Style::Retiring.plain()),
+            )?;
             draw(out, ring(ground, at, Style::InkEdge))?;
             draw(out, ring(craft, at, Style::InkEdge))
         }
-        Mark::Restarted => {
+        Sketch::Restarted => {
             let (words, left) = (u64::from(frame.words), u64::from(frame.left));
+            let right = u64::from(frame.right).saturating_sub(4);
             match side {
                 Side::Ground => add_double(out, words + 4, left + 18, at),
-                Side::Craft => {
-                    add_double(
-                        out,
-                        left + 362,
-                        u64::from(frame.right).saturating_sub(4),
-                        at,
-                    )
-                }
+                Side::Craft => add_double(out, left + 362, right, at),
             }
         }
-        Mark::Refused => add_crossed(out, 44, at),
-        Mark::Nothing | Mark::Took(_) => Ok(()),
-    }
-}
-
-// The line from a row's mark to its words.
-fn leader(frame: Frame, y: u64, side: Side) -> Shape
-    ensures { told_in result ≡ [] }
-{
-    let x = side_x(frame, side);
-    match side {
-        Side::Ground => Shape::Line(u64::from(frame.words) + 4, y, x, y, Style::Hair),
-        Side::Craft => {
-            let words = u64::from(frame.right).saturating_sub(4);
-            Shape::Line(x, y, words, y, Style::Hair)
+        Sketch::Refused => {
+            draw(out, ring(44, at, Style::Refused))?;
+            draw(out, cross(44, at))
         }
-    }
-}
-
-// Where the words at a node's side begin or end.
-fn words_x(frame: Frame, side: Side) -> u64 {
-    match side {
-        Side::Ground => u64::from(frame.words),
-        Side::Craft => u64::from(frame.right),
     }
 }
 
 /// Adds a row's ground, if it is dark, and its line to the words, if its height is drawn.
-pub(crate) fn add_base(out: &mut Vec<Shape>, frame: Frame, row: &Row) -> Result<(), AllocError>
-    ensures { OnOk result (shapes_told out.new.items ≡ shapes_told out.old.items) }
-{
-    if !holds(frame, row.at) {
+pub(crate) fn add_base(out: &mut Vec<Free>, frame: Frame, row: &Row) -> Result<(), AllocError> {
+    let (at, side) = (row.head.at, row.head.side);
+    if !holds(frame, at) {
         return Ok(());
     }
-    let (top, wide) = (
-        11 * u64::from(row.at),
-        u64::from(frame.wide).saturating_sub(32),
-    );
-    draw_if(
-        out,
-        row.dark,
-        Shape::Box(16, top, wide, 22, 0, Style::Ground),
-    )?;
-    draw_if(out, row.lined, leader(frame, y_of(row.at), row.side))
+    if row.dark {
+        let (top, wide) = (11 * u64::from(at), u64::from(frame.wide).saturating_sub(32));
+        out.push(Free::Box(16, top, wide, 22, 0, Style::Ground.plain()))?;
+    }
+    if row.lined {
+        let (x, y, hair) = (side_x(frame, side), y_of(at), Style::Hair.plain());
+        let (left, right) = (u64::from(frame.words) + 4, u64::from(frame.right));
+        out.push(match side {
+            Side::Ground => Free::Line(left, y, x, y, hair),
+            Side::Craft => Free::Line(x, y, right.saturating_sub(4), y, hair),
+        })?;
+    }
+    Ok(())
 }
 
-// Adds words at a point, where there are some.
+// Adds a row's words at a node's side, where it has some.
 fn add_words(
     out: &mut Vec<Shape>,
-    x: u64,
+    frame: Frame,
     y: u64,
-    letters: Letters,
-    words: &[u8],
+    side: Side,
+    says: &Saying,
 ) -> Result<(), AllocError>
-    ensures { OnOk result (shapes_told out.new.items ≡ shapes_told out.old.items
-        ++ where_so (not (length words.now == 0)) (At y words.now)) }
+    ensures { OnOk result (tellings out.new.items ≡ tellings out.old.items
+        ++ where_so (not (length says.now.words == 0)) (Said (words_x frame side) y)) }
 {
-    if words.is_empty() {
+    if says.words.as_slice().is_empty() {
         return Ok(());
     }
-    add_text(out, x, y, letters, 60, words)
+    let (x, look) = (words_x(frame, side), said_look(side, says.weight));
+    add(out, Shape::Said(x, y, look, says.words.copy()?))
 }
 
 // Adds a row's place in the journal, where it is shown.
 fn add_place(out: &mut Vec<Shape>, so: bool, y: u64, place: u64) -> Result<(), AllocError>
-    ensures { OnOk result (shapes_told out.new.items ≡ shapes_told out.old.items
-        ++ where_so so (At y (decimal place))) }
+    ensures { OnOk result
+        (tellings out.new.items ≡ tellings out.old.items ++ where_so so (Place y place)) }
 {
-    if !so {
-        return Ok(());
+    if so {
+        add(out, Shape::Place(y, place))
+    } else {
+        Ok(())
     }
-    add_number(out, 52, y, Letters::Place, place)
 }
 
 /// Adds a row, if its height is drawn: its place in the journal, its words, and its mark.
 pub(crate) fn add_row(out: &mut Vec<Shape>, frame: Frame, row: &Row) -> Result<(), AllocError>
     ensures { OnOk result
-        (shapes_told out.new.items ≡ shapes_told out.old.items ++ row_told frame row.now) }
+        (tellings out.new.items ≡ tellings out.old.items ++ row_told frame row.now) }
 {
-    if !holds(frame, row.at) {
+    let head = row.head;
+    if !holds(frame, head.at) {
         return Ok(());
     }
-    let (y, side) = (y_of(row.at) + 4, row.side);
-    add_place(out, row.numbered, y, row.place)?;
-    let (x, letters) = (words_x(frame, side), Letters::Words(side, row.weight));
-    add_words(out, x, y, letters, row.words.as_slice())?;
-    add_mark(out, frame, row.at, side, row.mark)
+    let y = y_of(head.at) + 4;
+    add_place(out, head.numbered, y, head.place)?;
+    add_words(out, frame, y, head.side, &row.says)?;
+    add_sketch(out, frame, head.at, head.side, row.says.sketch)?;
+    add_mark(out, frame, head.at, head.mark)
 }
 
 // How much of a bar of width 8 so many parts fill.
-fn width_filled(kept: u16, parts: u16) -> u64
-    ensures { result < 2 ^ 40 }
-{
+fn width_filled(kept: u16, parts: u16) -> u64 {
     if parts == 0 {
         4
     } else {
@@ -213,49 +199,55 @@ fn width_filled(kept: u16, parts: u16) -> u64
     }
 }
 
-// A piece of a track: a stripe, a bar that is filled as parts are kept, or how far a job has come.
-pub(crate) fn add_stage(
+// Half the width of the stripe of a stage, and its look.
+pub(crate) fn stripe_of(side: Side, stage: Stage) -> (u8, u8) {
+    match stage {
+        Stage::Sending => (2, Style::Sender.way(direction_from(side))),
+        Stage::Kept => (4, Style::Reception.way(side.receives())),
+        Stage::Waits => (2, Style::JobWaits.plain()),
+        Stage::Claimed => (4, Style::JobHollow.plain()),
+        Stage::Committed => (4, Style::JobFilled.plain()),
+    }
+}
+
+/// What stands on the stripe of a piece of a track with this middle: how many parts are kept of
+/// all, and the knob of a job that waits.
+pub(crate) fn add_rest(
     out: &mut Vec<Shape>,
     x: u64,
     y: u64,
     high: u64,
-    side: Side,
-    stage: Stage,
+    track: Track,
 ) -> Result<(), AllocError>
     requires { x < 2 ^ 40 }
-    ensures { OnOk result (shapes_told out.new.items ≡ shapes_told out.old.items) }
+    ensures { OnOk result (tellings out.new.items ≡ tellings out.old.items) }
 {
-    match stage {
-        Stage::Sending(_, _) => {
-            draw(
-                out,
-                Shape::Box(x + 2, y, 4, high, 0, Style::Sender(sends(side))),
-            )
-        }
-        Stage::Kept(kept, parts) => {
-            let (way, wide, top) = (
-                side.receives(),
-                width_filled(kept, parts),
+    let (way, left) = (track.turn.side.receives(), x.saturating_sub(4));
+    match track.turn.stage {
+        Some(Stage::Kept) => {
+            let (wide, top) = (
+                width_filled(track.kept, track.about.parts),
                 y.saturating_sub(2),
             );
-            draw(out, Shape::Box(x, y, 8, high, 0, Style::Reception(way)))?;
-            draw(out, Shape::Box(x, y, wide, high, 0, Style::Light(way)))?;
-            draw(out, Shape::Box(x + 2, top, 4, 4, 2, Style::Filled(way)))
-        }
-        Stage::Waits => {
-            draw(out, Shape::Box(x + 2, y, 4, high, 0, Style::JobWaits))?;
             draw(
                 out,
-                Shape::Box(x, y.saturating_sub(4), 8, 8, 4, Style::JobEdge),
+                Free::Box(left, y, wide, high, 0, Style::Light.way(way)),
+            )?;
+            draw(
+                out,
+                Free::Box(left + 2, top, 4, 4, 2, Style::Filled.way(way)),
             )
         }
-        Stage::Claimed => draw(out, Shape::Box(x, y, 8, high, 0, Style::JobHollow)),
-        Stage::Committed => draw(out, Shape::Box(x, y, 8, high, 0, Style::JobFilled)),
+        Some(Stage::Waits) => {
+            let (top, edge) = (y.saturating_sub(4), Style::JobEdge.plain());
+            draw(out, Free::Box(left, top, 8, 8, 4, edge))
+        }
+        Some(Stage::Sending | Stage::Claimed | Stage::Committed) | None => Ok(()),
     }
 }
 
 /// Adds a piece of a track as a group, if some of its heights is drawn.
-#[tactic(auto, unfolding(crate::specs::Rows::bar_told))]
+#[tactic(auto, unfolding(crate::specs::Telling::bar_told))]
 pub(crate) fn add_bar(
     out: &mut Vec<Shape>,
     source: u16,
@@ -263,17 +255,28 @@ pub(crate) fn add_bar(
     bar: Bar,
 ) -> Result<(), AllocError>
     ensures { OnOk result
-        (shapes_told out.new.items ≡ shapes_told out.old.items ++ bar_told source frame bar) }
+        (tellings out.new.items ≡ tellings out.old.items ++ bar_told source frame bar) }
 {
-    let (from, stage) = (bar.track.from, bar.track.stage);
-    if !shows(frame, from, bar.to) {
+    let (turn, alloc) = (bar.track.turn, *out.allocator());
+    if !shows(frame, turn.at, bar.to) {
         return Ok(());
     }
-    let name = thing_words(*out.allocator(), source, bar.track.thing)?;
-    let words = piece_words(*out.allocator(), bar.side, name.as_str(), stage)?;
-    let (x, y) = (bar_x(frame, bar.side, bar.column), y_of(from));
-    let high = 11 * u64::from(bar.to.saturating_sub(from));
-    add(out, Shape::Group(Octets::from_vec(words.into_bytes())))?;
-    add_stage(out, x, y, high, bar.side, stage)?;
-    draw(out, Shape::GroupEnd)
+    let (x, y) = (column_x(frame, turn.side, bar.column), y_of(turn.at));
+    let high = 11 * u64::from(bar.to.saturating_sub(turn.at));
+    let (half, look) = match turn.stage {
+        Some(stage) => stripe_of(turn.side, stage),
+        None => (0, 0),
+    };
+    let words = turn_words(alloc, source, turn.side, turn.thing, turn.stage)?;
+    let more = more_words(alloc, bar.track)?;
+    let stripe = Stripe {
+        x,
+        half,
+        y,
+        high,
+        look,
+    };
+    add(out, Shape::Track(words, more, stripe))?;
+    add_rest(out, x, y, high, bar.track)?;
+    draw(out, Free::GroupEnd)
 }

@@ -1,11 +1,9 @@
-//! The shapes that a picture is made of: what is drawn, where, and how it looks.
+//! The shapes that a picture is made of: what is drawn, and where.
 
-ghost use Rattle.std.specs.Prelude.{◌≡◌, ◌<◌, ◌^◌, ◌∷◌, ◌++◌, [], decimal, OnOk};
-ghost use Rattle.lpt_chart.specs.Frames.{y_of};
-ghost use Rattle.lpt_chart.specs.Rows.{At, bead_told, shapes_told, told_in, where_so};
+ghost use Rattle.std.specs.Prelude.{◌≡◌, ◌≤◌, ◌++◌, OnOk};
+ghost use Rattle.lpt_chart.specs.Telling.{bead_told, tellings, told_in};
 
 use crate::frame::{half, y_of};
-use crate::style::{Letters, Style};
 use lpt_packet::Octets;
 use std::alloc::AllocError;
 
@@ -18,84 +16,75 @@ pub(crate) enum Sign {
     Hourglass,
 }
 
-/// A shape, by whole numbers of pixels.
+/// A shape that tells nothing, by whole numbers of pixels. If it looks so, by the tables of
+/// `style`, is said last, but for words.
 #[derive(Drop)]
-pub(crate) enum Shape {
+pub(crate) enum Free {
     /// A line from a point to a point.
-    Line(u64, u64, u64, u64, Style),
+    Line(u64, u64, u64, u64, u8),
     /// A box from a point on, of this width, height and radius of its corners.
-    Box(u64, u64, u64, u64, u64, Style),
+    Box(u64, u64, u64, u64, u64, u8),
     /// A sign at a point.
-    Sign(u64, u64, Sign, Style),
-    /// Words at a point, of which so many characters are seen at most.
-    Text(u64, u64, Letters, u64, Octets),
-    /// The beginning of a group, and what it is for who points at it.
-    Group(Octets),
-    /// Its end.
+    Sign(u64, u64, Sign, u8),
+    /// Words at a point, how they look, and how many characters of them are seen at most.
+    Text(u64, u64, u8, u64, Octets),
+    /// The number of a sample's packet, 0, at a point.
+    Zero(u64, u64, u8),
+    /// The end of a group.
     GroupEnd,
-    /// The beginning of a part that starts at a height and is so wide and high. It shows the heights
-    /// of its own from one on, and nothing beyond them.
+    /// The beginning of a part that starts at a height and is so wide and high. It shows the
+    /// heights of its own from one on, and nothing beyond them.
     Part(u64, u64, u64, u64),
     /// Its end.
     PartEnd,
 }
 
+/// A stripe: its middle from left to right, half its width, its top, its height, and how it looks.
+#[derive(Clone, Copy)]
+pub(crate) struct Stripe {
+    pub(crate) x: u64,
+    pub(crate) half: u8,
+    pub(crate) y: u64,
+    pub(crate) high: u64,
+    pub(crate) look: u8,
+}
+
+/// A shape.
+#[derive(Drop)]
+pub(crate) enum Shape {
+    /// One that tells nothing.
+    Free(Free),
+    /// The number of a packet at a point, and how it looks.
+    Number(u64, u64, u8, u64),
+    /// The same beside the packet's way.
+    Beside(u64, u64, u8, u64),
+    /// The place of a row in the journal, at a height.
+    Place(u64, u64),
+    /// The words of a row at a point, and how they look.
+    Said(u64, u64, u8, Octets),
+    /// The beginning of the group of a packet: what it is, and its number, for who points at it.
+    Packet(Octets, u64),
+    /// The beginning of the group of a piece of a track: what that is, what else is said of it, and
+    /// its stripe.
+    Track(Octets, Octets, Stripe),
+}
+
 // Adds a shape.
-#[tactic(auto, using(crate::proofs::ToldLemmas::told_more), unfolding(crate::specs::Rows::shapes_told))]
+#[tactic(auto, using(crate::proofs::ToldLemmas::told_more), unfolding(crate::specs::Telling::tellings))]
 pub(crate) fn add(out: &mut Vec<Shape>, shape: Shape) -> Result<(), AllocError>
-    ensures { OnOk result (shapes_told out.new.items ≡ shapes_told out.old.items ++ told_in shape) }
+    ensures { OnOk result (tellings out.new.items ≡ tellings out.old.items ++ told_in shape) }
 {
     out.push(shape)?;
     Ok(())
 }
 
 // Adds a shape that tells nothing.
-#[tactic(auto, using(crate::proofs::ToldLemmas::told_silent), unfolding(crate::specs::Rows::shapes_told))]
-pub(crate) fn draw(out: &mut Vec<Shape>, shape: Shape) -> Result<(), AllocError>
-    requires { told_in shape ≡ [] }
-    ensures { OnOk result (shapes_told out.new.items ≡ shapes_told out.old.items) }
+#[tactic(auto, using(crate::proofs::ToldLemmas::told_silent), unfolding(crate::specs::Telling::tellings))]
+pub(crate) fn draw(out: &mut Vec<Shape>, free: Free) -> Result<(), AllocError>
+    ensures { OnOk result (tellings out.new.items ≡ tellings out.old.items) }
 {
-    out.push(shape)?;
+    out.push(Shape::Free(free))?;
     Ok(())
-}
-
-// Adds a shape that tells nothing, where this is so.
-pub(crate) fn draw_if(out: &mut Vec<Shape>, so: bool, shape: Shape) -> Result<(), AllocError>
-    requires { told_in shape ≡ [] }
-    ensures { OnOk result (shapes_told out.new.items ≡ shapes_told out.old.items) }
-{
-    if so { draw(out, shape) } else { Ok(()) }
-}
-
-// Adds words at a point.
-pub(crate) fn add_text(
-    out: &mut Vec<Shape>,
-    x: u64,
-    y: u64,
-    letters: Letters,
-    most: u64,
-    words: &[u8],
-) -> Result<(), AllocError>
-    ensures { OnOk result
-        (shapes_told out.new.items ≡ shapes_told out.old.items ++ At y words.now ∷ []) }
-{
-    let words = Octets::from_vec(Vec::from_slice(*out.allocator(), words)?);
-    add(out, Shape::Text(x, y, letters, most, words))
-}
-
-// Adds a number at a point.
-pub(crate) fn add_number(
-    out: &mut Vec<Shape>,
-    x: u64,
-    y: u64,
-    letters: Letters,
-    number: u64,
-) -> Result<(), AllocError>
-    ensures { OnOk result
-        (shapes_told out.new.items ≡ shapes_told out.old.items ++ At y (decimal number) ∷ []) }
-{
-    let words = format!(in *out.allocator(); "{number}")?;
-    add_text(out, x, y, letters, 60, words.as_bytes())
 }
 
 // Adds a bead, in the row of a height: a packet's number in a box with corners of this radius.
@@ -105,14 +94,26 @@ pub(crate) fn add_bead(
     at: u32,
     number: u64,
     round: u64,
-    style: Style,
-    letters: Letters,
+    look: u8,
+    letters: u8,
 ) -> Result<(), AllocError>
     ensures { OnOk result
-        (shapes_told out.new.items ≡ shapes_told out.old.items ++ bead_told at number) }
+        (tellings out.new.items ≡ tellings out.old.items ++ bead_told x at number) }
 {
-    let (half, y) = (half(number), y_of(at));
-    let left = x.saturating_sub(half);
-    draw(out, Shape::Box(left, y - 7, 2 * half, 14, round, style))?;
-    add_number(out, x, y + 4, letters, number)
+    draw(out, box_round(x, at, half(number), round, look))?;
+    add(out, Shape::Number(x, y_of(at) + 4, letters, number))
+}
+
+// The box of a bead, of half this width.
+pub(crate) fn box_round(x: u64, at: u32, half: u64, round: u64, look: u8) -> Free
+    requires { half ≤ 17 }
+{
+    Free::Box(
+        x.saturating_sub(half),
+        y_of(at) - 7,
+        2 * half,
+        14,
+        round,
+        look,
+    )
 }

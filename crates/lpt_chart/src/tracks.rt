@@ -1,15 +1,58 @@
-//! What is open at a node, each in a column of its own, and the pieces of it that are drawn.
+//! What is open at the nodes: the turns of a run, and the pieces of tracks that they make.
 
-ghost use Rattle.std.specs.Prelude.{◌≡◌, ◌<◌, ◌++◌, length, position, is_none, replicate, false, None, IfSome, OnOk};
-ghost use Rattle.lpt_chart.specs.Pictures.{all_bars, bar_in, bar_up_to, track_begun, column_of, kept_in, track_moved, parts_in, same_thing, stage_in, task_in};
-ghost use Rattle.std.specs.Option.{option_map_or};
+ghost use Rattle.std.specs.Prelude.{◌≡◌, ◌∷◌, ◌++◌, ◌≤◌, ℕ, List, [], filter, length, map, not, IfOk, OnOk};
+ghost use Rattle.std.specs.List.Sorted.{IsPermutation};
+ghost use Rattle.lpt_chart.specs.Tracks.{all_drawn, drawn_in, is_about, same_thing, stretches, tracks_in};
 
-use crate::marks::{Bar, Stage, Task, Thing, Track};
+use crate::marks::About;
+use crate::picture::is_side;
 use lpt_events::Side;
-use std::alloc::AllocError;
+use lpt_packet::Name;
+use std::alloc::{AllocError, Global};
 
-/// The most columns that are drawn.
-const COLUMNS: usize = 64;
+/// What is open at a node: the sender or the reception of a transaction, or the job of a number.
+#[derive(Clone, Copy)]
+pub(crate) enum Thing {
+    Sender(Name),
+    Reception(Name),
+    Job(u64),
+}
+
+/// How far it has come: parts are sent, or kept; and a job waits, a worker has it, or its reading
+/// was handed in.
+#[derive(Clone, Copy)]
+pub(crate) enum Stage {
+    Sending,
+    Kept,
+    Waits,
+    Claimed,
+    Committed,
+}
+
+/// That a thing at a node, or all there, comes to a stage or to its end, in the row of a height.
+#[derive(Clone, Copy)]
+pub(crate) struct Turn {
+    pub(crate) at: u32,
+    pub(crate) side: Side,
+    pub(crate) thing: Option<Thing>,
+    pub(crate) stage: Option<Stage>,
+}
+
+/// A turn, with how many parts are kept then, and what is known of the message.
+#[derive(Clone, Copy)]
+pub(crate) struct Track {
+    pub(crate) turn: Turn,
+    pub(crate) kept: u16,
+    pub(crate) about: About,
+}
+
+/// A piece of a track, in a column that is counted outward, up to a height.
+#[derive(Clone, Copy)]
+pub(crate) struct Bar {
+    pub(crate) column: u64,
+    pub(crate) track: Track,
+    pub(crate) to: u32,
+}
 
 // Whether two things are the same.
 fn is_thing(one: Thing, other: Thing) -> bool
@@ -23,204 +66,135 @@ fn is_thing(one: Thing, other: Thing) -> bool
     }
 }
 
-// Whether a column has this thing's track.
-fn is_track(column: Option<Track>, thing: Thing) -> bool
-    ensures { result ≡ option_map_or (λ t. same_thing t.thing thing) column false }
+/// Whether a turn is about what another one was about.
+pub(crate) fn is_about(turn: Turn, other: Turn) -> bool
+    ensures { result ≡ is_about turn other }
 {
-    match column {
-        Some(track) => is_thing(track.thing, thing),
-        None => false,
-    }
+    is_side(turn.side, other.side)
+        && match (turn.thing, other.thing) {
+            (None, _) => true,
+            (Some(one), Some(other)) => is_thing(one, other),
+            (Some(_), None) => false,
+        }
 }
 
-// The column of the track of this thing.
-pub(crate) fn column(columns: &[Option<Track>], thing: Thing) -> Option<usize>
-    ensures at { result ≡ column_of columns.now thing }
-    ensures bound { IfSome result (λ i. i < length columns.now) }
+// Adds the pieces of open tracks that a turn is about, up to its height.
+#[tactic(auto, using(crate::proofs::TrackLemmas::ended_more))]
+fn add_pieces(bars: &mut Vec<Bar>, live: &[Bar], turn: Turn) -> Result<(), AllocError>
+    ensures { OnOk result (map drawn_in bars.new.items ≡ map drawn_in bars.old.items
+        ++ map (λ t. record { turn = t.turn; to = turn.at })
+        (filter (λ t. is_about turn t.turn) (tracks_in live.now))) }
 {
-    columns.iter().position(|it| is_track(*it, thing))
-}
-
-// The first column that is free.
-fn first_free(columns: &[Option<Track>]) -> Option<usize>
-    ensures at { result ≡ position (λ c. is_none c) columns.now }
-    ensures bound { IfSome result (λ i. i < length columns.now) }
-{
-    columns.iter().position(|it| it.is_none())
-}
-
-// Begins a track in the first column that is free. Of more than 64 none is drawn.
-fn begin(columns: &mut Vec<Option<Track>>, track: Track) -> Result<(), AllocError>
-    ensures { OnOk result
-        (columns.new.items ≡ track_begun columns.old.items
-        (position (λ c. is_none c) columns.old.items) track) }
-{
-    match first_free(columns) {
-        Some(at) => columns[at] = Some(track),
-        None => {
-            if columns.len() < COLUMNS {
-                columns.push(Some(track))?;
-            }
+    for bar in live {
+        if is_about(turn, bar.track.turn) {
+            bars.push(Bar {
+                to: turn.at,
+                ..*bar
+            })?;
         }
     }
     Ok(())
 }
 
-// Brings a track to a stage, or to its end.
-fn bring(
-    columns: &mut Vec<Option<Track>>,
-    here: u32,
-    thing: Thing,
-    stage: Option<Stage>,
-) -> Result<(), AllocError>
-    ensures { OnOk result (columns.new.items ≡ track_moved here columns.old.items thing stage) }
+// Drops the open tracks that a turn is about.
+fn drop_pieces(live: &mut Vec<Bar>, turn: Turn)
+    ensures { tracks_in live.new.items
+        ≡ filter (λ t. not (is_about turn t.turn)) (tracks_in live.old.items) }
 {
-    let track = match stage {
-        Some(stage) => Some(Track {
-            thing,
-            from: here,
-            stage,
-        }),
-        None => None,
+    live.retain(|bar| !is_about(turn, bar.track.turn));
+}
+
+// The first column of a node that is free.
+fn free_column(live: &[Bar], side: Side) -> u64 {
+    let mut column: u64 = 0;
+    for bar in live {
+        if is_side(side, bar.track.turn.side) && bar.column == column {
+            column = column.saturating_add(1);
+        }
+    }
+    column
+}
+
+// Whether a bar stands behind a column of a node: those of ground stand first.
+fn is_behind(bar: &Bar, side: Side, column: u64) -> bool {
+    match (bar.track.turn.side, side) {
+        (Side::Ground, Side::Craft) => false,
+        (Side::Craft, Side::Ground) => true,
+        (Side::Ground, Side::Ground) | (Side::Craft, Side::Craft) => column < bar.column,
+    }
+}
+
+// How many open tracks stand before a column.
+fn rank(live: &[Bar], side: Side, column: u64) -> usize
+    ensures { result ≤ length live.now }
+{
+    match live.iter().position(|bar| is_behind(bar, side, column)) {
+        Some(at) => at,
+        None => live.len(),
+    }
+}
+
+// Opens a track, in the column that its thing had, or in the first that is free. Open tracks stand
+// in the order of their columns.
+fn open_track(live: &mut Vec<Bar>, had: Option<u64>, track: Track) -> Result<(), AllocError>
+    ensures { OnOk result
+        (IsPermutation (tracks_in live.old.items ++ track ∷ []) (tracks_in live.new.items)) }
+{
+    let (side, to) = (track.turn.side, track.turn.at);
+    let column = match had {
+        Some(column) => column,
+        None => free_column(live, side),
     };
-    match (column(columns, thing), track) {
-        (Some(at), track) => {
-            columns[at] = track;
-            Ok(())
-        }
-        (None, None) => Ok(()),
-        (None, Some(track)) => begin(columns, track),
+    let at = rank(live, side, column);
+    live.insert(at, Bar { column, track, to })?;
+    Ok(())
+}
+
+// The column of the first open track that a turn is about.
+fn column_of(live: &[Bar], turn: Turn) -> Option<u64> {
+    match live.iter().find(|bar| is_about(turn, bar.track.turn)) {
+        Some(bar) => Some(bar.column),
+        None => None,
     }
 }
 
-// Adds the piece of a column's track up to here, where it has one.
-fn add_piece(
-    bars: &mut Vec<Bar>,
-    side: Side,
-    here: u32,
-    column: u64,
-    track: Option<Track>,
-) -> Result<(), AllocError>
-    ensures { OnOk result (bars.new.items ≡ bars.old.items ++ bar_up_to side here column track) }
+// Takes a turn: what it is about ends in pieces, and it may open a track.
+fn take_turn(bars: &mut Vec<Bar>, live: &mut Vec<Bar>, track: Track) -> Result<(), AllocError>
+    ensures { OnOk result ((end : ℕ) (rest : List Turn)
+        → IsPermutation (all_drawn end (track.turn ∷ rest) bars.old.items live.old.items)
+        (all_drawn end rest bars.new.items live.new.items)) }
 {
-    if let Some(track) = track {
-        bars.push(Bar {
-            side,
-            column,
-            track,
-            to: here,
-        })?;
+    let had = column_of(live, track.turn);
+    add_pieces(bars, live, track.turn)?;
+    drop_pieces(live, track.turn);
+    if track.turn.stage.is_none() {
+        return Ok(());
+    }
+    open_track(live, had, track)
+}
+
+// Takes all turns.
+fn take_turns(bars: &mut Vec<Bar>, live: &mut Vec<Bar>, turns: &[Track]) -> Result<(), AllocError>
+    requires empty { (bars.old.items ≡ []) × (live.old.items ≡ []) }
+    ensures { OnOk result ((end : ℕ) → IsPermutation (stretches end (map (λ t. t.turn) turns.now))
+        (all_drawn end [] bars.new.items live.new.items)) }
+{
+    for track in turns {
+        take_turn(bars, live, *track)?;
     }
     Ok(())
 }
 
-// Adds the piece of this thing's track up to here, where there is one.
-fn add_track(
-    bars: &mut Vec<Bar>,
-    columns: &[Option<Track>],
-    side: Side,
-    here: u32,
-    thing: Thing,
-) -> Result<(), AllocError>
-    ensures { OnOk result
-        (bars.new.items ≡ bars.old.items ++ bar_in side here columns.now (column_of columns.now thing)) }
+/// The pieces of all tracks up to the end, each once.
+#[tactic(auto, using(crate::proofs::TrackLemmas::live_more))]
+pub(crate) fn bars_of(alloc: Global, turns: &[Track], end: u32) -> Result<Vec<Bar>, AllocError>
+    ensures { IfOk result (λ v. IsPermutation (stretches end (map (λ t. t.turn) turns.now))
+        (map drawn_in v.items)) }
 {
-    match column(columns, thing) {
-        Some(at) => add_piece(
-            bars,
-            side,
-            here,
-            at as u64,
-            columns.get(at).copied().flatten(),
-        ),
-        None => Ok(()),
+    let (mut bars, mut live) = (Vec::new(alloc), Vec::new(alloc));
+    take_turns(&mut bars, &mut live, turns)?;
+    for bar in live.as_slice() {
+        bars.push(Bar { to: end, ..*bar })?;
     }
-}
-
-// Adds the pieces of all tracks up to here.
-#[tactic(auto, using(crate::proofs::PictureLemmas::column_step))]
-pub(crate) fn add_tracks(
-    bars: &mut Vec<Bar>,
-    columns: &[Option<Track>],
-    side: Side,
-    here: u32,
-) -> Result<(), AllocError>
-    ensures { OnOk result (bars.new.items ≡ bars.old.items ++ all_bars side here 0 columns.now) }
-{
-    for (column, track) in columns.iter().enumerate() {
-        add_piece(bars, side, here, column as u64, *track)?;
-    }
-    Ok(())
-}
-
-// A track comes to a stage, or to its end: its piece up to here is drawn.
-pub(crate) fn move_track(
-    bars: &mut Vec<Bar>,
-    columns: &mut Vec<Option<Track>>,
-    side: Side,
-    here: u32,
-    thing: Thing,
-    stage: Option<Stage>,
-) -> Result<(), AllocError>
-    ensures bars { OnOk result (bars.new.items
-        ≡ bars.old.items ++ bar_in side here columns.old.items (column_of columns.old.items thing)) }
-    ensures columns { OnOk result
-        (columns.new.items ≡ track_moved here columns.old.items thing stage) }
-{
-    add_track(bars, columns.as_slice(), side, here, thing)?;
-    bring(columns, here, thing, stage)
-}
-
-// All tracks of a node end.
-pub(crate) fn end_all(
-    bars: &mut Vec<Bar>,
-    columns: &mut Vec<Option<Track>>,
-    side: Side,
-    here: u32,
-) -> Result<(), AllocError>
-    ensures bars { OnOk result (bars.new.items ≡ bars.old.items ++ all_bars side here 0 columns.old.items) }
-    ensures columns { OnOk result (columns.new.items ≡ replicate (length columns.old.items) None) }
-{
-    add_tracks(bars, columns.as_slice(), side, here)?;
-    columns.fill(None);
-    Ok(())
-}
-
-// The stage of the track of this thing, where there is one.
-pub(crate) fn stage_in(columns: &[Option<Track>], thing: Thing) -> Option<Stage>
-    ensures { result ≡ stage_in columns.now (column_of columns.now thing) }
-{
-    let at = column(columns, thing)?;
-    let track = columns.get(at).copied().flatten()?;
-    Some(track.stage)
-}
-
-// How many parts were kept at a stage.
-pub(crate) fn parts_kept(stage: Option<Stage>) -> u16
-    ensures { result ≡ kept_in stage }
-{
-    match stage {
-        Some(Stage::Kept(count, _)) => count,
-        _ => 0,
-    }
-}
-
-// Of how many parts the message is at a stage; 0 where that isn't known.
-pub(crate) fn parts(stage: Option<Stage>) -> u16
-    ensures { result ≡ parts_in stage }
-{
-    match stage {
-        Some(Stage::Kept(_, parts) | Stage::Sending(parts, _)) => parts,
-        _ => 0,
-    }
-}
-
-// What the message of a sender asks for.
-pub(crate) fn task(stage: Option<Stage>) -> Option<Task>
-    ensures { result ≡ task_in stage }
-{
-    match stage {
-        Some(Stage::Sending(_, task)) => task,
-        _ => None,
-    }
+    Ok(bars)
 }

@@ -1,49 +1,34 @@
-//! What the texts of a picture say.
+//! What the texts of a picture say. No clause holds it, but what a track is.
 
-ghost use Rattle.std.specs.Prelude.{◌≡◌, [], IfOk, string_bytes};
-ghost use Rattle.std.specs.Option.{option_map_or};
-ghost use Rattle.lpt_chart.specs.Words.{applied_words, change_words, code_word, counts_words, ended_words, hidden_words, job_words, lane_word, more_words, node_word, of_words, packet_words, piece_words, plural, reason_word, refusal_words, report_word, report_words, request_word, request_words, sends, thing_words, tick_words, worker_word};
+ghost use Rattle.std.specs.Prelude.{◌≡◌, IfOk};
+ghost use Rattle.lpt_chart.specs.Words.{direction_from, stage_words, turn_words};
 
-use crate::marks::{Refusal, Stage, Task, Thing};
+use crate::marks::{Refusal, Task};
+use crate::svg::plural;
+use crate::tracks::{Stage, Thing, Track};
 use lpt_events::{Applied, Lane, Side, Worker, name_word};
 use lpt_packet::{Direction, Octets};
 use lpt_part::Reason;
 use lpt_pus::FailureCode;
 use std::alloc::{AllocError, Global};
 
-// What makes a word of more than one thing, behind it.
-pub(crate) fn plural(count: u64) -> &'static str
-    ensures { result.now ≡ plural count }
-{
-    if count == 1 { "" } else { "s" }
-}
-
-// A node's name.
-pub(crate) fn node_word(side: Side) -> &'static str
-    ensures { result.now ≡ node_word side }
-{
+/// A node's name.
+pub(crate) fn node_word(side: Side) -> &'static str {
     ["ground", "spacecraft"][side as usize]
 }
 
-// A lane's word.
-pub(crate) fn lane_word(lane: Lane) -> &'static str
-    ensures { result.now ≡ lane_word lane }
-{
+/// A lane's word.
+pub(crate) fn lane_word(lane: Lane) -> &'static str {
     ["s1", "s2", "g1", "g2"][lane as usize]
 }
 
-// Why a reception was broken off.
-pub(crate) fn reason_word(reason: Reason) -> &'static str
-    ensures { result.now ≡ reason_word reason }
-{
+/// Why a reception was broken off.
+pub(crate) fn reason_word(reason: Reason) -> &'static str {
     ["expired", "discontinuity", "conflict"][reason as usize]
 }
 
 // What a request of a type is called.
-#[tactic(auto, unfolding(crate::specs::Words::request_word))]
-fn request_word(service: u8, subtype: u8) -> &'static str
-    ensures { result.now ≡ request_word service subtype }
-{
+fn request_word(service: u8, subtype: u8) -> &'static str {
     match (service, subtype) {
         (6, 2) => " load",
         (6, 5) => " dump",
@@ -53,10 +38,7 @@ fn request_word(service: u8, subtype: u8) -> &'static str
 }
 
 // What a report of a type is called.
-#[tactic(auto, unfolding(crate::specs::Words::report_word))]
-fn report_word(service: u8, subtype: u8) -> &'static str
-    ensures { result.now ≡ report_word service subtype }
-{
+fn report_word(service: u8, subtype: u8) -> &'static str {
     match (service, subtype) {
         (1, 1) => " accepted",
         (1, 2) => " not accepted",
@@ -71,9 +53,7 @@ fn report_word(service: u8, subtype: u8) -> &'static str
 }
 
 // Why a request failed.
-fn code_word(code: FailureCode) -> &'static str
-    ensures { result.now ≡ code_word code }
-{
+fn code_word(code: FailureCode) -> &'static str {
     const WORDS: [&str; 8] = [
         "1 no such service",
         "2 malformed",
@@ -87,124 +67,79 @@ fn code_word(code: FailureCode) -> &'static str
     WORDS[code as usize]
 }
 
-// Of how many parts, where that is known.
-#[tactic(auto, unfolding(crate::specs::Words::of_words))]
-pub(crate) fn of_words(alloc: Global, parts: u16) -> Result<String, AllocError>
-    ensures { IfOk result (λ t. string_bytes t ≡ of_words parts) }
-{
+/// Of how many parts, where that is known.
+pub(crate) fn of_words(alloc: Global, parts: u16) -> Result<String, AllocError> {
     if parts == 0 {
         return Ok(String::new(alloc));
     }
     format!(in alloc; " of {parts}")
 }
 
-// A request of a type.
-#[tactic(auto, unfolding(crate::specs::Words::request_words))]
-pub(crate) fn request_words(alloc: Global, service: u8, subtype: u8) -> Result<String, AllocError>
-    ensures { IfOk result (λ t. string_bytes t ≡ request_words service subtype) }
-{
+/// A request of a type.
+pub(crate) fn request_words(alloc: Global, service: u8, subtype: u8) -> Result<String, AllocError> {
     let word = request_word(service, subtype);
     format!(in alloc; "request {service},{subtype}{word}")
 }
 
-// A report of a type.
-#[tactic(auto, unfolding(crate::specs::Words::report_words))]
-pub(crate) fn report_words(alloc: Global, service: u8, subtype: u8) -> Result<String, AllocError>
-    ensures { IfOk result (λ t. string_bytes t ≡ report_words service subtype) }
-{
+/// A report of a type.
+pub(crate) fn report_words(alloc: Global, service: u8, subtype: u8) -> Result<String, AllocError> {
     let word = report_word(service, subtype);
     format!(in alloc; "report {service},{subtype}{word}")
 }
 
-// A clock, after so many ticks in a row.
-#[tactic(auto, unfolding(crate::specs::Words::tick_words))]
-pub(crate) fn tick_words(alloc: Global, clock: u32, run: u64) -> Result<String, AllocError>
-    ensures { IfOk result (λ t. string_bytes t ≡ tick_words clock run) }
-{
-    if run == 1 {
-        format!(in alloc; "clock {clock}")
-    } else {
-        format!(in alloc; "clock {clock} ({run} ticks)")
-    }
-}
-
-// What a worker does with a job.
-#[tactic(auto, unfolding(crate::specs::Words::job_words))]
+/// What a worker does with a job.
 pub(crate) fn job_words(
     alloc: Global,
     worker: Worker,
     does: &str,
     boot: u64,
     job: u64,
-    end: &str,
-) -> Result<String, AllocError>
-    ensures { IfOk result (λ t. string_bytes t ≡ job_words worker does.now boot job end.now) }
-{
-    let worker = match worker {
-        Worker::W1 => "w1",
-        Worker::W2 => "w2",
-    };
-    format!(in alloc; "{worker} {does} job {boot}.{job}{end}")
-}
-
-// How many areas more there are.
-#[tactic(auto, unfolding(crate::specs::Words::more_words))]
-fn more_words(alloc: Global, task: Task) -> Result<String, AllocError>
-    ensures { IfOk result (λ t. string_bytes t ≡ more_words task) }
-{
-    if task.areas <= 1 {
-        return Ok(String::new(alloc));
-    }
-    let more = task.areas - 1;
-    let s = plural(u64::from(more));
-    format!(in alloc; " and {more} area{s}")
+) -> Result<String, AllocError> {
+    let worker = ["w1", "w2"][worker as usize];
+    format!(in alloc; "{worker} {does} job {boot}.{job}")
 }
 
 // What an executed request has changed: a load a memory, from the address of its first area on.
-#[tactic(auto, unfolding(crate::specs::Words::change_words))]
-fn change_words(alloc: Global, task: Task) -> Result<String, AllocError>
-    ensures { IfOk result (λ t. string_bytes t ≡ change_words task) }
-{
+fn change_words(alloc: Global, task: Task) -> Result<String, AllocError> {
     if !(task.service == 6 && task.subtype == 2) {
         return Ok(String::new(alloc));
     }
     let (memory, address, octets) = (task.memory, task.address, task.octets);
-    let (s, more) = (plural(u64::from(octets)), more_words(alloc, task)?);
-    format!(in alloc; ", memory {memory} at {address}: {octets} octet{s}{more}")
+    let (s, more) = (plural(u64::from(octets)), task.areas.saturating_sub(1));
+    let t = plural(u64::from(more));
+    if more == 0 {
+        format!(in alloc; ", memory {memory} at {address}: {octets} octet{s}")
+    } else {
+        format!(in alloc; ", memory {memory} at {address}: {octets} octet{s} and {more} area{t}")
+    }
 }
 
 // What the execution of a job came to.
-#[tactic(auto, unfolding(crate::specs::Words::ended_words))]
 fn ended_words(
     alloc: Global,
     source: u16,
     task: Option<Task>,
     applied: Applied,
-) -> Result<String, AllocError>
-    ensures { IfOk result (λ t. string_bytes t ≡ ended_words source task applied) }
-{
-    match applied {
-        Applied::Done(None) => match task {
-            Some(task) => {
-                let change = change_words(alloc, task)?;
-                format!(in alloc; ": done{change}")
-            }
-            None => String::from_str(alloc, ": done"),
-        },
-        Applied::Done(Some(name)) => {
+) -> Result<String, AllocError> {
+    match (applied, task) {
+        (Applied::Done(None), Some(task)) => {
+            let change = change_words(alloc, task)?;
+            format!(in alloc; ": done{change}")
+        }
+        (Applied::Done(None), None) => String::from_str(alloc, ": done"),
+        (Applied::Done(Some(name)), _) => {
             let name = name_word(source, name);
             format!(in alloc; ": done, opens down {name}")
         }
-        Applied::Silent => String::from_str(alloc, ": no request, nothing done"),
-        Applied::Code(code) => {
+        (Applied::Silent, _) => String::from_str(alloc, ": no request, nothing done"),
+        (Applied::Code(code), _) => {
             let word = code_word(code);
             format!(in alloc; ": refused, {word}")
         }
     }
 }
 
-// A job, what it is, and what its execution came to.
-#[tactic(auto, unfolding(crate::specs::Words::applied_words))]
+/// A job, what it is, and what its execution came to.
 pub(crate) fn applied_words(
     alloc: Global,
     source: u16,
@@ -212,9 +147,7 @@ pub(crate) fn applied_words(
     job: u64,
     task: Option<Task>,
     applied: Applied,
-) -> Result<String, AllocError>
-    ensures { IfOk result (λ t. string_bytes t ≡ applied_words source boot job task applied) }
-{
+) -> Result<String, AllocError> {
     let end = ended_words(alloc, source, task, applied)?;
     let word = match task {
         Some(task) => request_word(task.service, task.subtype),
@@ -223,37 +156,20 @@ pub(crate) fn applied_words(
     format!(in alloc; "job {boot}.{job}{word}{end}")
 }
 
-// A refused line: its fault, its number, and the line.
-#[tactic(auto, unfolding(crate::specs::Words::refusal_words))]
-pub(crate) fn refusal_words(alloc: Global, refusal: &Refusal) -> Result<Octets, AllocError>
-    ensures { IfOk result (λ t. t ≡ refusal_words refusal.now) }
-{
+/// A refused line: its fault, its number, and the line.
+pub(crate) fn refusal_words(alloc: Global, refusal: &Refusal) -> Result<Octets, AllocError> {
     let (code, name, line) = (refusal.fault.code(), refusal.fault.name(), refusal.line);
     let mut words = format!(in alloc; "refused {code} {name}, line {line}: ")?.into_bytes();
     words.extend_from_slice(refusal.words.as_slice())?;
     Ok(Octets::from_vec(words))
 }
 
-// How much has happened.
-#[tactic(auto, unfolding(crate::specs::Words::counts_words))]
-pub(crate) fn counts_words(
+/// That rows are left out, above, below, or both.
+pub(crate) fn hidden_words(
     alloc: Global,
-    events: u64,
-    packets: u64,
-    flights: u64,
-    losses: u64,
-) -> Result<String, AllocError>
-    ensures { IfOk result (λ t. string_bytes t ≡ counts_words events packets flights losses) }
-{
-    let (s, t) = (plural(events), plural(packets));
-    format!(in alloc; "{events} event{s}, {packets} packet{t}, {flights} delivered, {losses} lost")
-}
-
-// That rows are left out, above, below, or both.
-#[tactic(auto, unfolding(crate::specs::Words::hidden_words))]
-pub(crate) fn hidden_words(alloc: Global, above: usize, below: usize) -> Result<String, AllocError>
-    ensures { IfOk result (λ t. string_bytes t ≡ hidden_words above below) }
-{
+    above: usize,
+    below: usize,
+) -> Result<String, AllocError> {
     if above == 0 {
         format!(in alloc; "rows left out: {below} below; --from and --to choose")
     } else if below == 0 {
@@ -263,62 +179,65 @@ pub(crate) fn hidden_words(alloc: Global, above: usize, below: usize) -> Result<
     }
 }
 
-// A packet by its words.
-#[tactic(auto, unfolding(crate::specs::Words::packet_words))]
-pub(crate) fn packet_words(alloc: Global, words: &[u8], number: u64) -> Result<Octets, AllocError>
-    ensures { IfOk result (λ t. t ≡ packet_words words.now number) }
+/// How far a job has come.
+fn stage_word(stage: Option<Stage>) -> &'static str
+    ensures { result.now ≡ stage_words stage }
 {
-    let mut out = Vec::from_slice(alloc, words)?;
-    let number = format!(in alloc; ", packet {number}")?;
-    out.extend_from_slice(number.as_bytes())?;
-    Ok(Octets::from_vec(out))
-}
-
-// How a thing is named: by its transaction's name, or by its number.
-#[tactic(auto, unfolding(crate::specs::Words::thing_words))]
-pub(crate) fn thing_words(alloc: Global, source: u16, thing: Thing) -> Result<String, AllocError>
-    ensures { IfOk result (λ t. string_bytes t ≡ thing_words source thing) }
-{
-    match thing {
-        Thing::Sender(name) | Thing::Reception(name) => {
-            let word = name_word(source, name);
-            format!(in alloc; "{word}")
-        }
-        Thing::Job(number) => format!(in alloc; "{number}"),
+    match stage {
+        Some(Stage::Waits) => " waits",
+        Some(Stage::Claimed) => " is claimed",
+        Some(Stage::Committed) => " is committed",
+        Some(Stage::Sending | Stage::Kept) | None => "",
     }
 }
 
-// The direction of what a node sends.
-pub(crate) fn sends(side: Side) -> Direction
-    ensures { result ≡ sends side }
+/// What is open at a node.
+#[tactic(auto, unfolding(crate::specs::Words::turn_words))]
+pub(crate) fn turn_words(
+    alloc: Global,
+    source: u16,
+    side: Side,
+    thing: Option<Thing>,
+    stage: Option<Stage>,
+) -> Result<Octets, AllocError>
+    ensures { IfOk result (λ t. t ≡ turn_words source side thing stage) }
+{
+    let words = match thing {
+        None => String::new(alloc),
+        Some(Thing::Sender(name)) => {
+            let (way, name) = (direction_from(side).word(), name_word(source, name));
+            format!(in alloc; "sender of {way} {name}")?
+        }
+        Some(Thing::Reception(name)) => {
+            let (way, name) = (side.receives().word(), name_word(source, name));
+            format!(in alloc; "reception of {way} {name}")?
+        }
+        Some(Thing::Job(number)) => {
+            let word = stage_word(stage);
+            format!(in alloc; "job {number}{word}")?
+        }
+    };
+    Ok(Octets::from_vec(words.into_bytes()))
+}
+
+/// What else is said of a piece of a track: how many parts are kept.
+pub(crate) fn more_words(alloc: Global, track: Track) -> Result<Octets, AllocError> {
+    let words = match track.turn.stage {
+        Some(Stage::Kept) => {
+            let kept = track.kept;
+            format!(in alloc; ": kept {kept}")?
+        }
+        _ => String::new(alloc),
+    };
+    Ok(Octets::from_vec(words.into_bytes()))
+}
+
+/// The direction of what a node sends.
+pub(crate) fn direction_from(side: Side) -> Direction
+    ensures { result ≡ direction_from side }
 {
     match side {
         Side::Ground => Direction::Up,
         Side::Craft => Direction::Down,
-    }
-}
-
-// What a piece of the track of a thing of this name is.
-#[tactic(auto, unfolding(crate::specs::Words::piece_words))]
-pub(crate) fn piece_words(
-    alloc: Global,
-    side: Side,
-    name: &str,
-    stage: Stage,
-) -> Result<String, AllocError>
-    ensures { IfOk result (λ t. string_bytes t ≡ piece_words side name.now stage) }
-{
-    match stage {
-        Stage::Sending(_, _) => {
-            let way = sends(side).word();
-            format!(in alloc; "sender of {way} {name}")
-        }
-        Stage::Kept(kept, _) => {
-            let way = side.receives().word();
-            format!(in alloc; "reception of {way} {name}: kept {kept}")
-        }
-        Stage::Waits => format!(in alloc; "job {name} waits"),
-        Stage::Claimed => format!(in alloc; "job {name} is claimed"),
-        Stage::Committed => format!(in alloc; "job {name} is committed"),
     }
 }

@@ -42,7 +42,8 @@ one_more : (text : List ℕ) (place : ℕ)
     → place < length text
     → take (place + 1) text ≡ take place text ++ get_or text place 0 ∷ []
 one_more text place short =
-    subst (λ k. take k text ≡ take place text ++ get_or text place 0 ∷ []) (let e : suc place ≡ place + 1 = omega arith in e)
+    subst (λ k. take k text ≡ take place text ++ get_or text place 0 ∷ []) (let e : suc place ≡
+    place + 1 = omega arith in e)
     (take-suc text place 0 short)
 
 -- a line that ends here is one of them

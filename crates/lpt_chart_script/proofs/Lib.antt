@@ -1,3 +1,2 @@
 pub mod FrontLemmas
-pub mod KnownLemmas
 pub mod SameLemmas

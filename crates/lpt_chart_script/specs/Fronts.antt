@@ -11,7 +11,8 @@ whole_lines (b ∷ bs) = if (b == 10) || is_filled (whole_lines bs) then b ∷ w
 
 -- the same, unless the line that is cut is too long already: then it is one of them
 abbrev pub cut_text : List ℕ → List ℕ
-cut_text text = if nat_lt (length (whole_lines text) + longest_line) (length text) then text else whole_lines text
+cut_text text = if nat_lt (length (whole_lines text) + longest_line) (length text) then text else
+    whole_lines text
 
 -- what is run of a text that was read
 abbrev pub front_of : End → List ℕ → List ℕ

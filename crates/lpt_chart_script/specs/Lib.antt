@@ -1,4 +1,2 @@
 pub mod Drawings
 pub mod Fronts
-pub mod Sides
-pub mod Titles

@@ -2,8 +2,7 @@
 
 ghost use Rattle.std.specs.Prelude.{◌≡◌, ◌≢◌, ◌↔◌, [], Err, IfOk, IsErrOf, IsSome, string_bytes};
 ghost use Rattle.lpt_chart.specs.Charts.{IsChart};
-ghost use Rattle.lpt_chart_script.specs.Drawings.{Draws, IsDrawing, IsDrawn, drawn_refusals, kinds_of, openings_of, run_end};
-ghost use Rattle.lpt_chart_script.specs.Titles.{title_of};
+ghost use Rattle.lpt_chart_script.specs.Drawings.{Draws, IsDrawing, IsDrawn, drawn_refusals, places, run_end};
 ghost use Rattle.lpt_events.specs.Configs.{config_fault};
 ghost use Rattle.lpt_world.specs.Worlds.{new_world};
 
@@ -11,7 +10,7 @@ use crate::front::front_of;
 use crate::known::{kinds_of, openings_of};
 use crate::running::run_text;
 use crate::title::title_of;
-use lpt_chart::{Choice, Refusal, chart};
+use lpt_chart::{Choice, Known, Refusal, chart};
 use lpt_events::{Config, ConfigFault};
 use lpt_memory::Memories;
 use lpt_script::{ScriptEnd, ScriptFault};
@@ -120,7 +119,15 @@ fn draw_front(
     let bad = run_text(alloc, world, refused, front)?;
     let ran = run_end(end, refused.len() as u64, bad);
     let events = world.journal().len() as u64;
-    let picture = print_run(alloc, world, choice, all, front, refused.as_slice())?;
+    let title = title_of(alloc, front)?;
+    let picture = print_run(
+        alloc,
+        world,
+        choice,
+        all,
+        title.as_slice(),
+        refused.as_slice(),
+    )?;
     Ok(Drawing {
         picture,
         ran,
@@ -140,29 +147,31 @@ fn run_end(end: End, refused: u64, bad: Option<u64>) -> Result<ScriptEnd, Script
     }
 }
 
-// The picture of a world that a text left, with the lines that were refused.
+// The picture of a world that a script left, with the lines that were refused.
 fn print_run(
     alloc: Global,
     world: &World,
     choice: Choice,
     all: bool,
-    text: &[u8],
+    title: &[u8],
     refused: &[Refusal],
 ) -> Result<String, AllocError>
-    ensures { IfOk result (λ t. IsChart world.now.config.source choice (title_of text.now)
-        (kinds_of world.now) (openings_of world.now) world.now.journal
+    ensures { IfOk result (λ t. IsChart world.now.config.source choice title.now world.now.journal
         (drawn_refusals all refused.now) (string_bytes t)) }
 {
-    let title = title_of(alloc, text)?;
     let (kinds, opened) = (kinds_of(alloc, world)?, openings_of(alloc, world)?);
+    let known = Known {
+        source: world.config().source,
+        kinds,
+        opened,
+    };
+    let journal = world.journal();
     chart(
         alloc,
-        world.config().source,
+        known,
         choice,
-        title.as_slice(),
-        kinds.as_slice(),
-        opened.as_slice(),
-        world.journal(),
+        title,
+        journal,
         drawn_refusals(all, refused),
     )
 }

@@ -30,8 +30,8 @@ fn cut_text(text: &[u8]) -> &[u8]
     }
 }
 
-/// So many octets of a text at most.
-pub(crate) fn up_to(most: usize, text: &[u8]) -> &[u8]
+// So many octets of a text at most.
+fn up_to(most: usize, text: &[u8]) -> &[u8]
     ensures { result.now ≡ take most text.now }
 {
     if text.len() <= most {

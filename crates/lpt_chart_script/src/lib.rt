@@ -16,4 +16,3 @@ mod title;
 pub use drawing::{Drawing, draw_script};
 pub use lpt_chart::{Choice, Refusal};
 pub use running::run_text;
-pub use title::title_of;

@@ -1,13 +1,11 @@
 //! The lines of a script, run for the sake of what they leave.
 
-ghost use Rattle.std.specs.Prelude.{◌≡◌, ◌++◌, take, IfOk, OnOk, None};
-ghost use Rattle.lpt_chart_script.specs.Drawings.{LineLeaves, left_by, lines_run, refusals_at};
-ghost use Rattle.lpt_chart_script.specs.Sides.{side_in};
+ghost use Rattle.std.specs.Prelude.{◌≡◌, ◌++◌, IfOk, OnOk, None};
+ghost use Rattle.lpt_chart_script.specs.Drawings.{LineLeaves, left_by, lines_run, places, refused_at};
 ghost use Rattle.lpt_script_words.specs.Grammar.{reading_of};
 ghost use Rattle.lpt_text.specs.Texts.{lines};
 ghost use Rattle.lpt_script.specs.Scripts.{command_ran, line_ran};
 
-use crate::front::up_to;
 use crate::quiet::Nowhere;
 use crate::sides::side_of;
 use lpt_chart::Refusal;
@@ -20,7 +18,7 @@ use lpt_world::World;
 use std::alloc::{AllocError, Global};
 
 /// The most octets of a refused line that are shown.
-const TOLD: usize = 200;
+const SHOWN: usize = 200;
 
 /// Runs the lines of a text on a world, up to an unreadable one, and gives its number; those that are
 /// refused are added to the others.
@@ -32,8 +30,8 @@ pub fn run_text(
     refused: &mut Vec<Refusal>,
     text: &[u8],
 ) -> Result<Option<u64>, AllocError>
-    ensures { IfOk result (λ bad. lines_run (lines text.now) world.old 1 refused.old.items
-        ≡ left_by world.new refused.new.items bad) }
+    ensures { IfOk result (λ bad. lines_run (lines text.now) world.old 1 (places refused.old.items)
+        ≡ left_by world.new (places refused.new.items) bad) }
 {
     let mut rest = text;
     let mut number = 1;
@@ -57,10 +55,9 @@ fn run_line(
     line: &[u8],
     number: u64,
 ) -> Result<bool, AllocError>
-    ensures { let says = reading_of world.old.config.source line.now in
-        IfOk result
-        (λ good. LineLeaves (line_ran says number world.old) number (side_in says) line.now
-        good world.new refused.old.items refused.new.items) }
+    ensures { IfOk result
+        (λ good. LineLeaves (line_ran (reading_of world.old.config.source line.now) number world.old)
+        number good world.new (places refused.old.items) (places refused.new.items)) }
 {
     match read_line(alloc, world.config().source, line)? {
         Reading::Skipped => Ok(true),
@@ -92,6 +89,7 @@ fn run_quietly(
 }
 
 // Notes a line that was refused, if it was.
+#[tactic(auto, using(crate::proofs::SameLemmas::places_more))]
 fn note(
     alloc: Global,
     refused: &mut Vec<Refusal>,
@@ -102,26 +100,18 @@ fn note(
     fault: Option<StepFault>,
 ) -> Result<(), AllocError>
     ensures { OnOk result
-        (refused.new.items ≡ refused.old.items ++ refusals_at place number side line.now fault) }
+        (places refused.new.items ≡ places refused.old.items ++ refused_at place fault) }
 {
     let Some(fault) = fault else {
         return Ok(());
     };
+    let front = line.split_at(line.len().min(SHOWN)).0;
     refused.push(Refusal {
         place,
         side,
         line: number,
         fault,
-        words: Octets::from_vec(front(alloc, line)?),
+        words: Octets::from_vec(Vec::from_slice(alloc, front)?),
     })?;
     Ok(())
-}
-
-// The front of a line, as far as it is shown.
-fn front(alloc: Global, line: &[u8]) -> Result<Vec<u8>, AllocError>
-    ensures { IfOk result (λ t. t.items ≡ take 200 line.now) }
-{
-    let mut words = Vec::new(alloc);
-    words.extend_from_slice(up_to(TOLD, line))?;
-    Ok(words)
 }

@@ -1,9 +1,0 @@
-use Rattle.std.proofs.Common.{◌≡◌, ◌++◌, take, string_bytes}
-use Rattle.std.specs.List.{flat_map}
-use Rattle.lpt_chart.specs.Shapes.{shape_text}
-use Rattle.lpt_chart.proofs.svg.write_shapes.Given as goal
-
-abbrev pub invariant-loop-shape : goal.invariant-loop-shape
-invariant-loop-shape l =
-    string_bytes l.out ≡ string_bytes l.fn.out ++ flat_map shape_text
-    (take l.shape-index l.fn.shapes)
