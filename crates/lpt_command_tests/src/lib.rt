@@ -5,6 +5,8 @@
 #[cfg(test)]
 mod content;
 #[cfg(test)]
+mod ending;
+#[cfg(test)]
 mod machine;
 #[cfg(test)]
 mod messages;

@@ -1,6 +1,7 @@
 //! The commands of messages over a machine in memory.
 
 use crate::content::Content;
+use crate::ending::{Ending, check, hold, holding, one_path};
 use crate::machine::{Desk, InMemory};
 use crate::worked::{DUMPED, FIRST, LACKING, PARTS, SECOND};
 use lpt_command_line::{
@@ -9,8 +10,7 @@ use lpt_command_line::{
 use lpt_io::{Config, Terminals, Voice, tell_end};
 use lpt_message_commands::{extract, join, join_each, split};
 use std::alloc::Global;
-use std::io;
-use std::test::Fail;
+use std::process::Abort;
 
 pub(crate) const CONFIG: Config = Config {
     apid: 100,
@@ -23,9 +23,6 @@ pub(crate) const CONFIG: Config = Config {
     mode: Mode::Any,
 };
 
-/// What a machine writes that is full.
-const FULL: &str = "no storage space";
-
 /// That of a command none of whose streams is a terminal.
 pub(crate) fn voice() -> Voice {
     let terminals = Terminals {
@@ -36,22 +33,12 @@ pub(crate) fn voice() -> Voice {
     Voice::new(terminals, false)
 }
 
-/// What a machine holds that has these octets in a file of this path.
-pub(crate) fn holding(alloc: Global, path: &str, octets: &[u8]) -> io::Result<Content> {
-    let mut content = Content::new(alloc);
-    let number = content.new_file(path)?;
-    content.append(number, octets)?;
-    Ok(content)
-}
-
 // What `join up` asks for of the file `packets`.
-fn join_words<'a>(alloc: Global, id: Option<u16>) -> io::Result<JoinWords<'a>> {
-    let mut files = Vec::new(alloc);
-    files.push("packets")?;
-    Ok(JoinWords {
+fn join_words(rt: &impl Abort, alloc: Global, id: Option<u16>) -> JoinWords<'static> {
+    JoinWords {
         direction: Direction::Up,
         name: id.map(|id| GivenName { source: None, id }),
-        files,
+        files: one_path(rt, alloc, "packets"),
         any: false,
         first: false,
         each: None,
@@ -59,132 +46,165 @@ fn join_words<'a>(alloc: Global, id: Option<u16>) -> io::Result<JoinWords<'a>> {
             from: None,
             to: None,
         },
-    })
+    }
 }
 
-// The status by which `join --each` into the folder `out` ends, and what the machine holds then.
-fn join_every(alloc: Global, content: Content) -> io::Result<(u8, Content)> {
+// What `join --each` into the folder `out` leaves of a machine that holds this.
+fn check_join_each(rt: &impl Abort, alloc: Global, content: Content, ending: &Ending) {
     let desk = Desk::new(alloc, content);
-    let words = join_words(alloc, None)?;
-    let rt = InMemory {
-        desk: &desk,
-        input: &[],
-    };
-    let status = join_into_out(&rt, &words);
+    let words = join_words(rt, alloc, None);
+    let status = join_into_out(&desk, &words);
     drop(words);
-    Ok((status, desk.into_content()))
+    check(rt, desk, status, ending);
 }
 
-// The status of that on a machine.
-fn join_into_out(rt: &InMemory<'_>, words: &JoinWords<'_>) -> u8 {
-    tell_end(rt, join_each(rt, voice(), &CONFIG, words, "out")) as u8
+// The status by which that ends.
+fn join_into_out(desk: &Desk, words: &JoinWords<'_>) -> u8 {
+    let machine = InMemory { desk, input: &[] };
+    let ended = join_each(&machine, voice(), &CONFIG, words, "out");
+    tell_end(&machine, ended) as u8
 }
 
-// The same of `join --id 7`.
-fn join_seven(alloc: Global, content: Content) -> io::Result<(u8, Content)> {
+// What `join --id 7` leaves of a machine that holds this.
+fn check_join_seven(rt: &impl Abort, alloc: Global, content: Content, ending: &Ending) {
     let desk = Desk::new(alloc, content);
-    let words = join_words(alloc, Some(7))?;
-    let rt = InMemory {
-        desk: &desk,
-        input: &[],
-    };
-    let status = tell_end(&rt, join(&rt, voice(), &CONFIG, &words));
+    let words = join_words(rt, alloc, Some(7));
+    let status = join_to_output(&desk, &words);
     drop(words);
-    Ok((status as u8, desk.into_content()))
+    check(rt, desk, status, ending);
 }
+
+// The status by which that ends.
+fn join_to_output(desk: &Desk, words: &JoinWords<'_>) -> u8 {
+    let machine = InMemory { desk, input: &[] };
+    let ended = join(&machine, voice(), &CONFIG, words);
+    tell_end(&machine, ended) as u8
+}
+
+static EACH_IN_ITS_FILE: Ending = Ending {
+    status: 0,
+    paths: "packets\nout/up-1-7.0\nout/up-1-8.0\nout/up-1-7.1\n",
+    files: &[
+        ("out/up-1-7.0", FIRST),
+        ("out/up-1-8.0", SECOND),
+        ("out/up-1-7.1", FIRST),
+    ],
+    output: &[],
+    errors: "",
+};
 
 #[test]
-fn each_message_is_in_its_file(rt: HostRuntime) -> Result<(), Fail> {
-    let content = holding(rt.alloc(), "packets", PARTS)?;
-    let (status, content) = join_every(rt.alloc(), content)?;
-    assert_eq!(rt; status, 0);
-    let made = "packets\nout/up-1-7.0\nout/up-1-8.0\nout/up-1-7.1\n";
-    assert_eq!(rt; content.paths()?.as_str(), made);
-    assert_eq!(rt; content.octets_at("out/up-1-7.0"), FIRST);
-    assert_eq!(rt; content.octets_at("out/up-1-8.0"), SECOND);
-    assert_eq!(rt; content.octets_at("out/up-1-7.1"), FIRST);
-    assert_eq!(rt; content.output(), b"".as_slice());
-    assert_eq!(rt; content.errors(), b"".as_slice());
-    Ok(())
+fn each_message_is_in_its_file(rt: HostRuntime) {
+    let content = holding(&rt, rt.alloc(), "packets", PARTS);
+    check_join_each(&rt, rt.alloc(), content, &EACH_IN_ITS_FILE);
 }
 
+static MISSING: Ending = Ending {
+    status: 1,
+    paths: "packets\nout/up-1-7.0\n",
+    files: &[("out/up-1-7.0", FIRST)],
+    output: &[],
+    errors: "lpt: up 8: from octet 61 on, missing parts: 8:2-\n",
+};
+
 #[test]
-fn what_is_missing_is_told(rt: HostRuntime) -> Result<(), Fail> {
-    let content = holding(rt.alloc(), "packets", LACKING)?;
-    let (status, content) = join_every(rt.alloc(), content)?;
-    assert_eq!(rt; status, 1);
-    assert_eq!(rt; content.paths()?.as_str(), "packets\nout/up-1-7.0\n");
-    assert_eq!(rt; content.octets_at("out/up-1-7.0"), FIRST);
-    let lines = b"lpt: up 8: from octet 61 on, missing parts: 8:2-\n";
-    assert_eq!(rt; content.errors(), lines.as_slice());
-    Ok(())
+fn what_is_missing_is_told(rt: HostRuntime) {
+    let content = holding(&rt, rt.alloc(), "packets", LACKING);
+    check_join_each(&rt, rt.alloc(), content, &MISSING);
 }
+
+static FULL: Ending = Ending {
+    status: 3,
+    paths: "packets\nout/up-1-7.0\n",
+    files: &[("out/up-1-7.0", FIRST)],
+    output: &[],
+    errors: "Write\nlpt: out/up-1-8.0: no storage space\n",
+};
 
 // There is room for the first message and three octets of the second.
 #[test]
-fn a_full_disk_leaves_whole_files(rt: HostRuntime) -> Result<(), Fail> {
-    let mut content = holding(rt.alloc(), "packets", PARTS)?;
+fn a_full_disk_leaves_whole_files(rt: HostRuntime) {
+    let mut content = holding(&rt, rt.alloc(), "packets", PARTS);
     content.leave_room(30);
-    let (status, content) = join_every(rt.alloc(), content)?;
-    assert_eq!(rt; status, 3);
-    assert_eq!(rt; content.paths()?.as_str(), "packets\nout/up-1-7.0\n");
-    assert_eq!(rt; content.octets_at("out/up-1-7.0"), FIRST);
-    let lines = format!(in rt.alloc(); "Write\nlpt: out/up-1-8.0: {FULL}\n")?;
-    assert_eq!(rt; content.errors(), lines.as_bytes());
-    Ok(())
+    check_join_each(&rt, rt.alloc(), content, &FULL);
 }
 
+static THERE_ALREADY: Ending = Ending {
+    status: 3,
+    paths: "packets\nout/up-1-8.0\nout/up-1-7.0\n",
+    files: &[("out/up-1-8.0", &[9])],
+    output: &[],
+    errors: "Write\nlpt: out/up-1-8.0 is there already\n",
+};
+
 #[test]
-fn a_file_that_is_there_stays(rt: HostRuntime) -> Result<(), Fail> {
-    let mut content = holding(rt.alloc(), "packets", PARTS)?;
-    let number = content.new_file("out/up-1-8.0")?;
-    content.append(number, &[9])?;
-    let (status, content) = join_every(rt.alloc(), content)?;
-    assert_eq!(rt; status, 3);
-    assert_eq!(rt;
-        content.paths()?.as_str(),
-        "packets\nout/up-1-8.0\nout/up-1-7.0\n"
-    );
-    assert_eq!(rt; content.octets_at("out/up-1-8.0"), [9].as_slice());
-    let lines = b"Write\nlpt: out/up-1-8.0 is there already\n";
-    assert_eq!(rt; content.errors(), lines.as_slice());
-    Ok(())
+fn a_file_that_is_there_stays(rt: HostRuntime) {
+    let mut content = holding(&rt, rt.alloc(), "packets", PARTS);
+    hold(&rt, &mut content, "out/up-1-8.0", &[9]);
+    check_join_each(&rt, rt.alloc(), content, &THERE_ALREADY);
 }
+
+static UNREADABLE: Ending = Ending {
+    status: 3,
+    paths: "packets\nout/up-1-7.0\n",
+    files: &[("out/up-1-7.0", FIRST)],
+    output: &[],
+    errors: "Read\nlpt: packets: other error\n",
+};
 
 // The first message is whole at octet 94, the second at 122.
 #[test]
-fn a_read_that_fails_leaves_what_was_whole(rt: HostRuntime) -> Result<(), Fail> {
-    let mut content = holding(rt.alloc(), "packets", PARTS)?;
+fn a_read_that_fails_leaves_what_was_whole(rt: HostRuntime) {
+    let mut content = holding(&rt, rt.alloc(), "packets", PARTS);
     content.break_reads(100);
-    let (status, content) = join_every(rt.alloc(), content)?;
-    assert_eq!(rt; status, 3);
-    assert_eq!(rt; content.paths()?.as_str(), "packets\nout/up-1-7.0\n");
-    assert_eq!(rt; content.octets_at("out/up-1-7.0"), FIRST);
-    let lines = b"Read\nlpt: packets: other error\n";
-    assert_eq!(rt; content.errors(), lines.as_slice());
-    Ok(())
+    check_join_each(&rt, rt.alloc(), content, &UNREADABLE);
 }
 
+static OUTPUT: Ending = Ending {
+    status: 0,
+    paths: "packets\n",
+    files: &[],
+    output: FIRST,
+    errors: "",
+};
+
+// There is room for the first ten octets.
+static FULL_OUTPUT: Ending = Ending {
+    status: 3,
+    paths: "packets\n",
+    files: &[],
+    output: &[0x18, 0x64, 0xc0, 0x05, 0x00, 0x14, 0x20, 0x06, 0x02, 0x00],
+    errors: "Write\nlpt: standard output: no storage space\n",
+};
+
 #[test]
-fn a_message_goes_to_standard_output(rt: HostRuntime) -> Result<(), Fail> {
-    let (status, content) = join_seven(rt.alloc(), holding(rt.alloc(), "packets", LACKING)?)?;
-    assert_eq!(rt; status, 0);
-    assert_eq!(rt; content.output(), FIRST);
-    assert_eq!(rt; content.errors(), b"".as_slice());
-    let mut full = holding(rt.alloc(), "packets", LACKING)?;
+fn a_message_goes_to_standard_output(rt: HostRuntime) {
+    let content = holding(&rt, rt.alloc(), "packets", LACKING);
+    check_join_seven(&rt, rt.alloc(), content, &OUTPUT);
+    let mut full = holding(&rt, rt.alloc(), "packets", LACKING);
     full.leave_room(10);
-    let (status, content) = join_seven(rt.alloc(), full)?;
-    assert_eq!(rt; status, 3);
-    assert_eq!(rt; content.output(), FIRST.get(..10).unwrap_or(&[]));
-    let lines = format!(in rt.alloc(); "Write\nlpt: standard output: {FULL}\n")?;
-    assert_eq!(rt; content.errors(), lines.as_bytes());
-    Ok(())
+    check_join_seven(&rt, rt.alloc(), full, &FULL_OUTPUT);
 }
 
 // The parts of the first message fill the first 61 octets.
 #[test]
-fn a_message_is_split(rt: HostRuntime) -> Result<(), Fail> {
-    let desk = Desk::new(rt.alloc(), holding(rt.alloc(), "message", FIRST)?);
+fn a_message_is_split(rt: HostRuntime) {
+    let content = holding(&rt, rt.alloc(), "message", FIRST);
+    let desk = Desk::new(rt.alloc(), content);
+    let status = split_message(&desk);
+    let ending = Ending {
+        status: 0,
+        paths: "message\n",
+        files: &[],
+        output: LACKING.get(..61).unwrap_or(&[]),
+        errors: "",
+    };
+    check(&rt, desk, status, &ending);
+}
+
+// The status by which the file `message` is split.
+fn split_message(desk: &Desk) -> u8 {
+    let machine = InMemory { desk, input: &[] };
     let words = SplitOneWords {
         split: SplitWords {
             layout: None,
@@ -197,25 +217,23 @@ fn a_message_is_split(rt: HostRuntime) -> Result<(), Fail> {
         },
         parts: "1-",
     };
-    let machine = InMemory {
-        desk: &desk,
-        input: &[],
-    };
-    let status = tell_end(&machine, split(&machine, &CONFIG, &words));
-    let content = desk.into_content();
-    assert_eq!(rt; status as u8, 0);
-    assert_eq!(rt; content.output(), LACKING.get(..61).unwrap_or(&[]));
-    assert_eq!(rt; content.errors(), b"".as_slice());
-    Ok(())
+    let ended = split(&machine, &CONFIG, &words);
+    tell_end(&machine, ended) as u8
 }
 
+static EXTRACTED: Ending = Ending {
+    status: 0,
+    paths: "",
+    files: &[],
+    output: &[0x11, 0x22, 0x33, 0x44],
+    errors: "lpt: memory 1, address 0: 4 octets\n",
+};
+
 #[test]
-fn a_dump_is_extracted_from_standard_input(rt: HostRuntime) -> Result<(), Fail> {
+fn a_dump_is_extracted_from_standard_input(rt: HostRuntime) {
     let desk = Desk::new(rt.alloc(), Content::new(rt.alloc()));
-    let mut files = Vec::new(rt.alloc());
-    files.push("-")?;
     let words = ExtractWords {
-        files,
+        files: one_path(&rt, rt.alloc(), "-"),
         at: Some(1),
         from: None,
         fill: None,
@@ -223,16 +241,17 @@ fn a_dump_is_extracted_from_standard_input(rt: HostRuntime) -> Result<(), Fail> 
         join: false,
         layout: None,
     };
+    let status = extract_dump(&desk, &words);
+    drop(words);
+    check(&rt, desk, status, &EXTRACTED);
+}
+
+// The status by which that is extracted from a dump's report.
+fn extract_dump(desk: &Desk, words: &ExtractWords<'_>) -> u8 {
     let machine = InMemory {
-        desk: &desk,
+        desk,
         input: DUMPED,
     };
-    let status = tell_end(&machine, extract(&machine, voice(), &CONFIG, &words));
-    drop(words);
-    let content = desk.into_content();
-    assert_eq!(rt; status as u8, 0);
-    assert_eq!(rt; content.output(), [0x11, 0x22, 0x33, 0x44].as_slice());
-    let lines = b"lpt: memory 1, address 0: 4 octets\n";
-    assert_eq!(rt; content.errors(), lines.as_slice());
-    Ok(())
+    let ended = extract(&machine, voice(), &CONFIG, words);
+    tell_end(&machine, ended) as u8
 }

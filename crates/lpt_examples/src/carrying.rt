@@ -36,8 +36,9 @@ pub trait Network {
 /// returns what the spacecraft released: byte for byte the message that was handed in. `None` if it
 /// wasn't whole after the last round, or its reception was broken off.
 ///
-/// Errors: as [`Node::open`] and [`Node::send_part`]; `Memory` also if the network or the
-/// spacecraft has none, or no number for one job more. Then too the nodes are two ends apart.
+/// Errors: those of [`Node::open`] and [`Node::send_part`]. `Memory` is returned also if the
+/// network or the spacecraft has no memory, or the spacecraft no number for one more request.
+/// After an error, too, the nodes are two ends apart.
 pub fn carry<N: Network>(
     ground: &mut Node,
     craft: &mut Node,
@@ -118,8 +119,8 @@ fn begin(ground: &mut Node, name: Name, message: Octets) -> Result<(), NodeFault
     }
 }
 
-// Hands a packet to the spacecraft. The error is `Memory`, also where it has no number for one job
-// more; nothing has changed then.
+// Hands a packet to the spacecraft. The error is `Memory`, also if the spacecraft has no number for
+// one more request; then nothing has changed.
 fn take(craft: &mut Node, packet: &Octets) -> Result<Accepted, NodeFault>
     ensures ok { IfOk result (λ r. (craft.new.at, r)
         ≡ packet_accepted craft.old.side craft.old.config craft.old.at

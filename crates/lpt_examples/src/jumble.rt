@@ -7,12 +7,12 @@ use lpt_node::NodeFault;
 use lpt_packet::Octets;
 use std::alloc::Global;
 
-// One packet of so many is lost; of those that it has, the next is so many places further on.
+// Each LOST-th packet is lost. Of the packets that it has, the next is STRIDE places further on.
 const LOST: u32 = 5;
 
 const STRIDE: u32 = 7;
 
-/// A network that loses each fifth packet, and of the others gives out whichever, late and again.
+/// A network that loses each fifth packet, and gives out the others late, in any order, and again.
 #[derive(Drop)]
 pub struct Jumble {
     // Those that weren't lost.

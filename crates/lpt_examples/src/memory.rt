@@ -27,7 +27,7 @@ pub fn carry_out(
     let shape = memories.shape()?;
     // This service has no numbers for boots or jobs, so both are 0.
     match prepare(alloc, &shape, apid, Ticket::new(0, 0, message)) {
-        // A ticket can't be dropped: it is given up.
+        // A ticket can't be dropped, so it is abandoned.
         Err(ticket) => {
             ticket.abandon();
             Err(AllocError)
