@@ -258,7 +258,7 @@ def outcomes(driver, r: random.Random, case: str, types: tuple[Type, Type], word
     told = passed(found.of_requests, "requests", "telecommand")
     told += [] if found.requests else [f"lpt: no telecommand was found in {path}: give what lpt request wrote"]
     told += passed(found.of_reports, "reports", "telemetry")
-    shared = "requests share source and ID with another: no report tells them apart"
+    shared = "requests share source and ID with another (or are repeats): no report tells them apart"
     told += [f"lpt: {found.shared} {shared}"] if found.shared else []
     driver.verdict(f"{case}: passed over", (told, int(not found.is_done)), (said, status))
     return len(wanted)
