@@ -14,8 +14,8 @@
  *     call runs nothing else writes to memory that it reads or writes. For octets that are already
  *     in their place there are the calls lpt_build_..
  *
- * Calls over different buffers may run at once, on any threads, and in interrupts or signal
- * handlers.
+ * Calls may run at once, on any threads, and in interrupts or signal handlers, if none writes to
+ * memory that another reads or writes.
  */
 #ifndef LPT_H
 #define LPT_H
@@ -68,25 +68,25 @@ enum LptFault {
     LPT_DONE = 0,
 
     /* Octets that are no packet, in the order in which they are tested. */
-    LPT_E_SHORT = 1,
-    LPT_E_VERSION = 2,
-    LPT_E_LENGTH = 3,
-    LPT_E_SEGMENTED = 4,
-    LPT_E_NO_SECONDARY = 5,
-    LPT_E_CHECKSUM = 6,
+    LPT_E_SHORT = 1,        /* they are fewer than 7 */
+    LPT_E_VERSION = 2,      /* they don't begin with packet version 000 */
+    LPT_E_LENGTH = 3,       /* they aren't as many as the header says */
+    LPT_E_SEGMENTED = 4,    /* the sequence flags aren't 11 */
+    LPT_E_NO_SECONDARY = 5, /* the secondary header flag is 0 */
+    LPT_E_CHECKSUM = 6,     /* the last two aren't the checksum of those before */
 
     /* A packet that isn't a message of the kind that is read; tested in the order 12, 13, 11. */
-    LPT_E_PUS_VERSION = 11,
-    LPT_E_WRONG_TYPE = 12,
-    LPT_E_SHORT_HEADER = 13,
+    LPT_E_PUS_VERSION = 11,  /* the PUS version isn't 2 (for a reader: the layout's) */
+    LPT_E_WRONG_TYPE = 12,   /* it is telemetry, and not a telecommand, or the other way round */
+    LPT_E_SHORT_HEADER = 13, /* the data field is shorter than the secondary header */
     /* The packet to be written would have more than 65,542 octets. */
     LPT_E_TOO_LONG = 14,
 
     /* A body that is no part, in the order in which they are tested. */
-    LPT_E_SHORT_PART = 20,
-    LPT_E_ZERO_NUMBER = 21,
-    LPT_E_KIND_NUMBER = 22,
-    LPT_E_PART_LENGTH = 23,
+    LPT_E_SHORT_PART = 20,  /* it has fewer than 4 octets */
+    LPT_E_ZERO_NUMBER = 21, /* the part's number is 0 */
+    LPT_E_KIND_NUMBER = 22, /* a first part's number isn't 1, or another part's number is 1 */
+    LPT_E_PART_LENGTH = 23, /* the part is too short or too long, or ends after octet 65,542 */
     /* A body that is no abortion report. */
     LPT_E_ABORT_BODY = 24,
 
@@ -105,13 +105,15 @@ enum LptFault {
        request that is longer than the link takes. */
     LPT_E_SHORT_MESSAGE = 42,
     LPT_E_LONG_MESSAGE = 43,
-    /* Of an end: as many messages are open as the limit; no message of this name is open. */
+    /* Of an end: 44, as many messages are open as its configuration allows; 45, no message of this
+       name is open, or no reception of it. */
     LPT_E_TOO_MANY = 44,
     LPT_E_NOT_OPEN = 45,
     /* The message has no part of that number. */
     LPT_E_NO_SUCH_PART = 46,
-    /* Of an end: 50, no reception is due; 51, no request is to be read, or executed; 52, the oldest
-       wasn't read; 55, the transaction is open; 56, the clock would pass its greatest value. */
+    /* Of an end: 50, no reception is due; 51, there is no request to read or to execute; 52, the
+       oldest wasn't read; 55, the transaction is open; 56, the clock would pass its greatest
+       value. */
     LPT_E_NOTHING_DUE = 50,
     LPT_E_NO_JOB = 51,
     LPT_E_NOT_READ = 52,
@@ -119,7 +121,7 @@ enum LptFault {
     LPT_E_CLOCK_END = 56,
     /* Of an end, a pass or a reader: an allocation was refused. */
     LPT_E_ALLOCATION = 58,
-    /* Of an end: the types of a request are those of a part. */
+    /* Of an end: a plain request has the service type and message subtype of a part. */
     LPT_E_PART_REQUEST = 60,
 
     /* The first value of an end's configuration that is out of its range. */
@@ -142,25 +144,23 @@ enum LptFault {
     /* Of an end, a pass or a reader: nothing is left of it, as after a longjmp out of a memory
        function; in Python: it was closed. */
     LPT_E_EMPTY = 106,
-    /* Of an end: its count of released requests, or of restarts, is at its end, 2^64. */
+    /* Of an end: its count of released requests, or of restarts, has its greatest value,
+       2^64 - 1. */
     LPT_E_NO_NUMBER = 108,
-    /* Of an end, a pass or a reader: there is nothing to copy, to send, to drop or to tell. */
+    /* Of an end, a pass or a reader: there is nothing to copy, to send or to return. */
     LPT_E_NOTHING = 109,
     /* Of an end: packets that wait must be sent first. */
     LPT_E_UNSENT = 110,
 
-    /* The octets are no state of this end, for the first of these reasons: they are fewer than 45;
-       don't begin with a state's tag; have another version; aren't as many as they say; are the
-       other side's; have another APID, part size or mode; have a wrong checksum, or names out of
-       order. */
-    LPT_E_STATE_SHORT = 111,
-    LPT_E_STATE_TAG = 112,
-    LPT_E_STATE_VERSION = 113,
-    LPT_E_STATE_LENGTH = 114,
-    LPT_E_STATE_SIDE = 115,
-    LPT_E_STATE_CONFIG = 116,
-    LPT_E_STATE_CHECKSUM = 117,
-    LPT_E_STATE_ORDER = 118,
+    /* Octets that are no state of this end, in the order in which they are tested. */
+    LPT_E_STATE_SHORT = 111,    /* they are fewer than 45 */
+    LPT_E_STATE_TAG = 112,      /* they don't begin with a state's tag */
+    LPT_E_STATE_VERSION = 113,  /* they are of another version of states */
+    LPT_E_STATE_LENGTH = 114,   /* they aren't as many as they say */
+    LPT_E_STATE_SIDE = 115,     /* they are a state of the other side */
+    LPT_E_STATE_CONFIG = 116,   /* they have another APID, part size or mode */
+    LPT_E_STATE_CHECKSUM = 117, /* their checksum is wrong */
+    LPT_E_STATE_ORDER = 118,    /* their names are out of order */
 
     /* Of an end: the call is for an end that has its memories itself, and this one's caller has
        them, or the other way round. */
@@ -169,8 +169,8 @@ enum LptFault {
     LPT_E_READ_LENGTH = 120,
     /* A job takes more requests than a pass may have, 16,384. */
     LPT_E_LONG_JOB = 121,
-    /* Of a reader: the text is no layout; the archive has ended; a message may be of parts of
-       several ones, and its packets have no checksum. */
+    /* Of a reader: 122, the text is no layout; 123, the archive has ended; 124, the packets have
+       no checksum, and the parts of this message may come from several messages. */
     LPT_E_LAYOUT = 122,
     LPT_E_ENDED = 123,
     LPT_E_UNSURE = 124,
@@ -178,8 +178,8 @@ enum LptFault {
     LPT_E_CLOCK_START = 125
 };
 
-/* The name of what a call returned, for example "too long" of LPT_E_TOO_LONG; "unknown" for another
-   number. */
+/* Returns the name of what a call returned, for example "too long" for LPT_E_TOO_LONG; "unknown"
+   for another number. */
 static inline const char *lpt_fault_name(uint32_t fault) {
     switch (fault) {
     case LPT_DONE:
@@ -322,15 +322,16 @@ enum LptPartKind {
     LPT_PART_LAST = 3
 };
 
-/* The piece in front of a stream. WHOLE: a packet. In step (see lpt_find_piece) an idle packet is
-   WHOLE too, and so is one with a right checksum that has no secondary header or is a segment; of
-   these lpt_read_packet returns LPT_E_IDLE, LPT_E_NO_SECONDARY or LPT_E_SEGMENTED. DAMAGED, only in
-   step: octets that are no packet, as many as their header says, with a packet or the end after
-   them. STRAY: an octet with which no such piece begins. */
+/* The piece at the front of a stream. WHOLE: a packet. In step (see lpt_find_piece) an idle packet
+   is WHOLE too, and so is a packet with a right checksum that has no secondary header or is a
+   segment; for these lpt_read_packet returns LPT_E_IDLE, LPT_E_NO_SECONDARY or LPT_E_SEGMENTED.
+   DAMAGED, only in step: octets that are no packet, as many as their header says, with a packet or
+   the end of the stream after them. STRAY: an octet with which no such piece begins. */
 enum LptPieceKind { LPT_PIECE_WHOLE = 1, LPT_PIECE_DAMAGED = 2, LPT_PIECE_STRAY = 3 };
 
-/* Why a reception was aborted: it expired or was given up; in strict mode a part came
-   that isn't the next; a part contradicts another. */
+/* Why a reception was aborted: it expired or was given up; in strict mode a part came that is
+   neither the next nor one that was kept (so also if the first part that comes isn't part 1); a
+   part contradicts another. */
 enum LptReason { LPT_REASON_EXPIRED = 1, LPT_REASON_DISCONTINUITY = 2, LPT_REASON_CONFLICT = 3 };
 
 /* The name of an LptReason, for example "expired" of LPT_REASON_EXPIRED; "unknown" for another
@@ -348,16 +349,17 @@ static inline const char *lpt_reason_name(uint32_t reason) {
     }
 }
 
-/* The first two say why a request wasn't accepted, the others why its execution didn't start. */
+/* The failure codes of reports. The first two say why a request wasn't accepted, the others why its
+   execution didn't start. */
 enum LptFailure {
-    LPT_FAILURE_UNKNOWN_TYPE = 1,
-    LPT_FAILURE_BODY = 2,
-    LPT_FAILURE_UNKNOWN_MEMORY = 3,
-    LPT_FAILURE_OUT_OF_RANGE = 4,
-    LPT_FAILURE_CHECKSUM = 5,
-    LPT_FAILURE_REPLY_TOO_LONG = 6,
-    LPT_FAILURE_NO_IDENTIFIER = 7,
-    LPT_FAILURE_TOO_MANY_OPEN = 8
+    LPT_FAILURE_UNKNOWN_TYPE = 1,   /* its service or subtype is unknown */
+    LPT_FAILURE_BODY = 2,           /* its body is malformed */
+    LPT_FAILURE_UNKNOWN_MEMORY = 3, /* the memory doesn't exist */
+    LPT_FAILURE_OUT_OF_RANGE = 4,   /* an area ends past the memory's end */
+    LPT_FAILURE_CHECKSUM = 5,       /* an area of a load has a wrong checksum */
+    LPT_FAILURE_REPLY_TOO_LONG = 6, /* the report would have more than 65,542 octets */
+    LPT_FAILURE_NO_IDENTIFIER = 7,  /* the report goes in parts, and no name for it is free */
+    LPT_FAILURE_TOO_MANY_OPEN = 8   /* the same, and too many messages are open */
 };
 
 /* The name of a failure code; "unknown" for any other code, which a report may have. */
@@ -384,19 +386,19 @@ static inline const char *lpt_failure_name(uint32_t failure) {
     }
 }
 
-/* How many octets the longest packet has, and the longest message that is sent in parts; how many
-   octets of a stream are always enough for lpt_find_piece; and how many numbers of room make
+/* The length of the longest packet, and of the longest message that is sent in parts; how many
+   octets of a stream are always enough for lpt_find_piece; how many numbers of `room` make
    lpt_count_strays quick. */
 enum { LPT_LONGEST_PACKET = 65542, LPT_LOOKAHEAD = 131084, LPT_STRAY_ROOM = 2049 };
 
 /* ---- packets ---- */
 
-/* The packet error control over these octets. */
+/* Returns the packet error control (the checksum) of these octets. */
 LPT_MUST_USE
 uint16_t lpt_crc16(const uint8_t *octets, size_t octets_len);
 
-/* The packet error control of octets that come in pieces: `crc` is what the pieces before this one
-   gave, or 0xffff before the first. */
+/* The same for octets that come in pieces: `crc` is the result for the pieces before this one, or
+   0xffff for the first. */
 LPT_MUST_USE
 uint16_t lpt_crc16_more(uint16_t crc, const uint8_t *octets, size_t octets_len);
 
@@ -487,8 +489,9 @@ typedef struct LptTc {
     size_t len;
 } LptTc;
 
-/* Reads the octets of a whole packet as a telecommand: as lpt_read_packet, and then
-   LPT_E_WRONG_TYPE, LPT_E_SHORT_HEADER or LPT_E_PUS_VERSION. *out is written at LPT_DONE. */
+/* Reads the octets of a whole packet as a telecommand. Returns what lpt_read_packet returns, or, if
+   that is LPT_DONE, LPT_E_WRONG_TYPE, LPT_E_SHORT_HEADER or LPT_E_PUS_VERSION, the first that
+   applies. *out is written at LPT_DONE. */
 LPT_MUST_USE
 uint32_t lpt_read_tc(const uint8_t *octets, size_t octets_len, LptTc *out);
 
@@ -537,10 +540,10 @@ LPT_MUST_USE
 uint32_t lpt_read_tm(const uint8_t *octets, size_t octets_len, LptTm *out);
 
 /*
- * Writes telemetry's whole packet to the front of a buffer, its status as 0 whatever the head's is,
- * and leaves the rest of the buffer as it was. LPT_DONE; LPT_E_RANGE for an APID above 2046, a
- * count above 16,383 or a status above 15; LPT_E_TOO_LONG; LPT_E_ROOM. At LPT_DONE and LPT_E_ROOM
- * *needed is the packet's length, 19 more than the body's.
+ * Writes telemetry's whole packet to the front of a buffer, and leaves the rest of the buffer as it
+ * was. The time reference status is written as 0, whatever the head says. LPT_DONE; LPT_E_RANGE for
+ * an APID above 2046, a count above 16,383 or a status above 15; LPT_E_TOO_LONG; LPT_E_ROOM. At
+ * LPT_DONE and LPT_E_ROOM *needed is the packet's length, 19 more than the body's.
  */
 LPT_MUST_USE
 uint32_t lpt_write_tm(const LptTmHead *head, const uint8_t *body, size_t body_len, uint8_t *out,
@@ -554,14 +557,15 @@ uint32_t lpt_build_tm(const LptTmHead *head, size_t body_len, uint8_t *out, size
 
 /* ---- parts of large messages ---- */
 
-/* What a message of this service and subtype is, in a packet of this kind (LPT_PACKET_TM or
-   LPT_PACKET_TC): LPT_PART_FIRST, LPT_PART_INTERMEDIATE or LPT_PART_LAST; LPT_PART_NONE if it
-   carries no part, or there is no such kind of packets. */
+/* Returns which kind of part a message of this service and subtype carries in a packet of this kind
+   (LPT_PACKET_TM or LPT_PACKET_TC): LPT_PART_FIRST, LPT_PART_INTERMEDIATE or LPT_PART_LAST;
+   LPT_PART_NONE if it carries none, or if there is no such kind of packet. */
 LPT_MUST_USE
 uint32_t lpt_part_kind(uint32_t packet_kind, uint8_t service, uint8_t subtype);
 
-/* How many parts of this size a message has; 1 also if it fits in one, although it isn't sent in
-   parts then; 0 if it is empty or has more than 65,542 octets, or the size isn't 4 to 1,024. */
+/* Returns how many parts of this size a message has: 1 if it isn't longer than a part, although it
+   isn't sent in parts then; 0 if it is empty or has more than 65,542 octets, or if the size isn't 4
+   to 1,024. */
 LPT_MUST_USE
 uint32_t lpt_part_count(size_t message_len, uint32_t part_size);
 
@@ -611,7 +615,7 @@ LPT_MUST_USE
 uint32_t lpt_build_part(uint32_t kind, uint16_t id, uint16_t number, size_t octets_len,
                         uint32_t part_size, uint8_t *out, size_t out_len, size_t *needed);
 
-/* What an abortion report says: of which transaction, and why, an LptReason. */
+/* What an abortion report says: which transaction was aborted, and why (an LptReason). */
 typedef struct LptAbort {
     uint16_t id;
     uint16_t reason;
@@ -634,20 +638,20 @@ uint32_t lpt_write_abort(uint16_t id, uint16_t reason, uint8_t *out, size_t out_
 /* What a verification report says. */
 typedef struct LptReport {
     uint32_t request; /* the request ID */
-    uint16_t failed;  /* 1 of a failure, else 0 */
-    uint16_t code;    /* the failure code as it stands there, any 16 bits; 0 of a success */
+    uint16_t failed;  /* 1 if it is the report of a failure, otherwise 0 */
+    uint16_t code;    /* the failure code that it has, any 16 bits; 0 for a success */
 } LptReport;
 
-/* Reads a message's body as the report of this subtype: 1, 3, 7 of success, 2, 4 of failure.
+/* Reads a message's body as the report of this subtype: 1, 3 or 7 of success, 2 or 4 of failure.
    LPT_DONE, and *out is written; or LPT_E_NO_REPORT. */
 LPT_MUST_USE
 uint32_t lpt_read_report(uint8_t subtype, const uint8_t *body, size_t body_len, LptReport *out);
 
 /*
  * Writes the body of the report of this subtype to the front of a buffer, and leaves the rest of it
- * as it was: 1, 3 or 7 with code 0, 2 or 4 with a code of 1 to 8. LPT_DONE; LPT_E_RANGE for others;
- * LPT_E_ROOM. At LPT_DONE and LPT_E_ROOM *needed is the body's length, 4 of a success and 6 of a
- * failure.
+ * as it was. Subtypes 1, 3 and 7 have code 0, and subtypes 2 and 4 a code of 1 to 8. LPT_DONE;
+ * LPT_E_RANGE for others; LPT_E_ROOM. At LPT_DONE and LPT_E_ROOM *needed is the body's length: 4 of
+ * a success, 6 of a failure.
  */
 LPT_MUST_USE
 uint32_t lpt_write_report(uint8_t subtype, uint32_t request, uint16_t code, uint8_t *out,
@@ -673,10 +677,10 @@ typedef struct LptRange {
 } LptRange;
 
 /*
- * Writes the body of a dump, subtype 5, to the front of a buffer, whose rest stays: it asks for the
- * octets at these places of this memory, in this order. LPT_DONE; LPT_E_BAD_AREA for no place, more
- * than 255, or one without octets; LPT_E_ROOM. At LPT_DONE and LPT_E_ROOM *needed is the body's
- * length, 2 and 6 for each place.
+ * Writes the body of a dump, subtype 5, to the front of a buffer, and leaves the rest of it as it
+ * was. The dump asks for the octets at these places of this memory, in this order. LPT_DONE;
+ * LPT_E_BAD_AREA for no place, more than 255, or one without octets; LPT_E_ROOM. At LPT_DONE and
+ * LPT_E_ROOM *needed is the body's length, 2 and 6 for each place.
  */
 LPT_MUST_USE
 uint32_t lpt_write_dump(uint8_t memory, const LptRange *ranges, size_t ranges_len, uint8_t *out,

@@ -15,13 +15,13 @@
  *   - only one call at a time uses an end, and none is made in an interrupt or a signal handler.
  *     Another thread may use an end if a lock, or the start or end of a thread, comes in between.
  *     Calls on different ends may run at once only if the three memory functions may;
- *   - each part or plain request that is handed to lpt_end_packet was made by the other end (or in
- *     its place by a pass of lpt_ground.h), and each part was made after this end last freed its
- *     name: nobody forges packets, no damage passes the checksum, and no octets within a packet are
- *     taken for a packet on the link;
+ *   - each part or plain request that is handed to lpt_end_packet was made by the other end (or, if
+ *     ground has no end on this link, by a pass of lpt_ground.h), and each part was made after this
+ *     end last freed its name: nobody forges packets, no damage passes the checksum, and no octets
+ *     within a packet are taken for a packet on the link;
  *   - the rules at lpt_end_new, lpt_end_packet and lpt_end_retire, for the two ends of a link;
  *   - a program that has the memories itself reads them as lpt_end_access says, before
- *     lpt_end_execute_given, and writes them before that call, or after it and before it executes
+ *     lpt_end_execute_given. It writes them before that call, or after it and before it executes
  *     another request;
  *   - the program has the three memory functions, LptTried rattle_alloc(..) and so on, and they do
  *     what their comments say.
@@ -105,14 +105,18 @@ void lpt_end_free(LptEnd *end);
 enum LptOutcomeKind {
     LPT_OUTCOME_KEPT = 1,           /* a part: name; first is its number */
     LPT_OUTCOME_AGAIN = 2,          /* a part that was kept before: name; first is its number */
-    LPT_OUTCOME_RELEASED = 3,       /* the last missing part: name; first is the message's length */
+    LPT_OUTCOME_RELEASED = 3,       /* the last missing part, so the message is released: name;
+                                       first is the message's length */
     LPT_OUTCOME_PLAIN_RELEASED = 4, /* a telecommand that is no part: first is its length */
     LPT_OUTCOME_REPORT_NOTED = 5,   /* telemetry that is no part: first is its service type, second
                                        its message subtype */
     LPT_OUTCOME_ABORT_NOTED = 6,    /* the report of an abortion: name; first is the LptReason */
-    LPT_OUTCOME_BROKEN = 7,         /* a part that aborted its reception: name; first is the
-                                       LptReason */
-    LPT_OUTCOME_IGNORED = 8         /* the packet changed nothing: first is the LptWhy */
+    LPT_OUTCOME_BROKEN = 7,         /* a part that aborted its reception or, in strict mode, came
+                                       first and isn't part 1, which closes the name as well: name;
+                                       first is the LptReason */
+    LPT_OUTCOME_IGNORED = 8         /* the packet changed nothing, except that the message that was
+                                       released last can't be copied any more: first is the
+                                       LptWhy */
 };
 
 /* The name of an outcome's kind, for example "kept" of LPT_OUTCOME_KEPT; "unknown" for another
@@ -193,8 +197,8 @@ uint32_t lpt_end_packet(LptEnd *end, const uint8_t *octets, size_t octets_len, L
 
 /*
  * Copies the message that the last packet released to the front of a buffer, and leaves the rest of
- * the buffer as it was. LPT_DONE; LPT_E_NOTHING; LPT_E_ROOM. At LPT_DONE and LPT_E_ROOM *needed is
- * the message's length.
+ * the buffer as it was. LPT_DONE; LPT_E_NOTHING if it released none; LPT_E_ROOM. At LPT_DONE and
+ * LPT_E_ROOM *needed is the message's length, at most 65,542.
  */
 LPT_MUST_USE
 uint32_t lpt_end_released(LptEnd *end, uint8_t *out, size_t out_len, size_t *needed);
@@ -220,7 +224,8 @@ uint32_t lpt_end_give_up(LptEnd *end, const LptName *name);
 
 /*
  * Opens a message, so that it can be sent in parts under a free name. The end copies it.
- * LPT_DONE; LPT_E_IN_USE; LPT_E_SHORT_MESSAGE; LPT_E_LONG_MESSAGE; LPT_E_TOO_MANY;
+ * LPT_DONE; LPT_E_IN_USE if the name isn't free; LPT_E_SHORT_MESSAGE if the message isn't longer
+ * than a part (lpt_end_plain sends a request in one packet); LPT_E_LONG_MESSAGE; LPT_E_TOO_MANY;
  * LPT_E_ALLOCATION.
  */
 LPT_MUST_USE
@@ -251,13 +256,13 @@ uint32_t lpt_end_finish(LptEnd *end, const LptName *name);
 
 /*
  * Copies the next packet to be sent to the front of a buffer, and leaves the rest of the buffer as
- * it was. LPT_DONE; LPT_E_NOTHING; LPT_E_ROOM. At LPT_DONE and LPT_E_ROOM *needed is the packet's
- * length. The packet stays the next one until lpt_end_sent.
+ * it was. LPT_DONE; LPT_E_NOTHING if none waits; LPT_E_ROOM. At LPT_DONE and LPT_E_ROOM *needed is
+ * the packet's length, at most part_size and 23. The packet stays the next one until lpt_end_sent.
  */
 LPT_MUST_USE
 uint32_t lpt_end_outgoing(LptEnd *end, uint8_t *out, size_t out_len, size_t *needed);
 
-/* Drops the next packet to be sent, because it was sent. LPT_DONE; LPT_E_NOTHING. */
+/* Drops the next packet to be sent, because it was sent. LPT_DONE; LPT_E_NOTHING if none waits. */
 LPT_MUST_USE
 uint32_t lpt_end_sent(LptEnd *end);
 
@@ -267,7 +272,7 @@ uint32_t lpt_end_sent(LptEnd *end);
 enum LptAppliedKind {
     LPT_APPLIED_CARRIED_OUT = 1,
     LPT_APPLIED_OPENED = 2, /* carried out; its report is the open message `name`, sent in parts */
-    LPT_APPLIED_SILENT = 3, /* no telecommand of the APID, or dropped: nothing was done */
+    LPT_APPLIED_SILENT = 3, /* nothing was done: it is no telecommand of the APID, or was dropped */
     LPT_APPLIED_REFUSED = 4 /* it failed, and changed nothing: `value` is the LptFailure */
 };
 
@@ -295,8 +300,8 @@ typedef struct LptApplied {
     uint32_t value;
 } LptApplied;
 
-/* Reads the oldest released request that wasn't read yet. LPT_DONE; LPT_E_NO_JOB, as always on
-   ground; LPT_E_ALLOCATION. */
+/* Reads the oldest released request that wasn't read yet: finds out what it asks, so that
+   lpt_end_execute can execute it. LPT_DONE; LPT_E_NO_JOB, as always on ground; LPT_E_ALLOCATION. */
 LPT_MUST_USE
 uint32_t lpt_end_read(LptEnd *end);
 
@@ -343,7 +348,8 @@ uint32_t lpt_end_drop(LptEnd *end);
  * returns what became of it. Its reports wait to be sent. A report that is too long for a packet is
  * opened as a message.
  * LPT_DONE, and *applied is written; LPT_E_ELSEWHERE if the caller has the memories; LPT_E_NO_JOB,
- * as always on ground; LPT_E_NOT_READ; LPT_E_UNSENT; LPT_E_ALLOCATION.
+ * as always on ground; LPT_E_NOT_READ; LPT_E_UNSENT while a packet waits to be sent;
+ * LPT_E_ALLOCATION.
  */
 LPT_MUST_USE
 uint32_t lpt_end_execute(LptEnd *end, LptApplied *applied);
@@ -403,10 +409,10 @@ typedef struct LptAccess {
 
 /*
  * Returns one access that the oldest request, which must have been read, makes to a memory, by the
- * access's number from 0. A load writes its areas, and a dump and a check read theirs, in this
- * order. Each access lies within its memory. A request with a fault makes none. LPT_DONE, and
- * *access is written; LPT_E_NO_JOB, as always on ground; LPT_E_NOT_READ; LPT_E_NOTHING if there are
- * no more.
+ * access's number from 0. A load writes its areas, and a dump or a check reads its areas, in the
+ * order of the request. Each access lies within its memory. A request with a fault makes none.
+ * LPT_DONE, and *access is written; LPT_E_NO_JOB, as always on ground; LPT_E_NOT_READ;
+ * LPT_E_NOTHING if there are no more.
  */
 LPT_MUST_USE
 uint32_t lpt_end_access(LptEnd *end, size_t number, LptAccess *access);
@@ -423,11 +429,10 @@ uint32_t lpt_end_access_octets(LptEnd *end, size_t number, uint8_t *out, size_t 
 
 /*
  * Executes the oldest request, which must have been read, if the caller has the memories, and
- * returns what became of it. The caller passes the octets that the request reads, those of each
- * access behind those of the one before; none if it reads nothing. The caller either has written
- * what the request writes before this call, or has copied it and writes it before it executes
- * another request: docs/C.md says how either survives a reset. Its reports wait to be sent, as with
- * lpt_end_execute.
+ * returns what became of it. The caller passes the octets that the request reads, in the order of
+ * its accesses. If it reads nothing, these are none. The caller has written what the request writes
+ * before this call, or has copied it and writes it before it executes another request: docs/C.md
+ * says how either order survives a reset. The reports wait to be sent, as with lpt_end_execute.
  * LPT_DONE, and *applied is written; LPT_E_ELSEWHERE if the end has the memories; LPT_E_NO_JOB, as
  * always on ground; LPT_E_NOT_READ; LPT_E_READ_LENGTH if the request reads more octets than these,
  * or fewer; LPT_E_UNSENT; LPT_E_ALLOCATION.
@@ -439,8 +444,8 @@ uint32_t lpt_end_execute_given(LptEnd *end, const uint8_t *octets, size_t octets
 /*
  * Refuses the oldest request, which must have been read, in place of executing it: it is never
  * executed, and a report that it failed, with the failure code of this number (LptFailure, 1 to 8),
- * waits to be sent to its source. *applied is as if an execution was refused with that code. Use it
- * if the request can't be carried out here: it reads more than the program can at once, or its
+ * waits to be sent to its source. *applied is as after an execution that failed with that code. Use
+ * it if the request can't be carried out here: it reads more than the program can at once, or its
  * memory can't be read or written. If some of it was written, write the old octets back first. If
  * the message is no telecommand of the end's APID, there is no report. Less is proved about
  * programs that refuse or drop requests themselves: docs/C.md says what.
@@ -452,8 +457,8 @@ uint32_t lpt_end_refuse(LptEnd *end, uint16_t number, LptApplied *applied);
 
 /*
  * Drops the oldest request, which must have been read, in place of executing it: it is never
- * executed, and there is no report of this (lpt_end_refuse makes one). Put back first what it
- * overwrote.
+ * executed, and there is no report of this (lpt_end_refuse makes one). If some of it was written,
+ * write the old octets back first.
  * LPT_DONE; LPT_E_NO_JOB, as always on ground; LPT_E_NOT_READ.
  */
 LPT_MUST_USE
@@ -472,9 +477,9 @@ LPT_MUST_USE
 uint32_t lpt_end_tick_many(LptEnd *end, uint32_t ticks);
 
 /* Sets the clock back by several ticks, and with it each reception's `due`, so that each is due
-   after as many ticks as before. Everything else stays. So a clock never has to end. It can go back
-   by at most its value, and, if receptions are open, by at most the least `due` of an LptReception
-   less the timeout: no tick at which a reception last got a part may go below 0.
+   after as many ticks as before. Everything else stays. With this call the clock need never end. It
+   can go back by at most its value, and, if receptions are open, by at most the least `due` of an
+   LptReception less the timeout: no tick at which a reception last got a part may go below 0.
    LPT_DONE, also for 0 ticks; LPT_E_CLOCK_START if it would go back further. */
 LPT_MUST_USE
 uint32_t lpt_end_rebase(LptEnd *end, uint32_t ticks);
@@ -513,7 +518,7 @@ uint32_t lpt_end_name(LptEnd *end, uint32_t direction, const LptName *name, uint
  * ordered by source, and then by identifier. To list all, begin with {0, 0}, and go on with the
  * name after the last one. LPT_DONE, and *name is it; LPT_E_RANGE for another direction;
  * LPT_E_NOTHING if no name is closed from there on. Its time grows with the names in use: with
- * 65,536 it takes half a millisecond if they have one source, and 4 if each has its own.
+ * 65,536 it takes half a millisecond if they have one source, and 4 ms if each has its own.
  */
 LPT_MUST_USE
 uint32_t lpt_end_closed(LptEnd *end, uint32_t direction, const LptName *from, LptName *name);
@@ -522,7 +527,8 @@ uint32_t lpt_end_closed(LptEnd *end, uint32_t direction, const LptName *from, Lp
 typedef struct LptView {
     uint32_t clock;    /* in ticks */
     uint32_t due;      /* 1 if lpt_end_expire has a reception to give up, otherwise 0 */
-    uint64_t next_due; /* the clock's value at which the first is due; 0 if none is open */
+    uint64_t next_due; /* the clock's value at which the first reception is due; 0 if none is
+                          open */
     size_t outgoing;   /* packets that wait to be sent */
     size_t unread;     /* requests that weren't read yet */
     size_t requests;   /* requests that weren't executed yet, read or not */
@@ -561,7 +567,7 @@ uint32_t lpt_end_missing(LptEnd *end, const LptName *name, uint16_t from, uint16
 typedef struct LptSender {
     LptName name;
     uint32_t parts; /* how many it has */
-    size_t len;     /* its octets */
+    size_t len;     /* how many octets it has */
 } LptSender;
 
 /* Returns a message that is open for sending by its number from 0, in the same order. LPT_DONE, and
@@ -570,8 +576,8 @@ LPT_MUST_USE
 uint32_t lpt_end_sender(LptEnd *end, size_t number, LptSender *sender);
 
 /*
- * Restarts the end. It closes its open messages, whose names stay in use, drops its open
- * receptions, whose names are free again, and the released requests that it keeps, and counts its
+ * Restarts the end. It closes its open messages, whose names stay in use. It drops its open
+ * receptions, whose names are free again, and the requests that weren't executed. It counts its
  * packets from 0. Other names, the clock and the memories stay as they are, and so do the message
  * that was released last and the packets that wait to be sent.
  * LPT_DONE; LPT_E_NO_NUMBER.
@@ -583,25 +589,26 @@ uint32_t lpt_end_restart(LptEnd *end);
 
 /*
  * Copies the state of the end to the front of a buffer, and leaves the rest of the buffer as it
- * was. The state is the names that the end knows, its clock, and how often it was restarted.
+ * was. The state is the names that are closed, those of messages that are open for sending, the
+ * clock, and how often the end was restarted. The names of open receptions aren't in it.
  * lpt_end_memory copies memories. docs/FORMATS.md has the octets, and docs/C.md says when to save
  * them. The call allocates nothing.
  * LPT_DONE; LPT_E_ROOM. At LPT_DONE and LPT_E_ROOM *needed is the state's length: 45, and 6 for
- * each run of names in use: identifiers of one source and direction that follow one another. There
- * are at most as many runs as names in use, and at most 32,768 of a source and direction.
+ * each run of these names: identifiers of one source and direction that follow one another. There
+ * are at most as many runs as such names, and at most 32,768 of a source and direction.
  */
 LPT_MUST_USE
 uint32_t lpt_end_state(LptEnd *end, uint8_t *out, size_t out_len, size_t *needed);
 
 /*
- * Restores an end from a state, in place of lpt_end_new. It is as the old end would be after
- * lpt_end_restart, with nothing released and nothing to be sent. The memories are
- * those of that end, in any order. The clock is the state's, and the configuration's is ignored;
- * the timeout and the limits are the configuration's.
+ * Restores an end from a state, in place of lpt_end_new. The end is as the old one would be after
+ * lpt_end_restart, with nothing released and nothing to be sent. Pass the memories of the old end,
+ * in any order. The clock is the state's, and the configuration's is ignored; the timeout and the
+ * limits are the configuration's.
  * LPT_DONE, and *end is its address; LPT_E_RANGE for another side or mode; LPT_E_CONFIG_APID to
  * LPT_E_CONFIG_OUTGOING; LPT_E_MEMORIES as with lpt_end_new; LPT_E_STATE_SHORT to
- * LPT_E_STATE_CHECKSUM, in that order; LPT_E_NO_NUMBER if the state's start was the last possible;
- * LPT_E_STATE_ORDER; LPT_E_ALLOCATION.
+ * LPT_E_STATE_CHECKSUM, in that order; LPT_E_NO_NUMBER if the state's number of restarts is the
+ * greatest; LPT_E_STATE_ORDER; LPT_E_ALLOCATION.
  */
 LPT_MUST_USE
 uint32_t lpt_end_resume(LptEnd **end, uint32_t side, const LptConfig *config, const uint8_t *state,

@@ -12,8 +12,8 @@
  *     lpt_ground_packet, before you ask again;
  *   - LPT_STEP_LISTEN: wait for a packet, and pass it to lpt_ground_packet. If none comes for so
  *     long that none can be on its way any more, for example for a second, call lpt_ground_quiet:
- *     then a new round begins. (A call that comes too early costs packets, and counts as a wait
- *     for `tries`, but nothing that is proved depends on it);
+ *     then a new round begins. If you call it too early, it costs packets, and counts as a wait for
+ *     `tries`; nothing that is proved depends on it;
  *   - any other step: the pass is at its end.
  *
  * Each call returns LPT_DONE, or the number of the first thing that is wrong, in the order of its
@@ -43,18 +43,18 @@ enum LptJobKind { LPT_JOB_LOAD = 1, LPT_JOB_DUMP = 2, LPT_JOB_CHECK = 3 };
 typedef struct LptJob {
     uint32_t kind;      /* an LptJobKind */
     uint8_t memory;     /* the memory's identifier */
-    uint8_t flags;      /* acknowledgement flags of the requests: of loads 8, so that completion is
-                           reported, or 10 (8 and 2), so that a report of the start settles a load
-                           too; of dumps and checks 0. Other flags up to 15 may be added */
+    uint8_t flags;      /* acknowledgement flags of the requests. For loads 8, so that completion is
+                           reported; or 10 (8 and 2), so that a report of the start settles a load
+                           too. For dumps and checks 0. Other flags up to 15 may be added */
     uint16_t apid;      /* of all packets, 0 to 2046 */
     uint16_t source;    /* the job's own: reports go to it. No other request may have had it, unless
                            this job continues one that was stopped */
     uint16_t count;     /* the first request's sequence count, 0 to 16,383 */
-    uint32_t part_size; /* of the link: for loads 4 to 1024, dumps 7 to 1024, checks 6 to 1024, as a
-                           report must fit one packet. A request loads at most part_size octets,
-                           or dumps at most part_size - 6, or checks at most 4,000 */
-    uint32_t tries;     /* at least 1: the pass is given up after so many waits in a row that
-                           settled nothing */
+    uint32_t part_size; /* of the link: for loads 4 to 1024, for dumps 7 to 1024, for checks 6 to
+                           1024, because a report must fit one packet. A request loads at most
+                           part_size octets, or dumps part_size - 6, or checks 4,000 */
+    uint32_t tries;     /* at least 1: after so many waits in a row that settled nothing the pass
+                           is given up */
 } LptJob;
 
 /* Octets of a memory. */
@@ -64,10 +64,11 @@ typedef struct LptPlace {
 } LptPlace;
 
 /*
- * Makes the pass of a job of these places. The octets of a load are in `content`, those of each
- * place behind those of the place before, and are copied; a dump and a check don't read `content`.
- * Each place is cut into requests of as many octets as LptJob says at part_size; the last one of a
- * place has the rest. Requests are numbered from 0 through all places.
+ * Makes the pass of a job of these places. The octets of a load are in `content`, place after
+ * place, and are copied; a dump and a check don't read `content`. Each place is cut into requests
+ * of as many octets as LptJob says at part_size; the last one of a place has the rest. Requests are
+ * numbered from 0 through all places. Places of a load that share addresses should have the same
+ * octets there: otherwise nothing is proved of the memory.
  * LPT_DONE, and *pass is its address; LPT_E_RANGE for a number of the job that is out of its range,
  * and for flags of a load without 8; LPT_E_BAD_AREA for no place, and for one without octets or
  * with some behind the last address; LPT_E_LONG_JOB for more than 16,384 requests; LPT_E_RANGE if
@@ -86,10 +87,10 @@ void lpt_ground_free(LptGround *pass);
    still complete the pass. If such a packet comes after LPT_STEP_GIVEN_UP, lpt_ground_quiet begins
    a new round. */
 enum LptStep {
-    LPT_STEP_SEND = 1,      /* it sends a packet */
-    LPT_STEP_LISTEN = 2,    /* it listens */
-    LPT_STEP_COMPLETED = 3, /* each load was carried out, each dump or check answered */
-    LPT_STEP_FAILED = 4,    /* each request is settled, and some failed */
+    LPT_STEP_SEND = 1,      /* a packet is to be sent */
+    LPT_STEP_LISTEN = 2,    /* a packet is to be awaited */
+    LPT_STEP_COMPLETED = 3, /* each load was reported as carried out, each dump or check answered */
+    LPT_STEP_FAILED = 4,    /* each request is settled, and some were reported as failed */
     LPT_STEP_GIVEN_UP = 5,  /* some requests are open, and as many waits in a row as `tries` says
                                settled nothing */
     LPT_STEP_CUT_OFF = 6    /* some requests are open, and lpt_ground_close was called */
@@ -136,17 +137,20 @@ uint32_t lpt_ground_sent(LptGround *pass);
 /* ---- what it hears ---- */
 
 /*
- * Takes a packet that came. A report to the job's source settles an open request if it says that
- * the request failed, or that the load completed (if the flags have 2, that it started), or if it
- * has the octets or the checksum that were asked for. Any other packet is ignored.
+ * Takes a packet that came. Telemetry of the job's APID to its source settles an open request if it
+ * reports that the request failed (TM[1,2] or TM[1,4]); of a load, if it reports that it completed
+ * (TM[1,7]) or, if the flags have 2, started (TM[1,3]); of a dump or a check, if it has the octets
+ * or the checksum that were asked for. Any other packet is ignored; so are TM[1,6] and TM[1,8],
+ * failures that this project's spacecraft doesn't report.
  * LPT_DONE; LPT_E_ALLOCATION.
  */
 LPT_MUST_USE
 uint32_t lpt_ground_packet(LptGround *pass, const uint8_t *octets, size_t octets_len);
 
-/* Notes that no packet came while the program waited: the pass is given up (as `tries` says), or a
-   round begins. A round sends all open requests, and all of them again until it has sent at least 8
-   packets (3 open requests make 9 packets). If the pass is at its end, no round begins, except
+/* Notes that no packet came while the program waited: a round begins, or the pass is given up (as
+   `tries` says). This round sends all open requests, and all of them again until it has sent at
+   least 8 packets (3 open requests make 9 packets); the first round, with which the pass begins,
+   sends each request once. If the pass is at its end, no round begins, except
    after LPT_STEP_GIVEN_UP if a packet settled a request since the last call. It returns
    LPT_DONE. */
 LPT_MUST_USE
@@ -161,9 +165,9 @@ uint32_t lpt_ground_close(LptGround *pass);
 /* How many requests a pass has, and what became of them. */
 typedef struct LptProgress {
     size_t requests;  /* all of them */
-    size_t completed; /* were carried out, and dumps and checks answered */
-    size_t failed;
-    size_t left; /* are open: nothing is known of them */
+    size_t completed; /* loads reported as carried out, dumps and checks that were answered */
+    size_t failed;    /* requests reported as failed */
+    size_t left;      /* open ones, which no report has settled */
 } LptProgress;
 
 /* Returns how far the pass is: LPT_DONE, and *progress is written. */
@@ -210,8 +214,9 @@ uint32_t lpt_ground_dumped(LptGround *pass, size_t number, uint8_t *out, size_t 
 /*
  * Returns whether the checksums that checks got are those of this content: the octets of the
  * places, one place behind the other, and nothing more. It returns LPT_DONE, and *agrees is 1 if
- * they are, otherwise 0, and also 0 while a check is open, or if one failed. One differing area in
- * 65,536 is taken for the same. Of a job of loads or dumps the result says nothing.
+ * they are, otherwise 0, and also 0 while a check is open, or if one failed. A checksum has 16
+ * bits, so about one differing area in 65,536 is taken for the same. For a job of loads or dumps
+ * the result says nothing.
  */
 LPT_MUST_USE
 uint32_t lpt_ground_agrees(LptGround *pass, const uint8_t *content, size_t content_len,

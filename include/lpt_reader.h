@@ -9,14 +9,15 @@
  * lpt_reader_next until that returns LPT_E_MORE. After the last octets it calls lpt_reader_end, and
  * then lpt_reader_next until the item is LPT_ITEM_END. The items don't depend on how the archive
  * was cut into pieces. When lpt_reader_next has returned LPT_E_MORE, a reader holds fewer than
- * LPT_LOOKAHEAD + n octets, where n is the length of the last piece. Its buffer doubles, so a pool
- * needs 4 * (LPT_LOOKAHEAD + n).
+ * LPT_LOOKAHEAD + n octets, if the last piece had n. Its buffer doubles when it grows, so a pool
+ * needs 4 * (LPT_LOOKAHEAD + n); and more if the reader joins messages, because it keeps their
+ * parts (lpt_reader_new_join).
  *
  * Each call returns LPT_DONE, or the number of the first thing that is wrong, in the order of its
  * comment. If it isn't LPT_DONE, the call has written nothing through a pointer but what its
- * comment says. LPT_E_ALLOCATION (out of memory) comes last; then nothing has changed (but see
- * lpt_reader_message). The caller promises what include/lpt_end.h says about addresses, threads and
- * memory.
+ * comment says, and the reader is as it was, except that after LPT_E_MORE there is no last item,
+ * and that lpt_reader_message may lose its parts (LPT_E_ALLOCATION, out of memory, which comes
+ * last). The caller promises what include/lpt_end.h says about addresses, threads and memory.
  */
 #ifndef LPT_READER_H
 #define LPT_READER_H
@@ -35,8 +36,9 @@ typedef struct LptReader LptReader;
 /*
  * Makes a reader of an archive, which reads from its beginning. If `layout_len` is 0, packets have
  * the profile's headers, with parts of `part_size` octets, 4 to 1024. Otherwise they are as this
- * text of a layout file says, and `part_size` is ignored, because the text has its own. White space
- * alone is such a text: that of the profile's headers with parts of any size.
+ * text of a layout file says, and `part_size` is ignored, because the text has its own. A text of
+ * white space alone means the profile's headers, with parts of any size. The reader finds packets
+ * by their checksums if both tables of the layout have one, otherwise by their lengths alone.
  * LPT_DONE, and *reader is its address; without a text LPT_E_RANGE for another part size; with one
  * LPT_E_LAYOUT if it isn't UTF-8, or not what `lpt list --layout` takes; LPT_E_ALLOCATION.
  */
@@ -60,8 +62,10 @@ uint32_t lpt_reader_end(LptReader *reader);
 
 /* ---- what they contain ---- */
 
-/* What an item is: the archive's end; a packet with a secondary header of the layout; an idle
-   packet; a piece in step (lpt_find_piece) that fails a test: LptItem says which. */
+/* What an item is. END: the archive's end. PACKET: a packet with a secondary header of the layout.
+   IDLE: an idle packet. FAULTY: a piece in step (lpt_find_piece) that fails a test of packets; or
+   a packet, in step or not, whose secondary header isn't one of the layout. `fault` of LptItem says
+   which test it fails. */
 enum LptItemKind {
     LPT_ITEM_END = 0,
     LPT_ITEM_PACKET = 1,
@@ -75,17 +79,17 @@ enum { LPT_PART_UNREAD = 4 };
 
 /* The next item of the archive. A field that its kind doesn't have is 0. */
 typedef struct LptItem {
-    uint64_t place;   /* how many octets of the archive stand in front of it; 2^64 - 1 if more do */
-    uint64_t stray;   /* how many of them, right in front of it, are no packet */
-    size_t length;    /* its octets; the end has none */
+    uint64_t place;   /* how many octets of the archive are in front of it, at most 2^64 - 1 */
+    uint64_t stray;   /* how many of these, right in front of it, are no packet */
+    size_t length;    /* how many octets it has; the end has none */
     size_t time_at;   /* the time's offset in the item, if it has one */
     size_t body_at;   /* the offset in the item of what is behind the secondary header */
     size_t body_len;  /* how many octets that has, without a checksum */
     size_t part_len;  /* how many octets the part has, at the body's end */
     uint32_t kind;    /* an LptItemKind */
-    uint32_t fault;   /* of LPT_ITEM_FAULTY, an LptFault: LPT_E_SHORT to LPT_E_CHECKSUM; or
-                         LPT_E_PUS_VERSION or LPT_E_SHORT_HEADER: only with these two are packet,
-                         apid and count given */
+    uint32_t fault;   /* of LPT_ITEM_FAULTY, an LptFault: LPT_E_SHORT to LPT_E_CHECKSUM, or
+                         LPT_E_PUS_VERSION or LPT_E_SHORT_HEADER. Only with the last two it also
+                         has packet, apid and count */
     uint32_t packet;  /* LPT_PACKET_TM or LPT_PACKET_TC */
     uint32_t counter; /* the message type counter */
     uint32_t user;    /* the source ID of a telecommand, the destination ID of telemetry */
@@ -110,20 +114,21 @@ LPT_MUST_USE
 uint32_t lpt_reader_next(LptReader *reader, LptItem *item);
 
 /*
- * Copies the octets of the last item of lpt_reader_next to the front of a buffer, and leaves the
- * rest of the buffer as it was. LPT_DONE; LPT_E_NOTHING if there is none (no call yet, or the last
- * one returned the end or LPT_E_MORE), or octets were taken since; LPT_E_ROOM. At LPT_DONE and
- * LPT_E_ROOM *needed is how many octets there are, as LptItem's length.
+ * Copies the octets of the last item, which lpt_reader_next returned or lpt_reader_message read, to
+ * the front of a buffer, and leaves the rest of the buffer as it was. LPT_DONE; LPT_E_NOTHING if
+ * there is none (no call yet, or the last one came to the end or returned LPT_E_MORE), or if
+ * lpt_reader_feed took octets since; LPT_E_ROOM. At LPT_DONE and LPT_E_ROOM *needed is how many
+ * octets there are, as LptItem's length.
  */
 LPT_MUST_USE
 uint32_t lpt_reader_octets(LptReader *reader, uint8_t *out, size_t out_len, size_t *needed);
 
 /*
- * Copies the date of the last packet of lpt_reader_next to the front of a buffer, and leaves the
- * rest as it was. The date is that of the packet's time by the layout's time code, as `lpt list`
- * prints it, without a NUL at the end. LPT_DONE; LPT_E_NOTHING if the last item is no packet whose
- * time has a code, or octets were taken since; LPT_E_ALLOCATION; LPT_E_NOTHING if the time gives no
- * date; LPT_E_ROOM. At LPT_DONE and LPT_E_ROOM *needed is how many octets the date has.
+ * Copies the date of the last item to the front of a buffer, and leaves the rest as it was. It is
+ * the date of the packet's time by the layout's time code, as `lpt list` prints it, without a NUL
+ * at the end. LPT_DONE; LPT_E_NOTHING if the item is no packet whose time has a code, or if
+ * lpt_reader_feed took octets since; LPT_E_ALLOCATION; LPT_E_NOTHING if the time gives no date;
+ * LPT_E_ROOM. At LPT_DONE and LPT_E_ROOM *needed is how many octets the date has.
  */
 LPT_MUST_USE
 uint32_t lpt_reader_date(LptReader *reader, uint8_t *out, size_t out_len, size_t *needed);
@@ -134,17 +139,18 @@ uint32_t lpt_reader_date(LptReader *reader, uint8_t *out, size_t out_len, size_t
  * Makes a reader that joins the messages of one APID and one LptDirection, as `lpt join --each`
  * does. lpt_reader_message returns them; a packet that lpt_reader_next returns isn't joined. The
  * archive is cut by the layout of that direction; everything else is as with lpt_reader_new. If
- * `any` is 1, and not 0, a message is returned even if it is no packet of the direction, as with
- * --any.
+ * `any` is 0, a message is returned only if it is a packet of the direction. If it is 1, every
+ * message is returned, as with --any.
  * LPT_E_RANGE for another direction or another `any`; otherwise what lpt_reader_new returns.
  */
 LPT_MUST_USE
 uint32_t lpt_reader_new_join(LptReader **reader, uint32_t direction, uint16_t apid, uint32_t any,
                              uint32_t part_size, const uint8_t *layout, size_t layout_len);
 
-/* END: the archive ends. NONE: nothing happened. WHOLE: a message is whole. MISSING: an incomplete
-   message's parts are given up. OVERTAKES: both. UNFIT: a message is whole, but no packet of the
-   direction (if `any` is 0), so it isn't returned. */
+/* END: the archive ends. NONE: nothing happened. WHOLE: a message is whole. MISSING: the parts of
+   an incomplete message are given up. OVERTAKES: parts are given up, and another message is whole.
+   UNFIT (only if `any` is 0): a message is whole, but isn't returned, because it is no packet of
+   the direction, or, without checksums, may have parts of several messages: `fault` says which. */
 enum LptMessageKind {
     LPT_MESSAGE_END = 0,
     LPT_MESSAGE_NONE = 1,
@@ -157,25 +163,25 @@ enum LptMessageKind {
 /* What happened with the next item. A field that its kind doesn't have is 0, and `first` 2^64 -
    1. */
 typedef struct LptMessage {
-    uint64_t place;     /* of the packet with which this happens; at the end, the archive's
-                           length */
-    uint64_t first;     /* where the packet of the first part stands that is given up; 2^64 - 1 if
-                           there is none */
-    size_t length;      /* of WHOLE and OVERTAKES, the message's octets */
+    uint64_t place;     /* the place of the packet with which this happens; at the end, the
+                           archive's length */
+    uint64_t first;     /* the place of the first packet whose part is given up; 2^64 - 1 if there
+                           is none */
+    size_t length;      /* of WHOLE and OVERTAKES, how many octets the message has */
     size_t highest;     /* the greatest number of the parts that are given up */
     uint32_t kind;      /* an LptMessageKind */
     uint32_t direction; /* an LptDirection */
     uint32_t user;      /* the source ID of telecommands, the destination ID of telemetry */
     uint32_t id;        /* the transaction identifier */
     uint32_t last;      /* the number of the last part, if it is among those that are given up */
-    uint32_t fault;     /* of LPT_MESSAGE_UNFIT: LPT_E_SHORT to LPT_E_CHECKSUM, LPT_E_WRONG_TYPE or
-                           LPT_E_UNSURE */
+    uint32_t fault;     /* of LPT_MESSAGE_UNFIT: LPT_E_SHORT to LPT_E_CHECKSUM, LPT_E_WRONG_TYPE
+                           (also for an idle packet) or LPT_E_UNSURE */
 } LptMessage;
 
 /*
  * Reads the next item of the archive, a packet or octets that fail a test, and returns what becomes
- * of messages with it. At the end each call returns what is left of the next name, in the order of
- * users and identifiers, and after that LPT_MESSAGE_END.
+ * of messages with it. At the end each call returns what is left of one more name, in the order of
+ * users and identifiers, and after the last name LPT_MESSAGE_END.
  * LPT_DONE, and *message is written; LPT_E_NOTHING if lpt_reader_new made the reader; LPT_E_MORE if
  * the item depends on octets that haven't been taken yet; LPT_E_ALLOCATION: then the joined parts
  * are lost, and each later call of lpt_reader_message returns this too.
@@ -185,16 +191,17 @@ uint32_t lpt_reader_message(LptReader *reader, LptMessage *message);
 
 /*
  * Copies the message of the last LPT_DONE of lpt_reader_message to the front of a buffer, and
- * leaves the rest of the buffer as it was. LPT_DONE; LPT_E_NOTHING if that was no whole message;
- * LPT_E_ROOM. At LPT_DONE and LPT_E_ROOM *needed is how many octets it has, as LptMessage's length.
+ * leaves the rest of the buffer as it was. LPT_DONE; LPT_E_NOTHING if there was none, or if its
+ * kind was neither WHOLE nor OVERTAKES; LPT_E_ROOM. At LPT_DONE and LPT_E_ROOM *needed is how many
+ * octets the message has, as LptMessage's length.
  */
 LPT_MUST_USE
 uint32_t lpt_reader_message_octets(LptReader *reader, uint8_t *out, size_t out_len, size_t *needed);
 
 /*
  * Returns whether the part of this number, from 1, is missing (1 or 0) from the parts that the last
- * LPT_DONE of lpt_reader_message gave up. Above `highest` it is always 1: so ask up to `last`, or,
- * if that is 0, up to `highest`.
+ * LPT_DONE of lpt_reader_message gave up. Ask up to the number `last`, or up to `highest` if `last`
+ * is 0. Above `highest` the result is always 1.
  * LPT_DONE; LPT_E_NOTHING if no parts were given up; LPT_E_RANGE for number 0.
  */
 LPT_MUST_USE
@@ -202,25 +209,26 @@ uint32_t lpt_reader_missing(LptReader *reader, uint32_t number, uint32_t *missin
 
 /* ---- the areas of memories that a message names ---- */
 
-/* An area that a message of the memory service names (docs/FORMATS.md): a load, a dump or a
-   check; or the report of a dump, or of a check. */
+/* An area that a message of the memory service names (docs/FORMATS.md). Such a message is a load, a
+   dump or a check, or the report of a dump or of a check. */
 typedef struct LptNamed {
-    size_t at;         /* where its octets stand in the message; 0 if that has none */
+    size_t at;         /* the offset of its octets in the message; 0 if the message doesn't have
+                          them */
     size_t length;     /* how many octets it has */
     uint32_t address;  /* the address of the first one */
-   uint32_t fault;    /* LPT_E_RANGE if it ends behind the last address, 2^32 - 1; else
-   LPT_E_CHECKSUM if the message has its octets, and they have another checksum; or 0 */
+    uint32_t fault;    /* LPT_E_RANGE if it ends behind the last address, 2^32 - 1; otherwise
+                          LPT_E_CHECKSUM if the message has its octets, and their checksum is
+                          wrong; otherwise 0 */
     uint16_t checksum; /* the checksum that the message has of them, or 0 */
     uint8_t memory;
     uint8_t areas;     /* how many areas the message names */
 } LptNamed;
 
 /*
- * Returns what `lpt list` says of the areas that a message names: the memory, how many they are,
- * and address and length of the first. The octets behind that aren't read; the rest of *first is 0.
- * The message is a packet of the reader's layout: the octets of an item, or of a message that was
- * joined.
- * The result doesn't depend on what the reader was fed.
+ * Returns what `lpt list` says of the areas that a message names: the memory, how many areas there
+ * are, and address and length of the first. The octets behind that aren't read; the rest of *first
+ * is 0. Pass a packet of the reader's layout: the octets of an item, or of a message that was
+ * joined. The result doesn't depend on what the reader was fed.
  * LPT_DONE, and *first is written; of octets that fail a test, what LptItem has as fault;
  * LPT_E_NOTHING if they name no area.
  */
@@ -229,11 +237,11 @@ uint32_t lpt_reader_areas(LptReader *reader, const uint8_t *octets, size_t octet
                           LptNamed *first);
 
 /*
- * Tells one of the areas that a message names, by its number from 0. `lpt extract` takes those of
+ * Returns one of the areas that a message names, by its number from 0. `lpt extract` takes those of
  * dump reports whose `fault` is 0 (lpt_reader_lay).
  * LPT_DONE, and *area is written; of octets that fail a test, what LptItem has as fault;
- * LPT_E_NOTHING if they are no such message; LPT_E_NO_REPORT if its body isn't read as areas with
- * nothing behind them; LPT_E_RANGE if it has none of this number.
+ * LPT_E_NOTHING if they are no such message; LPT_E_NO_REPORT if its body isn't areas with nothing
+ * behind them; LPT_E_RANGE if it has no area of this number.
  */
 LPT_MUST_USE
 uint32_t lpt_reader_area(LptReader *reader, const uint8_t *octets, size_t octets_len, size_t number,
@@ -241,16 +249,17 @@ uint32_t lpt_reader_area(LptReader *reader, const uint8_t *octets, size_t octets
 
 /* ---- the image of a memory ---- */
 
-/* Which image of a memory is laid. */
+/* Which image of a memory lpt_reader_lay makes. */
 typedef struct LptImage {
     uint32_t start; /* the address of its first octet */
     uint16_t apid;  /* the APID of the dump reports */
     uint8_t memory;
-    uint8_t marks; /* 0; or 1, and a 1 is laid in place of each octet */
+    uint8_t marks; /* 0; or 1, to write a 1 in place of each octet */
 } LptImage;
 
-/* What a message is: no dump report; a part of a message of the APID, which may be one; a dump
-   report of another APID; one whose body isn't read; one of another memory; one of the memory. */
+/* What a message is for an image. OTHER: no dump report. PART: a part of a message of the APID,
+   which may be a dump report. APID: a dump report of another APID. UNREAD: a dump report whose body
+   isn't read. MEMORY: a dump report of another memory. AREAS: a dump report of this memory. */
 enum LptLaidKind {
     LPT_LAID_OTHER = 0,
     LPT_LAID_PART = 1,
@@ -264,21 +273,30 @@ enum LptLaidKind {
 typedef struct LptLaid {
     uint64_t end;    /* the address behind the area that ends last, of those that are taken; 0 if
                         none is */
-    size_t number;   /* the other APID or memory, or how many octets the body has that isn't read;
-                        or 0 */
+    size_t number;   /* at APID and MEMORY the other APID or memory; at UNREAD how many octets the
+                        body has; otherwise 0 */
     uint32_t kind;   /* an LptLaidKind */
-    uint32_t passed; /* how many areas aren't taken: lpt_reader_area says why; 1 if it isn't read */
+    uint32_t passed; /* how many areas aren't taken: lpt_reader_area says why; at UNREAD 1 */
 } LptLaid;
 
 /*
- * Lays the areas of a message over an image: those that `lpt extract --at` takes, if it is a dump
- * report of the memory and the APID, as it stands in an archive or was joined. Later areas win;
- * octets in front of `start` are left out. Fill the image before, and what is added to it, and lay
- * each item in its order: up to the greatest `end` it is what `lpt extract --at` writes, if
- * lpt_reader_new_join made the reader, of what goes down, or if both tables have a checksum, or
- * telemetry has none. Over another buffer, of zeros, marks say in the same way which octets came.
- * It
- * doesn't depend on what the reader was fed.
+ * Lays the areas of a message over an image, if the message is a dump report of the memory and the
+ * APID: the octets of an item, or of a message that was joined. It lays the areas that
+ * `lpt extract --at` takes. Later areas win, and octets in front of `start` are left out.
+ *
+ * To make the image that `lpt extract --at` writes:
+ *   1. Make the reader by lpt_reader_new_join for LPT_DIRECTION_DOWN; or by lpt_reader_new, if both
+ *      tables of the layout have a checksum, or telemetry has none.
+ *   2. Fill the image with the octet for gaps. If it is too short, make it longer, and fill what is
+ *      added too.
+ *   3. Lay the octets of each item of lpt_reader_next (lpt_reader_octets), in order. For the image
+ *      of --join make the reader by lpt_reader_new_join with `any` 0, and call lpt_reader_message
+ *      instead: after each LPT_DONE lay the octets of the item (lpt_reader_octets), and then, of
+ *      WHOLE and OVERTAKES, those of the message (lpt_reader_message_octets).
+ *   4. The image ends at the greatest `end`. To find its gaps, lay the same octets with `marks` 1
+ *      over a buffer of zeros: a gap stays 0.
+ *
+ * The result doesn't depend on what the reader was fed.
  * LPT_DONE; LPT_E_ROOM if `image_len` is less than `end` - `start`, and the image is as it was. At
  * both *laid is written.
  */

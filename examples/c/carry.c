@@ -1,7 +1,7 @@
 /*
- * A ground program of a mission's own carries two jobs to their end: it loads an image of 20,000
- * octets, and then dumps it. The link loses every third packet up and every fourth down. The
- * spacecraft is an end of this library, in the same program.
+ * Ground carries two jobs to their end: it loads an image of 20,000 octets, and then dumps it. The
+ * link loses every third packet up and every fourth down. The spacecraft is an end of this library,
+ * in the same program.
  *
  *   cc -Iinclude examples/c/carry.c examples/c/memory/heap.c build/liblpt_ground.a \
  *       build/liblpt_end.a build/liblpt.a -o carry && ./carry
@@ -17,8 +17,8 @@ enum { LOST_UP = 3, LOST_DOWN = 4, TRIES = 10 };
 static uint8_t image[OCTETS], content[SIZE], dumped[OCTETS];
 static unsigned up, down;
 
-/* Executes what the spacecraft has released, and hands its reports to the pass, but for those that
-   the link loses. */
+/* Executes what the spacecraft has released, and hands its reports to the pass, except for those
+   that the link loses. */
 static uint32_t answer(LptEnd *spacecraft, LptGround *pass) {
     uint8_t report[PART_SIZE + 23] = {0};
     size_t len = 0;
@@ -57,8 +57,8 @@ static uint32_t send_next(LptGround *pass, LptEnd *spacecraft) {
     return fault;
 }
 
-/* Carries a pass to its end, and says what that is. Nothing is ever on its way here, so where the
-   pass listens no packet comes. */
+/* Carries a pass to its end, and prints how it ended. Here no packet is ever on its way, so none
+   comes when the pass listens. */
 static uint32_t carry(LptGround *pass, LptEnd *spacecraft, const char *what) {
     uint32_t step = LPT_STEP_SEND, fault = LPT_DONE;
     unsigned rounds = 1;
@@ -80,7 +80,7 @@ static uint32_t carry(LptGround *pass, LptEnd *spacecraft, const char *what) {
     return fault;
 }
 
-/* Copies what the dumps got, one behind the other. */
+/* Copies the octets that the dumps got, one after the other. */
 static uint32_t collect(LptGround *pass) {
     uint32_t fault = LPT_DONE;
     size_t number, at = 0, len = 0;

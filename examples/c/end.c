@@ -14,8 +14,8 @@ enum { MESSAGE = 2000, PART_SIZE = 256 };
 /* The message is the transaction 7 of source 1. */
 static const LptName name = {1, 7};
 
-/* Makes the packet of a part at one end, and gives it to the other: what became of it, or the
-   number of what is wrong. */
+/* Makes the packet of a part at one end, and gives it to the other. Writes what became of it, or
+   returns the number of what is wrong. */
 static uint32_t carry(LptEnd *from, LptEnd *to, uint16_t k, LptOutcome *outcome) {
     uint8_t packet[PART_SIZE + 23] = {0};
     size_t len = 0;

@@ -1,7 +1,8 @@
 /*
  * A spacecraft whose memory is the program's own: an array, reached by two functions, as a flight
  * computer's is by its drivers. Ground loads octets into it, dumps them, and asks for their
- * checksum. One load goes to a page that can't be written: it is refused, and ground is told.
+ * checksum. One load goes to a page that can't be written: the spacecraft refuses it, and reports
+ * that to ground.
  *
  *   cc -Iinclude examples/c/flight.c examples/c/memory/pool.c build/liblpt_end.a build/liblpt.a \
  *       -o flight && ./flight
@@ -16,7 +17,7 @@ enum { MEMORY = 1, SIZE = 4096, LOCKED = 1024, ADDRESS = 16, OCTETS = 40 };
 
 static LptEnd *ground, *spacecraft;
 
-/* The memory: what stands from LOCKED on can be read, and isn't written. */
+/* The memory. From LOCKED on it can be read, but not written. */
 static uint8_t array[SIZE];
 
 static bool memory_write(uint32_t address, const uint8_t *octets, size_t len) {
@@ -32,9 +33,9 @@ static bool memory_read(uint32_t address, uint8_t *out, size_t len) {
     return true;
 }
 
-/* Does what the oldest request asks of the memory, and then executes it. What it reads stands in
-   one buffer; a request that reads more than that, or whose memory fails, is refused. Loads have
-   one area here, so there is nothing to put back. */
+/* Does what the oldest request asks of the memory, and then executes it. The octets that it reads
+   go into one buffer. If it reads more than fits, or the memory fails, it is refused. Here loads
+   have one area, so there is nothing to put back. */
 static uint32_t work(LptApplied *applied) {
     static uint8_t octets[SIZE];
     LptAccess access = {0, 0, 0, 0};
@@ -43,7 +44,7 @@ static uint32_t work(LptApplied *applied) {
     for (number = 0; (fault = lpt_end_access(spacecraft, number, &access)) == LPT_DONE; number++) {
         bool is_done = false;
         if (access.len > sizeof octets - read) {
-            /* it asks for more than is done here */
+            /* it asks for more than this program can read at once */
         } else if (access.write != 0) {
             fault = lpt_end_access_octets(spacecraft, number, octets, sizeof octets, &len);
             is_done = fault == LPT_DONE && memory_write(access.address, octets, len);
@@ -63,7 +64,7 @@ static uint32_t work(LptApplied *applied) {
     return lpt_end_execute_given(spacecraft, octets, read, applied);
 }
 
-/* What telemetry says: a verification report, or a report of data. */
+/* Prints what telemetry says: a verification report, or a report of data. */
 static void print_report(const uint8_t *packet, size_t len) {
     LptTm tm = {{0, 0, 0, 0, 0, 0, 0, 0}, 0, 0};
     if (lpt_read_tm(packet, len, &tm) == LPT_DONE) {
@@ -72,7 +73,7 @@ static void print_report(const uint8_t *packet, size_t len) {
     }
 }
 
-/* Sends down what waits at the spacecraft. */
+/* Sends down the packets that wait at the spacecraft. */
 static uint32_t send_down(void) {
     uint8_t packet[LONGEST] = {0};
     size_t len = 0;
@@ -89,7 +90,7 @@ static uint32_t send_down(void) {
     return fault;
 }
 
-/* Sends a request up, as one packet, and has it done. */
+/* Sends a request up, as one packet, and lets the spacecraft do it. */
 static uint32_t ask(const char *what, uint8_t subtype, const uint8_t *body, size_t body_len) {
     uint8_t packet[LONGEST] = {0};
     size_t len = 0;

@@ -1,13 +1,13 @@
 /*
- * A spacecraft that outlasts its program. What it has to know after a reset stands in a file, in
- * two copies that are written in turn, each with a number that grows. Ground loads an image in
- * three requests, each sent in parts, and asks for checksums. A copy goes to the file by several
- * writes. In each pass the spacecraft's process is stopped after another of its writes, to the file
- * or to ground, and started again: each request is executed once, and the image is whole.
+ * A spacecraft that outlasts its program. It saves what it must know after a reset in a file, in
+ * two copies that it writes in turn, each with a number that grows. Ground loads an image in three
+ * requests, each sent in parts, and asks for checksums. A copy goes to the file by several writes.
+ * In each pass the spacecraft's process is stopped after another of its writes, to the file or to
+ * ground, and started again. Each request is executed once, and the image is whole.
  *
  * A copy is a number of 8 octets; the memory; how many requests were executed; how long the state
- * of the end is, and the state; and the number again. Its checksum stands last. One whose numbers
- * differ, or whose checksum is wrong, was torn, and the other one is taken.
+ * of the end is, and the state; the number again; and a checksum. If the two numbers differ, or the
+ * checksum is wrong, the copy was torn, and the other one is used.
  *
  *   cc -Iinclude examples/c/keep.c examples/c/memory/heap.c build/liblpt_end.a build/liblpt.a \
  *       -o keep && ./keep
@@ -40,7 +40,8 @@ static void must(bool is_so, const char *what) {
     }
 }
 
-/* Writes a number, the high octet first, and returns how many octets it has; and reads one. */
+/* The first writes a number, the high octet first, and returns how many octets it has. The second
+   reads one. */
 static size_t put(uint8_t *to, uint64_t value, size_t octets) {
     size_t i;
     for (i = 0; i < octets; i++) {
@@ -62,7 +63,7 @@ static uint64_t number(const uint8_t *from, size_t octets) {
 typedef uint8_t Image[SIZE];
 typedef uint8_t State[STATE_ROOM];
 
-/* What is kept: the number of the copy, the memory, how many loads were executed, the state. */
+/* What is saved: the number of the copy, the memory, how many loads were executed, the state. */
 typedef struct Kept {
     uint64_t count;
     Image memory;
@@ -71,7 +72,7 @@ typedef struct Kept {
     size_t state_len;
 } Kept;
 
-/* The write behind which the process stops, counted from 1, and how many there were. */
+/* After which write the process stops, counted from 1, and how many there were. */
 static unsigned stops_at, writes;
 
 static void count_write(void) {
@@ -107,7 +108,7 @@ static void keep(int file, Kept *kept) {
     must(fsync(file) == 0, "the file isn't on the disk");
 }
 
-/* Reads a copy; false if it was torn, or there is none. */
+/* Reads a copy. Returns false if it was torn, or there is none. */
 static bool read_copy(int file, off_t at, Kept *kept) {
     uint8_t copy[COPY_ROOM] = {0};
     const size_t front = 8 + SIZE + 4 + 4;
@@ -129,7 +130,7 @@ static bool read_copy(int file, off_t at, Kept *kept) {
            number(copy + len + 8, 2) == lpt_crc16(copy, len + 8);
 }
 
-/* Reads the newer of the copies that are whole; false if none is. */
+/* Reads the newer of the copies that are whole. Returns false if none is. */
 static bool read_kept(int file, Kept *kept) {
     Kept other = {0, {0}, 0, {0}, 0};
     bool is_one = read_copy(file, 0, kept), is_other = read_copy(file, SLOT, &other);
@@ -171,7 +172,7 @@ static bool take(int from, uint8_t *octets, size_t *len) {
 
 /* ---- the spacecraft ---- */
 
-/* Restores the end that was kept, or makes a new one if none was. */
+/* Restores the end that was saved, or makes a new one if none was. */
 static void start(LptEnd **end, int file, Kept *kept) {
     static const LptMemory memory = {MEMORY, 0, SIZE};
     uint32_t fault;
@@ -185,8 +186,8 @@ static void start(LptEnd **end, int file, Kept *kept) {
     must(fault == LPT_DONE, lpt_fault_name(fault));
 }
 
-/* Takes a packet, and executes what it released. What changed is kept before anything goes out.
-   Plain requests are checks here, so nothing is kept of them. */
+/* Takes a packet, and executes the request that it released. Saves what changed before anything is
+   sent. Here plain requests are checks, which change nothing, so nothing is saved for them. */
 static void serve(LptEnd *end, int file, Kept *kept, const uint8_t *packet, size_t len) {
     LptOutcome outcome = {0, {0, 0}, 0, 0};
     LptApplied applied = {0, {0, 0}, 0};
@@ -203,7 +204,7 @@ static void serve(LptEnd *end, int file, Kept *kept, const uint8_t *packet, size
     }
 }
 
-/* The spacecraft's process: what each packet makes it send goes back, until ground is done. */
+/* The spacecraft's process: it takes packets and sends its answers back, until ground is done. */
 static void spacecraft(int link, const char *path) {
     static Kept kept;
     LptEnd *end = NULL;
@@ -234,7 +235,7 @@ static int to_child = -1;
 static bool is_stopped; /* in this pass */
 static uint32_t seen; /* the checksum that was reported last, or one that is none */
 
-/* Starts the spacecraft's process; the first one of a pass stops behind a write. */
+/* Starts the spacecraft's process. The first one of a pass stops after a write. */
 static void launch(const char *path, unsigned stop) {
     int both[2];
     must(socketpair(AF_UNIX, SOCK_STREAM, 0, both) == 0, "there is no link");
@@ -250,7 +251,7 @@ static void launch(const char *path, unsigned stop) {
     to_child = both[0];
 }
 
-/* Waits for the end of the process: whether it was stopped. */
+/* Waits for the end of the process. Returns whether it was stopped. */
 static bool was_stopped(void) {
     int status = 0;
     close(to_child);
@@ -259,7 +260,7 @@ static bool was_stopped(void) {
     return WEXITSTATUS(status) == STOPPED;
 }
 
-/* What came down: the checksum of a check's report. */
+/* Takes a packet that came down: notes the checksum of a check's report. */
 static void note(const uint8_t *packet, size_t len) {
     LptOutcome outcome = {0, {0, 0}, 0, 0};
     LptTm tm = {{0, 0, 0, 0, 0, 0, 0, 0}, 0, 0};
@@ -270,8 +271,8 @@ static void note(const uint8_t *packet, size_t len) {
     }
 }
 
-/* Sends up what waits on ground, and takes the answers. A packet is lost if the spacecraft's
-   process stops at it; the process is then started again. */
+/* Sends up the packets that wait on ground, and takes the answers. A packet is lost if the
+   spacecraft's process stops at it; the process is then started again. */
 static void send_up(const char *path) {
     uint8_t packet[LONGEST] = {0};
     size_t len = 0;
@@ -322,8 +323,8 @@ static void load(const char *path, uint16_t k) {
     must(lpt_end_finish(ground, &name) == LPT_DONE, "a request isn't finished");
 }
 
-/* A pass, in which the spacecraft is stopped behind a write, and after which all must be well.
-   Returns whether it was stopped. */
+/* A pass in which the spacecraft is stopped after a write. At its end the image must be whole.
+   Returns whether the spacecraft was stopped. */
 static bool run(const char *path, unsigned stop) {
     static Kept kept;
     FILE *file = fopen(path, "w");

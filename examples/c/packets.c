@@ -1,7 +1,7 @@
 /*
- * An archive of two parts of a message, a damaged packet and an idle one, with octets of no packet
- * in front of the last, comes in pieces of 7 octets, as from a socket. The reader tells packet after packet
- * as they become whole, with the octets in front that are none.
+ * An archive comes in pieces of 7 octets, as from a socket. It has an idle packet, a damaged packet
+ * and two parts of a message, with two octets between them that are no packet. The reader returns
+ * each packet once it is whole, and how many octets in front of it are no packet.
  *
  *   cc -Iinclude examples/c/packets.c examples/c/memory/heap.c build/liblpt_reader.a -o packets
  *   ./packets
@@ -12,8 +12,8 @@
 
 enum { PART_SIZE = 8, PIECE = 7 };
 
-/* An idle packet; the first part of message 5, with a wrong bit, and as it was sent; two octets of no
-   packet; the last part. */
+/* An idle packet; the first part of message 5, with a wrong bit; the same as it was sent; two
+   octets that are no packet; the last part. */
 static const uint8_t ARCHIVE[] = {
     0x07, 0xff, 0xc0, 0x00, 0x00, 0x03, 0x00, 0x00, 0x00, 0x00, 0x18, 0x64, 0xc0, 0x00, 0x00,
     0x12, 0x20, 0x0d, 0x09, 0x00, 0x07, 0x00, 0x05, 0x00, 0x01, 0x61, 0x63, 0x63, 0x64, 0x65,
@@ -22,7 +22,7 @@ static const uint8_t ARCHIVE[] = {
     0xff, 0xff, 0x18, 0x64, 0xc0, 0x01, 0x00, 0x0c, 0x20, 0x0d, 0x0b, 0x00, 0x07, 0x00, 0x05,
     0x00, 0x02, 0x69, 0x6a, 0x09, 0xc2};
 
-/* Says what an item is. */
+/* Prints what an item is. */
 static void tell(const LptItem *item) {
     if (item->stray != 0) {
         printf("no packet: %lu octets in front of octet %lu\n", (unsigned long)item->stray,
@@ -47,7 +47,8 @@ static void tell(const LptItem *item) {
     }
 }
 
-/* Tells all that stands in what came: LPT_E_ENDED at the end of the archive. */
+/* Prints all items of the octets that came. Returns LPT_E_MORE, or LPT_E_ENDED at the end of the
+   archive. */
 static uint32_t tell_all(LptReader *reader) {
     LptItem item = {0};
     uint32_t fault = lpt_reader_next(reader, &item);

@@ -1,12 +1,13 @@
 /*
  * The two ends of the link in two processes: ground in the parent, the spacecraft in the child, and
- * a pipe each way. Ground loads 60,000 octets in parts and asks for them by a dump, which comes
- * down in parts. The link loses the third part of each message, repeats the fifth, and gives the
- * seventh behind the eighth. Then both ends free the load's name, and a shorter load has it.
+ * a pipe each way. Ground loads 60,000 octets in parts and asks for them by a dump, whose report
+ * comes down in parts. The link loses the third part of each message, repeats the fifth, and
+ * delivers the seventh after the eighth. Then both ends free the load's name, and a shorter load
+ * uses it.
  *
- * On a pipe, packets and lines of this program's own stand one behind the other. A packet says how
- * long it is. A line is a letter, with which no packet begins, and a name: by 'F' the sender says
- * that it has finished and no part comes any more, by 'R' the receiver says that it freed the name.
+ * A pipe carries packets and this program's own lines, one after the other. A packet says how long
+ * it is. A line is a letter, with which no packet begins, and a name. By 'F' the sender says that
+ * it has finished and no part comes any more; by 'R' the receiver says that it freed the name.
  *
  *   cc -Iinclude examples/c/processes.c examples/c/memory/heap.c build/liblpt_end.a \
  *       build/liblpt.a -o processes && ./processes
@@ -32,8 +33,9 @@ enum { LOST = 3, REPEATED = 5, DELAYED = 7, PATIENCE_MS = 60000, LINE = 1 + size
 static const LptName load_name = {SOURCE, 7};
 static uint8_t image[OCTETS];
 
-/* Each process has its own of these: its end and its ends of the pipes, how many packets of each
-   outcome came, how many names both ends have freed, and of which an 'R' is owed. */
+/* Each process has its own of these: its end and its ends of the pipes; how many packets of each
+   outcome came; how many names both ends have freed; the name for which it still has to send an
+   'R', and whether there is one. */
 static LptEnd *end = NULL;
 static uint32_t side = LPT_SIDE_GROUND;
 static int in = -1, out = -1;
@@ -41,7 +43,7 @@ static unsigned seen[LPT_OUTCOME_IGNORED + 1], freed;
 static LptName owed;
 static bool is_owed;
 
-/* Ends the process if something isn't so. The other then reads the end of its pipe. */
+/* Ends the process if something isn't so. The other process then finds its pipe closed. */
 static void must(bool is_so, const char *what) {
     if (!is_so) {
         fprintf(stderr, "%s: %s\n", side == LPT_SIDE_GROUND ? "ground" : "spacecraft", what);
@@ -49,8 +51,8 @@ static void must(bool is_so, const char *what) {
     }
 }
 
-/* A name is freed at its receiver when the sender's line has come, behind all parts, and at its
-   sender when the receiver's has. */
+/* Takes a line. The receiver frees the name when the sender's line has come, after all parts; the
+   sender frees it when the receiver's line has come. */
 static void take_line(const uint8_t *line) {
     LptName name = {0, 0};
     bool is_receiver = line[0] == 'F';
@@ -67,7 +69,8 @@ static void take_line(const uint8_t *line) {
     }
 }
 
-/* What telemetry says that ground has noted, or joined: a verification report, or the dump. */
+/* Prints what telemetry says: a verification report that ground noted, or the dump that it joined.
+   */
 static void print(const uint8_t *packet, size_t len) {
     LptTm tm = {{0, 0, 0, 0, 0, 0, 0, 0}, 0, 0};
     LptReport report = {0, 0, 0};
@@ -100,7 +103,7 @@ static void take(const uint8_t *octets, size_t len) {
     }
 }
 
-/* How long the packet or the line is that begins these octets; 0 if it hasn't come whole. */
+/* Returns how long the packet or the line at the front of these octets is; 0 if it isn't whole. */
 static size_t whole(const uint8_t *octets, size_t len) {
     size_t length = LINE;
     uint32_t said = LPT_DONE;
@@ -112,7 +115,7 @@ static size_t whole(const uint8_t *octets, size_t len) {
     return said == LPT_DONE && length <= len ? length : 0;
 }
 
-/* Reads what has come, and takes what has come whole. */
+/* Reads the octets that have come, and takes each packet or line that is whole. */
 static void receive(void) {
     static uint8_t came[LONGEST];
     static size_t came_len;
@@ -133,8 +136,8 @@ static void receive(void) {
     memmove(came, came + at, came_len);
 }
 
-/* Writes all of these octets, or, if there are none, waits until some come. What comes is taken
-   also while the other pipe is full, so the two processes never wait for each other. */
+/* Writes all of these octets, or, if there are none, waits until some come. It also takes what
+   comes while the other pipe is full, so the two processes never wait for each other. */
 static void write_all(const uint8_t *octets, size_t len) {
     size_t at = 0;
     do {
@@ -158,7 +161,7 @@ static void tell(char letter, const LptName *name) {
     write_all(line, LINE);
 }
 
-/* The link, which carries a packet: of part k, or of none (0). What it delays is on its way. */
+/* The link carries a packet, of part k or of no part (0). A packet that it delays comes later. */
 static void carry(uint16_t k, const uint8_t *packet, size_t len) {
     static uint8_t delayed[LONGEST];
     static size_t delayed_len;
@@ -175,7 +178,7 @@ static void carry(uint16_t k, const uint8_t *packet, size_t len) {
     }
 }
 
-/* Sends what waits at the end. */
+/* Sends the packets that wait at the end. */
 static void flush(uint16_t k) {
     uint8_t packet[LONGEST] = {0};
     size_t len = 0;
@@ -200,7 +203,7 @@ static void send_message(const LptName *name) {
     must(lpt_end_finish(end, name) == LPT_DONE, "a message isn't closed");
 }
 
-/* Executes a request, if one was released: whether one was. On ground none ever is. */
+/* Executes a request, if one was released, and returns whether one was. On ground none ever is. */
 static bool serve(void) {
     LptApplied applied = {0, {0, 0}, 0};
     uint32_t fault = lpt_end_read(end);
@@ -217,7 +220,7 @@ static bool serve(void) {
     return fault == LPT_DONE;
 }
 
-/* Does what there is to do; if there is nothing, waits for what comes. */
+/* Does what there is to do, or, if there is nothing, waits for octets. */
 static void work(void) {
     static const uint8_t nothing = 0;
     LptName name = owed;
@@ -236,7 +239,7 @@ static size_t put_area(uint8_t *body, uint32_t len) {
     return sizeof area;
 }
 
-/* Loads the front of the image in parts. Flags 1 and 8 ask for two reports, which are awaited. */
+/* Loads the front of the image in parts. Flags 1 and 8 ask for two reports, for which it waits. */
 static void load(uint32_t len, uint16_t count) {
     static uint8_t body[8 + OCTETS + 2], request[sizeof body + 13];
     LptTcHead head = {APID, count, 1 + 8, 6, 2, SOURCE};
@@ -272,7 +275,7 @@ static void ground(void) {
     load(FEWER, 16382);
 }
 
-/* Makes this process's end, runs it, and says what it has seen. */
+/* Makes this process's end, runs it, and prints what it has seen. */
 static void run(uint32_t which, const int *reads, const int *writes) {
     static const LptConfig config = {APID, PART_SIZE, 10, 4, 4, 0, LPT_MODE_ANY};
     static const LptMemory memory = {MEMORY, 0, SIZE};

@@ -1,19 +1,20 @@
 /*
  * A spacecraft whose memory is the program's own, and whose machine may be reset at any place. The
- * memory is a file that is written octets by octets, as a flash is. A request is executed first;
- * then the state of the end is kept, in one write with what the request still has to write to the
- * memory; then that is written, and only then a report goes out. At each start what was kept last
- * is written again. So a load is whole, or it never was; and it is executed once.
+ * memory is a file that is written a few octets at a time, as a flash is. The program executes a
+ * request first. Then it saves the state of the end, in one write with the octets that the request
+ * still has to write to the memory. Then it writes them, and only then it sends a report. At each
+ * start it writes again what it saved last. So each load is in the memory whole or not at all, and
+ * is executed once.
  *
  * Ground loads an image in requests that overlap, so that their order shows, and asks for a
- * checksum after each. The spacecraft's process is stopped behind each of its writes, to a file or
+ * checksum after each. The spacecraft's process is stopped after each of its writes, to a file or
  * to ground, in a pass of its own, and once more soon after it was started again. At each start the
- * memory is compared with what the requests that were executed make of it.
+ * memory is compared with what the executed requests make of it.
  *
- * What is kept stands in a file in two copies that are written in turn: a number that grows; how
- * many loads were executed; how long the state is, and the state; how many octets are to be
- * written, where, and these; the number again; a checksum. One whose numbers differ, or whose
- * checksum is wrong, was torn, and the other one is taken.
+ * It saves in a file, in two copies that it writes in turn: a number that grows; how many loads
+ * were executed; how long the state is, and the state; how many octets are to be written, where,
+ * and the octets; the number again; a checksum. If the two numbers differ, or the checksum is
+ * wrong, the copy was torn, and the other one is used.
  *
  *   cc -Iinclude examples/c/redo.c examples/c/memory/heap.c build/liblpt_end.a build/liblpt.a \
  *       -o redo && ./redo
@@ -50,7 +51,8 @@ static void must(bool is_so, const char *what) {
     }
 }
 
-/* Writes a number, the high octet first, and returns how many octets it has; and reads one. */
+/* The first writes a number, the high octet first, and returns how many octets it has. The second
+   reads one. */
 static size_t put(uint8_t *to, uint64_t value, size_t octets) {
     size_t i;
     for (i = 0; i < octets; i++) {
@@ -90,7 +92,7 @@ typedef struct Files {
     int memory;
 } Files;
 
-/* The write behind which the process stops, counted from 1; and how many there were. */
+/* After which write the process stops, counted from 1, and how many there were. */
 static unsigned stops_at, writes;
 
 static void count_write(void) {
@@ -129,7 +131,7 @@ static void keep(int file, Kept *kept) {
     write_all(file, (size_t)(kept->count % 2) * SLOT, copy, len);
 }
 
-/* Reads a copy; false if it was torn, or there is none. */
+/* Reads a copy. Returns false if it was torn, or there is none. */
 static bool read_copy(int file, size_t at, Kept *kept) {
     uint8_t copy[COPY_ROOM] = {0};
     size_t len = 16;
@@ -156,7 +158,7 @@ static bool read_copy(int file, size_t at, Kept *kept) {
            number(copy + len + 8, 2) == lpt_crc16(copy, len + 8);
 }
 
-/* Reads the newer of the copies that are whole; false if none is. */
+/* Reads the newer of the copies that are whole. Returns false if none is. */
 static bool read_kept(int file, Kept *kept) {
     Kept other = {0, 0, {0}, 0, 0, {0}, 0};
     bool is_one = read_copy(file, 0, kept), is_other = read_copy(file, SLOT, &other);
@@ -166,12 +168,12 @@ static bool read_kept(int file, Kept *kept) {
     return is_one || is_other;
 }
 
-/* Writes to the memory what is owed to it. */
+/* Writes to the memory what an executed request still has to write there. */
 static void settle(int memory, const Kept *kept) {
     write_all(memory, kept->address, kept->owed, kept->owed_len);
 }
 
-/* Whether the memory is what the loads that were executed make of zeros, in their order. */
+/* Returns whether the memory is what the executed loads make of zeros, in their order. */
 static bool is_exact(int memory, uint32_t executed) {
     uint8_t wanted[SIZE] = {0}, octets[SIZE] = {0};
     uint32_t k;
@@ -213,7 +215,7 @@ static bool take(int from, uint8_t *octets, size_t *len) {
 
 /* ---- the spacecraft ---- */
 
-/* After a reset: writes again what was owed, and restores the end from its state. */
+/* After a reset: writes again what was saved, and restores the end from its state. */
 static void start(LptEnd **end, Files files, Kept *kept) {
     uint32_t fault;
     if (read_kept(files.copies, kept)) {
@@ -227,7 +229,7 @@ static void start(LptEnd **end, Files files, Kept *kept) {
     must(is_exact(files.memory, kept->executed), "the memory isn't what was executed");
 }
 
-/* Executes the oldest request. Copies what it writes to what is kept, and reads what it reads. */
+/* Executes the oldest request. Reads what it reads, and copies what it writes, to be saved. */
 static void execute(LptEnd *end, Files files, Kept *kept) {
     LptApplied applied = {0, {0, 0}, 0};
     LptAccess access = {0, 0, 0, 0};
@@ -236,7 +238,7 @@ static void execute(LptEnd *end, Files files, Kept *kept) {
     kept->owed_len = 0;
     for (at = 0; lpt_end_access(end, at, &access) == LPT_DONE; at++) {
         if (access.write) {
-            must(at == 0, "a load has two areas"); /* ground sends none that has */
+            must(at == 0, "a load has two areas"); /* ground sends no such load */
             kept->address = access.address;
             must(lpt_end_access_octets(end, at, kept->owed, OCTETS, &kept->owed_len) == LPT_DONE,
                  "a load is too long");
@@ -250,9 +252,9 @@ static void execute(LptEnd *end, Files files, Kept *kept) {
     must(lpt_end_execute_given(end, octets, read, &applied) == LPT_DONE, "nothing is executed");
 }
 
-/* Takes a packet, and executes what it released. The state is kept with what is owed to the
-   memory, then the memory is written, and nothing goes out before. Plain requests are checks
-   here: nothing is kept of them. */
+/* Takes a packet, and executes the request that it released. Saves the state with what is still to
+   be written, and then writes the memory, before anything is sent. Here plain requests are checks,
+   which change nothing, so nothing is saved for them. */
 static void serve(LptEnd *end, Files files, Kept *kept, const uint8_t *packet, size_t len) {
     LptOutcome outcome = {0, {0, 0}, 0, 0};
     must(lpt_end_packet(end, packet, len, &outcome) == LPT_DONE, "a packet isn't taken");
@@ -267,7 +269,7 @@ static void serve(LptEnd *end, Files files, Kept *kept, const uint8_t *packet, s
     }
 }
 
-/* The spacecraft's process: what each packet makes it send goes back, until ground is done. */
+/* The spacecraft's process: it takes packets and sends its answers back, until ground is done. */
 static void spacecraft(int link, Files files) {
     static Kept kept;
     LptEnd *end = NULL;
@@ -295,8 +297,8 @@ static int to_child = -1;
 static unsigned stops, starts; /* in all; in this pass */
 static uint32_t seen; /* the checksum that was reported last, or one that is none */
 
-/* Starts the spacecraft's process. The first one of a pass stops behind a write, and the second
-   one behind one of its first, also while it writes again what was owed. */
+/* Starts the spacecraft's process. The first one of a pass stops after a write, and the second one
+   after one of its first writes, also while it writes again what was saved. */
 static void launch(Files files, unsigned stop) {
     int both[2];
     must(socketpair(AF_UNIX, SOCK_STREAM, 0, both) == 0, "there is no link");
@@ -314,7 +316,7 @@ static void launch(Files files, unsigned stop) {
     to_child = both[0];
 }
 
-/* Waits for the end of the process: whether it was stopped. */
+/* Waits for the end of the process. Returns whether it was stopped. */
 static bool was_stopped(void) {
     int status = 0;
     close(to_child);
@@ -324,7 +326,7 @@ static bool was_stopped(void) {
     return WEXITSTATUS(status) == STOPPED;
 }
 
-/* What came down: the checksum of a check's report. */
+/* Takes a packet that came down: notes the checksum of a check's report. */
 static void note(const uint8_t *packet, size_t len) {
     LptOutcome outcome = {0, {0, 0}, 0, 0};
     LptTm tm = {{0, 0, 0, 0, 0, 0, 0, 0}, 0, 0};
@@ -335,8 +337,8 @@ static void note(const uint8_t *packet, size_t len) {
     }
 }
 
-/* Sends up what waits on ground, and takes the answers. A packet is lost if the spacecraft's
-   process stops at it; that is started again. */
+/* Sends up the packets that wait on ground, and takes the answers. A packet is lost if the
+   spacecraft's process stops at it; the process is then started again. */
 static void send_up(Files files) {
     uint8_t packet[LONGEST] = {0};
     size_t len = 0;
@@ -379,7 +381,7 @@ static void load(Files files, uint16_t k) {
     must(lpt_end_finish(ground, &name) == LPT_DONE, "a request isn't finished");
 }
 
-/* An empty file, which has no name any more. */
+/* Makes an empty file, whose name is removed at once. */
 static int file(size_t len) {
     char path[] = "/tmp/redo.XXXXXX";
     int made = mkstemp(path);
@@ -387,7 +389,7 @@ static int file(size_t len) {
     return made;
 }
 
-/* A pass, in which the spacecraft is stopped behind this write: whether it was. */
+/* A pass in which the spacecraft is stopped after this write. Returns whether it was stopped. */
 static bool run(unsigned stop) {
     static Kept kept;
     const Files files = {file(0), file(SIZE)};

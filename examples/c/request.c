@@ -1,6 +1,7 @@
 /*
  * Ground loads 1,000 octets into a memory of the spacecraft, in parts, and then asks for them by a
- * dump. The spacecraft executes both requests and reports so; the dump goes down in parts.
+ * dump. The spacecraft executes both requests, and reports that it did; the dump's report goes down
+ * in parts.
  *
  *   cc -Iinclude examples/c/request.c examples/c/memory/pool.c build/liblpt_end.a build/liblpt.a \
  *       -o request && ./request
@@ -17,7 +18,7 @@ static const LptName load_name = {SOURCE, 7};
 static LptEnd *ground = NULL, *spacecraft = NULL;
 static uint8_t image[OCTETS];
 
-/* What telemetry says that ground has noted: a verification report. */
+/* Prints a verification report that ground has noted. */
 static void print_report(const uint8_t *packet, size_t len) {
     LptTm tm = {{0, 0, 0, 0, 0, 0, 0, 0}, 0, 0};
     LptReport report = {0, 0, 0};
@@ -28,7 +29,7 @@ static void print_report(const uint8_t *packet, size_t len) {
     }
 }
 
-/* What the message says that ground has joined: a dump report. */
+/* Prints the dump report that ground has joined. */
 static void print_dump(void) {
     static uint8_t message[LPT_LONGEST_PACKET];
     LptTm tm = {{0, 0, 0, 0, 0, 0, 0, 0}, 0, 0};
@@ -42,7 +43,7 @@ static void print_dump(void) {
     }
 }
 
-/* Sends down what waits at the spacecraft. */
+/* Sends down the packets that wait at the spacecraft. */
 static void send_down(void) {
     uint8_t packet[LONGEST] = {0};
     size_t len = 0;
@@ -62,7 +63,8 @@ static void send_down(void) {
     }
 }
 
-/* Executes what was released. A reply that is too long for a packet goes in parts. */
+/* Executes the requests that were released. A report that is too long for a packet goes in parts.
+   */
 static void serve(void) {
     LptApplied applied = {0, {0, 0}, 0};
     uint16_t k;
@@ -82,7 +84,8 @@ static void serve(void) {
     }
 }
 
-/* Sends up what waits on ground, and has each request executed that the spacecraft releases. */
+/* Sends up the packets that wait on ground, and executes each request that the spacecraft releases.
+   */
 static void send_up(void) {
     uint8_t packet[LONGEST] = {0};
     size_t len = 0;
@@ -100,7 +103,7 @@ static void send_up(void) {
     }
 }
 
-/* Loads the image: a telecommand that is a message of its own, sent in parts. Flags 1 and 8 ask for
+/* Loads the image by one telecommand, which is a message and goes in parts. Flags 1 and 8 ask for
    the reports of acceptance and of completion. No other request has the count 16,383. */
 static uint32_t load(void) {
     static const LptTcHead head = {APID, 16383, 1 + 8, 6, 2, SOURCE};

@@ -1,12 +1,11 @@
 /*
  * A message of 20 octets goes up in three parts, with an idle packet and a telecommand of another
  * service between them, as one stream of octets. On its way the second part was damaged, and a
- * stray octet came between two packets. The reader cuts the stream into pieces, says which are
+ * stray octet came between two packets. The reader cuts the stream into pieces, prints which are
  * damaged, skips what is no part, and reads the parts.
  *
- * What it finds behind damage was maybe sent by nobody, since a message may hold packets: that is
- * right for somebody who looks through a recording. An end is given the packets in front of the
- * first damage alone.
+ * This is right for a recording. On a link, give an end only the packets in front of the first
+ * damage: a message may contain packets, so behind damage you may find one that nobody sent.
  *
  *   cc -Iinclude examples/c/stream.c build/liblpt.a -o stream && ./stream
  */
@@ -16,7 +15,8 @@
 
 enum { PART_SIZE = 8, MESSAGE = 20, STREAM = 200, TRANSFER = 13, TEST = 17 };
 
-/* Puts part k of a message at the end of a stream, as a telecommand: the stream's length then. */
+/* Puts part k of a message at the end of a stream, as a telecommand. Returns the stream's new
+   length. */
 static size_t send_part(uint8_t *stream, size_t len, const uint8_t *message, uint16_t k) {
     uint8_t body[4 + PART_SIZE] = {0};
     uint32_t kind = 0;
@@ -34,8 +34,8 @@ static size_t send_part(uint8_t *stream, size_t len, const uint8_t *message, uin
     return len + needed;
 }
 
-/* Puts a telecommand of another service, without a body, at the end of a stream: the stream's
-   length then. */
+/* Puts a telecommand of another service, without a body, at the end of a stream. Returns the
+   stream's new length. */
 static size_t send_other(uint8_t *stream, size_t len, const uint8_t *message) {
     static const LptTcHead head = {100, 3, 0, TEST, 1, 1};
     size_t needed = 0;
@@ -45,7 +45,7 @@ static size_t send_other(uint8_t *stream, size_t len, const uint8_t *message) {
     return len + needed;
 }
 
-/* Reads a packet that came, and says what it is. */
+/* Reads a packet that came, and prints what it is. */
 static void receive(const uint8_t *octets, size_t len) {
     LptTc tc = {{0, 0, 0, 0, 0, 0}, 0, 0};
     LptPart part = {0, 0, 0, 0, 0};

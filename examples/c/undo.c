@@ -1,20 +1,20 @@
 /*
  * A spacecraft whose memory is the program's own and may refuse a write, and whose machine may be
- * reset at any place. The memory is a file that is written octets by octets, as a flash is; its end
- * is locked. Before a load is written, the state of the end is kept, in one write with what stands
- * where the load goes. Then that is written, the request is executed, the new state is kept alone,
- * and only then a report goes out. If the memory refuses, what stood there is put back, and the
- * request is refused. At each start what was kept last is put back. So a load is whole, or it never
- * was; and it is executed once.
+ * reset at any place. The memory is a file that is written a few octets at a time, as a flash is;
+ * its end is locked. Before the program writes a load, it saves the state of the end, in one write
+ * with the octets that are there now. Then it writes the load, executes the request, saves the new
+ * state alone, and only then sends a report. If the memory refuses, the program puts the old octets
+ * back, and refuses the request. At each start it puts back what it saved last. So each load is in
+ * the memory whole or not at all, and is executed once.
  *
  * Ground loads an image in requests that overlap, so that their order shows, and asks for a
  * checksum after each. A request that a reset lost goes up again under a new name. The last one
- * goes on into what is locked. The spacecraft's process is stopped behind each of its writes, to a
+ * reaches into the locked end. The spacecraft's process is stopped after each of its writes, to a
  * file or to ground, in a pass of its own, and once more soon after it was started again. At each
- * start the memory is compared with what the requests that were executed make of it.
+ * start the memory is compared with what the executed requests make of it.
  *
- * What is kept stands in a file in two copies that are written in turn, each between one number
- * twice and before a checksum. If one was torn, the other one is taken.
+ * It saves in a file, in two copies that it writes in turn. Each has the same number in front and
+ * behind, and then a checksum. If one copy was torn, the other one is used.
  *
  *   cc -Iinclude examples/c/undo.c examples/c/memory/heap.c build/liblpt_end.a build/liblpt.a \
  *       -o undo && ./undo
@@ -51,7 +51,7 @@ static void must(bool is_so, const char *what) {
     }
 }
 
-/* Writes a number, the high octet first; and reads one. */
+/* The first writes a number, the high octet first. The second reads one. */
 static void put(uint8_t *to, uint64_t value, size_t octets) {
     size_t i;
     for (i = 0; i < octets; i++) {
@@ -72,8 +72,8 @@ static uint64_t number(const uint8_t *from, size_t octets) {
 typedef uint8_t State[STATE_ROOM];
 typedef uint8_t Old[OCTETS];
 
-/* The number of the copy; how many loads were executed; where a load goes that may be written in
-   part and wasn't executed, and what stood there; the end's state. */
+/* The number of the copy; how many loads were executed; the place of a load that may be written in
+   part and wasn't executed, and the octets that were there; the end's state. */
 typedef struct Kept {
     uint64_t count;
     uint32_t executed, address;
@@ -87,7 +87,7 @@ typedef struct Files {
     int copies, memory;
 } Files;
 
-/* The write behind which the process stops, counted from 1; and how many there were. */
+/* After which write the process stops, counted from 1, and how many there were. */
 static unsigned stops_at, writes;
 
 static void count_write(void) {
@@ -96,8 +96,8 @@ static void count_write(void) {
     }
 }
 
-/* Writes octets piece by piece, up to a place in the file, and waits for the disk; false if it has
-   written what stands before that place, and some go on there. */
+/* Writes octets piece by piece, but none from the place `end` of the file on, and waits for the
+   disk. Returns false if some are left. */
 static bool write_all(int file, size_t end, size_t at, const uint8_t *octets, size_t len) {
     size_t i, size = 0;
     for (i = 0; i < len && at + i + PIECE <= end; i += size) {
@@ -109,7 +109,7 @@ static bool write_all(int file, size_t end, size_t at, const uint8_t *octets, si
     return i >= len;
 }
 
-/* Keeps the end's state with what may have to be put back, in the place of the older copy. */
+/* Saves the end's state with what may have to be put back, in the place of the older copy. */
 static void keep(LptEnd *end, int file, Kept *kept) {
     uint8_t copy[COPY_ROOM] = {0};
     size_t len = 0;
@@ -128,7 +128,7 @@ static void keep(LptEnd *end, int file, Kept *kept) {
     must(write_all(file, 2 * SLOT, (size_t)(kept->count % 2) * SLOT, copy, len + 10), "no room");
 }
 
-/* Reads a copy; false if it was torn, or there is none. */
+/* Reads a copy. Returns false if it was torn, or there is none. */
 static bool read_copy(int file, size_t at, Kept *kept) {
     uint8_t copy[COPY_ROOM] = {0};
     size_t len = 0;
@@ -150,7 +150,7 @@ static bool read_copy(int file, size_t at, Kept *kept) {
            number(copy + len + 8, 2) == lpt_crc16(copy, len + 8);
 }
 
-/* Reads the newer of the copies that are whole; false if none is. */
+/* Reads the newer of the copies that are whole. Returns false if none is. */
 static bool read_kept(int file, Kept *kept) {
     Kept other = {0, 0, 0, 0, 0, {0}, {0}};
     bool is_one = read_copy(file, 0, kept), is_other = read_copy(file, SLOT, &other);
@@ -160,12 +160,12 @@ static bool read_kept(int file, Kept *kept) {
     return is_one || is_other;
 }
 
-/* Puts back what stood there. What the memory refuses, it hasn't changed. */
+/* Puts the old octets back. Where the memory refuses this, it has changed nothing. */
 static void put_back(int memory, const Kept *kept) {
     (void)write_all(memory, LOCKED, kept->address, kept->old, kept->old_len);
 }
 
-/* Whether the memory is what the loads that were executed make of zeros, in their order. */
+/* Returns whether the memory is what the executed loads make of zeros, in their order. */
 static bool is_exact(int memory, uint32_t executed) {
     uint8_t wanted[SIZE] = {0}, octets[SIZE] = {0};
     uint32_t k;
@@ -175,7 +175,8 @@ static bool is_exact(int memory, uint32_t executed) {
     return pread(memory, octets, SIZE, 0) == SIZE && memcmp(octets, wanted, SIZE) == 0;
 }
 
-/* Takes a packet, or the one octet that says that no more come; false if the process has ended. */
+/* Takes a packet, or the one octet that says that no more come. Returns false if the process has
+   ended. */
 static bool take(int from, uint8_t *octets, size_t *len) {
     ssize_t got = read(from, octets, LONGEST);
     *len = got > 0 ? (size_t)got : 0;
@@ -184,7 +185,7 @@ static bool take(int from, uint8_t *octets, size_t *len) {
 
 /* ---- the spacecraft ---- */
 
-/* After a reset: puts back what was kept, and restores the end from its state. */
+/* After a reset: puts back what was saved, and restores the end from its state. */
 static void start(LptEnd **end, Files files, Kept *kept) {
     uint32_t fault;
     if (read_kept(files.copies, kept)) {
@@ -198,7 +199,8 @@ static void start(LptEnd **end, Files files, Kept *kept) {
     must(is_exact(files.memory, kept->executed), "the memory isn't what was executed");
 }
 
-/* Writes the oldest request's load, once what stands there is kept; false if the memory refuses. */
+/* Saves the octets that are there, and then writes the oldest request's load. Returns false if the
+   memory refuses. */
 static bool write_load(LptEnd *end, Files files, Kept *kept, uint32_t address) {
     Old octets = {0};
     size_t len = 0;
@@ -210,8 +212,8 @@ static bool write_load(LptEnd *end, Files files, Kept *kept, uint32_t address) {
     return write_all(files.memory, LOCKED, address, octets, len);
 }
 
-/* Writes what the oldest request writes, reads what it reads, and executes it, or refuses it; then
-   keeps the new state alone. */
+/* Writes what the oldest request writes, reads what it reads, and executes it, or refuses it. Then
+   saves the new state alone. */
 static void execute(LptEnd *end, Files files, Kept *kept) {
     LptApplied applied = {0, {0, 0}, 0};
     LptAccess access = {0, 0, 0, 0};
@@ -220,7 +222,7 @@ static void execute(LptEnd *end, Files files, Kept *kept) {
     bool is_load = false, is_done = true;
     for (at = 0; lpt_end_access(end, at, &access) == LPT_DONE; at++) {
         if (access.write != 0) {
-            must(at == 0, "a load has two areas"); /* ground sends none that has */
+            must(at == 0, "a load has two areas"); /* ground sends no such load */
             is_load = true;
             is_done = write_load(end, files, kept, access.address);
         } else {
@@ -241,7 +243,7 @@ static void execute(LptEnd *end, Files files, Kept *kept) {
     keep(end, files.copies, kept);
 }
 
-/* The spacecraft's process: what each packet makes it send goes back, until ground is done. */
+/* The spacecraft's process: it takes packets and sends its answers back, until ground is done. */
 static void spacecraft(int link, Files files) {
     static Kept kept;
     LptEnd *end = NULL;
@@ -276,8 +278,8 @@ static uint16_t names; /* how many were opened in this pass */
 static uint32_t seen; /* the checksum that was reported last, or one that is none */
 static bool is_refused; /* whether a load is said to have failed */
 
-/* Starts the spacecraft's process. The first one of a pass stops behind a write, and the second
-   one behind one of its first, also while it puts back. */
+/* Starts the spacecraft's process. The first one of a pass stops after a write, and the second one
+   after one of its first writes, also while it puts octets back. */
 static void launch(Files files, unsigned stop) {
     int both[2];
     must(socketpair(AF_UNIX, SOCK_SEQPACKET, 0, both) == 0, "there is no link");
@@ -294,7 +296,7 @@ static void launch(Files files, unsigned stop) {
     to_child = both[0];
 }
 
-/* Waits for the end of the process: whether it was stopped. */
+/* Waits for the end of the process. Returns whether it was stopped. */
 static bool was_stopped(void) {
     int status = 0;
     close(to_child);
@@ -304,7 +306,7 @@ static bool was_stopped(void) {
     return WEXITSTATUS(status) == STOPPED;
 }
 
-/* What came down: the checksum of a check's report, or that a load failed. */
+/* Takes a packet that came down: notes the checksum of a check's report, or that a load failed. */
 static void note(const uint8_t *packet, size_t len) {
     LptOutcome outcome = {0, {0, 0}, 0, 0};
     LptTm tm = {{0, 0, 0, 0, 0, 0, 0, 0}, 0, 0};
@@ -317,8 +319,8 @@ static void note(const uint8_t *packet, size_t len) {
     is_refused = is_refused || (outcome.first == 1 && outcome.second == 4);
 }
 
-/* Sends up what waits on ground, and takes the answers. A packet is lost if the spacecraft's
-   process stops at it; that is started again. */
+/* Sends up the packets that wait on ground, and takes the answers. A packet is lost if the
+   spacecraft's process stops at it; the process is then started again. */
 static void send_up(Files files) {
     uint8_t packet[LONGEST] = {0};
     size_t len = 0;
@@ -354,7 +356,7 @@ static void open_load(Files files, uint16_t k) {
     must(lpt_end_finish(ground, &name) == LPT_DONE, "a request isn't finished");
 }
 
-/* Sends a load until the spacecraft reports its checksum, or that it failed. */
+/* Sends a load again until the spacecraft reports its checksum, or that it failed. */
 static void load(Files files, uint16_t k) {
     const LptRange range = {(uint32_t)k * STEP, OCTETS};
     const uint16_t sum = lpt_crc16(loads[k], OCTETS);
@@ -373,7 +375,7 @@ static void load(Files files, uint16_t k) {
     must(is_refused == (k == LOADS), "what isn't locked is refused, or what is isn't");
 }
 
-/* An empty file, which has no name any more. */
+/* Makes an empty file, whose name is removed at once. */
 static int file(size_t len) {
     char path[] = "/tmp/undo.XXXXXX";
     int made = mkstemp(path);
@@ -381,7 +383,7 @@ static int file(size_t len) {
     return made;
 }
 
-/* A pass, in which the spacecraft is stopped behind this write: whether it was. */
+/* A pass in which the spacecraft is stopped after this write. Returns whether it was stopped. */
 static bool run(unsigned stop) {
     static Kept kept;
     const Files files = {file(0), file(SIZE)};

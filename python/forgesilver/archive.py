@@ -40,15 +40,15 @@ class Listed:
     - place: how many octets are in front of it
     - stray: how many of them, right in front of it, are no packet
     - octets: the whole item, with headers and checksum; `body` begins behind the secondary header
-    - fault: the first test that it fails, if it is FAULTY: damaged, or a sound packet that isn't
-      one of the layout (a segment, or one without a secondary header). Its `packet` is None and its
-      `apid` 0, but for `PusVersion` and `ShortHeader`; `to_dict` has the primary header of such a
-      packet, and of each segment, also a damaged one
+    - fault: the first test that it fails, if it is FAULTY: it is damaged, or it is a sound packet
+      that isn't one of the layout (a segment, or one without a secondary header). Only with
+      `PusVersion` and `ShortHeader` it has `packet` and `apid`; otherwise these are None and 0.
+      `to_dict` has the primary header of such a packet, and of each segment, also a damaged one
     - flags: a telecommand's acknowledgement flags, telemetry's time reference status
     - user: the source ID of a telecommand, the destination ID of telemetry, 0 if there is none
-    - part: which part it carries, with `id`, `number` and `part_octets`; `is_unread` if it should be
-      one, and isn't read as one of the part size
-    - date_text, areas: what the rows of `to_dict` have of its date, and of the areas that it names
+    - part: which part it carries, with `id`, `number` and `part_octets`
+    - is_unread: whether it should carry a part, but has none that fits the part size
+    - date_text, areas: its date, and the areas that it names, as in the rows of `to_dict`
     """
 
     kind: ItemKind
@@ -133,12 +133,14 @@ class Message:
 
 @dataclass(frozen=True)
 class Missing:
-    """A message of an archive that never became whole, or isn't given.
+    """A message of an archive that never became whole, or that has a fault, so `messages` leaves it
+    out.
 
-    - place: how many octets are in front of the packet of its first part that came, None if that
-      isn't known
+    - place: how many octets are in front of the first packet with a part of it; None if that isn't
+      known
     - parts: the missing parts, as the program's `--parts` takes them: `2,4,12-`
-    - fault: why the joined message isn't given; then no part is missing
+    - fault: why the message isn't fit: it is no packet of its direction, or, without checksums, its
+      parts may be those of several messages (`Unsure`). Then no part is missing
     """
 
     direction: Direction
@@ -267,8 +269,8 @@ class Archive(Handle):
         return self._joined(joiner(direction, apid, any, text, self._part_size), direction, apid)
 
     def missing(self) -> list[Missing]:
-        """The messages that never became whole, or aren't given, as far as `messages` has read: what is
-        left of each name is found at the end, in the order of names."""
+        """The messages that never became whole, or have a fault, as far as `messages` has read. What
+        is left of each name at the end comes last, in the order of names."""
         return list(self._missing)
 
     def _joined(self, reader: Reader, direction: Direction, apid: int) -> Iterator[Message]:

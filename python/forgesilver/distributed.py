@@ -6,14 +6,13 @@
     for it in join_files(Client("tcp://scheduler:8786"), paths, part_size=512):
         ...
 
-What it gives is what `join_each` gives of all files one behind the other, in that order. The octets
-are cut into pieces of one size, and each piece is read alone: packets are found behind its cut, as
-behind damage. Then, piece by piece, it is looked up where the piece before it ends: nearly always
-at one of these packets, from which on both readings are the same; otherwise octets are read again
-up to such a packet. The parts of a name go to one of a number of partitions, which takes them in
-the order of the stream.
+What it gives is what `join_each` gives of all files, one after the other, in that order. The octets
+are cut into pieces of one size. Each piece is read alone: its packets are found as they would be
+after damage. The piece before it nearly always ends at one of these packets; from there on both
+readings are the same. If it doesn't, octets are read again from its end up to such a packet. The
+parts of a name all go to one of several partitions, which takes them in the order of the stream.
 
-Each task is a function of its arguments alone, so Dask does one again if a worker is lost. The
+Each task is a function of its arguments alone, so Dask does it again if a worker is lost. The
 workers read the files by the same paths, and must have this package.
 """
 
@@ -151,10 +150,10 @@ def join_files(
     piece: int = PIECE,
     partitions: int = _PARTITIONS,
 ) -> Iterator[Joined]:
-    """What `join_each` gives of the octets of these files, one file behind the other, in the same
+    """What `join_each` gives of the octets of these files, one file after the other, in the same
     order, and with the same exceptions and warnings.
 
-    Pieces of `piece` octets are read side by side. The names that came are kept in so many
+    Pieces of `piece` octets are read in parallel. The names that came are kept in `partitions`
     partitions; for each name at most five messages of the greatest length are in memory.
     """
     part_size = part_size_of(part_size)
@@ -176,7 +175,7 @@ def read_image_of_files(
     piece: int = PIECE,
     partitions: int = _PARTITIONS,
 ) -> Image:
-    """What `read_image` reads in the octets of these files, one file behind the other."""
+    """What `read_image` reads in the octets of these files, one file after the other."""
     apid = number(apid, GREATEST_APID, "the APID")
     piece, partitions = _sizes(piece, partitions)
     wanted = functools.partial(is_dump, apid)

@@ -167,10 +167,14 @@ class End(Handle):
         16, of 1 to 1,048,576 octets each. Ground's has none.
 
         A new end is no restart of an old one: it doesn't know which names were used. So make the
-        other end anew too, and let no older packet come. `state`, from `End.state`, restores one
-        as after a restart, with nothing to send: the clock is the state's, timeout and limits are
-        this configuration's. Give the saved memories too; their sizes aren't compared. Raises
-        `Range`, `ConfigApid` to `ConfigOutgoing`, or `Memories`; of a state `StateShort` to `StateOrder`, or `NoNumber`.
+        other end anew too, and let no older packet come.
+
+        With `state`, from `End.state`, an old end is restored, as after a restart and with nothing
+        to send. The clock is the state's; the timeout and the limits are this configuration's. Give
+        the saved memories too; their sizes aren't compared.
+
+        Raises `Range`, `ConfigApid` to `ConfigOutgoing`, or `Memories`; of a state also
+        `StateShort` to `StateOrder`, or `NoNumber`.
         """
         super().__init__()
         self._length, place = 0, _library.POINTER()
@@ -366,12 +370,14 @@ class End(Handle):
         `outgoing` does: what waited before, reports, and the parts of reports that are too long for
         a packet. If an exception or `break` ends the loop, the next `serve` continues with its packet.
 
-        It finishes these messages, so their lost parts can't be made again. If the network loses packets, use
-        `keep_open`: then `senders` has them, `parts` makes parts again, and you call `finish` when ground has
-        all parts. Retire the names at both ends, at ground's first.
+        It finishes the messages of such reports, so their lost parts can't be made again. If the
+        network loses packets, use `keep_open`: then `senders` has the messages, `parts` makes parts
+        again, and you call `finish` when ground has all parts. Retire the names at both ends, at
+        ground's first.
 
-        If you save the state, take all packets before you send one: `packets = list(end.serve())`. Then
-        save the state and the memories in one write, and send the packets."""
+        If you save the state, take all packets before you send one:
+        `packets = list(end.serve())`. Then save the state and the memories in one write, and send
+        the packets."""
         while self.read():
             pass
         yield from self.outgoing()

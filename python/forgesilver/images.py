@@ -43,8 +43,8 @@ class Passed:
 
 @dataclass(frozen=True)
 class Others:
-    """How many reports or parts weren't taken for one reason, and of the first of them the memory,
-    the APID or the place."""
+    """How many reports or parts weren't taken for one reason, and the memory, the APID or the place
+    of the first of them."""
 
     count: int = 0
     first: Optional[int] = None
@@ -92,9 +92,9 @@ class Image:
 
     @property
     def is_clean(self) -> bool:
-        """Whether octets came, and as far as they go all is well: none is missing, no octets of the
-        archive are no packet, and no report or part was passed over. Reports of other memories and
-        APIDs don't count."""
+        """Whether octets came, none among them is missing, the archive has no damaged packets and no
+        octets between packets, no report or part was passed over, and no report in parts stayed
+        incomplete (`lost`). Reports of other memories and APIDs don't count."""
         passed = self.passed_over or self.parts.count or self.damaged or self.stray or self.lost
         return bool(self.octets) and not self.missing and not passed
 

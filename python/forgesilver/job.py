@@ -24,7 +24,7 @@ _LEAST = {JobKind.LOAD: 4, JobKind.DUMP: 7, JobKind.CHECK: 6}
 
 @dataclass(frozen=True)
 class Progress:
-    """How many requests a job has, and how many of them were carried out, failed, and are open."""
+    """How many requests a job has, and how many of them completed, failed, and are open (`left`)."""
 
     requests: int
     completed: int
@@ -65,7 +65,7 @@ class Job(Handle):
         count: int = 0, tries: int = 10, starts: bool = False,
     ) -> None:
         """Makes a job of a request, whose areas may have any length: they are cut into requests of
-        one packet each.
+        one packet each. If areas of a load overlap, they must have the same octets there.
 
         - source: the job's own, 0 to 65,535: reports go to it, and no job before had it
         - part_size: of the link, 4 to 1,024, of a dump 7 to 1,024, of a check 6 to 1,024
@@ -136,7 +136,8 @@ class Job(Handle):
         self._done(_ground.lpt_ground_packet, given.at, given.len)
 
     def quiet(self) -> None:
-        """Notes that no packet came for as long as the program waits: a new round begins."""
+        """Notes that no packet came for as long as the program waits: a new round begins, or, after
+        `tries` such waits in a row that settled nothing, the job is given up."""
         self._done(_ground.lpt_ground_quiet)
 
     def cut_off(self) -> None:
@@ -165,8 +166,9 @@ class Job(Handle):
             at += 1
 
     def reports(self) -> Iterator[bytes]:
-        """The packets that settled requests. Keep them: after a restart make the job again, with the
-        same source and count, and feed them to it; it then continues where it was."""
+        """The packets that settled requests as completed. Keep them: after a restart make the job
+        again, with the same source and count, and feed them to it; it then continues where it was.
+        Requests that failed are sent again, unless you feed it the reports of their failures too."""
         room = Room(self._most)
         for at in range(self.progress.requests):
             packet = self._copied(_ground.lpt_ground_report, room, at)
@@ -191,7 +193,7 @@ class Job(Handle):
 
     def agrees(self, octets: Octets) -> bool:
         """Whether a check got the checksums of these octets, its areas' octets one after the other.
-        One differing area in 65,536 is taken for the same."""
+        A checksum has 16 bits, so about one differing area in 65,536 is taken for the same."""
         given, told = Given(octets), U32(0)
         self._done(_ground.lpt_ground_agrees, given.at, given.len, byref(told))
         return bool(told.value)

@@ -38,8 +38,8 @@ class Joined:
     - message: the message, or None; then the other fields say why
     - missing: the missing parts, as the program's `--parts` takes them: `2,4,12-`, where `12-` is
       part 12 and all after it; empty if none is missing
-    - is_contradicted: whether a part contradicted those that came, as when another message of the
-      name begins
+    - is_contradicted: whether a part contradicted those that came, for example because another
+      message of this name began
     - fault: why the joined message is no packet of its direction
     """
 
@@ -128,11 +128,12 @@ def _said_of(it: Joined) -> str:
 def join_each(
     packets: Packets, *, part_size: int, apid: Optional[int] = None, any: bool = False
 ) -> Iterator[Joined]:
-    """Each message of these packets, once it is whole; parts, once they are given up for another message of their
-    name; and at the end, in the order of names, what isn't whole.
+    """Yields each message of these packets once it is whole. Yields what came of an incomplete
+    message once it is given up for another one of its name, or at the end, in the order of names.
+
     Damaged and idle packets, those without a part of this APID and size, and octets that are no
-    packet are skipped. Without an APID it is that of the first packet with a part. If parts of
-    another came then, or parts of another size, a `SkippedWarning` says so at the end.
+    packet are skipped. If you give no APID, it is that of the first packet with a part. If parts of
+    another APID came then, or parts of another size, a `SkippedWarning` says so at the end.
 
     If what is joined isn't a packet of its direction, `message` is None and `fault` says why; with
     `any` anything joined is a message. Raises `Range`; and at the end `NotJoined`, if parts don't

@@ -34,7 +34,7 @@ class PieceKind(IntEnum):
     """The first piece of a stream. WHOLE: a packet; in step (see `find_piece`) also an idle
     packet, or one with a right checksum that has no secondary header or is a segment. DAMAGED:
     octets that are no packet, as many as their header says, with a packet or the end after them.
-    STRAY: an octet with which neither begins."""
+    STRAY: an octet with which no such piece begins."""
 
     WHOLE = 1
     DAMAGED = 2
@@ -42,8 +42,9 @@ class PieceKind(IntEnum):
 
 
 class ItemKind(IntEnum):
-    """What stands in an archive: its end; a packet with a secondary header of the layout; an idle
-    packet; as many octets as a header says, which are damaged or a packet of another kind."""
+    """What an archive has. END: its end. PACKET: a packet with a secondary header of the layout.
+    IDLE: an idle packet. FAULTY: as many octets as a header says: a damaged packet, a segment, or a
+    packet whose secondary header is missing or isn't the layout's."""
 
     END = 0
     PACKET = 1
@@ -52,9 +53,10 @@ class ItemKind(IntEnum):
 
 
 class MessageKind(IntEnum):
-    """What becomes of an archive's messages. END: nothing more. NONE: nothing. WHOLE: one is whole.
-    MISSING: parts are given up. OVERTAKES: parts are given up, and another message is whole. UNFIT:
-    one is whole, but isn't given, because it is no packet of its direction."""
+    """What becomes of an archive's messages. END: the archive ends. NONE: nothing happened. WHOLE:
+    a message is whole. MISSING: the parts of an incomplete message are given up. OVERTAKES: parts
+    are given up, and another message is whole. UNFIT: a message is whole, but isn't given, because
+    it is no packet of its direction, or, without checksums, may have parts of several messages."""
 
     END = 0
     NONE = 1
@@ -65,9 +67,9 @@ class MessageKind(IntEnum):
 
 
 class LaidKind(IntEnum):
-    """What a message is to whom wants the image of a memory: no dump report; a part of a message of
-    the APID; a dump report of another APID, one that isn't read, one of another memory, one of the
-    memory."""
+    """What a message is for the image of a memory. OTHER: no dump report. PART: a part of a message
+    of the APID. APID: a dump report of another APID. UNREAD: a dump report whose body isn't read.
+    MEMORY: a dump report of another memory. AREAS: a dump report of this memory."""
 
     OTHER = 0
     PART = 1
@@ -78,8 +80,9 @@ class LaidKind(IntEnum):
 
 
 class Reason(IntEnum):
-    """Why a reception was aborted. EXPIRED: no part came for as long as the timeout. DISCONTINUITY:
-    in strict mode a part came that isn't the next one. CONFLICT: a part contradicts another."""
+    """Why a reception was aborted. EXPIRED: no part came for as long as the timeout, or the
+    reception was given up. DISCONTINUITY: in strict mode a part came that isn't the next one.
+    CONFLICT: a part contradicts another."""
 
     EXPIRED = 1
     DISCONTINUITY = 2
@@ -190,8 +193,9 @@ class JobKind(IntEnum):
 
 
 class Step(IntEnum):
-    """What a job does next. From COMPLETED on it is at its end. COMPLETED: each load was carried out, and each dump
-    or check answered. FAILED: each request is settled, and some failed.
+    """What a job does next. SEND: a packet is to be sent. LISTEN: a packet is to be awaited. From
+    COMPLETED on the job is at its end. COMPLETED: each load was reported as carried out, and each
+    dump or check answered. FAILED: each request is settled, and some were reported as failed.
     GIVEN_UP: some are open, and as many waits in a row as `tries` says settled nothing. CUT_OFF:
     some are open, and nothing more will come."""
 
@@ -209,8 +213,8 @@ class Step(IntEnum):
 
 
 class FateState(IntEnum):
-    """What is known of a job's request. COMPLETED: it was carried out, or a dump or check was
-    answered."""
+    """What is known of a job's request. OPEN: no report has settled it. COMPLETED: a load was
+    reported as carried out, or a dump or check was answered. FAILED: it was reported as failed."""
 
     OPEN = 0
     COMPLETED = 1

@@ -35,7 +35,9 @@ class RequestOutcome:
     - memory_id, areas, start_address, area_length: of a load, dump or check the memory, how many
       areas, and the first
     - accepted, started, completed: whether its success was reported
-    - failure_code, failure: the first failure that was reported, and its words
+    - failure_code, failure: the first failure of acceptance or start (TM[1,2], TM[1,4]) that was
+      reported, and its words. Failures of progress and completion (TM[1,6], TM[1,8]) aren't read:
+      they count as `unread` in the `PassedOver` of the reports
     - acknowledgement: `not acknowledged` if it asks for no report of success, and didn't fail
     - sharers: how many requests have its source and request ID, if they are several: a report is
       taken for each of them
@@ -68,7 +70,8 @@ class RequestOutcome:
 
     @property
     def is_open(self) -> bool:
-        """Whether neither a failure nor the last success that it asks for was reported."""
+        """Whether neither a failure that is read (see `failure_code`) nor the last success that it
+        asks for was reported."""
         return self.failure_code is None and not self._has_last
 
     @property
@@ -89,7 +92,8 @@ class PassedOver:
 
     - parts: of large messages, among requests
     - foreign: packets that aren't read as telecommands among requests, or telemetry among reports
-    - unread: verification reports that aren't read, but those of progress
+    - unread: verification reports that aren't read, but those of successful progress; among them
+      may be failures of progress and completion
     - damaged: how many packets are damaged
     - stray: how many octets with which no packet begins
     """

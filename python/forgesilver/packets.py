@@ -128,11 +128,11 @@ def packets_of(stream: BinaryIO) -> Iterator[bytes]: ...
 def packets_of(stream: Octets) -> Iterator[memoryview]: ...
 def packets_of(stream: Union[Octets, BinaryIO]) -> Iterator[Union[bytes, memoryview]]:
     """The whole packets of a stream, one after the other, idle ones too. The stream is an open binary
-    file, or octets; then the packets are views of these. A packet must begin at its first octet.
+    file, or octets; packets of octets are views of these. A packet must begin at the first octet.
 
     Raises `Version` if no packet begins where another ends, and `More` if the stream ends within one:
-    it was cut, or a length is damaged. Each says at which octet. The rest isn't searched for
-    packets, because a message may contain packets that nobody sent. For a damaged stream use
+    it was cut, or a length is damaged. Both exceptions say at which octet. The rest isn't searched
+    for packets, because a message may contain packets that nobody sent. For a damaged stream use
     `sound_packets_of`, as `join_each` does.
     """
     if not has_octets(stream):

@@ -20,7 +20,7 @@ static void note_signal(int which) { asked = which; }
 
 bool is_over(void) { return asked != 0; }
 
-/* Writes down what has to outlast this cycle. */
+/* Saves what has to outlast this cycle. */
 static void keep(Node *it) {
     size_t len = 0;
     must(lpt_end_state(it->end, it->kept.state, sizeof it->kept.state, &len) == LPT_DONE,
@@ -114,7 +114,7 @@ void node_say(Node *it, const Head *head, const uint8_t *octets, size_t len) {
     pass_place();
 }
 
-/* Reads a datagram that came whole: false if none is there. */
+/* Reads a datagram that came whole. Returns false if there is none. */
 static bool hear(Node *it, Head *head, uint8_t *octets, size_t *len) {
     uint8_t all[MOST_OCTETS + 1] = {0};
     const ssize_t got = recv(it->link, all, sizeof all, 0);
@@ -138,7 +138,7 @@ static bool hear(Node *it, Head *head, uint8_t *octets, size_t *len) {
 
 /* ---- lines ---- */
 
-/* Says a line once this cycle is kept. */
+/* Says a line once this cycle is saved. */
 static void say_later(Node *it, const Head *head, uint8_t kind) {
     if (it->lines_len < MOST_LINES) {
         it->lines[it->lines_len] = *head;
@@ -156,7 +156,8 @@ static Sending *sending_of(Node *it, const LptName *name) {
     return NULL;
 }
 
-/* The receiver says which parts of a message are missing: these octets, and how many there are. */
+/* The receiver says which parts of a message are missing. Writes their numbers, and returns how
+   many octets these have. */
 static size_t missing(Node *it, const Head *head, uint8_t *octets) {
     uint32_t state = LPT_NAME_FREE, from = 1;
     uint16_t part = 0;
@@ -298,7 +299,7 @@ static void flush(Node *it, uint8_t kind, const LptName *name) {
     }
 }
 
-/* Makes a part and sends it: false if its message isn't open any more. */
+/* Makes a part and sends it. Returns false if its message isn't open any more. */
 static bool send_part(Node *it, const LptName *name, uint16_t part) {
     if (lpt_end_part(it->end, name, part) != LPT_DONE) {
         return false;
@@ -307,7 +308,8 @@ static bool send_part(Node *it, const LptName *name, uint16_t part) {
     return true;
 }
 
-/* Sends some of the parts that weren't sent yet, and asks from time to time if all were. */
+/* Sends some of the parts that weren't sent yet. If all were, asks from time to time what is
+   missing. */
 static void send_more(Node *it, Sending *of) {
     Head head = {ASKS, (uint8_t)it->sends, {0, 0}, 0};
     uint32_t k;
@@ -321,7 +323,7 @@ static void send_more(Node *it, Sending *of) {
     }
 }
 
-/* Says of some closed names that they are finished, in turn. */
+/* Says FINISHED for some closed names, one after the other. */
 static void tell_finished(Node *it) {
     Head head = {FINISHED, (uint8_t)it->sends, {0, 0}, 0};
     uint32_t k;

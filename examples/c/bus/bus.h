@@ -1,16 +1,16 @@
 /*
  * What the two programs of this folder share: craft.c is a spacecraft's task on a bus, ground.c its
- * ground. Each has one end, goes by cycles of a millisecond, and may be killed at any place.
+ * ground. Each has one end, runs in cycles of a millisecond, and may be killed at any place.
  *
- * A cycle takes what came, at most so much; does at most one piece of work; sets the clock one
- * tick on; keeps what has to outlast it, in one write; and only then sends. So what a kill takes is
- * as if the link had lost it, and a cycle makes at most 710 calls of the end: 264 for a request, if
- * it has 255 areas, and the rest by the bounds below.
+ * A cycle takes a bounded number of datagrams, does at most one piece of work, advances the clock
+ * by one tick, saves its state in one write, and only then sends. So what is lost by a kill is as
+ * if the link had lost it. A cycle makes at most 710 calls of the end: 264 for a request, if it has
+ * 255 areas, and the others by the bounds below.
  *
- * Datagrams go over UDP. In front of each stand its kind, a name with its direction, and the turn
- * of that name (freeing.h); behind it stands a checksum. Beside packets there are lines of the
- * programs' own: by ASKS the sender of a message asks what is missing of it, and is told part
- * numbers, or that the message has ended; by FINISHED and FREED a name is freed.
+ * Datagrams go over UDP. Each begins with its kind, a name with its direction, and the turn of that
+ * name (freeing.h), and ends with a checksum. Some carry packets, and some are the programs' own
+ * lines. By ASKS the sender of a message asks what is missing of it; the answer is MISSING, with
+ * part numbers, or ENDED. By FINISHED and FREED a name is freed.
  */
 #ifndef BUS_BUS_H
 #define BUS_BUS_H
@@ -21,8 +21,9 @@ enum { APID = 100, SOURCE = 1, NAMES = 16, PART_SIZE = 256, LONGEST = PART_SIZE 
 enum { MEMORY = 1, SIZE = 16384 };
 enum { RECEPTIONS = 8, OUTGOING = 4, TIMEOUT = 300 };
 
-/* The bounds of a cycle: how many datagrams are taken; how many lines, and parts that were asked
-   for, are sent; how many parts of each open message; how many closed names are told. */
+/* The bounds of a cycle: how many datagrams it takes; how many lines, and parts that were asked
+   for, it sends; how many parts of each open message; for how many closed names it says FINISHED.
+   */
 enum { MOST_TAKEN = 8, MOST_LINES = 16, MOST_WANTED = 32, MOST_PARTS = 8, MOST_TOLD = 2 };
 /* How many parts are asked for at once, and after how many cycles without an answer a question is
    asked again. */
@@ -30,7 +31,7 @@ enum { MOST_MISSING = 16, EACH = 8 };
 
 enum Kind { PACKET = 1, PART, ASKS, MISSING, ENDED, FINISHED, FREED, HOUSEKEEPING };
 
-/* What stands in front of a datagram. */
+/* The front of a datagram. */
 typedef struct Head {
     uint8_t kind;
     uint8_t direction;
@@ -40,8 +41,8 @@ typedef struct Head {
 
 enum { HEAD = 10, MOST_OCTETS = HEAD + LONGEST + 2 };
 
-/* A message that is open to be sent: its parts, which is next, and for how many cycles nothing was
-   heard of it since the last one went. */
+/* A message that is open for sending: how many parts it has, which part is next, and for how many
+   cycles nothing was heard of it since the last part was sent. */
 typedef struct Sending {
     LptName name;
     uint32_t parts;
@@ -55,53 +56,54 @@ typedef struct Wanted {
     uint16_t number;
 } Wanted;
 
-/* A program's end, and all that is about it. */
+/* A program's end, and what belongs to it. */
 typedef struct Node {
     LptEnd *end;
     uint32_t sends;    /* the direction in which it sends messages */
     uint32_t receives; /* the other one */
     Kept kept;
-    bool has_changed; /* since it was kept */
+    bool has_changed; /* since it was saved */
     uint8_t *copies;  /* two, over a mapped file */
     int link;
     int journal;
     uint32_t cycles;
-    /* a message that was broken off stands here until the next cycle, beside those that are open */
+    /* the open messages, and until the next cycle those that were broken off */
     Sending sendings[2 * OUTGOING];
     uint32_t sendings_len;
-    Head lines[MOST_LINES]; /* to be sent once this cycle is kept */
+    Head lines[MOST_LINES]; /* to be sent once this cycle is saved */
     uint32_t lines_len;
     Wanted wanted[MOST_WANTED];
     uint32_t wanted_len;
-    LptName told; /* the closed name that was told last */
+    LptName told; /* the closed name for which FINISHED was said last */
 } Node;
 
 /* Begins by the words of the command line: FOLDER PORT ITS_PORT STOP. It opens the link from the
-   first port to the second, and reads what was kept: false if nothing was. */
+   first port to the second, and reads what was saved. Returns false if nothing was. */
 bool node_begin(Node *it, uint32_t side, char **words);
 
 /* ---- a cycle ---- */
 
-/* Takes a datagram that came: false if there is none. The outcome's kind is 0 if it was no packet
-   for the end. */
+/* Takes a datagram that came. Returns false if there is none. The outcome's kind is 0 if it was no
+   packet for the end. */
 bool node_take(Node *it, Head *head, LptOutcome *outcome, uint8_t *packet, size_t *packet_len);
 
 /* Lists a message that was opened, by the program or by the end itself, so that its parts are
    sent. */
 void node_opened(Node *it, const LptName *name);
 
-/* Sets the clock on, and ends at most one reception. */
+/* Advances the clock by one tick, and ends at most one reception. */
 void node_tick(Node *it);
 
-/* Keeps what has to be kept, if something has changed or is to be sent. */
+/* Saves the state, if something has changed or is to be sent. */
 void node_keep(Node *it);
 
-/* Sends lines, packets that wait, parts that were asked for, parts that weren't sent yet, and what
-   has to be said again. */
+/* Sends lines, packets that wait, parts that were asked for, parts that weren't sent yet, and lines
+   that have to be repeated. */
 void node_send(Node *it);
 
-/* Write a line to the journal, with the number of the copy by which it holds. The second adds a
-   name with its direction and turn, and, if they are given, the octets of a message, and more. */
+/* Both write a line to the journal, with the number of the copy in which it is saved. The second
+   adds a name with its direction and turn, and, if they are given, the octets of a message, and
+   more. */
 void node_note(Node *it, const char *line);
 void node_note_name(Node *it, const char *what, uint32_t direction, const LptName *name,
                     const uint8_t *octets, size_t len, const char *more);
@@ -109,10 +111,10 @@ void node_note_name(Node *it, const char *what, uint32_t direction, const LptNam
 /* Sends a datagram. */
 void node_say(Node *it, const Head *head, const uint8_t *octets, size_t len);
 
-/* Waits for the next cycle: false once the program gets SIGTERM. */
+/* Waits for the next cycle. Returns false once the program gets SIGTERM. */
 bool node_wait(Node *it);
 
-/* Whether the program is to begin nothing new: it got SIGUSR1, or is to end. */
+/* Returns whether the program should begin nothing new: it got SIGUSR1, or has to end. */
 bool is_over(void);
 
 #endif

@@ -1,15 +1,15 @@
 /*
- * A spacecraft's task on a bus. Its memory is a mapped file, which it writes by itself: a request
- * is executed first; then the state of the end is kept, in one write with what the request still
- * has to write; then that is written; and only then anything is sent. At a start what was kept last
- * is written again, and the end is restored from its state. So wherever the task is killed, each
- * load that was released is whole in the memory, once, and no other.
+ * A spacecraft's task on a bus. Its memory is a mapped file, which it writes by itself. It executes
+ * a request first. Then it saves the state of the end, in one write with what the request still has
+ * to write. Then it writes that, and only then it sends anything. At a start it writes again what
+ * it saved last, and restores the end from its state. So wherever the task is killed, each load
+ * that was executed is whole in the memory, once, and no other.
  *
  *   craft FOLDER PORT ITS_PORT STOP
  *
- * It hears on PORT, and sends to ITS_PORT. FOLDER has its memory, what it keeps, and a journal of
- * what it released and executed. It kills itself behind the write or send number STOP, if that
- * isn't 0. bus.h says what a cycle is; tests/bus runs and judges both programs.
+ * It listens on PORT, and sends to ITS_PORT. FOLDER has its memory, what it saves, and a journal of
+ * what it released and executed. It kills itself after the write or send number STOP, if that isn't
+ * 0. bus.h says what a cycle is; tests/bus runs and judges both programs.
  */
 #include "bus.h"
 
@@ -21,8 +21,8 @@ enum { HOUSEKEEPING_EACH = 64 };
 static Node node;
 static uint8_t *memory;
 
-/* Restores the end from what was kept, or makes a new one, and writes what is owed to the memory.
- */
+/* Restores the end from what was saved, or makes a new one. Writes what an executed request still
+   has to write to the memory. */
 static void init(char **words) {
     static const LptConfig config = {APID,     PART_SIZE, TIMEOUT,     RECEPTIONS,
                                      OUTGOING, 0,         LPT_MODE_ANY};
@@ -43,8 +43,8 @@ static void init(char **words) {
     node_note(&node, line);
 }
 
-/* Copies what the oldest request writes to what is kept, and what it reads, area after area, to a
-   buffer: false if it asks for more than this task does. */
+/* Copies what the oldest request writes, to be saved, and what it reads, area after area, to a
+   buffer. Returns false if it asks for more than this task does. */
 static bool prepare(uint8_t *octets, size_t room, size_t *read) {
     LptAccess access = {0, 0, 0, 0};
     size_t at, len = 0;
@@ -93,8 +93,8 @@ static void execute(void) {
     }
 }
 
-/* Takes what came, until something is to be executed or reported: whether a request was released.
- */
+/* Takes what came, until there is something to execute or to report. Returns whether a request was
+   released. */
 static bool take(void) {
     static uint8_t message[LPT_LONGEST_PACKET];
     Head head = {0, 0, {0, 0}, 0};
@@ -118,7 +118,7 @@ static bool take(void) {
     return false;
 }
 
-/* Tells ground what the end has to do. */
+/* Sends housekeeping to ground: what the end has to do. */
 static void tell(void) {
     const Head head = {HOUSEKEEPING, LPT_DIRECTION_DOWN, {0, 0}, 0};
     LptView view = {0, 0, 0, 0, 0, 0};
@@ -147,7 +147,7 @@ static void step(void) {
         execute();
     }
     node_tick(&node);
-    node.has_changed = node.has_changed || tells; /* no clock that was told goes back */
+    node.has_changed = node.has_changed || tells; /* the clock that it tells is saved first */
     node_keep(&node);
     write_pieces(memory + node.kept.address, node.kept.owed, node.kept.owed_len);
     node.kept.owed_len = 0;

@@ -1,6 +1,6 @@
 #include "freeing.h"
 
-/* Where the turn of a name stands, or would stand; `len` if it isn't listed. */
+/* Returns the place of a name's turn in the list; `len` if it isn't listed. */
 static uint32_t place(const Freeing *it, uint32_t direction, const LptName *name) {
     uint32_t at = 0;
     while (at < it->len &&
@@ -16,7 +16,7 @@ uint32_t freeing_turn(const Freeing *it, uint32_t direction, const LptName *name
     return at < it->len ? it->of[at].turn : 0;
 }
 
-/* Frees the name at this end, and goes on to its next turn: whether it could. */
+/* Frees the name at this end, and goes on to its next turn. Returns whether it could. */
 static bool go_on(Freeing *it, LptEnd *end, uint32_t direction, const LptName *name) {
     const uint32_t at = place(it, direction, name);
     if (at == FREEING_NAMES || (at < it->len && it->of[at].turn == UINT32_MAX)) {

@@ -1,26 +1,27 @@
 /*
- * Frees names so that they can be used again, over a link that loses, repeats, delays and reorders
- * whatever goes over it, also the two lines of which this protocol is made.
+ * Frees names so that they can be used again. The link may lose, repeat, delay and reorder whatever
+ * goes over it, also the two lines of this protocol.
  *
- * A name has a turn at each end: how often it was freed there. It only grows, and is kept with the
+ * A name has a turn at each end: how often it was freed there. It only grows, and is saved with the
  * state of the end, in the same write. Each packet of a part goes with its name and the turn of its
  * sender, and the receiver hands it to its end only if that is its own turn too. Then:
  *
- *   1. The sender has kept its message's opening, and closed it; if a report of an abortion or a
- *      restart closed it, that is kept, too. It says FINISHED, with its turn, again and again.
- *   2. The receiver, at that turn, frees the name and goes on to the next turn. It keeps both in
- *      one write, and only then answers FREED with the turn that was said. To a line of an earlier
- *      turn it answers the same, since its answer may be lost, and frees nothing.
- *   3. The sender, at the turn of the answer, frees the name and goes on to the next turn. It keeps
+ *   1. The sender has saved its message's opening, and closed the message. If a report of an
+ *      abortion or a restart closed it, that is saved too. The sender says FINISHED, with its turn,
+ *      again and again, until FREED comes.
+ *   2. The receiver, at that turn, frees the name and goes on to the next turn. It saves both in
+ *      one write, and only then answers FREED with the turn that FINISHED had. To a FINISHED of an
+ *      earlier turn it answers the same, because its first answer may be lost, and frees nothing.
+ *   3. The sender, at the turn of the answer, frees the name and goes on to the next turn. It saves
  *      both before it sends a part of the next message, in the write that has that message's
  *      opening.
  *
- * Why a turn: without it a late FINISHED frees the name of the next message. Its parts that come
- * again are then joined to a message that is released twice; and a late part of the former message
- * is joined to the next one.
+ * Why a turn? Without it a late FINISHED would free the name while the next message uses it. Parts
+ * of that message that come again would then be joined to a message that is released twice, and a
+ * late part of the former message would be joined to the next one.
  *
- * It is proved of two nodes that go by these three steps, whatever the link does and whenever they
- * are killed, that they free names in the order of docs/C.md, and keep the promise:
+ * It is proved that two nodes which follow these three steps, whatever the link does and whenever
+ * they are killed, free names in the order of docs/C.md, and keep the promise:
  * lines_free_through_resets, in crates/lpt_freeing.
  */
 #ifndef BUS_FREEING_H
@@ -37,7 +38,7 @@ typedef struct Turn {
     uint32_t turn;
 } Turn;
 
-/* The turns of an end's names. It is kept with the end's state, and is all zeros for a new end. */
+/* The turns of an end's names. It is saved with the end's state, and is all zeros for a new end. */
 typedef struct Freeing {
     Turn of[FREEING_NAMES];
     uint32_t len;
@@ -46,12 +47,12 @@ typedef struct Freeing {
 /* The turn of a name at this end. */
 uint32_t freeing_turn(const Freeing *it, uint32_t direction, const LptName *name);
 
-/* FINISHED came of a name that this end receives. Returns whether to answer FREED, with the same
-   turn, once this and the end's state are kept: not while a reception of the name is open. */
+/* Takes a FINISHED for a name that this end receives. Returns whether to answer FREED, with the
+   same turn, once this and the end's state are saved: not while a reception of the name is open. */
 bool freeing_finished(Freeing *it, LptEnd *end, uint32_t direction, const LptName *name,
                       uint32_t turn);
 
-/* FREED came of a name that this end sends: whether the name is free now. */
+/* Takes a FREED for a name that this end sends. Returns whether the name is free now. */
 bool freeing_freed(Freeing *it, LptEnd *end, uint32_t direction, const LptName *name,
                    uint32_t turn);
 

@@ -1,6 +1,6 @@
 /*
- * The ground of craft.c. It loads noise in parts, asks for dumps and checks in plain requests, and
- * joins the reports that come down.
+ * The ground of craft.c. It loads random octets in parts, asks for dumps and checks in plain
+ * requests, and joins the reports that come down.
  *
  *   ground FOLDER PORT ITS_PORT STOP SEED
  *
@@ -18,7 +18,7 @@ static Node node;
 static uint8_t noise[NOISE];
 static uint64_t luck;
 
-/* A number below n. */
+/* Returns a random number below n. */
 static uint32_t chance(uint32_t n) {
     luck = luck * 6364136223846793005u + 1442695040888963407u;
     return (uint32_t)(luck >> 33) % n;
@@ -41,7 +41,7 @@ static void init(char **words) {
     node_note(&node, "start 0");
 }
 
-/* A free name: false if there is none. */
+/* Finds a free name. Returns false if there is none. */
 static bool find(LptName *name) {
     const uint32_t first = chance(NAMES);
     uint32_t k, state = LPT_NAME_FREE;
@@ -56,7 +56,7 @@ static bool find(LptName *name) {
     return false;
 }
 
-/* Opens a load of noise. */
+/* Opens a load of random octets. */
 static void load(void) {
     static uint8_t body[MOST_LOADED + 10], request[sizeof body + 13];
     const uint32_t len = PART_SIZE + chance(MOST_LOADED - PART_SIZE), at = chance(SIZE - len);
@@ -121,7 +121,7 @@ static void note_dump(const Head *head) {
                    area.len, "");
 }
 
-/* A cycle: whether there may be more to do. */
+/* A cycle. Returns whether there may be more to do. */
 static bool step(void) {
     static uint32_t last;
     const LptName first = {0, 0};

@@ -12,7 +12,7 @@
 
 enum { PIECE = 512, SLOT = 8192, PAGE = 4096 };
 
-/* A copy: its number stands once more behind it, and then a checksum of all. */
+/* A copy: behind it are its number once more, and a checksum of all. */
 typedef struct Copy {
     Kept kept;
     uint64_t count;

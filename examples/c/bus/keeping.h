@@ -1,7 +1,7 @@
 /*
- * What outlasts a program: files that are mapped, and in one of them two copies, written in turn,
- * of what has to be known at the next start. A copy has a number that grows, in front and behind,
- * and a checksum: one that was torn isn't taken.
+ * What outlasts a program: files that are mapped. One of them has two copies, written in turn, of
+ * what the program must know at the next start. A copy has a number that grows, in front and
+ * behind, and a checksum. A copy that was torn isn't used.
  */
 #ifndef BUS_KEEPING_H
 #define BUS_KEEPING_H
@@ -15,8 +15,8 @@ enum { MOST_LOADED = 3000 };
 typedef uint8_t State[512];
 typedef uint8_t Owed[MOST_LOADED];
 
-/* What is kept: the number of the copy; the turns of names and the end's state; what the request
-   that was executed last writes to the memory, which may not be written whole. */
+/* What is saved: the number of the copy; the turns of names and the end's state; what the last
+   executed request writes to the memory, which may not be written whole. */
 typedef struct Kept {
     uint64_t count;
     Freeing freeing;
@@ -30,13 +30,13 @@ typedef struct Kept {
 /* Ends the program if something isn't so. */
 void must(bool is_so, const char *what);
 
-/* A file of the folder, mapped: its octets. */
+/* Maps a file of the folder, and returns its octets. */
 uint8_t *mapped(const char *folder, const char *name, size_t len);
 
-/* The copies in a folder, mapped. */
+/* Maps the copies in a folder. */
 uint8_t *mapped_copies(const char *folder);
 
-/* Reads the newer copy of those that are whole: false if none is. */
+/* Reads the newer copy of those that are whole. Returns false if none is. */
 bool read_kept(const uint8_t *copies, Kept *kept);
 
 /* Writes the next copy in the place of the older one. */
@@ -45,11 +45,11 @@ void write_kept(uint8_t *copies, Kept *kept);
 /* Copies octets to mapped ones piece by piece, and waits for the medium. */
 void write_pieces(uint8_t *to, const uint8_t *octets, size_t len);
 
-/* The checksum of octets, of 32 bits. */
+/* Returns a checksum of octets, of 32 bits. */
 uint32_t sum_of(const uint8_t *octets, size_t len);
 
-/* For a test. The first says after how many writes and sends the program kills itself, never if 0.
-   The second counts one. */
+/* For a test. The first sets after how many writes and sends the program kills itself; 0 means
+   never. The second counts one. */
 void stop_at(unsigned at);
 void pass_place(void);
 

@@ -7,7 +7,7 @@
 
 #include <stdlib.h>
 
-/* Where there is no memory the address still isn't null. */
+/* Even if there is no memory, the address isn't null. */
 static LptTried tried(void *at) {
     static char nowhere;
     LptTried it;

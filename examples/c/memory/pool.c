@@ -1,11 +1,12 @@
 /*
  * The three functions by which the library takes memory, over a pool of a fixed size, for software
- * that has no heap: the first free block that is long enough, and free neighbours are joined.
+ * that has no heap. They give out the first free block that is long enough, and join free
+ * neighbours.
  *
  *   cc -Iinclude -DLPT_POOL=262144 program.c examples/c/memory/pool.c \
  *       build/liblpt_end.a build/liblpt.a
  *
- * It has no lock: calls of different ends may not run at once over it.
+ * The pool has no lock: calls of different ends may not run at the same time.
  */
 #include "lpt_end.h"
 
@@ -15,7 +16,7 @@
 #define LPT_POOL (256 * 1024)
 #endif
 
-/* The head of a block; the octets stand behind it. Each unit has 16 octets, as a head has. */
+/* The head of a block; the octets follow it. A unit has 16 octets, and so has a head. */
 typedef struct Head {
     size_t units;
     size_t is_used;
@@ -28,7 +29,7 @@ _Static_assert(sizeof(Head) == UNIT, "a head has another size");
 static _Alignas(UNIT) Head pool[UNITS];
 
 #ifdef LPT_POOL_REFUSES
-/* A test says here whether a request is refused. */
+/* A test sets here whether a request is refused. */
 int LPT_POOL_REFUSES(void);
 #endif
 

@@ -1,6 +1,6 @@
 /*
- * The pools of pools.h: the first free block that is long enough, and free neighbours are joined.
- * A pool has no lock: one thread at a time uses it.
+ * The pools of pools.h. They give out the first free block that is long enough, and join free
+ * neighbours. A pool has no lock: one thread at a time uses it.
  */
 #include "pools.h"
 
@@ -8,10 +8,10 @@
 
 #include <string.h>
 
-/* The head of a block; its units, of 16 octets each, stand behind it. */
+/* The head of a block; its units, of 16 octets each, follow it. */
 typedef struct LptBlock {
     size_t units;
-    LptPool *user; /* the pool, where the block is given out */
+    LptPool *user; /* the pool, if the block is given out */
 } LptBlock;
 
 enum { UNIT = 16 };

@@ -1,7 +1,7 @@
 /*
  * A ground program that loads a file into memory 1 of a spacecraft, at an address, under a source
- * that no job had before. It writes its packets to standard output, hears reports on standard input,
- * and ends with status 0 once each load was reported as carried out:
+ * that no job had before. It writes its packets to standard output, reads reports from standard
+ * input, and ends with status 0 once each load was reported as completed:
  *
  *   mkfifo down
  *   ./upload image 0 7 < down | lpt link --lose 20% --seed 3 \
@@ -37,7 +37,7 @@ static void must(bool is_so, const char *what) {
     }
 }
 
-/* Reads what has come, and hands over what has come whole. */
+/* Reads the octets that have come, and hands each whole packet to the pass. */
 static void hear(void) {
     static uint8_t came[2 * LONGEST];
     static size_t came_len;
@@ -70,9 +70,9 @@ static void wait_for_one(void) {
     }
 }
 
-/* Writes the next packet. What comes is heard also while the pipe is full, so that ground and the
-   spacecraft never wait for each other. It is noted as sent before, since what is heard may change
-   which one is the next. */
+/* Writes the next packet. It also takes what comes while the pipe is full, so that ground and the
+   spacecraft never wait for each other. It notes the packet as sent before it writes it, because
+   what comes may change which packet is next. */
 static void send_next(void) {
     uint8_t packet[LONGEST] = {0};
     size_t at = 0, len = 0;
@@ -93,7 +93,7 @@ static void send_next(void) {
     }
 }
 
-/* The pass that loads a file. */
+/* Makes the pass that loads a file. */
 static void begin(const char *path, unsigned long address, unsigned long source) {
     static const LptJob load = {LPT_JOB_LOAD, MEMORY, 8, APID, 0, 0, PART_SIZE, TRIES};
     FILE *file = fopen(path, "rb");
@@ -128,7 +128,7 @@ int main(int count, char **words) {
             (unsigned)progress.completed, (unsigned)progress.requests, packets);
     lpt_ground_free(pass);
 
-    /* Who still writes reports meets no closed pipe. */
+    /* Reads the reports that still come, so that their writer doesn't find its pipe closed. */
     must(close(STDOUT_FILENO) == 0, "standard output isn't closed");
     while (hears && poll(&in, 1, END_MS) > 0 && read(STDIN_FILENO, image, MOST) > 0) {
     }
