@@ -16,7 +16,7 @@
  * Each call returns LPT_DONE, or the number of the first thing that is wrong, in the order of its
  * comment. If it isn't LPT_DONE, the call has written nothing through a pointer but what its
  * comment says, and the reader is as it was, except that after LPT_E_MORE there is no last item,
- * and that lpt_reader_message may lose its parts if memory runs out (LPT_E_ALLOCATION). The caller
+ * and that lpt_reader_message loses its parts if memory runs out (LPT_E_ALLOCATION). The caller
  * promises what include/lpt_end.h says about addresses, threads and memory.
  */
 #ifndef LPT_READER_H
