@@ -359,7 +359,7 @@ enum LptFailure {
     LPT_FAILURE_CHECKSUM = 5,       /* an area of a load has a wrong checksum */
     LPT_FAILURE_REPLY_TOO_LONG = 6, /* the report would have more than 65,542 octets */
     LPT_FAILURE_NO_IDENTIFIER = 7,  /* the report goes in parts, and no name for it is free */
-    LPT_FAILURE_TOO_MANY_OPEN = 8   /* the same, and too many messages are open */
+    LPT_FAILURE_TOO_MANY_OPEN = 8   /* it goes in parts, and too many messages are open */
 };
 
 /* The name of a failure code; "unknown" for any other code, which a report may have. */
@@ -574,7 +574,7 @@ uint32_t lpt_part_count(size_t message_len, uint32_t part_size);
  * a buffer, and leaves the rest of it as it was. LPT_DONE; LPT_E_RANGE for a part size
  * that isn't 4 to 1,024 octets; LPT_E_SHORT_MESSAGE; LPT_E_LONG_MESSAGE; LPT_E_NO_SUCH_PART;
  * LPT_E_ROOM. At LPT_DONE and LPT_E_ROOM *needed is the body's length, and *kind the part's kind:
- * the message's subtype is 8 + *kind in a telecommand, and *kind in telemetry.
+ * a telecommand that carries the part has the subtype 8 + *kind, and telemetry the subtype *kind.
  */
 LPT_MUST_USE
 uint32_t lpt_slice_part(const uint8_t *message, size_t message_len, uint32_t part_size, uint16_t id,

@@ -418,10 +418,10 @@ LPT_MUST_USE
 uint32_t lpt_end_access(LptEnd *end, size_t number, LptAccess *access);
 
 /*
- * Copies the octets that an access of the oldest request, which must have been read, writes. They
- * go to the front of a buffer, and the rest of it stays as it was. LPT_DONE; LPT_E_NO_JOB, as
- * always on ground; LPT_E_NOT_READ; LPT_E_NOTHING if the access writes nothing; LPT_E_ROOM. At
- * LPT_DONE and LPT_E_ROOM *needed is how many octets there are.
+ * Copies the octets that an access of the oldest request writes. The request must have been read.
+ * The octets go to the front of a buffer, and the rest of it stays as it was. LPT_DONE;
+ * LPT_E_NO_JOB, as always on ground; LPT_E_NOT_READ; LPT_E_NOTHING if the access writes nothing;
+ * LPT_E_ROOM. At LPT_DONE and LPT_E_ROOM *needed is how many octets there are.
  */
 LPT_MUST_USE
 uint32_t lpt_end_access_octets(LptEnd *end, size_t number, uint8_t *out, size_t out_len,

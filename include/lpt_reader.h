@@ -16,8 +16,8 @@
  * Each call returns LPT_DONE, or the number of the first thing that is wrong, in the order of its
  * comment. If it isn't LPT_DONE, the call has written nothing through a pointer but what its
  * comment says, and the reader is as it was, except that after LPT_E_MORE there is no last item,
- * and that lpt_reader_message may lose its parts (LPT_E_ALLOCATION, out of memory, which comes
- * last). The caller promises what include/lpt_end.h says about addresses, threads and memory.
+ * and that lpt_reader_message loses its parts if memory runs out (LPT_E_ALLOCATION). The caller
+ * promises what include/lpt_end.h says about addresses, threads and memory.
  */
 #ifndef LPT_READER_H
 #define LPT_READER_H
@@ -281,7 +281,7 @@ typedef struct LptLaid {
 
 /*
  * Lays the areas of a message over an image, if the message is a dump report of the memory and the
- * APID: the octets of an item, or of a message that was joined. It lays the areas that
+ * APID. Pass the octets of an item, or of a message that was joined. The call lays the areas that
  * `lpt extract --at` takes. Later areas win, and octets in front of `start` are left out.
  *
  * To make the image that `lpt extract --at` writes:
