@@ -18,12 +18,13 @@ UNASKED = "asked-by-none"
 WRONG_ANSWER = f"\n{UNASKED} : goal.{UNASKED}\n{UNASKED} = ?\n"
 # How a file of answers begins.
 ANSWERS = "use Rattle.{module}.Goals as goal\n"
-# What tries a goal that was open before, where no answer of it is written.
+# What tries a goal that was open before, where no answer of it is written. So few steps are enough to see it open
+# again: `--anew`, which an edit's mark comes from, tries it with all that Rattle has.
 QUICK = """use Rattle.std.proofs.Common.{{arith, rules}}
 use Rattle.std.proofs.lemmas.Grind.{{common_steps}}
 
 pub {goal} : goal.{goal}
-{goal} = first_of (search rules steps 300000, grind (arith, common_steps) steps 300000)
+{goal} = first_of (search rules steps 40000, grind (arith, common_steps) steps 40000)
 """
 # Goals that may be open beside an edit's fault: a condition of what is called, a sum or an index out of range, a
 # place that isn't reached; a way on which an error is handed on; what holds of all values of a type. The last
