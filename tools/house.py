@@ -2,6 +2,7 @@
 
 house.py            looks
 house.py --lower    also writes into tools/counts.txt the numbers that fell
+house.py --edits    prints which crates have more must-fail edits than public functions, and how many of each
 
 Some rules are written down and broken here and there. How often each is broken stands in tools/counts.txt, and
 may only fall: a count above its number is wrong, and of one below it standard error tells the number to write.
@@ -29,10 +30,14 @@ HANDLES = "Handles allowed: Threads, Wait.\n"
 NAMED = re.compile(r"\blpt_\w+/(?:src|specs|proofs)/\w+(?:/\w+)*")
 
 LONGEST_LINE, LONGEST_FUNCTION, LONGEST_FILE, MOST_PARAMETERS = 100, 40, 400, 7
+# So many crates may have a type of one name.
+MOST_NAMESAKES = 3
 IMPORT = re.compile(r" *(?:ghost |pub(?:\(crate\))? )?use ")
 PASSED_ON = re.compile(r"\bErr\((\w+)\) => (?:return )?Err\(\1\)")
 # What a function, and a definition, is named; and the participles that don't end in -ed.
 FUNCTION = re.compile(r" *(?:pub(?:\([a-z]+\))? )?(?:const |unsafe |extern \"C\" )*fn ([a-z0-9]+)(?=[(<])")
+PUBLIC = re.compile(r"^ *pub (?:const |unsafe |extern \"C\" )*fn ", re.MULTILINE)
+TYPE = re.compile(r"^ *(?:pub(?:\([a-z]+\))? )?(?:struct|enum|union) (\w+)", re.MULTILINE)
 DEFINITION = re.compile(r"(?:pub |abbrev )*([a-z0-9]+)(?= .*:| :|$)")
 PARTICIPLES = set(
     """begun brought broken built caught chosen done drawn found gone given heard held hidden kept known left lost
@@ -210,6 +215,26 @@ def wrong_crates(top: pathlib.Path) -> Iterator[str]:
                 yield f"{document.relative_to(top)} names crates/{place}, which isn't there"
 
 
+def wrong_types(top: pathlib.Path) -> Iterator[str]:
+    """Names under which too many types are defined."""
+    places: dict[str, list[str]] = {}
+    for file in sorted(top.glob("crates/*/src/**/*.rt")):
+        for name in TYPE.findall(file.read_text(encoding="utf-8")):
+            places.setdefault(name, []).append(str(file.relative_to(top)))
+    for name, files in places.items():
+        if len(files) > MOST_NAMESAKES:
+            yield f"{len(files)} types are called {name}: {', '.join(files)}"
+
+
+def many_edits(top: pathlib.Path) -> Iterator[str]:
+    """The crates with more must-fail edits than public functions."""
+    for crate in sorted((top / "crates").iterdir()):
+        edits = len(list(crate.glob("must-fail/*.edit")))
+        public = sum(len(PUBLIC.findall(it.read_text(encoding="utf-8"))) for it in crate.glob("src/**/*.rt"))
+        if edits > public:
+            yield f"{crate.name}: {edits} edits, {public} public functions"
+
+
 def wrong_scripts(top: pathlib.Path) -> Iterator[str]:
     """What stands in tests/ and isn't run. The cases of a script stand in a folder."""
     for script in sorted((top / "tests").iterdir()):
@@ -219,8 +244,11 @@ def wrong_scripts(top: pathlib.Path) -> Iterator[str]:
 
 def main(words: list[str]) -> int:
     """Looks at the repository, and prints what is wrong."""
-    if words not in ([], ["--lower"]):
+    if words not in ([], ["--lower"], ["--edits"]):
         sys.exit(__doc__)
+    if words == ["--edits"]:
+        print("\n".join(many_edits(TOP)))
+        return 0
     found = counted(TOP)
     if words:
         lower(COUNTS, found)
@@ -228,7 +256,7 @@ def main(words: list[str]) -> int:
     for rule, number in known.items():
         if len(found.get(rule, [])) < number:
             print(f"house: write '{rule}: {len(found.get(rule, []))}' into tools/counts.txt", file=sys.stderr)
-    wrong = [*wrong_crates(TOP), *wrong_scripts(TOP), *wrong_counts(found, known)]
+    wrong = [*wrong_crates(TOP), *wrong_types(TOP), *wrong_scripts(TOP), *wrong_counts(found, known)]
     for it in wrong:
         print(it)
     return 1 if wrong else 0

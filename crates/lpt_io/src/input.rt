@@ -10,7 +10,7 @@ use crate::progress::{Paced, Voice};
 use crate::watched::Watched;
 use lpt_capture::Captured;
 use lpt_packet::Octets;
-use lpt_sources::{Chain, Span};
+use lpt_sources::{Chain, SourceSpan};
 use lpt_text::{End, FromStd, read_text};
 use std::alloc::Global;
 use std::fs::{File, OpenFile};
@@ -61,7 +61,7 @@ pub type Incoming<R> = FromStd<Watched<Paced<Origin<R>, R>>>;
 
 /// Octets of packets as they come, of files one behind the other, from one place up to another: of
 /// each file the records of a capture, or what is none as it is.
-pub type Packets<R> = Span<Chain<Captured<Incoming<R>>>>;
+pub type Packets<R> = SourceSpan<Chain<Captured<Incoming<R>>>>;
 
 /// The file at this path, or standard input for `-`, to be read.
 ///
@@ -112,7 +112,7 @@ pub fn opened_packets<R: Machine>(
         Ok(()) => {
             let before = from.unwrap_or(0);
             let left = to.map(|to| to.saturating_sub(before));
-            Ok(Span::new(Chain::new(sources), before, left))
+            Ok(SourceSpan::new(Chain::new(sources), before, left))
         }
         Err(failure) => {
             drop(sources);

@@ -36,7 +36,7 @@ pub use lpt_events::{Config, Turns};
 pub use lpt_memory::Memories;
 pub use lpt_packet::Octets;
 pub use lpt_settings::SettingsFault;
-pub use lpt_sources::{Chain, Span};
+pub use lpt_sources::{Chain, SourceSpan};
 pub use lpt_text::{FromStd, StreamFault};
 pub use machine::{Machine, Terminals};
 pub use progress::{Pace, Paced, Voice};

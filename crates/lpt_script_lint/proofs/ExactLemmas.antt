@@ -21,8 +21,8 @@ use Rattle.lpt_script_lint.specs.declared.kinds.Kind.{Kind}
 use Rattle.lpt_script_lint.specs.declared.kinds.Kind.TheVariants as kind
 use Rattle.lpt_script_lint.specs.declared.kinds.Number.TheVariants as number
 use Rattle.lpt_script_lint.specs.declared.reasons.Reason.TheVariants.{LongLine}
-use Rattle.lpt_script_lint.specs.declared.shapes.Shape.{Shape}
-use Rattle.lpt_script_lint.specs.declared.shapes.Shape.TheVariants as shape
+use Rattle.lpt_script_lint.specs.declared.shapes.CommandShape.{CommandShape}
+use Rattle.lpt_script_lint.specs.declared.shapes.CommandShape.TheVariants as shape
 use Rattle.lpt_script_lint.proofs.AreaLemmas.{load_exact}
 use Rattle.lpt_script_lint.proofs.ValueLemmas.{and_false, fit_three, fits, fits_three, flags_read, map_some, misfit_fits, name_fits, name_read, one_fits, one_least, three_turns, two_fits, two_turns, zero_least}
 
@@ -237,7 +237,7 @@ module _ (source : ℕ) where
   -- ---- every command
 
   -- a word behind the command of this name is at fault where the words aren't what it takes
-  abbrev Agrees : List ℕ → Shape → Type 0
+  abbrev Agrees : List ℕ → CommandShape → Type 0
   Agrees text s =
       (ws : List (List ℕ))
       → is_some (shape_misfit s ws)
@@ -353,7 +353,7 @@ module _ (source : ℕ) where
       ∙ sym (map_some (λ n. command.Event (event.Restart n)) (one_of ws >>= node_of)))
 
   -- the same of all commands of a table
-  abbrev AllAgree : List (List ℕ × Shape) → Type 0
+  abbrev AllAgree : List (List ℕ × CommandShape) → Type 0
   AllAgree [] = Unit {0}
   AllAgree (row ∷ rows) = Agrees row.0 row.1 × AllAgree rows
 
@@ -415,18 +415,18 @@ module _ (source : ℕ) where
   )
 
   -- a word is none of these names
-  abbrev IsNone : List (List ℕ × Shape) → List ℕ → Type 0
+  abbrev IsNone : List (List ℕ × CommandShape) → List ℕ → Type 0
   IsNone [] word = Unit {0}
   IsNone (row ∷ rows) word = (is_word row.0 word ≡ false) × IsNone rows word
 
   -- a word is at fault where the words aren't what the command of this name takes
-  abbrev CommandAgrees : List ℕ → List (List ℕ) → Option Shape → Type 0
+  abbrev CommandAgrees : List ℕ → List (List ℕ) → Option CommandShape → Type 0
   CommandAgrees w ws s =
       is_some (command_misfit w ws s)
       ≡ not (is_some (option_and_then (λ k. arguments_of source k ws) (keyword_of w)))
 
   -- this is so of every name where it is so of a table's and of any other
-  by_table : (rows : List (List ℕ × Shape)) (w : List ℕ) (ws : List (List ℕ))
+  by_table : (rows : List (List ℕ × CommandShape)) (w : List ℕ) (ws : List (List ℕ))
       → AllAgree rows
       → (IsNone rows w → CommandAgrees w ws None)
       → CommandAgrees w ws (shape_in rows w)

@@ -13,8 +13,8 @@ use Rattle.lpt_script_lint.specs.declared.kinds.Kind.{Kind}
 use Rattle.lpt_script_lint.specs.declared.kinds.Kind.TheVariants as kind
 use Rattle.lpt_script_lint.specs.declared.kinds.Number.TheVariants as number
 use Rattle.lpt_script_lint.specs.declared.reasons.Reason.TheVariants.{LongLine, MissingShow, NoCommand, NoShow}
-use Rattle.lpt_script_lint.specs.declared.shapes.Shape.{Shape}
-use Rattle.lpt_script_lint.specs.declared.shapes.Shape.TheVariants as shape
+use Rattle.lpt_script_lint.specs.declared.shapes.CommandShape.{CommandShape}
+use Rattle.lpt_script_lint.specs.declared.shapes.CommandShape.TheVariants as shape
 use Rattle.lpt_script_lint.proofs.ExactLemmas.{words_exact}
 use Rattle.lpt_script_lint.proofs.AreaFronts.{area_goes, area_words, areas_stop}
 use Rattle.lpt_script_lint.proofs.WordFronts.{Stops, StopsBehind, kinds_stop, word_here, words_stop}
@@ -100,7 +100,7 @@ show_stop (w ∷ ws) m h = by_kinds (show_kinds w) refl h
         )
 
 -- the words behind a command
-shape_stop : (s : Shape) (ws : List (List ℕ)) (m : Misfit)
+shape_stop : (s : CommandShape) (ws : List (List ℕ)) (m : Misfit)
     → shape_misfit s ws ≡ Some m
     → StopsBehind (λ x. not (is_some (shape_misfit s x))) 1 ws m
 shape_stop shape.Alone ws m h = words_stop [] 1 ws m h
@@ -124,7 +124,7 @@ line_stop : (ws : List (List ℕ)) (m : Misfit)
 line_stop [] m h = absurd cc
 line_stop (w ∷ ws) m h = by_word (is_comment w) (command_shape w) refl refl h
   where
-    by_word : (b : Bool) (o : Option Shape)
+    by_word : (b : Bool) (o : Option CommandShape)
         → is_comment w ≡ b
         → command_shape w ≡ o
         → (if b then None else command_misfit w ws o) ≡ Some m

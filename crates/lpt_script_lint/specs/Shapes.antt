@@ -7,11 +7,11 @@ use Rattle.lpt_script_lint.specs.declared.kinds.Kind.{Kind}
 use Rattle.lpt_script_lint.specs.declared.kinds.Kind.TheVariants as kind
 use Rattle.lpt_script_lint.specs.declared.kinds.Number.TheVariants as number
 use Rattle.lpt_script_lint.specs.declared.reasons.Reason.TheVariants.{NoCommand, NoShow, MissingShow}
-use Rattle.lpt_script_lint.specs.declared.shapes.Shape.{Shape}
-use Rattle.lpt_script_lint.specs.declared.shapes.Shape.TheVariants as shape
+use Rattle.lpt_script_lint.specs.declared.shapes.CommandShape.{CommandShape}
+use Rattle.lpt_script_lint.specs.declared.shapes.CommandShape.TheVariants as shape
 
 -- the commands, with what follows each
-abbrev pub commands : List (List ℕ × Shape)
+abbrev pub commands : List (List ℕ × CommandShape)
 commands =
     (codes "open", shape.Three kind.Direction (kind.Sourced number.Id) kind.Octets)
     ∷ (codes "send", shape.Three kind.Direction (kind.Sourced number.Id) (kind.Number number.Part))
@@ -39,12 +39,12 @@ commands =
     ∷ []
 
 -- what follows the first of these commands that has this name
-abbrev pub shape_in : List (List ℕ × Shape) → List ℕ → Option Shape
+abbrev pub shape_in : List (List ℕ × CommandShape) → List ℕ → Option CommandShape
 shape_in [] word = None
 shape_in (row ∷ rows) word = if is_word row.0 word then Some row.1 else shape_in rows word
 
 -- what follows the command of this name
-abbrev pub command_shape : List ℕ → Option Shape
+abbrev pub command_shape : List ℕ → Option CommandShape
 command_shape word = shape_in commands word
 
 -- how often a node ticks, where that is said
@@ -80,7 +80,7 @@ show_misfit [] = Some (record { word = 1; reason = MissingShow })
 show_misfit (w ∷ ws) = shown_misfit w ws (show_kinds w)
 
 -- what is at fault of the words behind a command
-abbrev pub shape_misfit : Shape → List (List ℕ) → Option Misfit
+abbrev pub shape_misfit : CommandShape → List (List ℕ) → Option Misfit
 shape_misfit shape.Alone ws = misfit [] 1 ws
 shape_misfit (shape.One a) ws = misfit (a ∷ []) 1 ws
 shape_misfit (shape.Two a b) ws = misfit (a ∷ b ∷ []) 1 ws
@@ -91,6 +91,6 @@ shape_misfit shape.Load ws = then_judged load_areas (pass load_kinds 1 ws)
 shape_misfit shape.Show ws = show_misfit ws
 
 -- what is at fault of a line's words
-abbrev pub command_misfit : List ℕ → List (List ℕ) → Option Shape → Option Misfit
+abbrev pub command_misfit : List ℕ → List (List ℕ) → Option CommandShape → Option Misfit
 command_misfit word ws None = Some (misfit_at 0 word NoCommand)
 command_misfit word ws (Some s) = shape_misfit s ws

@@ -10,7 +10,7 @@ use crate::findings::Misfit;
 use crate::fitting::{fits, misfit_at, missing_at, wrong};
 use crate::kinds::{Kind, Number};
 use crate::reasons::Reason;
-use crate::shapes::{Shape, read_command};
+use crate::shapes::{CommandShape, read_command};
 use lpt_script_words::split_word;
 
 /// The words of a load before its areas.
@@ -39,18 +39,18 @@ pub(crate) fn command_misfit(word: &[u8], rest: &[u8]) -> Option<Misfit>
 }
 
 // Which word behind a command is at fault.
-fn shape_misfit(shape: Shape, rest: &[u8]) -> Option<Misfit>
+fn shape_misfit(shape: CommandShape, rest: &[u8]) -> Option<Misfit>
     ensures { result ≡ shape_misfit shape (words rest.now) }
 {
     match shape {
-        Shape::Alone => misfit(&[], 1, rest),
-        Shape::One(a) => misfit(&[a], 1, rest),
-        Shape::Two(a, b) => misfit(&[a, b], 1, rest),
-        Shape::Three(a, b, c) => misfit(&[a, b, c], 1, rest),
-        Shape::Four(a, b, c, d) => misfit(&[a, b, c, d], 1, rest),
-        Shape::Tick => tick_misfit(rest),
-        Shape::Load => load_misfit(rest),
-        Shape::Show => show_misfit(rest),
+        CommandShape::Alone => misfit(&[], 1, rest),
+        CommandShape::One(a) => misfit(&[a], 1, rest),
+        CommandShape::Two(a, b) => misfit(&[a, b], 1, rest),
+        CommandShape::Three(a, b, c) => misfit(&[a, b, c], 1, rest),
+        CommandShape::Four(a, b, c, d) => misfit(&[a, b, c, d], 1, rest),
+        CommandShape::Tick => tick_misfit(rest),
+        CommandShape::Load => load_misfit(rest),
+        CommandShape::Show => show_misfit(rest),
     }
 }
 

@@ -7,7 +7,7 @@ use crate::kinds::{Kind, Number};
 
 /// What follows a command.
 #[derive(Clone, Copy)]
-pub(crate) enum Shape {
+pub(crate) enum CommandShape {
     Alone,
     One(Kind),
     Two(Kind, Kind),
@@ -31,37 +31,43 @@ const SERVICE: Kind = Kind::Number(Number::Service);
 const SUBTYPE: Kind = Kind::Number(Number::Subtype);
 
 /// The commands, with what follows each.
-static COMMANDS: [(&str, Shape); 19] = [
-    ("open", Shape::Three(Kind::Direction, ID, Kind::Octets)),
-    ("send", Shape::Three(Kind::Direction, ID, PART)),
-    ("finish", Shape::Two(Kind::Direction, ID)),
-    ("plain", Shape::Four(FLAGS, SERVICE, SUBTYPE, Kind::Octets)),
-    ("load", Shape::Load),
-    ("retire", Shape::Two(Kind::Direction, ID)),
-    ("lose", Shape::One(PACKET)),
-    ("damage", Shape::Two(Kind::Direction, Kind::Octets)),
-    ("take", Shape::Two(Kind::Lane, PACKET)),
-    ("deliver", Shape::One(Kind::Lane)),
-    ("pass", Shape::Two(Kind::Lane, PACKET)),
-    ("show", Shape::Show),
-    ("tick", Shape::Tick),
-    ("expire", Shape::One(Kind::Node)),
-    ("claim", Shape::One(Kind::Worker)),
-    ("commit", Shape::One(Kind::Worker)),
-    ("apply", Shape::Alone),
-    ("work", Shape::Alone),
-    ("restart", Shape::One(Kind::Node)),
+static COMMANDS: [(&str, CommandShape); 19] = [
+    (
+        "open",
+        CommandShape::Three(Kind::Direction, ID, Kind::Octets),
+    ),
+    ("send", CommandShape::Three(Kind::Direction, ID, PART)),
+    ("finish", CommandShape::Two(Kind::Direction, ID)),
+    (
+        "plain",
+        CommandShape::Four(FLAGS, SERVICE, SUBTYPE, Kind::Octets),
+    ),
+    ("load", CommandShape::Load),
+    ("retire", CommandShape::Two(Kind::Direction, ID)),
+    ("lose", CommandShape::One(PACKET)),
+    ("damage", CommandShape::Two(Kind::Direction, Kind::Octets)),
+    ("take", CommandShape::Two(Kind::Lane, PACKET)),
+    ("deliver", CommandShape::One(Kind::Lane)),
+    ("pass", CommandShape::Two(Kind::Lane, PACKET)),
+    ("show", CommandShape::Show),
+    ("tick", CommandShape::Tick),
+    ("expire", CommandShape::One(Kind::Node)),
+    ("claim", CommandShape::One(Kind::Worker)),
+    ("commit", CommandShape::One(Kind::Worker)),
+    ("apply", CommandShape::Alone),
+    ("work", CommandShape::Alone),
+    ("restart", CommandShape::One(Kind::Node)),
 ];
 
 // What follows the command of this name.
-pub(crate) fn read_command(word: &[u8]) -> Option<Shape>
+pub(crate) fn read_command(word: &[u8]) -> Option<CommandShape>
     ensures { result ≡ command_shape word.now }
 {
     shape_in(&COMMANDS, word)
 }
 
 // What follows the first of these commands that has this name.
-fn shape_in(rows: &[(&str, Shape)], word: &[u8]) -> Option<Shape>
+fn shape_in(rows: &[(&str, CommandShape)], word: &[u8]) -> Option<CommandShape>
     ensures { result ≡ shape_in (map (λ row. (row.0.now, row.1)) rows.now) word.now }
 {
     for row in rows {

@@ -1,7 +1,7 @@
 -- What a source gives from one place up to another.
 use Rattle.std.specs.Prelude.{ℕ, Bool, List, take, drop, Option, Some, None}
 use Rattle.std.specs.Option.{option_map}
-use Rattle.lpt_sources.specs.declared.span.Span.{Span}
+use Rattle.lpt_sources.specs.declared.span.SourceSpan.{SourceSpan}
 
 -- so many octets, or all
 abbrev pub octets_taken : Option ℕ → List ℕ → List ℕ
@@ -12,21 +12,21 @@ octets_taken (Some n) b = take n b
 abbrev pub cut_out : (before : ℕ) → (left : Option ℕ) → List ℕ → List ℕ
 cut_out before left b = octets_taken left (drop before b)
 
-abbrev pub source_of : {S : Type 0} → Span S → S
+abbrev pub source_of : {S : Type 0} → SourceSpan S → S
 source_of s = s.source
 
 -- how many are still to be passed over
-abbrev pub before_of : {S : Type 0} → Span S → ℕ
+abbrev pub before_of : {S : Type 0} → SourceSpan S → ℕ
 before_of s = s.before
 
 -- how many are to be given behind these, where there is a last one
-abbrev pub left_of : {S : Type 0} → Span S → Option ℕ
+abbrev pub left_of : {S : Type 0} → SourceSpan S → Option ℕ
 left_of s = s.left
 
 -- whether a read has failed
-abbrev pub has_failed : {S : Type 0} → Span S → Bool
+abbrev pub has_failed : {S : Type 0} → SourceSpan S → Bool
 has_failed s = s.failed
 
 -- the octets that are still to be given, where those of the source are known
-abbrev pub span_left : {S : Type 0} → (S → Option (List ℕ)) → Span S → Option (List ℕ)
+abbrev pub span_left : {S : Type 0} → (S → Option (List ℕ)) → SourceSpan S → Option (List ℕ)
 span_left remaining s = option_map (cut_out (before_of s) (left_of s)) (remaining (source_of s))

@@ -1,7 +1,7 @@
 //! Sources over other sources: several, one behind the other; the octets of one from one place up
 //! to another; and one of which the first octets are kept.
 //!
-//! The main types are `Chain`, `Span` and `Keeping`. The first calls are their `new`.
+//! The main types are `Chain`, `SourceSpan` and `Keeping`. The first calls are their `new`.
 #![tactic(auto)]
 
 mod chain;
@@ -10,4 +10,4 @@ mod span;
 
 pub use chain::Chain;
 pub use keeping::Keeping;
-pub use span::Span;
+pub use span::SourceSpan;

@@ -10,7 +10,7 @@ use lpt_text::Source;
 /// The octets of a source from one place up to another, or up to its end. Behind the last of them
 /// nothing is read of the source.
 #[derive(Drop)]
-pub struct Span<S> {
+pub struct SourceSpan<S> {
     source: S,
     // How many octets are still to be passed over.
     before: u64,
@@ -19,7 +19,7 @@ pub struct Span<S> {
     failed: bool,
 }
 
-impl<S> Span<S> {
+impl<S> SourceSpan<S> {
     /// The octets of a source without so many in front, and so many of these, or all.
     pub fn new(source: S, before: u64, left: Option<u64>) -> Self
         ensures source { source_of result ≡ source }
@@ -27,7 +27,7 @@ impl<S> Span<S> {
         ensures left { left_of result ≡ left }
         ensures failed { has_failed result ≡ false }
     {
-        Span {
+        SourceSpan {
             source,
             before,
             left,
@@ -51,7 +51,7 @@ impl<S> Span<S> {
     }
 }
 
-impl<S: Source> Source for Span<S> {
+impl<S: Source> Source for SourceSpan<S> {
     ghost remaining = { λ s. span_left S.remaining s };
 
     ghost failed = { λ s. has_failed s };
@@ -71,7 +71,7 @@ impl<S: Source> Source for Span<S> {
     }
 }
 
-impl<S: Source> Span<S> {
+impl<S: Source> SourceSpan<S> {
     // Passes over the octets in front, with this room, and answers whether it could: if not, the
     // source has failed.
     fn pass_over(&mut self, room: &mut [u8]) -> bool

@@ -1,7 +1,7 @@
 -- What was read stood in front.
 use Rattle.std.proofs.Common.{arith, ℕ, take, length-take}
 use Rattle.lpt_sources.proofs.SpanLemmas.{front-length, span-passed}
-use Rattle.lpt_sources.proofs.span.Span.pass_over.Goals as goal
+use Rattle.lpt_sources.proofs.span.SourceSpan.pass_over.Goals as goal
 
 pub loop-self-preserved : goal.loop-self-preserved
 loop-self-preserved g c =

@@ -1,7 +1,7 @@
 use Rattle.std.proofs.Common.{◌≡◌}
 use Rattle.std.specs.Io.KnownBytes.{Keeps}
 use Rattle.lpt_sources.specs.Spans.{has_failed, span_left}
-use Rattle.lpt_sources.proofs.span.Span.pass_over.Given as goal
+use Rattle.lpt_sources.proofs.span.SourceSpan.pass_over.Given as goal
 
 -- what is to be given stays the same
 abbrev pub invariant-loop-self : goal.invariant-loop-self

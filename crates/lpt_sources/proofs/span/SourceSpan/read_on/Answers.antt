@@ -2,7 +2,7 @@
 use Rattle.std.proofs.Common.{arith, Some, ℕ, ◌-◌, take, length-take}
 use Rattle.std.proofs.Math.Seq.{take-append-le}
 use Rattle.lpt_sources.proofs.SpanLemmas.{front-length, span-ended, span-given}
-use Rattle.lpt_sources.proofs.span.Span.read_on.Goals as goal
+use Rattle.lpt_sources.proofs.span.SourceSpan.read_on.Goals as goal
 
 pub returns-clause-bytes : goal.returns-clause-bytes
 returns-clause-bytes g c =
