@@ -1,12 +1,12 @@
 -- What is found in packets.
 use Rattle.std.specs.Prelude.{◌≡◌, ℕ, ◌+◌, Bool, true, false, List, [], ◌∷◌, Option, Some, None, is_err, is_ok, Result, Ok, Err}
-use Rattle.lpt_stream.specs.Pieces.{up_to_limit}
+use Rattle.lpt_stream.specs.declared.cut.Cut.TheVariants.{Framed}
+use Rattle.lpt_stream.specs.Pieces.{Piece, CutsBy, packets_of, up_to_limit}
 use Rattle.lpt_packet.specs.declared.fault.PacketFault.{PacketFault}
 use Rattle.lpt_packet.specs.Packets.{Sight, IdlePacket, APacket}
 use Rattle.lpt_layout.specs.declared.layout.Layout.{Layout}
 use Rattle.lpt_layout.specs.Messages.{message_verdict}
 use Rattle.lpt_layout.specs.Packets.{verdict_as}
-use Rattle.lpt_frames.specs.Frames.{IsCut, Stops}
 use Rattle.lpt_carried.specs.declared.layouts.Layouts.{Layouts}
 use Rattle.lpt_list.specs.declared.hints.Hint.{Hint}
 use Rattle.lpt_list.specs.declared.told.Told.{Told}
@@ -59,10 +59,8 @@ abbrev pub told_after : Layouts → Told → List (List ℕ) → Told
 told_after l t [] = t
 told_after l t (b ∷ bs) = told_after l (told_with l b t) bs
 
--- what is found in octets: in the packets in front, one behind the other, as many as there are
+-- what is found in octets: in the packets among them, as they are cut by the lengths that headers say
 pub record IsTold (l : Layouts) (b : List ℕ) (told : Told) : Type 0 where
-  pub frames : List (List ℕ)
-  pub rest : List ℕ
-  pub cut : IsCut b frames rest
-  pub stops : Stops rest
-  pub counted : told ≡ told_after l told_none frames
+  pub pieces : List Piece
+  pub cut : CutsBy Framed b pieces
+  pub counted : told ≡ told_after l told_none (packets_of pieces)

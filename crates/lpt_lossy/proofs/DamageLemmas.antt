@@ -16,8 +16,9 @@ use Rattle.lpt_packet.specs.Packets.{Fields, Gives, Sight, IdlePacket, APacket, 
 use Rattle.lpt_packet.proofs.BoolLemmas.{and_left, and_right}
 use Rattle.lpt_packet.proofs.Bursts.{burst_shows_in_packet}
 use Rattle.lpt_packet.proofs.SightLemmas.{seen_sight, seen_verdict}
+use Rattle.lpt_carried.specs.declared.layouts.Layouts.{Layouts}
 use Rattle.lpt_lossy.specs.declared.fate.Burst.{Burst}
-use Rattle.lpt_lossy.specs.Bursts.{can_change, bits_changed, has_bits, is_packet, is_read, is_within, IsDamage}
+use Rattle.lpt_lossy.specs.Bursts.{can_change, bits_changed, has_bits, is_read, is_within, shows_changes, IsDamage}
 
 -- ---- two octets in place of two
 
@@ -141,10 +142,11 @@ away : (at k : ℕ)
 away at k h least most =
     (λ (e : k ≡ at). grind (arith, nat_tests), λ (e : k ≡ suc at). grind (arith, nat_tests))
 
-was-packet : (v : Option Sight) → is_packet v ≡ true → (f : Fields) × (v ≡ Some (APacket f))
-was-packet None h = absurd cc
-was-packet (Some IdlePacket) h = absurd cc
-was-packet (Some (APacket f)) h = (f, refl)
+was-packet : (l : Layouts) (v : Option Sight) → shows_changes l v ≡ true
+    → (f : Fields) × (v ≡ Some (APacket f))
+was-packet l None h = absurd cc
+was-packet l (Some IdlePacket) h = absurd cc
+was-packet l (Some (APacket f)) h = (f, refl)
 
 differ-there : (u : Burst) (b : List ℕ)
     → (has_bits u.first || has_bits u.second) ≡ true
@@ -183,17 +185,19 @@ word-kept u b apart within =
     ∙ ap (λ (n : ℕ). 256 * get_or b 4 0 + n) (get-other 5 u.at x y b within five.0 five.1)
 
 -- so what is changed is damage
-pub damage : (u : Burst) (b : List ℕ) → can_change u b ≡ true → IsDamage b (bits_changed u b)
-damage u b h =
+pub damage : (l : Layouts) (u : Burst) (b : List ℕ)
+    → can_change l u b ≡ true
+    → IsDamage b (bits_changed u b)
+damage l u b h =
+    let shows = shows_changes l (packet_seen b) in
     let bits = has_bits u.first || has_bits u.second in
     let apart = (nat_lt 0 u.at && nat_lt u.at 3) || nat_lt 5 u.at in
-    let there = and_left (is_within u (length b)) (is_packet (packet_seen b)) h in
+    let there = and_left (is_within u (length b)) shows h in
     let front = and_left (bits && apart) (nat_lt (u.at + 1) (length b)) there in
     let inside : nat_lt (u.at + 1) (length b) ≡ true
     = and_right (bits && apart) (nat_lt (u.at + 1) (length b)) there in
     let within : suc u.at < length b = grind (arith, nat_tests) in
-    let was =
-    was-packet (packet_seen b) (and_right (is_within u (length b)) (is_packet (packet_seen b)) h) in
+    let was = was-packet l (packet_seen b) (and_right (is_within u (length b)) shows h) in
     let packet = seen_sight b (APacket was.0) was.1 in
     let differ = differ-there u b (and_left bits apart front) within in
     record {
@@ -205,11 +209,12 @@ damage u b h =
     }
 
 -- what a reader answers says it of octets
-pub is_read-packet : (b : List ℕ) (r : Result Seen PacketFault)
+pub is_read-shows : (l : Layouts) (b : List ℕ) (r : Result Seen PacketFault)
     → IsOctets b
     → Gives r (verdict b)
-    → is_read r ≡ is_packet (packet_seen b)
-is_read-packet b (Ok seen_as.Idle) o g = sym (ap is_packet (seen_verdict b o ∙ ap result_ok g))
-is_read-packet b (Ok (seen_as.Packet p)) o g = sym (ap is_packet
+    → is_read l r ≡ shows_changes l (packet_seen b)
+is_read-shows l b (Ok seen_as.Idle) o g = sym (ap (shows_changes l)
     (seen_verdict b o ∙ ap result_ok g))
-is_read-packet b (Err e) o g = sym (ap is_packet (seen_verdict b o ∙ ap result_ok g))
+is_read-shows l b (Ok (seen_as.Packet p)) o g = sym (ap (shows_changes l)
+    (seen_verdict b o ∙ ap result_ok g))
+is_read-shows l b (Err e) o g = sym (ap (shows_changes l) (seen_verdict b o ∙ ap result_ok g))

@@ -6,60 +6,13 @@ use Rattle.std.proofs.lemmas.Bool.Decides.{nat_tests}
 use Rattle.std.proofs.lemmas.List.Concat.{flat_map-append}
 use Rattle.std.proofs.lemmas.List.Sums.{sum_by-append}
 use Rattle.lpt_lossy.specs.declared.fate.Burst.{Burst}
-use Rattle.lpt_lossy.specs.declared.fate.Fate.{Fate}
-use Rattle.lpt_lossy.specs.Bursts.{can_change, bits_changed, IsDamage}
-use Rattle.lpt_lossy.specs.Carrying.{Turns, empty_turns, first_turn, next_turns, held_later, at_once, with_later, so_far, turns_left, packets_carried}
+use Rattle.lpt_lossy.specs.declared.link.LossyLink.{LossyLink}
+use Rattle.lpt_lossy.specs.Bursts.{bits_changed}
+use Rattle.lpt_lossy.specs.Carrying.{Turns, empty_turns, first_turn, next_turns, held_later, at_once, with_later, so_far, turns_first, turns_left, packets_carried}
 use Rattle.lpt_lossy.specs.Laws.{ComesFrom, due}
-use Rattle.lpt_lossy.specs.Ways.{Crossing, copies, if_it_can, copies_made, fate_settled, way, with_burst, written_of}
-use Rattle.lpt_lossy.proofs.DamageLemmas.{damage}
+use Rattle.lpt_lossy.specs.Ways.{Crossing, copies, way, written_of}
 use Rattle.lpt_lossy.proofs.TurnLemmas.{length-empty, length-step}
-
--- ---- one packet
-
-if_can : (c : Bool) (u v : Burst) → (if c then Some u else None) ≡ Some v → (c ≡ true) × (u ≡ v)
-if_can true u v e = (refl, cc)
-if_can false u v e = absurd cc
-
--- a burst that is left was one that can change the octets
-left-can : (o : Option Burst) (b : List ℕ) (v : Burst) → if_it_can o b ≡ Some v → can_change v b
-    ≡ true
-left-can None b v e = absurd cc
-left-can (Some u) b v e =
-    let h = if_can (can_change u b) u v e in
-    subst (λ (u : Burst). can_change u b ≡ true) h.1 h.0
-
-burst-if_lost : (l : Bool) (n : ℕ) (f : Fate) (b : List ℕ) (v : Burst)
-    → f.is_lost ≡ l
-    → (fate_settled n f b).burst ≡ Some v
-    → if_it_can f.burst b ≡ Some v
-burst-if_lost true n f b v l e =
-    absurd (let none : (fate_settled n f b).burst ≡ None = rw l refl in cc)
-burst-if_lost false n f b v l e =
-    let some : (fate_settled n f b).burst ≡ if_it_can f.burst b = rw l refl in
-    sym some ∙ e
-
-pub way-damage : (n : ℕ) (x : Crossing) (u : Burst) → (way n x).burst ≡ Some u
-    → IsDamage x.octets (bits_changed u x.octets)
-way-damage n x u e =
-    damage u x.octets (left-can x.fate.burst x.octets u
-    (burst-if_lost x.fate.is_lost n x.fate x.octets u refl e))
-
-pub made-lost : (w : Fate) (b : List ℕ) → w.is_lost ≡ true → copies_made w b ≡ []
-made-lost w b l = rw l refl
-
-pub made-copies : (w : Fate) (b : List ℕ) (u : Option Burst)
-    → w.is_lost ≡ false
-    → w.burst ≡ u
-    → copies_made w b ≡ copies w.is_twice (with_burst u b)
-made-copies w b u l e = rw (l, e) refl
-
-later-settled : (l : Bool) (n : ℕ) (f : Fate) (b : List ℕ) → f.is_lost ≡ l
-    → (fate_settled n f b).later ≤ n
-later-settled true n f b l = rw l (omega arith)
-later-settled false n f b l = rw l (omega arith)
-
-pub way-later : (n : ℕ) (x : Crossing) → (way n x).later ≤ n
-way-later n x = later-settled x.fate.is_lost n x.fate x.octets refl
+use Rattle.lpt_lossy.proofs.WayLemmas.{made-copies, made-lost, way-damage, way-later}
 
 -- ---- all that is written comes from a packet
 
@@ -117,61 +70,63 @@ all-empty : (P : List ℕ → Type 0) (n : ℕ) → AllHeld P (empty_turns n)
 all-empty P zero = (tt, tt)
 all-empty P (suc n) = (tt, all-empty P n)
 
-abbrev pub AllWritten : (List ℕ → Type 0) → ℕ → List Crossing → Type 0
-AllWritten P n xs = AllByRecursion (λ x. AllByRecursion P (written_of n x)) xs
+abbrev pub AllWritten : (List ℕ → Type 0) → LossyLink → List Crossing → Type 0
+AllWritten P link xs = AllByRecursion (λ x. AllByRecursion P (written_of link x)) xs
 
-all-carried : (P : List ℕ → Type 0) (n : ℕ) (ts : Turns) (xs : List Crossing)
+all-carried : (P : List ℕ → Type 0) (link : LossyLink) (ts : Turns) (xs : List Crossing)
     → AllHeld P ts
-    → AllWritten P n xs
-    → AllByRecursion P (so_far n ts xs ++ flat_map (λ t. t) (turns_left n ts xs))
-all-carried P n ts [] h w = all-turns P ts h
-all-carried P n ts (x ∷ xs) h w =
-    let now = (way n x).later == 0 in
-    let next = next_turns (with_later n x ts) in
-    let rest = all-carried P n next xs
-    (all-next P (with_later n x ts) (all-if_later P now (way n x).later (written_of n x) ts w.0 h))
+    → AllWritten P link xs
+    → AllByRecursion P (so_far link ts xs ++ flat_map (λ t. t) (turns_left link ts xs))
+all-carried P link ts [] h w = all-turns P ts h
+all-carried P link ts (x ∷ xs) h w =
+    let now = (way link x).later == 0 in
+    let next = next_turns (with_later link x ts) in
+    let rest = all-carried P link next xs
+    (all-next P (with_later link x ts)
+    (all-if_later P now (way link x).later (written_of link x) ts w.0 h))
     w.1 in
-    let first = all-append P (at_once n x) (first_turn ts) (all-if_now P now (written_of n x) w.0)
-    (all-first P ts h) in
+    let first = all-append P (at_once link x) (first_turn ts)
+    (all-if_now P now (written_of link x) w.0) (all-first P ts h) in
     subst (AllByRecursion P)
-    (sym (append_assoc (at_once n x ++ first_turn ts) (so_far n next xs)
-    (flat_map (λ (t : List (List ℕ)). t) (turns_left n next xs))))
-    (all-append P (at_once n x ++ first_turn ts) _ first rest)
+    (sym (append_assoc (at_once link x ++ first_turn ts) (so_far link next xs)
+    (flat_map (λ (t : List (List ℕ)). t) (turns_left link next xs))))
+    (all-append P (at_once link x ++ first_turn ts) _ first rest)
 
 all-copies : (P : List ℕ → Type 0) (twice : Bool) (b : List ℕ) → P b
     → AllByRecursion P (copies twice b)
 all-copies P true b p = (p, (p, tt))
 all-copies P false b p = (p, tt)
 
-comes-one : (all : List Crossing) (n : ℕ) (x : Crossing) (lost : Bool) (u : Option Burst)
+comes-one : (all : List Crossing) (link : LossyLink) (x : Crossing) (lost : Bool) (u : Option Burst)
     → Contains all x
-    → (way n x).is_lost ≡ lost
-    → (way n x).burst ≡ u
-    → AllByRecursion (ComesFrom all) (written_of n x)
-comes-one all n x true u among l e =
-    subst (AllByRecursion (ComesFrom all)) (sym (made-lost (way n x) x.octets l)) tt
-comes-one all n x false None among l e =
-    subst (AllByRecursion (ComesFrom all)) (sym (made-copies (way n x) x.octets None l e))
-    (all-copies (ComesFrom all) (way n x).is_twice x.octets (x, among, inl refl))
-comes-one all n x false (Some u) among l e =
-    subst (AllByRecursion (ComesFrom all)) (sym (made-copies (way n x) x.octets (Some u) l e))
-    (all-copies (ComesFrom all) (way n x).is_twice (bits_changed u x.octets)
-    (x, among, inr (way-damage n x u e)))
+    → (way link x).is_lost ≡ lost
+    → (way link x).burst ≡ u
+    → AllByRecursion (ComesFrom all) (written_of link x)
+comes-one all link x true u among l e =
+    subst (AllByRecursion (ComesFrom all)) (sym (made-lost (way link x) x.octets l)) tt
+comes-one all link x false None among l e =
+    subst (AllByRecursion (ComesFrom all)) (sym (made-copies (way link x) x.octets None l e))
+    (all-copies (ComesFrom all) (way link x).is_twice x.octets (x, among, inl refl))
+comes-one all link x false (Some u) among l e =
+    subst (AllByRecursion (ComesFrom all)) (sym (made-copies (way link x) x.octets (Some u) l e))
+    (all-copies (ComesFrom all) (way link x).is_twice (bits_changed u x.octets)
+    (x, among, inr (way-damage link x u e)))
 
-comes-all : (all : List Crossing) (n : ℕ) (xs : List Crossing)
+comes-all : (all : List Crossing) (link : LossyLink) (xs : List Crossing)
     → ((x : Crossing) → Contains xs x → Contains all x)
-    → AllWritten (ComesFrom all) n xs
-comes-all all n [] among = tt
-comes-all all n (x ∷ xs) among = (
-  comes-one all n x (way n x).is_lost (way n x).burst (among x (0, omega arith, refl)) refl refl,
-  comes-all all n xs (λ y c. among y (suc c.0, omega (arith, c.1), c.2)),
+    → AllWritten (ComesFrom all) link xs
+comes-all all link [] among = tt
+comes-all all link (x ∷ xs) among = (
+  comes-one all link x (way link x).is_lost (way link x).burst (among x (0, omega arith, refl)) refl
+      refl,
+  comes-all all link xs (λ y c. among y (suc c.0, omega (arith, c.1), c.2)),
 )
 
-pub carried-comes : (n : ℕ) (xs : List Crossing)
-    → AllByRecursion (ComesFrom xs) (packets_carried n xs)
-carried-comes n xs =
-    all-carried (ComesFrom xs) n (empty_turns n) xs (all-empty (ComesFrom xs) n)
-    (comes-all xs n xs (λ x c. c))
+pub carried-comes : (link : LossyLink) (xs : List Crossing)
+    → AllByRecursion (ComesFrom xs) (packets_carried link xs)
+carried-comes link xs =
+    all-carried (ComesFrom xs) link (turns_first link) xs (all-empty (ComesFrom xs) link.most_later)
+    (comes-all xs link xs (λ x c. c))
 
 -- ---- how much of it is written when
 
@@ -254,33 +209,34 @@ held-step p m (suc k) ps t ts true among h e l = absurd (grind (arith, nat_tests
 held-step p m (suc k) ps t ts false among h e l =
     omega (arith, held-behind p m (held_later k ps ts), held-more p m k ps ts among (omega arith) l)
 
-so-due : (p : List ℕ → Bool) (n : ℕ) (ts : Turns) (xs : List Crossing)
-    → length ts ≡ n + 1
-    → count_by p (so_far n ts xs) ≡ held_in p (length xs) ts + count_by p (due n xs)
+so-due : (p : List ℕ → Bool) (link : LossyLink) (ts : Turns) (xs : List Crossing)
+    → length ts ≡ link.most_later + 1
+    → count_by p (so_far link ts xs) ≡ held_in p (length xs) ts + count_by p (due link xs)
 unfolding held_in
-so-due p n ts [] l = refl
-so-due p n [] (x ∷ xs) l = absurd (omega arith)
-so-due p n (t ∷ ts) (x ∷ xs) l =
-    let k = (way n x).later in
-    let ps = written_of n x in
-    let next = next_turns (with_later n x (t ∷ ts)) in
-    let rest = so-due p n next xs (length-step n x (t ∷ ts) ∙ l) in
+so-due p link ts [] l = refl
+so-due p link [] (x ∷ xs) l = absurd (omega arith)
+so-due p link (t ∷ ts) (x ∷ xs) l =
+    let k = (way link x).later in
+    let ps = written_of link x in
+    let next = next_turns (with_later link x (t ∷ ts)) in
+    let rest = so-due p link next xs (length-step link x (t ∷ ts) ∙ l) in
     omega (
       arith,
       rest,
       held-step p (length xs) k ps t ts (k == 0) (nat_le k (length xs))
-          (omega (arith, way-later n x)) refl refl,
-      count-append p (at_once n x ++ t) (so_far n next xs),
-      count-append p (at_once n x) t,
+          (omega (arith, way-later link x)) refl refl,
+      count-append p (at_once link x ++ t) (so_far link next xs),
+      count-append p (at_once link x) t,
       count-if p (k == 0) ps,
-      count-append p (if nat_le k (length xs) then ps else []) (due n xs),
+      count-append p (if nat_le k (length xs) then ps else []) (due link xs),
       count-if p (nat_le k (length xs)) ps,
     )
 
-pub written-due : (n : ℕ) (xs : List Crossing) (p : List ℕ → Bool)
-    → count_by p (so_far n (empty_turns n) xs) ≡ count_by p (due n xs)
-written-due n xs p =
-    omega (arith, so-due p n (empty_turns n) xs (length-empty n), held-none p (length xs) n)
+pub written-due : (link : LossyLink) (xs : List Crossing) (p : List ℕ → Bool)
+    → count_by p (so_far link (turns_first link) xs) ≡ count_by p (due link xs)
+written-due link xs p =
+    let n = link.most_later in
+    omega (arith, so-due p link (turns_first link) xs (length-empty n), held-none p (length xs) n)
 
 -- ---- all of it
 
@@ -325,38 +281,39 @@ count-step p (suc k) ps t ts true h e = absurd (grind (arith, nat_tests))
 count-step p (suc k) ps t ts false h e =
     omega (arith, count-behind p (held_later k ps ts), count-later p k ps ts (omega arith))
 
-so-all : (p : List ℕ → Bool) (n : ℕ) (ts : Turns) (xs : List Crossing)
-    → length ts ≡ n + 1
-    → count_by p (so_far n ts xs) + count_by p (all_held (turns_left n ts xs))
-    ≡ count_by p (all_held ts) + count_by p (flat_map (written_of n) xs)
-so-all p n ts [] l = omega arith
-so-all p n [] (x ∷ xs) l = absurd (omega arith)
-so-all p n (t ∷ ts) (x ∷ xs) l =
-    let k = (way n x).later in
-    let ps = written_of n x in
-    let next = next_turns (with_later n x (t ∷ ts)) in
-    let rest = so-all p n next xs (length-step n x (t ∷ ts) ∙ l) in
+so-all : (p : List ℕ → Bool) (link : LossyLink) (ts : Turns) (xs : List Crossing)
+    → length ts ≡ link.most_later + 1
+    → count_by p (so_far link ts xs) + count_by p (all_held (turns_left link ts xs))
+    ≡ count_by p (all_held ts) + count_by p (flat_map (written_of link) xs)
+so-all p link ts [] l = omega arith
+so-all p link [] (x ∷ xs) l = absurd (omega arith)
+so-all p link (t ∷ ts) (x ∷ xs) l =
+    let k = (way link x).later in
+    let ps = written_of link x in
+    let next = next_turns (with_later link x (t ∷ ts)) in
+    let rest = so-all p link next xs (length-step link x (t ∷ ts) ∙ l) in
     omega (
       arith,
       rest,
-      count-step p k ps t ts (k == 0) (omega (arith, way-later n x)) refl,
-      count-append p (at_once n x ++ t) (so_far n next xs),
-      count-append p (at_once n x) t,
+      count-step p k ps t ts (k == 0) (omega (arith, way-later link x)) refl,
+      count-append p (at_once link x ++ t) (so_far link next xs),
+      count-append p (at_once link x) t,
       count-if p (k == 0) ps,
       count-append p t (all_held ts),
-      count-append p ps (flat_map (written_of n) xs),
+      count-append p ps (flat_map (written_of link) xs),
     )
 
 count-empty : (p : List ℕ → Bool) (n : ℕ) → count_by p (all_held (empty_turns n)) ≡ 0
 count-empty p zero = refl
 count-empty p (suc n) = count-empty p n
 
-pub written-all : (n : ℕ) (xs : List Crossing) (p : List ℕ → Bool)
-    → count_by p (packets_carried n xs) ≡ count_by p (flat_map (written_of n) xs)
-written-all n xs p =
+pub written-all : (link : LossyLink) (xs : List Crossing) (p : List ℕ → Bool)
+    → count_by p (packets_carried link xs) ≡ count_by p (flat_map (written_of link) xs)
+written-all link xs p =
+    let ts = turns_first link in
     omega (
       arith,
-      count-append p (so_far n (empty_turns n) xs) (all_held (turns_left n (empty_turns n) xs)),
-      so-all p n (empty_turns n) xs (length-empty n),
-      count-empty p n,
+      count-append p (so_far link ts xs) (all_held (turns_left link ts xs)),
+      so-all p link ts xs (length-empty link.most_later),
+      count-empty p link.most_later,
     )

@@ -1,7 +1,9 @@
 pub mod CarryLemmas
 pub mod CountLemmas
+pub mod CutLemmas
 pub mod DamageLemmas
 pub mod FrontLemmas
 pub mod LawLemmas
 pub mod PartLemmas
 pub mod TurnLemmas
+pub mod WayLemmas

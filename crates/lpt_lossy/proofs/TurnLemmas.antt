@@ -6,8 +6,9 @@ use Rattle.std.proofs.lemmas.List.{length-append, length-map, map-append}
 use Rattle.std.proofs.lemmas.List.Concat.{flat_map-append}
 use Rattle.lpt_stream.specs.Streams.{all_octets}
 use Rattle.lpt_lossy.specs.declared.fate.Fate.{Fate}
+use Rattle.lpt_lossy.specs.declared.link.LossyLink.{LossyLink}
 use Rattle.lpt_lossy.specs.declared.turns.Turns.{Turns as TurnBuffers}
-use Rattle.lpt_lossy.specs.Carrying.{Turns, empty_turns, first_turn, next_turns, held_later, at_once, with_later, so_far, turns_left}
+use Rattle.lpt_lossy.specs.Carrying.{Turns, empty_turns, first_turn, next_turns, held_later, at_once, with_later, so_far, turns_first, turns_left}
 use Rattle.lpt_lossy.specs.TurnsInside.{IsHeld, behind_turn, carried_now, carried_turns, first_octets, handed_now, handed_turns, next_octets, passed_octets, octets_repeated, turn_octets}
 use Rattle.lpt_lossy.specs.Ways.{Crossing, copies, copies_made, way, with_burst, written_of}
 
@@ -43,11 +44,12 @@ octets-if_now true ps = refl
 octets-if_now false ps = refl
 
 -- what is written of a packet as it comes
-pub octets-at_once : (n : ℕ) (x : Crossing)
-    → all_octets (at_once n x) ≡ handed_now (way n x) (with_burst (way n x).burst x.octets)
-octets-at_once n x =
-    octets-if_now ((way n x).later == 0) (written_of n x)
-    ∙ ap (λ (b : List ℕ). if (way n x).later == 0 then b else []) (octets-made (way n x) x.octets)
+pub octets-at_once : (link : LossyLink) (x : Crossing)
+    → all_octets (at_once link x) ≡ handed_now (way link x) (with_burst (way link x).burst x.octets)
+octets-at_once link x =
+    octets-if_now ((way link x).later == 0) (written_of link x)
+    ∙ ap (λ (b : List ℕ). if (way link x).later == 0 then b else [])
+    (octets-made (way link x) x.octets)
 
 -- ---- turns
 
@@ -73,13 +75,13 @@ octets-if_later : (now : Bool) (k : ℕ) (ps : List (List ℕ)) (ts : Turns)
 octets-if_later true k ps ts = refl
 octets-if_later false k ps ts = octets-later k ps ts
 
-octets-with_later : (n : ℕ) (x : Crossing) (ts : Turns)
-    → map all_octets (with_later n x ts)
-    ≡ handed_turns (way n x) (with_burst (way n x).burst x.octets) (map all_octets ts)
-octets-with_later n x ts =
-    octets-if_later ((way n x).later == 0) (way n x).later (written_of n x) ts
-    ∙ ap (λ (b : List ℕ). if (way n x).later == 0 then map all_octets ts
-    else behind_turn (way n x).later b (map all_octets ts)) (octets-made (way n x) x.octets)
+octets-with_later : (link : LossyLink) (x : Crossing) (ts : Turns)
+    → map all_octets (with_later link x ts)
+    ≡ handed_turns (way link x) (with_burst (way link x).burst x.octets) (map all_octets ts)
+octets-with_later link x ts =
+    octets-if_later ((way link x).later == 0) (way link x).later (written_of link x) ts
+    ∙ ap (λ (b : List ℕ). if (way link x).later == 0 then map all_octets ts
+    else behind_turn (way link x).later b (map all_octets ts)) (octets-made (way link x) x.octets)
 
 -- what is held later isn't held for this turn
 first-behind : (k : ℕ) (b : List ℕ) (os : List (List ℕ)) (now : Bool)
@@ -113,48 +115,49 @@ turn-more items vs ws v k were e none =
 -- ---- a packet
 
 -- what is written with a packet
-pub octets-now : (n : ℕ) (x : Crossing) (ts : Turns) (t : TurnBuffers)
+pub octets-now : (link : LossyLink) (x : Crossing) (ts : Turns) (t : TurnBuffers)
     → IsHeld ts t
-    → carried_now (way n x) x.octets (turn_octets t) ≡ all_octets (at_once n x ++ first_turn ts)
-octets-now n x ts t h =
-    let q = with_burst (way n x).burst x.octets in
-    ap (λ (b : List ℕ). handed_now (way n x) q ++ b)
-    (first-behind (way n x).later (passed_octets (way n x) q) (turn_octets t)
-    ((way n x).later == 0) refl
+    → carried_now (way link x) x.octets (turn_octets t)
+    ≡ all_octets (at_once link x ++ first_turn ts)
+octets-now link x ts t h =
+    let q = with_burst (way link x).burst x.octets in
+    ap (λ (b : List ℕ). handed_now (way link x) q ++ b)
+    (first-behind (way link x).later (passed_octets (way link x) q) (turn_octets t)
+    ((way link x).later == 0) refl
     ∙ ap first_octets h.octets_are ∙ sym (octets-first ts))
-    ∙ ap (λ (b : List ℕ). b ++ all_octets (first_turn ts)) (sym (octets-at_once n x))
-    ∙ sym (octets-append (at_once n x) (first_turn ts))
+    ∙ ap (λ (b : List ℕ). b ++ all_octets (first_turn ts)) (sym (octets-at_once link x))
+    ∙ sym (octets-append (at_once link x) (first_turn ts))
 
 -- what is held then
-pub held-next : (n : ℕ) (x : Crossing) (ts : Turns) (t new : TurnBuffers)
+pub held-next : (link : LossyLink) (x : Crossing) (ts : Turns) (t new : TurnBuffers)
     → IsHeld ts t
-    → turn_octets new ≡ carried_turns (way n x) x.octets (turn_octets t)
-    → IsHeld (next_turns (with_later n x ts)) new
-held-next n x ts t new h e =
-    let q = with_burst (way n x).burst x.octets in
+    → turn_octets new ≡ carried_turns (way link x) x.octets (turn_octets t)
+    → IsHeld (next_turns (with_later link x ts)) new
+held-next link x ts t new h e =
+    let q = with_burst (way link x).burst x.octets in
     record {
       octets_are =
           e
-          ∙ ap (λ (os : List (List ℕ)). next_octets (handed_turns (way n x) q os)) h.octets_are
-          ∙ ap next_octets (sym (octets-with_later n x ts))
-          ∙ sym (octets-next (with_later n x ts));
+          ∙ ap (λ (os : List (List ℕ)). next_octets (handed_turns (way link x) q os)) h.octets_are
+          ∙ ap next_octets (sym (octets-with_later link x ts))
+          ∙ sym (octets-next (with_later link x ts));
     }
 
 -- ---- packet after packet
 
-pub so_far-append : (n : ℕ) (ts : Turns) (xs ys : List Crossing)
-    → so_far n ts (xs ++ ys) ≡ so_far n ts xs ++ so_far n (turns_left n ts xs) ys
-so_far-append n ts [] ys = refl
-so_far-append n ts (x ∷ xs) ys =
-    let next = next_turns (with_later n x ts) in
-    let now = at_once n x ++ first_turn ts in
-    ap (λ (ps : List (List ℕ)). now ++ ps) (so_far-append n next xs ys)
-    ∙ sym (append_assoc now (so_far n next xs) (so_far n (turns_left n next xs) ys))
+pub so_far-append : (link : LossyLink) (ts : Turns) (xs ys : List Crossing)
+    → so_far link ts (xs ++ ys) ≡ so_far link ts xs ++ so_far link (turns_left link ts xs) ys
+so_far-append link ts [] ys = refl
+so_far-append link ts (x ∷ xs) ys =
+    let next = next_turns (with_later link x ts) in
+    let now = at_once link x ++ first_turn ts in
+    ap (λ (ps : List (List ℕ)). now ++ ps) (so_far-append link next xs ys)
+    ∙ sym (append_assoc now (so_far link next xs) (so_far link (turns_left link next xs) ys))
 
-pub left-append : (n : ℕ) (ts : Turns) (xs ys : List Crossing)
-    → turns_left n ts (xs ++ ys) ≡ turns_left n (turns_left n ts xs) ys
-left-append n ts [] ys = refl
-left-append n ts (x ∷ xs) ys = left-append n (next_turns (with_later n x ts)) xs ys
+pub left-append : (link : LossyLink) (ts : Turns) (xs ys : List Crossing)
+    → turns_left link ts (xs ++ ys) ≡ turns_left link (turns_left link ts xs) ys
+left-append link ts [] ys = refl
+left-append link ts (x ∷ xs) ys = left-append link (next_turns (with_later link x ts)) xs ys
 
 -- ---- how many turns there are
 
@@ -177,22 +180,24 @@ length-next : (ts : Turns) → length (next_turns ts) ≡ length ts
 length-next [] = refl
 length-next (t ∷ ts) = omega (arith, length-append {A = List (List ℕ)} ts ([] ∷ []))
 
-pub length-step : (n : ℕ) (x : Crossing) (ts : Turns) → length (next_turns (with_later n x ts))
-    ≡ length ts
-length-step n x ts =
-    length-next (with_later n x ts)
-    ∙ length-if_later ((way n x).later == 0) (way n x).later (written_of n x) ts
+pub length-step : (link : LossyLink) (x : Crossing) (ts : Turns)
+    → length (next_turns (with_later link x ts)) ≡ length ts
+length-step link x ts =
+    length-next (with_later link x ts)
+    ∙ length-if_later ((way link x).later == 0) (way link x).later (written_of link x) ts
 
-length-left : (n : ℕ) (ts : Turns) (xs : List Crossing) → length (turns_left n ts xs) ≡ length ts
-length-left n ts [] = refl
-length-left n ts (x ∷ xs) = length-left n (next_turns (with_later n x ts)) xs ∙ length-step n x ts
+length-left : (link : LossyLink) (ts : Turns) (xs : List Crossing)
+    → length (turns_left link ts xs) ≡ length ts
+length-left link ts [] = refl
+length-left link ts (x ∷ xs) =
+    length-left link (next_turns (with_later link x ts)) xs ∙ length-step link x ts
 
 -- one more than a packet may be later
-pub turns_are : (n : ℕ) (xs : List Crossing) (t : TurnBuffers)
-    → IsHeld (turns_left n (empty_turns n) xs) t
-    → length (turn_octets t) ≡ n + 1
-turns_are n xs t h =
+pub turns_are : (link : LossyLink) (xs : List Crossing) (t : TurnBuffers)
+    → IsHeld (turns_left link (turns_first link) xs) t
+    → length (turn_octets t) ≡ link.most_later + 1
+turns_are link xs t h =
     ap (λ (os : List (List ℕ)). length os) h.octets_are
-    ∙ length-map (turns_left n (empty_turns n) xs) all_octets
-    ∙ length-left n (empty_turns n) xs
-    ∙ length-empty n
+    ∙ length-map (turns_left link (turns_first link) xs) all_octets
+    ∙ length-left link (turns_first link) xs
+    ∙ length-empty link.most_later

@@ -1,11 +1,15 @@
 -- Changed bits of packets.
 use Rattle.std.specs.Prelude.{◌≡◌, ℕ, ◌+◌, ◌&&◌, ◌||◌, nat_lt, Bool, true, false, List, ◌∷◌, [], ◌++◌, length, take, drop, slice_index, bit_xor, Option, None, Some, Result, Ok, Err}
 use Rattle.lpt_packet.specs.declared.fault.PacketFault.{PacketFault}
+use Rattle.lpt_packet.specs.declared.packet.PacketKind.{PacketKind}
+use Rattle.lpt_packet.specs.declared.packet.PacketKind.TheVariants.{Tm, Tc}
 use Rattle.lpt_packet.specs.declared.packet.Seen.{Seen}
 use Rattle.lpt_packet.specs.declared.packet.Seen.TheVariants as seen_as
 use Rattle.lpt_packet.specs.Bursts.{DifferInBurst}
 use Rattle.lpt_packet.specs.Numbers.{word_at}
 use Rattle.lpt_packet.specs.Packets.{Fields, Sight, IdlePacket, APacket, IsPacket, packet_seen}
+use Rattle.lpt_carried.specs.declared.layouts.Layouts.{Layouts}
+use Rattle.lpt_carried.specs.declared.layouts.Tailored.{Tailored}
 use Rattle.lpt_lossy.specs.declared.fate.Burst.{Burst}
 
 -- whether these are bits of an octet, and some of them
@@ -20,21 +24,33 @@ is_within u len =
     && ((nat_lt 0 u.at && nat_lt u.at 3) || nat_lt 5 u.at)
     && nat_lt (u.at + 1) len
 
+-- how packets of this type are laid out
+abbrev pub tailored_for : PacketKind → Layouts → Tailored
+tailored_for Tm l = l.telemetry
+tailored_for Tc l = l.telecommands
+
+-- whether octets are a packet that isn't idle, of a type that has a checksum
+abbrev pub shows_changes : Layouts → Option Sight → Bool
+shows_changes l None = false
+shows_changes l (Some IdlePacket) = false
+shows_changes l (Some (APacket f)) = (tailored_for f.kind l).packets.has_checksum
+
+-- the same of what a reader answered
+abbrev pub is_read : Layouts → Result Seen PacketFault → Bool
+is_read l (Ok seen_as.Idle) = false
+is_read l (Ok (seen_as.Packet p)) = (tailored_for p.kind l).packets.has_checksum
+is_read l (Err e) = false
+
+-- whether octets of these layouts are changed by a burst: it is within them, and they are a packet
+-- that isn't idle, of a type that has a checksum
+abbrev pub can_change : Layouts → Burst → List ℕ → Bool
+can_change l u b = is_within u (length b) && shows_changes l (packet_seen b)
+
 -- whether octets are a packet that isn't idle
 abbrev pub is_packet : Option Sight → Bool
 is_packet None = false
 is_packet (Some IdlePacket) = false
 is_packet (Some (APacket f)) = true
-
--- the same of what a reader answered
-abbrev pub is_read : Result Seen PacketFault → Bool
-is_read (Ok seen_as.Idle) = false
-is_read (Ok (seen_as.Packet p)) = true
-is_read (Err e) = false
-
--- whether octets are changed by a burst: it is within them, and they are a packet that isn't idle
-abbrev pub can_change : Burst → List ℕ → Bool
-can_change u b = is_within u (length b) && is_packet (packet_seen b)
 
 -- octets with those bits changed
 abbrev pub bits_changed : Burst → List ℕ → List ℕ

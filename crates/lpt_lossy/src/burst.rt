@@ -2,10 +2,10 @@
 
 ghost use Rattle.std.specs.Prelude.{◌≡◌, length, true, IfOk};
 ghost use Rattle.lpt_packet.specs.Packets.{packet_seen};
-ghost use Rattle.lpt_lossy.specs.Bursts.{can_change, bits_changed, is_packet, is_read, is_within};
+ghost use Rattle.lpt_lossy.specs.Bursts.{can_change, bits_changed, is_read, is_within, shows_changes, tailored_for};
 
-use crate::Burst;
-use lpt_packet::{Octets, PacketFault, Seen, read_packet};
+use crate::{Burst, Layouts};
+use lpt_packet::{Octets, PacketFault, PacketKind, Seen, read_packet};
 use std::alloc::{AllocError, Global};
 
 // Whether a burst changes bits, within so many octets, and none of the first octet and of the
@@ -19,26 +19,39 @@ fn is_within(burst: &Burst, len: usize) -> bool
     has_bits && is_apart && at < len && at + 1 < len
 }
 
-// Whether octets are changed by a burst: it is within them, and they are a packet, so that its
-// checksum shows that they were.
-pub(crate) fn can_change(burst: &Burst, octets: &[u8]) -> bool
-    ensures { result ≡ can_change burst.now octets.now }
+// Whether octets of these layouts are changed by a burst: it is within them, and they are a packet
+// whose checksum shows that they were.
+pub(crate) fn can_change(layouts: &Layouts, burst: &Burst, octets: &[u8]) -> bool
+    ensures { result ≡ can_change layouts.now burst.now octets.now }
 {
-    is_within(burst, octets.len()) && is_packet(octets)
+    is_within(burst, octets.len()) && shows_changes(layouts, octets)
 }
 
-// Whether octets read as a packet that isn't idle.
-fn is_packet(octets: &[u8]) -> bool
-    ensures { result ≡ is_packet (packet_seen octets.now) }
+// Whether octets read as a packet that isn't idle, of a type that has a checksum.
+fn shows_changes(layouts: &Layouts, octets: &[u8]) -> bool
+    ensures { result ≡ shows_changes layouts.now (packet_seen octets.now) }
 {
-    is_read(&read_packet(octets))
+    is_read(layouts, &read_packet(octets))
 }
 
-// Whether what was read is a packet that isn't idle.
-fn is_read(read: &Result<Seen<'_>, PacketFault>) -> bool
-    ensures { result ≡ is_read read.now }
+// Whether what was read is such a packet.
+fn is_read(layouts: &Layouts, read: &Result<Seen<'_>, PacketFault>) -> bool
+    ensures { result ≡ is_read layouts.now read.now }
 {
-    matches!(read, Ok(Seen::Packet(_)))
+    match read {
+        Ok(Seen::Packet(packet)) => has_checksum(layouts, packet.kind),
+        Ok(Seen::Idle) | Err(_) => false,
+    }
+}
+
+// Whether packets of a type have a checksum.
+fn has_checksum(layouts: &Layouts, kind: PacketKind) -> bool
+    ensures { result ≡ (tailored_for kind layouts.now).packets.has_checksum }
+{
+    match kind {
+        PacketKind::Tm => layouts.telemetry.packets.has_checksum,
+        PacketKind::Tc => layouts.telecommands.packets.has_checksum,
+    }
 }
 
 // A copy of octets with those bits changed. The only error is out of memory.

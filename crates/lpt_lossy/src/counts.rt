@@ -33,13 +33,14 @@ pub struct LossyEnd {
 }
 
 impl CrossingCounts {
-    ghost use Rattle.std.specs.Prelude.{◌≡◌, ◌++◌, ◌∷◌, ℕ, List, []};
+    ghost use Rattle.std.specs.Prelude.{◌≡◌, ◌++◌, ◌∷◌, List, []};
+    ghost use Rattle.lpt_lossy.specs.declared.link.LossyLink.{LossyLink};
     ghost use Rattle.lpt_lossy.specs.Counts.{IsCounted};
     ghost use Rattle.lpt_lossy.specs.Ways.{way, Crossing};
 
     // Of no packets.
     pub(crate) fn new() -> CrossingCounts
-        ensures { (n : ℕ) → IsCounted n [] result }
+        ensures { (link : LossyLink) → IsCounted link [] result }
     {
         CrossingCounts {
             lost: 0,
@@ -52,8 +53,8 @@ impl CrossingCounts {
 
     // Counts a packet of which this became.
     pub(crate) fn add(&mut self, became: &Fate)
-        ensures { (n : ℕ) (xs : List Crossing) (x : Crossing) → became.now ≡ way n x
-            → IsCounted n xs self.old → IsCounted n (xs ++ x ∷ []) self.new }
+        ensures { (link : LossyLink) (xs : List Crossing) (x : Crossing) → became.now ≡ way link x
+            → IsCounted link xs self.old → IsCounted link (xs ++ x ∷ []) self.new }
     {
         self.lost = one_more(self.lost, became.is_lost);
         self.repeated = one_more(self.repeated, became.is_twice);

@@ -3,7 +3,8 @@
 //!
 //! A stream is cut by lengths alone (CCSDS 133.0-B): nothing is searched in it, and no octets of a
 //! packet are ever taken for another one. What becomes of a packet, a `Decider` decides; `Dice` is
-//! one that throws, by a seed and `Odds`. The first call is `lossy_stream`.
+//! one that throws, by a seed and `Odds`. The first call is `lossy_stream`, with a `LossyLink`,
+//! which says by which layouts packets are judged.
 #![tactic(auto)]
 
 mod burst;
@@ -12,6 +13,7 @@ mod counts;
 mod dice;
 mod fate;
 pub mod laws;
+mod link;
 mod lossy;
 mod settling;
 mod turns;
@@ -20,5 +22,7 @@ mod words;
 pub use counts::{CrossingCounts, LossyEnd};
 pub use dice::{Dice, Odds};
 pub use fate::{Burst, Decider, Fate};
+pub use link::LossyLink;
 pub use lossy::lossy_stream;
+pub use lpt_carried::Layouts;
 pub use lpt_text::{Sink, Source, StreamFault};

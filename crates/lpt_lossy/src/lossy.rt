@@ -3,24 +3,25 @@
 ghost use Rattle.std.specs.Prelude.{◌≡◌, ◌==◌, if◌then◌else◌, length, None, Some, IfErr, IfOk, IsOk, OnOk};
 ghost use Rattle.std.specs.List.{concat};
 ghost use Rattle.std.specs.Io.KnownBytes.{Appends};
+ghost use Rattle.lpt_packet.specs.Numbers.{IsOctets};
 ghost use Rattle.lpt_text.specs.Streams.{AppendsPart, ReadEnds, WriteEnds};
 ghost use Rattle.lpt_lossy.specs.Ends.{CarriesAll, CarriesPart, IsEndless};
-ghost use Rattle.lpt_lossy.specs.Frames.{length_in};
+ghost use Rattle.lpt_lossy.specs.Frames.{packet_in};
 ghost use Rattle.lpt_lossy.specs.TurnsInside.{turn_octets};
 
 use crate::carrying::carry;
 use crate::counts::{CrossingCounts, LossyEnd};
 use crate::fate::Decider;
+use crate::link::LossyLink;
 use crate::settling::fate_settled;
 use crate::turns::Turns;
-use lpt_frames::{FrameBuffer, Front};
+use lpt_stream::{Cut, Found, PacketBuffer, PieceKind};
 use lpt_text::{Sink, Source, StreamFault, flush_out};
 use std::alloc::Global;
 
-/// Reads the packets of a stream and writes them again: some not, some twice, some later, but at
-/// most behind so many of those that come after them, and some with changed bits, as the decider
-/// says. At the end all that is held is written and passed on; so is what was written before each
-/// read.
+/// Reads the packets of a stream and writes them again, as the decider says and the link allows:
+/// some not, some twice, some later, and some with changed bits. At the end all that is held is
+/// written and passed on; so is what was written before each read.
 ///
 /// Octets with which no packet begins end the run: those of another version than 0, and those at
 /// the stream's end that are fewer than their header says.
@@ -29,12 +30,12 @@ use std::alloc::Global;
 /// failed; `Memory`. A front part of what would be written stays written.
 pub fn lossy_stream<S: Source, K: Sink, D: Decider>(
     alloc: Global,
-    most_later: u16,
+    link: &LossyLink,
     decider: &mut D,
     source: &mut S,
     out: &mut K,
 ) -> Result<LossyEnd, StreamFault>
-    ensures ends { IfOk result (λ end. CarriesAll D.decides most_later decider.old end
+    ensures ends { IfOk result (λ end. CarriesAll D.decides link.now decider.old end
         (S.remaining source.old) (S.remaining source.new)
         (K.contents out.old) (K.contents out.new)) }
 
@@ -42,33 +43,33 @@ pub fn lossy_stream<S: Source, K: Sink, D: Decider>(
     ensures passed { IsOk result → K.flushed out.new ≡ K.contents out.new }
 
     // What a fault leaves.
-    ensures leaves { IfErr result (λ _. CarriesPart D.decides most_later decider.old
+    ensures leaves { IfErr result (λ _. CarriesPart D.decides link.now decider.old
         (S.remaining source.old) (S.remaining source.new)
         (K.contents out.old) (K.contents out.new)) }
     ensures reader { ReadEnds (IsEndless (S.remaining source.old) (S.remaining source.new)) result
         (S.failed source.old) (S.failed source.new) }
     ensures writer { WriteEnds result (K.failed out.old) (K.failed out.new) }
 {
-    let mut frames = FrameBuffer::new(alloc);
-    let mut turns = Turns::new(alloc, most_later)?;
+    let mut buffer = PacketBuffer::new(alloc, Cut::Framed);
+    let mut turns = Turns::new(alloc, link.most_later)?;
     let mut counts = CrossingCounts::new();
     let mut place: u64 = 0;
     for _ in 0..u64::MAX {
-        let front = frames.find_frame(source, out)?;
-        let len = match length_in(front) {
-            Some(len) => len,
+        let front = buffer.find_piece_passing(source, out)?;
+        let found = match packet_in(front) {
+            Some(found) => found,
             None => {
                 end_run(&turns, out)?;
-                let stray = stray_at(place, frames.octets_held());
+                let stray = stray_at(place, buffer.octets_held());
                 return Ok(LossyEnd { counts, stray });
             }
         };
-        let octets = &frames.octets_held()[..len];
-        let way = fate_settled(decider.decide(len), most_later, octets);
+        let octets = &buffer.octets_held()[..found.len];
+        let way = fate_settled(decider.decide(found.len), link, octets);
         carry(alloc, &way, octets, &mut turns, out)?;
         counts.add(&way);
-        place = place.saturating_add(len as u64);
-        frames.skip(len);
+        place = place.saturating_add(found.len as u64);
+        buffer.skip(found);
     }
     Err(StreamFault::Read)
 }
@@ -89,19 +90,21 @@ fn end_run<K: Sink>(turns: &Turns, out: &mut K) -> Result<(), StreamFault>
     flush_out(out)
 }
 
-// How many octets the packet in front has, where one is.
-fn length_in(front: Front) -> Option<usize>
-    ensures { result ≡ length_in front }
+// The packet in front, where one is.
+fn packet_in(front: Option<Found>) -> Option<Found>
+    ensures { result ≡ packet_in front }
 {
-    match front {
-        Front::Frame(len) => Some(len),
-        Front::Stray | Front::End => None,
+    let found = front?;
+    match found.kind {
+        PieceKind::Whole => Some(found),
+        PieceKind::Damaged | PieceKind::Stray => None,
     }
 }
 
 // The place of octets that are left there, where some are.
 fn stray_at(place: u64, left: &[u8]) -> Option<u64>
-    ensures { result ≡ (if length left.now == 0 then None else Some place) }
+    ensures value { result ≡ (if length left.now == 0 then None else Some place) }
+    ensures octets { IsOctets left.now }
 {
     if left.is_empty() { None } else { Some(place) }
 }

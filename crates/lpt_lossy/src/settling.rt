@@ -5,13 +5,13 @@ ghost use Rattle.lpt_lossy.specs.Bursts.{is_within};
 ghost use Rattle.lpt_lossy.specs.Ways.{if_it_can, fate_settled};
 
 use crate::burst::can_change;
-use crate::{Burst, Fate};
+use crate::{Burst, Fate, Layouts, LossyLink};
 
-// What becomes of these octets, where none are written later than so many packets: nothing else
-// becomes of what is lost, and bits are changed only where that shows.
-pub(crate) fn fate_settled(fate: Fate, most_later: u16, octets: &[u8]) -> Fate
-    ensures way { result ≡ fate_settled most_later fate octets.now }
-    ensures most { result.later ≤ most_later }
+// What becomes of these octets on a link: nothing else becomes of what is lost, none are written
+// later than they may be, and bits are changed only where that shows.
+pub(crate) fn fate_settled(fate: Fate, link: &LossyLink, octets: &[u8]) -> Fate
+    ensures way { result ≡ fate_settled link.now fate octets.now }
+    ensures most { result.later ≤ link.now.most_later }
     ensures lost { result.is_lost ≡ true → result.later ≡ 0 }
     ensures burst { IfSome result.burst (λ u. is_within u (length octets.now) ≡ true) }
 {
@@ -26,18 +26,18 @@ pub(crate) fn fate_settled(fate: Fate, most_later: u16, octets: &[u8]) -> Fate
     Fate {
         is_lost: false,
         is_twice: fate.is_twice,
-        later: fate.later.min(most_later),
-        burst: if_it_can(fate.burst, octets),
+        later: fate.later.min(link.most_later),
+        burst: if_it_can(&link.layouts, fate.burst, octets),
     }
 }
 
 // A burst that can change these octets.
-fn if_it_can(burst: Option<Burst>, octets: &[u8]) -> Option<Burst>
-    ensures value { result ≡ if_it_can burst octets.now }
+fn if_it_can(layouts: &Layouts, burst: Option<Burst>, octets: &[u8]) -> Option<Burst>
+    ensures value { result ≡ if_it_can layouts.now burst octets.now }
     ensures within { IfSome result (λ u. is_within u (length octets.now) ≡ true) }
 {
     match burst {
-        Some(burst) => if can_change(&burst, octets) {
+        Some(burst) => if can_change(layouts, &burst, octets) {
             Some(burst)
         } else {
             None

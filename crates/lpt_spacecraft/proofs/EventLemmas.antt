@@ -1,5 +1,5 @@
 -- Events that are taken, one after the other.
-use Rattle.std.proofs.Common.{◌≡◌, ◌∙◌, ap, sym, subst, refl, inl, ℕ, ◌+◌, ◌-◌, ◌^◌, ◌≤◌, min, Bool, List, [], ◌∷◌, ◌++◌, length, take, drop, Option, Some, None, append-nil, length-append, arith}
+use Rattle.std.proofs.Common.{◌≡◌, ◌∙◌, ap, sym, subst, refl, inl, ℕ, ◌+◌, ◌-◌, ◌^◌, ◌≤◌, min, Bool, true, List, [], ◌∷◌, ◌++◌, length, take, drop, Option, Some, None, append-nil, length-append, arith}
 use Rattle.std.specs.Io.KnownBytes.{Consumes, Keeps}
 use Rattle.std.proofs.KnownBytes.{Appends-kept, Appends-nil, Consumes-nil, Consumes-trans}
 use Rattle.std.proofs.lemmas.List.{length-take-le}
@@ -7,15 +7,15 @@ use Rattle.lpt_events.specs.declared.config.Config.{Config}
 use Rattle.lpt_text.proofs.StreamLemmas.{part_whole}
 use Rattle.lpt_stream.specs.Pieces.{up_to_limit}
 use Rattle.lpt_stream.specs.Streams.{all_octets}
-use Rattle.lpt_frames.specs.Frames.{IsFrame}
-use Rattle.lpt_frames.proofs.StretchLemmas.{so-far-frame, so-far-more, so-far-none, IsCutSoFar}
 use Rattle.lpt_spacecraft.specs.Flights.{FlightEvent, Flight, Made, Packet, came_with, clock_ticks, counted_on, dues_of, inputs_by, inputs_of, new_flight, onward, inputs_served, stretches_of}
 use Rattle.lpt_spacecraft.specs.Streams.{flight_of, length_of, onboard, plain, served_by, Answers, Breaks, BreaksOff, Flies, Serves}
+use Rattle.lpt_spacecraft.specs.Stretches.{IsFrame}
 use Rattle.lpt_spacecraft.specs.declared.pace.PaceCourse.{PaceCourse}
 use Rattle.lpt_spacecraft.specs.declared.pace.Pace.{Pace}
 use Rattle.lpt_spacecraft.specs.declared.spacecraft.Spacecraft.{Spacecraft}
 use Rattle.lpt_spacecraft.specs.declared.told.Told.{Told}
 use Rattle.lpt_spacecraft.proofs.FoldLemmas.{answers-more, answers-none, counted-few, dues-next, flies-then, hears-none, inputs-next, length-next, served-append, since-next, since_after, stretches-next}
+use Rattle.lpt_spacecraft.proofs.StretchLemmas.{so-far-frame, so-far-more, so-far-none, IsCutSoFar}
 use Rattle.lpt_spacecraft.proofs.WritingLemmas.{part-behind}
 
 -- what came of a run, with the reads, the writes, the clock's answers and what was told before and
@@ -32,11 +32,11 @@ pub record Ends : Type 0 where
 
 -- the events that came were taken, and these octets are held behind them
 pub record IsServed (pace : Pace) (s t : Spacecraft) (q : PaceCourse) (e : Ends) (held : List ℕ)
-    (count place : ℕ) : Type 0 where
+    (ended : Bool) (count place : ℕ) : Type 0 where
   pub stream : List ℕ
   pub events : List FlightEvent
   pub consumed : Consumes e.before e.after stream
-  pub cut : IsCutSoFar pace.passing stream (stretches_of events) held
+  pub cut : IsCutSoFar pace.passing stream (stretches_of events) ended held
   pub flies : Flies (served_by pace s events) t q e.old e.new e.had e.has
   pub answers : Answers pace.clocked e.asked e.answered (dues_of events)
   pub count_is : length events ≡ count
@@ -47,7 +47,7 @@ pub record IsServed (pace : Pace) (s t : Spacecraft) (q : PaceCourse) (e : Ends)
 
 -- none came
 pub served-none : (pace : Pace) (s : Spacecraft) (q : PaceCourse) (a old asked : Option (List ℕ))
-    (had : Option (List Told)) (held : List ℕ)
+    (had : Option (List Told)) (held : List ℕ) (ended : Bool)
     → held ≡ []
     → q.pace ≡ pace
     → q.since ≡ 0
@@ -62,12 +62,12 @@ pub served-none : (pace : Pace) (s : Spacecraft) (q : PaceCourse) (a old asked :
       answered = asked;
       had = had;
       has = had;
-    }) held 0 0
-served-none pace s q a old asked had held none paced since unused = record {
+    }) held ended 0 0
+served-none pace s q a old asked had held ended none paced since unused = record {
   stream = [];
   events = [];
   consumed = Consumes-nil a;
-  cut = so-far-none pace.passing held none;
+  cut = so-far-none pace.passing ended held none;
   flies = record {
     flight = λ i. record { end = onboard s; reuse = (paced i).reuse; uses = unused i };
     written = Appends-nil old;
@@ -216,36 +216,39 @@ asks-next is_asked a b d events due octets h k =
 
 -- with more read behind, after all that was written was passed on
 pub served-more : (pace : Pace) (s t : Spacecraft) (q : PaceCourse) (e : Ends)
-    (d passed : Option (List ℕ)) (held now read : List ℕ) (count place : ℕ)
-    → IsServed pace s t q e held count place
+    (d passed : Option (List ℕ)) (held read left : List ℕ) (ended now : Bool) (count place : ℕ)
+    → IsServed pace s t q e held ended count place
     → Consumes e.after d read
-    → now ≡ held ++ read
+    → (ended ≡ true → (now ≡ true) × (read ≡ []))
+    → left ≡ held ++ read
     → Keeps e.new passed
-    → IsServed pace s t q (record e { after = d; new = passed }) now count place
-served-more pace s t q e d passed held now read count place h more is kept = record {
-  stream = h.stream ++ read;
-  events = h.events;
-  consumed = Consumes-trans e.before e.after d h.stream read h.consumed more;
-  cut = so-far-more pace.passing h.stream (stretches_of h.events) held read now h.cut is;
-  flies = record {
-    flight = h.flies.flight;
-    written = Appends-kept e.old e.new passed (all_octets (served_by pace s h.events).packets)
-        h.flies.written kept;
-    told = h.flies.told;
-  };
-  answers = h.answers;
-  count_is = h.count_is;
-  since_is = h.since_is;
-  pace_is = h.pace_is;
-  place_is = h.place_is;
-  few = h.few;
-}
+    → IsServed pace s t q (record e { after = d; new = passed }) left now count place
+served-more pace s t q e d passed held read left ended now count place h more stays is kept =
+    record {
+      stream = h.stream ++ read;
+      events = h.events;
+      consumed = Consumes-trans e.before e.after d h.stream read h.consumed more;
+      cut = so-far-more pace.passing h.stream (stretches_of h.events) ended now held read left h.cut
+          stays is;
+      flies = record {
+        flight = h.flies.flight;
+        written = Appends-kept e.old e.new passed (all_octets (served_by pace s h.events).packets)
+            h.flies.written kept;
+        told = h.flies.told;
+      };
+      answers = h.answers;
+      count_is = h.count_is;
+      since_is = h.since_is;
+      pace_is = h.pace_is;
+      place_is = h.place_is;
+      few = h.few;
+    }
 
 -- and with the packet in front taken
 pub served-next : (pace : Pace) (s mid t : Spacecraft) (q r : PaceCourse) (c : Config) (e : Ends)
     (new answered : Option (List ℕ)) (has : Option (List Told))
-    (held now octets : List ℕ) (due count place len then : ℕ)
-    → IsServed pace s mid q e held count place
+    (held now octets : List ℕ) (ended over : Bool) (due count place len then : ℕ)
+    → IsServed pace s mid q e held ended count place
     → c ≡ s.config
     → IsFrame (take len held)
     → len ≤ length held
@@ -256,10 +259,11 @@ pub served-next : (pace : Pace) (s mid t : Spacecraft) (q r : PaceCourse) (c : C
     → r.pace ≡ q.pace
     → then ≡ min (place + len) (2 ^ 64 - 1)
     → now ≡ drop len held
-    → IsServed pace s t r (record e { new = new; answered = answered; has = has }) now (count + 1)
-    then
-served-next pace s mid t q r c e new answered has held now octets due count place len then h
-    same front within is asks flies counted paced placed left =
+    → over ≡ ended
+    → IsServed pace s t r (record e { new = new; answered = answered; has = has }) now over
+    (count + 1) then
+served-next pace s mid t q r c e new answered has held now octets ended over due count place len
+    then h same front within is asks flies counted paced placed left stays =
     let x = Packet due (take len held) in
     let on : r.since ≡ counted_on pace.every q.since =
     counted ∙ ap (λ (p : Pace). counted_on p.every q.since) h.pace_is in
@@ -268,9 +272,10 @@ served-next pace s mid t q r c e new answered has held now octets due count plac
       stream = h.stream;
       events = h.events ++ x ∷ [];
       consumed = h.consumed;
-      cut = subst (λ ss. IsCutSoFar pace.passing h.stream ss now) (sym (stretches-next h.events x))
-          (so-far-frame pace.passing h.stream (stretches_of h.events) held now len h.cut front
-          left);
+      cut = subst (λ ss. IsCutSoFar pace.passing h.stream ss over now)
+          (sym (stretches-next h.events x))
+          (so-far-frame pace.passing h.stream (stretches_of h.events) ended over held now len h.cut
+          front left stays);
       flies = flies-next pace s mid t q r c e.old e.new new e.had e.has has h.events due
           (take len held) h.since_is h.pace_is same h.flies
           (subst (λ o. Flies (made_next c q.pace mid q due o) t r e.new new e.has has) is flies);

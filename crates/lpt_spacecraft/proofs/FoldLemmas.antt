@@ -7,15 +7,15 @@ use Rattle.lpt_events.specs.declared.config.Config.{Config}
 use Rattle.lpt_memory.specs.Memories.{Contents}
 use Rattle.lpt_stream.specs.Streams.{all_octets}
 use Rattle.lpt_text.specs.Streams.{AppendsPart}
-use Rattle.lpt_frames.specs.Stretches.{octets_of, stretch_octets}
-use Rattle.lpt_frames.proofs.StretchLemmas.{stretch-next}
 use Rattle.lpt_spacecraft.specs.Flights.{FlightEvent, Flight, Made, Input, Came, Ticked, Cleared, Noise, Packet, behind_made, came_with, clock_ticks, counted_on, due_before, dues_of, inputs_by, inputs_of, onward, inputs_served, since_by, size_of, step, stretch_of, stretches_of}
 use Rattle.lpt_spacecraft.specs.Serving.{beaten, packet_taken}
 use Rattle.lpt_spacecraft.specs.Streams.{flight_of, length_of, plain, Answers, Breaks, Flies}
+use Rattle.lpt_spacecraft.specs.Stretches.{octets_of, stretch_octets}
 use Rattle.lpt_spacecraft.specs.Telling.{Hears}
 use Rattle.lpt_spacecraft.specs.declared.pace.PaceCourse.{PaceCourse}
 use Rattle.lpt_spacecraft.specs.declared.spacecraft.Spacecraft.{Spacecraft}
 use Rattle.lpt_spacecraft.specs.declared.told.Told.{Told}
+use Rattle.lpt_spacecraft.proofs.StretchLemmas.{stretch-next}
 use Rattle.lpt_spacecraft.proofs.WritingLemmas.{appends-list, part-behind, part-first, part-grown, Grows}
 
 -- with nothing behind

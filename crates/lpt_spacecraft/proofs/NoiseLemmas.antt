@@ -1,12 +1,10 @@
 -- Octets that are passed over, and told of.
-use Rattle.std.proofs.Common.{◌≡◌, ◌∙◌, ap, sym, subst, refl, ℕ, ◌+◌, ◌-◌, ◌^◌, ◌≤◌, min, not, Bool, true, false, List, [], ◌∷◌, ◌++◌, length, take, drop, Option, append-nil, length-append, zero-add, arith}
-use Rattle.std.specs.Io.KnownBytes.{Consumes}
+use Rattle.std.proofs.Common.{◌≡◌, ◌∙◌, ap, sym, subst, refl, ℕ, ◌+◌, ◌-◌, ◌^◌, min, Bool, true, List, [], ◌∷◌, ◌++◌, length, take, drop, Option, append-nil, length-append, zero-add, arith}
 use Rattle.std.proofs.KnownBytes.{Appends-nil}
 use Rattle.std.proofs.lemmas.List.{length-take-le}
 use Rattle.lpt_stream.specs.Pieces.{up_to_limit}
-use Rattle.lpt_frames.specs.Stretches.{IsCutInto, IsRun}
-use Rattle.lpt_frames.proofs.StretchLemmas.{cut-here, here-run, so-far-run, IsCutSoFar}
 use Rattle.lpt_spacecraft.specs.Flights.{Astray, FlightEvent, Made, Noise, dues_of, onward, inputs_served, stretches_of}
+use Rattle.lpt_spacecraft.specs.Fronts.{RunsTo}
 use Rattle.lpt_spacecraft.specs.Streams.{flight_of, length_of, served_by, Answers, Flies}
 use Rattle.lpt_spacecraft.specs.Telling.{Hears}
 use Rattle.lpt_spacecraft.specs.declared.pace.PaceCourse.{PaceCourse}
@@ -16,15 +14,7 @@ use Rattle.lpt_spacecraft.specs.declared.told.Told.{Told}
 use Rattle.lpt_spacecraft.specs.declared.told.Told.TheVariants as tells
 use Rattle.lpt_spacecraft.proofs.FoldLemmas.{dues-next, flies-then, length-next, served-one, since-next, stretches-next}
 use Rattle.lpt_spacecraft.proofs.EventLemmas.{by-next, place-next, Ends, IsServed}
-
--- what a test of a flag says
-pub not-set : (b : Bool) → not b ≡ true → b ≡ false
-not-set true h = absurd cc
-not-set false h = refl
-
-pub is-set : (b : Bool) → not b ≡ false → b ≡ true
-is-set true h = refl
-is-set false h = absurd cc
+use Rattle.lpt_spacecraft.proofs.StretchLemmas.{run-within, so-far-run, IsCutSoFar}
 
 -- so many at a place were told of, behind what came
 flies-noise : (pace : Pace) (s t : Spacecraft) (q : PaceCourse) (old new : Option (List ℕ))
@@ -58,31 +48,6 @@ asks-noise is_asked a b events octets h =
     subst (Answers is_asked a b)
     (sym (dues-next events (Noise octets) ∙ append-nil (dues_of events))) h
 
--- what came, with these octets left behind
-pub record IsDone (pace : Pace) (s t : Spacecraft) (q : PaceCourse) (e : Ends) (left : List ℕ)
-    (place : ℕ) : Type 0 where
-  pub stream : List ℕ
-  pub events : List FlightEvent
-  pub consumed : Consumes e.before e.after stream
-  pub cut : IsCutInto pace.passing stream (stretches_of events) left
-  pub flies : Flies (served_by pace s events) t q e.old e.new e.had e.has
-  pub answers : Answers pace.clocked e.asked e.answered (dues_of events)
-  pub place_is : place ≡ up_to_limit (length_of events)
-
-pub served-here : (pace : Pace) (s t : Spacecraft) (q : PaceCourse) (e : Ends) (held : List ℕ)
-    (count place : ℕ)
-    → IsServed pace s t q e held count place
-    → IsDone pace s t q e held place
-served-here pace s t q e held count place h = record {
-  stream = h.stream;
-  events = h.events;
-  consumed = h.consumed;
-  cut = cut-here pace.passing h.stream (stretches_of h.events) held h.cut;
-  flies = h.flies;
-  answers = h.answers;
-  place_is = h.place_is;
-}
-
 noise-place : (events : List FlightEvent) (b : List ℕ) (place then len : ℕ)
     → place ≡ up_to_limit (length_of events)
     → length b ≡ len
@@ -94,27 +59,27 @@ noise-place events b place then len is size placed =
 
 -- a run was passed over, and told of
 pub served-passed : (pace : Pace) (s t : Spacecraft) (q : PaceCourse) (e : Ends)
-    (has : Option (List Told)) (held now : List ℕ) (count place len then : ℕ)
-    → IsServed pace s t q e held count place
+    (has : Option (List Told)) (held now : List ℕ) (ended : Bool) (count place len then : ℕ)
+    → IsServed pace s t q e held ended count place
     → pace.passing ≡ true
-    → ((more : List ℕ) → IsRun len (held ++ more))
+    → RunsTo ended len held
     → now ≡ drop len held
     → Hears e.has has (tells.Skipped place len ∷ [])
     → then ≡ min (place + len) (2 ^ 64 - 1)
-    → IsServed pace s t q (record e { has = has }) now (count + 1) then
-served-passed pace s t q e has held now count place len then h passing run left told placed =
+    → IsServed pace s t q (record e { has = has }) now ended (count + 1) then
+served-passed pace s t q e has held now ended count place len then h passing run left told placed =
     let b = take len held in
     let x = Noise b in
-    let within : len ≤ length held =
-    subst (λ (l : List ℕ). len ≤ length l) (append-nil held) (run []).within in
+    let within = run-within ended len held run in
     let size : length b ≡ len = length-take-le len held within in
     record {
       stream = h.stream;
       events = h.events ++ x ∷ [];
       consumed = h.consumed;
-      cut = subst (λ ss. IsCutSoFar pace.passing h.stream ss now) (sym (stretches-next h.events x))
-          (so-far-run pace.passing h.stream (stretches_of h.events) held now len passing h.cut run
-          within left);
+      cut = subst (λ ss. IsCutSoFar pace.passing h.stream ss ended now)
+          (sym (stretches-next h.events x))
+          (so-far-run pace.passing h.stream (stretches_of h.events) ended held now len passing
+          h.cut run within left);
       flies = flies-noise pace s t q e.old e.new e.had e.has has h.events b place len h.place_is
           size h.flies told;
       answers = asks-noise pace.clocked e.asked e.answered h.events b h.answers;
@@ -123,31 +88,4 @@ served-passed pace s t q e has held now count place len then h passing run left 
       pace_is = h.pace_is;
       place_is = noise-place h.events b place then len h.place_is size placed;
       few = omega (arith, h.few);
-    }
-
--- the last one, at the end of the stream
-pub passed-last : (pace : Pace) (s t : Spacecraft) (q : PaceCourse) (e : Ends)
-    (has : Option (List Told)) (held now : List ℕ) (count place len then : ℕ)
-    → IsServed pace s t q e held count place
-    → pace.passing ≡ true
-    → IsRun len held
-    → now ≡ drop len held
-    → Hears e.has has (tells.Skipped place len ∷ [])
-    → then ≡ min (place + len) (2 ^ 64 - 1)
-    → IsDone pace s t q (record e { has = has }) now then
-passed-last pace s t q e has held now count place len then h passing run left told placed =
-    let b = take len held in
-    let x = Noise b in
-    let size : length b ≡ len = length-take-le len held run.within in
-    record {
-      stream = h.stream;
-      events = h.events ++ x ∷ [];
-      consumed = h.consumed;
-      cut = subst (λ ss. IsCutInto pace.passing h.stream ss now) (sym (stretches-next h.events x))
-          (here-run pace.passing h.stream (stretches_of h.events) held now len passing
-          (cut-here pace.passing h.stream (stretches_of h.events) held h.cut) run left);
-      flies = flies-noise pace s t q e.old e.new e.had e.has has h.events b place len h.place_is
-          size h.flies told;
-      answers = asks-noise pace.clocked e.asked e.answered h.events b h.answers;
-      place_is = noise-place h.events b place then len h.place_is size placed;
     }

@@ -9,13 +9,10 @@ use Rattle.lpt_text.specs.declared.fault.StreamFault.TheVariants as faults
 use Rattle.lpt_text.specs.Streams.{ReadFails}
 use Rattle.lpt_stream.specs.Pieces.{up_to_limit}
 use Rattle.lpt_stream.specs.Streams.{all_octets, IsUnfinished}
-use Rattle.lpt_frames.specs.Buffers.{octets_held, FindsAgain, FindsFrame}
-use Rattle.lpt_frames.specs.Frames.{IsFrame}
-use Rattle.lpt_frames.specs.Stretches.{stretch_octets}
-use Rattle.lpt_frames.specs.declared.buffer.FrameBuffer.{FrameBuffer}
-use Rattle.lpt_frames.proofs.StretchLemmas.{cut-here, so-far-frame, IsCutSoFar}
 use Rattle.lpt_spacecraft.specs.Flights.{Made, Packet, stretches_of}
-use Rattle.lpt_spacecraft.specs.Streams.{end_at, length_of, plain, served_by, Answers, Breaks, BreaksOff, Flies, IsEndless, ReadsCut, ServesTo, StopsAt}
+use Rattle.lpt_spacecraft.specs.Fronts.{SearchFails}
+use Rattle.lpt_spacecraft.specs.Streams.{length_of, plain, served_by, Answers, Breaks, BreaksOff, Flies, IsEndless, ReadsCut, ServesTo, StopsAt}
+use Rattle.lpt_spacecraft.specs.Stretches.{stretch_octets, IsFrame}
 use Rattle.lpt_spacecraft.specs.declared.pace.PaceCourse.{PaceCourse}
 use Rattle.lpt_spacecraft.specs.declared.pace.Pace.{Pace}
 use Rattle.lpt_spacecraft.specs.declared.spacecraft.Spacecraft.{Spacecraft}
@@ -24,16 +21,8 @@ use Rattle.lpt_spacecraft.specs.declared.told.Told.{Told}
 use Rattle.lpt_spacecraft.proofs.FoldLemmas.{stretches-next}
 use Rattle.lpt_spacecraft.proofs.WritingLemmas.{none_lost}
 use Rattle.lpt_spacecraft.proofs.EventLemmas.{asks-next, breaks-between, breaks-next, made_next, served-more, serves-all, Ends, IsServed}
-use Rattle.lpt_spacecraft.proofs.NoiseLemmas.{IsDone}
-
--- where it stops at the end of the stream
-pub ends-at : (passing : Bool) (place len : ℕ) (held : List ℕ) (after : Option (List ℕ))
-    → place ≡ up_to_limit len
-    → IsUnfinished held
-    → IsAtEnd after
-    → StopsAt passing (end_at place held) len held after
-ends-at passing place len [] after is few at_end = (refl, at_end)
-ends-at passing place len (x ∷ xs) after is few at_end = (is, few, omega arith, at_end)
+use Rattle.lpt_spacecraft.proofs.SearchLemmas.{search-reader}
+use Rattle.lpt_spacecraft.proofs.StretchLemmas.{cut-here, so-far-frame, IsCutSoFar}
 
 -- so work ends with this
 abbrev pub EndsWith : Pace → Result Stop StreamFault → (s t : Spacecraft) → Ends → Type 0
@@ -54,19 +43,20 @@ kept-flies x t q old new passed had has h kept = record {
 
 -- it stopped there, or the last octets couldn't be passed on
 pub serve-stop : (r : Result Stop StreamFault) (stop : Stop) (pace : Pace) (s t : Spacecraft)
-    (q : PaceCourse) (e : Ends) (passed : Option (List ℕ)) (held : List ℕ) (place : ℕ)
+    (q : PaceCourse) (e : Ends) (passed : Option (List ℕ)) (held : List ℕ) (ended : Bool)
+    (count place : ℕ)
     → IfOk r (λ x. x ≡ stop)
     → IfErr r (λ e. e ≡ faults.Write)
-    → (h : IsDone pace s t q e held place)
+    → (h : IsServed pace s t q e held ended count place)
     → Keeps e.new passed
     → StopsAt pace.passing stop (length_of h.events) held e.after
     → EndsWith pace r s t (record e { new = passed })
-serve-stop (Ok x) stop pace s t q e passed held place is fault h kept at = (
+serve-stop (Ok x) stop pace s t q e passed held ended count place is fault h kept at = (
   h.stream,
   h.events,
   held,
   none_lost e.before e.after h.stream h.consumed,
-  h.cut,
+  cut-here pace.passing h.stream (stretches_of h.events) ended held h.cut,
   (
     subst (λ x. StopsAt pace.passing x (length_of h.events) held e.after) (sym is) at,
     serves-all pace s t q e.old passed e.asked e.answered e.had e.has h.events
@@ -74,114 +64,93 @@ serve-stop (Ok x) stop pace s t q e passed held place is fault h kept at = (
         h.answers,
   ),
 )
-serve-stop (Err faults.Read) stop pace s t q e passed held place is fault h kept at = absurd cc
-serve-stop (Err faults.Write) stop pace s t q e passed held place is fault h kept at = (
+serve-stop (Err faults.Read) stop pace s t q e passed held ended count place is fault h kept at =
+    absurd cc
+serve-stop (Err faults.Write) stop pace s t q e passed held ended count place is fault h kept at = (
   h.stream,
   h.events,
   held,
   none_lost e.before e.after h.stream h.consumed,
-  h.cut,
+  cut-here pace.passing h.stream (stretches_of h.events) ended held h.cut,
   breaks-between pace s t q e.old passed e.asked e.answered e.had e.has h.events
       (kept-flies (served_by pace s h.events) t q e.old e.new passed e.had e.has h.flies kept)
       h.answers,
 )
-serve-stop (Err faults.Memory) stop pace s t q e passed held place is fault h kept at = absurd cc
+serve-stop (Err faults.Memory) stop pace s t q e passed held ended count place is fault h kept at =
+    absurd cc
 
 -- no more came
 pub serve-read : (pace : Pace) (s t : Spacecraft) (q : PaceCourse) (e : Ends) (held : List ℕ)
-    (count place : ℕ)
-    → IsServed pace s t q e held count place
+    (ended : Bool) (count place : ℕ)
+    → IsServed pace s t q e held ended count place
     → EndsWith pace (Err faults.Read) s t e
-serve-read pace s t q e held count place h = (
+serve-read pace s t q e held ended count place h = (
   h.stream,
   h.events,
   held,
   none_lost e.before e.after h.stream h.consumed,
-  cut-here pace.passing h.stream (stretches_of h.events) held h.cut,
+  cut-here pace.passing h.stream (stretches_of h.events) ended held h.cut,
   serves-all pace s t q e.old e.new e.asked e.answered e.had e.has h.events h.flies h.answers,
 )
 
 -- a write failed
 serve-write : (pace : Pace) (s t : Spacecraft) (q : PaceCourse) (e : Ends) (held : List ℕ)
-    (count place : ℕ)
-    → IsServed pace s t q e held count place
+    (ended : Bool) (count place : ℕ)
+    → IsServed pace s t q e held ended count place
     → EndsWith pace (Err faults.Write) s t e
-serve-write pace s t q e held count place h = (
+serve-write pace s t q e held ended count place h = (
   h.stream,
   h.events,
   held,
   none_lost e.before e.after h.stream h.consumed,
-  cut-here pace.passing h.stream (stretches_of h.events) held h.cut,
+  cut-here pace.passing h.stream (stretches_of h.events) ended held h.cut,
   breaks-between pace s t q e.old e.new e.asked e.answered e.had e.has h.events h.flies h.answers,
 )
 
 -- octets were lost
 serve-lost : (pace : Pace) (s t : Spacecraft) (q : PaceCourse) (e : Ends)
     (d passed : Option (List ℕ))
-    (held lost : List ℕ) (count place : ℕ)
-    → IsServed pace s t q e held count place
+    (held lost : List ℕ) (ended : Bool) (count place : ℕ)
+    → IsServed pace s t q e held ended count place
     → Consumes e.after d lost
     → Keeps e.new passed
     → EndsWith pace (Err faults.Memory) s t (record e { after = d; new = passed })
-serve-lost pace s t q e d passed held lost count place h more kept = (
+serve-lost pace s t q e d passed held lost ended count place h more kept = (
   lost,
   (
     h.stream,
     h.events,
     held,
     Consumes-trans e.before e.after d h.stream lost h.consumed more,
-    cut-here pace.passing h.stream (stretches_of h.events) held h.cut,
+    cut-here pace.passing h.stream (stretches_of h.events) ended held h.cut,
     breaks-between pace s t q e.old passed e.asked e.answered e.had e.has h.events
         (kept-flies (served_by pace s h.events) t q e.old e.new passed e.had e.has h.flies kept)
         h.answers,
   ),
 )
 
--- a read or a write failed before the next packet
-pub serve-fault : (fault : StreamFault) (pace : Pace) (s t : Spacecraft) (q : PaceCourse)
-    (x y : FrameBuffer) (e : Ends) (d passed : Option (List ℕ)) (bad failed : Bool)
-    (count place : ℕ)
-    → FindsFrame (Err fault) x y e.after d bad failed
-    → IsServed pace s t q e (octets_held x) count place
+-- a read or a write failed before the next packet or in a run that is passed over
+pub serve-fault : (fault : StreamFault) (pace : Pace) (s t : Spacecraft) (q : PaceCourse) (e : Ends)
+    (d passed : Option (List ℕ)) (held : List ℕ) (ended bad failed : Bool) (count place : ℕ)
+    → SearchFails fault held ended e.after d bad failed
+    → IsServed pace s t q e held ended count place
     → Keeps e.new passed
     → EndsWith pace (Err fault) s t (record e { after = d; new = passed })
-serve-fault faults.Read pace s t q x y e d passed bad failed count place found h kept =
-    serve-read pace s t q (record e { after = d; new = passed }) (octets_held y) count place
-    (served-more pace s t q e d passed (octets_held x) (octets_held y) found.0 count place h
-    found.1.consumed found.1.behind kept)
-serve-fault faults.Write pace s t q x y e d passed bad failed count place found h kept =
-    serve-write pace s t q (record e { after = d; new = passed }) (octets_held y) count place
-    (served-more pace s t q e d passed (octets_held x) (octets_held y) found.0 count place h
-    found.1.consumed found.1.behind kept)
-serve-fault faults.Memory pace s t q x y e d passed bad failed count place found h kept =
-    serve-lost pace s t q e d passed (octets_held x) found.0 count place h found.1 kept
-
--- or in a run that is passed over
-pub again-fault : (fault : StreamFault) (pace : Pace) (s t : Spacecraft) (q : PaceCourse)
-    (x y : FrameBuffer) (e : Ends) (d passed : Option (List ℕ)) (bad failed : Bool)
-    (count place : ℕ)
-    → FindsAgain (Err fault) x y e.after d bad failed
-    → IsServed pace s t q e (octets_held x) count place
-    → Keeps e.new passed
-    → EndsWith pace (Err fault) s t (record e { after = d; new = passed })
-again-fault faults.Read pace s t q x y e d passed bad failed count place found h kept =
-    serve-read pace s t q (record e { after = d; new = passed }) (octets_held x ++ found.0) count
+serve-fault faults.Read pace s t q e d passed held ended bad failed count place found h kept =
+    serve-read pace s t q (record e { after = d; new = passed }) (held ++ found.0) ended count place
+    (served-more pace s t q e d passed held found.0 (held ++ found.0) ended ended count place h
+    found.1 (λ k. (k, found.2 k)) refl kept)
+serve-fault faults.Write pace s t q e d passed held ended bad failed count place found h kept =
+    serve-write pace s t q (record e { after = d; new = passed }) (held ++ found.0) ended count
     place
-    (served-more pace s t q e d passed (octets_held x) (octets_held x ++ found.0) found.0 count
-    place h found.1
-    refl kept)
-again-fault faults.Write pace s t q x y e d passed bad failed count place found h kept =
-    serve-write pace s t q (record e { after = d; new = passed }) (octets_held x ++ found.0) count
-    place
-    (served-more pace s t q e d passed (octets_held x) (octets_held x ++ found.0) found.0 count
-    place h found.1
-    refl kept)
-again-fault faults.Memory pace s t q x y e d passed bad failed count place found h kept =
-    serve-lost pace s t q e d passed (octets_held x) found.0 count place h found.1 kept
+    (served-more pace s t q e d passed held found.0 (held ++ found.0) ended ended count place h
+    found.1 (λ k. (k, found.2 k)) refl kept)
+serve-fault faults.Memory pace s t q e d passed held ended bad failed count place found h kept =
+    serve-lost pace s t q e d passed held found.0 ended count place h found.1 kept
 
 broken : (pace : Pace) (s mid t : Spacecraft) (q : PaceCourse) (c : Config) (e : Ends)
-    (new answered : Option (List ℕ)) (held octets : List ℕ) (due count place len : ℕ)
-    → IsServed pace s mid q e held count place
+    (new answered : Option (List ℕ)) (held octets : List ℕ) (ended : Bool) (due count place len : ℕ)
+    → IsServed pace s mid q e held ended count place
     → c ≡ s.config
     → IsFrame (take len held)
     → octets ≡ take len held
@@ -189,17 +158,18 @@ broken : (pace : Pace) (s mid t : Spacecraft) (q : PaceCourse) (c : Config) (e :
     → Breaks mid.memories (plain (made_next c q.pace mid q due octets)) t.memories e.new new
     → ReadsCut pace.passing e.before e.after []
     (λ events rest. BreaksOff pace s t e.old new e.asked answered e.had e.has events)
-broken pace s mid t q c e new answered held octets due count place len h same front at asks broke =
+broken pace s mid t q c e new answered held octets ended due count place len h same front at asks
+    broke =
     let x = Packet due (take len held) in (
       h.stream,
       h.events ++ x ∷ [],
       drop len held,
       none_lost e.before e.after h.stream h.consumed,
-      cut-here pace.passing h.stream (stretches_of (h.events ++ x ∷ [])) (drop len held)
-          (subst (λ ss. IsCutSoFar pace.passing h.stream ss (drop len held))
+      cut-here pace.passing h.stream (stretches_of (h.events ++ x ∷ [])) ended (drop len held)
+          (subst (λ ss. IsCutSoFar pace.passing h.stream ss ended (drop len held))
           (sym (stretches-next h.events x))
-          (so-far-frame pace.passing h.stream (stretches_of h.events) held (drop len held) len
-          h.cut front refl)),
+          (so-far-frame pace.passing h.stream (stretches_of h.events) ended ended held
+          (drop len held) len h.cut front refl refl)),
       breaks-next pace s mid t q c e.old e.new new e.asked answered e.had e.has h.events due
           (take len held) h.since_is h.pace_is same h.flies
           (subst (λ o. Breaks mid.memories (plain (made_next c q.pace mid q due o)) t.memories
@@ -211,43 +181,43 @@ broken pace s mid t q c e new answered held octets due count place len h same fr
 -- work broke off in the packet in front
 pub serve-broken : (fault : StreamFault) (pace : Pace) (s mid t : Spacecraft) (q : PaceCourse)
     (c : Config) (e : Ends) (new answered : Option (List ℕ)) (held octets : List ℕ)
-    (due count place len : ℕ)
+    (ended : Bool) (due count place len : ℕ)
     → (fault ≡ faults.Write) ⊎ (fault ≡ faults.Memory)
-    → IsServed pace s mid q e held count place
+    → IsServed pace s mid q e held ended count place
     → c ≡ s.config
     → IsFrame (take len held)
     → octets ≡ take len held
     → Answers pace.clocked e.answered answered (due ∷ [])
     → Breaks mid.memories (plain (made_next c q.pace mid q due octets)) t.memories e.new new
     → EndsWith pace (Err fault) s t (record e { new = new; answered = answered })
-serve-broken faults.Read pace s mid t q c e new answered held octets due count place len (inl is) h
-    same front at asks broke = absurd cc
-serve-broken faults.Read pace s mid t q c e new answered held octets due count place len (inr is) h
-    same front at asks broke = absurd cc
-serve-broken faults.Write pace s mid t q c e new answered held octets due count place len is h same
-    front at asks broke
-    = broken pace s mid t q c e new answered held octets due count place len h same front at asks
-    broke
-serve-broken faults.Memory pace s mid t q c e new answered held octets due count place len is h same
-    front at asks broke = (
+serve-broken faults.Read pace s mid t q c e new answered held octets ended due count place len
+    (inl is) h same front at asks broke = absurd cc
+serve-broken faults.Read pace s mid t q c e new answered held octets ended due count place len
+    (inr is) h same front at asks broke = absurd cc
+serve-broken faults.Write pace s mid t q c e new answered held octets ended due count place len is
+    h same front at asks broke
+    = broken pace s mid t q c e new answered held octets ended due count place len h same front at
+    asks broke
+serve-broken faults.Memory pace s mid t q c e new answered held octets ended due count place len is
+    h same front at asks broke = (
       [],
-      broken pace s mid t q c e new answered held octets due count place
+      broken pace s mid t q c e new answered held octets ended due count place
           len h same front at asks broke,
     )
 
 -- so many events came
 pub endless : (pace : Pace) (s t : Spacecraft) (q : PaceCourse) (e : Ends) (held : List ℕ)
-    (count place : ℕ)
-    → IsServed pace s t q e held count place
+    (ended : Bool) (count place : ℕ)
+    → IsServed pace s t q e held ended count place
     → count ≡ 2 ^ 64 - 1
     → IsEndless pace.passing t e.before e.after
-endless pace s t q e held count place h most =
+endless pace s t q e held ended count place h most =
     inl (
       h.stream,
       h.events,
       held,
       none_lost e.before e.after h.stream h.consumed,
-      cut-here pace.passing h.stream (stretches_of h.events) held h.cut,
+      cut-here pace.passing h.stream (stretches_of h.events) ended held h.cut,
       h.count_is ∙ most,
     )
 
@@ -263,22 +233,20 @@ grown stream held read front is many =
     let part = length-append held read in
     omega (arith, first, sum, part, many)
 
--- how a run that is passed over leaves the reader, where a fault ends it
-pub again-reader : (fault : StreamFault) (pace : Pace) (s t : Spacecraft) (q : PaceCourse)
-    (x y : FrameBuffer) (e : Ends) (d : Option (List ℕ)) (had failed : Bool) (count place : ℕ)
-    → FindsAgain (Err fault) x y e.after d had failed
-    → IsServed pace s t q e (octets_held x) count place
-    → ReadFails (IsEndless pace.passing t e.before d) fault had failed
-again-reader faults.Read pace s t q x y e d had failed count place found h = go found.2
-  where
-    go : (failed ≡ true) ⊎ (2 ^ 64 - 1 ≤ length (octets_held x ++ found.0))
-        → ReadFails (IsEndless pace.passing t e.before d) faults.Read had failed
-    go (inl bad) = inl bad
-    go (inr many) = inr (inr (inr (
-      h.stream ++ found.0,
-      Consumes-trans e.before e.after d h.stream found.0 h.consumed found.1,
-      grown h.stream (octets_held x) found.0 (stretch_octets (stretches_of h.events))
-          (cut-here pace.passing h.stream (stretches_of h.events) (octets_held x) h.cut).whole many,
+-- how a fault leaves the reader that ends a search
+pub serve-reader : (fault : StreamFault) (pace : Pace) (s t : Spacecraft) (q : PaceCourse)
+    (e : Ends) (d : Option (List ℕ)) (held : List ℕ) (ended first had failed : Bool)
+    (count place : ℕ)
+    → SearchFails fault held ended e.after d had failed
+    → had ≡ first
+    → IsServed pace s t q e held ended count place
+    → ReadFails (IsEndless pace.passing t e.before d) fault first failed
+serve-reader fault pace s t q e d held ended first had failed count place found same h =
+    search-reader (IsEndless pace.passing t e.before d) fault held ended e.after d first had failed
+    found same
+    (λ read came many. inr (inr (
+      h.stream ++ read,
+      Consumes-trans e.before e.after d h.stream read h.consumed came,
+      grown h.stream held read (stretch_octets (stretches_of h.events))
+          (cut-here pace.passing h.stream (stretches_of h.events) ended held h.cut).whole many,
     )))
-again-reader faults.Write pace s t q x y e d had failed count place found h = found.2
-again-reader faults.Memory pace s t q x y e d had failed count place found h = found.2

@@ -2,7 +2,6 @@
 use Rattle.std.specs.Prelude.{ℕ, zero, suc, Bool, true, false, ◌+◌, ◌==◌, nat_le, if◌then◌else◌, List, [], ◌∷◌, ◌++◌, length, Option, Some, None}
 use Rattle.lpt_events.specs.declared.config.Config.{Config}
 use Rattle.lpt_events.specs.declared.side.Side.TheVariants.{Craft}
-use Rattle.lpt_frames.specs.Stretches.{Stretch, Framed, Passed}
 use Rattle.lpt_ledger.specs.declared.state.State.{State}
 use Rattle.lpt_ledger.specs.declared.state.State.TheVariants.{Free, Open, Closed}
 use Rattle.lpt_node.specs.Nodes.{NodeData}
@@ -11,6 +10,7 @@ use Rattle.lpt_packet.specs.Names.{Name}
 use Rattle.lpt_packet.specs.declared.direction.Direction.{Direction}
 use Rattle.lpt_stream.specs.Pieces.{up_to_limit}
 use Rattle.lpt_spacecraft.specs.Serving.{Onboard, beaten, packet_taken}
+use Rattle.lpt_spacecraft.specs.Stretches.{Stretch, Framed, Passed}
 use Rattle.lpt_spacecraft.specs.Telling.{all_noted, name_used, given_up, taken_in, took}
 use Rattle.lpt_spacecraft.specs.declared.pace.Use.{Use}
 use Rattle.lpt_spacecraft.specs.declared.told.Told.{Told}

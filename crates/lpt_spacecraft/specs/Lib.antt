@@ -1,10 +1,12 @@
 pub mod Changes
 pub mod Files
 pub mod Flights
+pub mod Fronts
 pub mod Keeping
 pub mod Lines
 pub mod Serving
 pub mod Streams
+pub mod Stretches
 pub mod Telling
 pub mod Uses
 pub mod Waiting

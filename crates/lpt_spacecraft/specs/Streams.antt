@@ -12,10 +12,9 @@ use Rattle.lpt_text.specs.declared.fault.StreamFault.{StreamFault}
 use Rattle.lpt_text.specs.declared.fault.StreamFault.TheVariants as faults
 use Rattle.lpt_stream.specs.Pieces.{up_to_limit}
 use Rattle.lpt_stream.specs.Streams.{all_octets, IsUnfinished}
-use Rattle.lpt_frames.specs.Frames.{IsStray}
-use Rattle.lpt_frames.specs.Stretches.{stretch_octets, IsCutInto}
 use Rattle.lpt_spacecraft.specs.Flights.{FlightEvent, Flight, Made, dues_of, inputs_of, new_flight, inputs_served, stretches_of}
 use Rattle.lpt_spacecraft.specs.Serving.{Onboard}
+use Rattle.lpt_spacecraft.specs.Stretches.{stretch_octets, IsCutInto, IsStray}
 use Rattle.lpt_spacecraft.specs.Telling.{Hears}
 use Rattle.lpt_spacecraft.specs.declared.pace.PaceCourse.{PaceCourse}
 use Rattle.lpt_spacecraft.specs.declared.pace.Pace.{Pace}
@@ -97,11 +96,6 @@ ReadsCut passing before after lost P =
 -- how many octets events have
 abbrev pub length_of : List FlightEvent → ℕ
 length_of events = length (stretch_octets (stretches_of events))
-
--- where a stream ends, with these octets left behind its packets, at this place
-abbrev pub end_at : (place : ℕ) → List ℕ → Stop
-end_at place [] = End
-end_at place (b ∷ bs) = Cut place
 
 -- Work stops there: behind so many octets, before this rest; and before octets with which no packet
 -- begins only where these aren't passed over.

@@ -5,9 +5,9 @@ use Rattle.lpt_jobs.specs.Jobs.{jobs_numbered}
 use Rattle.lpt_text.specs.declared.fault.StreamFault.{StreamFault}
 use Rattle.lpt_text.specs.declared.fault.StreamFault.TheVariants as faults
 use Rattle.lpt_stream.specs.Pieces.{up_to_limit}
-use Rattle.lpt_frames.specs.Stretches.{Stretch, Framed, Passed, octets_of, stretch_octets, IsCutInto}
 use Rattle.lpt_spacecraft.specs.Flights.{Astray, Input, Made, came_with, clock_ticks, counted_on, new_flight, inputs_served}
 use Rattle.lpt_spacecraft.specs.Streams.{onboard, plain, Breaks, StopsAt, Writes}
+use Rattle.lpt_spacecraft.specs.Stretches.{Stretch, Framed, Passed, octets_of, stretch_octets, IsCutInto}
 use Rattle.lpt_spacecraft.specs.Telling.{Hears}
 use Rattle.lpt_spacecraft.specs.declared.inlet.Happening.{Happening}
 use Rattle.lpt_spacecraft.specs.declared.inlet.Happening.TheVariants as happens

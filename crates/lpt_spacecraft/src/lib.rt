@@ -11,6 +11,7 @@
 mod clock;
 mod files;
 mod flying;
+mod front;
 mod inlet;
 mod keeping;
 mod kept_file;
@@ -23,6 +24,7 @@ mod sending;
 mod serving;
 mod spacecraft;
 mod stop;
+mod strays;
 mod taking;
 mod ticking;
 mod told;

@@ -5,11 +5,10 @@ ghost use Rattle.lpt_text.specs.Streams.{ReadEnds};
 ghost use Rattle.lpt_spacecraft.specs.Waiting.{unwritten_fault, HandsOver, IsUnending};
 
 use crate::Stop;
+use crate::front::{Front, find_front};
 use crate::inlet::{Happening, Relay};
-use crate::serving::end_at;
-use lpt_frames::{FrameBuffer, Front};
 use lpt_packet::Octets;
-use lpt_stream::Peer;
+use lpt_stream::{Cut, Found, PacketBuffer, Peer, PieceKind};
 use lpt_text::{FromStd, StreamFault};
 use std::alloc::Global;
 
@@ -37,30 +36,19 @@ pub fn relay_stream<P: Peer, R: Relay>(
 {
     // Nothing is written here.
     let mut out = FromStd::new(Vec::new(alloc));
-    let mut buffer = FrameBuffer::new(alloc);
+    let mut buffer = PacketBuffer::new(alloc, Cut::Resumed);
     let mut place: u64 = 0;
     for count in 0..u64::MAX {
-        let len = match buffer.find_frame(peer, &mut out) {
-            Ok(Front::Frame(len)) => len,
-            Ok(Front::Stray) => {
-                if !passing {
-                    return Ok(Some(Stop::Stray(place)));
-                }
-                let run = match buffer.find_again(peer, &mut out) {
-                    Ok(run) => run,
-                    Err(fault) => return Err(unwritten_fault(fault)),
-                };
-                let len = run.len;
+        let len = match find_front(&mut buffer, passing, place, peer, &mut out) {
+            Ok(Front::Packet(len)) => len,
+            Ok(Front::Strays(len)) => {
                 if !relay.hand(Happening::Skipped { place, len }) {
                     return Ok(None);
                 }
-                place = place.saturating_add(run.len);
-                if run.is_end {
-                    return Ok(Some(end_at(place, buffer.octets_held())));
-                }
+                place = place.saturating_add(len);
                 continue;
             }
-            Ok(Front::End) => return Ok(Some(end_at(place, buffer.octets_held()))),
+            Ok(Front::Stop(stop)) => return Ok(Some(stop)),
             Err(fault) => return Err(unwritten_fault(fault)),
         };
         let Ok(octets) = Vec::from_slice(alloc, &buffer.octets_held()[..len]) else {
@@ -70,7 +58,10 @@ pub fn relay_stream<P: Peer, R: Relay>(
             return Ok(None);
         }
         place = place.saturating_add(len as u64);
-        buffer.skip(len);
+        buffer.skip(Found {
+            kind: PieceKind::Whole,
+            len,
+        });
     }
     Err(StreamFault::Read)
 }

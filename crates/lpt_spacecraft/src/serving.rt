@@ -6,16 +6,16 @@ ghost use Rattle.lpt_jobs.specs.Jobs.{jobs_numbered};
 ghost use Rattle.lpt_text.specs.Streams.{ReadEnds, WriteEnds};
 ghost use Rattle.lpt_spacecraft.specs.Flights.{came_with, clock_ticks, counted_on, inputs_served};
 ghost use Rattle.lpt_spacecraft.specs.Keeping.{IsKeptAs};
-ghost use Rattle.lpt_spacecraft.specs.Streams.{end_at, flight_of, plain, Breaks, Flies, IsEndless, IsIdle, ServesTo};
+ghost use Rattle.lpt_spacecraft.specs.Streams.{flight_of, plain, Breaks, Flies, IsEndless, IsIdle, ServesTo};
 ghost use Rattle.lpt_spacecraft.specs.Telling.{Hears};
 
 use crate::clock::due_by;
 use crate::flying::serve_one;
+use crate::front::{Front, find_front};
 use crate::keeping::{Outlet, keep_changed};
 use crate::pace::PaceCourse;
 use crate::{Clock, Keeper, Listener, Pace, Spacecraft, Stop, Told};
-use lpt_frames::{FrameBuffer, Front};
-use lpt_stream::Peer;
+use lpt_stream::{Cut, Found, PacketBuffer, Peer, PieceKind};
 use lpt_text::{FromStd, Sink, StreamFault, flush_out};
 
 /// Reads a stream of packets to its end, or up to octets with which no packet can begin, takes each
@@ -58,26 +58,18 @@ pub fn serve_stream<P: Peer, C: Clock, H: Keeper, L: Listener, K: Sink>(
         (P.remaining peer.new)) result (P.failed peer.old) (P.failed peer.new) }
     ensures writer { WriteEnds result (K.failed out.old) (K.failed out.new) }
 {
-    let mut buffer = FrameBuffer::new(craft.alloc);
+    let mut buffer = PacketBuffer::new(craft.alloc, Cut::Resumed);
     let mut course = PaceCourse::new(craft.alloc, pace);
     let mut place: u64 = 0;
     for count in 0..u64::MAX {
-        let len = match buffer.find_frame(peer, out) {
-            Ok(Front::Frame(len)) => len,
-            Ok(Front::Stray) => {
-                if !pace.passing {
-                    return stop_at(Stop::Stray(place), out);
-                }
-                let run = buffer.find_again(peer, out)?;
-                let len = run.len;
+        let len = match find_front(&mut buffer, pace.passing, place, peer, out) {
+            Ok(Front::Packet(len)) => len,
+            Ok(Front::Strays(len)) => {
                 listener.tell(Told::Skipped { place, len });
-                place = place.saturating_add(run.len);
-                if run.is_end {
-                    return stop_at(end_at(place, buffer.octets_held()), out);
-                }
+                place = place.saturating_add(len);
                 continue;
             }
-            Ok(Front::End) => return stop_at(end_at(place, buffer.octets_held()), out),
+            Ok(Front::Stop(stop)) => return stop_at(stop, out),
             Err(fault) => return Err(fault),
         };
         if craft.is_full() {
@@ -90,7 +82,10 @@ pub fn serve_stream<P: Peer, C: Clock, H: Keeper, L: Listener, K: Sink>(
             Err(fault) => return Err(fault),
         }
         place = place.saturating_add(len as u64);
-        buffer.skip(len);
+        buffer.skip(Found {
+            kind: PieceKind::Whole,
+            len,
+        });
     }
     Err(StreamFault::Read)
 }
@@ -152,17 +147,6 @@ pub(crate) fn tell_all<L: Listener>(listener: &mut L, told: &[Told])
 {
     for one in told {
         listener.tell(*one);
-    }
-}
-
-// The end of a stream with these octets left behind its packets, at this place.
-pub(crate) fn end_at(place: u64, left: &[u8]) -> Stop
-    ensures { result ≡ end_at place left.now }
-{
-    if left.is_empty() {
-        Stop::End
-    } else {
-        Stop::Cut(place)
     }
 }
 

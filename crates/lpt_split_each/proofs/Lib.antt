@@ -1,3 +1,4 @@
+mod FrameLemmas
 mod OwnLemmas
 mod OwnSplitLemmas
 pub mod ShareLemmas

@@ -1,5 +1,5 @@
 -- What a split of a stream's packets writes at the profile's own layouts is the profile's.
-use Rattle.std.proofs.Common.{◌≡◌, ◌∙◌, ◌⊎◌, inl, inr, ap, sym, subst, refl, ℕ, ◌+◌, ◌^◌, ◌<◌, ◌≤◌, true, List, [], ◌∷◌, ◌++◌, length, arith, Option, Some, None, Result, Ok, Err}
+use Rattle.std.proofs.Common.{◌≡◌, ◌∙◌, inl, inr, ap, subst, ℕ, ◌+◌, ◌^◌, ◌<◌, ◌≤◌, List, [], ◌∷◌, length, arith, Option, Some, None, Result, Ok, Err}
 use Rattle.lpt_events.specs.Configs.{IsConfig}
 use Rattle.lpt_events.specs.declared.config.Config.{Config}
 use Rattle.lpt_layout.specs.declared.fault.LayoutFault.TheVariants as faults
@@ -27,6 +27,7 @@ use Rattle.lpt_split_each.specs.Shares as each
 use Rattle.lpt_split_each.specs.Shares.{parts_picked, share}
 use Rattle.lpt_split_each.specs.Streams as stream
 use Rattle.lpt_split_each.specs.Streams.{identifiers, IsNext}
+use Rattle.lpt_split_each.proofs.FrameLemmas.{some-octets}
 
 -- ---- faults
 
@@ -189,7 +190,7 @@ module _ (same : (c : Config) (w : Writing) (id : ℕ) (m : List ℕ) (count : �
             list,
             read,
             unsplit-own next count m list end under fits
-                (omega (arith, front.frame.framed.headed)) why,
+                (some-octets m rest front) why,
           ),
         ),
       )

@@ -1,7 +1,7 @@
 -- What is wanted of messages, and of one more.
 use Rattle.std.proofs.Common.{◌≡◌, ◌∙◌, ap, sym, subst, refl, ℕ, ◌+◌, ◌==◌, ◌<◌, if◌then◌else◌, List, [], ◌∷◌, ◌++◌, length, drop, get_or, Some, append-nil, append_assoc, arith}
-use Rattle.std.specs.List.{flat_map}
 use Rattle.std.proofs.lemmas.List.{drop_more}
+use Rattle.std.proofs.lemmas.List.Concat.{flat_map-append}
 use Rattle.lpt_capture.specs.Captures.{record_of}
 use Rattle.lpt_split.specs.declared.form.Form.{Form}
 use Rattle.lpt_split.specs.declared.form.Form.TheVariants.{Plain, Capture}
@@ -21,16 +21,10 @@ list-at ps i p id h is =
     (drop_more ps i p h ∙ ap (λ (q : Pick). q ∷ drop (i + 1) ps) (sym is))
 
 -- packets of two lists
-flat-append : (f : List ℕ → List ℕ) (xs ys : List (List ℕ))
-    → flat_map f (xs ++ ys) ≡ flat_map f xs ++ flat_map f ys
-flat-append f [] ys = refl
-flat-append f (x ∷ xs) ys =
-    ap (λ z. f x ++ z) (flat-append f xs ys) ∙ sym (append_assoc (f x) (flat_map f xs) (flat_map f ys))
-
 pub packets-append : (form : Form) (time : ℕ) (xs ys : List (List ℕ))
     → packets_in form time (xs ++ ys) ≡ packets_in form time xs ++ packets_in form time ys
-packets-append Plain time xs ys = flat-append (λ b. b) xs ys
-packets-append Capture time xs ys = flat-append (record_of time) xs ys
+packets-append Plain time xs ys = flat_map-append (λ b. b) xs ys
+packets-append Capture time xs ys = flat_map-append (record_of time) xs ys
 
 one-further : (id : ℕ) (x : List ℕ) (xs : List (List ℕ)) → id + length (x ∷ xs) ≡ id + 1 + length xs
 one-further id x xs = omega arith

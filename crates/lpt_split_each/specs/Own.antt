@@ -1,9 +1,8 @@
 -- What a split of a stream's packets writes at the profile's own layouts, in the profile's words.
-use Rattle.std.specs.Prelude.{◌≡◌, ◌⊎◌, ℕ, ◌+◌, ◌%◌, ◌≤◌, ◌<◌, List, [], ◌∷◌, ◌++◌, length, Option, Some, None, Result, Ok, Err}
+use Rattle.std.specs.Prelude.{◌≡◌, ◌⊎◌, ℕ, ◌+◌, ◌%◌, ◌≤◌, ◌<◌, List, [], ◌∷◌, ◌++◌, false, length, Option, Some, None, Result, Ok, Err}
 use Rattle.std.specs.Io.KnownBytes.{IsAtEnd}
 use Rattle.lpt_events.specs.Counts.{sequence_counts}
 use Rattle.lpt_events.specs.declared.config.Config.{Config}
-use Rattle.lpt_frames.specs.Frames.{IsStray}
 use Rattle.lpt_packet.specs.Sizes.{longest_packet}
 use Rattle.lpt_part.specs.Splitting.{part_count}
 use Rattle.lpt_split.specs.declared.split_end.SplitEnd.{SplitEnd}
@@ -11,8 +10,8 @@ use Rattle.lpt_split.specs.declared.split_end.SplitEnd.TheVariants.{Written, Sho
 use Rattle.lpt_split.specs.declared.writing.Writing.{Writing}
 use Rattle.lpt_split.specs.Lists.{numbers_of}
 use Rattle.lpt_split.specs.Splits.{split_of}
-use Rattle.lpt_stream.specs.Pieces.{up_to_limit}
-use Rattle.lpt_stream.specs.Streams.{all_octets, IsUnfinished}
+use Rattle.lpt_stream.specs.Pieces.{is_version, up_to_limit}
+use Rattle.lpt_stream.specs.Streams.{all_octets}
 use Rattle.lpt_text.specs.declared.fault.StreamFault.{StreamFault}
 use Rattle.lpt_text.specs.declared.fault.StreamFault.TheVariants as faults
 use Rattle.lpt_split_each.specs.declared.each_wanted.EachWanted.{EachWanted}
@@ -21,7 +20,7 @@ use Rattle.lpt_split_each.specs.declared.ending.EachEnd.TheVariants.{End, Cut, S
 use Rattle.lpt_split_each.specs.declared.ending.EachSplit.{EachSplit}
 use Rattle.lpt_split_each.specs.Messages.{IsMessage}
 use Rattle.lpt_split_each.specs.Shares.{parts_picked}
-use Rattle.lpt_split_each.specs.Streams.{IsNext, ReadsMessages, WritesAll, WritesNothing, WritesPart, is_end}
+use Rattle.lpt_split_each.specs.Streams.{IsFront, IsNext, ReadsMessages, WritesAll, WritesNothing, WritesPart, is_end}
 
 -- these are the packets of just the parts that a list names, in its order, as the sending node puts
 -- them on the link under this identifier, of sequence counts from this one on, and the one behind
@@ -76,8 +75,9 @@ abbrev pub EndsAt : Config → EachWanted → (next len : ℕ) → EachEnd → (
     → (after : Option (List ℕ)) → Type 0
 EndsAt c w next len End rest after = (rest ≡ []) × IsAtEnd after
 EndsAt c w next len (Cut place) rest after =
-    (place ≡ up_to_limit len) × IsUnfinished rest × (0 < length rest) × IsAtEnd after
-EndsAt c w next len (Stray place) rest after = (place ≡ up_to_limit len) × IsStray rest
+    (place ≡ up_to_limit len) × IsFront rest × IsAtEnd after
+EndsAt c w next len (Stray place) rest after =
+    (place ≡ up_to_limit len) × (is_version rest ≡ false)
 EndsAt c w next len (NoMessage place) rest after =
     (place ≡ up_to_limit len) × (next < 65536)
     × ((m : List ℕ) × IsNext m rest × (IsMessage w.writing m → ⊥))

@@ -1,11 +1,12 @@
 -- What becomes of a stream of which each packet is split as a message of its own.
-use Rattle.std.specs.Prelude.{◌≡◌, ◌⊎◌, ◌<◌, ◌≤◌, ◌+◌, ◌^◌, ◌++◌, ℕ, Bool, true, false, List, [], ◌∷◌, length, Option, Result, Ok, Err}
+use Rattle.std.specs.Prelude.{◌≡◌, ◌⊎◌, ◌<◌, ◌≤◌, ◌+◌, ◌^◌, ℕ, Bool, true, false, if◌then◌else◌, List, [], ◌∷◌, length, map, Option, Result, Ok, Err}
 use Rattle.std.specs.Io.KnownBytes.{Appends, Consumes, IsAtEnd}
-use Rattle.lpt_frames.specs.Frames.{IsCut, IsFrame, IsStray}
 use Rattle.lpt_layout.specs.Numbers.{octets_of}
 use Rattle.lpt_split.specs.declared.writing.Writing.{Writing}
 use Rattle.lpt_split.specs.Splits.{written_in}
-use Rattle.lpt_stream.specs.Pieces.{up_to_limit}
+use Rattle.lpt_stream.specs.declared.cut.Cut.TheVariants.{Framed}
+use Rattle.lpt_stream.specs.declared.piece_kind.PieceKind.TheVariants.{Whole}
+use Rattle.lpt_stream.specs.Pieces.{Piece, LeadsBy, is_version, up_to_limit}
 use Rattle.lpt_stream.specs.Streams.{all_octets, IsUnfinished}
 use Rattle.lpt_text.specs.Streams.{AppendsPart}
 use Rattle.lpt_text.specs.declared.fault.StreamFault.{StreamFault}
@@ -17,6 +18,14 @@ use Rattle.lpt_split_each.specs.declared.ending.EachEnd.{EachEnd}
 use Rattle.lpt_split_each.specs.declared.ending.EachEnd.TheVariants.{End, Cut, Stray, NoMessage, Unsplit, NoIdentifier}
 use Rattle.lpt_split_each.specs.declared.ending.EachSplit.{EachSplit}
 
+-- a packet as a piece of a stream
+abbrev pub whole : List ℕ → Piece
+whole m = record { kind = Whole; octets = m }
+
+-- a stream is cut into these packets, by the lengths that headers of version 0 say, and a rest
+abbrev pub IsCut : (stream : List ℕ) → List (List ℕ) → (rest : List ℕ) → Type 0
+IsCut stream packets rest = LeadsBy Framed true stream (map whole packets) true rest
+
 -- octets were read, and cut into messages of the direction and a rest of which this holds
 abbrev pub ReadsMessages : Writing → (before after : Option (List ℕ))
     → (List (List ℕ) → List ℕ → Type 0) → Type 0
@@ -25,16 +34,20 @@ ReadsMessages w before after P =
     × Consumes before after stream × IsCut stream messages rest × AreMessages w messages
     × P messages rest
 
--- where a stream ends, with these octets left behind its packets, at this place
+-- how a split ends before octets with which no whole packet begins, at this place: in a packet, as
+-- far as their version says, or before what is none
 abbrev pub end_at : (place : ℕ) → List ℕ → EachEnd
-end_at place [] = End
-end_at place (b ∷ bs) = Cut place
+end_at place b = if is_version b then Cut place else Stray place
 
 -- another packet stands in front
-pub record IsNext (m rest : List ℕ) : Type 0 where
-  pub frame : IsFrame m
-  pub behind : List ℕ
-  pub is : rest ≡ m ++ behind
+abbrev pub IsNext : (m rest : List ℕ) → Type 0
+IsNext m rest = (behind : List ℕ) × IsCut rest (m ∷ []) behind
+
+-- the front of a packet, and less than it
+pub record IsFront (b : List ℕ) : Type 0 where
+  pub some : 0 < length b
+  pub version : is_version b ≡ true
+  pub less : IsUnfinished b
 
 -- so many identifiers the layout has
 abbrev pub identifiers : EachWanted → ℕ
@@ -46,8 +59,9 @@ abbrev pub EndsAt : EachWanted → (next count len : ℕ) → EachEnd → (rest 
     → (after : Option (List ℕ)) → Type 0
 EndsAt w next count len End rest after = (rest ≡ []) × IsAtEnd after
 EndsAt w next count len (Cut place) rest after =
-    (place ≡ up_to_limit len) × IsUnfinished rest × (0 < length rest) × IsAtEnd after
-EndsAt w next count len (Stray place) rest after = (place ≡ up_to_limit len) × IsStray rest
+    (place ≡ up_to_limit len) × IsFront rest × IsAtEnd after
+EndsAt w next count len (Stray place) rest after =
+    (place ≡ up_to_limit len) × (is_version rest ≡ false)
 EndsAt w next count len (NoMessage place) rest after =
     (place ≡ up_to_limit len) × (next < identifiers w)
     × ((m : List ℕ) × IsNext m rest × (IsMessage w.writing m → ⊥))

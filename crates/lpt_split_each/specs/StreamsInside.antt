@@ -1,13 +1,28 @@
 -- What is made of a stream's packets before any of it is written.
-use Rattle.std.specs.Prelude.{◌≡◌, ◌+◌, ℕ, List, length, Option, Result, Ok, Err}
+use Rattle.std.specs.Prelude.{◌≡◌, ◌≢◌, ◌⊎◌, ◌<◌, ◌≤◌, ◌+◌, ℕ, List, length, Option, Result, Ok, Err}
 use Rattle.std.specs.Io.KnownBytes.{Appends, Consumes}
+use Rattle.lpt_packet.specs.Numbers.{IsOctets}
 use Rattle.lpt_split.specs.Forms.{packets_in}
+use Rattle.lpt_stream.specs.declared.piece_kind.PieceKind.{PieceKind}
+use Rattle.lpt_stream.specs.declared.piece_kind.PieceKind.TheVariants.{Whole}
 use Rattle.lpt_stream.specs.Streams.{all_octets}
 use Rattle.lpt_text.specs.declared.fault.StreamFault.{StreamFault}
+use Rattle.lpt_split_each.specs.Messages.{IsMessage}
 use Rattle.lpt_split_each.specs.Shares.{AreAll}
-use Rattle.lpt_split_each.specs.Streams.{EndsAt, ReadsMessages}
+use Rattle.lpt_split_each.specs.Streams.{end_at, identifiers, EndsAt, ReadsMessages}
 use Rattle.lpt_split_each.specs.declared.each_wanted.EachWanted.{EachWanted}
+use Rattle.lpt_split_each.specs.declared.ending.EachEnd.{EachEnd}
+use Rattle.lpt_split_each.specs.declared.ending.EachEnd.TheVariants.{NoIdentifier, NoMessage}
 use Rattle.lpt_split_each.specs.declared.ending.EachSplit.{EachSplit}
+
+-- It ends so before a piece of this kind and these octets, in front of what is held: that is no
+-- packet; or no identifier is left for it; or it is no message.
+abbrev pub EndsBefore : EachWanted → (next place : ℕ) → PieceKind → (m held : List ℕ) → EachEnd
+    → Type 0
+EndsBefore w next place kind m held end =
+    ((kind ≢ Whole) × IsOctets held × (end ≡ end_at place held))
+    ⊎ ((kind ≡ Whole) × (((identifiers w ≤ next) × (end ≡ NoIdentifier place))
+    ⊎ ((next < identifiers w) × (IsMessage w.writing m → ⊥) × (end ≡ NoMessage place))))
 
 -- what is wanted of the messages before the place where it ends; where work broke off, anything
 abbrev pub MakesPackets : EachWanted → Result EachSplit StreamFault

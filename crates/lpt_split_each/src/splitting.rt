@@ -1,18 +1,18 @@
 //! The packets of a stream, each split as a message of its own.
 
-ghost use Rattle.std.specs.Prelude.{◌≡◌, false, true, Result};
+ghost use Rattle.std.specs.Prelude.{◌≡◌, ◌≢◌, ◌<◌, ◌≤◌, ◌^◌, false, true, length, take, None, IfSome, Result};
 ghost use Rattle.lpt_carried.specs.Carried.{kind_to};
 ghost use Rattle.lpt_text.specs.Streams.{ReadEnds, WriteEnds};
 ghost use Rattle.lpt_split_each.specs.Messages.{IsMessage};
-ghost use Rattle.lpt_split_each.specs.Streams.{SplitsEach, end_at, is_end};
-ghost use Rattle.lpt_split_each.specs.StreamsInside.{MakesPackets};
+ghost use Rattle.lpt_split_each.specs.Streams.{SplitsEach, end_at, identifiers, is_end};
+ghost use Rattle.lpt_split_each.specs.StreamsInside.{EndsBefore, MakesPackets};
 
 use crate::one::{One, split_one};
 use crate::{EachEnd, EachSplit, EachWanted};
-use lpt_frames::{FrameBuffer, Front};
 use lpt_layout::{SeenAs, read_packet_as};
 use lpt_packet::{Direction, PacketKind};
 use lpt_split::{Writing, front, greatest};
+use lpt_stream::{Cut, Found, PacketBuffer, PieceKind};
 use lpt_text::{FromStd, Sink, Source, StreamFault, write_out};
 use std::alloc::Global;
 
@@ -66,34 +66,63 @@ fn make_packets<S: Source, K: Sink>(
         (S.remaining source.new) (K.contents out.old) (K.contents out.new) }
     ensures reader { ReadEnds ⊥ result (S.failed source.old) (S.failed source.new) }
 {
-    let mut buffer = FrameBuffer::new(alloc);
-    let most = u64::from(greatest(wanted.writing.parts.id));
+    let mut buffer = PacketBuffer::new(alloc, Cut::Framed);
     let mut next = u64::from(wanted.id);
     let mut count = wanted.first;
     let mut place: u64 = 0;
     loop {
-        let len = match buffer.find_frame(source, out) {
-            Ok(Front::Frame(len)) => len,
-            Ok(Front::Stray) => return Ok(split_ended(next, EachEnd::Stray(place))),
-            Ok(Front::End) => return Ok(split_ended(next, end_at(place, buffer.octets_held()))),
-            Err(fault) => return Err(fault),
+        let Some(found) = buffer.find_piece_passing(source, out)? else {
+            return Ok(split_ended(next, EachEnd::End));
         };
-        if next > most {
-            return Ok(split_ended(next, EachEnd::NoIdentifier(place)));
+        let held = buffer.octets_held();
+        if let Some(end) = end_before(wanted, next, place, found, held) {
+            return Ok(split_ended(next, end));
         }
-        let message = &buffer.octets_held()[..len];
-        if !is_message(&wanted.writing, message) {
-            return Ok(split_ended(next, EachEnd::NoMessage(place)));
-        }
-        match split_one(alloc, wanted, next as u32, count, message, out) {
+        match split_one(alloc, wanted, next as u32, count, &held[..found.len], out) {
             Ok(One::Written(behind)) => count = behind,
             Ok(One::Unsplit(end)) => return Ok(split_ended(next, EachEnd::Unsplit(end))),
             Err(fault) => return Err(fault),
         }
-        place = place.saturating_add(len as u64);
+        place = place.saturating_add(found.len as u64);
         next += 1;
-        buffer.skip(len);
+        buffer.skip(found);
     }
+}
+
+// How the split ends before this piece, which is in front of what is held and would get this
+// identifier. None if it is a message that gets one.
+fn end_before(
+    wanted: &EachWanted<'_>,
+    next: u64,
+    place: u64,
+    found: Found,
+    held: &[u8],
+) -> Option<EachEnd>
+    requires { found.len ≤ length held.now }
+    ensures some { IfSome result (λ end. EndsBefore wanted.now next place found.kind
+        (take found.len held.now) held.now end) }
+    ensures none { result ≡ None → (found.kind ≡ PieceKind.Whole) × (next < identifiers wanted.now)
+        × IsMessage wanted.now.writing (take found.len held.now) }
+    ensures few { result ≡ None → next < 2 ^ 32 }
+{
+    if !is_packet(found.kind) {
+        return Some(end_at(place, held));
+    }
+    if next > u64::from(greatest(wanted.writing.parts.id)) {
+        return Some(EachEnd::NoIdentifier(place));
+    }
+    if !is_message(&wanted.writing, &held[..found.len]) {
+        return Some(EachEnd::NoMessage(place));
+    }
+    None
+}
+
+// Whether a piece is a packet.
+fn is_packet(kind: PieceKind) -> bool
+    ensures packet { result ≡ true → kind ≡ PieceKind.Whole }
+    ensures none { result ≡ false → kind ≢ PieceKind.Whole }
+{
+    matches!(kind, PieceKind::Whole)
 }
 
 // Whether octets are a packet of the layout and the direction.
@@ -132,13 +161,13 @@ fn is_end(end: EachEnd) -> bool
     matches!(end, EachEnd::End)
 }
 
-// The end of a stream with these octets left behind its packets, at this place.
+// How a split ends before octets with which no whole packet begins, at this place.
 fn end_at(place: u64, left: &[u8]) -> EachEnd
     ensures { result ≡ end_at place left.now }
 {
-    if left.is_empty() {
-        EachEnd::End
-    } else {
+    if left.is_empty() || left[0] >> 5 == 0 {
         EachEnd::Cut(place)
+    } else {
+        EachEnd::Stray(place)
     }
 }

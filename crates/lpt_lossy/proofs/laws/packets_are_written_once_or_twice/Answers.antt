@@ -1,7 +1,7 @@
 -- Cases on what becomes of a packet.
 use Rattle.std.proofs.Common.{Some, None}
 use Rattle.lpt_lossy.specs.Ways.{way}
-use Rattle.lpt_lossy.proofs.LawLemmas.{made-copies, made-lost, way-damage}
+use Rattle.lpt_lossy.proofs.WayLemmas.{made-copies, made-lost, way-damage}
 use Rattle.lpt_lossy.proofs.laws.packets_are_written_once_or_twice.Goals as goal
 
 pub returns : goal.returns

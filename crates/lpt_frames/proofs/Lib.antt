@@ -1,4 +1,0 @@
-pub mod AgainLemmas
-pub mod FrameLemmas
-pub mod RunLemmas
-pub mod StretchLemmas
